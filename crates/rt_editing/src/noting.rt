@@ -109,6 +109,7 @@ pub(crate) fn prepare_replacement<S: TextStore>(
 
 /// Records an edit that was prepared and made, or forces the flag, where it changed the text. It takes no
 /// memory.
+#[inline(always)]
 pub(crate) fn note<S: TextStore>(
     view: &View<S>,
     recorder: &mut Recorder,

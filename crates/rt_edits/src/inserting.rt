@@ -32,13 +32,27 @@ pub struct Between {
 /// What pieces of text come to: their operations in turn, how many new characters there are, those that
 /// the commanding widget selects, the tags to list in turn, and the characters that other widgets
 /// select where they have both neighbours.
-#[derive(Drop)]
 pub struct Plan {
     pub drafts: Few<Draft>,
     pub characters: usize,
     pub selected: Vec<Stamp>,
     pub names: Vec<String>,
     pub between: Option<Between>,
+}
+
+// Written out, so that where it is let go is one step for the crates above, and not one for each
+// field of each field.
+impl Drop for Plan {
+    #[inline(always)]
+    fn drop(self) {
+        let Plan {
+            drafts: _,
+            characters: _,
+            selected: _,
+            names: _,
+            between: _,
+        } = self;
+    }
 }
 
 /// The plan of pieces, and then characters without a list, behind an element and between two neighbours,
@@ -78,7 +92,10 @@ pub fn planned_between(
         < (insertion_of site.number (option_map (shown states.now) left) (option_map (shown states.now) right) pieces.now rest.now
         (record { cells = []; count = count; sel = sel; others = others; tags = tags })).count))) }
 {
-    let mut all = PlannedPieces::of(alloc, site, count, after, pieces)?;
+    let mut all = match PlannedPieces::of(alloc, site, count, after, pieces) {
+        Ok(all) => all,
+        Err(fault) => return Err(fault),
+    };
     let between = all.add_unlisted(alloc, states, site, selection, left, right, rest)?;
     let PlannedPieces {
         texts,

@@ -16,10 +16,14 @@ use rt_stamps::{Fault, Site, Span, Stamp};
 use std::alloc::Global;
 
 /// Copies of names. Want of memory.
+#[inline(always)]
 pub(crate) fn copied(alloc: Global, names: &[String]) -> Result<Vec<String>, Fault>
     ensures ok { IfOk result (λ v. as_words v.items ≡ as_words names.now) }
     ensures err { IsOkUnless result Fault.NoMemory }
 {
+    if names.is_empty() {
+        return Ok(Vec::new(alloc));
+    }
     let mut copies = Vec::with_capacity(alloc, names.len())?;
     for name in names {
         copies.push(name.clone()?)?;
@@ -65,8 +69,10 @@ fn insert_draft(
     ensures err { IsOkUnless result Fault.NoMemory }
 {
     let tags = copied(alloc, names)?;
-    let text = part_text(alloc, characters)?;
-    Ok(Draft::Insert { after, tags, text })
+    match part_text(alloc, characters) {
+        Ok(text) => Ok(Draft::Insert { after, tags, text }),
+        Err(fault) => Err(fault),
+    }
 }
 
 // A Tag that is put on the characters of a span.
@@ -130,8 +136,11 @@ impl Inserts {
         let last = self.count + part.len() as u64;
         let site_number = site.number();
         let (listed, more) = listed_first(names);
-        self.drafts
-            .push(alloc, insert_draft(alloc, self.behind, listed, part)?)?;
+        let draft = match insert_draft(alloc, self.behind, listed, part) {
+            Ok(draft) => draft,
+            Err(fault) => return Err(fault),
+        };
+        self.drafts.push(alloc, draft)?;
         let span = Span {
             site: site_number,
             first,

@@ -99,6 +99,7 @@ fn only_char(text: &str) -> Option<char>
 }
 
 /// The characters of a text. A single one takes no memory.
+#[inline(always)]
 pub(crate) fn characters_of(alloc: Global, text: &str) -> Result<Text, Fault>
     ensures ok { IfOk result (λ all. all ≡ chars text.now) }
     ensures err { IsOkUnless result Fault.NoMemory }

@@ -44,6 +44,7 @@ impl Selection {
     }
 
     /// Whether the character of a stamp is selected.
+    #[inline(always)]
     pub fn has(&self, stamp: Stamp) -> bool
         ensures { result ≡ is_among (selected_stamps self.now) stamp }
     {
@@ -69,6 +70,7 @@ impl Selection {
     }
 
     /// Selects characters, within the room that there is.
+    #[inline(always)]
     pub fn add(&mut self, stamps: &[Stamp])
         requires { length stamps.now ≤ room_in self.old }
         ensures { selected_stamps self.new ≡ with_stamps stamps.now (selected_stamps self.old) }

@@ -102,6 +102,7 @@ pub(crate) fn select_new(
 impl Stamps {
     /// Those of a text with some tags, with the counts after one. Want of memory, where they are more than
     /// one.
+    #[inline(always)]
     pub(crate) fn of(
         alloc: Global,
         site: Site,

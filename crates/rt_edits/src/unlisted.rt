@@ -133,6 +133,7 @@ impl PlannedPieces {
     }
 
     // Whether two characters are both selected already, or after the insertion.
+    #[inline(always)]
     fn selects_both(&self, selection: &Selection, left: Stamp, right: Stamp) -> bool
         ensures both { result ≡ (is_among (with_stamps self.now.selected.items (selected_stamps selection.now)) left
             && is_among (with_stamps self.now.selected.items (selected_stamps selection.now)) right) }
@@ -141,6 +142,7 @@ impl PlannedPieces {
     }
 
     // Whether a character is selected already, or after the insertion.
+    #[inline(always)]
     fn selects(&self, selection: &Selection, stamp: Stamp) -> bool
         ensures { result ≡ is_among (with_stamps self.now.selected.items (selected_stamps selection.now)) stamp }
     {

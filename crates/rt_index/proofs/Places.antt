@@ -97,6 +97,11 @@ pub next_start_some : (line : ℕ) (t : List ℕ) → 1 ≤ line → line ≤ ne
 next_start_some zero t low high = absurd (omega arith)
 next_start_some (suc k) t low high = omega (arith, after_rises k t (omega arith))
 
+-- a line's start isn't behind its end
+pub start_ends : (line : ℕ) (t : List ℕ) → 1 ≤ line → line ≤ newlines t → line_start t line ≤ line_end t line
+start_ends zero t low high = absurd (omega arith)
+start_ends (suc k) t low high = let e : suc k - 1 ≡ k = omega arith in rw e (omega (arith, after_rises k t (omega arith)))
+
 pub start_within : (line : ℕ) (t : List ℕ) → line_start t line ≤ length t
 start_within line t = after_within (line - 1) t
 

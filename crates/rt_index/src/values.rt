@@ -28,8 +28,11 @@ pub(crate) fn character_place<G: Ground>(ground: &G, line: usize, character: usi
     if line == 0 {
         0
     } else if line <= ground.lines() {
-        let place = ground.line_start(line).saturating_add(character);
-        place.min(line_end(ground, line))
+        let start = ground.line_start(line);
+        if character == 0 {
+            return start;
+        }
+        start.saturating_add(character).min(line_end(ground, line))
     } else {
         ground.len()
     }

@@ -57,6 +57,7 @@ impl Block {
     }
 
     /// Puts a place in, where there is room.
+    #[inline(always)]
     pub(crate) fn put(&mut self, at: usize, place: usize)
         requires within { at ≤ vec_len self.old.places }
         requires room { vec_len self.old.places < 512 }

@@ -98,6 +98,7 @@ fn insert_block(blocks: &mut Vec<Block>, at: usize, block: Block)
 }
 
 /// Puts a place into a block, where there is room.
+#[inline(always)]
 fn put_in(blocks: &mut Vec<Block>, block: usize, at: usize, place: usize)
     requires block { block < vec_len blocks.old }
     requires within { (d : Block) → at ≤ vec_len (slice_index_or blocks.old.items block d).places }

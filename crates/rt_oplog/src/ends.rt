@@ -62,6 +62,7 @@ impl Ends {
     }
 
     /// A last count of a site. There is room for one more site.
+    #[inline(always)]
     pub(crate) fn raise(&mut self, site: u16, last: u64)
         requires { vec_len self.old.ends < vec_capacity self.old.ends }
         ensures ends { (s : ℕ) → end_in self.new.ends.items s

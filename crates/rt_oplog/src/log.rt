@@ -181,6 +181,7 @@ impl OpLog {
 
     /// Makes room for `more` calls of `push`, which then take no memory. `NoMemory` where a growth
     /// was refused; the operations stay.
+    #[inline(always)]
     pub fn reserve(&mut self, more: usize) -> Result<(), Fault>
         ensures same { self.new.operations ≡ self.old.operations }
         ensures ok { OnOk result (more ≤ self.new.room) }

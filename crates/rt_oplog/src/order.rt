@@ -73,6 +73,7 @@ fn push_spare(spare: &mut Vec<Vec<usize>>, alloc: Global) -> Result<(), AllocErr
 }
 
 /// As many blocks to be.
+#[inline(always)]
 fn fill(spare: &mut Vec<Vec<usize>>, alloc: Global, count: usize) -> Result<(), AllocError>
     requires spares { AreSpare spare.old.items }
     requires bound { vec_len spare.old ≤ count }
@@ -114,6 +115,7 @@ impl Order {
     }
 
     /// Makes room for `more` places. An error where a growth was refused; the places stay.
+    #[inline(always)]
     pub(crate) fn reserve(&mut self, more: usize) -> Result<(), AllocError>
         ensures same { self.new.items ≡ self.old.items }
         ensures ok { OnOk result (more ≤ self.new.room) }

@@ -46,6 +46,7 @@ pub struct Op {
 // Written out, so that where it is let go is one step for the crates above, and not one for each
 // field of each field.
 impl Drop for Op {
+    #[inline(always)]
     fn drop(self) {
         let Op {
             count: _,

@@ -29,6 +29,7 @@ fn owned_piece(alloc: Global, piece: &rt_requests::Piece<'_>) -> Result<Piece, F
 }
 
 /// Copies of texts with their tags, or want of memory.
+#[inline(always)]
 pub(crate) fn owned(alloc: Global, pieces: &[rt_requests::Piece<'_>]) -> Result<Vec<Piece>, Fault>
     ensures ok { IfOk result (λ owned. owned.items ≡ map as_piece pieces.now) }
     ensures err { IsOkUnless result Fault.NoMemory }

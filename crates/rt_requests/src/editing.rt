@@ -104,6 +104,7 @@ fn only_text(words: &[String]) -> &str
 
 // Texts with their lists, in pairs of words, and then a text without a list. `BadQuoting` where a
 // list spells no words, or want of memory.
+#[inline(always)]
 fn read_texts<'a>(alloc: Global, words: &'a [String]) -> Result<Texts<'a>, Fault>
     ensures ok { IfOk result (λ texts. AreTexts (as_words words.now) texts.pieces texts.rest) }
     ensures quoting { result ≡ Err Fault.BadQuoting → AreNoTexts (as_words words.now) }

@@ -297,7 +297,9 @@ impl<S: TextStore> Replica<S> {
         ensures limit { self.new.limit ≡ self.old.limit }
         ensures ids { KeepsIds self.old.table self.new.table }
     {
-        let made = self.planned(drafts)?;
-        self.make_all(made)
+        match self.planned(drafts) {
+            Ok(made) => self.make_all(made),
+            Err(fault) => Err(fault),
+        }
     }
 }

@@ -412,6 +412,7 @@ impl StateTable {
     /// The state in which a list of names is on under one writer, made at once: no state on the way is
     /// kept. New names get numbers. `NoMemory` is its only fault; the states are then as they were, and
     /// names that got a number keep it.
+    #[inline(always)]
     pub fn state_of_list(&mut self, writer: Stamp, names: &[String]) -> Result<StateId, Fault>
         ensures given { IfOk result (IsState self.new) }
         ensures state { IfOk result (λ id. state_at self.new id ≡ state_after [] (listed_by writer (as_words names.now))) }

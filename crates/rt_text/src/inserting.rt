@@ -19,6 +19,7 @@ use rt_stamps::Stamp;
 
 /// Selects characters in a widget, and those between two others in the selections that have both. It takes
 /// no memory.
+#[inline(always)]
 pub(crate) fn select_all(
     selection: &mut Selection,
     others: &mut [Parts],

@@ -128,6 +128,7 @@ fn end_with_newline(pieces: &[Piece]) -> bool
 /// Whether a widget still shows both sides of the place behind pieces, once ranges are removed and the pieces stand
 /// before the character at a place of what is left: where the newline of a limit is gone, one of theirs may be the
 /// nearer.
+#[inline(always)]
 pub(crate) fn shows_both<S: TextStore>(
     store: &S,
     removed: &[Range],

@@ -86,6 +86,7 @@ fn reserve_others(others: &mut [Parts], between: &Option<Between>) -> Result<(),
 }
 
 /// Selects characters between two others in the selections that have both. It takes no memory.
+#[inline(always)]
 pub(crate) fn select_between(others: &mut [Parts], between: &Option<Between>)
     requires { HaveRoomFor between.now others.old }
     ensures { map own_in others.new ≡ map (reselected (selected_between between.now)) (map own_in others.old) }
@@ -122,6 +123,7 @@ fn make_room(
 
 /// Has a replica make operations, once there is room for all else that a plan takes. Refused as the replica
 /// refuses them, or for want of memory, and then nothing changes but what ids the replica has.
+#[inline(always)]
 pub(crate) fn make_planned<S: TextStore>(
     replica: &mut Replica<S>,
     tags: &mut TagTable,

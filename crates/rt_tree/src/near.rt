@@ -28,6 +28,7 @@ fn offset_in(found: &Found, by: Measure, place: usize) -> Option<usize>
 }
 
 // The same spot, so far into its run.
+#[inline(always)]
 fn moved(found: &Found, offset: usize) -> Found
     ensures spot { result.spot ≡ record { leaf = found.now.spot.leaf; entry = found.now.spot.entry; offset = offset } }
     ensures run { result.run ≡ found.now.run }

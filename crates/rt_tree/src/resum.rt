@@ -32,6 +32,7 @@ fn shown_at(mem: &Mem, leaf: NodeId, i: usize) -> Option<StateId>
 }
 
 // An entry of a leaf shows another state now, or none, or the same as before: puts right the summaries of the nodes above it.
+#[inline(always)]
 fn put_right(
     sums: &mut Summaries,
     states: &StateTable,

@@ -310,12 +310,17 @@ pub(crate) struct Grown {
     pub(crate) last: Option<Found>,
 }
 
-// A run that is known to stand somewhere, unless a run got longer by so many cells.
-fn still_there(last: &Option<Found>, done: usize) -> Option<Found>
-    ensures still { done ≡ 0 → result ≡ last.now }
-    ensures dropped { 0 < done → result ≡ None }
+// A run that is known to stand somewhere, or nothing where a run got longer by so many cells.
+fn still_there<'a>(
+    last: &'a Option<Found>,
+    nothing: &'a Option<Found>,
+    done: usize,
+) -> &'a Option<Found>
+    requires { nothing.now ≡ None }
+    ensures still { done ≡ 0 → result.now ≡ last.now }
+    ensures dropped { 0 < done → result.now ≡ None }
 {
-    if done == 0 { *last } else { None }
+    if done == 0 { last } else { nothing }
 }
 
 // Puts cells in at a position; their characters are the last of the text.
@@ -375,7 +380,8 @@ pub(crate) fn put_cells(
     }
     let rest = &cells[done..];
     let place = at + done;
-    let last = still_there(last, done);
+    let nothing = None;
+    let last = still_there(last, &nothing, done);
     let Ended { change: first, end } = cut_home(
         mem,
         sums,
@@ -384,7 +390,7 @@ pub(crate) fn put_cells(
         place,
         extended.is_edge,
         extended.end,
-        &last,
+        last,
         homes,
     );
     let newest = newest_of(newest, &cells[..done]);

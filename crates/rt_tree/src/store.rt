@@ -121,6 +121,7 @@ impl TextStore for TreeStore {
 
     ghost fresh = { λ s table is given. s.fresh table is given };
 
+    #[inline(always)]
     fn reserve(&mut self, cells: usize, cuts: usize, tags: usize) -> Result<(), Fault> {
         self.tree.reserve(cells, cuts, tags)
     }
@@ -157,6 +158,7 @@ impl TextStore for TreeStore {
         self.tree.characters(place, buffer)
     }
 
+    #[inline(always)]
     fn cell_at(&self, place: usize) -> Cell<StateId> {
         self.tree.cell_at(place)
     }

@@ -218,6 +218,7 @@ impl Tree {
     }
 
     /// The visible cell at a place.
+    #[inline(always)]
     pub fn cell_at(&self, place: usize) -> Cell<StateId>
         requires { place < length (visible_of self.now.cells) }
         ensures { slice_get (visible_of self.now.cells) place ≡ Some result }

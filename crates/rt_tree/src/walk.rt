@@ -1,5 +1,5 @@
 // Walks from the root down.
-ghost use Rattle.std.specs.Prelude.{◌≡◌, ◌+◌, ◌*◌, ◌<◌, ◌≤◌, ◌^◌, length, take, slice_index_or};
+ghost use Rattle.std.specs.Prelude.{◌≡◌, ◌+◌, ◌*◌, ◌<◌, ◌≤◌, ◌^◌, IfNone, IfSome, length, take, slice_index_or};
 ghost use Rattle.rt_nodes.specs.Nodes.{IsNode, entries};
 ghost use Rattle.rt_tree.specs.declared.node.Measure.TheVariants.{Visible};
 ghost use Rattle.rt_tree.specs.declared.node.Run.{Run};
@@ -9,7 +9,7 @@ ghost use Rattle.rt_tree.specs.Walks.{IsSpot};
 
 use crate::looks::Looks;
 use crate::node::{Counts, Entry, Measure, Run};
-use crate::sums::{amount, entry_counts, no_counts, plus};
+use crate::sums::{amount, counts_of_run, no_counts, plus};
 use rt_nodes::NodeId;
 
 /// A place in the run at an entry of a leaf.
@@ -37,6 +37,45 @@ struct Step {
     before: Counts,
 }
 
+// What is left of a place behind an entry, and what stands before that.
+#[derive(Clone, Copy)]
+struct Passed {
+    rest: usize,
+    before: Counts,
+}
+
+// Behind so many, if the place isn't among them.
+#[inline(always)]
+fn past(by: Measure, rest: usize, before: Counts, counts: Counts) -> Option<Passed>
+    requires { AreFew (plus before counts) }
+    ensures rest { IfSome result (λ past. past.rest + amount by counts ≡ rest) }
+    ensures before { IfSome result (λ past. past.before ≡ plus before counts) }
+    ensures none { IfNone result (rest < amount by counts) }
+{
+    let here = amount(by, counts);
+    if rest < here {
+        return None;
+    }
+    Some(Passed {
+        rest: rest - here,
+        before: plus(before, counts),
+    })
+}
+
+// Behind an entry, if the place isn't in it. Each kind of entry is gone past by itself, as it keeps its counts in another way.
+#[inline(always)]
+fn past_entry(by: Measure, rest: usize, before: Counts, entry: &Entry) -> Option<Passed>
+    requires { AreFew (plus before (entry_counts entry.now)) }
+    ensures rest { IfSome result (λ past. past.rest + amount by (entry_counts entry.now) ≡ rest) }
+    ensures before { IfSome result (λ past. past.before ≡ plus before (entry_counts entry.now)) }
+    ensures none { IfNone result (rest < amount by (entry_counts entry.now)) }
+{
+    match entry {
+        Entry::Down(_, totals) => past(by, rest, before, totals.counts),
+        Entry::Here(run) => past(by, rest, before, counts_of_run(*run)),
+    }
+}
+
 // The entry of a node that has a place, after so much before the node.
 fn entry_at<L: Looks>(looks: &mut L, node: NodeId, by: Measure, place: usize, ahead: Counts) -> Step
     requires node { IsNode (L.nodes looks.old) node.index }
@@ -58,17 +97,20 @@ fn entry_at<L: Looks>(looks: &mut L, node: NodeId, by: Measure, place: usize, ah
     let mut before = ahead;
     for index in 0..looks.len(node) {
         let entry = looks.look(node, index, None).entry;
-        let counts = entry_counts(&entry);
-        if rest < amount(by, counts) {
-            return Step {
-                entry,
-                index,
-                rest,
-                before,
-            };
+        match past_entry(by, rest, before, &entry) {
+            Some(past) => {
+                rest = past.rest;
+                before = past.before;
+            }
+            None => {
+                return Step {
+                    entry,
+                    index,
+                    rest,
+                    before,
+                };
+            }
         }
-        rest -= amount(by, counts);
-        before = plus(before, counts);
     }
     unreachable!()
 }

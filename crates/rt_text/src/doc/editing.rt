@@ -30,18 +30,6 @@ use rt_store::TextStore;
 use rt_views::Stretch;
 use std::mem::replace;
 
-// The plan of an insertion. What lets it go is written out, so that this is one step, and not one for each
-// field of each field.
-struct PlannedInsertion {
-    plan: Plan,
-}
-
-impl Drop for PlannedInsertion {
-    fn drop(self) {
-        let PlannedInsertion { plan: _ } = self;
-    }
-}
-
 impl<S: TextStore> Doc<S> {
     // Plans pieces of text and characters without a list before the character at a place of the stretch that is
     // shown.
@@ -110,27 +98,29 @@ impl<S: TextStore> Doc<S> {
         ensures own { IsOwnOf (length (text_of self.new.cells)) widget.new }
         ensures others { AllByRecursion (IsOwnOf (length (text_of self.new.cells))) (map own_in others.new) }
     {
-        let plan = self.planned_insertion(widget, stretch, place, pieces, rest)?;
+        let mut plan = match self.planned_insertion(widget, stretch, place, pieces, rest) {
+            Ok(plan) => plan,
+            Err(fault) => return Err(fault),
+        };
         let _ = self.kept();
         let at = stretch.begin + place;
-        let mut planned = PlannedInsertion { plan };
-        let drafts = replace(&mut planned.plan.drafts, Few::none(self.alloc));
+        let drafts = replace(&mut plan.drafts, Few::none(self.alloc));
         make_planned(
             &mut self.replica,
             &mut self.tags,
             &mut widget.parts.selection,
             others,
             drafts,
-            &planned.plan,
+            &plan,
         )?;
         select_all(
             &mut widget.parts.selection,
             others,
-            &planned.plan.selected,
-            &planned.plan.between,
+            &plan.selected,
+            &plan.between,
         );
-        insert_all(&mut self.marks, widget, others, at, planned.plan.characters);
-        list_tags(&mut self.tags, &planned.plan.names);
+        insert_all(&mut self.marks, widget, others, at, plan.characters);
+        list_tags(&mut self.tags, &plan.names);
         Ok(())
     }
 

@@ -29,6 +29,7 @@ impl<S: TextStore> Doc<S> {
     }
 
     // What index expressions see of the document on a widget.
+    #[inline(always)]
     pub(crate) fn ground<'a>(&'a self, widget: &'a Widget) -> WidgetGround<'a, S>
         ensures cells { map (shown result.states.now) (S.list result.store.now) ≡ self.now.cells }
         ensures marks { result.marks.now ≡ self.now.marks }

@@ -14,7 +14,7 @@ use Rattle.rt_edits.proofs.inserting.planned_between.Goals as goal
 
 pub returns-in_err-between-clause-err : goal.returns-in_err-between-clause-err
 returns-in_err-between-clause-err c =
-    let r = err_from_is_err_and c.from_residual-in_err-between.result c.from_residual-in_err-between.ensures.1 in
+    let r = err_from_is_err_and c.from_residual.result c.from_residual.ensures.1 in
     let t = c.args.states.now in
     let site = c.args.site.number in
     rw (r.1, r.2) (spent
@@ -23,7 +23,7 @@ returns-in_err-between-clause-err c =
     let so_far = with_pieces site c.args.pieces.now start in
     let left = last_of (option_map (shown t) c.args.left) so_far.cells in
     subst (λ (n : ℕ). GREATEST_COUNT < n) (sym (unlisted_count site left (option_map (shown t) c.args.right) (chars c.args.rest.now) so_far))
-    (k c.args.after sel tags so_far same (c.in_ok-all.ensures.so_far sel others tags)))
+    (k c.args.after sel tags so_far same (c.in-Ok.ensures.so_far sel others tags)))
     c.in_err-between.ensures.err)
 
 pub returns-clause-drafts : goal.returns-clause-drafts
@@ -35,9 +35,9 @@ returns-clause-drafts c = λ sel others tags same.
     let after = c.args.after in
     let left = option_map (shown t) c.args.left in
     let right = option_map (shown t) c.args.right in
-    c.in_ok-between.ensures.drafts after sel tags so_far same (c.in_ok-all.ensures.so_far sel others tags)
+    c.in_ok-between.ensures.drafts after sel tags so_far same (c.in-Ok.ensures.so_far sel others tags)
     ∙ ap (λ l. l ++ text_drafts MOST_CHARACTERS site so_far.count (behind after so_far.cells) (tags_between (last_of left so_far.cells) right) (chars c.args.rest.now))
-    (c.in_ok-all.ensures.drafts sel others tags)
+    (c.in-Ok.ensures.drafts sel others tags)
 
 pub returns-clause-plans : goal.returns-clause-plans
 returns-clause-plans c = λ sel others tags same.
@@ -49,35 +49,20 @@ returns-clause-plans c = λ sel others tags same.
     let plan : Plan = record { drafts = new.texts.drafts; characters = new.characters; selected = new.selected; names = new.names; between = c.in_ok-between.between } in
     let all = with_unlisted site (last_of (option_map (shown t) c.args.left) so_far.cells) (option_map (shown t) c.args.right) (chars c.args.rest.now) so_far in
     subst (λ o. Plans plan sel o tags all) (pieces_others site c.args.pieces.now start)
-    (c.in_ok-between.ensures.plans plan c.args.after sel tags so_far same (c.in_ok-all.ensures.so_far sel others tags) c.requires.after
+    (c.in_ok-between.ensures.plans plan c.args.after sel tags so_far same (c.in-Ok.ensures.so_far sel others tags) c.requires.after
     (record { characters = refl; selected = refl; names = refl; others = refl }))
-
-pub returns-in_err-all-clause-drafts : goal.returns-in_err-all-clause-drafts
-returns-in_err-all-clause-drafts c =
-    let p = err_from_is_err_and c.from_residual.result c.from_residual.ensures.1 in
-    rw p.1 tt
-
-pub returns-in_err-all-clause-plans : goal.returns-in_err-all-clause-plans
-returns-in_err-all-clause-plans c =
-    let p = err_from_is_err_and c.from_residual.result c.from_residual.ensures.1 in
-    rw p.1 tt
-
-pub returns-in_err-all-clause-alone : goal.returns-in_err-all-clause-alone
-returns-in_err-all-clause-alone c =
-    let p = err_from_is_err_and c.from_residual.result c.from_residual.ensures.1 in
-    rw p.1 tt
 
 pub returns-in_err-between-clause-drafts : goal.returns-in_err-between-clause-drafts
 returns-in_err-between-clause-drafts c =
-    let p = err_from_is_err_and c.from_residual-in_err-between.result c.from_residual-in_err-between.ensures.1 in
+    let p = err_from_is_err_and c.from_residual.result c.from_residual.ensures.1 in
     rw p.1 tt
 
 pub returns-in_err-between-clause-plans : goal.returns-in_err-between-clause-plans
 returns-in_err-between-clause-plans c =
-    let p = err_from_is_err_and c.from_residual-in_err-between.result c.from_residual-in_err-between.ensures.1 in
+    let p = err_from_is_err_and c.from_residual.result c.from_residual.ensures.1 in
     rw p.1 tt
 
 pub returns-in_err-between-clause-alone : goal.returns-in_err-between-clause-alone
 returns-in_err-between-clause-alone c =
-    let p = err_from_is_err_and c.from_residual-in_err-between.result c.from_residual-in_err-between.ensures.1 in
+    let p = err_from_is_err_and c.from_residual.result c.from_residual.ensures.1 in
     rw p.1 tt

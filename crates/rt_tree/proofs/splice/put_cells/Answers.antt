@@ -156,7 +156,7 @@ cut_home-end-requires-clause-edge c = c.extend-extended.ensures.edge
 pub cut_home-end-requires-clause-held : goal.cut_home-end-requires-clause-held
 cut_home-end-requires-clause-held c =
     let s = c.still_there-last.ensures in
-    held_still c.args.last.now c.still_there-last.result c.extend-extended.result.done c.args.mem.now c.extend-extended.new.mem c.args.root.index s.still s.dropped c.requires.held c.extend-extended.ensures.still
+    held_still c.args.last.now c.still_there-last.result.now c.extend-extended.result.done c.args.mem.now c.extend-extended.new.mem c.args.root.index s.still s.dropped c.requires.held c.extend-extended.ensures.still
 
 pub returns-clause-sure : goal.returns-clause-sure
 returns-clause-sure c = λ was once below.

@@ -1,14 +1,12 @@
 use Rattle.std.proofs.lemmas.Result.{err_from_is_err_and}
 use Rattle.rt_edits.proofs.inserts.Inserts.push_part.Goals as goal
 
-pub returns-in_err-insert_draft : goal.returns-in_err-insert_draft
-returns-in_err-insert_draft c =
-    let (y, is, gives) = err_from_is_err_and c.from_residual.result c.from_residual.ensures.1 in
-    rw (is, gives) (record { drafts = tt; count = tt; behind = tt; err = c.in_err-insert_draft.ensures.err })
+pub returns-in-Err : goal.returns-in-Err
+returns-in-Err c = record { drafts = tt; count = tt; behind = tt; err = c.in-Err.ensures.err }
 
 pub returns-in_err-push : goal.returns-in_err-push
 returns-in_err-push c =
-    let (y, is, gives) = err_from_is_err_and c.from_residual-in_err-push.result c.from_residual-in_err-push.ensures.1 in
+    let (y, is, gives) = err_from_is_err_and c.from_residual.result c.from_residual.ensures.1 in
     rw (is, gives) (record { drafts = tt; count = tt; behind = tt; err = c.in_err-push.ensures.err })
 
 pub returns-in_err-push_tags : goal.returns-in_err-push_tags
