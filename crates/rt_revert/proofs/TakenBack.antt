@@ -1,5 +1,5 @@
 -- The text after an action was reverted.
-use Rattle.std.proofs.Common.{◌≡◌, ℕ, ◌+◌, ◌<◌, ◌≤◌, Bool, true, false, not, List, [], ◌∷◌, ◌++◌, cond, map, append_assoc, refl, sym, ◌∙◌, ap, subst, arith, add-zero, suc, Option, Some, None, filter}
+use Rattle.std.proofs.Common.{◌≡◌, ℕ, ◌+◌, ◌<◌, ◌≤◌, Bool, true, false, not, List, [], ◌∷◌, ◌++◌, cond, map, append_assoc, refl, sym, ◌∙◌, ap, subst, arith, add-zero, zero, suc, Some, None, filter}
 use Rattle.std.specs.Prelude.{option_and_then, option_map, reverse, slice_get, unwrap_or}
 use Rattle.std.specs.List.{AllByRecursion}
 use Rattle.std.proofs.lemmas.Bool.{cond-false, cond-true, or_from, or_left, or_parts, or_right}
@@ -27,6 +27,7 @@ use Rattle.rt_edits.specs.Flat.{Flat, logged, put_after}
 use Rattle.rt_edits.specs.Insertions.{new_state, tagged_cells}
 use Rattle.rt_edits.specs.Removals.{cells_at, gone_at, left_at}
 use Rattle.rt_edits.proofs.ChosenLaws.{chosen, chosen_visible}
+use Rattle.rt_edits.proofs.DeletionDraftLaws.{stamps_gone}
 use Rattle.rt_edits.proofs.InsertDraftLaws.{put_behind}
 use Rattle.rt_edits.proofs.LastNames.{Rise, new_names, rise_to, sorted_filter}
 use Rattle.rt_edits.proofs.RemovedText.{text_left}
@@ -214,12 +215,23 @@ nowhere removed p (c ∷ cs) h = split c.gone
     (λ e. cond-false c.gone (c ∷ gone_at removed p cs) (record c { gone = removed p } ∷ gone_at removed (p + 1) cs) e
     ∙ (λ i. record c { gone = (h p ∙ sym e) i } ∷ nowhere removed (p + 1) cs h i))
 
-none_at : (cells : List TaggedCell) (place : ℕ) → are_at [] cells place ≡ false
-none_at cells place = by (slice_get (visible_of cells) place)
+-- no cell has one of some stamps
+abbrev HaveNone : List Stamp → List TaggedCell → Type 0
+HaveNone stamps cells = (s : Stamp) → is_among (stamps_of cells) s ≡ true → is_among stamps s ≡ false
+
+none_at : (stamps : List Stamp) (cells : List TaggedCell) (place : ℕ) → HaveNone stamps cells → are_at stamps cells place ≡ false
+none_at stamps [] place h = refl
+none_at stamps (c ∷ cs) place h =
+    let at : List TaggedCell → Bool = λ shown. unwrap_or (option_map (λ (cell : TaggedCell). is_among stamps cell.stamp) (slice_get shown place)) false in
+    let further : HaveNone stamps cs = λ s k. h s (or_right (is_same c.stamp s) _ k) in
+    split c.gone
+    (λ e. ap (λ b. at (cond (not b) (c ∷ visible_of cs) (visible_of cs))) e ∙ none_at stamps cs place further)
+    (λ e. ap (λ b. at (cond (not b) (c ∷ visible_of cs) (visible_of cs))) e ∙ by place (λ k. none_at stamps cs k further))
   where
-    by : (o : Option TaggedCell) → unwrap_or (option_map (λ (cell : TaggedCell). is_among [] cell.stamp) o) false ≡ false
-    by None = refl
-    by (Some cell) = refl
+    by : (n : ℕ) → ((k : ℕ) → are_at stamps cs k ≡ false)
+        → unwrap_or (option_map (λ (cell : TaggedCell). is_among stamps cell.stamp) (slice_get (c ∷ visible_of cs) n)) false ≡ false
+    by zero rest = h c.stamp (or_left (is_same c.stamp c.stamp) _ (same_refl c.stamp))
+    by (suc n) rest = rest n
 
 rise_all : (cells : List TaggedCell) → AllByRecursion (λ (cell : TaggedCell). AreNamed cell.state) cells → AllByRecursion (λ (cell : TaggedCell). Rise (names_on cell.state)) cells
 rise_all [] h = tt
@@ -232,13 +244,15 @@ record Lacks (places : ℕ → Bool) (flat less : Flat) : Type 0 where
   pub count : flat.count ≤ less.count
 
 taken_back : (site : ℕ) (log : List Operation) (flat less : Flat) (places : ℕ → Bool) (action : Action (List Word)) → 0 < site → IsHistory log → IsDocument site log flat → Lacks places flat less
-    → action.inserted ≡ [] → action.removed ≡ map as_removed (cells_at places 0 flat.cells) → tagged_text (reverted less (action ∷ [])).cells ≡ tagged_text flat.cells
-taken_back site log flat less places action p h doc lacks ins rem =
+    → HaveNone action.inserted flat.cells → action.removed ≡ map as_removed (cells_at places 0 flat.cells) → tagged_text (reverted less (action ∷ [])).cells ≡ tagged_text flat.cells
+taken_back site log flat less places action p h doc lacks none rem =
     let r = as_it_is less in
     let removed = map as_removed (cells_at places 0 flat.cells) in
-    let start = with_gone [] r in
+    let start = with_gone action.inserted r in
+    let fewer : HaveNone action.inserted less.cells =
+    subst (HaveNone action.inserted) (sym lacks.cells) (λ s k. none s (subst (λ (l : List Stamp). is_among l s ≡ true) (stamps_gone places 0 flat.cells) k)) in
     let part : IsPart places 0 [] flat.cells start = record {
-      cells = nowhere (are_at [] less.cells) 0 less.cells (none_at less.cells) ∙ lacks.cells;
+      cells = nowhere (are_at action.inserted less.cells) 0 less.cells (λ place. none_at action.inserted less.cells place fewer) ∙ lacks.cells;
       site = omega (arith, lacks.site, doc.site, p);
       older = below_later (greatest_last_count log) start.doc.count flat.cells (omega (arith, doc.count, lacks.count))
           (subst (AreBelowNext (greatest_last_count log)) (sym doc.cells) (cells_older log h));
@@ -250,14 +264,14 @@ taken_back site log flat less places action p h doc lacks ins rem =
     } in
     ap (λ group. tagged_text (with_each_reverted group r).doc.cells) (one_reversed action)
     ∙ ap (λ l. tagged_text (with_returns l (with_gone (map (stamp_after []) action.inserted) r)).doc.cells) rem
-    ∙ ap (λ ss. tagged_text (with_returns removed (with_gone (map (stamp_after []) ss) r)).doc.cells) ins
+    ∙ ap (λ ss. tagged_text (with_returns removed (with_gone ss r)).doc.cells) (map-id action.inserted)
     ∙ back places flat.cells 0 [] start part
 
 pub removal_back : (site : ℕ) (log : List Operation) (flat : Flat) (places : ℕ → Bool) (action : Action (List Word)) → 0 < site → IsHistory log → IsDocument site log flat
-    → action.inserted ≡ [] → action.removed ≡ map as_removed (cells_at places 0 flat.cells)
+    → HaveNone action.inserted flat.cells → action.removed ≡ map as_removed (cells_at places 0 flat.cells)
     → tagged_text (reverted (without_places flat places) (action ∷ [])).cells ≡ tagged_text flat.cells
-removal_back site log flat places action p h doc ins rem =
-    taken_back site log flat (without_places flat places) places action p h doc (record { cells = refl; site = refl; count = omega arith }) ins rem
+removal_back site log flat places action p h doc none rem =
+    taken_back site log flat (without_places flat places) places action p h doc (record { cells = refl; site = refl; count = omega arith }) none rem
 
 -- REDONE
 
@@ -286,7 +300,7 @@ redone site log flat action p h doc =
     let r = with_reverted undone (as_it_is flat) in
     let again : Action (List Word) = record { number = action.number; kind = action.kind; inserted = []; removed = map (with_stamp (stamp_after [])) (still_visible stamps flat.cells) } in
     ap (λ group. text (with_each_reverted group (as_it_is flat))) (one_reversed undone)
-    ∙ taken_back site log flat (logged flat r.drafts r.doc) places again p h doc (record { cells = refl; site = refl; count = omega arith }) refl
+    ∙ taken_back site log flat (logged flat r.drafts r.doc) places again p h doc (record { cells = refl; site = refl; count = omega arith }) (λ s k. refl)
     (map-id (still_visible stamps flat.cells) ∙ still_is stamps flat.cells)
 
 pub insertion_redone : (site : ℕ) (log : List Operation) (flat : Flat) (action : Action (List Word)) → 0 < site → IsHistory log → IsDocument site log flat → action.removed ≡ []

@@ -1,8 +1,10 @@
 -- What the text is after an action was reverted.
-use Rattle.std.specs.Prelude.{◌≡◌, ℕ, ◌<◌, Bool, List, [], ◌∷◌, map}
+use Rattle.std.specs.Prelude.{◌≡◌, ℕ, ◌<◌, Bool, true, false, List, [], ◌∷◌, map}
+use Rattle.rt_stamps.specs.declared.stamp.Stamp.{Stamp}
 use Rattle.rt_stamps.specs.Words.{Word}
 use Rattle.rt_ops.specs.Operations.{Operation}
-use Rattle.rt_store.specs.Cells.{text_of}
+use Rattle.rt_store.specs.Cells.{stamps_of, text_of}
+use Rattle.rt_store.specs.Spans.{is_among}
 use Rattle.rt_rga.specs.Histories.{IsHistory}
 use Rattle.rt_rga.specs.Texts.{tagged_text}
 use Rattle.rt_edits.specs.Deletions.{without_places}
@@ -18,11 +20,13 @@ InsertionIsTakenBack =
     (flat : Flat) (action : Action (List Word)) → action.removed ≡ []
     → text_of (reverted flat (action ∷ [])).cells ≡ left_at (are_at action.inserted flat.cells) 0 (text_of flat.cells)
 
--- A removal: the text is again what it was, each character with its tags.
+-- A removal, by an action none of whose own stamps a cell of the text has, as in all that commands record: the text is again
+-- what it was, each character with its tags.
 abbrev pub RemovalIsTakenBack : Type 0
 RemovalIsTakenBack =
     (site : ℕ) (log : List Operation) (flat : Flat) (places : ℕ → Bool) (action : Action (List Word)) → 0 < site → IsHistory log
-    → IsDocument site log flat → action.inserted ≡ [] → action.removed ≡ map as_removed (cells_at places 0 flat.cells)
+    → IsDocument site log flat → ((s : Stamp) → is_among (stamps_of flat.cells) s ≡ true → is_among action.inserted s ≡ false)
+    → action.removed ≡ map as_removed (cells_at places 0 flat.cells)
     → tagged_text (reverted (without_places flat places) (action ∷ [])).cells ≡ tagged_text flat.cells
 
 -- An insertion that was undone, and is redone: the text is again what it was, each character with its tags.

@@ -11,10 +11,8 @@ use Rattle.rt_stamps.specs.declared.fault.Fault.TheVariants.{ClockSpent, NoMemor
 use Rattle.rt_stamps.specs.declared.limits.TheConstants.{GREATEST_COUNT}
 use Rattle.rt_stamps.specs.Outcomes.{first_of}
 use Rattle.rt_stamps.specs.Words.{as_words}
-use Rattle.rt_store.specs.declared.cell.Cell.{Cell}
 use Rattle.rt_store.specs.Cells.{text_of, visible_of}
-use Rattle.rt_store.specs.Shown.{TaggedCell, shown}
-use Rattle.rt_tags.specs.States.{TagStates}
+use Rattle.rt_store.specs.Shown.{TaggedCell}
 use Rattle.rt_tags.specs.Tags.{IsName, is_ready}
 use Rattle.rt_rga.specs.Histories.{IsHistory}
 use Rattle.rt_rga.specs.Drafts.{with_drafts}
@@ -30,8 +28,7 @@ use Rattle.rt_edits.specs.Selected.{selected_stamps, room_in}
 use Rattle.rt_edits.specs.Selections.{with_stamps}
 use Rattle.rt_edits.proofs.PlaceLaws.{length_text, text_within}
 use Rattle.rt_views.specs.declared.stretch.Stretch.{Stretch}
-use Rattle.rt_views.specs.declared.limits.Limits.{Limits}
-use Rattle.rt_views.specs.Stretches.{shown_part, stretch_of}
+use Rattle.rt_views.specs.Stretches.{shown_part}
 use Rattle.rt_text.specs.Commands.{cell_check, with_pieces_at}
 use Rattle.rt_text.specs.Kept.{IsDoc}
 use Rattle.rt_text.specs.Parts.{own_in}
@@ -39,7 +36,6 @@ use Rattle.rt_text.specs.Widgets.{IsOwnOf, Own, Viewed, in_text, own_inserted, s
 use Rattle.rt_text.proofs.InsertedDocument.{all_fit, kept_made, made_drafts, made_flat, made_is, made_new, may_make, names_given, others_made, own_made, put_made, refused_as, refused_made}
 use Rattle.rt_text.proofs.InsertedSides.{IsPlace, at_visible}
 use Rattle.rt_text.proofs.KeptDocument.{clock_spent}
-use Rattle.rt_text.proofs.LimitedDeletions.{stretch_kept}
 use Rattle.rt_text.proofs.MadeDocument.{seen, seen_made}
 use Rattle.rt_text.proofs.MarkLaws.{own_of_selecting, site_fits}
 use Rattle.rt_text.proofs.PeerLaws.{each_by, each_room, put_each, selecting}
