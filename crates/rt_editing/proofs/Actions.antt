@@ -48,7 +48,7 @@ from_count P site first (suc n) low h f = (f (record { count = first; site = sit
 pub counts_all : (P : Stamp → Type 0) (site before after : ℕ) → ((s : Stamp) → before < s.count → s.site ≡ site → P s) → AllByRecursion P (stamps_of_span (counts_between site before after))
 counts_all P site before after f = from_count P site (before + 1) (after + 1 - (before + 1)) before (omega arith) f
 
-none_among : (t : Stamp) (xs : List Stamp) → AllByRecursion (λ s. is_same s t ≡ false) xs → is_among xs t ≡ false
+pub none_among : (t : Stamp) (xs : List Stamp) → AllByRecursion (λ s. is_same s t ≡ false) xs → is_among xs t ≡ false
 none_among t [] h = refl
 none_among t (x ∷ xs) h = or_from (is_same x t) (is_among xs t) h.0 (none_among t xs h.1)
 

@@ -10,4 +10,5 @@ pub mod Removals
 pub mod Renamed
 pub mod Settling
 pub mod Stayed
+pub mod TakenBack
 pub mod Told

@@ -1,3 +1,4 @@
+pub mod EditLaws
 pub mod Edited
 pub mod Edits
 pub mod Naming

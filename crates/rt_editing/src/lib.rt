@@ -8,6 +8,7 @@ mod before;
 mod coming;
 mod counting;
 pub mod editing;
+pub mod laws;
 mod noting;
 mod own;
 pub mod receiving;
