@@ -246,7 +246,7 @@ fn line_in(alloc: Global, matches: &ArgMatches<'_>) -> Result<Line, LineFault>
 
 /// Reads a command line, whose first word is the program's name: `peertext run --site N [--log F]
 /// [--out F] [FILE..]`, for an N from 1 to `GREATEST_SITE`, `peertext join A B OUT` or `peertext show
-/// FILE`.
+/// FILE`. `Usage`, with clap's error, where clap refuses the words, or want of memory.
 pub fn line(alloc: Global, words: &[&str]) -> Result<Line, LineFault>
     ensures line { IfOk result (LineOf (map (λ w. w.now) words.now)) }
     ensures takes { IfOk result (λ _. Takes (map (λ w. w.now) words.now)) }

@@ -51,7 +51,7 @@ impl Selection {
         self.stamps.contains(&stamp)
     }
 
-    /// Makes room for more stamps.
+    /// Makes room for so many stamps more. `NoMemory` is its only fault; the selection stays.
     pub fn reserve(&mut self, more: usize) -> Result<(), Fault>
         ensures same { selected_stamps self.new ≡ selected_stamps self.old }
         ensures room { OnOk result (more ≤ room_in self.new) }

@@ -24,7 +24,8 @@ pub enum Part<'a> {
     Text(&'a [char]),
 }
 
-/// Writes the parts, a space before each.
+/// Writes the parts, a space before each. `WriteFault` after a failed write, and then a front of them was
+/// written.
 pub fn write_parts<W: Sink>(parts: &[Part<'_>], out: &mut W) -> Result<(), Fault>
     ensures wrote { Wrote (W.contents out.old) (W.contents out.new) result (flat_map (λ part. 32 ∷ text_of_part part) parts.now) }
     ensures fault { IsOkUnless result Fault.WriteFault }
@@ -36,7 +37,8 @@ pub fn write_parts<W: Sink>(parts: &[Part<'_>], out: &mut W) -> Result<(), Fault
     Ok(())
 }
 
-/// Writes the spans, a space before each.
+/// Writes the spans, a space before each. `WriteFault` after a failed write, and then a front of them was
+/// written.
 pub fn write_spans<W: Sink>(spans: &[Span], out: &mut W) -> Result<(), Fault>
     ensures wrote { Wrote (W.contents out.old) (W.contents out.new) result (flat_map (λ span. 32 ∷ text_of_span span) spans.now) }
     ensures fault { IsOkUnless result Fault.WriteFault }
@@ -48,7 +50,8 @@ pub fn write_spans<W: Sink>(spans: &[Span], out: &mut W) -> Result<(), Fault>
     Ok(())
 }
 
-/// Writes the names as words, a space before each.
+/// Writes the names as words, a space before each. `WriteFault` after a failed write, and then a front of
+/// them was written.
 pub fn write_names<W: Sink>(names: &[String], out: &mut W) -> Result<(), Fault>
     ensures wrote { Wrote (W.contents out.old) (W.contents out.new) result (flat_map (λ name. 32 ∷ text_of_word (string_bytes name)) names.now) }
     ensures fault { IsOkUnless result Fault.WriteFault }

@@ -21,8 +21,9 @@ fn write_magic<W: Sink>(out: &mut W) -> Result<(), Fault>
 }
 
 /// Writes the file of a log's operations by rising stamp, one record after the other, through a
-/// buffer of a record. What was written is read back as these operations. `NoMemory` where the buffer
-/// could not grow, `WriteFault` where a write failed; a front of the file was then written.
+/// buffer of a record. What was written reads as these operations (`read_file` takes files of at most
+/// `MOST_BYTES`). `NoMemory` where the buffer could not grow, `WriteFault` where a write failed; a front
+/// of the file was then written.
 pub fn write_file<W: Sink>(alloc: Global, log: &OpLog, out: &mut W) -> Result<(), Fault>
     ensures wrote { Wrote (W.contents out.old) (W.contents out.new) result (spelling (reverse log.now.operations)) }
     ensures read_back { OnOk result

@@ -211,7 +211,7 @@ impl OpLog {
         &self.ops[self.order.get(place)]
     }
 
-    /// The operations by rising stamp.
+    /// The operations by rising stamp, or want of memory.
     pub fn in_order(&self) -> Result<Vec<&Op>, Fault>
         ensures operations { IfOk result (λ ops. map (λ op. op.now) ops.items ≡ reverse self.now.operations) }
         ensures fault { IsOkUnless result NoMemory }

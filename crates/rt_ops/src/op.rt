@@ -203,7 +203,8 @@ impl Op {
         &self.edit
     }
 
-    /// The last count: that of the last character of an Insert, else the first.
+    /// The last count: that of the last character of an Insert, else the first. It is asked of operations
+    /// whose last count is at most `GREATEST_COUNT`.
     pub fn last_count(&self) -> u64
         requires { last_count_of self.now ≤ GREATEST_COUNT }
         ensures { result ≡ last_count_of self.now }

@@ -52,8 +52,8 @@ impl Model for SiteState {
 }
 
 impl SiteState {
-    /// A new site with the widget `.t`, with at most `limit` cells, the final newline and tombstones
-    /// included.
+    /// A new site with the widget `.t`, with at most `limit` cells, 1 to `MOST_CELLS`, the final newline
+    /// and tombstones included. `NoMemory` is its only fault.
     pub fn new(alloc: Global, site: Site, limit: usize) -> Result<SiteState, Fault>
         requires { (1 ≤ limit) × (limit ≤ MOST_CELLS) }
         ensures ok { IfOk result (λ state. state ≡ new_state site.number limit) }

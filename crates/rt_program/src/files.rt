@@ -177,7 +177,8 @@ fn is_protected<R: Files>(rt: &R, path: &str) -> bool {
 /// Writes the bytes of a file. A regular file that can be written, or one that is not there yet, gets
 /// them as a whole or stays as it was: they are written beside it, with its mode, and then take its
 /// name. They are written in place where no file can be made beside it, or none can take its name,
-/// and so are a link, a device and a pipe.
+/// and so are a link, a device and a pipe. The error is the system's, and `PermissionDenied` for a file
+/// whose mode lets nobody write.
 pub fn write_whole<R: Files + AllocGlobal>(rt: &R, path: &str, bytes: &[u8]) -> io::Result<()> {
     if is_protected(rt, path) {
         return Err(io::Error::from(ErrorKind::PermissionDenied));

@@ -27,7 +27,7 @@ ghost use Rattle.rt_rga.specs.Names.{HasNames};
 ghost use Rattle.rt_rga.specs.Laws.{AllDraftsCountOn, BadSpansAreWithinEnd, BadTargetsStay, BothMayBeMade, CellsAreChanged, CellsAreCharacters, CellsAreCounted, ChangesAppend, CharactersAppend, ClashFreeAreJoined, ClashFreeAreTaken, ConflictsAreClashes, ConflictsStay, CountsAppend, DeleteIsKept, DeletesOfZeroAreBad, DraftsAreCounted, DraftsChangeInTurn, DraftsCountOn, DraftsFit, DraftsLeaveHistory, EitherOrderWillDo, EqualLogsShowEqualCells, EqualLogsShowEqualText, FinalIsKnown, FinalIsSpared, FullHasNone, GapsAreWithinEnd, GreatestDecide, InTimeIsTaken, InTimeIsTakenWithin, InsertFindsPlace, InsertIsKept, InsertsArePlaced, InsertsSkipGreater, MadeIsNew, NewHasItsBases, NewHasRoom, NewMakesLarger, NewestIsFirst, NewestSkipsNothing, OffersAddNew, OperationsAppend, RequestsKeepLimit, RequestsLeaveHistory, RequestsMakeUnlessRefused, SelIsInNoState, SetsAppend, SharedAreListed, SitesAgree, SpansAreKnown, SpansNameTheirStamps, TagIsKept, TagsOfZeroAreFinal};
 
 /// The reading of a history goes over its tree depth first, and no other list does. It can be had in
-/// one pass over the characters by rising stamp.
+/// one pass over the characters by rising stamp (Replicated Growable Array, JPDC 2011).
 pub fn depth_first()
     ensures is_reading { (set : List Operation) → IsHistory set → IsReading (characters set) (reading (characters set)) }
     ensures no_other { (set : List Operation) (list : List Character) → IsHistory set → IsReading (characters set) list → list
@@ -36,7 +36,7 @@ pub fn depth_first()
 {}
 
 /// An Insert puts its characters in behind the element that it goes after, past all cells directly
-/// behind that with greater stamps.
+/// behind that with greater stamps (Replicated Growable Array, JPDC 2011).
 pub fn skipping()
     ensures { InsertsSkipGreater }
 {}

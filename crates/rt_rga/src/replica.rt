@@ -78,7 +78,7 @@ impl<S: TextStore> Model for Replica<S> {
 
 impl<S: TextStore> Replica<S> {
     /// A replica without operations, of a new store: that of a site, for at most `limit` cells, the
-    /// final newline and those that are gone among them. `NoMemory` is its only fault.
+    /// final newline and those that are gone among them, 1 to `MOST_CELLS`. `NoMemory` is its only fault.
     pub fn new(alloc: Global, store: S, site: Site, limit: usize) -> Result<Replica<S>, Fault>
         requires store { S.list store ≡ final_cell ∷ [] }
         requires limit { (1 ≤ limit) × (limit ≤ MOST_CELLS) }

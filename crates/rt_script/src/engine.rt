@@ -325,9 +325,9 @@ fn finish<C: Commands, W: Sink>(
 ///
 /// After each read all lines that are then complete are run, each answer in one write where there
 /// is memory for it. At a failed read, and past `MOST_BYTES` bytes, the run ends with
-/// `ReadFault` (it takes at most `MOST_READS` reads, which suffice for so many bytes), and what follows the last newline isn't run. After a failed write nothing
-/// more is run or written, and the run ends with `WriteFault`. Where a line can't be stored, it ends
-/// with `NoMemory`.
+/// `ReadFault` (it takes at most `MOST_READS` reads, which suffice for so many bytes), and what follows
+/// the last newline isn't run. After a failed write nothing more is run or written, and the run ends
+/// with `WriteFault`. Where a line can't be stored, it ends with `NoMemory`.
 pub fn run_lines<C: Commands + Drop, R: Source, W: Sink>(
     alloc: Global,
     mut site: C,

@@ -39,8 +39,8 @@ impl Clock {
         self.seen
     }
 
-    /// The first of `k` fresh counts, one more than the greatest that was seen. `ClockSpent` where
-    /// the last of them would pass `GREATEST_COUNT`.
+    /// The first of `k` fresh counts, 1 or more, which is one more than the greatest that was seen.
+    /// `ClockSpent` where the last of them would pass `GREATEST_COUNT`.
     pub fn next(&self, k: u64) -> Result<u64, Fault>
         requires { 1 ≤ k }
         ensures { result ≡ fresh_count self.now k }
@@ -51,7 +51,7 @@ impl Clock {
         Ok(self.seen + 1)
     }
 
-    /// Sees a count.
+    /// Sees a count, at most `GREATEST_COUNT`.
     pub fn saw(&mut self, count: u64)
         requires { count ≤ GREATEST_COUNT }
         ensures { self.new ≡ max self.old count }

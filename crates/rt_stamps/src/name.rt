@@ -26,7 +26,7 @@ pub fn check_name(name: &str) -> Result<(), Fault>
     Ok(())
 }
 
-/// Refuses words of which one can't be a name.
+/// Refuses words of which one can't be a name: `BadName`.
 pub fn check_names(names: &[String]) -> Result<(), Fault>
     ensures { result ≡ unless (first_of (map name_check (as_words names.now))) tt }
 {

@@ -30,7 +30,7 @@ impl Drop for ListStore {
 impl ListStore {
     ghost use Rattle.rt_store.specs.ListStore.{cells_of};
 
-    /// A store of the final newline alone.
+    /// A store of the final newline alone. `NoMemory` is its only fault.
     pub fn new(alloc: Global) -> Result<ListStore, Fault>
         ensures ok { IfOk result (λ store. cells_of store ≡ final_cell ∷ []) }
         ensures err { IsOkUnless result Fault.NoMemory }

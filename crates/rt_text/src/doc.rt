@@ -71,8 +71,8 @@ impl<S: TextStore> Model for Doc<S> {
 }
 
 impl<S: TextStore> Doc<S> {
-    /// The document of a new store, for a site and a limit of cells, the final newline and
-    /// tombstones included. It is refused for want of memory alone.
+    /// The document of a new store, for a site and a limit of cells, 1 to `MOST_CELLS`, the final newline
+    /// and tombstones included. It is refused for want of memory alone.
     pub fn new(alloc: Global, store: S, site: Site, limit: usize) -> Result<Doc<S>, Fault>
         requires store { S.list store ≡ final_cell ∷ [] }
         requires limit { (1 ≤ limit) × (limit ≤ MOST_CELLS) }

@@ -60,8 +60,8 @@ impl<S: TextStore> Model for View<S> {
 }
 
 impl<S: TextStore> View<S> {
-    /// A new widget on the document of a new store, for a site and a limit of cells, the final newline
-    /// and tombstones included. It is refused for want of memory alone.
+    /// A new widget on the document of a new store, for a site and a limit of cells, 1 to `MOST_CELLS`,
+    /// the final newline and tombstones included. It is refused for want of memory alone.
     pub fn new(alloc: Global, store: S, site: Site, limit: usize) -> Result<View<S>, Fault>
         requires store { S.list store ≡ final_cell ∷ [] }
         requires limit { (1 ≤ limit) × (limit ≤ MOST_CELLS) }

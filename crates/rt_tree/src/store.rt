@@ -30,7 +30,7 @@ impl Drop for TreeStore {
 impl TreeStore {
     ghost use Rattle.rt_tree.specs.Stores.{AgreesWith, cells_of};
 
-    /// A store of the final newline alone.
+    /// A store of the final newline alone. `NoMemory` is its only fault.
     pub fn new(alloc: Global) -> Result<TreeStore, Fault>
         ensures ok { IfOk result (λ store. cells_of store ≡ final_cell ∷ []) }
         ensures agrees { IfOk result (λ store. (table : TagStates) → AreStates table (final_cell ∷ []) → AgreesWith table store) }

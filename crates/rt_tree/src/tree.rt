@@ -109,7 +109,7 @@ fn visible_part(run: Run, count: usize) -> usize
 }
 
 impl Tree {
-    /// A tree of the final newline alone.
+    /// A tree of the final newline alone. `NoMemory` is its only fault.
     pub fn new(alloc: Global) -> Result<Tree, Fault>
         ensures cells { IfOk result (λ tree. tree.cells ≡ final_cell ∷ []) }
         ensures runs { IfOk result (λ tree. tree.runs ≡ 1) }
@@ -433,7 +433,7 @@ impl Tree {
     }
 
     /// The position where a new character goes whose left element is `left`: behind it and past all
-    /// cells directly behind it that have greater stamps.
+    /// cells directly behind it that have greater stamps (Replicated Growable Array, JPDC 2011).
     pub fn after_skip(&self, left: Stamp, new: Stamp) -> usize
         requires { StandsBefore self.now.cells left }
         ensures { result ≡ skip_from self.now.cells left new }

@@ -63,7 +63,8 @@ impl Renames {
         }
     }
 
-    /// Makes room for `n` calls of `rename`, which then take no memory. `NoMemory` changes nothing.
+    /// Makes room for `n` calls of `rename`, below 2^32, which then take no memory. `NoMemory` changes
+    /// nothing.
     pub fn reserve(&mut self, n: usize) -> Result<(), Fault>
         requires { n < 2 ^ 32 }
         ensures now { (stamp : Stamp) → now_of self.new stamp ≡ now_of self.old stamp }

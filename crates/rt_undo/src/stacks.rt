@@ -239,7 +239,7 @@ impl Stacks {
     }
 
     /// Makes room for one `add`, `undone` or `redone`, and for so many calls of `replaced` and
-    /// `replaced_span` before it. After `NoMemory` the stacks are as they were.
+    /// `replaced_span` before it, below 2^32. After `NoMemory` the stacks are as they were.
     pub fn reserve(&mut self, replacements: usize) -> Result<(), Fault>
         requires { replacements < 2 ^ 32 }
         ensures history { self.new.history ≡ self.old.history }
