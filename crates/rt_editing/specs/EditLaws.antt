@@ -12,7 +12,7 @@ use Rattle.rt_revert.specs.Reverting.{reverted}
 use Rattle.rt_editing.specs.Edits.{action_of}
 
 -- Characters are removed, with the action that `delete` records of it, and this is undone at once: the text is again what it was,
--- each character with its tags.
+-- each character with its tags. It is said of deletions that take no tags off the last newline.
 abbrev pub DeletionIsTakenBack : Type 0
 DeletionIsTakenBack =
     (site : ℕ) (log : List Operation) (flat : Flat) (places : ℕ → Bool) → 0 < site → IsHistory log → IsDocument site log flat

@@ -20,8 +20,8 @@ InsertionIsTakenBack =
     (flat : Flat) (action : Action (List Word)) → action.removed ≡ []
     → text_of (reverted flat (action ∷ [])).cells ≡ left_at (are_at action.inserted flat.cells) 0 (text_of flat.cells)
 
--- A removal, by an action none of whose own stamps a cell of the text has, as in all that commands record: the text is again
--- what it was, each character with its tags.
+-- A removal, by an action none of whose own stamps a cell of the text has: the text is again what it was, each character with
+-- its tags.
 abbrev pub RemovalIsTakenBack : Type 0
 RemovalIsTakenBack =
     (site : ℕ) (log : List Operation) (flat : Flat) (places : ℕ → Bool) (action : Action (List Word)) → 0 < site → IsHistory log
