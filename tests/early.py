@@ -65,8 +65,17 @@ def hints():
                 hint = re.match(r"\s*#\[(inline\(always\)|inline\(never\)|inline|cold)\]", line)
                 name = hint and re.search(r"\bfn (\w+)", "\n".join(it for it in lines[at : at + 12] if not it.lstrip().startswith("//")))
                 if name:
-                    found.setdefault(name[1], []).append(("::".join([crate, *parts, ""]), HINTS[hint[1]]))
+                    # A method is named by its type, which may be of another module.
+                    kept = [it for it in lines[:at] if it.startswith("impl")] if line.startswith(" ") else []
+                    of = kept and re.match(r"impl(?:<.*?>)? (?:.* for )?(\w+)", kept[-1])
+                    found.setdefault(name[1], []).append(([crate, *parts], of and of[1], HINTS[hint[1]]))
     return found
+
+
+def is_named(base, place, of):
+    """Whether a name is that of a function of a module, or of a method of a type of a crate."""
+    parts = base.split("::")
+    return parts[0] == place[0] and parts[-2].startswith(of) if of else parts[:-1] == place
 
 
 def without_checks(lines, found):
@@ -78,7 +87,7 @@ def without_checks(lines, found):
             continue
         name = re.match(r'define internal .*?@"([^"]+)"\(', line)
         base = name and re.sub(r"::<.*$", "", name[1])
-        given = base and {hint for path, hint in found.get(base.split("::")[-1], []) if base.startswith(path)}
+        given = base and {hint for place, of, hint in found.get(base.split("::")[-1], []) if is_named(base, place, of)}
         if given:
             group = groups.setdefault(" ".join(sorted(given)), 1000 + len(groups))
             line = re.sub(r"#\d+ \{$", f"#{group} {{", line)
