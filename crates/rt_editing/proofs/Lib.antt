@@ -5,6 +5,7 @@ pub mod Growing
 pub mod Named
 pub mod Noted
 pub mod Outcomes
+pub mod PutBack
 pub mod Receptions
 pub mod Removals
 pub mod Renamed

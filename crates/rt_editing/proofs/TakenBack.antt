@@ -23,7 +23,7 @@ use Rattle.rt_editing.specs.Edits.{action_of, counts_between}
 use Rattle.rt_editing.proofs.Actions.{counts_all, none_among}
 
 -- no character that was there has one of the counts that an edit takes
-counts_apart : (site : ℕ) (log : List Operation) (flat : Flat) (after : ℕ) → 0 < site → IsHistory log → IsDocument site log flat → (s : Stamp)
+pub counts_apart : (site : ℕ) (log : List Operation) (flat : Flat) (after : ℕ) → 0 < site → IsHistory log → IsDocument site log flat → (s : Stamp)
     → is_among (stamps_of flat.cells) s ≡ true → is_among (stamps_of_span (counts_between flat.site flat.count after)) s ≡ false
 counts_apart site log flat after p h doc s there =
     let real : 1 ≤ flat.site = omega (arith, doc.site, p) in

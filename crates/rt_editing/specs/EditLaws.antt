@@ -1,14 +1,18 @@
 -- What the text is after a recorded edit was undone.
 use Rattle.std.specs.Prelude.{◌≡◌, ℕ, ◌<◌, Bool, List, [], ◌∷◌}
+use Rattle.rt_stamps.specs.Words.{Word}
 use Rattle.rt_ops.specs.Operations.{Operation}
 use Rattle.rt_rga.specs.Histories.{IsHistory}
 use Rattle.rt_rga.specs.Texts.{tagged_text}
 use Rattle.rt_edits.specs.Deletions.{without_places}
 use Rattle.rt_edits.specs.DraftLaws.{IsDocument}
 use Rattle.rt_edits.specs.Flat.{Flat}
+use Rattle.rt_edits.specs.Insertions.{Piece}
 use Rattle.rt_edits.specs.Removals.{cells_at}
-use Rattle.rt_undo.specs.declared.action.Kind.TheVariants.{Delete}
+use Rattle.rt_undo.specs.declared.action.Kind.TheVariants.{Delete, Insert}
 use Rattle.rt_revert.specs.Reverting.{reverted}
+use Rattle.rt_text.specs.Commands.{with_pieces_at}
+use Rattle.rt_text.specs.Widgets.{Viewed}
 use Rattle.rt_editing.specs.Edits.{action_of}
 
 -- Characters are removed, with the action that `delete` records of it, and this is undone at once: the text is again what it was,
@@ -18,3 +22,12 @@ DeletionIsTakenBack =
     (site : ℕ) (log : List Operation) (flat : Flat) (places : ℕ → Bool) → 0 < site → IsHistory log → IsDocument site log flat
     → let left = without_places flat places in
     tagged_text (reverted left (action_of Delete flat left (cells_at places 0 flat.cells) ∷ [])).cells ≡ tagged_text flat.cells
+
+-- Text is inserted, with the action that `insert` records of it, and this is undone at once: the text is again what it was, each
+-- character with its tags.
+abbrev pub InsertedTextIsTakenBack : Type 0
+InsertedTextIsTakenBack =
+    (site : ℕ) (log : List Operation) (view : Viewed) (place : ℕ) (pieces : List Piece) (rest : Word) → 0 < site → IsHistory log
+    → IsDocument site log view.doc
+    → let new = (with_pieces_at view place pieces rest).doc in
+    tagged_text (reverted new (action_of Insert view.doc new [] ∷ [])).cells ≡ tagged_text view.doc.cells

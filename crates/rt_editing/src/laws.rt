@@ -1,8 +1,14 @@
 // Laws of the definitions, each the contract of a function that does nothing.
-ghost use Rattle.rt_editing.specs.EditLaws.{DeletionIsTakenBack};
+ghost use Rattle.rt_editing.specs.EditLaws.{DeletionIsTakenBack, InsertedTextIsTakenBack};
 
 /// The text after a removal of characters was undone at once, by the action that a deletion records which
 /// takes no tags off the last newline: it is again what it was, each character with its tags.
 pub fn recorded_deletion()
     ensures { DeletionIsTakenBack }
+{}
+
+/// The text after an insertion was undone at once, by the action that an insertion records: it is again what it was,
+/// each character with its tags.
+pub fn recorded_insertion()
+    ensures { InsertedTextIsTakenBack }
 {}
