@@ -26,6 +26,7 @@ pub mod PartLaws
 pub mod PieceDraftLaws
 pub mod PieceLaws
 pub mod PlaceLaws
+pub mod PlainLaws
 pub mod PlanLaws
 pub mod Planning
 pub mod PremiseLaws

@@ -193,6 +193,6 @@ some_left empty n e f = by n (sym e ∙ f)
     by zero h = let bad : ⊥ = cc in absurd bad
     by (suc n) h = omega arith
 
-pub none_left : (empty : Bool) (rest : List ℕ) → empty ≡ nat_eq (length rest) 0 → empty ≡ true → rest ≡ []
+pub none_left : {X : Type 0} (empty : Bool) (rest : List X) → empty ≡ nat_eq (length rest) 0 → empty ≡ true → rest ≡ []
 none_left empty [] e f = refl
 none_left empty (c ∷ rest) e f = let none : suc (length rest) ≡ 0 = eqb-true (suc (length rest)) 0 (sym e ∙ f) in absurd (omega arith)

@@ -13,9 +13,12 @@ ghost use Rattle.rt_edits.specs.Insertions.{insertion_of};
 ghost use Rattle.rt_edits.specs.Selected.{selected_stamps};
 
 use crate::inserts::Inserts;
+use crate::lists::only_char;
 use crate::pieces::PlannedPieces;
+use crate::plain::{plain_plan, plain_sides};
 use crate::{Piece, Selection, Stamps};
 use rt_rga::{Draft, Few};
+use rt_stamps::limits::GREATEST_COUNT;
 use rt_stamps::{Fault, Site, Stamp};
 use rt_store::Cell;
 use rt_tags::{StateId, StateTable};
@@ -92,6 +95,14 @@ pub fn planned_between(
         < (insertion_of site.number (option_map (shown states.now) left) (option_map (shown states.now) right) pieces.now rest.now
         (record { cells = []; count = count; sel = sel; others = others; tags = tags })).count))) }
 {
+    // What typing comes to is told at once.
+    if pieces.is_empty() && count < GREATEST_COUNT {
+        if let Some(character) = only_char(rest) {
+            if let Some((one, other)) = plain_sides(states, selection, &left, &right) {
+                return Ok(plain_plan(alloc, site, count, after, one, other, character));
+            }
+        }
+    }
     let mut all = match PlannedPieces::of(alloc, site, count, after, pieces) {
         Ok(all) => all,
         Err(fault) => return Err(fault),

@@ -15,6 +15,7 @@ mod lists;
 mod parts;
 pub mod piece;
 mod pieces;
+mod plain;
 pub mod range;
 pub mod removal;
 pub mod selection;

@@ -86,8 +86,9 @@ pub(crate) fn tags_of_both(
     Ok(both)
 }
 
-// The only character of a text, if it has one and no more.
-fn only_char(text: &str) -> Option<char>
+/// The only character of a text, if it has one and no more.
+#[inline(always)]
+pub(crate) fn only_char(text: &str) -> Option<char>
     ensures { IfSome result (λ ch. chars text.now ≡ ch ∷ []) }
 {
     let mut characters = text.chars();

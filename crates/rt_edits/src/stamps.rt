@@ -1,5 +1,5 @@
 // The stamps of new characters.
-ghost use Rattle.std.specs.Prelude.{◌≡◌, ℕ, ◌+◌, ◌≤◌, ◌++◌, IfOk, IsOkUnless, List, OnOk, length};
+ghost use Rattle.std.specs.Prelude.{◌≡◌, ℕ, ◌+◌, ◌≤◌, ◌++◌, ◌∷◌, [], IfOk, IsOkUnless, List, OnOk, length};
 ghost use Rattle.rt_stamps.specs.declared.limits.TheConstants.{GREATEST_COUNT};
 ghost use Rattle.rt_stamps.specs.declared.stamp.Stamp.{Stamp};
 ghost use Rattle.rt_stamps.specs.Words.{as_words};
@@ -100,6 +100,20 @@ pub(crate) fn select_new(
 }
 
 impl Stamps {
+    /// That of one character.
+    #[inline(always)]
+    pub(crate) fn of_one(site: Site, count: u64) -> Stamps
+        ensures { result ≡ record { count = count; site = site.number } ∷ [] }
+    {
+        let stamp = Stamp {
+            count,
+            site: site.number(),
+        };
+        Stamps {
+            kept: Few::One(stamp),
+        }
+    }
+
     /// Those of a text with some tags, with the counts after one. Want of memory, where they are more than
     /// one.
     #[inline(always)]
@@ -116,13 +130,7 @@ impl Stamps {
         ensures err { IsOkUnless result Fault.NoMemory }
     {
         if text.len() == 1 {
-            let stamp = Stamp {
-                count: count + 1,
-                site: site.number(),
-            };
-            return Ok(Stamps {
-                kept: Few::One(stamp),
-            });
+            return Ok(Stamps::of_one(site, count + 1));
         }
         let mut stamps = Vec::with_capacity(alloc, text.len())?;
         push_stamps(&mut stamps, site, count, names, text)?;

@@ -67,6 +67,10 @@ fn after_any(text: &[u8]) -> &[u8]
     ensures value { result.now ≡ after_any text.now }
     ensures within { length result.now ≤ length text.now }
 {
+    // Mostly it isn't there, which its first letter tells.
+    if text.first() != Some(&b'a') {
+        return text;
+    }
     let (run, rest) = text.split_at(letters(text));
     if run == b"any".as_slice() {
         after_spaces(rest)
@@ -92,10 +96,11 @@ fn number(digits: &[u8]) -> usize
 fn column_of(line: usize, text: &[u8]) -> Option<Fixed>
     ensures { (whole : ℕ) → line ≡ kept whole → result ≡ option_map kept_fixed (column_of whole text.now) }
 {
+    if let [b'e', b'n', b'd'] = text {
+        return Some(Fixed::LineEndOf(line));
+    }
     let run = digits(text);
-    if text == b"end".as_slice() {
-        Some(Fixed::LineEndOf(line))
-    } else if text.is_empty() || run < text.len() {
+    if text.is_empty() || run < text.len() {
         None
     } else {
         Some(Fixed::Character(line, number(text)))
@@ -119,10 +124,9 @@ fn position_of(text: &[u8]) -> Option<Fixed>
 pub(crate) fn fixed_of(text: &[u8]) -> Option<Fixed>
     ensures { result ≡ option_map kept_fixed (fixed_of text.now) }
 {
-    if text == b"end".as_slice() {
-        Some(Fixed::End)
-    } else {
-        position_of(text)
+    match text {
+        [b'e', b'n', b'd'] => Some(Fixed::End),
+        _ => position_of(text),
     }
 }
 
@@ -130,6 +134,10 @@ pub(crate) fn fixed_of(text: &[u8]) -> Option<Fixed>
 fn unit_of(run: &[u8]) -> Option<Step>
     ensures { result ≡ unit_of run.now }
 {
+    // As most are written; a prefix is compared by a call.
+    if let [b'c', b'h', b'a', b'r', b's'] = run {
+        return Some(Step::Characters);
+    }
     if run.is_empty() {
         None
     } else if b"chars".starts_with(run) || b"indices".starts_with(run) {

@@ -194,6 +194,7 @@ fn insert_at(
 }
 
 /// Puts a place behind all others. Where the last block is full, it begins one.
+#[inline(always)]
 pub(crate) fn append(blocks: &mut Vec<Block>, spare: &mut Vec<Vec<usize>>, place: usize)
     requires half { AreHalfFull blocks.old.items }
     requires spares { AreSpare spare.old.items }

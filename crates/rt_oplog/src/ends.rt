@@ -20,6 +20,7 @@ pub(crate) struct Ends {
 }
 
 /// How many sites are lesser.
+#[inline(always)]
 fn place_of(ends: &[SiteEnd], site: u16) -> usize
     requires { are_rising ends.now ≡ true }
     ensures place { result ≡ leading (is_lower site) ends.now }
@@ -39,6 +40,7 @@ impl Ends {
     }
 
     /// Room for so many more sites.
+    #[inline(always)]
     pub(crate) fn reserve(&mut self, more: usize) -> Result<(), AllocError>
         ensures same { self.new.ends.items ≡ self.old.ends.items }
         ensures ok { OnOk result (vec_len self.new.ends + more ≤ vec_capacity self.new.ends) }

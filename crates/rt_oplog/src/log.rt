@@ -269,6 +269,7 @@ impl OpLog {
 
     /// Adds an operation that is newer than all others and goes on from no lower than its site's
     /// known end, where there is room. Takes no memory, and looks at none of the others.
+    #[inline(always)]
     pub fn append(&mut self, op: Op)
         requires sound { has_bad_stamp op ≡ false }
         requires newest { All (λ q. is_before (stamp_of q) (stamp_of op) ≡ true) self.old.operations }

@@ -168,6 +168,7 @@ impl Order {
     }
 
     /// Puts a place behind the others.
+    #[inline(always)]
     pub(crate) fn push(&mut self, place: usize)
         requires { 0 < self.old.room }
         ensures items { self.new.items ≡ self.old.items ++ place ∷ [] }

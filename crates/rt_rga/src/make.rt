@@ -63,6 +63,7 @@ fn counts_in(draft: &Draft) -> u64
 /// `ClockSpent` where the counts of drafts, which follow a last one, would pass `GREATEST_COUNT`, else
 /// `TextFull` where they insert more characters than there is room for.
 #[tactic(auto, using(crate::proofs::Requests::not_less))]
+#[inline(always)]
 fn check_limits(last: u64, left: usize, drafts: &[Draft]) -> Result<(), Fault>
     requires last { last ≤ GREATEST_COUNT }
     requires rules { All (λ draft. keeps_rules (body_of draft) ≡ true) drafts.now }
@@ -146,6 +147,7 @@ fn stamped_list(
 /// The operations of drafts: the first count is one above the last one of all operations, and the
 /// first `prev` is the site's known end. Want of memory.
 #[tactic(auto, using(crate::proofs::Requests::not_less))]
+#[inline(always)]
 pub(crate) fn stamped(
     alloc: Global,
     site: u16,
@@ -171,6 +173,7 @@ pub(crate) fn stamped(
 }
 
 // Drafts, in a list.
+#[inline(always)]
 fn drafts_in(drafts: &Few<Draft>) -> &[Draft]
     ensures { result.now ≡ items_in drafts.now }
 {
@@ -181,6 +184,7 @@ fn drafts_in(drafts: &Few<Draft>) -> &[Draft]
 }
 
 /// Operations, in a list.
+#[inline(always)]
 pub(crate) fn list_of(ops: &Few<Op>) -> &[Op]
     ensures { result.now ≡ items_in ops.now }
 {
@@ -204,6 +208,7 @@ pub(crate) fn copied(alloc: Global, ops: &[Op]) -> Result<Vec<Op>, Fault>
 
 /// The cells of the characters that operations insert. Want of memory.
 #[tactic(auto, using(rt_tags::proofs::Listing::keeps_both))]
+#[inline(always)]
 pub(crate) fn fresh(alloc: Global, states: &mut StateTable, ops: &[Op]) -> Result<NewCells, Fault>
     requires counts { AllByRecursion (λ op. last_count_of op ≤ GREATEST_COUNT) ops.now }
     ensures cells { IfOk result (λ cells. map (shown states.new) cells ≡ fresh_cells ops.now) }
@@ -219,6 +224,7 @@ pub(crate) fn fresh(alloc: Global, states: &mut StateTable, ops: &[Op]) -> Resul
 }
 
 /// Adds the cells of the characters that an operation inserts. Want of memory.
+#[inline(always)]
 fn add_fresh(
     alloc: Global,
     states: &mut StateTable,
@@ -246,6 +252,7 @@ fn add_fresh(
 
 /// Puts new characters in, or makes characters gone, as an operation does that is an Insert or a
 /// Delete, and tells the new cells that are left. Takes no memory.
+#[inline(always)]
 fn put<'a, S: TextStore>(
     store: &mut S,
     states: &StateTable,
@@ -285,6 +292,7 @@ fn put<'a, S: TextStore>(
 }
 
 /// The same of several operations, one after the other. Takes no memory.
+#[inline(always)]
 pub(crate) fn put_all<S: TextStore>(
     store: &mut S,
     states: &StateTable,
@@ -308,6 +316,7 @@ pub(crate) fn put_all<S: TextStore>(
 
 /// How many cuts of runs operations take, and so many new states of runs; none if that is no number of
 /// this machine.
+#[inline(always)]
 fn cuts(ops: &[Op], runs: usize) -> Option<usize>
     ensures cuts { IfSome result (λ n. n ≡ cuts_of ops.now + 2 * runs) }
     ensures many { IfNone result (2 ^ 64 ≤ cuts_of ops.now + 2 * runs) }
@@ -320,6 +329,7 @@ fn cuts(ops: &[Op], runs: usize) -> Option<usize>
 }
 
 /// How many cuts of runs an edit takes; none if that is no number of this machine.
+#[inline(always)]
 fn cuts_in(edit: &Edit) -> Option<usize>
     ensures cuts { IfSome result (λ n. n ≡ cuts_by (body_of edit.now)) }
     ensures many { IfNone result (2 ^ 64 ≤ cuts_by (body_of edit.now)) }
@@ -341,6 +351,7 @@ fn cuts_in(edit: &Edit) -> Option<usize>
 
 /// Makes room in a store for operations with so many new cells and so many runs of states of a table. Want of
 /// memory.
+#[inline(always)]
 fn make_room<S: TextStore>(
     store: &mut S,
     states: &StateTable,
@@ -361,6 +372,7 @@ fn make_room<S: TextStore>(
 }
 
 // Logs an operation that is newer than all before it, and continues the log, where there is room.
+#[inline(always)]
 fn push_newest(log: &mut OpLog, clock: &mut Clock, op: Op)
     requires continues { Continues log.old.operations op }
     requires newest { greatest_last_count log.old.operations < op.count }
@@ -390,6 +402,7 @@ fn push_all(log: &mut OpLog, clock: &mut Clock, ops: Vec<Op>)
 
 /// Logs operations that are newer than all before them, each of which continues the log with those before it, where
 /// there is room.
+#[inline(always)]
 pub(crate) fn push_few(log: &mut OpLog, clock: &mut Clock, ops: Few<Op>)
     requires continues { ContinueInTurn log.old.operations (items_in ops) }
     requires newest { AreNewest log.old.operations (items_in ops) }
@@ -406,6 +419,7 @@ pub(crate) fn push_few(log: &mut OpLog, clock: &mut Clock, ops: Few<Op>)
 
 /// The operations of drafts. The counts follow a last one, and at most so many characters are inserted.
 /// `ClockSpent` where the counts don't fit, else `TextFull` where the characters don't, else want of memory.
+#[inline(always)]
 pub(crate) fn prepared(
     alloc: Global,
     site: u16,
@@ -428,6 +442,7 @@ pub(crate) fn prepared(
 /// Changes what is kept of a log as operations do that are newer than it, each of which continues it
 /// with those before. Want of memory, and then the cells stay.
 #[tactic(auto, using(rt_tags::proofs::Listing::keeps_both))]
+#[inline(always)]
 pub(crate) fn change_all<S: TextStore>(
     alloc: Global,
     store: &mut S,

@@ -49,6 +49,7 @@ impl NewCells {
     }
 
     /// Adds cells of new characters in one state, from a stamp on. Want of memory.
+    #[inline(always)]
     pub(crate) fn add(
         &mut self,
         alloc: Global,

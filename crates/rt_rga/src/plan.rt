@@ -59,6 +59,7 @@ fn push_spans(spans: &[Span], entry: &Entry, named: &mut Vec<Named>) -> Result<(
 }
 
 /// Adds what an operation writes by a Tag. Want of memory.
+#[inline(always)]
 fn push_named(states: &mut StateTable, op: &Op, named: &mut Vec<Named>) -> Result<(), Fault>
     requires tags { All (λ n. IsTag states.old n.entry.tag) named.old.items }
     ensures writes { OnOk result ((state : List Write) (stamp : StampOf) → state_after state (writes_at states.new (entries_on named.new.items stamp))
@@ -84,6 +85,7 @@ fn push_named(states: &mut StateTable, op: &Op, named: &mut Vec<Named>) -> Resul
 
 /// What operations write by Tags, the oldest first. Want of memory.
 #[tactic(auto, using(rt_tags::proofs::Listing::keeps_both))]
+#[inline(always)]
 fn named_writes(alloc: Global, states: &mut StateTable, ops: &[Op]) -> Result<Vec<Named>, Fault>
     ensures writes { IfOk result (λ named. (state : List Write) (stamp : StampOf) → state_after state (writes_at states.new (entries_on named.items stamp))
         ≡ state_after state (tag_writes ops.now stamp)) }
@@ -216,6 +218,7 @@ fn written_cells<S: TextStore>(
 /// The states that cells come into by the Tags among operations, as runs: cells of a store, and new
 /// ones by rising counts. Each cell comes into one new state, and none on the way is kept. Want of memory.
 #[tactic(auto, using(rt_tags::proofs::Listing::keeps_both))]
+#[inline(always)]
 pub(crate) fn planned_states<S: TextStore>(
     alloc: Global,
     store: &S,

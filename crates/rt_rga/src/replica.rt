@@ -208,6 +208,7 @@ impl<S: TextStore> Replica<S> {
 
     /// Logs operations that are newer than all before them, each of which continues the log with those
     /// before it, within the limit of cells. Want of memory.
+    #[inline(always)]
     fn make_all(&mut self, ops: Few<Op>) -> Result<(), Fault>
         requires continues { ContinueInTurn self.old.log (items_in ops) }
         requires newest { AreNewest self.old.log (items_in ops) }
@@ -234,6 +235,7 @@ impl<S: TextStore> Replica<S> {
     }
 
     // The operations of drafts, which the log and the limit of cells have room for. The faults of `make`.
+    #[inline(always)]
     fn planned(&self, drafts: Few<Draft>) -> Result<Few<Op>, Fault>
         requires { MayBeMade self.now.site self.now.log (map body_of (items_in drafts)) }
         ensures made { IfOk result (λ ops. items_in ops ≡ operations_of self.now.site (map body_of (items_in drafts)) self.now.log) }
@@ -282,9 +284,9 @@ impl<S: TextStore> Replica<S> {
         Ok(copies)
     }
 
-    /// Makes operations of the site's own, as `make` does, and answers no copies of them: for a caller who
-    /// reads them in the log, where they stand in order behind all that it had. Refused as `make` is.
-    pub fn commit(&mut self, drafts: Few<Draft>) -> Result<(), Fault>
+    // Makes operations of drafts, as `make` does.
+    #[inline(always)]
+    fn commit_few(&mut self, drafts: Few<Draft>) -> Result<(), Fault>
         requires { MayBeMade self.old.site self.old.log (map body_of (items_in drafts)) }
         ensures fits { OnOk result (refusal_of self.old.limit (map body_of (items_in drafts)) self.old.log ≡ None) }
         ensures refused { IfErr result (λ fault. (refusal_of self.old.limit (map body_of (items_in drafts)) self.old.log
@@ -300,6 +302,28 @@ impl<S: TextStore> Replica<S> {
         match self.planned(drafts) {
             Ok(made) => self.make_all(made),
             Err(fault) => Err(fault),
+        }
+    }
+
+    /// Makes operations of the site's own, as `make` does, and answers no copies of them: for a caller who
+    /// reads them in the log, where they stand in order behind all that it had. Refused as `make` is.
+    pub fn commit(&mut self, drafts: Few<Draft>) -> Result<(), Fault>
+        requires { MayBeMade self.old.site self.old.log (map body_of (items_in drafts)) }
+        ensures fits { OnOk result (refusal_of self.old.limit (map body_of (items_in drafts)) self.old.log ≡ None) }
+        ensures refused { IfErr result (λ fault. (refusal_of self.old.limit (map body_of (items_in drafts)) self.old.log
+            ≡ Some fault) ⊎ ((fault ≡ Fault.NoMemory) × (refusal_of self.old.limit (map body_of (items_in drafts)) self.old.log ≡ None))) }
+        ensures log { OnOk result (self.new.log ≡ with_drafts self.old.site (map body_of (items_in drafts)) self.old.log) }
+        ensures cells { OnOk result (self.new.cells ≡ cells_of self.new.log) }
+        ensures same { OnErr result (self.new ≡ record self.old { table = self.new.table }) }
+        ensures kept { (refusal_of self.old.limit (map body_of (items_in drafts)) self.old.log ≡ None → ⊥) → self.new ≡ self.old }
+        ensures site { self.new.site ≡ self.old.site }
+        ensures limit { self.new.limit ≡ self.old.limit }
+        ensures ids { KeepsIds self.old.table self.new.table }
+    {
+        // What is done for a draft is compiled once for a single one, as typing makes it, without the steps of a list.
+        match drafts {
+            Few::One(draft) => self.commit_few(Few::One(draft)),
+            Few::Many(drafts) => self.commit_few(Few::Many(drafts)),
         }
     }
 }

@@ -144,6 +144,7 @@ pub(crate) fn state_runs(alloc: Global, cells: &[Cell<StateId>]) -> Result<Vec<S
 
 /// Puts the cells of runs in their states. From the last run to the first: so a cell that two runs
 /// have gets the state of the first one. Takes no memory.
+#[inline(always)]
 pub(crate) fn put_states<S: TextStore>(store: &mut S, states: &StateTable, runs: &[StateRun])
     requires states { S.agrees store.old states.now }
     requires runs { All (λ run. IsState states.now run.state) runs.now }

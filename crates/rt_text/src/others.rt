@@ -36,6 +36,7 @@ pub(crate) fn reserve_between(
 }
 
 /// Selects characters in each that has both neighbours selected, within the room that there is.
+#[inline(always)]
 pub(crate) fn add_between(others: &mut [Parts], left: Stamp, right: Stamp, stamps: &[Stamp])
     requires { All (λ parts. (is_among (selected_stamps parts.selection) left && is_among (selected_stamps parts.selection) right) ≡ true
         → length stamps.now ≤ room_in parts.selection) others.old }

@@ -71,6 +71,7 @@ pub(crate) fn list_tags(table: &mut TagTable, names: &[String])
 }
 
 // Makes room for characters between two others in the selections that have both.
+#[inline(always)]
 fn reserve_others(others: &mut [Parts], between: &Option<Between>) -> Result<(), Fault>
     ensures same { map own_in others.new ≡ map own_in others.old }
     ensures room { OnOk result (HaveRoomFor between.now others.new) }
@@ -101,6 +102,7 @@ pub(crate) fn select_between(others: &mut [Parts], between: &Option<Between>)
 }
 
 // Makes all room that a plan takes beside its operations': nothing else changes. Want of memory.
+#[inline(always)]
 fn make_room(
     tags: &mut TagTable,
     selection: &mut Selection,

@@ -1,5 +1,5 @@
 // Runs that are looked for first where one is known to stand.
-ghost use Rattle.std.specs.Prelude.{◌≡◌, ◌+◌, ◌==◌, ◌<◌, ◌≤◌, IfSome, length};
+ghost use Rattle.std.specs.Prelude.{◌≡◌, ◌+◌, ◌==◌, ◌<◌, ◌≤◌, IfSome, MatchOption, length, true};
 ghost use Rattle.rt_nodes.specs.Nodes.{IsNode, entries};
 ghost use Rattle.rt_tree.specs.declared.node.Measure.TheVariants.{Cells};
 ghost use Rattle.rt_tree.specs.Holds.{Holds};
@@ -24,6 +24,17 @@ fn offset_in(found: &Found, by: Measure, place: usize) -> Option<usize>
         Some(offset)
     } else {
         None
+    }
+}
+
+// Whether the run that is known to stand somewhere has a place.
+pub(crate) fn is_in(last: &Option<Found>, by: Measure, place: usize) -> bool
+    ensures { result ≡ true → MatchOption last.now ⊥
+        (λ found. (amount by found.before ≤ place) × (place < amount by found.before + amount by (counts_of_run found.run))) }
+{
+    match last {
+        Some(found) => offset_in(found, by, place).is_some(),
+        None => false,
     }
 }
 

@@ -16,7 +16,7 @@ use crate::copy::copy;
 use crate::find::{cell_in, find, has, height};
 use crate::homes::{Homes, Sought, is_leaf};
 use crate::looks::Counted;
-use crate::near::{found_near, seek_near};
+use crate::near::{found_near, is_in, seek_near};
 use crate::node::{Counts, Entry, Head, Measure, Mem, Run};
 use crate::skip::{is_low, passed};
 use crate::summed::Summaries;
@@ -210,6 +210,9 @@ impl Tree {
         ensures { self.new ≡ self.old }
     {
         if place == 0 || place > self.counts.visible as usize {
+            return;
+        }
+        if is_in(&self.last, Measure::Visible, place - 1) {
             return;
         }
         let (mem, root) = (&self.mem, self.root);

@@ -107,6 +107,7 @@ impl Limits {
 
     /// The stretch of a text that is shown. It has a character at least, and its last one is a newline. It takes no
     /// memory.
+    #[inline(always)]
     pub fn stretch<S: TextStore>(self, store: &S) -> Stretch
         requires few { length (S.list store.now) ≤ MOST_CELLS }
         ensures value { result ≡ stretch_of (S.list store.now) self }

@@ -1,6 +1,6 @@
 use Rattle.std.proofs.Common.{refl}
 use Rattle.rt_tags.proofs.Keeping.{keeps_itself}
-use Rattle.rt_rga.proofs.replica.Replica.commit.Goals as goal
+use Rattle.rt_rga.proofs.replica.Replica.commit_few.Goals as goal
 
 pub returns-in-Err : goal.returns-in-Err
 returns-in-Err g c = record {

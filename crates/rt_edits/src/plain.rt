@@ -1,0 +1,89 @@
+// The plan of one character as typing makes it: without a list, between two others that have no tag in common.
+ghost use Rattle.std.specs.Prelude.{◌≡◌, ◌+◌, ◌<◌, ◌&&◌, ◌∷◌, [], List, None, Some, IfSome, false, map, option_map};
+ghost use Rattle.rt_stamps.specs.declared.stamp.Stamp.{Stamp};
+ghost use Rattle.rt_ops.specs.Edits.{body_of};
+ghost use Rattle.rt_ops.specs.Operations.{Insert};
+ghost use Rattle.rt_rga.specs.Few.{items_in};
+ghost use Rattle.rt_store.specs.Shown.{shown};
+ghost use Rattle.rt_store.specs.Spans.{is_among};
+ghost use Rattle.rt_tags.specs.States.{IsState};
+ghost use Rattle.rt_edits.specs.Insertions.{are_among, tags_between};
+ghost use Rattle.rt_edits.specs.Selected.{selected_stamps};
+
+use crate::inserting::{Between, Plan};
+use crate::{Selection, Stamps};
+use rt_oplog::Text;
+use rt_rga::{Draft, Few};
+use rt_stamps::{Site, Stamp};
+use rt_store::Cell;
+use rt_tags::{StateId, StateTable};
+use std::alloc::Global;
+
+/// Two neighbours, if both are there, the left one has no tags, and not both are selected. What is between them then gets no
+/// tags, and isn't selected.
+#[inline(always)]
+pub(crate) fn plain_sides(
+    states: &StateTable,
+    selection: &Selection,
+    left: &Option<Cell<StateId>>,
+    right: &Option<Cell<StateId>>,
+) -> Option<(Stamp, Stamp)>
+    requires left { IfSome left.now (λ cell. IsState states.now cell.state) }
+    ensures tags { IfSome result (λ _. tags_between (option_map (shown states.now) left.now) (option_map (shown states.now) right.now) ≡ []) }
+    ensures selected { IfSome result (λ _.
+        are_among (selected_stamps selection.now) (option_map (shown states.now) left.now) (option_map (shown states.now) right.now) ≡ false) }
+    ensures sides { IfSome result (λ sides. (stamps : List Stamp)
+        → are_among stamps (option_map (shown states.now) left.now) (option_map (shown states.now) right.now)
+        ≡ (is_among stamps sides.0 && is_among stamps sides.1)) }
+    ensures there { IfSome result (λ _. right.now ≡ None → ⊥) }
+{
+    let Some(left) = left else {
+        return None;
+    };
+    let Some(right) = right else {
+        return None;
+    };
+    if !states.on(left.state).is_empty() {
+        return None;
+    }
+    if selection.has(left.stamp) && selection.has(right.stamp) {
+        return None;
+    }
+    Some((left.stamp, right.stamp))
+}
+
+/// The plan of one character between two others, that gets the count after one.
+#[inline(always)]
+pub(crate) fn plain_plan(
+    alloc: Global,
+    site: Site,
+    count: u64,
+    after: Stamp,
+    left: Stamp,
+    right: Stamp,
+    character: char,
+) -> Plan
+    requires { count < u64.MAX }
+    ensures drafts { map body_of (items_in result.drafts) ≡ Insert after [] (character ∷ []) ∷ [] }
+    ensures characters { result.characters ≡ 1 }
+    ensures selected { result.selected.items ≡ [] }
+    ensures names { result.names.items ≡ [] }
+    ensures between { result.between
+        ≡ Some (record { left = left; right = right; stamps = record { count = count + 1; site = site.number } ∷ [] }) }
+{
+    Plan {
+        drafts: Few::One(Draft::Insert {
+            after,
+            tags: Vec::new(alloc),
+            text: Text::of(character),
+        }),
+        characters: 1,
+        selected: Vec::new(alloc),
+        names: Vec::new(alloc),
+        between: Some(Between {
+            left,
+            right,
+            stamps: Stamps::of_one(site, count + 1),
+        }),
+    }
+}
