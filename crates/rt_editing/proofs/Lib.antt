@@ -9,6 +9,7 @@ pub mod PutBack
 pub mod Receptions
 pub mod Removals
 pub mod Renamed
+pub mod Replaced
 pub mod Settling
 pub mod Stayed
 pub mod TakenBack

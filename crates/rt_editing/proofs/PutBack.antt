@@ -36,17 +36,17 @@ use Rattle.rt_editing.proofs.TakenBack.{counts_apart}
 -- THE STAMPS OF NEW CELLS
 
 -- a cell has a stamp of a site, whose count is greater than one count, and at most another
-record IsBetween (site low high : ℕ) (cell : TaggedCell) : Type 0 where
+pub record IsBetween (site low high : ℕ) (cell : TaggedCell) : Type 0 where
   pub own : cell.stamp.site ≡ site
   pub above : low < cell.stamp.count
   pub within : cell.stamp.count ≤ high
 
 -- each of some cells has such a stamp
-abbrev AreBetween : ℕ → ℕ → ℕ → List TaggedCell → Type 0
+abbrev pub AreBetween : ℕ → ℕ → ℕ → List TaggedCell → Type 0
 AreBetween site low high cells = AllByRecursion (IsBetween site low high) cells
 
 -- it is so of wider counts
-between_wider : (site low high less more : ℕ) (cells : List TaggedCell) → less ≤ low → high ≤ more → AreBetween site low high cells → AreBetween site less more cells
+pub between_wider : (site low high less more : ℕ) (cells : List TaggedCell) → less ≤ low → high ≤ more → AreBetween site low high cells → AreBetween site less more cells
 between_wider site low high less more [] l m h = tt
 between_wider site low high less more (c ∷ cs) l m h =
     (record { own = h.0.own; above = omega (arith, l, h.0.above); within = omega (arith, m, h.0.within) }, between_wider site low high less more cs l m h.1)
@@ -83,7 +83,7 @@ between_tagged site count names text = between_inserts (inserts_for (length text
 
 -- what pieces have come to: each new cell has a count greater than the one at which the insertion began, and at most the one that
 -- it has come to
-record IsNew (site low : ℕ) (so_far : Insertion) : Type 0 where
+pub record IsNew (site low : ℕ) (so_far : Insertion) : Type 0 where
   pub cells : AreBetween site low so_far.count so_far.cells
   pub count : low ≤ so_far.count
 
@@ -116,7 +116,7 @@ new_unlisted site low left right [] so_far h = h
 new_unlisted site low left right (c ∷ text) so_far h =
     new_more site low so_far (with_unlisted site left right (c ∷ text) so_far) (tags_between left right) (c ∷ text) h refl refl
 
-new_insertion : (site low : ℕ) (left right : Option TaggedCell) (pieces : List Piece) (rest : Word) (start : Insertion) → IsNew site low start
+pub new_insertion : (site low : ℕ) (left right : Option TaggedCell) (pieces : List Piece) (rest : Word) (start : Insertion) → IsNew site low start
     → IsNew site low (insertion_of site left right pieces rest start)
 new_insertion site low left right pieces rest start h =
     let listed = with_pieces site pieces start in
@@ -140,18 +140,18 @@ among_counts site low high cell h =
 -- CELLS WITHOUT THOSE OF SOME STAMPS
 
 -- the cells that have none of some stamps
-abbrev beside : List Stamp → List TaggedCell → List TaggedCell
+abbrev pub beside : List Stamp → List TaggedCell → List TaggedCell
 beside stamps cells = filter (λ (cell : TaggedCell). not (is_among stamps cell.stamp)) cells
 
 -- of cells that all have such a stamp there are none
-none_beside : (site low high : ℕ) (cells : List TaggedCell) → AreBetween site low high cells → beside (stamps_of_span (counts_between site low high)) cells ≡ []
+pub none_beside : (site low high : ℕ) (cells : List TaggedCell) → AreBetween site low high cells → beside (stamps_of_span (counts_between site low high)) cells ≡ []
 none_beside site low high [] h = refl
 none_beside site low high (c ∷ cs) h =
     let rest = beside (stamps_of_span (counts_between site low high)) cs in
     ap (λ b. cond (not b) (c ∷ rest) rest) (among_counts site low high c h.0) ∙ none_beside site low high cs h.1
 
 -- of cells none of which has one there are all
-all_beside : (stamps : List Stamp) (cells : List TaggedCell) → ((s : Stamp) → is_among (stamps_of cells) s ≡ true → is_among stamps s ≡ false) → beside stamps cells ≡ cells
+pub all_beside : (stamps : List Stamp) (cells : List TaggedCell) → ((s : Stamp) → is_among (stamps_of cells) s ≡ true → is_among stamps s ≡ false) → beside stamps cells ≡ cells
 all_beside stamps [] h = refl
 all_beside stamps (c ∷ cs) h =
     let rest = beside stamps cs in
@@ -159,7 +159,7 @@ all_beside stamps (c ∷ cs) h =
     ∙ ap (λ l. c ∷ l) (all_beside stamps cs (λ s k. h s (or_right (is_same c.stamp s) (is_among (stamps_of cs) s) k)))
 
 -- where new cells were put in, those beside them are the old ones
-beside_put : (stamps : List Stamp) (cells new : List TaggedCell) (after : Stamp) → beside stamps cells ≡ cells → beside stamps new ≡ []
+pub beside_put : (stamps : List Stamp) (cells new : List TaggedCell) (after : Stamp) → beside stamps cells ≡ cells → beside stamps new ≡ []
     → beside stamps (put_after cells after new) ≡ cells
 beside_put stamps cells new after old none =
     let keep : TaggedCell → Bool = λ cell. not (is_among stamps cell.stamp) in
@@ -175,7 +175,7 @@ beside_put stamps cells new after old none =
 -- THE TEXT WITHOUT THEM
 
 -- a cell as a character of the text
-abbrev tagged_as : TaggedCell → TaggedCharacter
+abbrev pub tagged_as : TaggedCell → TaggedCharacter
 tagged_as cell = record { ch = cell.ch; tags = names_on cell.state }
 
 -- a first cell that is gone adds nothing to the text
@@ -217,7 +217,7 @@ text_beside stamps places p (c ∷ cs) h =
 -- UNDONE
 
 -- one element in reverse
-one_reversed : {X : Type 0} (x : X) → reverse (x ∷ []) ≡ x ∷ []
+pub one_reversed : {X : Type 0} (x : X) → reverse (x ∷ []) ≡ x ∷ []
 one_reversed x = reverse-cons x []
 
 -- after an action was reverted that took nothing away, the text is that of the cells that it has not put in

@@ -1,18 +1,20 @@
 -- What the text is after a recorded edit was undone.
-use Rattle.std.specs.Prelude.{◌≡◌, ℕ, ◌<◌, Bool, List, [], ◌∷◌}
+use Rattle.std.specs.Prelude.{◌≡◌, ℕ, ◌<◌, Bool, List, [], ◌∷◌, option_map, unwrap_or}
 use Rattle.rt_stamps.specs.Words.{Word}
 use Rattle.rt_ops.specs.Operations.{Operation}
+use Rattle.rt_tags.specs.States.{names_on}
 use Rattle.rt_rga.specs.Histories.{IsHistory}
 use Rattle.rt_rga.specs.Texts.{tagged_text}
-use Rattle.rt_edits.specs.Deletions.{without_places}
+use Rattle.rt_edits.specs.declared.range.Range.{Range}
+use Rattle.rt_edits.specs.Deletions.{loss_in, newline_of, without_places}
 use Rattle.rt_edits.specs.DraftLaws.{IsDocument}
 use Rattle.rt_edits.specs.Flat.{Flat}
 use Rattle.rt_edits.specs.Insertions.{Piece}
 use Rattle.rt_edits.specs.Removals.{cells_at}
-use Rattle.rt_undo.specs.declared.action.Kind.TheVariants.{Delete, Insert}
+use Rattle.rt_undo.specs.declared.action.Kind.TheVariants.{Delete, Insert, Replace}
 use Rattle.rt_revert.specs.Reverting.{reverted}
-use Rattle.rt_text.specs.Commands.{with_pieces_at}
-use Rattle.rt_text.specs.Widgets.{Viewed}
+use Rattle.rt_text.specs.Commands.{lost_in, with_pieces_at, with_range_replaced}
+use Rattle.rt_text.specs.Widgets.{Viewed, begin_of, text_shown}
 use Rattle.rt_editing.specs.Edits.{action_of}
 
 -- Characters are removed, with the action that `delete` records of it, and this is undone at once: the text is again what it was,
@@ -31,3 +33,17 @@ InsertedTextIsTakenBack =
     → IsDocument site log view.doc
     → let new = (with_pieces_at view place pieces rest).doc in
     tagged_text (reverted new (action_of Insert view.doc new [] ∷ [])).cells ≡ tagged_text view.doc.cells
+
+-- the tags that a deletion takes off the last newline that the widget shows, which stays
+abbrev pub tags_lost : Viewed → List Range → List Word
+tags_lost view ranges =
+    let loss = loss_in (text_shown view) (begin_of view) ranges in unwrap_or (option_map (λ cell. names_on cell.state) (newline_of view.doc loss)) []
+
+-- Characters are removed and text is inserted in their stead, with the one action that `replace` records of it, and this is undone at
+-- once: the text is again what it was, each character with its tags. It is said of replacements that take no tags off the last newline.
+abbrev pub ReplacementIsTakenBack : Type 0
+ReplacementIsTakenBack =
+    (site : ℕ) (log : List Operation) (view : Viewed) (range : Range) (pieces : List Piece) (rest : Word) → 0 < site → IsHistory log
+    → IsDocument site log view.doc → tags_lost view (range ∷ []) ≡ []
+    → let new = (with_range_replaced view range pieces rest).doc in
+    tagged_text (reverted new (action_of Replace view.doc new (lost_in view (range ∷ [])) ∷ [])).cells ≡ tagged_text view.doc.cells

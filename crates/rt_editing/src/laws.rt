@@ -1,5 +1,5 @@
 // Laws of the definitions, each the contract of a function that does nothing.
-ghost use Rattle.rt_editing.specs.EditLaws.{DeletionIsTakenBack, InsertedTextIsTakenBack};
+ghost use Rattle.rt_editing.specs.EditLaws.{DeletionIsTakenBack, InsertedTextIsTakenBack, ReplacementIsTakenBack};
 
 /// The text after a removal of characters was undone at once, by the action that a deletion records which
 /// takes no tags off the last newline: it is again what it was, each character with its tags.
@@ -11,4 +11,10 @@ pub fn recorded_deletion()
 /// each character with its tags.
 pub fn recorded_insertion()
     ensures { InsertedTextIsTakenBack }
+{}
+
+/// The text after a replacement was undone at once, by the one action that a replacement records which takes no tags
+/// off the last newline: it is again what it was, each character with its tags.
+pub fn recorded_replacement()
+    ensures { ReplacementIsTakenBack }
 {}
