@@ -6,6 +6,7 @@ pub mod Named
 pub mod Noted
 pub mod Outcomes
 pub mod PutBack
+pub mod PutBackInTurn
 pub mod Receptions
 pub mod Removals
 pub mod Renamed

@@ -22,12 +22,10 @@ use Rattle.rt_revert.proofs.TakenBack.{removal_back}
 use Rattle.rt_editing.specs.Edits.{action_of, counts_between}
 use Rattle.rt_editing.proofs.Actions.{counts_all, none_among}
 
--- no character that was there has one of the counts that an edit takes
-pub counts_apart : (site : ℕ) (log : List Operation) (flat : Flat) (after : ℕ) → 0 < site → IsHistory log → IsDocument site log flat → (s : Stamp)
-    → is_among (stamps_of flat.cells) s ≡ true → is_among (stamps_of_span (counts_between flat.site flat.count after)) s ≡ false
-counts_apart site log flat after p h doc s there =
-    let real : 1 ≤ flat.site = omega (arith, doc.site, p) in
-    let below : AreBelowNext flat.count flat.cells = subst (λ (q : _). q) (λ i. AreBelowNext (sym doc.count i) (sym doc.cells i)) (cells_older log h) in
+-- where no cell is newer than the greatest count, none has one of the counts that an edit takes
+pub below_apart : (flat : Flat) (after : ℕ) → 1 ≤ flat.site → AreBelowNext flat.count flat.cells → (s : Stamp) → is_among (stamps_of flat.cells) s ≡ true
+    → is_among (stamps_of_span (counts_between flat.site flat.count after)) s ≡ false
+below_apart flat after real below s there =
     none_among s (stamps_of_span (counts_between flat.site flat.count after))
     (counts_all (λ t. is_same t s ≡ false) flat.site flat.count after (λ t later own. split (is_same t s)
     (λ e. absurd (
@@ -36,6 +34,15 @@ counts_apart site log flat after p h doc s there =
     let same = ap (is_among (stamps_of flat.cells)) is in
     cc (none, same, there)))
     (λ e. e)))
+
+-- no cell of a document is
+pub document_below : (site : ℕ) (log : List Operation) (flat : Flat) → IsHistory log → IsDocument site log flat → AreBelowNext flat.count flat.cells
+document_below site log flat h doc = subst (λ (q : _). q) (λ i. AreBelowNext (sym doc.count i) (sym doc.cells i)) (cells_older log h)
+
+-- no character that was there has one of the counts that an edit takes
+pub counts_apart : (site : ℕ) (log : List Operation) (flat : Flat) (after : ℕ) → 0 < site → IsHistory log → IsDocument site log flat → (s : Stamp)
+    → is_among (stamps_of flat.cells) s ≡ true → is_among (stamps_of_span (counts_between flat.site flat.count after)) s ≡ false
+counts_apart site log flat after p h doc = below_apart flat after (omega (arith, doc.site, p)) (document_below site log flat h doc)
 
 pub deletion_back : (site : ℕ) (log : List Operation) (flat : Flat) (places : ℕ → Bool) → 0 < site → IsHistory log → IsDocument site log flat
     → let left = without_places flat places in

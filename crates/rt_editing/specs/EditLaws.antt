@@ -11,6 +11,7 @@ use Rattle.rt_edits.specs.DraftLaws.{IsDocument}
 use Rattle.rt_edits.specs.Flat.{Flat}
 use Rattle.rt_edits.specs.Insertions.{Piece}
 use Rattle.rt_edits.specs.Removals.{cells_at}
+use Rattle.rt_undo.specs.Actions.{Action}
 use Rattle.rt_undo.specs.declared.action.Kind.TheVariants.{Delete, Insert, Replace}
 use Rattle.rt_revert.specs.Reverting.{reverted}
 use Rattle.rt_text.specs.Commands.{lost_in, with_pieces_at, with_range_replaced}
@@ -33,6 +34,33 @@ InsertedTextIsTakenBack =
     → IsDocument site log view.doc
     → let new = (with_pieces_at view place pieces rest).doc in
     tagged_text (reverted new (action_of Insert view.doc new [] ∷ [])).cells ≡ tagged_text view.doc.cells
+
+-- text to insert, in pieces with lists of tags, and then characters without one, before the character at a place
+pub record Put : Type 0 where
+  pub place : ℕ
+  pub pieces : List Piece
+  pub rest : Word
+
+-- a text once it is inserted; and once several are, one after the other, each into what the one before it has left
+abbrev pub after_put : Viewed → Put → Viewed
+after_put view put = with_pieces_at view put.place put.pieces put.rest
+
+abbrev pub after_puts : Viewed → List Put → Viewed
+after_puts view [] = view
+after_puts view (put ∷ puts) = after_puts (after_put view put) puts
+
+-- the actions that `insert` records of them, the oldest first, as a group of the undo stack has them; for an insertion of no
+-- characters, of which nothing is recorded, one that put none in
+abbrev pub put_actions : Viewed → List Put → List (Action (List Word))
+put_actions view [] = []
+put_actions view (put ∷ puts) = let new = after_put view put in action_of Insert view.doc new.doc [] ∷ put_actions new puts
+
+-- Texts are inserted one after the other, wherever each goes, with the actions that `insert` records of them, and these are undone
+-- at once, as one group: the text is again what it was, each character with its tags.
+abbrev pub InsertedTextsAreTakenBack : Type 0
+InsertedTextsAreTakenBack =
+    (site : ℕ) (log : List Operation) (view : Viewed) (puts : List Put) → 0 < site → IsHistory log → IsDocument site log view.doc
+    → tagged_text (reverted (after_puts view puts).doc (put_actions view puts)).cells ≡ tagged_text view.doc.cells
 
 -- the tags that a deletion takes off the last newline that the widget shows, which stays
 abbrev pub tags_lost : Viewed → List Range → List Word

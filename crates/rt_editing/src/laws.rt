@@ -1,5 +1,5 @@
 // Laws of the definitions, each the contract of a function that does nothing.
-ghost use Rattle.rt_editing.specs.EditLaws.{DeletionIsTakenBack, InsertedTextIsTakenBack, ReplacementIsTakenBack};
+ghost use Rattle.rt_editing.specs.EditLaws.{DeletionIsTakenBack, InsertedTextIsTakenBack, InsertedTextsAreTakenBack, ReplacementIsTakenBack};
 
 /// The text after a removal of characters was undone at once, by the action that a deletion records which
 /// takes no tags off the last newline: it is again what it was, each character with its tags.
@@ -11,6 +11,12 @@ pub fn recorded_deletion()
 /// each character with its tags.
 pub fn recorded_insertion()
     ensures { InsertedTextIsTakenBack }
+{}
+
+/// The text after several insertions, one after the other, were undone at once as one group, by the actions that the
+/// insertions record: it is again what it was, each character with its tags.
+pub fn recorded_insertions()
+    ensures { InsertedTextsAreTakenBack }
 {}
 
 /// The text after a replacement was undone at once, by the one action that a replacement records which takes no tags
