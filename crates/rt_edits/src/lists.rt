@@ -1,5 +1,5 @@
 // Lists of tags, and the characters of a text.
-ghost use Rattle.std.specs.Prelude.{◌≡◌, ◌++◌, ◌∷◌, [], All, IfOk, IsOkUnless, IfSome, OnOk, false, length, map, filter, not};
+ghost use Rattle.std.specs.Prelude.{◌≡◌, ◌≢◌, ◌++◌, ◌∷◌, [], All, IfNone, IfOk, IsOkUnless, IfSome, OnOk, false, length, map, filter, not};
 ghost use Rattle.std.specs.Str.{bytes_eq, chars};
 ghost use Rattle.rt_stamps.specs.Words.{as_words};
 ghost use Rattle.rt_tags.specs.States.{IsState, IsTag, KeepsIds, is_on, name_at, names_on, state_at};
@@ -89,7 +89,8 @@ pub(crate) fn tags_of_both(
 /// The only character of a text, if it has one and no more.
 #[inline(always)]
 pub(crate) fn only_char(text: &str) -> Option<char>
-    ensures { IfSome result (λ ch. chars text.now ≡ ch ∷ []) }
+    ensures only { IfSome result (λ ch. chars text.now ≡ ch ∷ []) }
+    ensures none { IfNone result (length (chars text.now) ≢ 1) }
 {
     let mut characters = text.chars();
     let first = characters.next()?;

@@ -1,12 +1,13 @@
 // The plan of one character as typing makes it: without a list, between two others that have no tag in common.
-ghost use Rattle.std.specs.Prelude.{◌≡◌, ◌+◌, ◌<◌, ◌&&◌, ◌∷◌, [], List, None, Some, IfSome, false, map, option_map};
+ghost use Rattle.std.specs.Prelude.{◌≡◌, ◌+◌, ◌<◌, ◌&&◌, ◌∷◌, [], ℕ, List, None, Some, IfNone, IfSome, IsSomeAnd, false, map, option_map};
 ghost use Rattle.rt_stamps.specs.declared.stamp.Stamp.{Stamp};
 ghost use Rattle.rt_ops.specs.Edits.{body_of};
 ghost use Rattle.rt_ops.specs.Operations.{Insert};
 ghost use Rattle.rt_rga.specs.Few.{items_in};
+ghost use Rattle.rt_store.specs.declared.cell.Cell.{Cell};
 ghost use Rattle.rt_store.specs.Shown.{shown};
 ghost use Rattle.rt_store.specs.Spans.{is_among};
-ghost use Rattle.rt_tags.specs.States.{IsState};
+ghost use Rattle.rt_tags.specs.States.{IsState, names_on, state_at};
 ghost use Rattle.rt_edits.specs.Insertions.{are_among, tags_between};
 ghost use Rattle.rt_edits.specs.Selected.{selected_stamps};
 
@@ -36,6 +37,11 @@ pub(crate) fn plain_sides(
         → are_among stamps (option_map (shown states.now) left.now) (option_map (shown states.now) right.now)
         ≡ (is_among stamps sides.0 && is_among stamps sides.1)) }
     ensures there { IfSome result (λ _. right.now ≡ None → ⊥) }
+    ensures plain { IfSome result (λ _. IsSomeAnd left.now (λ l. IsSomeAnd right.now (λ r. (names_on (state_at states.now l.state) ≡ [])
+        × ((is_among (selected_stamps selection.now) l.stamp && is_among (selected_stamps selection.now) r.stamp) ≡ false)))) }
+    ensures none { IfNone result ((l r : Cell ℕ) → left.now ≡ Some l → right.now ≡ Some r
+        → names_on (state_at states.now l.state) ≡ []
+        → (is_among (selected_stamps selection.now) l.stamp && is_among (selected_stamps selection.now) r.stamp) ≡ false → ⊥) }
 {
     let Some(left) = left else {
         return None;

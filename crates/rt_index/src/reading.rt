@@ -32,6 +32,7 @@ pub(crate) fn token_length(word: &[u8]) -> usize
     word.iter().take_while(|byte| !is_separator(**byte)).count()
 }
 
+#[inline(always)]
 fn letters(text: &[u8]) -> usize
     ensures value { result ≡ prefix_len is_ascii_alphabetic text.now }
     ensures within { result ≤ length text.now }
@@ -41,6 +42,7 @@ fn letters(text: &[u8]) -> usize
         .count()
 }
 
+#[inline(always)]
 fn digits(text: &[u8]) -> usize
     ensures value { result ≡ prefix_len is_ascii_digit text.now }
     ensures within { result ≤ length text.now }
@@ -63,6 +65,7 @@ fn after_spaces(text: &[u8]) -> &[u8]
     rest
 }
 
+#[inline(always)]
 fn after_any(text: &[u8]) -> &[u8]
     ensures value { result.now ≡ after_any text.now }
     ensures within { length result.now ≤ length text.now }
@@ -80,6 +83,7 @@ fn after_any(text: &[u8]) -> &[u8]
 }
 
 /// The number that digits write, or the greatest one that is kept.
+#[inline(always)]
 fn number(digits: &[u8]) -> usize
     requires { all_ascii_digits digits.now ≡ true }
     ensures { result ≡ kept (digits_value 10 digits.now) }
@@ -93,6 +97,7 @@ fn number(digits: &[u8]) -> usize
     number
 }
 
+#[inline(always)]
 fn column_of(line: usize, text: &[u8]) -> Option<Fixed>
     ensures { (whole : ℕ) → line ≡ kept whole → result ≡ option_map kept_fixed (column_of whole text.now) }
 {
@@ -107,6 +112,7 @@ fn column_of(line: usize, text: &[u8]) -> Option<Fixed>
     }
 }
 
+#[inline(always)]
 fn position_of(text: &[u8]) -> Option<Fixed>
     ensures { result ≡ option_map kept_fixed (position_of text.now) }
 {
@@ -121,6 +127,7 @@ fn position_of(text: &[u8]) -> Option<Fixed>
 }
 
 /// A position or `end`.
+#[inline(always)]
 pub(crate) fn fixed_of(text: &[u8]) -> Option<Fixed>
     ensures { result ≡ option_map kept_fixed (fixed_of text.now) }
 {
@@ -169,6 +176,7 @@ fn keyword_of(run: &[u8]) -> Option<Keyword>
 }
 
 impl Sign {
+    #[inline(always)]
     fn turned(self) -> Self
         ensures { result ≡ turned self }
     {
@@ -178,6 +186,7 @@ impl Sign {
         }
     }
 
+    #[inline(always)]
     fn counted(self, count: usize, step: Step) -> Modifier
         ensures { result ≡ counted self count step }
     {
@@ -189,6 +198,7 @@ impl Sign {
 }
 
 /// A unit at the front of a text, and what follows it.
+#[inline(always)]
 fn with_unit(sign: Sign, count: usize, text: &[u8]) -> Option<(Modifier, &[u8])>
     ensures value { option_map (λ found. (found.0, found.1.now)) result ≡ with_unit sign count text.now }
     ensures within { IfSome result (λ found. length found.1.now ≤ length text.now) }
@@ -199,6 +209,7 @@ fn with_unit(sign: Sign, count: usize, text: &[u8]) -> Option<(Modifier, &[u8])>
 }
 
 /// A keyword at the front of a text, and what follows it.
+#[inline(always)]
 fn with_keyword(text: &[u8]) -> Option<(Modifier, &[u8])>
     ensures value { option_map (λ found. (found.0, found.1.now)) result ≡ with_keyword text.now }
     ensures within { IfSome result (λ found. length found.1.now ≤ length text.now) }
@@ -209,6 +220,7 @@ fn with_keyword(text: &[u8]) -> Option<(Modifier, &[u8])>
 }
 
 /// A number, perhaps `any`, and a unit.
+#[inline(always)]
 fn with_number(sign: Sign, text: &[u8]) -> Option<(Modifier, &[u8])>
     ensures value { option_map (λ found. (found.0, found.1.now)) result ≡ option_map kept_found (with_number sign text.now) }
     ensures within { IfSome result (λ found. length found.1.now ≤ length text.now) }
@@ -221,6 +233,7 @@ fn with_number(sign: Sign, text: &[u8]) -> Option<(Modifier, &[u8])>
 }
 
 /// Perhaps a second sign, and what `with_number` reads.
+#[inline(always)]
 fn with_second_sign(sign: Sign, text: &[u8]) -> Option<(Modifier, &[u8])>
     ensures value { option_map (λ found. (found.0, found.1.now)) result ≡ option_map kept_found (with_second_sign sign text.now) }
     ensures within { IfSome result (λ found. length found.1.now ≤ length text.now) }
@@ -233,6 +246,7 @@ fn with_second_sign(sign: Sign, text: &[u8]) -> Option<(Modifier, &[u8])>
 }
 
 /// The modifier at the front of a text, and what follows it.
+#[inline(always)]
 fn first_modifier(text: &[u8]) -> Option<(Modifier, &[u8])>
     ensures value { option_map (λ found. (found.0, found.1.now)) result ≡ option_map kept_found (first_modifier text.now) }
     ensures within { IfSome result (λ found. length found.1.now < length text.now) }
@@ -260,6 +274,7 @@ fn is_blank(text: &[u8]) -> bool
 }
 
 /// The modifiers that a text is. `BadIndex` where it isn't modifiers, and `NoMemory`.
+#[inline(always)]
 pub(crate) fn modifiers_of(alloc: Global, text: &[u8]) -> Result<Modifiers, Fault>
     ensures ok { IfOk result (λ modifiers. option_map (map kept_modifier) (modifiers_of text.now) ≡ Some modifiers.items) }
     ensures err { IfErr result (λ fault. (fault ≡ Fault.NoMemory) ⊎ ((fault ≡ Fault.BadIndex) × (modifiers_of text.now ≡ None))) }

@@ -307,6 +307,7 @@ impl<S: TextStore> Replica<S> {
 
     /// Makes operations of the site's own, as `make` does, and answers no copies of them: for a caller who
     /// reads them in the log, where they stand in order behind all that it had. Refused as `make` is.
+    #[inline(always)]
     pub fn commit(&mut self, drafts: Few<Draft>) -> Result<(), Fault>
         requires { MayBeMade self.old.site self.old.log (map body_of (items_in drafts)) }
         ensures fits { OnOk result (refusal_of self.old.limit (map body_of (items_in drafts)) self.old.log ≡ None) }
@@ -320,7 +321,8 @@ impl<S: TextStore> Replica<S> {
         ensures limit { self.new.limit ≡ self.old.limit }
         ensures ids { KeepsIds self.old.table self.new.table }
     {
-        // What is done for a draft is compiled once for a single one, as typing makes it, without the steps of a list.
+        // What is done for a draft is compiled once for a single one, as typing makes it, without the steps of a list; and into
+        // its callers, which know mostly whether it is one.
         match drafts {
             Few::One(draft) => self.commit_few(Few::One(draft)),
             Few::Many(drafts) => self.commit_few(Few::Many(drafts)),

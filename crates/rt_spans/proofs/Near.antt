@@ -2,14 +2,14 @@
 use Rattle.std.proofs.Common.{◌≡◌, ℕ, zero, suc, ◌+◌, ◌<◌, ◌≤◌, inl, inr, List, [], ◌∷◌, ◌++◌, length, get_or, take, drop, refl, sym, ap, subst, ◌∙◌, arith, append_assoc, set, ◌-◌, vec_len}
 use Rattle.rt_spans.specs.declared.entry.Entry.{Entry}
 use Rattle.rt_spans.specs.declared.block.Block.{Block}
-use Rattle.rt_spans.specs.Spans.{AreRisingBy, AreRisingFrom, EndsAt, Has, IsCut, IsEntryAt, IsKeyAt, IsNear, Painted, PaintsOver, Repainted, SetsOver, held, holding, key}
+use Rattle.rt_spans.specs.Spans.{AreRisingBy, AreRisingFrom, EndsAt, Has, IsCut, IsEntryAt, IsNear, Painted, PaintsOver, Repainted, SetsOver, held, holding, key}
 use Rattle.rt_spans.specs.Blocks.{IsNearIn, PartsAt, in_block, in_blocks, head_key}
-use Rattle.rt_spans.proofs.Rising.{behind, lower, skip}
+use Rattle.rt_spans.proofs.Rising.{behind, lower, skip, tail_at}
 use Rattle.rt_spans.proofs.Values.{cut_out}
 use Rattle.rt_spans.proofs.Cutting.{cut_has, cut_rising, cut_within, has_back, has_front, join_above, key_until, more, regroup, there}
 use Rattle.rt_spans.proofs.Painting.{begins, over}
 use Rattle.rt_spans.proofs.Loops.{over_cuts}
-use Rattle.rt_spans.proofs.Parts.{above_after, around_block, around_new, heads_rising}
+use Rattle.rt_spans.proofs.Parts.{above_after, around, around_block, around_new, heads_rising}
 
 -- A greater bound of what stands behind so many elements, if the next one keeps to it.
 pub rising_from : {X : Type 0} (f : X → ℕ) (low high : ℕ) (xs : List X) (i : ℕ) → AreRisingBy f low xs → ((d : X) → i < length xs → high ≤ f (get_or xs i d)) → AreRisingBy f high (drop i xs)
@@ -111,12 +111,6 @@ one_entry [] i a b p q l = absurd (omega (arith, l))
 one_entry (x ∷ xs) zero a b p q l = p ∙ sym q
 one_entry (x ∷ xs) (suc i) a b p q l = one_entry xs i a b p q (omega (arith, l))
 
--- whatever stands for an element that is missing
-pub any_entry : {X : Type 0} (xs : List X) (i : ℕ) (a d : X) → a ≡ get_or xs i a → i < length xs → a ≡ get_or xs i d
-any_entry [] i a d p l = absurd (omega (arith, l))
-any_entry (x ∷ xs) zero a d p l = p
-any_entry (x ∷ xs) (suc i) a d p l = any_entry xs i a d p (omega (arith, l))
-
 get_more : {V : Type 0} (xs : List (Entry V)) (p : ℕ) (e : Entry V) (ys : List (Entry V)) (d : Entry V) → IsEntryAt xs p e → get_or (take p xs ++ e ∷ ys) p d ≡ e
 get_more [] zero e ys d h = absurd cc
 get_more [] (suc p) e ys d h = absurd cc
@@ -155,6 +149,34 @@ repainted {V} first end value old mid new place less n m made = record {
     here : n.entry ≡ get_or mid place n.entry
     here = sym (ap (λ v. get_or v place n.entry) whole ∙ get_more old place n.entry (m.last ∷ m.back) n.entry n.is)
 
+-- what is left of a list begins with the element at the place
+behind_place : {V : Type 0} (xs : List (Entry V)) (i : ℕ) (next : Entry V) → i < length xs → next ≡ get_or xs i next → drop i xs ≡ next ∷ drop (suc i) xs
+behind_place [] i next l e = absurd (omega (arith, l))
+behind_place (x ∷ xs) zero next l e = ap (λ v. v ∷ xs) (sym e)
+behind_place (x ∷ xs) (suc i) next l e = behind_place xs i next (omega (arith, l)) e
+
+-- an entry that ends already where it shall gets a value
+pub painted_there : {V : Type 0} (first end : ℕ) (value : V) (h : Entry V) (items new : List (Entry V)) (place : ℕ) (e next : Entry V) → AreRisingFrom 0 (h ∷ items) → place < length items → IsEntryAt (h ∷ items) place e → key e ≡ first → next ≡ get_or items place next → key next ≡ end → ((d : Entry V) → d ≡ get_or (h ∷ items) place d → new ≡ set (h ∷ items) place (holding value d)) → Painted first end value (h ∷ items) new
+painted_there {V} first end value h items new place e next r l is at ends until made = record {
+  front = take place (h ∷ items);
+  entry = e;
+  gone = [];
+  back = drop place items;
+  was = is;
+  is = made e (there (h ∷ items) place e is) ∙ set_at (h ∷ items) place (holding value e) (omega (arith, l));
+  at = at;
+  above = subst (λ v. AreRisingFrom end v) (sym rest) (omega (arith, until), subst (λ (v : Entry V). AreRisingFrom (key v + 1) (drop (suc place) items)) (sym ends) (tail_at key (key h + 1) items place next r.1 l));
+  ends = λ _. subst (λ v. Has end v) (sym rest) (inl until);
+}
+  where
+    rest : drop place items ≡ next ∷ drop (suc place) items
+    rest = behind_place items place next l ends
+
+-- the entry behind another one has its key
+pub has_next : {V : Type 0} (k : ℕ) (h : Entry V) (items : List (Entry V)) (place : ℕ) (next : Entry V) → place < length items → next ≡ get_or items place next → key next ≡ k → Has k (h ∷ items)
+has_next k h items place next l is at =
+    subst (λ v. Has k v) (sym (around (h ∷ items) (suc place) next (omega (arith, l)) is)) (has_back k (take (suc place) (h ∷ items)) (next ∷ drop (suc (suc place)) (h ∷ items)) (inl at))
+
 -- AMONG OTHER BLOCKS
 
 painted_within : {V : Type 0} (first end : ℕ) (value : V) (before old new after : List (Entry V)) → AreRisingFrom 0 (before ++ (old ++ after)) → AreRisingFrom end after → Has end old → Painted first end value old new → PaintsOver first end value (before ++ (old ++ after)) (before ++ (new ++ after))
@@ -178,6 +200,31 @@ painted_within {V} first end value before old new after h a m p =
 
     start : (y : Entry V) × (ys : List (Entry V)) × (p.back ++ after ≡ y ∷ ys) × (key y ≡ end)
     start = begins end (p.back ++ after) above (has_front end p.back after (p.ends m))
+
+-- what stands behind a list with a key comes after it
+beyond_key : {V : Type 0} (low k : ℕ) (xs ys : List (Entry V)) → AreRisingFrom low (xs ++ ys) → Has k xs → AreRisingFrom k ys
+beyond_key low k [] ys h m = absurd m
+beyond_key low k (x ∷ xs) ys h m = elim m as (λ _. AreRisingFrom k ys) [
+  | inl is ↦ lower key k (key x + 1) ys (omega (arith, is)) (skip key (key x + 1) xs ys h.1)
+  | inr t ↦ beyond_key (key x + 1) k xs ys h.1 t
+]
+
+-- a block in which both ends stand
+pub painted_block : {V : Type 0} (first end : ℕ) (value : V) (bs : List (Block V)) (i : ℕ) (b new : Block V) → i < length bs → b ≡ get_or bs i b → AreRisingFrom 0 (in_blocks bs) → Has end (in_block b) → Painted first end value (in_block b) (in_block new) → PaintsOver first end value (in_blocks bs) (in_blocks (set bs i new))
+painted_block {V} first end value bs i b new l e h m p =
+    subst (λ v. PaintsOver first end value (in_blocks bs) v) (sym (around_new bs i new l)) (subst (λ v. PaintsOver first end value v (before ++ (in_block new ++ after))) (sym whole) (painted_within first end value before (in_block b) (in_block new) after rising (beyond_key 0 end (in_block b) after (skip key 0 before (in_block b ++ after) rising) m) m p))
+  where
+    before : List (Entry V)
+    before = in_blocks (take i bs)
+
+    after : List (Entry V)
+    after = in_blocks (drop (suc i) bs)
+
+    whole : in_blocks bs ≡ before ++ (in_block b ++ after)
+    whole = around_block bs i b l e
+
+    rising : AreRisingFrom 0 (before ++ (in_block b ++ after))
+    rising = subst (λ v. AreRisingFrom 0 v) whole h
 
 pub set_blocks : {V : Type 0} (first end : ℕ) (value : V) (bs : List (Block V)) (i : ℕ) (b new : Block V) → i < length bs → b ≡ get_or bs i b → AreRisingFrom 0 (in_blocks bs) → AreRisingBy head_key (end + 1) (drop (suc i) bs) → Repainted first end value (in_block b) (in_block new) → SetsOver first end value (in_blocks bs) (in_blocks (set bs i new))
 set_blocks {V} first end value bs i b new l e h a r =
@@ -227,14 +274,6 @@ near_in {V} first end bs place entry b h some within e next few inside n = recor
     same : (d : Block V) → d ≡ get_or bs (place - 1) d → b ≡ d
     same d is = one_entry bs (place - 1) b d e is (omega (arith, some, within))
 
--- entries that begin and end where a span does
-key_there : {V : Type 0} (k : ℕ) (es : List (Entry V)) (i : ℕ) → i < length es → ((d : Entry V) → key (get_or es i d) ≡ k) → Has k es
-key_there k [] i l at = absurd (omega (arith, l))
-key_there k (e ∷ es) zero l at = inl (at e)
-key_there k (e ∷ es) (suc i) l at = inr (key_there k es i (omega (arith, l)) at)
-
-pub has_end : {V : Type 0} (k : ℕ) (b : Block V) (i : ℕ) → IsKeyAt k b.rest.items i → Has k (in_block b)
-has_end k b i at = inr (key_there k b.rest.items i at.0 at.1)
-
-pub has_begin : {V : Type 0} (first end : ℕ) (es : List (Entry V)) (place : ℕ) → IsNear first end es place → Has first es
-has_begin first end es place n = subst (λ v. Has first v) (sym n.is) (has_back first (take place es) (n.entry ∷ drop (suc place) es) (inl n.at))
+-- where a value is painted an entry begins at the first key
+pub has_begin : {V : Type 0} (first end : ℕ) (value : V) (old new : List (Entry V)) → Painted first end value old new → Has first old
+has_begin first end value old new p = subst (λ v. Has first v) (sym p.was) (has_back first p.front (p.entry ∷ (p.gone ++ p.back)) (inl p.at))

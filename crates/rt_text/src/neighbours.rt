@@ -21,6 +21,7 @@ use rt_tags::StateId;
 use rt_views::Limits;
 
 /// The visible cell before a place, if there is one.
+#[inline(always)]
 pub(crate) fn left_of<S: TextStore>(store: &S, place: usize) -> Option<Cell<StateId>>
     requires { place ≤ length (visible_of (S.list store.now)) }
     ensures { result ≡ left_neighbour (visible_of (S.list store.now)) place }
@@ -33,6 +34,7 @@ pub(crate) fn left_of<S: TextStore>(store: &S, place: usize) -> Option<Cell<Stat
 }
 
 /// The element behind which text goes that has a left neighbour, or none.
+#[inline(always)]
 pub(crate) fn stamp_or_root(left: &Option<Cell<StateId>>) -> Stamp
     ensures { result ≡ unwrap_or (option_map (λ cell. cell.stamp) left.now) ROOT }
 {
@@ -153,6 +155,7 @@ pub(crate) fn shows_both<S: TextStore>(
 
 /// The cell before a place of what is shown, of which the one before it in the text is known: none before the first
 /// place.
+#[inline(always)]
 pub(crate) fn shown_before(place: usize, behind: Option<Cell<StateId>>) -> Option<Cell<StateId>>
     ensures { result ≡ (if place == 0 then None else behind) }
 {
@@ -160,6 +163,7 @@ pub(crate) fn shown_before(place: usize, behind: Option<Cell<StateId>>) -> Optio
 }
 
 /// The cell at a place, if both its sides are shown behind pieces that stand before it.
+#[inline(always)]
 pub(crate) fn shown_at<S: TextStore>(
     store: &S,
     limits: Limits,

@@ -18,6 +18,7 @@ use rt_rga::Change;
 use rt_stamps::{Fault, Stamp};
 
 /// Makes room for more selected characters in each that has both neighbours selected. Want of memory.
+#[inline(always)]
 pub(crate) fn reserve_between(
     others: &mut [Parts],
     left: Stamp,

@@ -36,6 +36,7 @@ pub(crate) fn set_run(mem: &mut Mem, root: NodeId, height: u32, leaf: NodeId, i:
 }
 
 // Puts a run into a leaf that has room.
+#[inline(always)]
 pub(crate) fn put_run(mem: &mut Mem, root: NodeId, height: u32, leaf: NodeId, i: usize, run: Run)
     requires tree { IsShape (bare mem.old) height root.index }
     requires exact { AreExact mem.old }

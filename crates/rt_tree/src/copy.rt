@@ -18,6 +18,7 @@ pub(crate) fn copy(text: &[char], from: usize, buffer: &mut [char], at: usize, c
 }
 
 // Puts the characters of cells behind a text that has room for them.
+#[inline(always)]
 pub(crate) fn push_characters(text: &mut Vec<char>, cells: &[Cell<StateId>])
     requires room { vec_len text.old + length cells.now ≤ vec_capacity text.old }
     ensures items { text.new.items ≡ text.old.items ++ map (λ cell. cell.ch) cells.now }

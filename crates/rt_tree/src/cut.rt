@@ -162,6 +162,7 @@ pub(crate) struct Ended {
 
 // Cuts, and tells where the stamps are of runs that are in another leaf now. Nothing is done where a run is known to begin or
 // end there; `end` is the spot of the last cell of the run that ends there, where this is known.
+#[inline(always)]
 pub(crate) fn cut_home(
     mem: &mut Mem,
     sums: &mut Summaries,

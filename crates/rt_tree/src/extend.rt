@@ -27,6 +27,7 @@ use rt_store::Cell;
 use rt_tags::{StateId, StateTable};
 
 // Whether a run goes on where another ends, in the text too.
+#[inline(always)]
 fn are_joint(before: &Run, run: &Run) -> bool
     ensures { result ≡ are_joint before.now run.now }
 {
@@ -41,6 +42,7 @@ fn are_joint(before: &Run, run: &Run) -> bool
 }
 
 // Both as one run.
+#[inline(always)]
 fn joined(before: Run, run: Run) -> Run
     requires { before.len + run.len < 2 ^ 32 }
     ensures { result ≡ joined before run }
@@ -96,6 +98,7 @@ pub(crate) struct Extended {
 }
 
 // No cell was put in: there is none, or no run is seen to end at the position, or the one that does can't go on.
+#[inline(always)]
 fn not_extended(is_edge: bool, end: Option<Spot>) -> Extended
     ensures { result ≡ record { done = 0; is_edge = is_edge; end = end; last = None } }
 {
@@ -108,6 +111,7 @@ fn not_extended(is_edge: bool, end: Option<Spot>) -> Extended
 }
 
 // Lets the run that ends at a position go on with the first of new cells, if these follow it, and tells how many they are.
+#[inline(always)]
 pub(crate) fn extend(
     mem: &mut Mem,
     sums: &mut Summaries,

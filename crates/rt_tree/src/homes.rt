@@ -58,6 +58,7 @@ pub(crate) struct Home {
 
 impl Home {
     // How far into the run the cell of a stamp is that it has.
+    #[inline(always)]
     pub(crate) fn offset(self, stamp: Stamp) -> usize
         requires { has self.run stamp ≡ true }
         ensures { result ≡ stamp.count - self.run.first }
@@ -66,6 +67,7 @@ impl Home {
     }
 
     // The position of the cell of a stamp that the run has.
+    #[inline(always)]
     pub(crate) fn position(self, stamp: Stamp) -> usize
         requires has { has self.run stamp ≡ true }
         requires few { self.before.cells + self.run.len < 2 ^ 33 }
@@ -107,6 +109,7 @@ pub(crate) enum Sought {
 }
 
 // The span of a run's stamps; none if it has none, or the greatest count that there is.
+#[inline(always)]
 fn span_of(run: &Run) -> Option<Span>
     ensures is { IfSome result (λ span. IsSpanOf run.now span) }
     ensures some { 0 < run.now.len → run.now.first + run.now.len < 2 ^ 64 → IsSome result }
@@ -203,6 +206,7 @@ impl Homes {
     }
 
     // The run that is known to stand somewhere, if it has a stamp and no other run has it.
+    #[inline(always)]
     pub(crate) fn near(
         &self,
         mem: &Mem,
@@ -297,6 +301,7 @@ impl Homes {
     }
 
     // Whether no cell has a stamp of a run, as far as is known; none has a greater count than `newest`.
+    #[inline(always)]
     pub(crate) fn is_new(&self, newest: u64, run: &Run) -> bool
         requires { run.now.first + run.now.len ≤ 2 ^ 64 }
         ensures sure { result ≡ true → self.now.sure ≡ true }
@@ -307,6 +312,7 @@ impl Homes {
     }
 
     // The stamps of a run have a leaf from now on, if they can be told.
+    #[inline(always)]
     pub(crate) fn place(&mut self, run: &Run, leaf: NodeId) -> bool
         requires { 0 < self.old.left }
         ensures done { 0 < run.now.len → run.now.first + run.now.len < 2 ^ 64 → result ≡ true }
@@ -327,6 +333,7 @@ impl Homes {
     }
 
     // A run was put into a leaf. If it wasn't new, or has the greatest count that there is, nothing is sure any more.
+    #[inline(always)]
     pub(crate) fn enter(&mut self, run: &Run, leaf: NodeId, is_new: bool)
         requires { 0 < self.old.left }
         ensures sure { self.new.sure ≡ true → is_new ≡ true }
@@ -373,7 +380,26 @@ impl Homes {
     }
 
     // Tells where the runs of new nodes are, those from a number on, if all that is known of other runs is sure.
+    #[inline(always)]
     pub(crate) fn note_new(&mut self, mem: &Mem, nodes: usize)
+        requires { length mem.now.heads ≡ length mem.now.rows }
+        ensures housed { (root : ℕ) → self.old.sure ≡ true → IsTree mem.now root → length (tree_runs mem.now root) < 2 ^ 32
+            → AreOnceEach (tree_runs mem.now root) → AllByRecursion HasCells (tree_runs mem.now root)
+            → AllByRecursion (IsBordered self.old.leaves) (tree_runs mem.now root) → HaveLeavesBelow nodes mem.now self.old.leaves
+            → AreHoused mem.now root self.new.leaves }
+        ensures others { (root : ℕ) → IsTree mem.now root → KeepsOthers self.old.leaves self.new.leaves (tree_runs mem.now root) }
+        ensures keeps { KeepsAll self.old.leaves self.new.leaves }
+        ensures sure { self.new.sure ≡ self.old.sure }
+        ensures left { self.new.left ≡ self.old.left }
+    {
+        if nodes < mem.nodes() {
+            self.retell_new(mem, nodes);
+        }
+    }
+
+    // The same, where there are some.
+    #[inline(never)]
+    fn retell_new(&mut self, mem: &Mem, nodes: usize)
         requires { length mem.now.heads ≡ length mem.now.rows }
         ensures housed { (root : ℕ) → self.old.sure ≡ true → IsTree mem.now root → length (tree_runs mem.now root) < 2 ^ 32
             → AreOnceEach (tree_runs mem.now root) → AllByRecursion HasCells (tree_runs mem.now root)

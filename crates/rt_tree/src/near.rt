@@ -16,6 +16,7 @@ use crate::walk::{Found, Spot, descend_by};
 use rt_nodes::NodeId;
 
 // How far into the run of a spot a place is, if it is in it.
+#[inline(always)]
 fn offset_in(found: &Found, by: Measure, place: usize) -> Option<usize>
     ensures { IfSome result (λ offset. (amount by found.now.before + offset ≡ place) × (offset < amount by (counts_of_run found.now.run))) }
 {
@@ -28,6 +29,7 @@ fn offset_in(found: &Found, by: Measure, place: usize) -> Option<usize>
 }
 
 // Whether the run that is known to stand somewhere has a place.
+#[inline(always)]
 pub(crate) fn is_in(last: &Option<Found>, by: Measure, place: usize) -> bool
     ensures { result ≡ true → MatchOption last.now ⊥
         (λ found. (amount by found.before ≤ place) × (place < amount by found.before + amount by (counts_of_run found.run))) }
@@ -53,6 +55,7 @@ fn moved(found: &Found, offset: usize) -> Found
 }
 
 // Whether a run that is known to stand somewhere ends at a place.
+#[inline(always)]
 fn ends_at(found: &Found, by: Measure, place: usize) -> bool
     ensures { result ≡ (amount by found.now.before + amount by (counts_of_run found.now.run) == place) }
 {
@@ -61,6 +64,7 @@ fn ends_at(found: &Found, by: Measure, place: usize) -> bool
 }
 
 // The run behind one that is known to stand somewhere, if it stands in the same leaf.
+#[inline(always)]
 fn behind(mem: &Mem, root: NodeId, found: &Found) -> Option<Found>
     requires tree { IsTree mem.now root.index }
     requires few { AreFew (counts_of (tree_runs mem.now root.index)) }
@@ -165,6 +169,7 @@ pub(crate) struct Seen {
 }
 
 // The run that has the cell at a position, with the spot where it stands. What is before it isn't counted.
+#[inline(always)]
 pub(crate) fn cell_near(mem: &Mem, root: NodeId, last: &Option<Found>, at: usize) -> Seen
     requires tree { IsTree mem.now root.index }
     requires few { AreFew (counts_of (tree_runs mem.now root.index)) }

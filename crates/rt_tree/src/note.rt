@@ -24,6 +24,7 @@ fn is_beside(around: &Around, old: &Option<StateId>, new: &Option<StateId>) -> b
 }
 
 // Whether an entry showed no state before, and shows now that of the last visible run before it in its leaf.
+#[inline(always)]
 fn is_behind(
     each: &[Summary],
     mem: &Mem,
@@ -47,6 +48,7 @@ fn is_behind(
 
 // An entry of a leaf shows another state now, or none: puts right the summaries of the nodes above it. What comes in beside a
 // neighbour in the same state changes none.
+#[inline(always)]
 pub(crate) fn note(
     each: &mut [Summary],
     minus: &mut Toggles,
@@ -81,6 +83,44 @@ pub(crate) fn note(
     if is_behind(each, mem, leaf, i, old, new) {
         return;
     }
+    note_up(
+        each, minus, plus, states, mem, root, height, leaf, i, old, new,
+    );
+}
+
+// The same of what doesn't come in behind a run of its leaf in the same state.
+#[inline(never)]
+fn note_up(
+    each: &mut [Summary],
+    minus: &mut Toggles,
+    plus: &mut Toggles,
+    states: &StateTable,
+    mem: &Mem,
+    root: NodeId,
+    height: u32,
+    leaf: NodeId,
+    i: usize,
+    old: &Option<StateId>,
+    new: &Option<StateId>,
+)
+    requires tree { IsShape mem.now height root.index }
+    requires leaf { (leaf.index < length mem.now.heads) × (level_of mem.now leaf.index ≡ 0) }
+    requires within { i < length (entries mem.now leaf.index) }
+    requires many { length mem.now.heads ≤ length each.old }
+    requires old { IfSome old.now (IsState states.now) }
+    requires new { IfSome new.now (IsState states.now) }
+    requires shows { (e : Entry) → e ≡ slice_index_or (entries mem.now leaf.index) i e → shown_states (below mem.now 0 e) ≡ one_or_none new.now }
+    requires beside { AreBeside states.now mem.now height leaf.index i }
+    requires but { AreSummedBut states.now mem.now each.old height leaf.index i old.now }
+    requires minus { length states.now.names ≤ minus.old.capacity }
+    requires plus { length states.now.names ≤ plus.old.capacity }
+    requires memory { (id : ℕ) → id < length mem.now.heads → length states.now.names ≤ (summary_of each.old id).counts.capacity }
+    ensures summed { AreSummed states.now mem.now each.new }
+    ensures many { length each.new ≡ length each.old }
+    ensures memory { (id : ℕ) → (summary_of each.new id).counts.capacity ≡ (summary_of each.old id).counts.capacity }
+    ensures minus { minus.new.capacity ≡ minus.old.capacity }
+    ensures plus { plus.new.capacity ≡ plus.old.capacity }
+{
     let nobody = Around {
         before: None,
         after: None,

@@ -31,6 +31,7 @@ use rt_nodes::NodeId;
 use rt_tags::StateTable;
 
 // Puts a run in at a place of a leaf, the root having room, and tells the place where it now is.
+#[inline(always)]
 fn insert_at(
     mem: &mut Mem,
     sums: &mut Summaries,
@@ -93,6 +94,7 @@ pub(crate) enum Known {
 }
 
 // What is known where the spot of the cell before may be, which is the last of its run.
+#[inline(always)]
 pub(crate) fn behind(end: Option<Spot>) -> Known
     ensures { MatchOption end (result ≡ Nothing) (λ spot. result ≡ Behind spot) }
 {
@@ -129,6 +131,7 @@ fn spot_of(mem: &Mem, root: NodeId, at: usize) -> Spot
 }
 
 // The entry behind one of a leaf, if a run stands there. That runs have cells is not asked of the nodes here, so it is looked at.
+#[inline(always)]
 fn next_entry(mem: &Mem, spot: Spot) -> Option<usize>
     requires node { IsNode mem.now spot.leaf.index }
     requires within { spot.entry < length (entries mem.now spot.leaf.index) }
@@ -147,6 +150,7 @@ fn next_entry(mem: &Mem, spot: Spot) -> Option<usize>
 }
 
 // The spot of the cell at a position; `end` is that of the cell before it, which is the last of its run.
+#[inline(always)]
 fn spot_behind(mem: &Mem, root: NodeId, at: usize, end: Spot) -> Spot
     requires tree { IsTree mem.now root.index }
     requires few { AreFew (counts_of (tree_runs mem.now root.index)) }
@@ -165,6 +169,7 @@ fn spot_behind(mem: &Mem, root: NodeId, at: usize, end: Spot) -> Spot
 }
 
 // The spot of the cell at a position, of which something may be known.
+#[inline(always)]
 fn spot_known(mem: &Mem, root: NodeId, at: usize, known: Known) -> Spot
     requires tree { IsTree mem.now root.index }
     requires few { AreFew (counts_of (tree_runs mem.now root.index)) }
@@ -180,6 +185,7 @@ fn spot_known(mem: &Mem, root: NodeId, at: usize, known: Known) -> Spot
 }
 
 // What was known, unless a new root was put above.
+#[inline(always)]
 fn still_known(known: Known, height: u32, top: &Top) -> Known
     ensures still { top.now.height ≡ height → result ≡ known }
     ensures dropped { top.now.height ≢ height → result ≡ Nothing }
@@ -200,6 +206,7 @@ pub(crate) struct Placed {
 }
 
 // Puts a run in before the one that has the cell at a position. The root may now be another node.
+#[inline(always)]
 pub(crate) fn put(
     mem: &mut Mem,
     sums: &mut Summaries,
@@ -244,6 +251,7 @@ pub(crate) fn put(
 }
 
 // The same, and tells where the run's stamps are. No cell has a greater count than `newest`.
+#[inline(always)]
 pub(crate) fn put_home(
     mem: &mut Mem,
     sums: &mut Summaries,

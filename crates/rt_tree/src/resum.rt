@@ -124,6 +124,7 @@ pub(crate) fn replace_run(
 }
 
 // Puts a run into a leaf that has room, and the summaries right.
+#[inline(always)]
 pub(crate) fn insert_run(
     mem: &mut Mem,
     sums: &mut Summaries,

@@ -82,6 +82,7 @@ fn make_way(
 }
 
 // Sees to it that a place's leaf has room, the root having some; the place may now be in a new leaf.
+#[inline(always)]
 pub(crate) fn make_room(
     mem: &mut Mem,
     sums: &mut Summaries,
@@ -118,6 +119,46 @@ pub(crate) fn make_room(
     if mem.len(leaf) < 16 {
         return Place { leaf, entry: i };
     }
+
+    cut_for_room(mem, sums, states, root, height, leaf, i)
+}
+
+// The same where the leaf is full.
+#[inline(never)]
+fn cut_for_room(
+    mem: &mut Mem,
+    sums: &mut Summaries,
+    states: &StateTable,
+    root: NodeId,
+    height: u32,
+    leaf: NodeId,
+    i: usize,
+) -> Place
+    requires tree { IsShape (bare mem.old) height root.index }
+    requires exact { AreExact mem.old }
+    requires filled { AreFilled mem.old root.index }
+    requires few { AreFew (counts_of (runs (bare mem.old) height root.index)) }
+    requires leaf { (leaf.index < length mem.old.heads) × (level_of (bare mem.old) leaf.index ≡ 0) }
+    requires within { i ≤ length (entries mem.old leaf.index) }
+    requires full { length (entries mem.old leaf.index) ≡ 16 }
+    requires root_room { length (entries mem.old root.index) < 16 }
+    requires room { HasNodes mem.old (length (runs (bare mem.old) height root.index)) }
+    requires told { AreTold states.now mem.old sums.old (runs (bare mem.old) height root.index) }
+    requires short { length (runs (bare mem.old) height root.index) + 5 < 2 ^ 32 }
+    ensures tree { IsShape (bare mem.new) height root.index }
+    ensures exact { AreExact mem.new }
+    ensures filled { AreFilled mem.new root.index }
+    ensures runs { runs (bare mem.new) height root.index ≡ runs (bare mem.old) height root.index }
+    ensures leaf { (result.leaf.index < length mem.new.heads) × (level_of (bare mem.new) result.leaf.index ≡ 0) }
+    ensures within { result.entry ≤ length (entries mem.new result.leaf.index) }
+    ensures leaf_room { length (entries mem.new result.leaf.index) < 16 }
+    ensures stay { Stay mem.old mem.new }
+    ensures longer { length mem.old.heads ≤ length mem.new.heads }
+    ensures place { length (ahead (bare mem.new) height result.leaf.index) + result.entry ≡ length (ahead (bare mem.old) height leaf.index) + i }
+    ensures room { length mem.new.heads + mem.new.room ≡ length mem.old.heads + mem.old.room }
+    ensures told { AreTold states.now mem.new sums.new (runs (bare mem.new) height root.index) }
+    ensures tags { sums.new.tags ≡ sums.old.tags }
+{
     make_way(mem, sums, states, root, height, leaf);
     let parent = parent_of(mem, leaf);
     let slot = slot_of(mem, parent, leaf);
@@ -141,6 +182,7 @@ pub(crate) struct Top {
 }
 
 // Sees to it that the root has room.
+#[inline(always)]
 pub(crate) fn top_room(
     mem: &mut Mem,
     sums: &mut Summaries,
@@ -172,6 +214,41 @@ pub(crate) fn top_room(
     if mem.len(root) < 16 {
         return Top { root, height };
     }
+
+    cut_root(mem, sums, states, root, height)
+}
+
+// The same where the root is full.
+#[inline(never)]
+fn cut_root(
+    mem: &mut Mem,
+    sums: &mut Summaries,
+    states: &StateTable,
+    root: NodeId,
+    height: u32,
+) -> Top
+    requires tree { IsShape (bare mem.old) height root.index }
+    requires exact { AreExact mem.old }
+    requires filled { AreFilled mem.old root.index }
+    requires few { AreFew (counts_of (runs (bare mem.old) height root.index)) }
+    requires full { length (entries mem.old root.index) ≡ 16 }
+    requires height { height + 1 < 2 ^ 32 }
+    requires room { HasNodes mem.old (length (runs (bare mem.old) height root.index)) }
+    requires told { AreTold states.now mem.old sums.old (runs (bare mem.old) height root.index) }
+    requires short { length (runs (bare mem.old) height root.index) + 5 < 2 ^ 32 }
+    ensures tree { IsShape (bare mem.new) result.height result.root.index }
+    ensures exact { AreExact mem.new }
+    ensures filled { AreFilled mem.new result.root.index }
+    ensures runs { runs (bare mem.new) result.height result.root.index ≡ runs (bare mem.old) height root.index }
+    ensures roomy { length (entries mem.new result.root.index) < 16 }
+    ensures height { result.height ≤ height + 1 }
+    ensures stay { Stay mem.old mem.new }
+    ensures longer { length mem.old.heads ≤ length mem.new.heads }
+    ensures still { result.height ≡ height → (mem.new ≡ mem.old) × (result.root ≡ root) }
+    ensures room { length mem.new.heads + mem.new.room ≡ length mem.old.heads + mem.old.room }
+    ensures told { AreTold states.now mem.new sums.new (runs (bare mem.new) result.height result.root.index) }
+    ensures tags { sums.new.tags ≡ sums.old.tags }
+{
     let top = add_root(mem, sums, states, root, height);
     cut_node(mem, sums, states, top, height + 1, root, top, 0);
     Top {

@@ -29,6 +29,7 @@ use rt_store::Cell;
 use rt_tags::{StateId, StateTable};
 
 // Whether a cell goes on where another ends.
+#[inline(always)]
 fn follows(before: Cell<StateId>, cell: Cell<StateId>) -> bool
     ensures { result ≡ follows before cell }
 {
@@ -41,6 +42,7 @@ fn follows(before: Cell<StateId>, cell: Cell<StateId>) -> bool
 }
 
 // How many cells at the front are one stretch.
+#[inline(always)]
 fn stretch(cells: &[Cell<StateId>]) -> usize
     requires { 0 < length cells.now }
     ensures { IsStretch cells.now result }
@@ -54,6 +56,7 @@ fn stretch(cells: &[Cell<StateId>]) -> usize
 }
 
 // A run from a first cell on.
+#[inline(always)]
 fn run_from(first: Cell<StateId>, at: u32, len: u32, newline: bool) -> Run
     ensures { result ≡ run_from first at len newline }
 {
@@ -69,6 +72,7 @@ fn run_from(first: Cell<StateId>, at: u32, len: u32, newline: bool) -> Run
 }
 
 // The run of the first cells, whose characters are the last of the text.
+#[inline(always)]
 pub(crate) fn run_of(text: &[char], cells: &[Cell<StateId>]) -> Run
     requires some { 0 < length cells.now }
     requires last { EndsWith text.now cells.now }
@@ -82,6 +86,7 @@ pub(crate) fn run_of(text: &[char], cells: &[Cell<StateId>]) -> Run
 }
 
 // The run of the cells from one on.
+#[inline(always)]
 fn next_run(text: &[char], cells: &[Cell<StateId>], done: usize) -> Run
     requires some { done < length cells.now }
     requires last { EndsWith text.now cells.now }
@@ -92,6 +97,7 @@ fn next_run(text: &[char], cells: &[Cell<StateId>], done: usize) -> Run
 }
 
 // The run of the first cell alone.
+#[inline(always)]
 fn first_run(text: &[char], cells: &[Cell<StateId>]) -> Run
     requires some { 0 < length cells.now }
     requires last { EndsWith text.now cells.now }
@@ -105,6 +111,7 @@ fn first_run(text: &[char], cells: &[Cell<StateId>]) -> Run
 }
 
 // The run of the cell after so many.
+#[inline(always)]
 fn lone_run(text: &[char], cells: &[Cell<StateId>], done: usize) -> Run
     requires some { done < length cells.now }
     requires last { EndsWith text.now cells.now }
@@ -123,6 +130,7 @@ fn is_shared_by(run: &Run, other: &Run) -> bool
 }
 
 // The greatest of a count and those of cells.
+#[inline(always)]
 pub(crate) fn newest_of(newest: u64, cells: &[Cell<StateId>]) -> u64
     ensures least { newest ≤ result }
     ensures cells { AreUpTo result cells.now }
@@ -186,6 +194,7 @@ struct Next {
 
 // The run that the cells after so many begin with: that of their stretch, or of one cell alone, where a run of more than one
 // cell would share a stamp with another.
+#[inline(always)]
 fn choose(
     mem: &Mem,
     root: NodeId,
@@ -230,6 +239,7 @@ fn choose(
 
 // Puts cells in before a position at which a run begins; `end` is the spot of the cell before it, where this is known to be the
 // last of its run.
+#[inline(always)]
 fn put_runs(
     mem: &mut Mem,
     sums: &mut Summaries,
@@ -311,6 +321,7 @@ pub(crate) struct Grown {
 }
 
 // A run that is known to stand somewhere, or nothing where a run got longer by so many cells.
+#[inline(always)]
 fn still_there<'a>(
     last: &'a Option<Found>,
     nothing: &'a Option<Found>,
@@ -324,6 +335,7 @@ fn still_there<'a>(
 }
 
 // Puts cells in at a position; their characters are the last of the text.
+#[inline(always)]
 pub(crate) fn put_cells(
     mem: &mut Mem,
     sums: &mut Summaries,

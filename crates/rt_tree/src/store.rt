@@ -171,6 +171,7 @@ impl TextStore for TreeStore {
         self.tree.line_of(place)
     }
 
+    #[inline(always)]
     fn after_skip(&self, left: Stamp, new: Stamp) -> usize {
         self.tree.after_skip(left, new)
     }

@@ -10,6 +10,7 @@ use rt_store::{Cell, newline_count, visible_count};
 use rt_tags::StateId;
 
 // What some cells count, with more that come in among them.
+#[inline(always)]
 pub(crate) fn counts_with(counts: Counts, cells: &[Cell<StateId>]) -> Counts
     requires few { counts.cells + length cells.now ≤ MOST_CELLS }
     requires below { (counts.visible ≤ counts.cells) × (counts.newlines ≤ counts.cells) }

@@ -299,6 +299,7 @@ impl Tree {
 
     /// The first position from one on whose cell's stamp isn't greater than a new one, or the end. It
     /// goes past whole subtrees with greater stamps alone, and looks at no cell if none has so great a count.
+    #[inline(always)]
     pub fn skip(&self, position: usize, new: Stamp) -> usize
         requires { position < length self.now.cells }
         ensures { result ≡ position + length (take_while (λ cell. is_before new cell.stamp) (drop position self.now.cells)) }
@@ -306,6 +307,15 @@ impl Tree {
         if new.count > self.newest {
             return position;
         }
+        self.skip_past(position, new)
+    }
+
+    // The same by look-ups.
+    #[inline(never)]
+    fn skip_past(&self, position: usize, new: Stamp) -> usize
+        requires { position < length self.now.cells }
+        ensures { result ≡ position + length (take_while (λ cell. is_before new cell.stamp) (drop position self.now.cells)) }
+    {
         let cell = self.nth(position);
         if is_low(cell.stamp, new) {
             return position;
@@ -339,7 +349,19 @@ impl Tree {
     }
 
     /// The position of the cell of a stamp, gone or not; none if no cell has the stamp.
+    #[inline(always)]
     pub fn position_of(&self, stamp: Stamp) -> Option<usize>
+        ensures { result ≡ position_of self.now.cells stamp }
+    {
+        match self.homes.near(&self.mem, self.root, &self.last, stamp) {
+            Some(home) => Some(home.position(stamp)),
+            None => self.sought_position(stamp),
+        }
+    }
+
+    // The same where it isn't in the run that is known.
+    #[inline(never)]
+    fn sought_position(&self, stamp: Stamp) -> Option<usize>
         ensures { result ≡ position_of self.now.cells stamp }
     {
         match self.homes.look_up(&self.mem, self.root, &self.last, stamp) {
@@ -422,6 +444,7 @@ impl Tree {
     }
 
     // The position after an element.
+    #[inline(always)]
     fn after_element(&self, left: Stamp) -> usize
         requires { StandsBefore self.now.cells left }
         ensures { result ≡ after_element self.now.cells left }
@@ -437,6 +460,7 @@ impl Tree {
 
     /// The position where a new character goes whose left element is `left`: behind it and past all
     /// cells directly behind it that have greater stamps (Replicated Growable Array, JPDC 2011).
+    #[inline(always)]
     pub fn after_skip(&self, left: Stamp, new: Stamp) -> usize
         requires { StandsBefore self.now.cells left }
         ensures { result ≡ skip_from self.now.cells left new }

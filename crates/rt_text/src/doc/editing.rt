@@ -1,5 +1,5 @@
 // Insertions and removals.
-ghost use Rattle.std.specs.Prelude.{◌≡◌, ◌⊎◌, All, List, ◌<◌, ◌∷◌, [], None, Some, IfErr, IfOk, OnOk, OnErr, length, map};
+ghost use Rattle.std.specs.Prelude.{◌≡◌, ◌⊎◌, All, List, ◌<◌, ◌∷◌, [], None, Some, IfErr, IfOk, IfSome, OnOk, OnErr, length, map};
 ghost use Rattle.rt_ops.specs.Edits.{body_of};
 ghost use Rattle.rt_stamps.specs.declared.limits.TheConstants.{GREATEST_COUNT};
 ghost use Rattle.rt_edits.specs.InsertionPlans.{Plans};
@@ -22,7 +22,7 @@ use crate::neighbours::{left_of, shown_at, shown_before, stamp_or_root};
 use crate::parts::Parts;
 use crate::preparing::{list_tags, make_planned};
 use rt_edits::drafting::planned_deletion;
-use rt_edits::inserting::{Plan, planned_between};
+use rt_edits::inserting::{Plan, planned_between, planned_typing};
 use rt_edits::{Piece, Range};
 use rt_rga::Few;
 use rt_stamps::Fault;
@@ -72,7 +72,141 @@ impl<S: TextStore> Doc<S> {
         )
     }
 
+    // The same for one plain character (`planned_typing` of rt_edits); else none.
+    #[inline(always)]
+    fn planned_typing(
+        &self,
+        widget: &Widget,
+        stretch: Stretch,
+        place: usize,
+        pieces: &[Piece],
+        rest: &str,
+    ) -> Option<Plan>
+        requires stretch { stretch ≡ stretch_of self.now.cells widget.now.limits }
+        requires place { place < length (shown_part self.now.cells widget.now.limits) }
+        ensures drafts { IfSome result (λ plan. (others : List Own)
+            → map body_of (items_in plan.drafts) ≡ drafts_at (record { doc = self.now; own = widget.now; others = others }) place pieces.now rest.now) }
+        ensures plans { IfSome result (λ plan. (others : List Own) → Plans plan widget.now.sel (selections_of others) self.now.tags
+            (insertion_at (record { doc = self.now; own = widget.now; others = others }) place pieces.now rest.now)) }
+    {
+        // What is surely more than a character, or has no left neighbour, looks nothing up; a character has at most four bytes.
+        if !pieces.is_empty() || rest.len() > 4 || place == 0 {
+            return None;
+        }
+        let site = self.replica.site();
+        let count = self.replica.clock().seen();
+        let (store, states) = self.kept();
+        let at = stretch.begin + place;
+        let behind = left_of(store, at);
+        let after = stamp_or_root(&behind);
+        let left = shown_before(place, behind);
+        let right = shown_at(store, widget.limits(), at, pieces);
+        planned_typing(
+            self.alloc,
+            states,
+            site,
+            count,
+            &widget.parts.selection,
+            after,
+            &left,
+            &right,
+            pieces,
+            rest,
+        )
+    }
+
+    // Carries out a plan for pieces of text and characters without a list, which only the clauses name, at a place of the stretch
+    // that is shown. It is compiled into its callers: where the plan is that of typing, it is known there that it is one draft.
+    #[inline(always)]
+    fn insert_planned(
+        &mut self,
+        widget: &mut Widget,
+        others: &mut [Parts],
+        stretch: Stretch,
+        place: usize,
+        pieces: &[Piece],
+        rest: &str,
+        plan: Plan,
+    ) -> Result<(), Fault>
+        requires drafts { (others : List Own)
+            → map body_of (items_in plan.drafts) ≡ drafts_at (record { doc = self.old; own = widget.old; others = others }) place pieces.now rest.now }
+        requires plans { (others : List Own) → Plans plan widget.old.sel (selections_of others) self.old.tags
+            (insertion_at (record { doc = self.old; own = widget.old; others = others }) place pieces.now rest.now) }
+        requires stretch { stretch ≡ stretch_of self.old.cells widget.old.limits }
+        requires place { place < length (shown_part self.old.cells widget.old.limits) }
+        requires pieces { All IsPiece pieces.now }
+        requires own { IsOwnOf (length (text_of self.old.cells)) widget.old }
+        requires others { AllByRecursion (IsOwnOf (length (text_of self.old.cells))) (map own_in others.old) }
+        ensures ok { let view : Viewed = record { doc = self.old; own = widget.old; others = map own_in others.old } in
+            OnOk result (record { doc = self.new; own = widget.new; others = map own_in others.new } ≡ with_pieces_at view place pieces.now rest.now) }
+        ensures checked { OnOk result (first_of (clock_check self.new.count ∷ cell_check self.old.limit (length self.new.cells) ∷ []) ≡ None) }
+        ensures err { let view : Viewed = record { doc = self.old; own = widget.old; others = map own_in others.old } in
+            let edited = (with_pieces_at view place pieces.now rest.now).doc in
+            IfErr result (λ fault. (fault ≡ Fault.NoMemory)
+            ⊎ (first_of (clock_check edited.count ∷ cell_check self.old.limit (length edited.cells) ∷ []) ≡ Some fault)) }
+        ensures unchanged { OnErr result ((self.new ≡ self.old) × (widget.new ≡ widget.old) × (map own_in others.new ≡ map own_in others.old)) }
+        ensures own { IsOwnOf (length (text_of self.new.cells)) widget.new }
+        ensures others { AllByRecursion (IsOwnOf (length (text_of self.new.cells))) (map own_in others.new) }
+    {
+        let mut plan = plan;
+        // Its clauses say where the place lies; the value isn't needed.
+        let _ = self.kept();
+        let at = stretch.begin + place;
+        let drafts = replace(&mut plan.drafts, Few::none(self.alloc));
+        make_planned(
+            &mut self.replica,
+            &mut self.tags,
+            &mut widget.parts.selection,
+            others,
+            drafts,
+            &plan,
+        )?;
+        select_all(
+            &mut widget.parts.selection,
+            others,
+            &plan.selected,
+            &plan.between,
+        );
+        insert_all(&mut self.marks, widget, others, at, plan.characters);
+        list_tags(&mut self.tags, &plan.names);
+        Ok(())
+    }
+
+    // Puts them in by a plan of pieces of any number, where typing isn't all: a function of its own, out of typing's way.
+    #[inline(never)]
+    fn insert_pieces(
+        &mut self,
+        widget: &mut Widget,
+        others: &mut [Parts],
+        stretch: Stretch,
+        place: usize,
+        pieces: &[Piece],
+        rest: &str,
+    ) -> Result<(), Fault>
+        requires stretch { stretch ≡ stretch_of self.old.cells widget.old.limits }
+        requires place { place < length (shown_part self.old.cells widget.old.limits) }
+        requires pieces { All IsPiece pieces.now }
+        requires own { IsOwnOf (length (text_of self.old.cells)) widget.old }
+        requires others { AllByRecursion (IsOwnOf (length (text_of self.old.cells))) (map own_in others.old) }
+        ensures ok { let view : Viewed = record { doc = self.old; own = widget.old; others = map own_in others.old } in
+            OnOk result (record { doc = self.new; own = widget.new; others = map own_in others.new } ≡ with_pieces_at view place pieces.now rest.now) }
+        ensures checked { OnOk result (first_of (clock_check self.new.count ∷ cell_check self.old.limit (length self.new.cells) ∷ []) ≡ None) }
+        ensures err { let view : Viewed = record { doc = self.old; own = widget.old; others = map own_in others.old } in
+            let edited = (with_pieces_at view place pieces.now rest.now).doc in
+            IfErr result (λ fault. (fault ≡ Fault.NoMemory)
+            ⊎ (first_of (clock_check edited.count ∷ cell_check self.old.limit (length edited.cells) ∷ []) ≡ Some fault)) }
+        ensures unchanged { OnErr result ((self.new ≡ self.old) × (widget.new ≡ widget.old) × (map own_in others.new ≡ map own_in others.old)) }
+        ensures own { IsOwnOf (length (text_of self.new.cells)) widget.new }
+        ensures others { AllByRecursion (IsOwnOf (length (text_of self.new.cells))) (map own_in others.new) }
+    {
+        match self.planned_insertion(widget, stretch, place, pieces, rest) {
+            Ok(plan) => self.insert_planned(widget, others, stretch, place, pieces, rest, plan),
+            Err(fault) => Err(fault),
+        }
+    }
+
     // Puts pieces of text and characters without a list before the character at a place of the stretch that is shown.
+    #[inline(always)]
     pub(crate) fn insert_at(
         &mut self,
         widget: &mut Widget,
@@ -98,30 +232,10 @@ impl<S: TextStore> Doc<S> {
         ensures own { IsOwnOf (length (text_of self.new.cells)) widget.new }
         ensures others { AllByRecursion (IsOwnOf (length (text_of self.new.cells))) (map own_in others.new) }
     {
-        let mut plan = match self.planned_insertion(widget, stretch, place, pieces, rest) {
-            Ok(plan) => plan,
-            Err(fault) => return Err(fault),
-        };
-        let _ = self.kept();
-        let at = stretch.begin + place;
-        let drafts = replace(&mut plan.drafts, Few::none(self.alloc));
-        make_planned(
-            &mut self.replica,
-            &mut self.tags,
-            &mut widget.parts.selection,
-            others,
-            drafts,
-            &plan,
-        )?;
-        select_all(
-            &mut widget.parts.selection,
-            others,
-            &plan.selected,
-            &plan.between,
-        );
-        insert_all(&mut self.marks, widget, others, at, plan.characters);
-        list_tags(&mut self.tags, &plan.names);
-        Ok(())
+        match self.planned_typing(widget, stretch, place, pieces, rest) {
+            Some(plan) => self.insert_planned(widget, others, stretch, place, pieces, rest, plan),
+            None => self.insert_pieces(widget, others, stretch, place, pieces, rest),
+        }
     }
 
     // Removes the characters in ranges.

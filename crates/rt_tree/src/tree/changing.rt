@@ -19,6 +19,7 @@ use rt_stamps::limits::MOST_CELLS;
 use rt_stamps::{Fault, Span};
 use rt_store::Cell;
 use rt_tags::{StateId, StateTable};
+use std::slice;
 
 // So many, or 32 where that is more and `most` allows it: what is typed asks for room character by character.
 fn ahead(asked: usize, most: usize) -> usize
@@ -31,6 +32,7 @@ fn ahead(asked: usize, most: usize) -> usize
 impl Tree {
     /// Makes room for new cells, for cuts of runs, and for counts of so many tags, and keeps what was there. `NoMemory` changes
     /// nothing; it is also the answer where the cells would be too many, or nodes without number.
+    #[inline(always)]
     pub fn reserve(&mut self, cells: usize, cuts: usize, tags: usize) -> Result<(), Fault>
         ensures same { OnOk result (self.new ≡ record self.old { room = self.new.room }) }
         ensures ok { OnOk result (HasRoom self.new.room cells cuts tags) }
@@ -42,6 +44,18 @@ impl Tree {
         if cells <= self.spare_cells && cuts <= self.spare_cuts && tags <= self.spare_tags {
             return Ok(());
         }
+        self.reserve_more(cells, cuts, tags)
+    }
+
+    // Makes the room that there isn't yet, as `reserve` does.
+    #[inline(never)]
+    fn reserve_more(&mut self, cells: usize, cuts: usize, tags: usize) -> Result<(), Fault>
+        ensures same { OnOk result (self.new ≡ record self.old { room = self.new.room }) }
+        ensures ok { OnOk result (HasRoom self.new.room cells cuts tags) }
+        ensures kept { HasRoom self.new.room self.old.room.cells self.old.room.cuts self.old.room.tags }
+        ensures unchanged { OnErr result (self.new ≡ self.old) }
+        ensures err { IsOkUnless result Fault.NoMemory }
+    {
         let left = MOST_CELLS - self.text.len();
         let cells = ahead(cells.max(self.spare_cells), left);
         let cuts = ahead(cuts.max(self.spare_cuts), usize::MAX);
@@ -123,6 +137,28 @@ impl Tree {
     /// other stretch of them becomes a run, or each of its cells one, if a stamp of it is there
     /// already. Takes no memory.
     pub fn splice(&mut self, states: &StateTable, at: usize, cells: &[Cell<StateId>])
+        requires within { at < length self.old.cells }
+        requires room { HasRoom self.old.room (length cells.now) 1 (length states.now.names) }
+        requires states { AreStates states.now cells.now }
+        requires agrees { Agrees states.now self.old }
+        ensures cells { self.new.cells ≡ put_at at cells.now self.old.cells }
+        ensures most { self.new.runs ≤ self.old.runs + length cells.now + 1 }
+        ensures runs { AreDistinct self.new.cells → self.new.runs ≤ self.old.runs + stretches cells.now + 1 }
+        ensures room { Spends self.old.room self.new.room (length cells.now) 1 }
+        ensures agrees { Agrees states.now self.new }
+        ensures own { HasOwn self.new }
+    {
+        // A single cell, as typing makes it, is put in without the steps of a list.
+        if cells.len() == 1 {
+            self.splice_cells(states, at, slice::from_ref(&cells[0]))
+        } else {
+            self.splice_cells(states, at, cells)
+        }
+    }
+
+    // Puts new cells in, as `splice` does.
+    #[inline(always)]
+    fn splice_cells(&mut self, states: &StateTable, at: usize, cells: &[Cell<StateId>])
         requires within { at < length self.old.cells }
         requires room { HasRoom self.old.room (length cells.now) 1 (length states.now.names) }
         requires states { AreStates states.now cells.now }

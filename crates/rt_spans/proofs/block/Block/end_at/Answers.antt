@@ -21,7 +21,7 @@ returns-then-not-has_until-clause-ends g c =
     λ first less near.
     let self = c.args.self.now in
     let later = c.has_until.ensures.later c.if-not-has_until.true in
-    ends_inserted first _ self.head self.rest.items c.insert_entry.new.entries.items c.args.place c.entry_before.result c.new.result c.requires.rising less near c.entry_before.ensures (ap (λ (s : Stamp). rank s.site s.count) c.new.ensures.from) (c.new.ensures.value ∙ c.value-value.ensures) (λ d l. later d (omega (arith, l))) c.insert_entry.ensures.items
+    ends_inserted first _ self.head self.rest.items c.put_entry.new.entries.items c.args.place c.entry_before.result c.new.result c.requires.rising less near c.entry_before.ensures (ap (λ (s : Stamp). rank s.site s.count) c.new.ensures.from) (c.new.ensures.value ∙ c.value-value.ensures) (λ d l. later d (omega (arith, l))) c.put_entry.ensures.items
 
 pub returns-then-is_before-clause-ends : goal.returns-then-is_before-clause-ends
 returns-then-is_before-clause-ends g c =

@@ -16,7 +16,7 @@ use Rattle.rt_tree.proofs.Cutting.{runs_few}
 use Rattle.rt_tree.proofs.Housing.{home_keeps}
 use Rattle.rt_tree.proofs.Roomier.{room_kept, room_nodes, room_runs, room_shown, room_sums, sums_shown}
 use Rattle.rt_tree.proofs.Roomier.{map_housed, room_housed}
-use Rattle.rt_tree.proofs.tree.Tree.reserve.Goals as goal
+use Rattle.rt_tree.proofs.tree.Tree.reserve_more.Goals as goal
 
 pub overflow_add-self-inside : goal.overflow_add-self-inside
 overflow_add-self-inside c =

@@ -16,7 +16,7 @@ use Rattle.rt_tree.proofs.Splicing.{longer_cells, longer_count, longer_ends, lon
 use Rattle.rt_tree.proofs.Showing.{kept_told, own_states, right_from, states_given}
 use Rattle.rt_tree.proofs.Sure.{once_before, once_together}
 use Rattle.rt_tree.proofs.Tallying.{newlines_few, visible_few}
-use Rattle.rt_tree.proofs.tree.Tree.splice.Goals as goal
+use Rattle.rt_tree.proofs.tree.Tree.splice_cells.Goals as goal
 
 pub counts_with-self-inside-requires-clause-few : goal.counts_with-self-inside-requires-clause-few
 counts_with-self-inside-requires-clause-few c =

@@ -1,14 +1,11 @@
 use Rattle.rt_text.proofs.Room.{before_fits, grown_fits, mark_fits, visible_fits}
 use Rattle.rt_stamps.specs.declared.stamp.Stamp.{Stamp}
-use Rattle.std.proofs.Common.{◌≡◌, ℕ, ◌∙◌, ◌<◌, ◌≤◌, ◌+◌, ◌^◌, ◌-◌, All, ◌⊎◌, [], ◌∷◌, Some, ap, inl, inr, length, map, refl, string_bytes, subst, sym, List, Option, true}
+use Rattle.std.proofs.Common.{◌≡◌, ℕ, ◌∙◌, ◌<◌, ◌≤◌, ◌+◌, ◌^◌, ◌-◌, All, ◌⊎◌, ap, inl, inr, length, map, refl, string_bytes, subst, sym, List, true}
 use Rattle.std.specs.List.{AllByRecursion}
 use Rattle.std.proofs.lemmas.List.{length-map}
 use Rattle.std.proofs.lemmas.Result.{err_from_is_err_and}
 use Rattle.rt_marks.specs.Marks.{mark_inserted, marks_inserted}
 use Rattle.rt_ops.specs.Edits.{body_of}
-use Rattle.rt_stamps.specs.declared.fault.Fault.{Fault}
-use Rattle.rt_stamps.specs.declared.fault.Fault.TheVariants.{ClockSpent, NoMemory}
-use Rattle.rt_stamps.specs.declared.limits.TheConstants.{GREATEST_COUNT}
 use Rattle.rt_stamps.specs.Outcomes.{first_of}
 use Rattle.rt_stamps.specs.Words.{as_words}
 use Rattle.rt_store.specs.Cells.{text_of, visible_of}
@@ -29,19 +26,18 @@ use Rattle.rt_edits.specs.Selections.{with_stamps}
 use Rattle.rt_edits.proofs.PlaceLaws.{length_text, text_within}
 use Rattle.rt_views.specs.declared.stretch.Stretch.{Stretch}
 use Rattle.rt_views.specs.Stretches.{shown_part}
-use Rattle.rt_text.specs.Commands.{cell_check, with_pieces_at}
+use Rattle.rt_text.specs.Commands.{with_pieces_at}
 use Rattle.rt_text.specs.Kept.{IsDoc}
 use Rattle.rt_text.specs.Parts.{own_in}
-use Rattle.rt_text.specs.Widgets.{IsOwnOf, Own, Viewed, in_text, own_inserted, selections_of, with_selections}
+use Rattle.rt_text.specs.Widgets.{IsOwnOf, Own, in_text, own_inserted, selections_of, with_selections}
 use Rattle.rt_text.proofs.InsertedDocument.{all_fit, kept_made, made_drafts, made_flat, made_is, made_new, may_make, names_given, others_made, own_made, put_made, refused_as, refused_made}
 use Rattle.rt_text.proofs.InsertedSides.{IsPlace, at_visible}
-use Rattle.rt_text.proofs.KeptDocument.{clock_spent}
 use Rattle.rt_text.proofs.MadeDocument.{seen, seen_made}
 use Rattle.rt_text.proofs.MarkLaws.{own_of_selecting, site_fits}
 use Rattle.rt_text.proofs.PeerLaws.{each_by, each_room, put_each, selecting}
 use Rattle.rt_text.proofs.PutLaws.{late_checks, visible_same}
 use Rattle.rt_text.proofs.ViewLaws.{viewed}
-use Rattle.rt_text.proofs.doc.Doc.insert_at.Goals as goal
+use Rattle.rt_text.proofs.doc.Doc.insert_planned.Goals as goal
 
 which : {X M : Type 0} {r checked some : X} → M ⊎ (r ≡ some) → r ≡ checked → M ⊎ (checked ≡ some)
 which (inl e) s = inl e
@@ -53,25 +49,6 @@ place_is flat own others place h doc real l = record {
   document = doc;
   real = real;
   within = subst (λ n. place < n) (sym (length-map (shown_part flat.cells own.limits) (λ (cell : TaggedCell). cell.ch))) l;
-}
-
--- counts that are too great are refused first
-spent : (flat : Flat) (edited : List Own → Viewed) (others : List Own) (fault : Fault) → (fault ≡ NoMemory) ⊎ ((fault ≡ ClockSpent) × ((o : List Own) → GREATEST_COUNT < (edited o).doc.count))
-    → (fault ≡ NoMemory) ⊎ (first_of (late_checks flat (edited others)) ≡ Some fault)
-spent flat edited others fault (inl e) = inl e
-spent flat edited others fault (inr p) =
-    let view = edited others in
-    inr (ap (λ (o : Option Fault). first_of (o ∷ cell_check flat.limit (length view.doc.cells) ∷ [])) (clock_spent view.doc.count (p.1 others)) ∙ ap (λ (x : Fault). Some x) (sym p.0))
-
-pub returns-in-Err : goal.returns-in-Err
-returns-in-Err g c = record {
-  ok = tt;
-  checked = tt;
-  err = spent c.args.self.now (λ (o : List Own). with_pieces_at (record { doc = c.args.self.now; own = c.args.widget.now; others = o }) c.args.place c.args.pieces.now c.args.rest.now)
-      (map own_in c.args.others.now) c.in-Err.fault c.in-Err.ensures.err;
-  unchanged = (refl, refl, refl);
-  own = c.requires.own;
-  others = c.requires.others;
 }
 
 pub overflow_add-at : goal.overflow_add-at
@@ -96,10 +73,10 @@ make_planned-requires-clause-names g c =
     let rest = c.args.rest.now in
     let place = c.args.place in
     let is = place_is flat own others place c.kept.ensures.history c.kept.ensures.document c.kept.ensures.site c.requires.place in
-    let plans : Plans c.in-Ok.plan own.sel (selections_of others) flat.tags (made_new flat own others place pieces rest) =
-    c.in-Ok.ensures.plans others in
+    let plans : Plans c.args.plan own.sel (selections_of others) flat.tags (made_new flat own others place pieces rest) =
+    c.requires.plans others in
     let listed : AreListed flat.tags flat.cells = subst (λ (f : Flat). AreListed f.tags f.cells) c.self.view_is c.self.invariant.listed in
-    names_given flat own others place pieces rest is c.in-Ok.plan plans c.requires.pieces listed
+    names_given flat own others place pieces rest is c.args.plan plans c.requires.pieces listed
 
 pub make_planned-requires-clause-may : goal.make_planned-requires-clause-may
 make_planned-requires-clause-may g c =
@@ -111,7 +88,7 @@ make_planned-requires-clause-may g c =
     let place = c.args.place in
     let is = place_is flat own others place c.kept.ensures.history c.kept.ensures.document c.kept.ensures.site c.requires.place in
     let drafts : map body_of (items_in c.replace-drafts.result) ≡ made_drafts flat own others place pieces rest =
-    ap (λ few. map body_of (items_in few)) c.replace-drafts.ensures.value ∙ c.in-Ok.ensures.drafts others in
+    ap (λ few. map body_of (items_in few)) c.replace-drafts.ensures.value ∙ c.requires.drafts others in
     let may : MayBeMade flat.site flat.log (made_drafts flat own others place pieces rest) =
     may_make flat own others place pieces rest is c.requires.pieces c.utf8.rest in
     subst (λ (p : _). p) (λ i. MayBeMade (sym c.self.view_is i).site (sym c.self.view_is i).log (sym drafts i)) may
@@ -130,7 +107,7 @@ returns-in_err-make_planned g c =
     let place = c.args.place in
     let is = place_is flat own others place c.kept.ensures.history c.kept.ensures.document c.kept.ensures.site c.requires.place in
     let drafts : map body_of (items_in c.replace-drafts.result) ≡ made_drafts flat own others place pieces rest =
-    ap (λ few. map body_of (items_in few)) c.replace-drafts.ensures.value ∙ c.in-Ok.ensures.drafts others in
+    ap (λ few. map body_of (items_in few)) c.replace-drafts.ensures.value ∙ c.requires.drafts others in
     let same : refusal_of c.self.inside.replica.limit (map body_of (items_in c.replace-drafts.result)) c.self.inside.replica.log ≡ first_of (late_checks flat (with_pieces_at (viewed flat own others) place pieces rest)) =
     (λ i. refusal_of (c.self.view_is i).limit (drafts i) (c.self.view_is i).log) ∙ refused_as flat own others place pieces rest is in
     let (y, is, gives) = err_from_is_err_and c.from_residual.result c.from_residual.ensures.1 in
@@ -159,23 +136,23 @@ insert_all-requires g c =
     let place = c.args.place in
     let is = place_is flat own others place c.kept.ensures.history c.kept.ensures.document c.kept.ensures.site c.requires.place in
     let drafts : map body_of (items_in c.replace-drafts.result) ≡ made_drafts flat own others place pieces rest =
-    ap (λ few. map body_of (items_in few)) c.replace-drafts.ensures.value ∙ c.in-Ok.ensures.drafts others in
-    let plans : Plans c.in-Ok.plan own.sel (selections_of others) flat.tags (made_new flat own others place pieces rest) =
-    c.in-Ok.ensures.plans others in
+    ap (λ few. map body_of (items_in few)) c.replace-drafts.ensures.value ∙ c.requires.drafts others in
+    let plans : Plans c.args.plan own.sel (selections_of others) flat.tags (made_new flat own others place pieces rest) =
+    c.requires.plans others in
     let fit = all_fit flat own others place pieces rest is
     (sym (λ i. refusal_of (c.self.view_is i).limit (drafts i) (c.self.view_is i).log) ∙ c.in_ok-make_planned.ensures.fits) in
-    let characters : c.in-Ok.plan.characters ≡ length (made_new flat own others place pieces rest).cells = plans.characters in
+    let characters : c.args.plan.characters ≡ length (made_new flat own others place pieces rest).cells = plans.characters in
     let many : length (text_of c.self.inside.replica.cells) ≡ length (text_of flat.cells) = ap (λ (f : Flat). length (text_of f.cells)) c.self.view_is in
-    let few : length (text_of flat.cells) + c.in-Ok.plan.characters ≤ 2 ^ 64 - 1 =
-    grown_fits (length (text_of flat.cells)) (length flat.cells) (length (made_new flat own others place pieces rest).cells) c.in-Ok.plan.characters flat.limit fit.1 characters (text_within flat.cells) c.kept.ensures.most in
-    let between = c.in-Ok.plan.between in
+    let few : length (text_of flat.cells) + c.args.plan.characters ≤ 2 ^ 64 - 1 =
+    grown_fits (length (text_of flat.cells)) (length flat.cells) (length (made_new flat own others place pieces rest).cells) c.args.plan.characters flat.limit fit.1 characters (text_within flat.cells) c.kept.ensures.most in
+    let between = c.args.plan.between in
     let now : map own_in c.select_all.new.others ≡ map (selecting between) others = c.select_all.ensures.others ∙ ap (map (selecting between)) c.make_planned.ensures.others in
     let n = length (text_of flat.cells) in
     record {
-      marks = site_fits (length (text_of c.self.inside.replica.cells)) c.in-Ok.plan.characters (2 ^ 64 - 1) c.self.inside.marks (subst (λ n. n + c.in-Ok.plan.characters ≤ 2 ^ 64 - 1) (sym many) few) c.self.invariant.placed;
-      insert = before_fits c.widget.inside.parts.insert.place own.insert.place (length (text_of flat.cells)) c.in-Ok.plan.characters (2 ^ 64 - 1) (ap (λ (o : Own). o.insert.place) c.widget.view_is) c.requires.own.insert few;
-      current = mark_fits c.widget.inside.parts.current.place own.current.place (length (text_of flat.cells)) c.in-Ok.plan.characters (2 ^ 64 - 1) (ap (λ (o : Own). o.current.place) c.widget.view_is) c.requires.own.current few;
-      others = each_room n c.in-Ok.plan.characters (2 ^ 64 - 1) c.select_all.new.others few
+      marks = site_fits (length (text_of c.self.inside.replica.cells)) c.args.plan.characters (2 ^ 64 - 1) c.self.inside.marks (subst (λ n. n + c.args.plan.characters ≤ 2 ^ 64 - 1) (sym many) few) c.self.invariant.placed;
+      insert = before_fits c.widget.inside.parts.insert.place own.insert.place (length (text_of flat.cells)) c.args.plan.characters (2 ^ 64 - 1) (ap (λ (o : Own). o.insert.place) c.widget.view_is) c.requires.own.insert few;
+      current = mark_fits c.widget.inside.parts.current.place own.current.place (length (text_of flat.cells)) c.args.plan.characters (2 ^ 64 - 1) (ap (λ (o : Own). o.current.place) c.widget.view_is) c.requires.own.current few;
+      others = each_room n c.args.plan.characters (2 ^ 64 - 1) c.select_all.new.others few
           (subst (AllByRecursion (IsOwnOf n)) (sym now) (each_by (IsOwnOf n) (IsOwnOf n) (selecting between) (λ other stands. own_of_selecting n other _ stands) others c.requires.others));
     }
 
@@ -188,11 +165,11 @@ list_tags-requires-clause-names g c =
     let rest = c.args.rest.now in
     let place = c.args.place in
     let is = place_is flat own others place c.kept.ensures.history c.kept.ensures.document c.kept.ensures.site c.requires.place in
-    let plans : Plans c.in-Ok.plan own.sel (selections_of others) flat.tags (made_new flat own others place pieces rest) =
-    c.in-Ok.ensures.plans others in
+    let plans : Plans c.args.plan own.sel (selections_of others) flat.tags (made_new flat own others place pieces rest) =
+    c.requires.plans others in
     let listed : AreListed flat.tags flat.cells = subst (λ (f : Flat). AreListed f.tags f.cells) c.self.view_is c.self.invariant.listed in
     subst (All (λ w. IsName (string_bytes w))) (sym c.deref-2.ensures.value)
-    (names_given flat own others place pieces rest is c.in-Ok.plan plans c.requires.pieces listed)
+    (names_given flat own others place pieces rest is c.args.plan plans c.requires.pieces listed)
 
 pub invariant_of-self-2 : goal.invariant_of-self-2
 invariant_of-self-2 g c =
@@ -208,9 +185,9 @@ invariant_of-self-2 g c =
     ap (λ (y : Stretch). y.begin + place) c.requires.stretch in
     let is = place_is flat own others place c.kept.ensures.history c.kept.ensures.document c.kept.ensures.site c.requires.place in
     let drafts : map body_of (items_in c.replace-drafts.result) ≡ made_drafts flat own others place pieces rest =
-    ap (λ few. map body_of (items_in few)) c.replace-drafts.ensures.value ∙ c.in-Ok.ensures.drafts others in
-    let plans : Plans c.in-Ok.plan own.sel (selections_of others) flat.tags (made_new flat own others place pieces rest) =
-    c.in-Ok.ensures.plans others in
+    ap (λ few. map body_of (items_in few)) c.replace-drafts.ensures.value ∙ c.requires.drafts others in
+    let plans : Plans c.args.plan own.sel (selections_of others) flat.tags (made_new flat own others place pieces rest) =
+    c.requires.plans others in
     let fit = all_fit flat own others place pieces rest is
     (sym (λ i. refusal_of (c.self.view_is i).limit (drafts i) (c.self.view_is i).log) ∙ c.in_ok-make_planned.ensures.fits) in
     let new = made_new flat own others place pieces rest in
@@ -222,7 +199,7 @@ invariant_of-self-2 g c =
     seen_made flat edited bodies c.make_planned.new.replica log c.in_ok-make_planned.ensures.cells (c.make_planned.ensures.site ∙ ap (λ (f : Flat). f.site) c.self.view_is) (c.make_planned.ensures.limit ∙ ap (λ (f : Flat). f.limit) c.self.view_is) refl made in
     let marks : c.insert_all.new.marks ≡ edited.marks = c.insert_all.ensures.marks ∙ (λ i. marks_inserted (here i) (plans.characters i) (c.self.view_is i).marks) in
     let tags : c.list_tags.new.table.names ≡ edited.tags =
-    c.list_tags.ensures ∙ (λ i. all_listed (as_words (c.deref-2.ensures.value i)) (c.make_planned.ensures.tags i)) ∙ ap (λ (f : Flat). all_listed (as_words c.in-Ok.plan.names.items) f.tags) c.self.view_is ∙ plans.tags in
+    c.list_tags.ensures ∙ (λ i. all_listed (as_words (c.deref-2.ensures.value i)) (c.make_planned.ensures.tags i)) ∙ ap (λ (f : Flat). all_listed (as_words c.args.plan.names.items) f.tags) c.self.view_is ∙ plans.tags in
     let kept = kept_made flat own others place pieces rest is c.requires.pieces (subst (λ (f : Flat). IsDoc f.cells f.marks f.tags) c.self.view_is c.self.invariant) in
     subst (λ (p : _). p) (λ i. IsDoc (sym doc i).cells (sym marks i) (sym tags i)) kept
 
@@ -240,9 +217,9 @@ returns g c =
     ap (λ (y : Stretch). y.begin + place) c.requires.stretch in
     let is = place_is flat own others place c.kept.ensures.history c.kept.ensures.document c.kept.ensures.site c.requires.place in
     let drafts : map body_of (items_in c.replace-drafts.result) ≡ made_drafts flat own others place pieces rest =
-    ap (λ few. map body_of (items_in few)) c.replace-drafts.ensures.value ∙ c.in-Ok.ensures.drafts others in
-    let plans : Plans c.in-Ok.plan own.sel (selections_of others) flat.tags (made_new flat own others place pieces rest) =
-    c.in-Ok.ensures.plans others in
+    ap (λ few. map body_of (items_in few)) c.replace-drafts.ensures.value ∙ c.requires.drafts others in
+    let plans : Plans c.args.plan own.sel (selections_of others) flat.tags (made_new flat own others place pieces rest) =
+    c.requires.plans others in
     let fit = all_fit flat own others place pieces rest is
     (sym (λ i. refusal_of (c.self.view_is i).limit (drafts i) (c.self.view_is i).log) ∙ c.in_ok-make_planned.ensures.fits) in
     let listed : AreListed flat.tags flat.cells = subst (λ (f : Flat). AreListed f.tags f.cells) c.self.view_is c.self.invariant.listed in
@@ -255,18 +232,18 @@ returns g c =
     seen_made flat edited bodies c.make_planned.new.replica log c.in_ok-make_planned.ensures.cells (c.make_planned.ensures.site ∙ ap (λ (f : Flat). f.site) c.self.view_is) (c.make_planned.ensures.limit ∙ ap (λ (f : Flat). f.limit) c.self.view_is) refl made in
     let marks : c.insert_all.new.marks ≡ edited.marks = c.insert_all.ensures.marks ∙ (λ i. marks_inserted (here i) (plans.characters i) (c.self.view_is i).marks) in
     let tags : c.list_tags.new.table.names ≡ edited.tags =
-    c.list_tags.ensures ∙ (λ i. all_listed (as_words (c.deref-2.ensures.value i)) (c.make_planned.ensures.tags i)) ∙ ap (λ (f : Flat). all_listed (as_words c.in-Ok.plan.names.items) f.tags) c.self.view_is ∙ plans.tags in
+    c.list_tags.ensures ∙ (λ i. all_listed (as_words (c.deref-2.ensures.value i)) (c.make_planned.ensures.tags i)) ∙ ap (λ (f : Flat). all_listed (as_words c.args.plan.names.items) f.tags) c.self.view_is ∙ plans.tags in
     let sel : selected_stamps c.widget.inside.parts.selection ≡ own.sel = ap (λ (o : Own). o.sel) c.widget.view_is in
     let own_now : Own = own_in c.widget.inside.parts in
     let stamps : selected_stamps c.select_all.new.selection ≡ new.sel =
-    c.select_all.ensures.selection ∙ (λ i. with_stamps (c.deref.ensures.value i) (c.make_planned.ensures.selection i)) ∙ ap (with_stamps c.in-Ok.plan.selected.items) sel ∙ plans.sel in
+    c.select_all.ensures.selection ∙ (λ i. with_stamps (c.deref.ensures.value i) (c.make_planned.ensures.selection i)) ∙ ap (with_stamps c.args.plan.selected.items) sel ∙ plans.sel in
     let own_after : c.insert_all.new.widget ≡ record (own_inserted point (length new.cells) own) { sel = new.sel } =
     c.insert_all.ensures.own
     ∙ (λ i. record { insert = mark_inserted (here i) (plans.characters i) own_now.insert; current = mark_inserted (here i) (plans.characters i) own_now.current; sel = stamps i; limits = own_now.limits })
     ∙ ap (λ (o : Own). record (own_inserted point (length new.cells) o) { sel = new.sel }) c.widget.view_is in
     let others_after : map own_in c.insert_all.new.others ≡ with_selections new.others (map (own_inserted point (length new.cells)) others) =
-    c.insert_all.ensures.others ∙ ap (map (own_inserted at c.in-Ok.plan.characters)) (c.select_all.ensures.others ∙ ap (map (selecting c.in-Ok.plan.between)) c.make_planned.ensures.others)
-    ∙ (λ i. map (own_inserted (here i) (plans.characters i)) (map (selecting c.in-Ok.plan.between) others)) ∙ put_each point (length new.cells) c.in-Ok.plan.between others
+    c.insert_all.ensures.others ∙ ap (map (own_inserted at c.args.plan.characters)) (c.select_all.ensures.others ∙ ap (map (selecting c.args.plan.between)) c.make_planned.ensures.others)
+    ∙ (λ i. map (own_inserted (here i) (plans.characters i)) (map (selecting c.args.plan.between) others)) ∙ put_each point (length new.cells) c.args.plan.between others
     ∙ ap (λ l. with_selections l (map (own_inserted point (length new.cells)) others)) plans.others in
     record {
       ok = (λ i. record { doc = seen c.make_planned.new.replica (marks i) (tags i); own = own_after i; others = others_after i })

@@ -4,7 +4,7 @@ use Rattle.rt_tree.specs.Homes.{AreOnceEach, KeepsAll, KeepsOthers}
 use Rattle.rt_tree.specs.Shape.{IsTree, tree_runs}
 use Rattle.rt_tree.specs.Skips.{HasCells}
 use Rattle.rt_tree.specs.Standing.{HaveLeavesBelow, IsBordered}
-use Rattle.rt_tree.proofs.homes.Homes.note_new.Given as goal
+use Rattle.rt_tree.proofs.homes.Homes.retell_new.Given as goal
 
 -- the runs of the first nodes are told
 abbrev pub invariant-loop-index : goal.invariant-loop-index

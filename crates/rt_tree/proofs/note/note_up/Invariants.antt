@@ -4,7 +4,7 @@ use Rattle.rt_tree.specs.Changes.{above}
 use Rattle.rt_tree.specs.Shape.{level_of}
 use Rattle.rt_tree.specs.Summaries.{shown_before, shown_behind, summary_of}
 use Rattle.rt_tree.proofs.Noting.{AreRightBelow}
-use Rattle.rt_tree.proofs.note.note.Given as goal
+use Rattle.rt_tree.proofs.note.note_up.Given as goal
 
 abbrev pub invariant-loop-level : goal.invariant-loop-level
 invariant-loop-level l = record {
