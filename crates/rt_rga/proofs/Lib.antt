@@ -43,6 +43,7 @@ pub mod StateRuns
 pub mod TagWrites
 pub mod Texts
 pub mod Trees
+pub mod Typing
 pub mod Within
 pub mod Writes
 pub mod Zero

@@ -13,11 +13,10 @@ use Rattle.rt_store.specs.declared.cell.Cell.{Cell}
 use Rattle.rt_store.specs.Cells.{after_element, IsPlaced, position_of, put_at, skip_from, stamps_of}
 use Rattle.rt_store.specs.Shown.{shown, TaggedCell}
 use Rattle.rt_store.specs.Spans.{gone_in_any, is_in_spans}
-use Rattle.rt_store.specs.Tagged.{AreStates}
 use Rattle.rt_store.proofs.Gone.{length_stays, stamps_stay}
 use Rattle.rt_store.proofs.Places.{length_from, length_put, past, past_is}
 use Rattle.rt_store.proofs.Shown.{gone_shown, position_map, skip_shown}
-use Rattle.rt_tags.specs.States.{IsState, TagStates, Write, state_at, written}
+use Rattle.rt_tags.specs.States.{TagStates, Write, state_at, written}
 use Rattle.rt_tags.specs.Writers.{listed_by, state_after}
 use Rattle.std.proofs.lemmas.Bool.Decides.{nat_tests}
 use Rattle.std.specs.List.{AllByRecursion}

@@ -4,7 +4,7 @@ use Rattle.std.specs.Prelude.{nat_le}
 use Rattle.std.proofs.lemmas.Bool.{and_from, and_parts, cond-true, cond-false, eqb-true}
 use Rattle.std.proofs.lemmas.Bool.Decides.{nat_tests}
 use Rattle.std.proofs.lemmas.List.{drop_more, drop_all}
-use Rattle.std.proofs.lemmas.List.Elements.{All-map, All-head, All-tail, All-cons, All-nil}
+use Rattle.std.proofs.lemmas.List.Elements.{All-head, All-tail, All-cons, All-nil}
 use Rattle.std.specs.List.{list_all}
 use Rattle.rt_stamps.specs.declared.stamp.Span.{Span}
 use Rattle.rt_stamps.specs.declared.stamp.Stamp.{Stamp}

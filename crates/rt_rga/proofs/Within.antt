@@ -1,6 +1,6 @@
 -- A replica after a call.
-use Rattle.std.proofs.Common.{◌≡◌, ℕ, ◌+◌, ◌≤◌, Bool, true, false, refl, sym, ap, subst, ◌∙◌, arith, List, length, map, max, Ok, Err, Result}
-use Rattle.std.specs.Prelude.{OnErr, nat_lt, Option, Some, None, option_map, slice_get, unwrap_or}
+use Rattle.std.proofs.Common.{◌≡◌, ℕ, ◌+◌, ◌≤◌, Bool, true, false, refl, sym, ap, subst, ◌∙◌, arith, List, length, map, max}
+use Rattle.std.specs.Prelude.{nat_lt, Option, Some, None, option_map, slice_get, unwrap_or}
 use Rattle.std.proofs.lemmas.Bool.Decides.{nat_tests}
 use Rattle.rt_stamps.specs.declared.stamp.Stamp.{Stamp}
 use Rattle.rt_ops.specs.Operations.{Operation, Body, Insert, Delete, Tag, Name, last_count, stamp_of}

@@ -2,7 +2,8 @@
 use Rattle.std.specs.Prelude.{◌≡◌, ℕ, ◌+◌, ◌≤◌, true, List, [], ◌∷◌}
 use Rattle.std.specs.List.{list_all}
 use Rattle.rt_stamps.specs.declared.limits.TheConstants.{GREATEST_COUNT}
-use Rattle.rt_ops.specs.Operations.{Operation, Body, last_of, named}
+use Rattle.rt_stamps.specs.declared.stamp.Stamp.{Stamp}
+use Rattle.rt_ops.specs.Operations.{Operation, Body, Insert, last_of, named}
 use Rattle.rt_oplog.specs.Logs.{known_end, with_operation}
 use Rattle.rt_ops.specs.Rules.{keeps_rules}
 use Rattle.rt_rga.specs.Histories.{greatest_last_count, is_known}
@@ -19,6 +20,10 @@ operations_of site [] set = []
 operations_of site (draft ∷ drafts) set =
     let op = next_operation site draft set in
     op ∷ operations_of site drafts (with_operation op set)
+
+-- the drafts of a single character: it goes behind an element, and has no tags
+abbrev pub one_character : Stamp → ℕ → List Body
+one_character after character = Insert after [] (character ∷ []) ∷ []
 
 -- a set with operations more
 abbrev pub with_operations : List Operation → List Operation → List Operation

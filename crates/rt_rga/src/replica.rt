@@ -5,10 +5,11 @@ ghost use Rattle.rt_store.specs.Cells.{final_cell};
 ghost use Rattle.rt_store.specs.Tagged.{AreStates};
 ghost use Rattle.rt_tags.specs.States.{KeepsIds};
 ghost use Rattle.rt_ops.specs.Edits.{body_of};
+ghost use Rattle.rt_ops.specs.Operations.{Insert};
 ghost use Rattle.rt_oplog.specs.Logs.{with_operation};
 ghost use Rattle.rt_rga.specs.Answers.{New, Refused, answer_within, set_after};
 ghost use Rattle.rt_rga.specs.Cells.{cells_of};
-ghost use Rattle.rt_rga.specs.Drafts.{operations_of, with_drafts, with_operations};
+ghost use Rattle.rt_rga.specs.Drafts.{next_operation, one_character, operations_of, with_drafts, with_operations};
 ghost use Rattle.rt_rga.specs.Few.{items_in};
 ghost use Rattle.rt_rga.specs.Made.{refusal_of};
 ghost use Rattle.rt_rga.specs.Making.{AreNewest, ContinueInTurn, fresh_cells};
@@ -24,8 +25,9 @@ use crate::edits::change;
 use crate::few::Few;
 use crate::make::{change_all, copied, list_of, prepared, push_few};
 use crate::taken::{Change, Taken};
-use rt_oplog::{Op, OpLog};
-use rt_stamps::{Clock, Fault, Site};
+use rt_oplog::{Op, OpLog, Text};
+use rt_stamps::limits::GREATEST_COUNT;
+use rt_stamps::{Clock, Fault, Site, Stamp};
 use rt_store::TextStore;
 use rt_tags::StateTable;
 use std::alloc::Global;
@@ -326,6 +328,60 @@ impl<S: TextStore> Replica<S> {
         match drafts {
             Few::One(draft) => self.commit_few(Few::One(draft)),
             Few::Many(drafts) => self.commit_few(Few::Many(drafts)),
+        }
+    }
+
+    // The next operation, of one character behind an element, which the log and the limit of cells have room for. The
+    // faults of `make`; it takes no memory.
+    #[inline(always)]
+    fn planned_character(&self, after: Stamp, character: char) -> Result<Op, Fault>
+        requires { MayBeMade self.now.site self.now.log (one_character after character) }
+        ensures made { IfOk result (λ op. op ≡ next_operation self.now.site (Insert after [] (character ∷ [])) self.now.log) }
+        ensures fits { OnOk result (refusal_of self.now.limit (one_character after character) self.now.log ≡ None) }
+        ensures refused { IfErr result (λ fault. refusal_of self.now.limit (one_character after character) self.now.log ≡ Some fault) }
+        ensures continues { IfOk result (λ op. ContinueInTurn self.now.log (op ∷ [])) }
+        ensures newest { IfOk result (λ op. AreNewest self.now.log (op ∷ [])) }
+        ensures room { IfOk result (λ op. length self.now.cells + length (fresh_cells (op ∷ [])) ≤ self.now.limit) }
+    {
+        let last = self.clock.seen();
+        if last >= GREATEST_COUNT {
+            return Err(Fault::ClockSpent);
+        }
+        if self.store.cells() >= self.limit {
+            return Err(Fault::TextFull);
+        }
+        let site = self.site.number();
+        let stamp = Stamp {
+            count: last + 1,
+            site,
+        };
+        let insert = Draft::Insert {
+            after,
+            tags: Vec::new(self.alloc),
+            text: Text::of(character),
+        };
+        Ok(Op::of(stamp, self.log.known(site), insert))
+    }
+
+    /// Makes one operation of the site's own, as `commit` does: the Insert of one character without tags behind
+    /// an element. Refused as `make` is.
+    #[inline(always)]
+    pub fn commit_character(&mut self, after: Stamp, character: char) -> Result<(), Fault>
+        requires { MayBeMade self.old.site self.old.log (one_character after character) }
+        ensures fits { OnOk result (refusal_of self.old.limit (one_character after character) self.old.log ≡ None) }
+        ensures refused { IfErr result (λ fault. (refusal_of self.old.limit (one_character after character) self.old.log
+            ≡ Some fault) ⊎ ((fault ≡ Fault.NoMemory) × (refusal_of self.old.limit (one_character after character) self.old.log ≡ None))) }
+        ensures log { OnOk result (self.new.log ≡ with_drafts self.old.site (one_character after character) self.old.log) }
+        ensures cells { OnOk result (self.new.cells ≡ cells_of self.new.log) }
+        ensures same { OnErr result (self.new ≡ record self.old { table = self.new.table }) }
+        ensures kept { (refusal_of self.old.limit (one_character after character) self.old.log ≡ None → ⊥) → self.new ≡ self.old }
+        ensures site { self.new.site ≡ self.old.site }
+        ensures limit { self.new.limit ≡ self.old.limit }
+        ensures ids { KeepsIds self.old.table self.new.table }
+    {
+        match self.planned_character(after, character) {
+            Ok(op) => self.make_all(Few::One(op)),
+            Err(fault) => Err(fault),
         }
     }
 }

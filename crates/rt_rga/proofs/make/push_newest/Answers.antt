@@ -1,6 +1,5 @@
-use Rattle.std.proofs.Common.{◌≡◌, ◌∙◌, List, ap, arith, sym}
+use Rattle.std.proofs.Common.{◌∙◌, List, ap, arith, sym}
 use Rattle.rt_ops.specs.Operations.{Operation}
-use Rattle.rt_oplog.specs.Logs.{with_operation}
 use Rattle.rt_rga.specs.Histories.{greatest_last_count}
 use Rattle.rt_rga.proofs.Counts.{count_with}
 use Rattle.rt_rga.proofs.Drafting.{newer_than_all, newest}
