@@ -12,6 +12,7 @@ use Rattle.rt_store.specs.Cells.{cells_from, IsPlaced, put_at, skip_from}
 use Rattle.rt_store.specs.Shown.{TaggedCell}
 use Rattle.rt_store.specs.Spans.{gone_in_any, is_in_spans}
 use Rattle.rt_tags.specs.Writers.{listed_by, state_after}
+use Rattle.rt_rga.specs.Drafts.{next_operation}
 use Rattle.rt_rga.specs.Histories.{Continues, greatest_last_count}
 use Rattle.rt_rga.specs.Requests.{characters_in, characters_in_all, last_count_after}
 
@@ -32,6 +33,10 @@ abbrev pub operations_from : ℕ → ℕ → ℕ → List Body → List Operatio
 operations_from site last prev [] = []
 operations_from site last prev (draft ∷ drafts) =
     record { count = last + 1; site = site; prev = prev; body = draft } ∷ operations_from site (last_of (last + 1) draft) (last_of (last + 1) draft) drafts
+
+-- a site's next operation, if that is the Insert of one character without tags
+abbrev pub next_insert : ℕ → Stamp → ℕ → List Operation → Operation
+next_insert site after character set = next_operation site (Insert after [] (character ∷ [])) set
 
 -- the cells of the characters that operations insert
 abbrev pub fresh_by : Stamp → Body → List TaggedCell

@@ -2,6 +2,7 @@
 #![tactic(auto)]
 
 mod answer;
+mod character;
 mod describe;
 mod edits;
 pub mod examples;

@@ -81,7 +81,7 @@ impl NewCells {
 }
 
 /// The cell of a new character.
-fn new_cell(stamp: Stamp, state: StateId, ch: char) -> Cell<StateId>
+pub(crate) fn new_cell(stamp: Stamp, state: StateId, ch: char) -> Cell<StateId>
     ensures { result ≡ record { stamp = stamp; ch = ch; gone = false; state = state } }
 {
     Cell {

@@ -1,18 +1,18 @@
 // A replica: accepted operations, and the cells that are kept of them.
-ghost use Rattle.std.specs.Prelude.{◌≡◌, ◌⊎◌, ◌+◌, ◌≤◌, ◌∷◌, [], IfOk, IfErr, IsOkUnless, None, OnErr, OnOk, Some, length, map};
+ghost use Rattle.std.specs.Prelude.{◌≡◌, ◌⊎◌, ℕ, ◌+◌, ◌<◌, ◌≤◌, ◌∷◌, [], IfOk, IfErr, IsOkUnless, None, OnErr, OnOk, Some, length, map};
 ghost use Rattle.rt_stamps.specs.declared.limits.TheConstants.{MOST_CELLS};
+ghost use Rattle.rt_stamps.specs.declared.stamp.Stamp.{Stamp as StampValue};
 ghost use Rattle.rt_store.specs.Cells.{final_cell};
 ghost use Rattle.rt_store.specs.Tagged.{AreStates};
 ghost use Rattle.rt_tags.specs.States.{KeepsIds};
 ghost use Rattle.rt_ops.specs.Edits.{body_of};
-ghost use Rattle.rt_ops.specs.Operations.{Insert};
 ghost use Rattle.rt_oplog.specs.Logs.{with_operation};
 ghost use Rattle.rt_rga.specs.Answers.{New, Refused, answer_within, set_after};
 ghost use Rattle.rt_rga.specs.Cells.{cells_of};
-ghost use Rattle.rt_rga.specs.Drafts.{next_operation, one_character, operations_of, with_drafts, with_operations};
+ghost use Rattle.rt_rga.specs.Drafts.{one_character, operations_of, with_drafts, with_operations};
 ghost use Rattle.rt_rga.specs.Few.{items_in};
 ghost use Rattle.rt_rga.specs.Made.{refusal_of};
-ghost use Rattle.rt_rga.specs.Making.{AreNewest, ContinueInTurn, fresh_cells};
+ghost use Rattle.rt_rga.specs.Making.{AreNewest, ContinueInTurn, fresh_cells, next_insert};
 ghost use Rattle.rt_rga.specs.Requests.{MayBeMade};
 ghost use Rattle.rt_rga.specs.Histories.{Continues, IsHistory, greatest_last_count, inserted};
 ghost use Rattle.rt_store.specs.Shown.{shown};
@@ -20,12 +20,13 @@ ghost use Rattle.rt_rga.specs.Taken.{IsChange, TellsChange, told};
 
 use crate::Draft;
 use crate::answer::{Offer, answer_within};
+use crate::character::{push_character, put_character};
 use crate::describe::describe;
 use crate::edits::change;
 use crate::few::Few;
 use crate::make::{change_all, copied, list_of, prepared, push_few};
 use crate::taken::{Change, Taken};
-use rt_oplog::{Op, OpLog, Text};
+use rt_oplog::{Op, OpLog};
 use rt_stamps::limits::GREATEST_COUNT;
 use rt_stamps::{Clock, Fault, Site, Stamp};
 use rt_store::TextStore;
@@ -331,17 +332,16 @@ impl<S: TextStore> Replica<S> {
         }
     }
 
-    // The next operation, of one character behind an element, which the log and the limit of cells have room for. The
+    // The stamp of the site's next operation, where the counts and the limit of cells have room for one character. The
     // faults of `make`; it takes no memory.
     #[inline(always)]
-    fn planned_character(&self, after: Stamp, character: char) -> Result<Op, Fault>
-        requires { MayBeMade self.now.site self.now.log (one_character after character) }
-        ensures made { IfOk result (λ op. op ≡ next_operation self.now.site (Insert after [] (character ∷ [])) self.now.log) }
-        ensures fits { OnOk result (refusal_of self.now.limit (one_character after character) self.now.log ≡ None) }
-        ensures refused { IfErr result (λ fault. refusal_of self.now.limit (one_character after character) self.now.log ≡ Some fault) }
-        ensures continues { IfOk result (λ op. ContinueInTurn self.now.log (op ∷ [])) }
-        ensures newest { IfOk result (λ op. AreNewest self.now.log (op ∷ [])) }
-        ensures room { IfOk result (λ op. length self.now.cells + length (fresh_cells (op ∷ [])) ≤ self.now.limit) }
+    fn stamp_of_character(&self) -> Result<Stamp, Fault>
+        ensures stamp { IfOk result (λ stamp. stamp ≡ record { count = greatest_last_count self.now.log + 1; site = self.now.site }) }
+        ensures positive { OnOk result (0 < self.now.site) }
+        ensures fits { OnOk result ((after : StampValue) (character : ℕ) → refusal_of self.now.limit (one_character after character) self.now.log ≡ None) }
+        ensures refused { IfErr result (λ fault. (after : StampValue) (character : ℕ)
+            → refusal_of self.now.limit (one_character after character) self.now.log ≡ Some fault) }
+        ensures room { OnOk result (length self.now.cells + 1 ≤ self.now.limit) }
     {
         let last = self.clock.seen();
         if last >= GREATEST_COUNT {
@@ -350,17 +350,45 @@ impl<S: TextStore> Replica<S> {
         if self.store.cells() >= self.limit {
             return Err(Fault::TextFull);
         }
-        let site = self.site.number();
-        let stamp = Stamp {
+        Ok(Stamp {
             count: last + 1,
-            site,
-        };
-        let insert = Draft::Insert {
+            site: self.site.number(),
+        })
+    }
+
+    // Makes the site's next operation of a stamp, the Insert of one character without tags behind an element, which
+    // continues the log, within the limit of cells. Want of memory.
+    #[inline(always)]
+    fn make_character(&mut self, stamp: Stamp, after: Stamp, character: char) -> Result<(), Fault>
+        requires stamp { stamp ≡ record { count = greatest_last_count self.old.log + 1; site = self.old.site } }
+        requires continues { Continues self.old.log (next_insert self.old.site after character self.old.log) }
+        requires room { length self.old.cells + 1 ≤ self.old.limit }
+        ensures log { OnOk result (self.new.log ≡ with_drafts self.old.site (one_character after character) self.old.log) }
+        ensures cells { OnOk result (self.new.cells ≡ cells_of self.new.log) }
+        ensures same { OnErr result (self.new ≡ self.old) }
+        ensures site { self.new.site ≡ self.old.site }
+        ensures limit { self.new.limit ≡ self.old.limit }
+        ensures table { self.new.table ≡ self.old.table }
+        ensures fault { IsOkUnless result Fault.NoMemory }
+    {
+        self.log.reserve(1)?;
+        put_character(
+            &mut self.store,
+            &self.states,
+            &self.log,
+            stamp,
             after,
-            tags: Vec::new(self.alloc),
-            text: Text::of(character),
-        };
-        Ok(Op::of(stamp, self.log.known(site), insert))
+            character,
+        )?;
+        push_character(
+            self.alloc,
+            &mut self.log,
+            &mut self.clock,
+            stamp,
+            after,
+            character,
+        );
+        Ok(())
     }
 
     /// Makes one operation of the site's own, as `commit` does: the Insert of one character without tags behind
@@ -379,8 +407,8 @@ impl<S: TextStore> Replica<S> {
         ensures limit { self.new.limit ≡ self.old.limit }
         ensures ids { KeepsIds self.old.table self.new.table }
     {
-        match self.planned_character(after, character) {
-            Ok(op) => self.make_all(Few::One(op)),
+        match self.stamp_of_character() {
+            Ok(stamp) => self.make_character(stamp, after, character),
             Err(fault) => Err(fault),
         }
     }

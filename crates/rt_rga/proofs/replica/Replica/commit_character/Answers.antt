@@ -1,11 +1,20 @@
-use Rattle.std.proofs.Common.{inl, refl}
+use Rattle.std.proofs.Common.{◌≡◌, ◌∙◌, inl, inr, refl, subst, sym}
+use Rattle.std.proofs.lemmas.Result.{IfErr-weaker, on_err_weaker, on_ok_weaker}
+use Rattle.rt_stamps.specs.declared.fault.Fault.TheVariants.{NoMemory}
 use Rattle.rt_tags.proofs.Keeping.{keeps_itself}
+use Rattle.rt_tags.specs.States.{KeepsIds, TagStates}
+use Rattle.rt_rga.specs.Kept.{ReplicaValue}
+use Rattle.rt_rga.proofs.Typing.{one_continues}
 use Rattle.rt_rga.proofs.replica.Replica.commit_character.Goals as goal
+
+pub make_character-requires-clause-continues : goal.make_character-requires-clause-continues
+make_character-requires-clause-continues g c =
+    one_continues c.args.self.now.site c.args.self.now.limit c.args.after c.args.character c.args.self.now.log c.in-Ok.ensures.positive c.requires (c.in-Ok.ensures.fits c.args.after c.args.character)
 
 pub returns-in-Err : goal.returns-in-Err
 returns-in-Err g c = record {
   fits = tt;
-  refused = inl c.in-Err.ensures.refused;
+  refused = inl (c.in-Err.ensures.refused c.args.after c.args.character);
   log = tt;
   cells = tt;
   same = refl;
@@ -14,3 +23,21 @@ returns-in-Err g c = record {
   limit = refl;
   ids = keeps_itself c.args.self.now.table;
 }
+
+pub returns-in-Ok-clause-fits : goal.returns-in-Ok-clause-fits
+returns-in-Ok-clause-fits g c = on_ok_weaker c.make_character.result (λ log. c.in-Ok.ensures.fits c.args.after c.args.character) c.make_character.ensures.log
+
+pub returns-in-Ok-clause-refused : goal.returns-in-Ok-clause-refused
+returns-in-Ok-clause-refused g c =
+    IfErr-weaker c.make_character.result (λ fault. fault ≡ NoMemory) _ (λ fault e. inr (e, c.in-Ok.ensures.fits c.args.after c.args.character)) c.make_character.ensures.fault
+
+pub returns-in-Ok-clause-same : goal.returns-in-Ok-clause-same
+returns-in-Ok-clause-same g c =
+    let old : ReplicaValue = c.args.self.now in
+    on_err_weaker c.make_character.result (λ same. same ∙ (λ i. record old { table = sym c.make_character.ensures.table i })) c.make_character.ensures.same
+
+pub returns-in-Ok-clause-kept : goal.returns-in-Ok-clause-kept
+returns-in-Ok-clause-kept g c = λ no. absurd (no (c.in-Ok.ensures.fits c.args.after c.args.character))
+
+pub returns-in-Ok-clause-ids : goal.returns-in-Ok-clause-ids
+returns-in-Ok-clause-ids g c = subst (λ (table : TagStates). KeepsIds c.args.self.now.table table) (sym c.make_character.ensures.table) (keeps_itself c.args.self.now.table)
