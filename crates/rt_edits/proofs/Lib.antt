@@ -26,7 +26,6 @@ pub mod PartLaws
 pub mod PieceDraftLaws
 pub mod PieceLaws
 pub mod PlaceLaws
-pub mod PlainLaws
 pub mod PlanLaws
 pub mod Planning
 pub mod PremiseLaws

@@ -99,6 +99,10 @@ all_listed (name ∷ names) tags = all_listed names (with_name name tags)
 abbrev pub selected_if : Bool → List Stamp → List Stamp → List Stamp
 selected_if more stamps selection = if more then with_stamps stamps selection else selection
 
+-- characters come to be selected where both of these are
+abbrev pub selected_with : Stamp → Stamp → List Stamp → List Stamp → List Stamp
+selected_with left right stamps selection = selected_if (is_among selection left && is_among selection right) stamps selection
+
 -- Characters with a list get exactly its tags: `sel` for the widget that commands alone, each other one for the text. No
 -- characters change nothing.
 abbrev pub with_listed : ℕ → List Word → List ℕ → Insertion → Insertion

@@ -1,18 +1,19 @@
 // What an insertion comes to, as the operations that it makes.
-ghost use Rattle.std.specs.Prelude.{◌≡◌, ◌⊎◌, ◌<◌, ◌≤◌, ◌&&◌, [], ℕ, List, None, Some, IfNone, IfOk, IfErr, IfSome, IsSomeAnd, false, length, map, option_map};
+ghost use Rattle.std.specs.Prelude.{◌≡◌, ◌⊎◌, ◌<◌, ◌≤◌, ◌&&◌, ◌∷◌, [], ℕ, List, None, Some, IfNone, IfOk, IfErr, IfSome, IsSomeAnd, false, length, map, option_map};
 ghost use Rattle.std.specs.Str.{chars};
 ghost use Rattle.rt_stamps.specs.declared.limits.TheConstants.{GREATEST_COUNT, MOST_CHARACTERS};
 ghost use Rattle.rt_stamps.specs.declared.stamp.Stamp.{Stamp};
 ghost use Rattle.rt_stamps.specs.Words.{Word};
 ghost use Rattle.rt_ops.specs.Edits.{body_of};
+ghost use Rattle.rt_ops.specs.Operations.{Insert};
 ghost use Rattle.rt_rga.specs.Few.{items_in};
 ghost use Rattle.rt_store.specs.declared.cell.Cell.{Cell};
 ghost use Rattle.rt_store.specs.Shown.{shown};
 ghost use Rattle.rt_store.specs.Spans.{is_among};
 ghost use Rattle.rt_tags.specs.States.{IsState, names_on, state_at};
 ghost use Rattle.rt_edits.specs.InsertionDrafts.{insertion_drafts};
-ghost use Rattle.rt_edits.specs.InsertionPlans.{Plans};
-ghost use Rattle.rt_edits.specs.Insertions.{insertion_of};
+ghost use Rattle.rt_edits.specs.InsertionPlans.{Plans, with_typed};
+ghost use Rattle.rt_edits.specs.Insertions.{Insertion, insertion_of};
 ghost use Rattle.rt_edits.specs.Selected.{selected_stamps};
 
 use crate::inserts::Inserts;
@@ -26,6 +27,14 @@ use rt_stamps::{Fault, Site, Stamp};
 use rt_store::Cell;
 use rt_tags::{StateId, StateTable};
 use std::alloc::Global;
+
+/// What typing mostly comes to: a character between two neighbours.
+#[derive(Clone, Copy)]
+pub struct Typed {
+    pub left: Stamp,
+    pub right: Stamp,
+    pub character: char,
+}
 
 /// Characters between two others that are there.
 #[derive(Drop)]
@@ -99,10 +108,8 @@ pub fn planned_between(
         (record { cells = []; count = count; sel = sel; others = others; tags = tags })).count))) }
 {
     // What typing comes to is told at once.
-    if let Some(plan) = planned_typing(
-        alloc, states, site, count, selection, after, &left, &right, pieces, rest,
-    ) {
-        return Ok(plan);
+    if let Some(typed) = typed_between(states, count, selection, &left, &right, pieces, rest) {
+        return Ok(plain_plan(alloc, site, count, after, typed));
     }
     let mut all = match PlannedPieces::of(alloc, site, count, after, pieces) {
         Ok(all) => all,
@@ -126,34 +133,31 @@ pub fn planned_between(
     })
 }
 
-/// The same plan, told at once, for what typing mostly comes to: one character, no pieces, a left neighbour
-/// without tags and a right one, not both selected, and a count left. `None` otherwise. It takes no memory.
+/// What typing mostly comes to, told at once: one character, no pieces, a left neighbour without tags and a right one, not both
+/// selected, and a count left. `None` otherwise. It takes no memory.
 #[inline(always)]
-pub fn planned_typing(
-    alloc: Global,
+pub fn typed_between(
     states: &StateTable,
-    site: Site,
     count: u64,
     selection: &Selection,
-    after: Stamp,
     left: &Option<Cell<StateId>>,
     right: &Option<Cell<StateId>>,
     pieces: &[Piece],
     rest: &str,
-) -> Option<Plan>
+) -> Option<Typed>
     requires left { IfSome left.now (λ cell. IsState states.now cell.state) }
-    ensures drafts { IfSome result (λ plan. (sel : List Stamp) (others : List (List Stamp)) (tags : List Word)
-        → IfSome right.now (λ cell. sel ≡ selected_stamps selection.now) → map body_of (items_in plan.drafts)
-        ≡ insertion_drafts MOST_CHARACTERS site.number after
+    ensures drafts { IfSome result (λ typed. (site : ℕ) (after : Stamp) (sel : List Stamp) (others : List (List Stamp)) (tags : List Word)
+        → insertion_drafts MOST_CHARACTERS site after
         (option_map (shown states.now) left.now) (option_map (shown states.now) right.now) pieces.now rest.now
-        (record { cells = []; count = count; sel = sel; others = others; tags = tags })) }
-    ensures plans { IfSome result (λ plan. (sel : List Stamp) (others : List (List Stamp)) (tags : List Word)
-        → IfSome right.now (λ cell. sel ≡ selected_stamps selection.now) → Plans plan sel others tags
-        (insertion_of site.number (option_map (shown states.now) left.now) (option_map (shown states.now) right.now) pieces.now rest.now
-        (record { cells = []; count = count; sel = sel; others = others; tags = tags }))) }
-    ensures alone { IfSome result (λ plan. right.now ≡ None → plan.between ≡ None) }
-    ensures only { IfSome result (λ _. (pieces.now ≡ []) × (length (chars rest.now) ≡ 1) × (count < GREATEST_COUNT)) }
-    ensures sides { IfSome result (λ _. IsSomeAnd left.now (λ l. IsSomeAnd right.now (λ r. (names_on (state_at states.now l.state) ≡ [])
+        (record { cells = []; count = count; sel = sel; others = others; tags = tags })
+        ≡ Insert after [] (typed.character ∷ []) ∷ []) }
+    ensures comes { IfSome result (λ typed. (site : ℕ) (others : List (List Stamp)) (tags : List Word)
+        → let start : Insertion = record { cells = []; count = count; sel = selected_stamps selection.now; others = others; tags = tags } in
+        insertion_of site (option_map (shown states.now) left.now) (option_map (shown states.now) right.now) pieces.now rest.now start
+        ≡ with_typed site typed start) }
+    ensures only { IfSome result (λ typed. (pieces.now ≡ []) × (chars rest.now ≡ typed.character ∷ []) × (count < GREATEST_COUNT)) }
+    ensures sides { IfSome result (λ typed. IsSomeAnd left.now (λ l. IsSomeAnd right.now (λ r. (typed.left ≡ l.stamp) × (typed.right ≡ r.stamp)
+        × (names_on (state_at states.now l.state) ≡ [])
         × ((is_among (selected_stamps selection.now) l.stamp && is_among (selected_stamps selection.now) r.stamp) ≡ false)))) }
     ensures told { IfNone result ((l r : Cell ℕ) → left.now ≡ Some l → right.now ≡ Some r
         → pieces.now ≡ [] → length (chars rest.now) ≡ 1 → count < GREATEST_COUNT
@@ -163,7 +167,11 @@ pub fn planned_typing(
     if pieces.is_empty() && count < GREATEST_COUNT {
         if let Some(character) = only_char(rest) {
             if let Some((one, other)) = plain_sides(states, selection, left, right) {
-                return Some(plain_plan(alloc, site, count, after, one, other, character));
+                return Some(Typed {
+                    left: one,
+                    right: other,
+                    character,
+                });
             }
         }
     }

@@ -1,6 +1,7 @@
-// The plan of one character as typing makes it: without a list, between two others that have no tag in common.
+// One character as typing makes it: without a list, between two others that have no tag in common.
 ghost use Rattle.std.specs.Prelude.{◌≡◌, ◌+◌, ◌<◌, ◌&&◌, ◌∷◌, [], ℕ, List, None, Some, IfNone, IfSome, IsSomeAnd, false, map, option_map};
 ghost use Rattle.rt_stamps.specs.declared.stamp.Stamp.{Stamp};
+ghost use Rattle.rt_stamps.specs.Words.{Word};
 ghost use Rattle.rt_ops.specs.Edits.{body_of};
 ghost use Rattle.rt_ops.specs.Operations.{Insert};
 ghost use Rattle.rt_rga.specs.Few.{items_in};
@@ -8,10 +9,11 @@ ghost use Rattle.rt_store.specs.declared.cell.Cell.{Cell};
 ghost use Rattle.rt_store.specs.Shown.{shown};
 ghost use Rattle.rt_store.specs.Spans.{is_among};
 ghost use Rattle.rt_tags.specs.States.{IsState, names_on, state_at};
+ghost use Rattle.rt_edits.specs.InsertionPlans.{Plans, with_typed};
 ghost use Rattle.rt_edits.specs.Insertions.{are_among, tags_between};
 ghost use Rattle.rt_edits.specs.Selected.{selected_stamps};
 
-use crate::inserting::{Between, Plan};
+use crate::inserting::{Between, Plan, Typed};
 use crate::{Selection, Stamps};
 use rt_oplog::Text;
 use rt_rga::{Draft, Few};
@@ -36,8 +38,8 @@ pub(crate) fn plain_sides(
     ensures sides { IfSome result (λ sides. (stamps : List Stamp)
         → are_among stamps (option_map (shown states.now) left.now) (option_map (shown states.now) right.now)
         ≡ (is_among stamps sides.0 && is_among stamps sides.1)) }
-    ensures there { IfSome result (λ _. right.now ≡ None → ⊥) }
-    ensures plain { IfSome result (λ _. IsSomeAnd left.now (λ l. IsSomeAnd right.now (λ r. (names_on (state_at states.now l.state) ≡ [])
+    ensures plain { IfSome result (λ sides. IsSomeAnd left.now (λ l. IsSomeAnd right.now (λ r. (sides.0 ≡ l.stamp) × (sides.1 ≡ r.stamp)
+        × (names_on (state_at states.now l.state) ≡ [])
         × ((is_among (selected_stamps selection.now) l.stamp && is_among (selected_stamps selection.now) r.stamp) ≡ false)))) }
     ensures none { IfNone result ((l r : Cell ℕ) → left.now ≡ Some l → right.now ≡ Some r
         → names_on (state_at states.now l.state) ≡ []
@@ -58,37 +60,26 @@ pub(crate) fn plain_sides(
     Some((left.stamp, right.stamp))
 }
 
-/// The plan of one character between two others, that gets the count after one.
+/// The plan of a typed character behind an element, with the count after one.
 #[inline(always)]
-pub(crate) fn plain_plan(
-    alloc: Global,
-    site: Site,
-    count: u64,
-    after: Stamp,
-    left: Stamp,
-    right: Stamp,
-    character: char,
-) -> Plan
+pub(crate) fn plain_plan(alloc: Global, site: Site, count: u64, after: Stamp, typed: Typed) -> Plan
     requires { count < u64.MAX }
-    ensures drafts { map body_of (items_in result.drafts) ≡ Insert after [] (character ∷ []) ∷ [] }
-    ensures characters { result.characters ≡ 1 }
-    ensures selected { result.selected.items ≡ [] }
-    ensures names { result.names.items ≡ [] }
-    ensures between { result.between
-        ≡ Some (record { left = left; right = right; stamps = record { count = count + 1; site = site.number } ∷ [] }) }
+    ensures drafts { map body_of (items_in result.drafts) ≡ Insert after [] (typed.character ∷ []) ∷ [] }
+    ensures plans { (sel : List Stamp) (others : List (List Stamp)) (tags : List Word) → Plans result sel others tags
+        (with_typed site.number typed (record { cells = []; count = count; sel = sel; others = others; tags = tags })) }
 {
     Plan {
         drafts: Few::One(Draft::Insert {
             after,
             tags: Vec::new(alloc),
-            text: Text::of(character),
+            text: Text::of(typed.character),
         }),
         characters: 1,
         selected: Vec::new(alloc),
         names: Vec::new(alloc),
         between: Some(Between {
-            left,
-            right,
+            left: typed.left,
+            right: typed.right,
             stamps: Stamps::of_one(site, count + 1),
         }),
     }

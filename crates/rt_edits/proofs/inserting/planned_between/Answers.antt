@@ -1,16 +1,24 @@
-use Rattle.std.proofs.Common.{ℕ, ◌∙◌, [], ◌++◌, ◌<◌, ap, refl, subst, sym}
-use Rattle.std.specs.Prelude.{option_map}
+use Rattle.std.proofs.Common.{ℕ, List, ◌≡◌, ◌∙◌, [], ◌++◌, ◌<◌, ap, refl, subst, sym}
+use Rattle.std.specs.Prelude.{IfSome, IsSomeAnd, Option, Some, None, option_map}
 use Rattle.std.specs.Str.{chars}
 use Rattle.std.proofs.lemmas.Result.{err_from_is_err_and}
 use Rattle.rt_stamps.specs.declared.limits.TheConstants.{GREATEST_COUNT, MOST_CHARACTERS}
+use Rattle.rt_stamps.specs.declared.stamp.Stamp.{Stamp}
 use Rattle.rt_store.specs.Shown.{shown}
 use Rattle.rt_edits.specs.declared.inserting.Plan.{Plan}
 use Rattle.rt_edits.specs.InsertionDrafts.{behind, text_drafts}
 use Rattle.rt_edits.specs.InsertionPlans.{Plans}
-use Rattle.rt_edits.specs.Insertions.{Insertion, last_of, tags_between, with_pieces, with_unlisted}
+use Rattle.rt_edits.specs.Insertions.{Insertion, insertion_of, last_of, tags_between, with_pieces, with_unlisted}
+use Rattle.rt_edits.specs.Selected.{selected_stamps}
 use Rattle.rt_edits.proofs.PlanLaws.{spent, unlisted_count}
 use Rattle.rt_edits.proofs.RestLaws.{pieces_others}
 use Rattle.rt_edits.proofs.inserting.planned_between.Goals as goal
+
+-- what the widget has selected, where both neighbours are there
+its_selection : {X Y : Type 0} (left : Option X) (right : Option Y) (P : X → Y → Type 0) (sel selection : List Stamp) → IsSomeAnd left (λ l. IsSomeAnd right (P l)) → IfSome right (λ _. sel ≡ selection) → sel ≡ selection
+its_selection None right P sel selection there h = absurd there
+its_selection (Some l) None P sel selection there h = absurd there
+its_selection (Some l) (Some r) P sel selection there h = h
 
 pub returns-in_err-between-clause-err : goal.returns-in_err-between-clause-err
 returns-in_err-between-clause-err c =
@@ -66,3 +74,14 @@ pub returns-in_err-between-clause-alone : goal.returns-in_err-between-clause-alo
 returns-in_err-between-clause-alone c =
     let p = err_from_is_err_and c.from_residual.result c.from_residual.ensures.1 in
     rw p.1 tt
+
+pub returns-in-Some-clause-plans : goal.returns-in-Some-clause-plans
+returns-in-Some-clause-plans c = λ sel others tags same.
+    let t = c.args.states.now in
+    let stamps = selected_stamps c.args.selection.now in
+    let its : sel ≡ stamps = its_selection c.args.left c.args.right _ sel stamps c.in-Some.ensures.sides same in
+    let start : List Stamp → Insertion = λ s. record { cells = []; count = c.args.count; sel = s; others = others; tags = tags } in
+    let left = option_map (shown t) c.args.left in
+    let right = option_map (shown t) c.args.right in
+    subst (λ s. Plans c.plain_plan.result s others tags (insertion_of c.args.site.number left right c.args.pieces.now c.args.rest.now (start s))) (sym its)
+    (subst (Plans c.plain_plan.result stamps others tags) (sym (c.in-Some.ensures.comes c.args.site.number others tags)) (c.plain_plan.ensures.plans stamps others tags))
