@@ -153,7 +153,7 @@ back_kept t p k h l =
 lines_most : (p : ℕ) (t : List ℕ) → length t ≤ MOST_CELLS → line_of t p ≤ MOST_CELLS + 1
 lines_most p t h = omega (arith, newlines_few (take p t), length-take p t)
 
-moved_kept : (t : List ℕ) (p : ℕ) (m : Modifier) → length t ≤ MOST_CELLS → p ≤ length t → moved t p (kept_modifier m) ≡ moved t p m
+pub moved_kept : (t : List ℕ) (p : ℕ) (m : Modifier) → length t ≤ MOST_CELLS → p ≤ length t → moved t p (kept_modifier m) ≡ moved t p m
 moved_kept t p (Forward k Characters) h l = omega arith
 moved_kept t p (Back k Characters) h l = omega arith
 moved_kept t p (Forward k Lines) h l = forward_kept t p k h

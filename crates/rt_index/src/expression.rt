@@ -89,7 +89,7 @@ fn parse_fixed(alloc: Global, word: &str, token: usize, fixed: Fixed) -> Result<
 }
 
 /// An expression that begins with a mark or an end of a tag.
-fn parse_named(alloc: Global, word: &str, token: usize) -> Result<Expr<'_>, Fault>
+pub(crate) fn parse_named(alloc: Global, word: &str, token: usize) -> Result<Expr<'_>, Fault>
     requires token { token ≡ token_length word.now }
     requires named { fixed_of (take token word.now) ≡ None }
     ensures word { IfOk result (λ expr. expr ≡ word.now) }
@@ -138,7 +138,7 @@ pub fn parse(alloc: Global, word: &str) -> Result<Expr<'_>, Fault>
 }
 
 /// The place of a position or of `end`.
-fn fixed_place<G: Ground>(ground: &G, fixed: Fixed) -> usize
+pub(crate) fn fixed_place<G: Ground>(ground: &G, fixed: Fixed) -> usize
     ensures value { result ≡ fixed_place (G.widget ground.now).text fixed }
     ensures within { result ≤ length (G.widget ground.now).text }
 {

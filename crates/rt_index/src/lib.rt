@@ -6,9 +6,11 @@ pub mod expression;
 pub mod ground;
 pub mod laws;
 pub mod parts;
+pub mod place;
 pub mod reading;
 pub mod values;
 mod words;
 
 pub use expression::{Expr, is_fixed, parse, resolve};
 pub use ground::Ground;
+pub use place::place_of;

@@ -247,7 +247,7 @@ fn with_second_sign(sign: Sign, text: &[u8]) -> Option<(Modifier, &[u8])>
 
 /// The modifier at the front of a text, and what follows it.
 #[inline(always)]
-fn first_modifier(text: &[u8]) -> Option<(Modifier, &[u8])>
+pub(crate) fn first_modifier(text: &[u8]) -> Option<(Modifier, &[u8])>
     ensures value { option_map (λ found. (found.0, found.1.now)) result ≡ option_map kept_found (first_modifier text.now) }
     ensures within { IfSome result (λ found. length found.1.now < length text.now) }
 {
@@ -267,7 +267,7 @@ fn first_modifier(text: &[u8]) -> Option<(Modifier, &[u8])>
 }
 
 /// Whether a text is spaces alone.
-fn is_blank(text: &[u8]) -> bool
+pub(crate) fn is_blank(text: &[u8]) -> bool
     ensures { result ≡ (length (after_spaces text.now) == 0) }
 {
     after_spaces(text).is_empty()
