@@ -1,6 +1,9 @@
 -- What the parts of a parsed expression say, which is what its word says.
-use Rattle.std.specs.Prelude.{◌≡◌, ℕ, zero, suc, ◌+◌, min, ◌&&◌, ◌||◌, not, codes, bytes_eq, Bool, List, length, take, drop, Option, Some, None, Result, Ok, Err, IsCharBoundary, if◌then◌else◌}
+use Rattle.std.specs.Prelude.{◌≡◌, ℕ, zero, suc, ◌+◌, min, ◌==◌, ◌&&◌, ◌||◌, not, codes, bytes_eq, Bool, List, length, take, drop, Option, Some, None, Result, Ok, Err, IsCharBoundary, if◌then◌else◌}
 use Rattle.std.specs.Option.{option_or}
+use Rattle.std.specs.List.{prefix_len}
+use Rattle.std.specs.Char.{is_ascii_digit}
+use Rattle.std.specs.Str.Parse.{digits_value}
 use Rattle.rt_stamps.specs.declared.fault.Fault.{Fault}
 use Rattle.rt_stamps.specs.declared.fault.Fault.TheVariants.{BadIndex}
 use Rattle.rt_stamps.specs.Names.{is_name_length}
@@ -19,6 +22,12 @@ use Rattle.rt_index.specs.Widget.{IndexedWidget, TagEnds, IsProper}
 -- a number as it is kept
 abbrev pub kept : ℕ → ℕ
 kept k = min k MOST
+
+-- the number at the front of a text, as it is kept, and what follows its digits; none where there are no digits
+abbrev pub kept_number_at : List ℕ → Option (ℕ × List ℕ)
+kept_number_at text =
+    let n = prefix_len is_ascii_digit text in
+    if n == 0 then None else Some (kept (digits_value 10 (take n text)), drop n text)
 
 abbrev pub kept_modifier : Modifier → Modifier
 kept_modifier (Forward k step) = Forward (kept k) step

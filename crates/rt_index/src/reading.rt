@@ -1,13 +1,11 @@
 // The parts of a text, read from the left.
-ghost use Rattle.std.specs.Prelude.{◌≡◌, ℕ, ◌+◌, ◌^◌, ◌==◌, if◌then◌else◌, ◌<◌, ◌≤◌, ◌⊎◌, Some, None, length, map, take, drop, true, eqb, IfSome, IfOk, IfErr, option_map};
+ghost use Rattle.std.specs.Prelude.{◌≡◌, ℕ, ◌+◌, ◌^◌, ◌==◌, if◌then◌else◌, ◌<◌, ◌≤◌, ◌⊎◌, Some, None, length, map, take, drop, IfSome, IfOk, IfErr, option_map};
 ghost use Rattle.std.specs.List.{prefix_len};
-ghost use Rattle.std.specs.Char.{is_ascii_digit, is_ascii_alphabetic};
-ghost use Rattle.std.specs.Str.{all_ascii_digits};
-ghost use Rattle.std.specs.Str.Parse.{digits_value};
+ghost use Rattle.std.specs.Char.{is_ascii_alphabetic};
 ghost use Rattle.rt_index.specs.Grammar.{counted, turned};
 ghost use Rattle.rt_index.specs.Index.{may_end, side_text, tag_of};
-ghost use Rattle.rt_index.specs.Expression.{kept, kept_modifier, kept_found, kept_fixed, tag_after, longest_named};
-ghost use Rattle.rt_index.specs.Reading.{is_space, token_length, after_spaces, after_any, column_of, position_of, fixed_of, unit_of, keyword_of, with_unit, with_keyword, with_number, with_second_sign, modifier_at, first_modifier, modifiers_of};
+ghost use Rattle.rt_index.specs.Expression.{kept, kept_modifier, kept_found, kept_fixed, kept_number_at, tag_after, longest_named};
+ghost use Rattle.rt_index.specs.Reading.{is_space, token_length, after_spaces, after_any, column_of, position_of, fixed_of, unit_of, keyword_of, with_unit, with_keyword, with_number, with_second_sign, first_modifier, modifiers_of};
 
 use crate::parts::{Fixed, Keyword, Modifier, Side, Sign, Step, Tag};
 use rt_stamps::Fault;
@@ -42,14 +40,6 @@ fn letters(text: &[u8]) -> usize
         .count()
 }
 
-#[inline(always)]
-fn digits(text: &[u8]) -> usize
-    ensures value { result ≡ prefix_len is_ascii_digit text.now }
-    ensures within { result ≤ length text.now }
-{
-    text.iter().take_while(|byte| byte.is_ascii_digit()).count()
-}
-
 fn spaces(text: &[u8]) -> usize
     ensures value { result ≡ prefix_len is_space text.now }
     ensures within { result ≤ length text.now }
@@ -82,19 +72,26 @@ fn after_any(text: &[u8]) -> &[u8]
     }
 }
 
-/// The number that digits write, or the greatest one that is kept.
+/// The number that the digits at the front of a text write, or the greatest one that is kept, and
+/// what follows them. None where there are no digits.
 #[inline(always)]
-fn number(digits: &[u8]) -> usize
-    requires { all_ascii_digits digits.now ≡ true }
-    ensures { result ≡ kept (digits_value 10 digits.now) }
+fn number_at(text: &[u8]) -> Option<(usize, &[u8])>
+    ensures value { option_map (λ found. (found.0, found.1.now)) result ≡ kept_number_at text.now }
+    ensures within { IfSome result (λ found. length found.1.now ≤ length text.now) }
 {
-    let mut number: usize = 0;
-    for digit in digits {
-        number = number
+    let mut value: usize = 0;
+    let mut count = 0;
+    while count < text.len() && text[count].is_ascii_digit() {
+        value = value
             .saturating_mul(10)
-            .saturating_add(usize::from(*digit - b'0'));
+            .saturating_add(usize::from(text[count] - b'0'));
+        count += 1;
     }
-    number
+    if count == 0 {
+        return None;
+    }
+    let (_, rest) = text.split_at(count);
+    Some((value, rest))
 }
 
 #[inline(always)]
@@ -104,11 +101,11 @@ fn column_of(line: usize, text: &[u8]) -> Option<Fixed>
     if let [b'e', b'n', b'd'] = text {
         return Some(Fixed::LineEndOf(line));
     }
-    let run = digits(text);
-    if text.is_empty() || run < text.len() {
-        None
+    let (character, rest) = number_at(text)?;
+    if rest.is_empty() {
+        Some(Fixed::Character(line, character))
     } else {
-        Some(Fixed::Character(line, number(text)))
+        None
     }
 }
 
@@ -116,12 +113,9 @@ fn column_of(line: usize, text: &[u8]) -> Option<Fixed>
 fn position_of(text: &[u8]) -> Option<Fixed>
     ensures { result ≡ option_map kept_fixed (position_of text.now) }
 {
-    let (line, rest) = text.split_at(digits(text));
-    if line.is_empty() {
-        return None;
-    }
+    let (line, rest) = number_at(text)?;
     match rest.split_first() {
-        Some((b'.', column)) => column_of(number(line), column),
+        Some((b'.', column)) => column_of(line, column),
         _ => None,
     }
 }
@@ -225,11 +219,8 @@ fn with_number(sign: Sign, text: &[u8]) -> Option<(Modifier, &[u8])>
     ensures value { option_map (λ found. (found.0, found.1.now)) result ≡ option_map kept_found (with_number sign text.now) }
     ensures within { IfSome result (λ found. length found.1.now ≤ length text.now) }
 {
-    let (run, rest) = text.split_at(digits(text));
-    if run.is_empty() {
-        return None;
-    }
-    with_unit(sign, number(run), after_any(after_spaces(rest)))
+    let (count, rest) = number_at(text)?;
+    with_unit(sign, count, after_any(after_spaces(rest)))
 }
 
 /// Perhaps a second sign, and what `with_number` reads.
