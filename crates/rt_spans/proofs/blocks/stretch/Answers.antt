@@ -36,11 +36,3 @@ returns-clause-room g c =
 pub returns-clause-debt : goal.returns-clause-debt
 returns-clause-debt g c =
     debt_more c.args.blocks.now.items c.args.spot.block c.index_mut-block.result.now c.stretch.new.self 1 c.requires.near.within c.index_mut-block.ensures.value c.stretch.ensures.len
-
-pub returns-clause-kept : goal.returns-clause-kept
-returns-clause-kept g c =
-    let b = c.index_mut-block.result.now in
-    let is = c.index_mut-block.ensures.value in
-    λ ends. let same = c.stretch.ensures.kept (ends b is) in
-    let less = debt_more c.args.blocks.now.items c.args.spot.block b c.stretch.new.self 0 c.requires.near.within is (omega (arith, same)) in
-    omega (arith, less)

@@ -21,7 +21,7 @@ returns-then-not-has_until-clause-ends g c =
     λ first less near.
     let self = c.args.self.now in
     let later = c.has_until.ensures.later c.if-not-has_until.true in
-    ends_inserted first _ self.head self.rest.items c.put_entry.new.entries.items c.args.place c.entry_before.result c.new.result c.requires.rising less near c.entry_before.ensures (ap (λ (s : Stamp). rank s.site s.count) c.new.ensures.from) (c.new.ensures.value ∙ c.value-value.ensures) (λ d l. later d (omega (arith, l))) c.put_entry.ensures.items
+    ends_inserted first _ self.head self.rest.items c.insert_entry.new.entries.items c.args.place c.entry_before.result c.new.result c.requires.rising less near c.entry_before.ensures (ap (λ (s : Stamp). rank s.site s.count) c.new.ensures.from) (c.new.ensures.value ∙ c.value-value.ensures) (λ d l. later d (omega (arith, l))) c.insert_entry.ensures.items
 
 pub returns-then-is_before-clause-ends : goal.returns-then-is_before-clause-ends
 returns-then-is_before-clause-ends g c =
@@ -38,7 +38,3 @@ returns-else-is_before-clause-ends g c =
     let until = c.has_until.ensures.until c.if-not-has_until.false c.index.result.now in
     let here = ap (λ (v : Entry g.row.V.Denot). key v) c.index.ensures in
     ends_there first _ self.head self.rest.items c.args.place c.index.result.now near (omega (arith, within)) c.index.ensures (omega (arith, until, here, more_when _ _ _ c.is_before.ensures c.if-is_before.false))
-
-pub returns-then-not-has_until-clause-kept : goal.returns-then-not-has_until-clause-kept
-returns-then-not-has_until-clause-kept g c =
-    λ at. absurd (omega (arith, c.has_until.ensures.later c.if-not-has_until.true c.entry_before.result (omega (arith, at.0)), at.1 c.entry_before.result))

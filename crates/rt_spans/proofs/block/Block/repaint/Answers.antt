@@ -6,9 +6,9 @@ use Rattle.rt_spans.proofs.block.Block.repaint.Goals as goal
 pub returns-clause-painted : goal.returns-clause-painted
 returns-clause-painted g c =
     let self = c.args.self.now in
-    λ _. painted_there _ _ c.args.value self.head self.rest.items _ c.sought-place.result c.entry_before.result c.index.result.now c.requires.rising (omega (arith, c.if-place-len.false)) c.entry_before.ensures (same_when _ _ _ c.is_at-2.ensures c.if-not-is_at-2.false) c.index.ensures (same_when _ _ _ c.is_at.ensures c.if-not-is_at.false) c.hold.ensures.items
+    λ _. painted_there _ _ c.args.value self.head self.rest.items _ c.place_until-place.result c.entry_before.result c.index.result.now c.requires.rising (omega (arith, c.if-place-len.false)) c.entry_before.ensures (same_when _ _ _ c.is_at-2.ensures c.if-not-is_at-2.false) c.index.ensures (same_when _ _ _ c.is_at.ensures c.if-not-is_at.false) c.hold.ensures.items
 
 pub returns-clause-ends : goal.returns-clause-ends
 returns-clause-ends g c =
     let self = c.args.self.now in
-    λ _. has_next _ self.head self.rest.items c.sought-place.result c.index.result.now (omega (arith, c.if-place-len.false)) c.index.ensures (same_when _ _ _ c.is_at.ensures c.if-not-is_at.false)
+    λ _. has_next _ self.head self.rest.items c.place_until-place.result c.index.result.now (omega (arith, c.if-place-len.false)) c.index.ensures (same_when _ _ _ c.is_at.ensures c.if-not-is_at.false)

@@ -3,7 +3,7 @@ use Rattle.rt_spans.specs.Spans.{key}
 use Rattle.rt_spans.proofs.Cutting.{there}
 use Rattle.rt_spans.proofs.Ranks.{same_when}
 use Rattle.rt_spans.proofs.Rising.{lower, parts_to}
-use Rattle.rt_spans.proofs.block.Block.sought.Goals as goal
+use Rattle.rt_spans.proofs.block.Block.place_until.Goals as goal
 
 pub returns-then-is_at : goal.returns-then-is_at
 returns-then-is_at g c =
