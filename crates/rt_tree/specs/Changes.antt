@@ -45,6 +45,11 @@ abbrev pub entry_totals : Entry → Totals
 entry_totals (Here r) = totals_of (r ∷ [])
 entry_totals (Down c t) = t
 
+-- an entry with more joined to the totals that it has for a node
+abbrev pub with_more : Totals → Entry → Entry
+with_more more (Here r) = Here r
+with_more more (Down c t) = Down c (join more t)
+
 abbrev pub adds_up : List Entry → Totals
 adds_up [] = totals_of []
 adds_up (e ∷ es) = join (entry_totals e) (adds_up es)

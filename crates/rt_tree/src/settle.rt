@@ -4,12 +4,13 @@ ghost use Rattle.std.specs.Option.{ForSome};
 ghost use Rattle.rt_nodes.specs.Nodes.{IsNode, entries, with_entry};
 ghost use Rattle.rt_tree.specs.declared.node.Entry.{Entry};
 ghost use Rattle.rt_tree.specs.declared.node.Entry.TheVariants.{Down};
-ghost use Rattle.rt_tree.specs.Changes.{AreExact, AreExactBut, Lacks, bare, blank, strip};
+ghost use Rattle.rt_tree.specs.Changes.{AreExact, AreExactBut, Lacks, bare, blank, entry_totals, join, strip, with_more};
 ghost use Rattle.rt_tree.specs.Shape.{IsShape, count_of, level_of, parent_of, runs};
-ghost use Rattle.rt_tree.specs.Sums.{AreFew, counts_of};
+ghost use Rattle.rt_tree.specs.Sums.{AreFew, counts_of, plus};
 
 use crate::node::{Entry, Mem, Totals};
-use crate::totals::{adds_up, entry_totals, join};
+use crate::sums::plus;
+use crate::totals::{adds_up, join};
 use crate::up::is_node;
 use rt_nodes::NodeId;
 
@@ -33,6 +34,31 @@ pub(crate) fn set_entry(mem: &mut Mem, id: NodeId, i: usize, entry: Entry)
     ensures { mem.new ≡ with_entry mem.old id.index i entry }
 {
     *mem.entry_mut(id, i) = entry;
+}
+
+// Joins more to totals: their counts alone change where the least count of more is greater.
+#[inline(always)]
+fn grow_by(totals: &mut Totals, more: Totals)
+    requires { AreFew (plus more.counts totals.old.counts) }
+    ensures { totals.new ≡ join more totals.old }
+{
+    if more.least_count <= totals.least_count {
+        *totals = join(more, *totals);
+    } else {
+        totals.counts = plus(more.counts, totals.counts);
+    }
+}
+
+// Joins more to the totals that an entry keeps, in place.
+#[inline(always)]
+fn add_to(mem: &mut Mem, id: NodeId, i: usize, more: Totals)
+    requires node { IsNode mem.old id.index × (i < length (entries mem.old id.index)) }
+    requires few { (e : Entry) → e ≡ slice_index_or (entries mem.old id.index) i e → AreFew (plus more.counts (entry_totals e).counts) }
+    ensures { (e : Entry) → e ≡ slice_index_or (entries mem.old id.index) i e → mem.new ≡ with_entry mem.old id.index i (with_more more e) }
+{
+    if let Entry::Down(_, totals) = mem.entry_mut(id, i) {
+        grow_by(totals, more);
+    }
 }
 
 // Where a node stands in its parent. The last place is looked at first, as text is typed there.
@@ -91,9 +117,7 @@ pub(crate) fn add_above(mem: &mut Mem, root: NodeId, height: u32, from: NodeId, 
     while level < height {
         let parent = parent_of(mem, node);
         let slot = slot_of(mem, parent, node);
-        let old = entry_totals(mem.entry(parent, slot));
-        let totals = join(more, old);
-        set_entry(mem, parent, slot, Entry::Down(node, totals));
+        add_to(mem, parent, slot, more);
         node = parent;
         level += 1;
     }

@@ -1,10 +1,13 @@
 use Rattle.std.proofs.Common.{◌≡◌, ◌<◌, length, arith, sym, ap, ◌∙◌, subst, refl, get_or}
+use Rattle.std.proofs.lemmas.List.{get_or_default}
+use Rattle.rt_nodes.specs.declared.memory.NodeId.{NodeId}
+use Rattle.rt_tree.specs.declared.node.Entry.{Entry}
 use Rattle.rt_tree.proofs.Lacking.{lacking, lacks-up}
-use Rattle.rt_tree.specs.declared.node.Entry.TheVariants.{Down}
-use Rattle.rt_nodes.specs.Nodes.{entries}
+use Rattle.rt_tree.specs.declared.node.Entry.TheVariants.{Down, Here}
+use Rattle.rt_nodes.specs.Nodes.{entries, with_entry}
 use Rattle.rt_tree.proofs.Adding.{IsSmall, small-is}
 use Rattle.rt_tree.specs.declared.node.Totals.{Totals}
-use Rattle.rt_tree.specs.Changes.{AreExactBut, Lacks, bare, adds_up, entry_totals, join}
+use Rattle.rt_tree.specs.Changes.{AreExactBut, Lacks, bare, blank, strip, adds_up, entry_totals, join, with_more}
 use Rattle.rt_tree.specs.Shape.{runs, level_of, parent_of, Memory, IsShape, count_of}
 use Rattle.rt_tree.proofs.Around.{at_top, below_top}
 use Rattle.rt_tree.proofs.Raise.{raise, root-exact, same-bare, set-links, small-node, sum-low}
@@ -12,8 +15,12 @@ use Rattle.rt_tree.specs.Sums.{totals_of}
 use Rattle.rt_tree.proofs.Splits.{parent_in}
 use Rattle.rt_tree.proofs.settle.add_above.Goals as goal
 
-pub join-totals-requires : goal.join-totals-requires
-join-totals-requires c =
+more-of : (more : Totals) (q : NodeId) (e : Entry) → strip e ≡ Down q blank → with_more more e ≡ Down q (join more (entry_totals e))
+more-of more q (Here r) is = cc
+more-of more q (Down c t) is = cc
+
+pub add_to-requires-clause-few : goal.add_to-requires-clause-few
+add_to-requires-clause-few c e here =
     let i = c.loop-level.invariant in
     let h = c.args.height in let r = c.args.root.index in
     let m = c.loop-level.mem in let q = c.loop-level.node in let n = q.index in
@@ -25,10 +32,8 @@ join-totals-requires c =
     let lvl : level_of (bare m) n ≡ c.loop-level.level = ap (λ (b : Memory). level_of b n) i.same ∙ i.at_level in
     let few = small-is (adds_up (entries m n)) (totals_of (runs (bare m) (level_of (bare m) n) n)) (sum-low m h r t n i.exact is)
     (small-node m h r t (level_of (bare m) n) n is refl low small) in
-    let e = c.entry.result.now in
-    let here : e ≡ get_or (entries m p) c.slot_of-slot.result e = c.entry.ensures in
     let whole = lacking m h r t q p c.slot_of-slot.result e c.args.more is (omega (arith, lvl, c.loop-level-test.true)) c.parent_of-parent.ensures c.slot_of-slot.ensures.within here (c.slot_of-slot.ensures.is e here) i.more in
-    subst (λ (x : Totals). IsSmall x) (whole ∙ ap (join c.args.more) (sym c.entry_totals-old.ensures)) few
+    subst (λ (x : Totals). IsSmall x) whole few
 
 pub loop-level-preserved : goal.loop-level-preserved
 loop-level-preserved c =
@@ -43,22 +48,24 @@ loop-level-preserved c =
     let up : p ≡ parent_of s q.index = c.parent_of-parent.ensures ∙ ap (λ (b : Memory). parent_of b q.index) i.same in
     let lvl : level_of (bare m) q.index ≡ c.loop-level.level = ap (λ (b : Memory). level_of b q.index) i.same ∙ i.at_level in
     let es = entries m p in
-    let y = Down q c.join-totals.result in
-    let e = c.entry.result.now in
+    let slot = c.slot_of-slot.result in
     let within = c.slot_of-slot.ensures.within in
-    let here : e ≡ get_or es c.slot_of-slot.result e = c.entry.ensures in
+    let e = get_or es slot (Down q blank) in
+    let here : e ≡ get_or es slot e = get_or_default es slot (Down q blank) e within in
     let mine = c.slot_of-slot.ensures.is e here in
-    let total : c.join-totals.result ≡ join c.args.more (entry_totals e) = c.join-totals.ensures ∙ ap (join c.args.more) c.entry_totals-old.ensures in
-    let whole = lacking m h r t q p c.slot_of-slot.result e c.args.more is (omega (arith, lvl, c.loop-level-test.true)) c.parent_of-parent.ensures within here mine i.more in
+    let total = join c.args.more (entry_totals e) in
+    let y = Down q total in
+    let to = c.add_to.ensures e here ∙ ap (with_entry m p slot) (more-of c.args.more q e mine) in
+    let whole = lacking m h r t q p slot e c.args.more is (omega (arith, lvl, c.loop-level-test.true)) c.parent_of-parent.ensures within here mine i.more in
     record {
-      same = ap bare c.set_entry.ensures ∙ same-bare m p _ (set-links es c.slot_of-slot.result e y within here (sym mine)) ∙ i.same;
+      same = ap bare to ∙ same-bare m p _ (set-links es slot e y within here (sym mine)) ∙ i.same;
       is = subst (λ n. n < length c.args.mem.now.heads) (sym up) kn.is;
       at_level = ap (level_of s) up ∙ kn.up ∙ (omega (arith, i.at_level));
       low = omega arith;
-      exact = subst (AreExactBut p) (sym c.set_entry.ensures)
-          (raise m h r t q p c.slot_of-slot.result e c.join-totals.result is (omega (arith, lvl)) c.parent_of-parent.ensures within here mine (total ∙ sym whole) i.exact);
-      more = subst (Lacks p c.args.more) (sym c.set_entry.ensures)
-          (lacks-up m h r t q p c.slot_of-slot.result e c.args.more is (omega (arith, lvl)) c.parent_of-parent.ensures within here i.exact c.join-totals.result total);
+      exact = subst (AreExactBut p) (sym to)
+          (raise m h r t q p slot e total is (omega (arith, lvl)) c.parent_of-parent.ensures within here mine (sym whole) i.exact);
+      more = subst (Lacks p c.args.more) (sym to)
+          (lacks-up m h r t q p slot e c.args.more is (omega (arith, lvl)) c.parent_of-parent.ensures within here i.exact total refl);
     }
 
 pub returns-clause-exact : goal.returns-clause-exact
