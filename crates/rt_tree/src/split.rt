@@ -16,8 +16,7 @@ fn set_parent(mem: &mut Mem, id: NodeId, parent: NodeId)
     requires { IsNode mem.old id.index }
     ensures { mem.new ≡ with_head mem.old id.index (record { parent = parent; level = level_of (bare mem.old) id.index }) }
 {
-    let level = level_of(mem, id);
-    *mem.head_mut(id) = Head { parent, level };
+    mem.head_mut(id).parent = parent;
 }
 
 // Makes a node the parent of those that stand in it.
