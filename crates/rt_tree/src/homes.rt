@@ -397,7 +397,7 @@ impl Homes {
         }
     }
 
-    // The same, where there are some.
+    // Tells where the runs of new nodes are, of which there are some.
     #[inline(never)]
     fn retell_new(&mut self, mem: &Mem, nodes: usize)
         requires { length mem.now.heads ≡ length mem.now.rows }

@@ -119,7 +119,6 @@ pub(crate) fn make_room(
     if mem.len(leaf) < 16 {
         return Place { leaf, entry: i };
     }
-
     cut_for_room(mem, sums, states, root, height, leaf, i)
 }
 
@@ -214,7 +213,6 @@ pub(crate) fn top_room(
     if mem.len(root) < 16 {
         return Top { root, height };
     }
-
     cut_root(mem, sums, states, root, height)
 }
 
@@ -241,10 +239,9 @@ fn cut_root(
     ensures filled { AreFilled mem.new result.root.index }
     ensures runs { runs (bare mem.new) result.height result.root.index ≡ runs (bare mem.old) height root.index }
     ensures roomy { length (entries mem.new result.root.index) < 16 }
-    ensures height { result.height ≤ height + 1 }
+    ensures height { result.height ≡ height + 1 }
     ensures stay { Stay mem.old mem.new }
     ensures longer { length mem.old.heads ≤ length mem.new.heads }
-    ensures still { result.height ≡ height → (mem.new ≡ mem.old) × (result.root ≡ root) }
     ensures room { length mem.new.heads + mem.new.room ≡ length mem.old.heads + mem.old.room }
     ensures told { AreTold states.now mem.new sums.new (runs (bare mem.new) result.height result.root.index) }
     ensures tags { sums.new.tags ≡ sums.old.tags }

@@ -310,7 +310,7 @@ impl Tree {
         self.skip_past(position, new)
     }
 
-    // The same by look-ups.
+    // The first position from one on whose cell's stamp isn't greater than a new one, or the end, by look-ups.
     #[inline(never)]
     fn skip_past(&self, position: usize, new: Stamp) -> usize
         requires { position < length self.now.cells }

@@ -73,7 +73,7 @@ pub returns-clause-exact : goal.returns-clause-exact
 returns-clause-exact c = c.cut_node.ensures.exact
 
 pub returns-clause-height : goal.returns-clause-height
-returns-clause-height c = omega arith
+returns-clause-height c = refl
 
 pub returns-clause-runs : goal.returns-clause-runs
 returns-clause-runs c = c.cut_node.ensures.runs ∙ c.add_root-top.ensures.runs
