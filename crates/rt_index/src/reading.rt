@@ -197,6 +197,10 @@ fn with_unit(sign: Sign, count: usize, text: &[u8]) -> Option<(Modifier, &[u8])>
     ensures value { option_map (λ found. (found.0, found.1.now)) result ≡ with_unit sign count text.now }
     ensures within { IfSome result (λ found. length found.1.now ≤ length text.now) }
 {
+    // As most expressions end: no letters are counted.
+    if let [b'c', b'h', b'a', b'r', b's'] = text {
+        return Some((sign.counted(count, Step::Characters), &[]));
+    }
     let (run, rest) = text.split_at(letters(text));
     let step = unit_of(run)?;
     Some((sign.counted(count, step), rest))
@@ -261,7 +265,11 @@ pub(crate) fn first_modifier(text: &[u8]) -> Option<(Modifier, &[u8])>
 pub(crate) fn is_blank(text: &[u8]) -> bool
     ensures { result ≡ (length (after_spaces text.now) == 0) }
 {
-    after_spaces(text).is_empty()
+    match text.last() {
+        // Mostly something ends it.
+        Some(byte) if *byte != b' ' => false,
+        _ => after_spaces(text).is_empty(),
+    }
 }
 
 /// The modifiers that a text is. `BadIndex` where it isn't modifiers, and `NoMemory`.

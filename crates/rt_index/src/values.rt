@@ -105,6 +105,7 @@ fn keyword_place<G: Ground>(ground: &G, place: usize, keyword: Keyword) -> usize
 }
 
 /// What a modifier makes of a place.
+#[inline(always)]
 pub(crate) fn moved<G: Ground>(ground: &G, place: usize, modifier: Modifier) -> usize
     requires { place ≤ length (G.widget ground.now).text }
     ensures value { result ≡ moved (G.widget ground.now).text place modifier }
