@@ -56,7 +56,7 @@ impl Block {
         is_earlier(ops, self.places[self.places.len() - 1], stamp)
     }
 
-    /// Puts a place in, where there is room.
+    /// Puts a place in, where there is room: mostly behind all others, where none moves.
     #[inline(always)]
     pub(crate) fn put(&mut self, at: usize, place: usize)
         requires within { at ≤ vec_len self.old.places }
@@ -64,7 +64,11 @@ impl Block {
         ensures items { self.new.places.items ≡ insert self.old.places.items at place }
         ensures len { vec_len self.new.places ≡ vec_len self.old.places + 1 }
     {
-        let _ = self.places.insert(at, place);
+        if at == self.places.len() {
+            self.places.push_reserved(place);
+        } else {
+            let _ = self.places.insert(at, place);
+        }
     }
 
     /// What stands in the second half becomes a block of its own.
