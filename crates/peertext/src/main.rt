@@ -24,6 +24,7 @@ use std::alloc::Global;
 use std::env::{self, Env};
 use std::io::{self, BufReader, BufWriter, Write};
 use std::marker::Brand;
+use std::mem::forget;
 use std::process::ExitCode;
 use std::sync::ledger::{Blank, Ledger};
 
@@ -157,7 +158,7 @@ fn run_begun<'a>(
 ) -> Option<Failure<'a>>
     requires { AreWithin files.now }
 {
-    let Outcome { fault, log } = run_streams::<Brand, Brand, Brand, Brand, HostRuntime>(
+    let Outcome { site, fault, log } = run_streams::<Brand, Brand, Brand, Brand, HostRuntime>(
         rt,
         site,
         files,
@@ -167,7 +168,10 @@ fn run_begun<'a>(
         Blank::new(1),
         Blank::new(1),
     );
-    first_failure(fault, write_log(rt, out, log))
+    let failure = first_failure(fault, write_log(rt, out, log));
+    // The program ends here: the site's memory goes with it as a whole, not cell by cell.
+    forget(site);
+    failure
 }
 
 // Reads the log and then the files, and runs standard input where none of these is at fault.

@@ -41,12 +41,11 @@ abbrev pub TellsLog : Bool → State → Option (Result (Vec ℕ Global) Fault) 
 TellsLog false state log = log ≡ None
 TellsLog true state log = (told : Result (Vec ℕ Global) Fault) × (log ≡ Some told) × Exports state told
 
--- A script was run by a site, and the log of the site as the run left it is told where it is wanted.
+-- A script was run by a site, which is told as the run left it, with its log where that is wanted.
 abbrev pub RunsScript : List NamedFile → State → Bool → Stream → Stream → Stream → Stream → Outcome → Type 0
 RunsScript files site wants_log script left before after outcome =
-    (new : State)
-    × Ends SiteGives (record { site = site; files = files }) (record { site = new; files = files }) script left before after outcome.fault
-    × TellsLog wants_log new outcome.log
+    Ends SiteGives (record { site = site; files = files }) (record { site = outcome.site; files = files }) script left before after outcome.fault
+    × TellsLog wants_log outcome.site outcome.log
 
 -- a log has no more bytes than a file may have
 abbrev pub WithinBytes : Option (Bor (List ℕ)) → Type 0

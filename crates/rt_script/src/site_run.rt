@@ -9,9 +9,11 @@ use rt_stamps::limits::MOST_CELLS;
 use rt_stamps::{Fault, Sink, Site, Source};
 use std::alloc::Global;
 
-/// How the run of a script ended, and what there is of the site's log then.
+/// How the run of a script ended, and the site with its log then.
 #[derive(Drop)]
 pub struct Outcome {
+    /// The site, as the run left it.
+    pub site: SiteState,
     /// Why the run ended before the script did.
     pub fault: Option<Fault>,
     /// The file of the site's log where it was asked for, or want of memory.
@@ -75,6 +77,5 @@ pub fn run_site<R: Source, W: Sink>(
 {
     let Ended { site, fault } = run(alloc, site, script, files, out);
     let log = log_of(&site, wants_log);
-    drop(site);
-    Outcome { fault, log }
+    Outcome { site, fault, log }
 }
