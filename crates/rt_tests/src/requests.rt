@@ -1,6 +1,6 @@
 // Words that only the crates below a site tell apart: the scripts of rt_tests_script have all others.
 use crate::checks::same;
-use rt_index::is_fixed;
+use rt_index::{is_fixed, parse};
 use rt_requests::Request;
 use rt_stamps::Fault;
 use rt_words::words::words;
@@ -28,6 +28,25 @@ fn words_that_are_fixed(rt: HostRuntime) {
     for (word, fixed) in FIXED {
         same(&rt, (*word, is_fixed(word)), (*word, *fixed));
     }
+}
+
+// Behind a position and behind a name; and a word that names no place, whatever marks and tags there are.
+#[test]
+fn words_that_are_parsed(rt: HostRuntime) -> Result<(), Fail> {
+    parse(
+        rt.alloc(),
+        "1.0 + 2 lines lineend - 1 c + 3 any chars wordstart",
+    )?;
+    parse(
+        rt.alloc(),
+        "insert + 2 lines lineend - 1 c + 3 any chars wordstart",
+    )?;
+    same(
+        &rt,
+        parse(rt.alloc(), "1.0 + 2").err(),
+        Some(Fault::BadIndex),
+    );
+    Ok(())
 }
 
 // Limits are options of a widget, and not of the commands that all widgets share.

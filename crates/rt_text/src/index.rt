@@ -1,30 +1,13 @@
-// Indices of a widget.
-ghost use Rattle.std.specs.Prelude.{◌≡◌, ◌-◌, ◌≤◌, length, Ok, IfOk, IfErr};
-ghost use Rattle.rt_index.specs.Index.{index_of};
-ghost use Rattle.rt_stamps.specs.Outcomes.{Refuses};
+// Positions and lines of places.
+ghost use Rattle.std.specs.Prelude.{◌≡◌, ◌-◌, ◌≤◌, length};
 ghost use Rattle.rt_stamps.specs.Places.{line_of, position_at};
 ghost use Rattle.rt_views.specs.Stretches.{part};
 ghost use Rattle.rt_store.specs.Cells.{text_of, visible_of};
 ghost use Rattle.rt_text.specs.Lines.{AreLines};
 
-use rt_index::{Ground, parse, resolve};
-use rt_stamps::{Fault, Position};
+use rt_stamps::Position;
 use rt_store::TextStore;
 use rt_views::Stretch;
-use std::alloc::Global;
-
-/// The place that a word names.
-pub(crate) fn place_of<G: Ground>(alloc: Global, ground: &G, word: &str) -> Result<usize, Fault>
-    ensures ok { IfOk result (λ place. index_of (G.widget ground.now) word.now ≡ Ok place) }
-    ensures within { IfOk result (λ place. place ≤ length (G.widget ground.now).text) }
-    ensures err { IfErr result (Refuses (index_of (G.widget ground.now) word.now)) }
-{
-    let expr = match parse(alloc, word) {
-        Ok(expr) => expr,
-        Err(fault) => return Err(fault),
-    };
-    resolve(&expr, ground)
-}
 
 // The position of a place, which is at most the text's end.
 fn position_at<S: TextStore>(store: &S, place: usize) -> Position

@@ -8,9 +8,8 @@ ghost use Rattle.rt_store.specs.Cells.{text_of};
 ghost use Rattle.rt_text.specs.Index.{index_check, place_at_index};
 ghost use Rattle.rt_text.specs.Ranges.{text_between, ranges_of, texts_of};
 
-use crate::index::place_of;
 use rt_edits::Range;
-use rt_index::Ground;
+use rt_index::{Ground, place_of};
 use rt_stamps::Fault;
 use rt_store::TextStore;
 use rt_views::Stretch;

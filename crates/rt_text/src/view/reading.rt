@@ -13,9 +13,9 @@ ghost use Rattle.rt_text.specs.Commands.{got_one, got, got_list, position_of_ind
 use super::View;
 use crate::comparison::holds;
 use crate::distance::distances_of;
-use crate::index::place_of;
 use crate::range::{ranges_at, shown_between, texts_of};
 use rt_edits::Range;
+use rt_index::place_of;
 use rt_requests::{Comparison, Measure};
 use rt_stamps::{Fault, Position};
 use rt_store::TextStore;

@@ -1,4 +1,4 @@
-use Rattle.std.proofs.Common.{◌≡◌, ◌∙◌, ◌<◌, ◌-◌, ◌⊎◌, [], ◌∷◌, Some, ap, inl, inr, length, map, refl, sym, List, Option}
+use Rattle.std.proofs.Common.{◌≡◌, ◌∙◌, ◌<◌, ◌⊎◌, [], ◌∷◌, Some, ap, inl, inr, length, map, refl, sym, List, Option}
 use Rattle.rt_stamps.specs.declared.fault.Fault.{Fault}
 use Rattle.rt_stamps.specs.declared.fault.Fault.TheVariants.{ClockSpent, NoMemory}
 use Rattle.rt_stamps.specs.declared.limits.TheConstants.{GREATEST_COUNT}
