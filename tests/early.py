@@ -84,7 +84,7 @@ def without_checks(lines, found):
     groups = {}
     for line in lines:
         # Calls of checks, and fills of memory that is written before it is read.
-        if '@"rattle-llvm-checks::' in line and "call void" in line or re.search(r"@llvm\.memset\.p0\.i64\(ptr %\w+, i8 (-86|0),", line):
+        if '@"rattle-llvm-checks::' in line and "call void" in line or re.search(r"@llvm\.memset\.p0\.i64\(ptr %\w+, i8 -86,", line):
             continue
         name = re.match(r'define internal .*?@"([^"]+)"\(', line)
         base = name and re.sub(r"::<.*$", "", name[1])
