@@ -5,7 +5,7 @@ ghost use Rattle.rt_stamps.specs.declared.limits.TheConstants.{GREATEST_COUNT, M
 ghost use Rattle.rt_stamps.specs.declared.stamp.Stamp.{Stamp};
 ghost use Rattle.rt_stamps.specs.Words.{Word};
 ghost use Rattle.rt_ops.specs.Edits.{body_of};
-ghost use Rattle.rt_ops.specs.Operations.{Insert};
+ghost use Rattle.rt_rga.specs.Drafts.{one_character};
 ghost use Rattle.rt_rga.specs.Few.{items_in};
 ghost use Rattle.rt_store.specs.declared.cell.Cell.{Cell};
 ghost use Rattle.rt_store.specs.Shown.{shown};
@@ -150,7 +150,7 @@ pub fn typed_between(
         → insertion_drafts MOST_CHARACTERS site after
         (option_map (shown states.now) left.now) (option_map (shown states.now) right.now) pieces.now rest.now
         (record { cells = []; count = count; sel = sel; others = others; tags = tags })
-        ≡ Insert after [] (typed.character ∷ []) ∷ []) }
+        ≡ one_character after typed.character) }
     ensures comes { IfSome result (λ typed. (site : ℕ) (others : List (List Stamp)) (tags : List Word)
         → let start : Insertion = record { cells = []; count = count; sel = selected_stamps selection.now; others = others; tags = tags } in
         insertion_of site (option_map (shown states.now) left.now) (option_map (shown states.now) right.now) pieces.now rest.now start

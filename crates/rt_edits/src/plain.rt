@@ -3,7 +3,7 @@ ghost use Rattle.std.specs.Prelude.{◌≡◌, ◌+◌, ◌<◌, ◌&&◌, ◌�
 ghost use Rattle.rt_stamps.specs.declared.stamp.Stamp.{Stamp};
 ghost use Rattle.rt_stamps.specs.Words.{Word};
 ghost use Rattle.rt_ops.specs.Edits.{body_of};
-ghost use Rattle.rt_ops.specs.Operations.{Insert};
+ghost use Rattle.rt_rga.specs.Drafts.{one_character};
 ghost use Rattle.rt_rga.specs.Few.{items_in};
 ghost use Rattle.rt_store.specs.declared.cell.Cell.{Cell};
 ghost use Rattle.rt_store.specs.Shown.{shown};
@@ -64,7 +64,7 @@ pub(crate) fn plain_sides(
 #[inline(always)]
 pub(crate) fn plain_plan(alloc: Global, site: Site, count: u64, after: Stamp, typed: Typed) -> Plan
     requires { count < u64.MAX }
-    ensures drafts { map body_of (items_in result.drafts) ≡ Insert after [] (typed.character ∷ []) ∷ [] }
+    ensures drafts { map body_of (items_in result.drafts) ≡ one_character after typed.character }
     ensures plans { (sel : List Stamp) (others : List (List Stamp)) (tags : List Word) → Plans result sel others tags
         (with_typed site.number typed (record { cells = []; count = count; sel = sel; others = others; tags = tags })) }
 {

@@ -54,6 +54,11 @@ pieces_named (piece ∷ pieces) h =
 unmapped : {X Y : Type 0} (P : Y → Type 0) (f : X → Y) (xs : List X) → All P (map f xs) → All (λ x. P (f x)) xs
 unmapped P f xs h = λ k d lt. subst P (get_or-map f xs k d (f d) lt) (h k (f d) (omega (arith, length-map xs f, lt)))
 
+-- what begins with the document's site and count and the widget's selection
+pub begun : {X : Type 0} (f : ℕ → Insertion → X) (site count : ℕ) (sel : List Stamp) (view : Viewed) → site ≡ view.doc.site → count ≡ view.doc.count → sel ≡ view.own.sel
+    → f site (record { cells = []; count = count; sel = sel; others = selections_of view.others; tags = view.doc.tags }) ≡ f view.doc.site (none_inserted view)
+begun f site count sel view s n e = λ i. f (s i) (record { cells = []; count = n i; sel = e i; others = selections_of view.others; tags = view.doc.tags })
+
 module _ (flat : Flat) (own : Own) (others : List Own) (place : ℕ) (pieces : List Piece) (rest : Word) where
   abbrev view : Viewed
   view = viewed flat own others
@@ -92,10 +97,10 @@ module _ (flat : Flat) (own : Own) (others : List Own) (place : ℕ) (pieces : L
       }
   put_made = refl
 
-  -- a plan on a site, a count, a selection and neighbours that are the document's and the widget's
-  module _ (site count : ℕ) (sel : List Stamp) (at : ℕ) (after : Stamp) (l r : Option TaggedCell) (s : site ≡ flat.site) (n : count ≡ flat.count) (e : sel ≡ own.sel) (f : IsFound flat own others place pieces at after l r) where
+  -- between the neighbours that the code finds it is the same, and so are its operations
+  module _ (after : Stamp) (l r : Option TaggedCell) (f : IsFound flat own others place pieces after l r) where
     abbrev start : Insertion
-    start = record { cells = []; count = flat.count; sel = own.sel; others = selections_of others; tags = flat.tags }
+    start = none_inserted view
 
     which : ((l ≡ None) × ((with_pieces flat.site pieces start).cells ≡ [])) ⊎ (r ≡ right)
     which = by f.next
@@ -104,22 +109,14 @@ module _ (flat : Flat) (own : Own) (others : List Own) (place : ℕ) (pieces : L
         by (inl w) = inl (f.before ∙ w.0, w.1)
         by (inr k) = inr k
 
-    pub new_is : insertion_of site l r pieces rest (record { cells = []; count = count; sel = sel; others = selections_of others; tags = flat.tags }) ≡ made_new
-    new_is =
-        (λ i. insertion_of (s i) l r pieces rest (record { cells = []; count = n i; sel = e i; others = selections_of others; tags = flat.tags }))
-        ∙ right_any flat.site l r right pieces rest start which ∙ ap (λ o. insertion_of flat.site o right pieces rest start) f.before
+    pub new_is : insertion_of flat.site l r pieces rest start ≡ made_new
+    new_is = right_any flat.site l r right pieces rest start which ∙ ap (λ o. insertion_of flat.site o right pieces rest start) f.before
 
-    pub drafts_are : (drafts : List Body)
-        → drafts ≡ insertion_drafts MOST_CHARACTERS site after l r pieces rest (record { cells = []; count = count; sel = sel; others = selections_of others; tags = flat.tags }) → drafts ≡ made_drafts
-    drafts_are drafts d =
-        d ∙ (λ i. insertion_drafts MOST_CHARACTERS (s i) (f.element i) l r pieces rest (record { cells = []; count = n i; sel = e i; others = selections_of others; tags = flat.tags }))
+    pub drafts_are : insertion_drafts MOST_CHARACTERS flat.site after l r pieces rest start ≡ made_drafts
+    drafts_are =
+        ap (λ a. insertion_drafts MOST_CHARACTERS flat.site a l r pieces rest start) f.element
         ∙ drafts_any flat.site (left_of flat.cells place_in) l r right pieces rest start which
         ∙ ap (λ o. insertion_drafts MOST_CHARACTERS flat.site (left_of flat.cells place_in) o right pieces rest start) f.before
-
-    pub plans_are : (plan : Plan)
-        → Plans plan sel (selections_of others) flat.tags (insertion_of site l r pieces rest (record { cells = []; count = count; sel = sel; others = selections_of others; tags = flat.tags }))
-        → Plans plan own.sel (selections_of others) flat.tags made_new
-    plans_are plan h = subst (λ (p : _). p) (λ i. Plans plan (e i) (selections_of others) flat.tags (new_is i)) h
 
 module _ (flat : Flat) (own : Own) (others : List Own) (place : ℕ) (pieces : List Piece) (rest : Word) (is : IsPlace flat own others place) where
   abbrev seen : Viewed

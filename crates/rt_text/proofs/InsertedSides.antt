@@ -33,7 +33,7 @@ use Rattle.rt_edits.proofs.RestLaws.{element_shown, left_shown}
 use Rattle.rt_views.specs.declared.limits.Limits.{Limits}
 use Rattle.rt_views.specs.declared.stretch.Stretch.{Stretch}
 use Rattle.rt_views.specs.Limits.{no_limits, place_of}
-use Rattle.rt_views.specs.Stretches.{stretch_of}
+use Rattle.rt_views.specs.Stretches.{shown_part, stretch_of}
 use Rattle.rt_views.proofs.Parts.{part_get}
 use Rattle.rt_views.proofs.Shown.{place_shown}
 use Rattle.rt_views.proofs.Whole.{stretch_whole, stretch_within}
@@ -66,6 +66,14 @@ pub record IsPlace (flat : Flat) (own : Own) (others : List Own) (place : ℕ) :
   pub document : IsDocument flat.site flat.log flat
   pub real : 0 < flat.site
   pub within : place < length_shown (viewed flat own others)
+
+pub place_is : (flat : Flat) (own : Own) (others : List Own) (place : ℕ) → IsHistory flat.log → IsDocument flat.site flat.log flat → 0 < flat.site → place < length (shown_part flat.cells own.limits) → IsPlace flat own others place
+place_is flat own others place h doc real l = record {
+  history = h;
+  document = doc;
+  real = real;
+  within = subst (λ n. place < n) (sym (length-map (shown_part flat.cells own.limits) (λ (cell : TaggedCell). cell.ch))) l;
+}
 
 module _ (flat : Flat) (own : Own) (others : List Own) (place : ℕ) (is : IsPlace flat own others place) where
   abbrev view : Viewed
@@ -338,8 +346,7 @@ right_is flat own others place pieces is =
     by (inr e) = inr (ap (λ b. cond b (right_neighbour (shown_by (viewed flat own others)) place) None) e)
 
 -- what the code finds beside the place
-pub record IsFound (flat : Flat) (own : Own) (others : List Own) (place : ℕ) (pieces : List Piece) (at : ℕ) (after : Stamp) (left right : Option TaggedCell) : Type 0 where
-  pub here : at ≡ in_text (viewed flat own others) place
+pub record IsFound (flat : Flat) (own : Own) (others : List Own) (place : ℕ) (pieces : List Piece) (after : Stamp) (left right : Option TaggedCell) : Type 0 where
   pub element : after ≡ left_of flat.cells (in_text (viewed flat own others) place)
   pub before : left ≡ left_neighbour (shown_by (viewed flat own others)) place
   pub next : IsRight flat own others place pieces right
@@ -350,14 +357,13 @@ pub found : (table : TagStates) (kept : List (Cell ℕ)) (flat : Flat) (own : Ow
     → right ≡ cond (not (are_newlines kept limits) || are_sides_shown (limit_left (is_covered []) kept limits.start) (limit_left (is_covered []) kept limits.end) (stretch.begin + place) (pieces_text pieces))
     (slice_get (visible_of kept) (stretch.begin + place)) None
     → after ≡ unwrap_or (option_map (λ cell. cell.stamp) before) ROOT
-    → IsFound flat own others place pieces (stretch.begin + place) after (option_map (shown table) left) (option_map (shown table) right)
+    → IsFound flat own others place pieces after (option_map (shown table) left) (option_map (shown table) right)
 found table kept flat own others place pieces limits stretch before left right after e is l s b x r a =
     let at = stretch.begin + place in
     let here : at ≡ in_text (viewed flat own others) place = ap (λ (y : Stretch). y.begin + place) (s ∙ ap (stretch_of kept) l ∙ stretch_kept table kept flat.cells own.limits e) in
     let flag = ap (λ (y : Limits). not (are_newlines kept y) || are_sides_shown (limit_left (is_covered []) kept y.start) (limit_left (is_covered []) kept y.end) at (pieces_text pieces)) l
     ∙ shown_kept table kept flat own.limits at (in_text (viewed flat own others) place) pieces e here in
     record {
-      here = here;
       element = a ∙ element_found table kept flat at (in_text (viewed flat own others) place) before e here b;
       before = left_found table kept flat own others place at before left e is here b x;
       next = subst (IsRight flat own others place pieces) (sym (right_found table kept flat own others place at pieces _ right e is here flag r)) (right_is flat own others place pieces is);

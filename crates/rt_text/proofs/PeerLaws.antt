@@ -43,10 +43,10 @@ none_selecting [] = refl
 none_selecting (own ∷ widgets) = ap (λ l. own ∷ l) (none_selecting widgets)
 
 -- selected first and moved then, they are as moved and given their selections
-pub put_each : (place n : ℕ) (between : Option Between) (widgets : List Own) → map (own_inserted place n) (map (selecting between) widgets)
-    ≡ with_selections (map (selected_between between) (selections_of widgets)) (map (own_inserted place n) widgets)
-put_each place n between [] = refl
-put_each place n between (own ∷ widgets) = ap (λ l. own_inserted place n (selecting between own) ∷ l) (put_each place n between widgets)
+pub put_each : (place n : ℕ) (rule : List Stamp → List Stamp) (widgets : List Own) → map (own_inserted place n) (map (reselected rule) widgets)
+    ≡ with_selections (map rule (selections_of widgets)) (map (own_inserted place n) widgets)
+put_each place n rule [] = refl
+put_each place n rule (own ∷ widgets) = ap (λ l. own_inserted place n (reselected rule own) ∷ l) (put_each place n rule widgets)
 
 pub leave_then : (removed : ℕ → Bool) (f : List Stamp → List Stamp) (widgets : List Own) → map (reselected f) (map (own_left removed) widgets) ≡ map (λ own. reselected f (own_left removed own)) widgets
 leave_then removed f [] = refl

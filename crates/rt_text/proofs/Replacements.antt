@@ -263,15 +263,14 @@ module _ (flat : Flat) (own : Own) (others : List Own) (range : Range) (h : IsHi
         let next : r ≡ cond (are_shown after_all.doc after_all.own.limits (in_text after_all place) pieces) (right_neighbour (shown_by after_all) place) None =
         d ∙ (λ i. cond (shown_in (same i) own.limits (sym in_left i) pieces) (slice_get (visible_of (same i)) (sym in_left i)) None)
         ∙ ap (λ o. cond (are_shown after_all.doc after_all.own.limits (in_text after_all place) pieces) o None) (sym (right_there after_all.doc after_all.own after_all.others place is)) in
-        let found : IsFound after_all.doc after_all.own after_all.others place pieces at after l r = record {
-          here = sym in_left;
+        let found : IsFound after_all.doc after_all.own after_all.others place pieces after l r = record {
           element = c ∙ ap (λ o. unwrap_or (option_map (λ (cell : TaggedCell). cell.stamp) o) ROOT) near ∙ sym (element_left after_all.doc.cells (in_text after_all place));
           before = b ∙ left_side after_all.doc after_all.own after_all.others place before is near;
           next = subst (IsRight after_all.doc after_all.own after_all.others place pieces) (sym next) (right_is after_all.doc after_all.own after_all.others place pieces is);
         } in
         record {
-          insertion = new_is after_all.doc after_all.own after_all.others place pieces rest after_all.doc.site after_all.doc.count after_all.own.sel at after l r refl refl refl found;
-          drafts = drafts_are after_all.doc after_all.own after_all.others place pieces rest after_all.doc.site after_all.doc.count after_all.own.sel at after l r refl refl refl found (drafting pieces rest after l r) refl;
+          insertion = new_is after_all.doc after_all.own after_all.others place pieces rest after l r found;
+          drafts = drafts_are after_all.doc after_all.own after_all.others place pieces rest after l r found;
         }
 
     -- THE LAST NEWLINE, WHERE IT IS HELD

@@ -1,9 +1,7 @@
 -- What contracts see of the parts of widgets.
 use Rattle.std.specs.Prelude.{true, length, ◌≡◌, ◌≤◌, ◌&&◌, List, All, Option, None, Some, codes}
-use Rattle.rt_stamps.specs.declared.stamp.Stamp.{Stamp}
 use Rattle.rt_store.specs.Spans.{is_among}
 use Rattle.rt_edits.specs.declared.inserting.Between.{Between}
-use Rattle.rt_edits.specs.Insertions.{selected_if}
 use Rattle.rt_edits.specs.Selected.{room_in, selected_stamps}
 use Rattle.rt_text.specs.declared.parts.Parts.{Parts}
 use Rattle.rt_text.specs.Widgets.{Own}
@@ -23,7 +21,3 @@ HaveRoomFor None others = Unit {0}
 HaveRoomFor (Some between) others =
     All (λ parts. (is_among (selected_stamps parts.selection) between.left && is_among (selected_stamps parts.selection) between.right) ≡ true
     → length between.stamps ≤ room_in parts.selection) others
-
--- characters come to be selected where both of these are
-abbrev pub selected_with : Stamp → Stamp → List Stamp → List Stamp → List Stamp
-selected_with left right stamps selection = selected_if (is_among selection left && is_among selection right) stamps selection

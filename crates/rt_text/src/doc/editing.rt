@@ -1,14 +1,20 @@
 // Insertions and removals.
-ghost use Rattle.std.specs.Prelude.{◌≡◌, ◌⊎◌, All, List, ◌<◌, ◌∷◌, [], None, Some, IfErr, IfOk, IfSome, OnOk, OnErr, length, map};
+ghost use Rattle.std.specs.Prelude.{◌≡◌, ◌⊎◌, All, List, ◌<◌, ◌∷◌, [], None, Some, IfErr, IfOk, IfSome, OnOk, OnErr, length, map, option_map};
 ghost use Rattle.rt_ops.specs.Edits.{body_of};
-ghost use Rattle.rt_stamps.specs.declared.limits.TheConstants.{GREATEST_COUNT};
-ghost use Rattle.rt_edits.specs.InsertionPlans.{Plans};
+ghost use Rattle.rt_stamps.specs.declared.limits.TheConstants.{GREATEST_COUNT, MOST_CHARACTERS};
+ghost use Rattle.rt_stamps.specs.Words.{Word};
+ghost use Rattle.rt_store.specs.Shown.{shown};
+ghost use Rattle.rt_tags.specs.States.{IsState};
+ghost use Rattle.rt_edits.specs.InsertionDrafts.{insertion_drafts};
+ghost use Rattle.rt_edits.specs.InsertionPlans.{Plans, with_typed};
+ghost use Rattle.rt_edits.specs.Insertions.{insertion_of};
+ghost use Rattle.rt_rga.specs.Drafts.{one_character};
 ghost use Rattle.rt_rga.specs.Few.{items_in};
 ghost use Rattle.rt_text.specs.Replacements.{drafts_at, insertion_at};
 ghost use Rattle.rt_stamps.specs.Outcomes.{first_of};
 ghost use Rattle.rt_store.specs.Cells.{text_of, visible_of};
 ghost use Rattle.rt_text.specs.Widgets.{IsOwnOf, Own, Viewed, selections_of};
-ghost use Rattle.rt_text.specs.Commands.{cell_check, clock_check, with_pieces_at, without_ranges};
+ghost use Rattle.rt_text.specs.Commands.{cell_check, clock_check, none_inserted, with_pieces_at, without_ranges};
 ghost use Rattle.rt_edits.specs.DeletionLaws.{IsPiece};
 ghost use Rattle.rt_text.specs.Parts.{own_in};
 ghost use Rattle.std.specs.List.{AllByRecursion};
@@ -19,18 +25,57 @@ use crate::Widget;
 use crate::inserting::{insert_all, select_all};
 use crate::moving::{leave_all, unselect_last};
 use crate::neighbours::{left_of, shown_at, shown_before, stamp_or_root};
+use crate::others::{add_between, reserve_between};
 use crate::parts::Parts;
 use crate::preparing::{list_tags, make_planned};
 use rt_edits::drafting::planned_deletion;
-use rt_edits::inserting::{Plan, planned_between, planned_typing};
+use rt_edits::inserting::{Plan, Typed, planned_between, typed_between};
 use rt_edits::{Piece, Range};
 use rt_rga::Few;
-use rt_stamps::Fault;
-use rt_store::TextStore;
+use rt_stamps::{Fault, Stamp};
+use rt_store::{Cell, TextStore};
+use rt_tags::{StateId, StateTable};
 use rt_views::Stretch;
 use std::mem::replace;
+use std::slice;
 
 impl<S: TextStore> Doc<S> {
+    // Where text goes that stands behind pieces, before the character at a place of the stretch that is shown: the states
+    // of characters, the element behind it, and its neighbours. Between these an insertion is what it is at the place.
+    #[inline(always)]
+    fn neighbours(
+        &self,
+        widget: &Widget,
+        stretch: Stretch,
+        place: usize,
+        pieces: &[Piece],
+    ) -> (
+        &StateTable,
+        Stamp,
+        Option<Cell<StateId>>,
+        Option<Cell<StateId>>,
+    )
+        requires stretch { stretch ≡ stretch_of self.now.cells widget.now.limits }
+        requires place { place < length (shown_part self.now.cells widget.now.limits) }
+        ensures left { IfSome result.2 (λ cell. IsState result.0.now cell.state) }
+        ensures right { IfSome result.3 (λ cell. IsState result.0.now cell.state) }
+        ensures after { IfSome result.2 (λ cell. result.1 ≡ cell.stamp) }
+        ensures drafts { (others : List Own) (rest : Word) → let view : Viewed = record { doc = self.now; own = widget.now; others = others } in
+            insertion_drafts MOST_CHARACTERS self.now.site result.1 (option_map (shown result.0.now) result.2) (option_map (shown result.0.now) result.3)
+            pieces.now rest (none_inserted view) ≡ drafts_at view place pieces.now rest }
+        ensures comes { (others : List Own) (rest : Word) → let view : Viewed = record { doc = self.now; own = widget.now; others = others } in
+            insertion_of self.now.site (option_map (shown result.0.now) result.2) (option_map (shown result.0.now) result.3)
+            pieces.now rest (none_inserted view) ≡ insertion_at view place pieces.now rest }
+    {
+        let (store, states) = self.kept();
+        let at = stretch.begin + place;
+        let behind = left_of(store, at);
+        let after = stamp_or_root(&behind);
+        let left = shown_before(place, behind);
+        let right = shown_at(store, widget.limits(), at, pieces);
+        (states, after, left, right)
+    }
+
     // Plans pieces of text and characters without a list before the character at a place of the stretch that is
     // shown.
     fn planned_insertion(
@@ -52,12 +97,7 @@ impl<S: TextStore> Doc<S> {
     {
         let site = self.replica.site();
         let count = self.replica.clock().seen();
-        let (store, states) = self.kept();
-        let at = stretch.begin + place;
-        let behind = left_of(store, at);
-        let after = stamp_or_root(&behind);
-        let left = shown_before(place, behind);
-        let right = shown_at(store, widget.limits(), at, pieces);
+        let (states, after, left, right) = self.neighbours(widget, stretch, place, pieces);
         planned_between(
             self.alloc,
             states,
@@ -72,42 +112,33 @@ impl<S: TextStore> Doc<S> {
         )
     }
 
-    // The same for one plain character (`planned_typing` of rt_edits); else none.
+    // What they come to there, where it is what typing mostly comes to (`typed_between` of rt_edits); else none.
     #[inline(always)]
-    fn planned_typing(
+    fn typed(
         &self,
         widget: &Widget,
         stretch: Stretch,
         place: usize,
         pieces: &[Piece],
         rest: &str,
-    ) -> Option<Plan>
+    ) -> Option<Typed>
         requires stretch { stretch ≡ stretch_of self.now.cells widget.now.limits }
         requires place { place < length (shown_part self.now.cells widget.now.limits) }
-        ensures drafts { IfSome result (λ plan. (others : List Own)
-            → map body_of (items_in plan.drafts) ≡ drafts_at (record { doc = self.now; own = widget.now; others = others }) place pieces.now rest.now) }
-        ensures plans { IfSome result (λ plan. (others : List Own) → Plans plan widget.now.sel (selections_of others) self.now.tags
-            (insertion_at (record { doc = self.now; own = widget.now; others = others }) place pieces.now rest.now)) }
+        ensures drafts { IfSome result (λ typed. (others : List Own) → let view : Viewed = record { doc = self.now; own = widget.now; others = others } in
+            drafts_at view place pieces.now rest.now ≡ one_character typed.left typed.character) }
+        ensures comes { IfSome result (λ typed. (others : List Own) → let view : Viewed = record { doc = self.now; own = widget.now; others = others } in
+            insertion_at view place pieces.now rest.now ≡ with_typed self.now.site typed (none_inserted view)) }
     {
         // What is surely more than a character, or has no left neighbour, looks nothing up; a character has at most four bytes.
         if !pieces.is_empty() || rest.len() > 4 || place == 0 {
             return None;
         }
-        let site = self.replica.site();
         let count = self.replica.clock().seen();
-        let (store, states) = self.kept();
-        let at = stretch.begin + place;
-        let behind = left_of(store, at);
-        let after = stamp_or_root(&behind);
-        let left = shown_before(place, behind);
-        let right = shown_at(store, widget.limits(), at, pieces);
-        planned_typing(
-            self.alloc,
+        let (states, _, left, right) = self.neighbours(widget, stretch, place, pieces);
+        typed_between(
             states,
-            site,
             count,
             &widget.parts.selection,
-            after,
             &left,
             &right,
             pieces,
@@ -115,9 +146,55 @@ impl<S: TextStore> Doc<S> {
         )
     }
 
-    // Carries out a plan for pieces of text and characters without a list, which only the clauses name, at a place of the stretch
-    // that is shown. It is compiled into its callers: where the plan is that of typing, it is known there that it is one draft.
+    // Puts in a typed character, to which pieces of text and characters without a list come, that only the clauses name, at a place
+    // of the stretch that is shown.
     #[inline(always)]
+    fn insert_typed(
+        &mut self,
+        widget: &mut Widget,
+        others: &mut [Parts],
+        stretch: Stretch,
+        place: usize,
+        pieces: &[Piece],
+        rest: &str,
+        typed: Typed,
+    ) -> Result<(), Fault>
+        requires drafts { (others : List Own) → let view : Viewed = record { doc = self.old; own = widget.old; others = others } in
+            drafts_at view place pieces.now rest.now ≡ one_character typed.left typed.character }
+        requires comes { (others : List Own) → let view : Viewed = record { doc = self.old; own = widget.old; others = others } in
+            insertion_at view place pieces.now rest.now ≡ with_typed self.old.site typed (none_inserted view) }
+        requires stretch { stretch ≡ stretch_of self.old.cells widget.old.limits }
+        requires place { place < length (shown_part self.old.cells widget.old.limits) }
+        requires pieces { All IsPiece pieces.now }
+        requires own { IsOwnOf (length (text_of self.old.cells)) widget.old }
+        requires others { AllByRecursion (IsOwnOf (length (text_of self.old.cells))) (map own_in others.old) }
+        ensures ok { let view : Viewed = record { doc = self.old; own = widget.old; others = map own_in others.old } in
+            OnOk result (record { doc = self.new; own = widget.new; others = map own_in others.new } ≡ with_pieces_at view place pieces.now rest.now) }
+        ensures checked { OnOk result (first_of (clock_check self.new.count ∷ cell_check self.old.limit (length self.new.cells) ∷ []) ≡ None) }
+        ensures err { let view : Viewed = record { doc = self.old; own = widget.old; others = map own_in others.old } in
+            let edited = (with_pieces_at view place pieces.now rest.now).doc in
+            IfErr result (λ fault. (fault ≡ Fault.NoMemory)
+            ⊎ (first_of (clock_check edited.count ∷ cell_check self.old.limit (length edited.cells) ∷ []) ≡ Some fault)) }
+        ensures unchanged { OnErr result ((self.new ≡ self.old) × (widget.new ≡ widget.old) × (map own_in others.new ≡ map own_in others.old)) }
+        ensures own { IsOwnOf (length (text_of self.new.cells)) widget.new }
+        ensures others { AllByRecursion (IsOwnOf (length (text_of self.new.cells))) (map own_in others.new) }
+    {
+        // Its clauses say where the place lies; the value isn't needed.
+        let _ = self.kept();
+        let at = stretch.begin + place;
+        let stamp = Stamp {
+            count: self.replica.clock().seen() + 1,
+            site: self.replica.site().number(),
+        };
+        reserve_between(others, typed.left, typed.right, 1)?;
+        self.replica.commit_character(typed.left, typed.character)?;
+        add_between(others, typed.left, typed.right, slice::from_ref(&stamp));
+        insert_all(&mut self.marks, widget, others, at, 1);
+        Ok(())
+    }
+
+    // Carries out a plan for pieces of text and characters without a list, which only the clauses name, at a place of the stretch
+    // that is shown.
     fn insert_planned(
         &mut self,
         widget: &mut Widget,
@@ -232,8 +309,8 @@ impl<S: TextStore> Doc<S> {
         ensures own { IsOwnOf (length (text_of self.new.cells)) widget.new }
         ensures others { AllByRecursion (IsOwnOf (length (text_of self.new.cells))) (map own_in others.new) }
     {
-        match self.planned_typing(widget, stretch, place, pieces, rest) {
-            Some(plan) => self.insert_planned(widget, others, stretch, place, pieces, rest, plan),
+        match self.typed(widget, stretch, place, pieces, rest) {
+            Some(typed) => self.insert_typed(widget, others, stretch, place, pieces, rest, typed),
             None => self.insert_pieces(widget, others, stretch, place, pieces, rest),
         }
     }

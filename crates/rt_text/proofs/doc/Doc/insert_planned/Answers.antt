@@ -1,37 +1,32 @@
 use Rattle.rt_text.proofs.Room.{before_fits, grown_fits, mark_fits, visible_fits}
 use Rattle.rt_stamps.specs.declared.stamp.Stamp.{Stamp}
-use Rattle.std.proofs.Common.{◌≡◌, ℕ, ◌∙◌, ◌<◌, ◌≤◌, ◌+◌, ◌^◌, ◌-◌, All, ◌⊎◌, ap, inl, inr, length, map, refl, string_bytes, subst, sym, List, true}
+use Rattle.std.proofs.Common.{◌≡◌, ◌∙◌, ◌≤◌, ◌+◌, ◌^◌, ◌-◌, All, ◌⊎◌, ap, inl, inr, length, map, refl, string_bytes, subst, sym, List, true}
 use Rattle.std.specs.List.{AllByRecursion}
-use Rattle.std.proofs.lemmas.List.{length-map}
 use Rattle.std.proofs.lemmas.Result.{err_from_is_err_and}
 use Rattle.rt_marks.specs.Marks.{mark_inserted, marks_inserted}
 use Rattle.rt_ops.specs.Edits.{body_of}
 use Rattle.rt_stamps.specs.Outcomes.{first_of}
 use Rattle.rt_stamps.specs.Words.{as_words}
 use Rattle.rt_store.specs.Cells.{text_of, visible_of}
-use Rattle.rt_store.specs.Shown.{TaggedCell}
 use Rattle.rt_tags.specs.Tags.{IsName, is_ready}
-use Rattle.rt_rga.specs.Histories.{IsHistory}
 use Rattle.rt_rga.specs.Drafts.{with_drafts}
 use Rattle.rt_rga.specs.Made.{refusal_of}
 use Rattle.rt_rga.specs.Requests.{MayBeMade}
 use Rattle.rt_rga.specs.Few.{items_in}
-use Rattle.rt_edits.specs.DraftLaws.{IsDocument}
 use Rattle.rt_edits.specs.Flat.{Flat, logged}
-use Rattle.rt_edits.specs.InsertionPlans.{Plans}
+use Rattle.rt_edits.specs.InsertionPlans.{Plans, selected_between}
 use Rattle.rt_edits.specs.Insertions.{all_listed}
 use Rattle.rt_edits.specs.Listed.{AreListed}
 use Rattle.rt_edits.specs.Selected.{selected_stamps, room_in}
 use Rattle.rt_edits.specs.Selections.{with_stamps}
 use Rattle.rt_edits.proofs.PlaceLaws.{length_text, text_within}
 use Rattle.rt_views.specs.declared.stretch.Stretch.{Stretch}
-use Rattle.rt_views.specs.Stretches.{shown_part}
 use Rattle.rt_text.specs.Commands.{with_pieces_at}
 use Rattle.rt_text.specs.Kept.{IsDoc}
 use Rattle.rt_text.specs.Parts.{own_in}
 use Rattle.rt_text.specs.Widgets.{IsOwnOf, Own, in_text, own_inserted, selections_of, with_selections}
 use Rattle.rt_text.proofs.InsertedDocument.{all_fit, kept_made, made_drafts, made_flat, made_is, made_new, may_make, names_given, others_made, own_made, put_made, refused_as, refused_made}
-use Rattle.rt_text.proofs.InsertedSides.{IsPlace, at_visible}
+use Rattle.rt_text.proofs.InsertedSides.{at_visible, place_is}
 use Rattle.rt_text.proofs.MadeDocument.{seen, seen_made}
 use Rattle.rt_text.proofs.MarkLaws.{own_of_selecting, site_fits}
 use Rattle.rt_text.proofs.PeerLaws.{each_by, each_room, put_each, selecting}
@@ -42,14 +37,6 @@ use Rattle.rt_text.proofs.doc.Doc.insert_planned.Goals as goal
 which : {X M : Type 0} {r checked some : X} → M ⊎ (r ≡ some) → r ≡ checked → M ⊎ (checked ≡ some)
 which (inl e) s = inl e
 which (inr e) s = inr (sym s ∙ e)
-
-place_is : (flat : Flat) (own : Own) (others : List Own) (place : ℕ) → IsHistory flat.log → IsDocument flat.site flat.log flat → 0 < flat.site → place < length (shown_part flat.cells own.limits) → IsPlace flat own others place
-place_is flat own others place h doc real l = record {
-  history = h;
-  document = doc;
-  real = real;
-  within = subst (λ n. place < n) (sym (length-map (shown_part flat.cells own.limits) (λ (cell : TaggedCell). cell.ch))) l;
-}
 
 pub overflow_add-at : goal.overflow_add-at
 overflow_add-at g c =
@@ -243,7 +230,7 @@ returns g c =
     ∙ ap (λ (o : Own). record (own_inserted point (length new.cells) o) { sel = new.sel }) c.widget.view_is in
     let others_after : map own_in c.insert_all.new.others ≡ with_selections new.others (map (own_inserted point (length new.cells)) others) =
     c.insert_all.ensures.others ∙ ap (map (own_inserted at c.args.plan.characters)) (c.select_all.ensures.others ∙ ap (map (selecting c.args.plan.between)) c.make_planned.ensures.others)
-    ∙ (λ i. map (own_inserted (here i) (plans.characters i)) (map (selecting c.args.plan.between) others)) ∙ put_each point (length new.cells) c.args.plan.between others
+    ∙ (λ i. map (own_inserted (here i) (plans.characters i)) (map (selecting c.args.plan.between) others)) ∙ put_each point (length new.cells) (selected_between c.args.plan.between) others
     ∙ ap (λ l. with_selections l (map (own_inserted point (length new.cells)) others)) plans.others in
     record {
       ok = (λ i. record { doc = seen c.make_planned.new.replica (marks i) (tags i); own = own_after i; others = others_after i })

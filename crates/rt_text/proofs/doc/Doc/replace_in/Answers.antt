@@ -25,6 +25,7 @@ use Rattle.rt_rga.specs.Requests.{MayBeMade}
 use Rattle.rt_edits.specs.declared.range.Range.{Range}
 use Rattle.rt_edits.specs.Deletions.{delete_drafts}
 use Rattle.rt_edits.specs.Flat.{Flat, logged}
+use Rattle.rt_edits.specs.InsertionPlans.{selected_between}
 use Rattle.rt_edits.specs.Insertions.{Piece, all_listed}
 use Rattle.rt_edits.specs.Removals.{is_covered, AreInOrder}
 use Rattle.rt_edits.specs.Selected.{selected_stamps, room_in}
@@ -340,7 +341,7 @@ done g c =
           (c.make_planned.ensures.site ∙ ap (λ (f : Flat). f.site) c.self.view_is) (c.make_planned.ensures.limit ∙ ap (λ (f : Flat). f.limit) c.self.view_is);
       own_is = c.insert_all.ensures.own ∙ (λ k. own_inserted (here k) (plans.plan.characters k) (own_moved k));
       others_are = c.insert_all.ensures.others ∙ ap (map (own_inserted at r.plan.characters)) peers
-          ∙ (λ k. map (own_inserted (here k) (plans.plan.characters k)) (map (selecting r.plan.between) left.others)) ∙ put_each place (length new.cells) r.plan.between left.others
+          ∙ (λ k. map (own_inserted (here k) (plans.plan.characters k)) (map (selecting r.plan.between) left.others)) ∙ put_each place (length new.cells) (selected_between r.plan.between) left.others
           ∙ ap (λ l. with_selections l (map (own_inserted place (length new.cells)) left.others)) plans.plan.others;
     }
 
