@@ -5,4 +5,6 @@ pub mod Lists
 pub mod Placing
 pub mod Pushing
 pub mod Refusals
+pub mod TagBorders
+pub mod Turns
 pub mod Values

@@ -4,6 +4,7 @@ use Rattle.std.specs.List.{All}
 use Rattle.std.specs.List.Sorted.{IsNonDecreasingBy, IsPermutation}
 use Rattle.rt_queries.specs.declared.stretch.Stretch.{Stretch}
 use Rattle.rt_queries.specs.Elements.{Placed, stands_at}
+use Rattle.rt_store.specs.Tagged.{Passes}
 
 -- a place is in a stretch
 abbrev pub is_in : Stretch → ℕ → Bool
@@ -31,3 +32,10 @@ pub record EndsWhere (test : ℕ → Bool) (place found end : ℕ) : Type 0 wher
   pub within : found ≤ end
   pub none_before : (k : ℕ) → place < k → k < found → test k ≡ false
   pub passes : (test found ≡ true) ⊎ (found ≡ end)
+
+-- the characters from a place on pass a test, up to the first that doesn't or to an end
+pub record RunsTo {A : Type 0} (test : A → Bool) (characters : List A) (place found end : ℕ) : Type 0 where
+  pub behind : place < found
+  pub within : found ≤ end
+  pub all : (k : ℕ) → place ≤ k → k < found → Passes test characters k
+  pub stops : found < end → Passes test characters found → ⊥

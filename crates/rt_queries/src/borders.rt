@@ -1,18 +1,46 @@
 // Where ranges of tags end and begin.
-ghost use Rattle.std.specs.Prelude.{◌≡◌, ◌++◌, IsOkUnless, IfOk, OnOk};
+ghost use Rattle.std.specs.Prelude.{◌≡◌, ◌++◌, ◌≤◌, ◌<◌, ℕ, IsOkUnless, IfOk, IfSome, None, OnOk};
 ghost use Rattle.rt_queries.specs.Dumping.{tagoffs_of, tagons_of, tagoffs, tagons};
-ghost use Rattle.rt_queries.specs.Stretches.{within};
+ghost use Rattle.rt_queries.specs.Stretches.{RunsTo, within};
+ghost use Rattle.rt_store.specs.Tagged.{IsLeastFrom, Passes};
+ghost use Rattle.rt_text.specs.Widgets.{is_tagged, shown_by};
 
 use crate::Key;
 use crate::placed::Placed;
 use crate::stretch::Stretch;
 use rt_stamps::Fault;
 use rt_store::TextStore;
-use rt_tagcmd::ranges;
 use rt_text::View;
 use std::alloc::Global;
 
-/// Puts behind others where the ranges of a tag end in a stretch, and where they begin.
+/// The first place from one on whose character has a tag, where it is before another.
+fn next_begin<S: TextStore>(
+    view: &View<S>,
+    name: &str,
+    place: usize,
+    behind: usize,
+) -> Option<usize>
+    ensures some { IfSome result (λ begin. IsLeastFrom (is_tagged view.now.own name.now) (shown_by view.now) place begin × (begin < behind)) }
+    ensures none { result ≡ None → (k : ℕ) → place ≤ k → k < behind → Passes (is_tagged view.now.own name.now) (shown_by view.now) k → ⊥ }
+{
+    match view.next_tagged(name, place) {
+        Some(begin) if begin < behind => Some(begin),
+        _ => None,
+    }
+}
+
+/// Where the characters from a place on that have a tag end, or another place if they go on up to that.
+fn end_within<S: TextStore>(view: &View<S>, name: &str, begin: usize, behind: usize) -> usize
+    requires before { begin < behind }
+    requires tagged { Passes (is_tagged view.now.own name.now) (shown_by view.now) begin }
+    ensures { RunsTo (is_tagged view.now.own name.now) (shown_by view.now) begin result behind }
+{
+    let end = view.visible();
+    view.next_untagged(name, begin).unwrap_or(end).min(behind)
+}
+
+/// Puts behind others where the ranges of a tag end in a stretch, and where they begin. It looks for no range behind
+/// the stretch, and for one that reaches into it no further back than by one character.
 fn push_tag<S: TextStore>(
     alloc: Global,
     view: &View<S>,
@@ -25,16 +53,18 @@ fn push_tag<S: TextStore>(
     ensures starts { OnOk result (starts.new.items ≡ starts.old.items ++ within stretch (tagons_of view.now name.now)) }
     ensures err { IsOkUnless result Fault.NoMemory }
 {
-    let found = ranges(alloc, view, name)?;
-    for range in &found {
-        stretch.push(alloc, ends, Key::TagOff, name, range.to)?;
-        stretch.push(alloc, starts, Key::TagOn, name, range.from)?;
+    let mut place = stretch.from.saturating_sub(1);
+    while let Some(begin) = next_begin(view, name, place, stretch.behind) {
+        let end = end_within(view, name, begin, stretch.behind);
+        stretch.push(alloc, ends, Key::TagOff, name, end)?;
+        stretch.push(alloc, starts, Key::TagOn, name, begin)?;
+        place = end;
     }
     Ok(())
 }
 
-/// Where ranges of tags end in a stretch, and then where they begin, each in the order of the listed tags. It goes
-/// through all ranges of each tag. `NoMemory` is its only fault.
+/// Where ranges of tags end in a stretch, and then where they begin, each in the order of the listed tags. Of each
+/// tag it looks up its ranges there. `NoMemory` is its only fault.
 pub(crate) fn borders<S: TextStore>(
     alloc: Global,
     view: &View<S>,

@@ -114,9 +114,10 @@ fn gathered<S: TextStore>(
 /// A text value ends before the next of the other elements, just after a newline, or where the dump stops. `BadIndex`,
 /// `NoneTagged`, or want of memory.
 ///
-/// It goes once through the ranges of each listed tag, reads the characters of the stretch once, in one piece, and asks
-/// the store for the line of each element; it sorts what stands there. At worst, where each of n characters has a mark
-/// or a range of its own, that is the sort of a few times n elements.
+/// Of each listed tag it looks up the ranges of the stretch alone. It reads the characters of the stretch once, in one
+/// piece, and asks the store for the line of each element; it sorts what stands there. At worst, where each of n
+/// characters has a mark or a range of its own, that is the sort of a few times n elements. Selected characters aren't
+/// counted by the store: to find the next of them, or the next that isn't selected, a dump goes from place to place.
 pub fn dump<S: TextStore>(
     alloc: Global,
     view: &View<S>,

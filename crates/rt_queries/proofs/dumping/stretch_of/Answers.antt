@@ -1,4 +1,4 @@
-use Rattle.std.proofs.Common.{◌≡◌, ◌-◌, ◌≤◌, ap, arith, drop, length}
+use Rattle.std.proofs.Common.{◌-◌, ◌≤◌, ap, arith, drop, length}
 use Rattle.std.proofs.lemmas.List.{length-drop, length-map, length-take}
 use Rattle.rt_edits.proofs.PlaceLaws.{text_within}
 use Rattle.rt_store.specs.Cells.{text_of, visible_of}

@@ -2,7 +2,6 @@ use Rattle.std.proofs.Common.{map, option_to_list}
 use Rattle.std.proofs.lemmas.Result.{err_from_is_err_and}
 use Rattle.rt_text.specs.Index.{index_check}
 use Rattle.rt_text.specs.Widgets.{widget_of}
-use Rattle.rt_queries.specs.SearchCommand.{pattern_check}
 use Rattle.rt_queries.proofs.Refusals.{refused_behind}
 use Rattle.rt_queries.proofs.searching.search.Goals as goal
 

@@ -1,4 +1,4 @@
-use Rattle.std.proofs.Common.{◌≡◌, ◌≤◌, ◌∙◌, ap, arith, length, sym}
+use Rattle.std.proofs.Common.{◌∙◌, ap, arith, length, sym}
 use Rattle.rt_store.specs.Cells.{visible_of}
 use Rattle.rt_store.specs.Shown.{TaggedCell}
 use Rattle.rt_text.specs.Widgets.{stretch_by}
