@@ -7,6 +7,7 @@ pub mod MarkListLaws
 pub mod RangeWalks
 pub mod Runs
 pub mod ShownMarks
+pub mod Sorting
 pub mod TagChecks
 pub mod TagFinds
 pub mod TagOrders

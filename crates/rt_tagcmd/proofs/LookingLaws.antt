@@ -1,29 +1,23 @@
 -- What `mark next` and `mark previous` find from where they look.
-use Rattle.std.proofs.Common.{◌≡◌, ℕ, ◌<◌, ◌&&◌, nat_le, nat_lt, List, [], ◌∷◌, length, find, true, false, refl, sym, ap, ◌∙◌, Bool, cond, subst, arith, Option, Some, None, is_some, Result, Ok, Err, inl, inr}
+use Rattle.std.proofs.Common.{◌≡◌, ℕ, ◌<◌, ◌&&◌, nat_le, nat_lt, List, [], ◌∷◌, find, true, false, refl, sym, ap, ◌∙◌, Bool, cond, arith, Option, Some, None, is_some, Result, Ok, Err, inl, inr}
 use Rattle.std.specs.List.{AllByRecursion}
-use Rattle.std.specs.Prelude.{codes, option_and_then}
+use Rattle.std.specs.Prelude.{option_and_then}
 use Rattle.std.specs.Option.{option_or}
 use Rattle.std.specs.Ordering.{nat_cmp, ordering_then, is_lt}
 use Rattle.std.specs.Result.{result_err, result_unwrap_or}
-use Rattle.std.specs.Str.{bytes_eq}
 use Rattle.std.specs.declared.cmp.Ordering.{Ordering}
 use Rattle.std.specs.declared.cmp.Ordering.TheVariants.{Less}
 use Rattle.std.proofs.lemmas.Bool.Decides.{nat_tests}
 use Rattle.std.proofs.lemmas.Cmp.{ranked, by_ranked}
-use Rattle.std.proofs.lemmas.Slice.Eq.{bytes_eq-Decides}
 use Rattle.rt_index.specs.Index.{index_of}
 use Rattle.rt_marks.specs.declared.gravity.Gravity.{Gravity}
 use Rattle.rt_marks.specs.declared.gravity.Gravity.TheVariants.{Left, Right}
-use Rattle.rt_marks.specs.Marks.{Mark, IsName, gravity_order, name_order, comes_before, with_mark, is_named, named, find_last, mark_after, mark_before, first_mark_at, last_mark_before}
-use Rattle.rt_marks.proofs.InOrder.{split, each_with}
-use Rattle.rt_marks.proofs.Names.{clash, same_name, named_with, none_cons}
+use Rattle.rt_marks.specs.Marks.{Mark, IsName, gravity_order, name_order, comes_before, named, find_last, mark_after, mark_before, first_mark_at, last_mark_before}
+use Rattle.rt_marks.proofs.Names.{clash}
 use Rattle.rt_stamps.specs.declared.fault.Fault.{Fault}
 use Rattle.rt_stamps.specs.Outcomes.{unless, Refuses}
 use Rattle.rt_stamps.specs.Words.{Word}
-use Rattle.rt_store.specs.Cells.{text_of}
-use Rattle.rt_edits.specs.Flat.{Flat}
-use Rattle.rt_text.specs.Widgets.{Own, Viewed, AreSiteMarks, is_own, mark_among, mark_of, marks_of, own_or, widget_of}
-use Rattle.rt_text.specs.declared.own_mark.OwnMark.TheVariants.{Insert, Current}
+use Rattle.rt_text.specs.Widgets.{Viewed, mark_of, marks_of, widget_of}
 use Rattle.rt_tagcmd.specs.Looking.{edge, mark_or, looked_from}
 use Rattle.rt_tagcmd.specs.MarkCommands.{name_of, names_mark, mark_next, mark_previous}
 

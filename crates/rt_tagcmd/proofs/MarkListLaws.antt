@@ -1,16 +1,15 @@
 -- The marks of a stretch, one after the other.
 use Rattle.std.proofs.Common.{◌≡◌, ℕ, ◌<◌, ◌≤◌, ◌&&◌, nat_le, nat_lt, List, [], ◌∷◌, find, true, false, refl, sym, ap, ◌∙◌, Bool, cond, subst, arith, Option, Some, None}
 use Rattle.std.specs.List.{AllByRecursion}
-use Rattle.std.specs.Prelude.{codes, filter}
+use Rattle.std.specs.Prelude.{filter}
 use Rattle.std.specs.Ordering.{nat_cmp, ordering_then, is_lt}
 use Rattle.std.specs.declared.cmp.Ordering.{Ordering}
 use Rattle.std.proofs.lemmas.Bool.Decides.{nat_tests}
 use Rattle.std.proofs.lemmas.Cmp.{ranked, by_ranked}
-use Rattle.rt_marks.specs.Marks.{Mark, IsName, AreInOrder, comes_before, gravity_order, name_order, named, with_mark}
+use Rattle.rt_marks.specs.Marks.{Mark, IsName, AreInOrder, comes_before, gravity_order, name_order}
 use Rattle.rt_marks.proofs.InOrder.{split}
-use Rattle.rt_marks.proofs.Names.{clash, named_with, none_cons, ordered_with}
+use Rattle.rt_marks.proofs.Names.{clash}
 use Rattle.rt_marks.proofs.Order.{before_asym, before_irrefl, before_trans}
-use Rattle.rt_text.specs.Widgets.{Viewed, marks_of}
 use Rattle.rt_tagcmd.specs.Looking.{edge}
 use Rattle.rt_tagcmd.specs.MarkLists.{marks_from, marks_ahead}
 use Rattle.rt_tagcmd.proofs.LookingLaws.{edge_first}

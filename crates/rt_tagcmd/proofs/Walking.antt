@@ -1,15 +1,13 @@
 -- A walk through marks in order, from the last to the first of them.
-use Rattle.std.proofs.Common.{◌≡◌, ℕ, ◌+◌, ◌≤◌, ◌<◌, List, [], ◌∷◌, length, true, false, refl, sym, ap, ◌∙◌, Bool, cond, subst, arith, Option, Some, None, map, find, option_map}
+use Rattle.std.proofs.Common.{◌≡◌, ℕ, ◌≤◌, ◌<◌, List, [], ◌∷◌, length, true, false, refl, sym, ap, ◌∙◌, Bool, cond, subst, arith, Option, Some, None, map}
 use Rattle.std.specs.List.{AllByRecursion}
 use Rattle.std.specs.Prelude.{filter, not}
 use Rattle.std.specs.Option.{option_or}
 use Rattle.std.specs.Ordering.{nat_cmp, ordering_then, is_lt}
 use Rattle.std.proofs.lemmas.Cmp.{ranked, by_ranked}
-use Rattle.rt_marks.specs.declared.gravity.Gravity.{Gravity}
 use Rattle.rt_marks.specs.declared.gravity.Gravity.TheVariants.{Right}
 use Rattle.rt_marks.specs.Marks.{Mark, HaveOwnNames, AreInOrder, comes_before, find_last, gravity_order, in_order, name_order, named, with_mark}
-use Rattle.rt_marks.proofs.InOrder.{split}
-use Rattle.rt_marks.proofs.Names.{clash, none_cons, none_head, none_tail, ordered_in_order}
+use Rattle.rt_marks.proofs.Names.{none_cons, none_head, none_tail, ordered_in_order}
 use Rattle.rt_marks.proofs.Order.{before_asym, before_irrefl, before_trans}
 use Rattle.rt_views.specs.declared.stretch.Stretch.{Stretch}
 use Rattle.rt_text.specs.Widgets.{mark_seen}

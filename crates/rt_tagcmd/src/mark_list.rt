@@ -1,16 +1,21 @@
 // The marks of a stretch of a text.
-ghost use Rattle.std.specs.Prelude.{◌≡◌, ◌∷◌, [], IsOkUnless, IfOk, IfSome, None, map};
+ghost use Rattle.std.specs.Prelude.{◌≡◌, ◌≤◌, ◌<◌, ◌∷◌, [], List, IsOkUnless, IfOk, IfSome, None, OnOk, map};
+ghost use Rattle.std.specs.List.{AllByRecursion};
+ghost use Rattle.std.specs.Ordering.{is_lt};
+ghost use Rattle.rt_marks.specs.Marks.{Mark, comes_before, in_order};
 ghost use Rattle.rt_marks.specs.Seen.{spotted};
 ghost use Rattle.rt_tagcmd.specs.MarkLists.{marks_from, marks_ahead};
-ghost use Rattle.rt_text.specs.Widgets.{marks_of};
+ghost use Rattle.rt_text.specs.Widgets.{mark_seen, marks_of};
 
-use crate::nearest::first_after;
-use crate::seen::order;
-use rt_marks::{Gravity, Spot};
+use crate::nearest::{behind_all, first_after, shows_all};
+use crate::seen::{order, own_spot, seen};
+use rt_marks::{Gravity, Marks, Spot};
 use rt_stamps::Fault;
 use rt_store::TextStore;
-use rt_text::View;
+use rt_text::{OwnMark, View};
+use rt_views::Stretch;
 use std::alloc::Global;
+use std::cmp::Ordering;
 
 /// The first mark of a widget after a spot, where it stands before a place.
 fn next_before<'a, S: TextStore>(
@@ -31,10 +36,8 @@ fn next_before<'a, S: TextStore>(
     }
 }
 
-/// The marks of a widget that stand at a place or behind it, and before another, in the order of place, gravity and
-/// name: a few binary searches for each where the widget shows all of the text, and else a look at each mark for each
-/// of them. `NoMemory` is its only fault.
-pub fn marks_between<'a, S: TextStore>(
+/// The marks of a stretch, one after the other: a few binary searches for each where the widget shows all of the text.
+fn one_by_one<'a, S: TextStore>(
     alloc: Global,
     view: &'a View<S>,
     from: usize,
@@ -55,4 +58,99 @@ pub fn marks_between<'a, S: TextStore>(
         here = spot;
     }
     Ok(spots)
+}
+
+/// Puts a mark behind others, where it stands at a place or behind it, and before another.
+fn push_within<'a>(
+    spots: &mut Vec<Spot<'a>>,
+    spot: Spot<'a>,
+    from: usize,
+    behind: usize,
+) -> Result<(), Fault>
+    ensures ok { OnOk result ((marks : List Mark) → in_order (map spotted spots.old.items) ≡ marks_from from behind (in_order marks)
+        → in_order (map spotted spots.new.items) ≡ marks_from from behind (in_order (spotted spot.entry ∷ marks))) }
+    ensures err { IsOkUnless result Fault.NoMemory }
+{
+    if from <= spot.place && spot.place < behind {
+        spots.push(spot)?;
+    }
+    Ok(())
+}
+
+/// Gathers the marks of a stretch, of marks at their places among the characters that are shown: each of them is looked
+/// at once. They are in no order yet.
+fn gathered<'a>(
+    alloc: Global,
+    marks: &'a Marks,
+    stretch: Stretch,
+    from: usize,
+    behind: usize,
+) -> Result<Vec<Spot<'a>>, Fault>
+    requires order { stretch.begin ≤ stretch.end }
+    requires within { AllByRecursion (λ m. m.place < usize.MAX) marks.now }
+    ensures ok { IfOk result (λ spots. in_order (map spotted spots.items)
+        ≡ marks_from from behind (in_order (map (mark_seen stretch) marks.now))) }
+    ensures err { IsOkUnless result Fault.NoMemory }
+{
+    marks.order();
+    let mut spots = Vec::new(alloc);
+    let mut last = behind_all();
+    while let Some(mark) = marks.last_until(&last) {
+        push_within(&mut spots, seen(stretch, mark), from, behind)?;
+        last = mark;
+    }
+    Ok(spots)
+}
+
+/// How two spots compare in the order of marks.
+fn compare(a: &Spot<'_>, b: &Spot<'_>) -> Ordering
+    ensures { is_lt result ≡ comes_before (spotted a.now) (spotted b.now) }
+{
+    a.cmp(b)
+}
+
+/// Puts marks in order.
+fn sort(spots: &mut Vec<Spot<'_>>) -> Result<(), Fault>
+    ensures ok { OnOk result (map spotted spots.new.items ≡ in_order (map spotted spots.old.items)) }
+    ensures err { IsOkUnless result Fault.NoMemory }
+{
+    Ok(spots.sort_by(|a, b| compare(a, b))?)
+}
+
+/// The marks of a stretch, each looked at once and then put in order.
+fn sorted<'a, S: TextStore>(
+    alloc: Global,
+    view: &'a View<S>,
+    from: usize,
+    behind: usize,
+) -> Result<Vec<Spot<'a>>, Fault>
+    ensures ok { IfOk result (λ spots. map spotted spots.items ≡ marks_from from behind (marks_of view.now)) }
+    ensures err { IsOkUnless result Fault.NoMemory }
+{
+    let marks = view.doc().marks();
+    let _ = view.store();
+    let mut spots = gathered(alloc, marks, view.stretch(), from, behind)?;
+    push_within(&mut spots, own_spot(view, OwnMark::Current), from, behind)?;
+    push_within(&mut spots, own_spot(view, OwnMark::Insert), from, behind)?;
+    sort(&mut spots)?;
+    Ok(spots)
+}
+
+/// The marks of a widget that stand at a place or behind it, and before another, in the order of place, gravity and
+/// name: a few binary searches for each where the widget shows all of the text; else all marks are looked at, and those
+/// of the stretch sorted, as those outside of what is shown stand in another order then. `NoMemory` is its only fault.
+pub fn marks_between<'a, S: TextStore>(
+    alloc: Global,
+    view: &'a View<S>,
+    from: usize,
+    behind: usize,
+) -> Result<Vec<Spot<'a>>, Fault>
+    ensures ok { IfOk result (λ spots. map spotted spots.items ≡ marks_from from behind (marks_of view.now)) }
+    ensures err { IsOkUnless result Fault.NoMemory }
+{
+    if shows_all(view) {
+        one_by_one(alloc, view, from, behind)
+    } else {
+        sorted(alloc, view, from, behind)
+    }
 }

@@ -41,7 +41,7 @@ fn nearer_before<'a>(here: &Spot<'_>, found: Option<Spot<'a>>, own: Spot<'a>) ->
 }
 
 /// A spot behind all marks of a text.
-fn behind_all() -> Spot<'static>
+pub(crate) fn behind_all() -> Spot<'static>
     ensures { spotted result ≡ record { name = []; place = usize.MAX; gravity = Gravity.Right } }
 {
     Spot {
@@ -84,7 +84,7 @@ fn last_seen<'a>(marks: &'a Marks, stretch: Stretch, here: &Spot<'_>) -> Option<
 }
 
 /// Whether a widget shows all of the text.
-fn shows_all<S: TextStore>(view: &View<S>) -> bool
+pub(crate) fn shows_all<S: TextStore>(view: &View<S>) -> bool
     ensures { result ≡ (stretch_by view.now).begin == 0 && (stretch_by view.now).end == length (text_of view.now.doc.cells) }
 {
     let stretch = view.stretch();

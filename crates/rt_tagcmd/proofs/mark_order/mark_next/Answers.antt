@@ -1,6 +1,6 @@
 use Rattle.std.proofs.Common.{◌∙◌, find, ap, Ok, sym}
 use Rattle.std.proofs.lemmas.Result.{err_from_is_err_and}
-use Rattle.rt_marks.specs.Marks.{comes_before, find_last}
+use Rattle.rt_marks.specs.Marks.{comes_before}
 use Rattle.rt_text.specs.Widgets.{marks_of}
 use Rattle.rt_tagcmd.specs.Looking.{looked_from}
 use Rattle.rt_tagcmd.specs.MarkCommands.{mark_next, name_of}

@@ -1,5 +1,5 @@
 use Rattle.std.proofs.Common.{◌≡◌, ◌∙◌, ap, find, option_map}
-use Rattle.rt_marks.specs.Marks.{Mark, comes_before, find_last, with_mark}
+use Rattle.rt_marks.specs.Marks.{Mark, comes_before, with_mark}
 use Rattle.rt_marks.specs.Seen.{spotted}
 use Rattle.rt_text.specs.Widgets.{marks_shown, own_shown}
 use Rattle.rt_tagcmd.proofs.nearest.first_after.Goals as goal

@@ -1,5 +1,5 @@
 use Rattle.std.proofs.Common.{◌≡◌, ◌-◌, find, length, option_map}
-use Rattle.rt_marks.specs.Marks.{comes_before, find_last}
+use Rattle.rt_marks.specs.Marks.{comes_before}
 use Rattle.rt_marks.specs.Seen.{spotted}
 use Rattle.rt_tagcmd.proofs.Walking.{passed, passed_seen}
 use Rattle.rt_tagcmd.proofs.nearest.first_seen.Given as goal

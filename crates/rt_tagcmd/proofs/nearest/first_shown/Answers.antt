@@ -1,11 +1,11 @@
-use Rattle.std.proofs.Common.{◌≡◌, ◌∙◌, ◌<◌, ◌≤◌, List, ap, arith, find, length, subst, sym}
+use Rattle.std.proofs.Common.{◌≡◌, ◌∙◌, List, ap, arith, find, length, subst, sym}
 use Rattle.std.specs.List.{AllByRecursion}
 use Rattle.rt_edits.specs.Flat.{Flat}
 use Rattle.rt_edits.proofs.PlaceLaws.{text_within}
-use Rattle.rt_marks.specs.Marks.{AreInOrder, Mark, comes_before, find_last}
+use Rattle.rt_marks.specs.Marks.{AreInOrder, Mark, comes_before}
 use Rattle.rt_marks.specs.Seen.{spotted}
 use Rattle.rt_store.specs.Cells.{text_of}
-use Rattle.rt_text.specs.Widgets.{AreSiteMarks, marks_shown, stretch_by}
+use Rattle.rt_text.specs.Widgets.{AreSiteMarks, stretch_by}
 use Rattle.rt_tagcmd.proofs.ShownMarks.{all_shown, both_ends, few_places}
 use Rattle.rt_tagcmd.proofs.nearest.first_shown.Goals as goal
 

@@ -1,4 +1,4 @@
-use Rattle.std.proofs.Common.{◌≡◌, ◌∙◌, ap, find, option_map}
+use Rattle.std.proofs.Common.{◌≡◌, ◌∙◌, ap, option_map}
 use Rattle.rt_marks.specs.Marks.{Mark, comes_before, find_last, with_mark}
 use Rattle.rt_marks.specs.Seen.{spotted}
 use Rattle.rt_text.specs.Widgets.{marks_shown, own_shown}

@@ -1,8 +1,8 @@
-use Rattle.std.proofs.Common.{◌≡◌, ◌∙◌, ◌<◌, ◌≤◌, ◌-◌, List, Some, None, ap, arith, find, length, map, option_map, sym}
+use Rattle.std.proofs.Common.{◌≡◌, ◌∙◌, List, Some, None, ap, arith, length, map, option_map, sym}
 use Rattle.rt_marks.specs.Marks.{Mark, comes_before, find_last, in_order, with_mark}
 use Rattle.rt_marks.specs.Seen.{spotted}
 use Rattle.rt_text.specs.Widgets.{mark_seen}
-use Rattle.rt_tagcmd.proofs.Walking.{all_passed, before, fewer, none_passed, one_passed, passed, passed_seen, seen_more, seen_ordered}
+use Rattle.rt_tagcmd.proofs.Walking.{all_passed, before, fewer, none_passed, one_passed, passed_seen, seen_more, seen_ordered}
 use Rattle.rt_tagcmd.proofs.nearest.last_seen.Goals as goal
 
 pub loop-mark-init : goal.loop-mark-init

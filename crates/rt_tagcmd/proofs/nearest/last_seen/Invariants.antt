@@ -1,4 +1,4 @@
-use Rattle.std.proofs.Common.{◌≡◌, ◌-◌, find, length, option_map}
+use Rattle.std.proofs.Common.{◌≡◌, ◌-◌, length, option_map}
 use Rattle.rt_marks.specs.Marks.{comes_before, find_last}
 use Rattle.rt_marks.specs.Seen.{spotted}
 use Rattle.rt_tagcmd.proofs.Walking.{passed, passed_seen}

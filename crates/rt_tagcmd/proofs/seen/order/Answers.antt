@@ -1,6 +1,6 @@
-use Rattle.std.proofs.Common.{◌≡◌, ap, length, subst, sym, ◌∙◌}
+use Rattle.std.proofs.Common.{◌≡◌, ap, length, subst, ◌∙◌}
 use Rattle.rt_edits.specs.Flat.{Flat}
-use Rattle.rt_marks.specs.Marks.{HaveOwnNames, Mark}
+use Rattle.rt_marks.specs.Marks.{HaveOwnNames}
 use Rattle.rt_store.specs.Cells.{text_of}
 use Rattle.rt_text.specs.Widgets.{AreSiteMarks}
 use Rattle.rt_tagcmd.proofs.ShownMarks.{AreShown, marks_are_shown}

@@ -1,11 +1,11 @@
-use Rattle.std.proofs.Common.{◌≡◌, ◌∙◌, ◌++◌, ap, sym, map, refl}
+use Rattle.std.proofs.Common.{◌∙◌, ◌++◌, ap, sym, map, refl}
 use Rattle.rt_marks.specs.Seen.{spotted}
 use Rattle.rt_text.specs.Widgets.{marks_of}
 use Rattle.rt_tagcmd.specs.Looking.{edge}
 use Rattle.rt_tagcmd.specs.MarkLists.{marks_ahead}
 use Rattle.rt_tagcmd.proofs.MarkListLaws.{left_first}
 use Rattle.std.proofs.lemmas.Result.{err_from_is_err_and}
-use Rattle.rt_tagcmd.proofs.mark_list.marks_between.Goals as goal
+use Rattle.rt_tagcmd.proofs.mark_list.one_by_one.Goals as goal
 
 pub loop-spot-init : goal.loop-spot-init
 loop-spot-init g c =
