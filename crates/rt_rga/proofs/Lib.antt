@@ -15,6 +15,7 @@ pub mod Final
 pub mod Fresh
 pub mod Histories
 pub mod Joining
+pub mod LastWritten
 pub mod Later
 pub mod Limits
 pub mod Making

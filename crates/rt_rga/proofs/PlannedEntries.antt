@@ -73,7 +73,7 @@ entries_append xs ys s =
     ap (map (λ n. n.entry)) (filter-append (λ n. is_same n.stamp s) xs ys)
     ∙ map-append (λ n. n.entry) (filter (λ n. is_same n.stamp s) xs) (filter (λ n. is_same n.stamp s) ys)
 
-entries_kept : (old new : TagStates) → KeepsIds old new → (es : List Entry) → AllByRecursion (λ e. IsTag old e.tag) es → writes_at new es ≡ writes_at old es
+pub entries_kept : (old new : TagStates) → KeepsIds old new → (es : List Entry) → AllByRecursion (λ e. IsTag old e.tag) es → writes_at new es ≡ writes_at old es
 entries_kept old new k [] h = refl
 entries_kept old new k (e ∷ es) h = λ i. record { name = (k.tags e.tag h.0).1 i; writer = e.writer; on = e.on } ∷ entries_kept old new k es h.1 i
 

@@ -17,7 +17,8 @@ use Rattle.rt_store.proofs.GivenStates.{kept_states}
 use Rattle.rt_tags.specs.States.{IsState, IsTag, KeepsIds, TagStates, Write, state_at, write_at, written}
 use Rattle.rt_rga.specs.Changes.{written_in_any}
 use Rattle.rt_tags.specs.Borders.{one_or_none}
-use Rattle.rt_rga.specs.Runs.{cells_found, put_back, with_write}
+use Rattle.rt_rga.specs.declared.tagging.StateChange.{StateChange}
+use Rattle.rt_rga.specs.Runs.{IsStateChange, cells_found, put_back, with_write}
 use Rattle.rt_rga.proofs.Skipping.{split}
 use Rattle.rt_store.proofs.Shown.{shown_later}
 use Rattle.rt_rga.proofs.Writes.{spans_name}
@@ -195,3 +196,16 @@ written_more old now new more cells i item tag writer on state l is first second
     ∙ ap (map (with_write (write_at old tag writer on))) (map_append (shown old) (take i cells) (item ∷ []))
     ∙ map_append (with_write (write_at old tag writer on)) (map (shown old) (take i cells)) (shown old item ∷ [])
     )
+
+-- the write of a tag is the same in a later table
+pub same_write : (old now : TagStates) (tag : ℕ) (writer : Stamp) (on : Bool) → KeepsIds old now → IsTag old tag → write_at old tag writer on ≡ write_at now tag writer on
+same_write old now tag writer on first t = sym (λ i. record { name = (first.tags tag t).1 i; writer = writer; on = on })
+
+-- what a state came into, in a later table
+pub change_later : (old now new : TagStates) (tag : ℕ) (writer : Stamp) (on : Bool) (change : StateChange) → KeepsIds old now → KeepsIds now new → IsTag old tag → IsState now change.before → IsState new change.after
+    → state_at new change.after ≡ written (write_at now tag writer on) (state_at now change.before) → IsStateChange new (write_at old tag writer on) change
+change_later old now new tag writer on change first second t b a e = record {
+  before = (second.states change.before b).0;
+  after = a;
+  written = e ∙ sym (λ i. written (same_write old now tag writer on first t i) ((second.states change.before b).1 i));
+}

@@ -1,7 +1,7 @@
 -- What operations do to cells when they come at once: first the Inserts and Deletes, one after the other, then the Tags, so
 -- that each cell comes into one new state. Operations are listed by rising stamp, the oldest first.
-use Rattle.std.specs.Prelude.{◌≡◌, ℕ, ◌<◌, true, false, List, [], ◌∷◌, ◌++◌, map, filter, Some}
-use Rattle.std.specs.List.{AllByRecursion}
+use Rattle.std.specs.Prelude.{◌≡◌, ℕ, ◌<◌, All, true, false, List, [], ◌∷◌, ◌++◌, map, filter, Option, Some, None, if◌then◌else◌}
+use Rattle.std.specs.List.{AllByRecursion, take_while}
 use Rattle.rt_stamps.specs.declared.stamp.Stamp.{Stamp}
 use Rattle.rt_stamps.specs.Stamps.{is_before, is_same}
 use Rattle.rt_ops.specs.Operations.{Operation, Body, Insert, Delete, Tag, has_bad_stamp, stamp_of}
@@ -10,11 +10,12 @@ use Rattle.rt_store.specs.declared.cell.Cell.{Cell}
 use Rattle.rt_store.specs.Shown.{TaggedCell}
 use Rattle.rt_store.specs.Spans.{is_among, precedes}
 use Rattle.rt_tags.specs.declared.states.Entry.{Entry}
-use Rattle.rt_tags.specs.States.{IsState, TagStates, Write, state_at, writes_at}
+use Rattle.rt_tags.specs.States.{IsState, IsTag, TagStates, Write, state_at, writes_at}
 use Rattle.rt_tags.specs.Writers.{state_after}
 use Rattle.rt_rga.specs.Cells.{writes_by}
 use Rattle.rt_rga.specs.Changes.{changed_by}
 use Rattle.rt_rga.specs.declared.plan.Named.{Named}
+use Rattle.rt_rga.specs.declared.plan.Written.{Written}
 
 -- THE TAGS
 
@@ -67,6 +68,15 @@ named_with entry stamp = record { stamp = stamp; entry = entry }
 abbrev pub entries_on : List Named → Stamp → List Entry
 entries_on named stamp = map (λ n. n.entry) (filter (λ n. is_same n.stamp stamp) named)
 
+-- those of the writes in front that are on a character
+abbrev pub entries_in_front : List Named → Stamp → List Entry
+entries_in_front named stamp = map (λ n. n.entry) (take_while (λ n. is_same n.stamp stamp) named)
+
+-- the entry of a write, if there is one and it is on a character
+abbrev pub entry_if : Stamp → Option Named → Option Entry
+entry_if stamp None = None
+entry_if stamp (Some n) = if is_same n.stamp stamp then Some n.entry else None
+
 -- by the sites and counts of the stamps, so that entries on one character stand together
 abbrev pub AreInOrder : List Named → Type 0
 AreInOrder [] = Unit {0}
@@ -86,3 +96,10 @@ pub record HasEntries (old : TagStates) (named : List Named) (cells : List (Cell
 -- one of the copies is that of a stamp, if one of the cells is
 abbrev pub IsCopied : List (Cell ℕ) → List (Cell ℕ) → Stamp → Type 0
 IsCopied cells copies stamp = is_among (stamps_of cells) stamp ≡ true → is_among (stamps_of copies) stamp ≡ true
+
+-- what a state came into by entries
+pub record IsWritten (table : TagStates) (last : Written) : Type 0 where
+  pub before : IsState table last.before
+  pub tags : All (λ e. IsTag table e.tag) last.entries.items
+  pub after : IsState table last.after
+  pub written : state_at table last.after ≡ state_after (state_at table last.before) (writes_at table last.entries.items)

@@ -1,5 +1,5 @@
 -- Cells on the way to other states.
-use Rattle.std.specs.Prelude.{ℕ, List, [], ◌∷◌, if◌then◌else◌}
+use Rattle.std.specs.Prelude.{◌≡◌, ℕ, List, [], ◌∷◌, if◌then◌else◌}
 use Rattle.std.specs.List.{flat_map}
 use Rattle.rt_stamps.specs.declared.stamp.Stamp.{Stamp}
 use Rattle.rt_stamps.specs.Stamps.{is_same}
@@ -7,6 +7,8 @@ use Rattle.rt_tags.specs.Borders.{one_or_none}
 use Rattle.rt_store.specs.declared.cell.Cell.{Cell}
 use Rattle.rt_store.specs.Cells.{cell_of, is_in_span, with_state}
 pub use Rattle.rt_rga.specs.Changes.{with_write}
+use Rattle.rt_tags.specs.States.{IsState, TagStates, Write, state_at, written}
+use Rattle.rt_rga.specs.declared.tagging.StateChange.{StateChange}
 use Rattle.rt_rga.specs.declared.tagging.StateRun.{StateRun}
 
 -- the cells of stamps, in the order of the stamps
@@ -22,3 +24,9 @@ put_back (copy ∷ copies) cell = if is_same copy.stamp cell.stamp then with_sta
 abbrev pub put_back_in_any : List StateRun → Cell ℕ → Cell ℕ
 put_back_in_any [] cell = cell
 put_back_in_any (run ∷ runs) cell = if is_in_span run.span cell.stamp then with_state run.state cell else put_back_in_any runs cell
+
+-- what a state of a table came into by a write
+pub record IsStateChange (table : TagStates) (write : Write) (change : StateChange) : Type 0 where
+  pub before : IsState table change.before
+  pub after : IsState table change.after
+  pub written : state_at table change.after ≡ written write (state_at table change.before)

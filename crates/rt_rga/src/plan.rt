@@ -1,5 +1,5 @@
 // The states that cells come into by many Tags at once.
-ghost use Rattle.std.specs.Prelude.{◌≡◌, ◌⊎◌, ◌<◌, ◌++◌, ◌==◌, ◌||◌, not, ℕ, ◌-◌, List, All, IsOkUnless, IfNone, IfOk, IfSome, OnOk, Some, None, drop, filter, length, map, slice_index_or};
+ghost use Rattle.std.specs.Prelude.{◌≡◌, ◌⊎◌, ◌<◌, ◌++◌, ◌==◌, ◌||◌, not, ℕ, ◌-◌, List, All, Decides, IsOkUnless, IfNone, IfOk, IfSome, OnOk, Some, None, drop, filter, length, map, slice_get, slice_index_or};
 ghost use Rattle.std.specs.List.{take_while};
 ghost use Rattle.std.specs.List.Sorted.{IsPermutation};
 ghost use Rattle.rt_stamps.specs.declared.stamp.Stamp.{Stamp as StampOf};
@@ -12,7 +12,7 @@ ghost use Rattle.rt_store.specs.Spans.{is_among};
 ghost use Rattle.rt_store.specs.Tagged.{AreStates};
 ghost use Rattle.rt_tags.specs.States.{IsState, IsTag, KeepsIds, Write, state_at, writes_at};
 ghost use Rattle.rt_tags.specs.Writers.{state_after};
-ghost use Rattle.rt_rga.specs.Batches.{AreInOrder, CountsRise, IsCopied, HasEntries, after_tags, entries_on, named_with, tag_writes, tag_writes_by};
+ghost use Rattle.rt_rga.specs.Batches.{AreInOrder, CountsRise, IsCopied, IsWritten, HasEntries, after_tags, entries_in_front, entries_on, entry_if, named_with, tag_writes, tag_writes_by};
 ghost use Rattle.rt_rga.specs.Runs.{put_back, put_back_in_any};
 
 use crate::tagging::{StateRun, push_found, state_runs};
@@ -111,9 +111,17 @@ fn put_in_order(named: &mut Vec<Named>) -> Result<(), Fault>
     Ok(())
 }
 
+/// What a cell came into last: its old state, the entries written on it, its new state.
+#[derive(Drop)]
+struct Written {
+    before: StateId,
+    entries: Vec<Entry>,
+    after: StateId,
+}
+
 /// The entries of the writes in front that are on one character. Want of memory.
 fn entries_in_front(alloc: Global, named: &[Named], stamp: Stamp) -> Result<Vec<Entry>, Fault>
-    ensures entries { IfOk result (λ entries. entries.items ≡ map (λ n. n.entry) (take_while (λ n. is_same n.stamp stamp) named.now)) }
+    ensures entries { IfOk result (λ entries. entries.items ≡ entries_in_front named.now stamp) }
     ensures fault { IsOkUnless result Fault.NoMemory }
 {
     let mut entries = Vec::new(alloc);
@@ -124,6 +132,61 @@ fn entries_in_front(alloc: Global, named: &[Named], stamp: Stamp) -> Result<Vec<
         entries.push(n.entry)?;
     }
     Ok(entries)
+}
+
+/// The entry of the write at a place, if that is on a character.
+fn entry_at(named: &[Named], at: usize, stamp: Stamp) -> Option<Entry>
+    ensures { result ≡ entry_if stamp (slice_get named.now at) }
+{
+    match named.get(at) {
+        Some(n) if n.stamp == stamp => Some(n.entry),
+        _ => None,
+    }
+}
+
+/// Whether the writes in front that are on one character have these entries.
+fn are_in_front(named: &[Named], stamp: Stamp, entries: &[Entry]) -> bool
+    ensures { Decides result (entries_in_front named.now stamp ≡ entries.now) }
+{
+    for (at, entry) in entries.iter().enumerate() {
+        if entry_at(named, at, stamp) != Some(*entry) {
+            return false;
+        }
+    }
+    entry_at(named, entries.len(), stamp).is_none()
+}
+
+/// The state that a cell comes into by the writes in front that are on it. It is the last one's, if
+/// that was in the same state and got the same entries, and is then not looked for. Want of memory.
+fn new_state(
+    alloc: Global,
+    states: &mut StateTable,
+    before: StateId,
+    named: &[Named],
+    stamp: Stamp,
+    last: &mut Written,
+) -> Result<StateId, Fault>
+    requires before { IsState states.old before }
+    requires tags { All (λ e. IsTag states.old e.tag) (entries_in_front named.now stamp) }
+    requires last { IsWritten states.old last.old }
+    ensures given { IfOk result (IsState states.new) }
+    ensures state { IfOk result (λ id. state_at states.new id
+        ≡ state_after (state_at states.old before) (writes_at states.old (entries_in_front named.now stamp))) }
+    ensures last { OnOk result (IsWritten states.new last.new) }
+    ensures ids { KeepsIds states.old states.new }
+    ensures fault { IsOkUnless result Fault.NoMemory }
+{
+    if last.before == before && are_in_front(named, stamp, &last.entries) {
+        return Ok(last.after);
+    }
+    let entries = entries_in_front(alloc, named, stamp)?;
+    let after = states.with_all(before, &entries)?;
+    *last = Written {
+        before,
+        entries,
+        after,
+    };
+    Ok(after)
 }
 
 /// The cell of a stamp among new cells or those of a store.
@@ -155,17 +218,20 @@ fn written_cell<S: TextStore>(
     new: &[Cell<StateId>],
     named: &[Named],
     at: usize,
+    last: &mut Written,
 ) -> Result<Option<Cell<StateId>>, Fault>
     requires at { at < length named.now }
     requires order { AreInOrder named.now }
     requires tags { All (λ n. IsTag states.old n.entry.tag) named.now }
     requires counts { CountsRise new.now }
     requires states { AreStates states.old (new.now ++ S.list store.now) }
+    requires last { IsWritten states.old last.old }
     ensures stamp { IfOk result (λ found. IfSome found (λ copy. (n : Named) → copy.stamp ≡ (slice_index_or named.now at n).stamp)) }
     ensures written { IfOk result (λ found. IfSome found (HasEntries states.old named.now (new.now ++ S.list store.now) states.new)) }
     ensures none { IfOk result (λ found. IfNone found ((n : Named)
         → ((0 < at) × ((slice_index_or named.now (at - 1) n).stamp ≡ (slice_index_or named.now at n).stamp))
         ⊎ (cell_of (new.now ++ S.list store.now) (slice_index_or named.now at n).stamp ≡ None))) }
+    ensures last { OnOk result (IsWritten states.new last.new) }
     ensures ids { KeepsIds states.old states.new }
     ensures fault { IsOkUnless result Fault.NoMemory }
 {
@@ -177,8 +243,7 @@ fn written_cell<S: TextStore>(
         return Ok(None);
     };
     let (_, rest) = named.split_at(at);
-    let entries = entries_in_front(alloc, rest, stamp)?;
-    let state = states.with_all(cell.state, &entries)?;
+    let state = new_state(alloc, states, cell.state, rest, stamp, last)?;
     let ch = cell.ch;
     Ok(Some(Cell {
         stamp,
@@ -208,8 +273,15 @@ fn written_cells<S: TextStore>(
     ensures fault { IsOkUnless result Fault.NoMemory }
 {
     let mut copies = Vec::new(alloc);
+    // Nothing written on a state leaves it as it is.
+    let mut last = Written {
+        before: StateId::EMPTY,
+        entries: Vec::new(alloc),
+        after: StateId::EMPTY,
+    };
+    states.order();
     for at in 0..named.len() {
-        let copy = written_cell(alloc, store, states, new, named, at)?;
+        let copy = written_cell(alloc, store, states, new, named, at, &mut last)?;
         push_found(copy, &mut copies)?;
     }
     Ok(copies)

@@ -1,5 +1,5 @@
 // A Tag on the cells of a store.
-ghost use Rattle.std.specs.Prelude.{◌≡◌, ◌*◌, ◌≤◌, ◌++◌, ◌==◌, ◌&&◌, ℕ, All, IfOk, IsOkUnless, OnOk, OnErr, length, map};
+ghost use Rattle.std.specs.Prelude.{◌≡◌, ◌*◌, ◌≤◌, ◌++◌, ◌==◌, ◌&&◌, ℕ, All, IfOk, IfSome, IsOkUnless, OnOk, OnErr, length, map};
 ghost use Rattle.rt_stamps.specs.declared.limits.TheConstants.{MOST_CELLS};
 ghost use Rattle.rt_stamps.specs.Stamps.{is_same};
 ghost use Rattle.rt_store.specs.declared.cell.Cell.{Cell as StoreCell};
@@ -7,11 +7,11 @@ ghost use Rattle.rt_store.specs.Cells.{AreDistinct, HasRoom};
 ghost use Rattle.rt_store.specs.Shown.{shown};
 ghost use Rattle.rt_store.specs.Spans.{last_stamp, next_stamp};
 ghost use Rattle.rt_store.specs.Tagged.{AreStates};
-ghost use Rattle.rt_tags.specs.States.{IsState, IsTag, KeepsIds, TagStates, name_at, write_at};
+ghost use Rattle.rt_tags.specs.States.{IsState, IsTag, KeepsIds, TagStates, name_at, state_at, write_at, written};
 ghost use Rattle.rt_ops.specs.Operations.{stamps_in, stamps_of_span};
 ghost use Rattle.rt_rga.specs.Changes.{written_in_any};
 ghost use Rattle.rt_tags.specs.Borders.{one_or_none};
-ghost use Rattle.rt_rga.specs.Runs.{cells_found, put_back, put_back_in_any, with_write};
+ghost use Rattle.rt_rga.specs.Runs.{IsStateChange, cells_found, put_back, put_back_in_any, with_write};
 
 use crate::answer::span_of;
 use rt_stamps::{Fault, Span, Stamp};
@@ -68,6 +68,37 @@ pub(crate) fn named_cells<S: TextStore>(
     Ok(cells)
 }
 
+/// What a state came into by a write.
+#[derive(Clone, Copy)]
+struct StateChange {
+    before: StateId,
+    after: StateId,
+}
+
+/// The state after one more write of a tag. Where that is known by the last change, no state is made
+/// and looked for. Want of memory.
+fn state_with(
+    states: &mut StateTable,
+    before: StateId,
+    tag: TagId,
+    writer: Stamp,
+    on: bool,
+    last: Option<StateChange>,
+) -> Result<StateId, Fault>
+    requires before { IsState states.old before }
+    requires tag { IsTag states.old tag }
+    requires last { IfSome last (IsStateChange states.old (write_at states.old tag writer on)) }
+    ensures given { IfOk result (IsState states.new) }
+    ensures state { IfOk result (λ id. state_at states.new id ≡ written (write_at states.old tag writer on) (state_at states.old before)) }
+    ensures ids { KeepsIds states.old states.new }
+    ensures fault { IsOkUnless result Fault.NoMemory }
+{
+    match last {
+        Some(change) if change.before == before => Ok(change.after),
+        _ => states.with(before, tag, writer, on),
+    }
+}
+
 /// Cells with one more write of a tag. Want of memory.
 #[tactic(auto, using(rt_tags::proofs::Listing::keeps_both))]
 fn written_cells(
@@ -87,8 +118,13 @@ fn written_cells(
     ensures fault { IsOkUnless result Fault.NoMemory }
 {
     let mut more = Vec::new(alloc);
+    let mut last = None;
     for cell in cells {
-        let state = states.with(cell.state, tag, writer, on)?;
+        let state = state_with(states, cell.state, tag, writer, on, last)?;
+        last = Some(StateChange {
+            before: cell.state,
+            after: state,
+        });
         more.push(Cell {
             stamp: cell.stamp,
             ch: cell.ch,

@@ -1,26 +1,26 @@
-use Rattle.std.proofs.Common.{◌≡◌, ◌∙◌, ◌++◌, ◌-◌, ◌==◌, ◌||◌, not, true, All, List, Some, ap, get_or, map, sym, subst, rules}
-use Rattle.std.specs.List.{take_while}
+use Rattle.std.proofs.Common.{◌≡◌, ◌∙◌, ◌++◌, ◌-◌, ◌==◌, ◌||◌, not, true, All, List, Some, ap, get_or, sym, subst, rules}
 use Rattle.rt_stamps.specs.Stamps.{is_same}
 use Rattle.rt_tags.specs.declared.states.Entry.{Entry}
 use Rattle.rt_tags.specs.States.{IsTag, state_at, writes_at}
 use Rattle.rt_tags.specs.Writers.{state_after}
+use Rattle.rt_rga.specs.Batches.{entries_in_front}
 use Rattle.rt_rga.proofs.PlannedEntries.{tags_on}
 use Rattle.rt_rga.proofs.PlannedStates.{all_from_first, first_apart, found_given}
 use Rattle.rt_rga.proofs.plan.written_cell.Goals as goal
 
-pub with_all-requires-clause-state : goal.with_all-requires-clause-state
-with_all-requires-clause-state g c =
+pub new_state-requires-clause-before : goal.new_state-requires-clause-before
+new_state-requires-clause-before g c =
     found_given c.args.states.now (c.args.new.now ++ g.S.TextStore.list c.args.store.now) (get_or c.args.named.now c.args.at c.index-named-at.result).stamp c.in-Some.cell c.requires.states (sym c.cell_in.ensures ∙ c.in-Some.is)
 
-pub with_all-requires-clause-tags : goal.with_all-requires-clause-tags
-with_all-requires-clause-tags g c =
+pub new_state-requires-clause-tags : goal.new_state-requires-clause-tags
+new_state-requires-clause-tags g c =
     let named = c.args.named.now in
     let at = c.args.at in
     let n = c.index-named-at.result in
     let s = (get_or named at n).stamp in
     let first : ((at == 0) || not (is_same (get_or named (at - 1) n).stamp (get_or named at n).stamp)) ≡ true = sym (c.is_first.ensures n) ∙ search rules in
     subst (λ (es : List Entry). All (λ e. IsTag c.args.states.now e.tag) es)
-    (sym (c.deref.ensures.value ∙ c.in_ok-entries.ensures.entries ∙ ap (λ rest. map (λ n. n.entry) (take_while (λ n. is_same n.stamp s) rest)) c.split_at.ensures.back ∙ all_from_first named at n c.requires.order c.requires.at (first_apart named at n first)))
+    (sym (ap (λ rest. entries_in_front rest s) c.split_at.ensures.back ∙ all_from_first named at n c.requires.order c.requires.at (first_apart named at n first)))
     (tags_on c.args.states.now named (get_or named at n).stamp c.requires.tags)
 
 pub returns-clause-written : goal.returns-clause-written
@@ -36,5 +36,5 @@ returns-clause-written g c =
           let same : Some c.in-Some.cell ≡ Some cell = sym c.in-Some.is ∙ c.cell_in.ensures ∙ e in
           let it : c.in-Some.cell ≡ cell = cc in
           c.in_ok-state.ensures.state
-          ∙ (λ i. state_after (state_at c.args.states.now (it i).state) (writes_at c.args.states.now ((c.deref.ensures.value ∙ c.in_ok-entries.ensures.entries ∙ ap (λ rest. map (λ n. n.entry) (take_while (λ n. is_same n.stamp s) rest)) c.split_at.ensures.back ∙ all_from_first named at n c.requires.order c.requires.at (first_apart named at n first)) i)));
+          ∙ (λ i. state_after (state_at c.args.states.now (it i).state) (writes_at c.args.states.now ((ap (λ rest. entries_in_front rest s) c.split_at.ensures.back ∙ all_from_first named at n c.requires.order c.requires.at (first_apart named at n first)) i)));
     }

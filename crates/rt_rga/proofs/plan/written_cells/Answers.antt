@@ -28,6 +28,7 @@ loop-at-preserved g c =
           (written_more old now new named cells copies found c.loop-at.invariant.ids c.written_cell.ensures.ids c.requires.states c.requires.tags c.loop-at.invariant.written c.in_ok-copy.ensures.written);
       copied = subst (λ (copies : List (Cell ℕ)). AreCopied cells named copies (c.loop-at.at + 1)) (sym c.in_ok-push_found.ensures.ok)
           (copied_more cells named copies c.loop-at.at found c.loop-at-test.true (found_by cells named c.loop-at.at found c.in_ok-copy.ensures.stamp c.in_ok-copy.ensures.none) c.loop-at.invariant.copied);
+      last = c.in_ok-copy.ensures.last;
       ids = keeps_both old now new c.loop-at.invariant.ids c.written_cell.ensures.ids;
     }
 
