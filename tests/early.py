@@ -83,7 +83,7 @@ def without_checks(lines, found):
     """The lines of a module with no checks and with hints."""
     groups = {}
     for line in lines:
-        # Calls of checks, and fills of memory that is written before it is read.
+        # Calls of checks, and fills of memory that is written before it is read; zeros may be the program's own.
         if '@"rattle-llvm-checks::' in line and "call void" in line or re.search(r"@llvm\.memset\.p0\.i64\(ptr %\w+, i8 -86,", line):
             continue
         name = re.match(r'define internal .*?@"([^"]+)"\(', line)
