@@ -338,7 +338,8 @@ impl<S: TextStore> Replica<S> {
     fn stamp_of_character(&self) -> Result<Stamp, Fault>
         ensures stamp { IfOk result (λ stamp. stamp ≡ record { count = greatest_last_count self.now.log + 1; site = self.now.site }) }
         ensures positive { OnOk result (0 < self.now.site) }
-        ensures fits { OnOk result ((after : StampValue) (character : ℕ) → refusal_of self.now.limit (one_character after character) self.now.log ≡ None) }
+        ensures fits { OnOk result ((after : StampValue) (character : ℕ)
+            → refusal_of self.now.limit (one_character after character) self.now.log ≡ None) }
         ensures refused { IfErr result (λ fault. (after : StampValue) (character : ℕ)
             → refusal_of self.now.limit (one_character after character) self.now.log ≡ Some fault) }
         ensures room { OnOk result (length self.now.cells + 1 ≤ self.now.limit) }
