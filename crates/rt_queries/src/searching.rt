@@ -71,7 +71,7 @@ fn one_found<S: TextStore>(
     ensures err { IsOkUnless result Fault.NoMemory }
 {
     let mut found = Vec::new(alloc);
-    if let Some(place) = find_first(&shown(view), pattern, search, start, stop) {
+    if let Some(place) = find_first(alloc, &shown(view), pattern, search, start, stop)? {
         found.push(view.position(place))?;
     }
     Ok(found)

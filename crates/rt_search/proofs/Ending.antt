@@ -125,14 +125,19 @@ fewer : (d : Direction) (s : Stretch) (i p : ℕ) → IsLeft d s (i + 1) p → I
 fewer Forwards s i p h = let a = h.0 in let b = h.1 in (omega arith, b)
 fewer Backwards s i p h = let a = h.0 in let b = h.1 in (a, omega arith)
 
-pub taking_skip : (d : Direction) (s : Stretch) (m : ℕ) (old : List ℕ) (i : ℕ) (taken : List ℕ) → Taking d s m old i taken → Taking d s m old (i + 1) taken
-taking_skip d s m old i taken t = record {
+later_left : (d : Direction) (s : Stretch) (i n p : ℕ) → i ≤ n → IsLeft d s n p → IsLeft d s i p
+later_left Forwards s i n p e h = let a = h.0 in let b = h.1 in (omega arith, b)
+later_left Backwards s i n p e h = let a = h.0 in let b = h.1 in (a, omega arith)
+
+-- later places, of which none is taken
+pub taking_on : (d : Direction) (s : Stretch) (m : ℕ) (old : List ℕ) (i n : ℕ) (taken : List ℕ) → i ≤ n → Taking d s m old i taken → Taking d s m old n taken
+taking_on d s m old i n taken e t = record {
   new = t.new;
   split = t.split;
-  last_decides = λ p h. t.last_decides p (fewer d s i p h);
+  last_decides = λ p h. t.last_decides p (later_left d s i n p e h);
   first_decides = t.first_decides;
-  last_before = λ p q h e. t.last_before p q (fewer d s i p h) e;
-  first_before = λ p q h e. t.first_before p q (fewer d s i p h) e;
+  last_before = λ p q h w. t.last_before p q (later_left d s i n p e h) w;
+  first_before = λ p q h w. t.first_before p q (later_left d s i n p e h) w;
   first_within = t.first_within;
 }
 

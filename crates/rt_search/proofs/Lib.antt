@@ -1,9 +1,13 @@
 pub mod Ending
+pub mod Falling
 pub mod Finding
 pub mod Folding
 pub mod Lines
 pub mod Nearest
 pub mod Orders
 pub mod Parts
+pub mod Passing
+pub mod Reading
+pub mod Rooms
 pub mod Standing
 pub mod Within

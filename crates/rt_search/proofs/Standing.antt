@@ -1,10 +1,6 @@
 -- The pattern stands at a place exactly where each of its characters agrees with the text's.
-use Rattle.std.proofs.Common.{◌≡◌, ◌+◌, ◌<◌, ◌≤◌, ◌∷◌, [], ℕ, zero, suc, Bool, true, false, ◌&&◌, List, length, get_or, take, drop, arith, sym, ◌∙◌, refl, nat_le}
-use Rattle.std.specs.Prelude.{slice_get, Some}
-use Rattle.std.proofs.lemmas.Bool.Decides.{nat_tests}
+use Rattle.std.proofs.Common.{◌≡◌, ◌+◌, ◌<◌, ◌≤◌, ◌∷◌, [], ℕ, zero, suc, Bool, true, false, ◌&&◌, List, length, get_or, take, drop, arith, refl}
 use Rattle.std.proofs.lemmas.List.{get_or-drop, length-drop}
-use Rattle.std.proofs.lemmas.Grind.{get_or_default_zero}
-use Rattle.std.proofs.lemmas.Option.{get_or_from_slice_get}
 use lib.Pointwise.{pointwise}
 use Rattle.rt_search.specs.declared.search.Case.{Case}
 use Rattle.rt_search.specs.Searches.{agree, stands_at}
@@ -51,23 +47,3 @@ differs case pattern text place end j h k p e =
 -- a match ends in the text
 pub runs_out : (case : Case) (pattern text : List ℕ) (place : ℕ) → place ≤ length text → length text < place + length pattern → stands_at case pattern text place ≡ false
 runs_out case pattern text place h k = too_short (agree case) pattern (drop place text) (rw (length-drop place text) (omega arith))
-
-le_true : (a b : ℕ) → a ≤ b → nat_le a b ≡ true
-le_true a b h = grind (arith, nat_tests)
-
-pub here : (case : Case) (pattern text : List ℕ) (place end m : ℕ) → place + length pattern ≤ end → end ≤ length text → length pattern ≤ m
-    → ((j : ℕ) → j < m → agree case (get_or pattern j 0) (get_or text (place + j) 0) ≡ true) → (stands_at case pattern text place && nat_le (place + length pattern) end) ≡ true
-here case pattern text place end m h k q f =
-    both (stands_at case pattern text place) (nat_le (place + length pattern) end) (stands case pattern text place end h k (λ j p. f j (omega arith))) (le_true (place + length pattern) end h)
-
-pub not_here : (case : Case) (pattern text : List ℕ) (place end j : ℕ) → place + length pattern ≤ end → end ≤ length text → j < length pattern
-    → agree case (get_or pattern j 0) (get_or text (place + j) 0) ≡ false → (stands_at case pattern text place && nat_le (place + length pattern) end) ≡ false
-not_here case pattern text place end j h k p e = rw (differs case pattern text place end j h k p e) refl
-
--- what a comparison has told of the characters at two places
-pub told : (case : Case) (pattern text : List ℕ) (j at p c : ℕ) (r v : Bool) → j < length pattern → p ≡ get_or pattern j p → slice_get text at ≡ Some c
-    → r ≡ agree case p c → r ≡ v → agree case (get_or pattern j 0) (get_or text at 0) ≡ v
-told case pattern text j at p c r v h e f a b =
-    let first : get_or pattern j 0 ≡ p = sym (e ∙ get_or_default_zero pattern j p h) in
-    let second : get_or text at 0 ≡ c = get_or_from_slice_get text at c 0 f in
-    rw (first, second) (sym a ∙ b)

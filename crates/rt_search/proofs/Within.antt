@@ -14,7 +14,7 @@ use Rattle.rt_search.proofs.Orders.{backwards_at, forwards_at, length_ordered}
 abbrev pub IsIn : ℕ → ℕ → Type 0
 IsIn n place = place < n
 
-place_in : (d : Direction) (s : Stretch) (k e : ℕ) → k < s.end - s.begin → get_or (ordered_places d s) k e < s.end
+pub place_in : (d : Direction) (s : Stretch) (k e : ℕ) → k < s.end - s.begin → get_or (ordered_places d s) k e < s.end
 place_in Forwards s k e h = omega (arith, forwards_at s k e h)
 place_in Backwards s k e h = omega (arith, backwards_at s k e h)
 

@@ -1,3 +1,4 @@
+pub mod Borders
 pub mod Ends
 pub mod Parts
 pub mod Searches

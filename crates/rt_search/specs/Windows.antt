@@ -1,6 +1,5 @@
 -- What a window shows of a text.
 use Rattle.std.specs.Prelude.{◌≡◌, ◌≤◌, ℕ, List, length, take, drop}
-use Rattle.rt_search.specs.declared.matching.Reader.{Reader}
 use Rattle.rt_search.specs.declared.window.Window.{Window}
 use Rattle.rt_search.specs.declared.window.TheConstants.{WINDOW_CHARACTERS}
 
@@ -10,8 +9,3 @@ pub record Shows (text : List ℕ) (window : Window) : Type 0 where
   pub within : window.len ≤ WINDOW_CHARACTERS
   pub shown : take window.len window.chars ≡ take window.len (drop window.start text)
   pub there : window.len ≤ length (drop window.start text)
-
--- both windows of a reader show the text
-pub record Reads (text : List ℕ) (reader : Reader) : Type 0 where
-  pub here : Shows text reader.here
-  pub ahead : Shows text reader.ahead

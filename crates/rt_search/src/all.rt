@@ -1,12 +1,14 @@
 // All matches of a pattern.
 ghost use Rattle.std.specs.Prelude.{◌≡◌, ◌≤◌, ◌<◌, [], ℕ, IfOk, IsOkUnless, OnOk, IfSome, fold, length};
+ghost use Rattle.rt_search.specs.Borders.{AreBorders, pattern_read};
 ghost use Rattle.rt_search.specs.Ends.{EndsDecide, FirstDecides, IsBefore, overlaps_one};
 ghost use Rattle.rt_search.specs.Searches.{all_matches, is_taken, matches_in, overlap, with_match};
 
-use crate::find::{last_end, stretches};
-use crate::matching::Reader;
+use crate::borders::borders_of;
+use crate::find::stretches;
 use crate::part::Part;
-use crate::search::{Overlaps, Search, nth, places};
+use crate::pass::{Pass, room};
+use crate::search::{Overlaps, Search, nth};
 use rt_stamps::Fault;
 use rt_store::TextStore;
 use rt_views::Stretch;
@@ -52,11 +54,14 @@ fn take_in<S: TextStore>(
     taken: &mut Vec<usize>,
     text: &Part<'_, S>,
     pattern: &[char],
+    borders: &[usize],
     search: Search,
     overlaps: Overlaps,
     stretch: Stretch,
 ) -> Result<(), Fault>
     requires stretch { stretch.end ≤ length text.now }
+    requires many { length borders.now ≡ length pattern.now }
+    requires borders { AreBorders (pattern_read search pattern.now) borders.now }
     requires taken { (place : ℕ) → stretch.begin ≤ place → place < stretch.end → FirstDecides (length pattern.now) taken.old.items place }
     ensures ok { OnOk result (taken.new.items
         ≡ fold (with_match overlaps (length pattern.now)) taken.old.items (matches_in search pattern.now text.now stretch)) }
@@ -64,22 +69,21 @@ fn take_in<S: TextStore>(
         → FirstDecides (length pattern.now) taken.new.items place }
     ensures err { IsOkUnless result Fault.NoMemory }
 {
-    let end = last_end(search.limits, stretch, text.len());
-    let mut reader = Reader::new();
-    for index in 0..places(stretch) {
-        let place = nth(stretch, search.direction, index);
-        if reader.is_match(text, search.case, pattern, place, end)
-            && is_taken(overlaps, pattern.len(), taken, place)
-        {
-            taken.push(place)?;
+    let room = room(text, pattern, search, stretch);
+    let mut pass = Pass::new();
+    while let Some(index) = pass.next(text, pattern, borders, search, room) {
+        let place = nth(room, search.direction, index);
+        if !is_taken(overlaps, pattern.len(), taken, place) {
+            continue;
         }
+        taken.push(place)?;
     }
     Ok(())
 }
 
 /// The places of all matches, stretch after stretch, rising when forwards and falling when backwards (Tk text manual,
 /// "search -all"). Of matches that overlap the one that comes first is taken, unless all are asked for. It costs what
-/// `find_first` does where nothing is found. `NoMemory` where the list can't grow.
+/// `find_first` does where nothing is found, and memory for the list. `NoMemory` where that is refused.
 pub fn find_all<S: TextStore>(
     alloc: Global,
     text: &Part<'_, S>,
@@ -95,10 +99,11 @@ pub fn find_all<S: TextStore>(
     ensures err { IsOkUnless result Fault.NoMemory }
 {
     let (near, far) = stretches(search.direction, start, stop, text.len());
+    let borders = borders_of(alloc, search, pattern)?;
     let mut taken = Vec::new(alloc);
-    take_in(&mut taken, text, pattern, search, overlaps, near)?;
+    take_in(&mut taken, text, pattern, &borders, search, overlaps, near)?;
     if let Some(far) = far {
-        take_in(&mut taken, text, pattern, search, overlaps, far)?;
+        take_in(&mut taken, text, pattern, &borders, search, overlaps, far)?;
     }
     Ok(taken)
 }

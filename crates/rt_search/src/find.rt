@@ -1,13 +1,17 @@
 // The matches of a pattern.
-ghost use Rattle.std.specs.Prelude.{◌≡◌, ℕ, ◌<◌, ◌≤◌, ◌∷◌, IfSome, length, option_to_list, slice_get};
+ghost use Rattle.std.specs.Prelude.{◌≡◌, ℕ, ◌<◌, ◌≤◌, ◌∷◌, IfOk, IfSome, IsOkUnless, length, option_to_list, slice_get};
+ghost use Rattle.rt_search.specs.Borders.{AreBorders, pattern_read};
 ghost use Rattle.rt_search.specs.Ends.{IsBefore};
 ghost use Rattle.rt_search.specs.Searches.{first_match, matches_in, stretches};
 
-use crate::matching::Reader;
+use crate::borders::borders_of;
 use crate::part::Part;
-use crate::search::{Direction, Limits, Search, nth, places};
+use crate::pass::{Pass, room};
+use crate::search::{Direction, Limits, Search, nth};
+use rt_stamps::Fault;
 use rt_store::TextStore;
 use rt_views::Stretch;
+use std::alloc::Global;
 
 /// The stretches that a search goes through: one, or two.
 pub(crate) fn stretches(
@@ -63,44 +67,45 @@ pub(crate) fn last_end(limits: Limits, stretch: Stretch, end: usize) -> usize
 fn first_in<S: TextStore>(
     text: &Part<'_, S>,
     pattern: &[char],
+    borders: &[usize],
     search: Search,
     stretch: Stretch,
 ) -> Option<usize>
-    requires { stretch.end ≤ length text.now }
+    requires stretch { stretch.end ≤ length text.now }
+    requires many { length borders.now ≡ length pattern.now }
+    requires borders { AreBorders (pattern_read search pattern.now) borders.now }
     ensures { result ≡ slice_get (matches_in search pattern.now text.now stretch) 0 }
 {
-    let end = last_end(search.limits, stretch, text.len());
-    let mut reader = Reader::new();
-    for index in 0..places(stretch) {
-        let place = nth(stretch, search.direction, index);
-        if reader.is_match(text, search.case, pattern, place, end) {
-            return Some(place);
-        }
-    }
-    None
+    let room = room(text, pattern, search, stretch);
+    let index = Pass::new().next(text, pattern, borders, search, room)?;
+    Some(nth(room, search.direction, index))
 }
 
 /// The place where a pattern is found first, from a start on: the least of the first stretch that has one, or the
-/// greatest when backwards (Tk text manual, "search"); none if there is none. Each character of the text is read
-/// once, in pieces, and each match that begins is compared until it fails: at worst, where the pattern nearly stands
-/// at each place, that is a comparison for each place and each character of the pattern. Takes no memory.
+/// greatest when backwards (Tk text manual, "search"); none if there is none. It takes time linear in what is read and
+/// the pattern: each character of a stretch is read once, in pieces, up to the end of the match, and behind the stretch
+/// as many as a match may run on; there are at most two comparisons for each character. It takes memory for a number for
+/// each character of the pattern: `NoMemory` where that is refused.
 pub fn find_first<S: TextStore>(
+    alloc: Global,
     text: &Part<'_, S>,
     pattern: &[char],
     search: Search,
     start: usize,
     stop: Option<usize>,
-) -> Option<usize>
+) -> Result<Option<usize>, Fault>
     requires start { start ≤ length text.now }
     requires stop { IfSome stop (λ place. place ≤ length text.now) }
-    ensures { result ≡ first_match search pattern.now text.now start stop }
+    ensures ok { IfOk result (λ found. found ≡ first_match search pattern.now text.now start stop) }
+    ensures err { IsOkUnless result Fault.NoMemory }
 {
     let (near, far) = stretches(search.direction, start, stop, text.len());
-    if let Some(place) = first_in(text, pattern, search, near) {
-        return Some(place);
+    let borders = borders_of(alloc, search, pattern)?;
+    if let Some(place) = first_in(text, pattern, &borders, search, near) {
+        return Ok(Some(place));
     }
     match far {
-        Some(far) => first_in(text, pattern, search, far),
-        None => None,
+        Some(far) => Ok(first_in(text, pattern, &borders, search, far)),
+        None => Ok(None),
     }
 }

@@ -2,10 +2,11 @@
 #![tactic(auto)]
 
 pub mod all;
+mod borders;
 pub mod find;
 pub mod laws;
-mod matching;
 pub mod part;
+mod pass;
 pub mod search;
 pub mod walk;
 mod window;

@@ -38,17 +38,17 @@ module _ (search : Search) (pattern text : List ℕ) (start : ℕ) (stop : Optio
       ∙ first_of_rest (matches_in search pattern text near) (flat_map (matches_in search pattern text) (option_to_list far)) none
       ∙ ap (λ places. slice_get places 0) searched
 
-pub returns-in-Some : goal.returns-in-Some
-returns-in-Some g c =
+pub returns-in-Some-clause-ok : goal.returns-in-Some-clause-ok
+returns-in-Some-clause-ok g c =
     found_near c.args.search c.args.pattern.now c.args.text.now c.args.start c.args.stop c.len.result c.stretches-far.result.0 c.stretches-far.result.1
     c.stretches-far.ensures.value c.len.ensures c.in-Some.place c.in-Some.ensures
 
-pub returns-in-Some-far : goal.returns-in-Some-far
-returns-in-Some-far g c =
+pub returns-in-Some-far-clause-ok : goal.returns-in-Some-far-clause-ok
+returns-in-Some-far-clause-ok g c =
     found_far c.args.search c.args.pattern.now c.args.text.now c.args.start c.args.stop c.len.result c.stretches-far.result.0 c.stretches-far.result.1
     c.stretches-far.ensures.value c.len.ensures c.in-Some-far.far c.first_in-in-Some-far.result c.in-Some-far.is c.in_default.ensures c.first_in-in-Some-far.ensures
 
-pub returns-in-None : goal.returns-in-None
-returns-in-None g c =
+pub returns-clause-ok : goal.returns-clause-ok
+returns-clause-ok g c =
     found_none c.args.search c.args.pattern.now c.args.text.now c.args.start c.args.stop c.len.result c.stretches-far.result.0 c.stretches-far.result.1
     c.stretches-far.ensures.value c.len.ensures c.in-None.is c.in_default.ensures
