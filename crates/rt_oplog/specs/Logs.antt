@@ -5,6 +5,7 @@ use Rattle.std.specs.List.{AllByRecursion, list_any}
 use Rattle.std.specs.Str.{bytes_eq}
 use Rattle.std.specs.Cmp.Lexicographic.{pointwise}
 use Rattle.rt_stamps.specs.declared.stamp.Span.{Span}
+use Rattle.rt_stamps.specs.declared.stamp.Stamp.{Stamp}
 use Rattle.rt_stamps.specs.declared.fault.Fault.{Fault}
 use Rattle.rt_stamps.specs.declared.fault.Fault.TheVariants.{BadStamp, Conflict}
 use Rattle.rt_stamps.specs.Stamps.{is_before, is_same}
@@ -65,6 +66,10 @@ with_operation op (q ∷ older) = if is_before (stamp_of q) (stamp_of op) then o
 abbrev pub known_end : List Operation → ℕ → ℕ
 known_end [] site = 0
 known_end (op ∷ older) site = if op.site == site then max (last_count op) (known_end older site) else known_end older site
+
+-- the operation of a stamp that goes on from its site's known end
+abbrev pub going_on : List Operation → Stamp → Body → Operation
+going_on set stamp body = record { count = stamp.count; site = stamp.site; prev = known_end set stamp.site; body = body }
 
 -- what a push makes of a log: nothing new where the log has the operation
 abbrev pub pushed : Operation → List Operation → Result (List Operation) Fault

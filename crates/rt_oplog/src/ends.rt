@@ -63,10 +63,11 @@ impl Ends {
         }
     }
 
-    /// A last count of a site. There is room for one more site.
+    /// A last count of a site, and what its known end was. There is room for one more site.
     #[inline(always)]
-    pub(crate) fn raise(&mut self, site: u16, last: u64)
+    pub(crate) fn raise(&mut self, site: u16, last: u64) -> u64
         requires { vec_len self.old.ends < vec_capacity self.old.ends }
+        ensures known { result ≡ end_in self.old.ends.items site }
         ensures ends { (s : ℕ) → end_in self.new.ends.items s
             ≡ (if site == s then max last (end_in self.old.ends.items s) else end_in self.old.ends.items s) }
         ensures capacity { vec_capacity self.new.ends ≡ vec_capacity self.old.ends }
@@ -79,8 +80,10 @@ impl Ends {
                 site,
                 last: last.max(known),
             };
+            known
         } else {
             let _added = self.ends.insert(place, SiteEnd { site, last });
+            0
         }
     }
 }

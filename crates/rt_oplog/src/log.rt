@@ -1,20 +1,22 @@
 // Logs.
-ghost use Rattle.std.specs.Prelude.{◌≡◌, ℕ, ◌+◌, ◌-◌, ◌<◌, ◌≤◌, ◌∷◌, All, List, [], true, false, length, reverse, map, min, vec_len, vec_capacity, IsOk, OnOk, IfOk, IsOkUnless, OnErr, MatchResult, ◌⊎◌, Ok, Err, slice_get, Some};
+ghost use Rattle.std.specs.Prelude.{◌≡◌, ℕ, ◌+◌, ◌-◌, ◌<◌, ◌≤◌, ◌∷◌, ◌++◌, All, List, [], true, false, length, reverse, map, min, vec_len, vec_capacity, IsOk, OnOk, IfOk, IsOkUnless, OnErr, MatchResult, ◌⊎◌, Ok, Err, slice_get, Some};
 ghost use Rattle.std.specs.List.{AllByRecursion, list_any};
 ghost use Rattle.rt_stamps.specs.declared.fault.Fault.TheVariants.{NoMemory};
 ghost use Rattle.rt_stamps.specs.Stamps.{is_before};
+ghost use Rattle.rt_ops.specs.Edits.{body_of};
 ghost use Rattle.rt_ops.specs.Operations.{stamp_of, has_bad_stamp};
-ghost use Rattle.rt_oplog.specs.Logs.{IsLog, IsFalling, holds, same_operation, clash, known_end, pushed};
+ghost use Rattle.rt_ops.specs.Rules.{keeps_rules};
+ghost use Rattle.rt_oplog.specs.Logs.{IsLog, IsFalling, holds, same_operation, clash, going_on, known_end, pushed};
 ghost use Rattle.rt_oplog.specs.Kept.{op_at, newest_first, IsKept};
 ghost use Rattle.rt_oplog.specs.Blocks.{in_blocks};
 ghost use Rattle.rt_oplog.specs.Outcomes.{Pushes, MakesLog, Joins};
 
-use crate::Op;
 use crate::block::Block;
 use crate::ends::Ends;
 use crate::merge::{ends_of, merge};
 use crate::order::Order;
 use crate::same::{is_clash, is_same};
+use crate::{Edit, Op};
 use rt_stamps::{Fault, ROOT, Stamp};
 use std::alloc::Global;
 use std::marker::Model;
@@ -141,8 +143,23 @@ fn push_place(ops: &[Op], order: &mut Order, ends: &mut Ends, place: usize) -> R
     order.reserve(1)?;
     ends.reserve(1)?;
     order.insert(ops, op.stamp(), place);
-    ends.raise(op.site(), op.last_count());
+    let _ = ends.raise(op.site(), op.last_count());
     Ok(())
+}
+
+/// Puts an operation and its place behind all others, where there is room.
+#[inline(always)]
+fn push_newest(ops: &mut Vec<Op>, order: &mut Order, op: Op)
+    requires ops { vec_len ops.old < vec_capacity ops.old }
+    requires order { 0 < order.old.room }
+    ensures ops { ops.new.items ≡ ops.old.items ++ op ∷ [] }
+    ensures len { vec_len ops.new ≡ vec_len ops.old + 1 }
+    ensures capacity { vec_capacity ops.new ≡ vec_capacity ops.old }
+    ensures order { order.new.items ≡ order.old.items ++ length ops.old.items ∷ [] }
+    ensures room { order.old.room ≤ order.new.room + 1 }
+{
+    order.push(ops.len());
+    ops.push_reserved(op);
 }
 
 impl OpLog {
@@ -260,7 +277,7 @@ impl OpLog {
             return Err(Fault::Conflict);
         }
         self.reserve(1)?;
-        self.ends.raise(op.site(), op.last_count());
+        let _ = self.ends.raise(op.site(), op.last_count());
         let place = self.ops.len();
         self.order.insert(&self.ops, op.stamp(), place);
         self.ops.push_reserved(op);
@@ -279,9 +296,26 @@ impl OpLog {
         ensures room { self.old.room ≤ self.new.room + 1 }
     {
         let last = op.last_count();
-        self.ends.raise(op.site(), last);
-        self.order.push(self.ops.len());
-        self.ops.push_reserved(op);
+        let _ = self.ends.raise(op.site(), last);
+        push_newest(&mut self.ops, &mut self.order, op);
+    }
+
+    /// Adds a site's next operation, which goes on from the site's known end and is newer than all
+    /// others, where there is room. Takes no memory, and looks at none of the others.
+    #[inline(always)]
+    pub fn append_next(&mut self, stamp: Stamp, edit: Edit)
+        requires rules { keeps_rules (body_of edit) ≡ true }
+        requires sound { has_bad_stamp (going_on self.old.operations stamp (body_of edit)) ≡ false }
+        requires newest { All (λ q. is_before (stamp_of q) stamp ≡ true) self.old.operations }
+        requires room { 0 < self.old.room }
+        ensures operations { self.new.operations ≡ going_on self.old.operations stamp (body_of edit) ∷ self.old.operations }
+        ensures room { self.old.room ≤ self.new.room + 1 }
+    {
+        // Its last count is the same whatever it goes on from, so the site is looked up once.
+        let mut op = Op::of(stamp, 0, edit);
+        let prev = self.ends.raise(stamp.site, op.last_count());
+        op.go_on_from(prev);
+        push_newest(&mut self.ops, &mut self.order, op);
     }
 }
 

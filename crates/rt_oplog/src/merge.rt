@@ -159,7 +159,7 @@ pub(crate) fn ends_of(alloc: Global, ops: &[Op], order: &[usize]) -> Result<Ends
             return Err(Fault::Conflict);
         }
         ends.reserve(1)?;
-        ends.raise(op.site(), op.last_count());
+        let _ = ends.raise(op.site(), op.last_count());
     }
     Ok(ends)
 }

@@ -185,6 +185,14 @@ impl Op {
         self.prev
     }
 
+    /// Has it go on from this count of its site instead.
+    #[inline(always)]
+    pub fn go_on_from(&mut self, prev: u64)
+        ensures { self.new ≡ record { count = self.old.count; site = self.old.site; prev = prev; body = self.old.body } }
+    {
+        self.prev = prev;
+    }
+
     /// The first stamp.
     pub fn stamp(&self) -> Stamp
         ensures { result ≡ stamp_of self.now }

@@ -7,7 +7,7 @@ ghost use Rattle.rt_rga.specs.Making.{next_insert};
 ghost use Rattle.rt_rga.specs.Replicas.{IsReplica};
 
 use crate::new_cells::new_cell;
-use rt_oplog::{Edit, Op, OpLog, Text};
+use rt_oplog::{Edit, OpLog, Text};
 use rt_stamps::{Clock, Fault, Stamp};
 use rt_store::TextStore;
 use rt_tags::{StateId, StateTable};
@@ -60,12 +60,11 @@ pub(crate) fn push_character(
     ensures operations { log.new.operations ≡ with_drafts stamp.site (one_character after character) log.old.operations }
     ensures seen { clock.new ≡ greatest_last_count log.new.operations }
 {
-    let prev = log.known(stamp.site);
     clock.saw(stamp.count);
     let insert = Edit::Insert {
         after,
         tags: Vec::new(alloc),
         text: Text::of(character),
     };
-    log.append(Op::of(stamp, prev, insert));
+    log.append_next(stamp, insert);
 }

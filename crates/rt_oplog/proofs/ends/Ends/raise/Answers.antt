@@ -4,7 +4,7 @@ use Rattle.std.proofs.lemmas.List.{get_or_read}
 use Rattle.std.specs.List.{insert}
 use Rattle.rt_oplog.specs.Ends.{end_in, are_rising, is_lower}
 use Rattle.rt_oplog.specs.Kept.{leading}
-use Rattle.rt_oplog.proofs.Known.{no_end, IsMissing, end_at, raise_set, raise_insert, rising_set, rising_insert}
+use Rattle.rt_oplog.proofs.Known.{no_end, IsMissing, end_at, end_none, raise_set, raise_insert, rising_set, rising_insert}
 use Rattle.rt_oplog.proofs.ends.Ends.raise.Goals as goal
 use Rattle.rt_oplog.proofs.ends.Ends.raise.Goals.{else-place-len-via-then-place-len+else-index-site, else-place-len-via-else-place-len}
 
@@ -67,3 +67,31 @@ returns-else-place-len-clause-ends c =
     let items = rw (c.insert-added.ensures.succeeds c.requires) at c.insert-added.ensures.items in
     let put : c.insert-added.new.self.items ≡ insert ends (leading (is_lower site) ends) (record { site = site; last = c.args.last }) = cc (items, at) in
     λ s. rw put (raise_insert ends site c.args.last s c.args.self.now.rising missing)
+
+pub returns-then-index-site-clause-known : goal.returns-then-index-site-clause-known
+returns-then-index-site-clause-known c =
+    let ends = c.args.self.now.ends.items in
+    let site = c.args.site in
+    let at : c.place_of-place.result ≡ leading (is_lower site) ends = rw c.deref.ensures.value at c.place_of-place.ensures.place in
+    let within : c.place_of-place.result < length ends = omega (arith, c.if-place-len.true, c.len.ensures, c.args.self.now.ends.ok.0) in
+    let here : leading (is_lower site) ends < length ends = omega (arith, at, within) in
+    let stood = get_or_read ends c.place_of-place.result c.index.result.now within c.index.ensures no_end in
+    let read = get_or_read ends c.place_of-place.result c.index-then-index-site.result.now within c.index-then-index-site.ensures no_end in
+    let own : c.index.result.now.site ≡ site = grind (arith, nat_tests, c.if-index-site.true) in
+    let there : (get_or ends (leading (is_lower site) ends) no_end).site ≡ site = ap (λ i. (get_or ends i no_end).site) (sym at) ∙ ap (λ e. e.site) (sym stood) ∙ own in
+    let known : c.index-then-index-site.result.now.last ≡ end_in ends site = ap (λ e. e.last) read ∙ ap (λ i. (get_or ends i no_end).last) at ∙ end_at ends site no_end here there in
+    known
+
+pub returns-else-place-len-clause-known : goal.returns-else-place-len-clause-known
+returns-else-place-len-clause-known c =
+    let ends = c.args.self.now.ends.items in
+    let site = c.args.site in
+    let at : c.place_of-place.result ≡ leading (is_lower site) ends = rw c.deref.ensures.value at c.place_of-place.ensures.place in
+    let missing : IsMissing ends site = λ l g. elim c.else-place-len.branch [
+      | else-place-len-via-then-place-len+else-index-site w ↦ (let within : c.place_of-place.result < length ends = omega (arith, at, l) in
+          let stood = get_or_read ends c.place_of-place.result w.index.result.now within w.index.ensures no_end in
+          let same : w.index.result.now.site ≡ site = ap (λ e. e.site) stood ∙ ap (λ i. (get_or ends i no_end).site) at ∙ g in
+          absurd (omega (arith, same, w.if-index-site.false)))
+      | else-place-len-via-else-place-len w ↦ absurd (omega (arith, at, l, w.if-place-len.false, c.len.ensures, c.args.self.now.ends.ok.0))
+    ] in
+    sym (end_none ends site c.args.self.now.rising missing)

@@ -1,4 +1,4 @@
-use Rattle.std.proofs.Common.{◌≡◌, ◌∷◌, ◌++◌, ◌≤◌, ◌∙◌, ℕ, [], length, refl, ap, sym, subst, arith, true}
+use Rattle.std.proofs.Common.{◌≡◌, ◌∷◌, ◌≤◌, ◌∙◌, ℕ, refl, ap, sym, subst, true}
 use Rattle.std.specs.List.{AllByRecursion}
 use Rattle.std.proofs.lemmas.List.Elements.{recursion_from_All}
 use Rattle.rt_stamps.specs.Stamps.{is_before}
@@ -20,9 +20,8 @@ invariant_of-self c =
     let before : Operation → Type 0 = λ q. is_before (stamp_of q) (stamp_of op) ≡ true in
     let newest : AllByRecursion before set = subst (AllByRecursion before) (sym seen) (recursion_from_All before c.args.self.now.operations c.requires.newest) in
     let past : known_end set op.site ≤ op.prev = rw seen c.requires.prev in
-    let put : c.push.new.self.items ≡ order ++ length ops ∷ [] = c.push.ensures.items ∙ ap (λ n. order ++ n ∷ []) (omega (arith, c.len.ensures, c.self.inside.ops.ok.0)) in
     let known : (s : ℕ) → end_in c.raise.new.self.ends.items s ≡ known_end (op ∷ set) s = λ s. c.raise.ensures.ends s ∙ rw (c.site.ensures, c.last_count-last.ensures, c.self.invariant.known s) refl in
-    rw (c.push_reserved.ensures.items, put) (kept_newest ops order ends c.raise.new.self.ends.items op c.self.invariant c.requires.sound newest past known)
+    rw (c.push_newest.ensures.ops, c.push_newest.ensures.order) (kept_newest ops order ends c.raise.new.self.ends.items op c.self.invariant c.requires.sound newest past known)
 
 pub returns-clause-operations : goal.returns-clause-operations
 returns-clause-operations c =
@@ -30,5 +29,4 @@ returns-clause-operations c =
     let ops = c.self.inside.ops.items in
     let order = c.self.inside.order.items in
     let seen : newest_first ops order ≡ c.args.self.now.operations = ap (λ log. log.operations) c.self.view_is in
-    let put : c.push.new.self.items ≡ order ++ length ops ∷ [] = c.push.ensures.items ∙ ap (λ n. order ++ n ∷ []) (omega (arith, c.len.ensures, c.self.inside.ops.ok.0)) in
-    rw (c.push_reserved.ensures.items, put) (seen_newest ops order op c.self.invariant.within ∙ ap (λ set. op ∷ set) seen)
+    rw (c.push_newest.ensures.ops, c.push_newest.ensures.order) (seen_newest ops order op c.self.invariant.within ∙ ap (λ set. op ∷ set) seen)
