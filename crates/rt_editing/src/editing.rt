@@ -23,6 +23,7 @@ use rt_undo::Kind;
 
 /// `insert INDEX CHARS ?TAGLIST CHARS TAGLIST ...?` (Tk text manual), as `View::insert` does it, with the
 /// action that it is for undo. Its faults, and then all is as it was.
+#[inline(always)]
 pub fn insert<S: TextStore>(
     view: &mut View<S>,
     recorder: &mut Recorder,

@@ -1,5 +1,5 @@
 // The selected characters of a widget.
-ghost use Rattle.std.specs.Prelude.{◌≡◌, ◌+◌, ◌<◌, ◌≤◌, not, [], ◌∷◌, IfOk, IsOkUnless, OnOk, length};
+ghost use Rattle.std.specs.Prelude.{◌≡◌, ◌+◌, ◌==◌, ◌<◌, ◌≤◌, not, [], ◌∷◌, IfOk, IsOkUnless, OnOk, length};
 ghost use Rattle.rt_edits.specs.Selected.{selected_stamps, room_in};
 ghost use Rattle.rt_edits.specs.Selections.{with_stamp, with_stamps, unselected};
 ghost use Rattle.rt_store.specs.Spans.{is_among};
@@ -43,12 +43,21 @@ impl Selection {
         Ok(selection)
     }
 
+    /// Whether nothing is selected.
+    #[inline(always)]
+    pub fn is_empty(&self) -> bool
+        ensures { result ≡ (length (selected_stamps self.now) == 0) }
+    {
+        self.stamps.is_empty()
+    }
+
     /// Whether the character of a stamp is selected.
     #[inline(always)]
     pub fn has(&self, stamp: Stamp) -> bool
         ensures { result ≡ is_among (selected_stamps self.now) stamp }
     {
-        self.stamps.contains(&stamp)
+        // Mostly nothing is selected, which needs no look-up.
+        !self.is_empty() && self.stamps.contains(&stamp)
     }
 
     /// Makes room for so many stamps more. `NoMemory` is its only fault; the selection stays.

@@ -1,5 +1,5 @@
 // The parts of a text, read from the left.
-ghost use Rattle.std.specs.Prelude.{◌≡◌, ℕ, ◌+◌, ◌^◌, ◌==◌, if◌then◌else◌, ◌<◌, ◌≤◌, ◌⊎◌, Some, None, length, map, take, drop, IfSome, IfOk, IfErr, option_map};
+ghost use Rattle.std.specs.Prelude.{◌≡◌, ℕ, ◌+◌, ◌*◌, ◌^◌, ◌==◌, if◌then◌else◌, ◌<◌, ◌≤◌, ◌⊎◌, Some, None, length, map, take, drop, IfSome, IfOk, IfErr, option_map};
 ghost use Rattle.std.specs.List.{prefix_len};
 ghost use Rattle.std.specs.Char.{is_ascii_alphabetic};
 ghost use Rattle.rt_index.specs.Grammar.{counted, turned};
@@ -72,6 +72,20 @@ fn after_any(text: &[u8]) -> &[u8]
     }
 }
 
+// A number with one digit more behind it, or the greatest one that is kept.
+#[inline(always)]
+fn with_digit(value: usize, digit: u8) -> usize
+    ensures { result ≡ kept (10 * value + digit) }
+{
+    let digit = usize::from(digit);
+    // What surely fits needs no look at what doesn't.
+    if value < 1 << 60 {
+        10 * value + digit
+    } else {
+        value.saturating_mul(10).saturating_add(digit)
+    }
+}
+
 /// The number that the digits at the front of a text write, or the greatest one that is kept, and
 /// what follows them. None where there are no digits.
 #[inline(always)]
@@ -82,9 +96,7 @@ fn number_at(text: &[u8]) -> Option<(usize, &[u8])>
     let mut value: usize = 0;
     let mut count = 0;
     while count < text.len() && text[count].is_ascii_digit() {
-        value = value
-            .saturating_mul(10)
-            .saturating_add(usize::from(text[count] - b'0'));
+        value = with_digit(value, text[count] - b'0');
         count += 1;
     }
     if count == 0 {

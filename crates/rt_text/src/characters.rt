@@ -55,6 +55,10 @@ fn next_selected<S: TextStore>(
     ensures { result ≡ next_place (λ cell. if selected then is_among (selected_stamps selection.now) cell.stamp else not
         (is_among (selected_stamps selection.now) cell.stamp)) (visible_of (S.list store.now)) place }
 {
+    // Where nothing is selected no character is looked at.
+    if selection.is_empty() {
+        return next_without(store, selected, place);
+    }
     for at in place..store.visible() {
         if is_selected(selection, selected, store.cell_at(at).stamp) {
             return Some(at);
@@ -129,6 +133,9 @@ fn last_selected<S: TextStore>(store: &S, selection: &Selection, end: usize) -> 
     requires { end ≤ length (visible_of (S.list store.now)) }
     ensures { result ≡ last_place (λ cell. is_among (selected_stamps selection.now) cell.stamp) (take end (visible_of (S.list store.now))) }
 {
+    if selection.is_empty() {
+        return None;
+    }
     let mut at = end;
     while at > 0 {
         at -= 1;

@@ -119,6 +119,7 @@ impl<S: TextStore> Doc<S> {
     }
 
     // Says that what follows is about the text around a place (`TextStore::focus`).
+    #[inline(always)]
     pub(crate) fn focus(&mut self, place: usize)
         ensures { self.new ≡ self.old }
     {

@@ -45,6 +45,7 @@ pub(crate) fn stamp_or_root(left: &Option<Cell<StateId>>) -> Stamp
 }
 
 // Whether a limit is none, or a newline of the text, gone or not.
+#[inline(always)]
 fn is_newline_of<S: TextStore>(store: &S, limit: Option<Stamp>) -> bool
     ensures { result ≡ is_newline_of (S.list store.now) limit }
 {

@@ -1,5 +1,5 @@
 -- A new node with the back half of another.
-use Rattle.std.proofs.Common.{◌≡◌, ℕ, suc, ◌+◌, ◌<◌, ◌≤◌, inl, inr, List, [], ◌∷◌, ◌++◌, length, take, drop, get_or, set, sym, ap, ◌∙◌, arith, get_or-set_same, get_or-set_other, length-set, length-append}
+use Rattle.std.proofs.Common.{◌≡◌, ℕ, suc, ◌+◌, ◌<◌, ◌≤◌, inl, inr, List, [], ◌∷◌, ◌++◌, length, take, drop, get_or, set, refl, sym, ap, ◌∙◌, arith, get_or-set_same, get_or-set_other, length-set, length-append}
 use Rattle.std.proofs.lemmas.List.{get_or_append_left, get_or_push, take-append-drop, map-append}
 use Rattle.rt_nodes.specs.Nodes.{entries, with_entries}
 use Rattle.rt_nodes.specs.declared.memory.NodeId.{NodeId}
@@ -101,3 +101,14 @@ head-is m m1 p n level e is = is ∙ ap (λ l. m.heads ++ head_of p l ∷ []) e
 
 pub none_new : (m : Memory) (n q k : ℕ) → q ≡ length m.heads → ((c : ℕ) → 0 < count_of c (links (entries m n)) → c < length m.heads) → count_of q (links (drop k (entries m n))) ≡ 0
 none_new m n q k qh kids = elim (cases_zero (count_of q (links (drop k (entries m n))))) [ inl z ↦ z | inr some ↦ absurd (let d = drop-count q k (entries m n) in let l = kids q (omega arith) in omega arith) ]
+
+-- nothing is to be adopted where no node stands among the entries
+pub unadopted : (m : Memory) (q : ℕ) (es : List Entry) → ((c : ℕ) → 0 < count_of c es → ⊥) → IsAdopted m m q es
+unadopted m q es none = record {
+  rows = refl;
+  room = refl;
+  heads = refl;
+  levels = λ c. refl;
+  moved = λ c lt some. absurd (none c some);
+  stay = λ c z. refl;
+}

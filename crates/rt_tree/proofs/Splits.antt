@@ -105,9 +105,11 @@ module _ (m : Memory) (height root : ℕ) (t : IsShape (bare m) height root) (ex
   pub small-back : (k : ℕ) → IsSmall (adds_up (drop k (entries m n)))
   small-back k = small-drop (entries m n) k small-sum
 
-  -- the children of a node are nodes
-  pub kids-in : (c : ℕ) → 0 < count_of c (links (entries m n)) → c < length m.heads
-  kids-in c some = (child-of (bare m) n (level_of (bare m) n) (entries (bare m) n) (t.fits n nis) c (omega (arith, ap (count_of c) (bare-entries m n)))).0
+  -- the children of a node are nodes, and it is no leaf then
+  pub kids-in : (c : ℕ) → 0 < count_of c (links (entries m n)) → (c < length m.heads) × (0 < level_of (bare m) n)
+  kids-in c some =
+      let k = child-of (bare m) n (level_of (bare m) n) (entries (bare m) n) (t.fits n nis) c (omega (arith, ap (count_of c) (bare-entries m n))) in
+      (k.0, let up = k.1 in omega (arith, up))
 
 -- what a split keeps
 pub record IsKept (m m3 : Memory) (height root : ℕ) : Type 0 where

@@ -16,6 +16,7 @@ use rt_tags::StateTable;
 use std::mem::swap;
 
 // The characters of a run stand behind, if it is visible.
+#[inline(always)]
 fn add_run(summary: &mut Summary, states: &StateTable, run: &Run)
     requires last { IfSome summary.old.last (IsState states.now) }
     requires state { run.now.gone ≡ false → IsState states.now run.now.state }
@@ -32,6 +33,7 @@ fn add_run(summary: &mut Summary, states: &StateTable, run: &Run)
 }
 
 // The characters of one entry stand behind those of the entries before it.
+#[inline(always)]
 fn add_entry(
     summary: &mut Summary,
     each: &[Summary],
@@ -52,8 +54,8 @@ fn add_entry(
         summary.new }
     ensures capacity { summary.new.counts.capacity ≡ summary.old.counts.capacity }
 {
-    match *mem.entry(node, i) {
-        Entry::Here(run) => add_run(summary, states, &run),
+    match mem.entry(node, i) {
+        Entry::Here(run) => add_run(summary, states, run),
         Entry::Down(child, _) => summary.join(states, &each[child.index as usize]),
     }
 }

@@ -38,7 +38,8 @@ fn adopt(mem: &mut Mem, id: NodeId)
 fn halve(mem: &mut Mem, node: NodeId, parent: NodeId) -> NodeId
     requires node { IsNode mem.old node.index }
     requires same { length mem.old.heads ≡ length mem.old.rows }
-    requires kids { (c : ℕ) → 0 < count_of c (links (entries mem.old node.index)) → c < length mem.old.heads }
+    requires kids { (c : ℕ) → 0 < count_of c (links (entries mem.old node.index))
+        → (c < length mem.old.heads) × (0 < level_of (bare mem.old) node.index) }
     requires room { 0 < mem.old.room }
     ensures { IsHalved mem.old mem.new node.index result.index parent.index (length (entries mem.old node.index) / 2) }
 {
@@ -46,7 +47,10 @@ fn halve(mem: &mut Mem, node: NodeId, parent: NodeId) -> NodeId
     let level = level_of(mem, node);
     let new = mem.make(Head { parent, level });
     mem.move_tail(node, half, new);
-    adopt(mem, new);
+    // The entries of a leaf are runs, which have no parent.
+    if level > 0 {
+        adopt(mem, new);
+    }
     new
 }
 

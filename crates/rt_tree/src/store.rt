@@ -188,6 +188,7 @@ impl TextStore for TreeStore {
         self.tree.previous_tagged(states, tag, place)
     }
 
+    #[inline(always)]
     fn focus(&mut self, place: usize) {
         self.tree.focus(place);
     }

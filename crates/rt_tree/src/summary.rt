@@ -35,13 +35,30 @@ impl Summary {
     }
 
     // Whether the last character is in a state.
+    #[inline(always)]
     fn ends_in(&self, state: StateId) -> bool
         ensures { result ≡ true → self.now.last ≡ Some state }
     {
         self.last == Some(state)
     }
 
+    // A visible run in a state stands behind, whatever the state of the last character.
+    #[inline(never)]
+    fn push_other(&mut self, states: &StateTable, state: StateId)
+        requires last { IfSome self.old.last (IsState states.now) }
+        requires state { IsState states.now state }
+        requires room { HasRoomForAll states.now self.old.counts }
+        requires few { (tag : ℕ) → count_of tag self.old.counts + 2 < 2 ^ 32 }
+        ensures pushed { (xs : List ℕ) → IsSummary states.now xs self.old → IsSummary states.now (xs ++ state ∷ []) self.new }
+        ensures capacity { self.new.counts.capacity ≡ self.old.counts.capacity }
+    {
+        self.counts.add_border(states, self.last, Some(state));
+        self.first = either(&self.first, &Some(state));
+        self.last = Some(state);
+    }
+
     // A visible run in a state stands behind. It changes nothing where the last character is in that state.
+    #[inline(always)]
     pub(crate) fn push(&mut self, states: &StateTable, state: StateId)
         requires last { IfSome self.old.last (IsState states.now) }
         requires state { IsState states.now state }
@@ -53,9 +70,7 @@ impl Summary {
         if self.ends_in(state) {
             return;
         }
-        self.counts.add_border(states, self.last, Some(state));
-        self.first = either(&self.first, &Some(state));
-        self.last = Some(state);
+        self.push_other(states, state);
     }
 
     // The characters of another stretch stand behind those that there are.

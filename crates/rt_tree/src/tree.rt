@@ -206,6 +206,7 @@ impl Tree {
 
     /// Keeps in mind where the visible cell before a place stands, if there is one: until the next change, look-ups of cells
     /// of its run go there at once.
+    #[inline(always)]
     pub fn focus(&mut self, place: usize)
         ensures { self.new ≡ self.old }
     {

@@ -32,6 +32,28 @@ impl Viewer {
             (edited self.old recorder.old) result (edited self.new recorder.new) }
         ensures settled { IsSettled self.new recorder.new }
     {
+        // Without lists of tags, as typing has it, no list of texts is made.
+        if texts.pieces().is_empty() {
+            let view = &mut self.view;
+            let plain = rt_editing::insert(view, recorder, index.text(), &[], texts.rest());
+            return changed(self.alloc, plain);
+        }
+        self.insert_pieces(recorder, index, texts)
+    }
+
+    // The same, in a list of texts.
+    #[inline(never)]
+    fn insert_pieces(
+        &mut self,
+        recorder: &mut Recorder,
+        index: &Word<'_>,
+        texts: &Texts<'_>,
+    ) -> Result<Reply, Fault>
+        requires { IsSettled self.old recorder.old }
+        ensures answers { Answers (changed_step (text_inserted (edited self.old recorder.old) index.now (map as_piece texts.now.pieces) texts.now.rest))
+            (edited self.old recorder.old) result (edited self.new recorder.new) }
+        ensures settled { IsSettled self.new recorder.new }
+    {
         let pieces = owned(self.alloc, texts.pieces())?;
         let view = &mut self.view;
         let inserted = rt_editing::insert(view, recorder, index.text(), &pieces, texts.rest());

@@ -19,6 +19,7 @@ impl<S: TextStore> View<S> {
     /// `NoneTagged`, `ClockSpent`, `TextFull`, or want of memory, and then nothing changes. It takes one
     /// count for each character and one for each tag that an Insert of at most 65,535 characters can't
     /// list, above 64.
+    #[inline(always)]
     pub fn insert(&mut self, index: &str, pieces: &[Piece], rest: &str) -> Result<(), Fault>
         ensures ok { OnOk result (inserted self.old index.now pieces.now rest.now ≡ Ok self.new) }
         ensures err { IfErr result (Refuses (inserted self.old index.now pieces.now rest.now)) }

@@ -33,6 +33,7 @@ impl<S: TextStore> View<S> {
     }
 
     // The place of an index, and the places of the text that the widget shows. The faults of `place`.
+    #[inline(always)]
     pub(super) fn place_within(&self, index: &str) -> Result<(usize, Stretch), Fault>
         ensures ok { IfOk result (λ found. index_of (widget_of self.now) index.now ≡ Ok found.0) }
         ensures stretch { IfOk result (λ found. found.1 ≡ stretch_by self.now) }

@@ -15,6 +15,7 @@ use crate::homes::spans_for;
 use crate::mark::{Mark, mark_span};
 use crate::splice::{newest_of, put_cells};
 use crate::tally::counts_with;
+use crate::walk::Found;
 use rt_stamps::limits::MOST_CELLS;
 use rt_stamps::{Fault, Span};
 use rt_store::Cell;
@@ -27,6 +28,17 @@ fn ahead(asked: usize, most: usize) -> usize
     ensures most { asked ≤ most → result ≤ most }
 {
     asked.max(most.min(32))
+}
+
+// Keeps in mind a run and where it stands, if there is one; else only that there is none is written.
+#[inline(always)]
+fn keep(kept: &mut Option<Found>, last: &Option<Found>)
+    ensures { kept.new ≡ last.now }
+{
+    match last {
+        None => *kept = None,
+        Some(found) => *kept = Some(*found),
+    }
 }
 
 impl Tree {
@@ -185,7 +197,7 @@ impl Tree {
         );
         self.newest = newest_of(self.newest, cells);
         self.counts = counts_with(self.counts, cells);
-        self.last = change.last;
+        keep(&mut self.last, &change.last);
         self.root = change.root;
         self.runs += change.more;
         self.spare_cells -= cells.len();

@@ -13,8 +13,8 @@ loop-count-preserved c =
     let digit : is_ascii_digit (get_or t i 0) ≡ true = sym c.is_ascii_digit.ensures.value ∙ c.if-is_ascii_digit.true in
     let more = prefix_len-drop_yes is_ascii_digit t i 0 c.loop-count-test.true digit in
     let number = number_more t i digit c.loop-count-test.true in
-    let e : c.saturating_add-value.result ≡ kept (digits_value 10 (take (i + 1) t)) =
-    omega (arith, number, c.loop-count.invariant.number, c.saturating_add-value.ensures, c.saturating_mul.ensures, c.from.ensures) in
+    let e : c.with_digit-value.result ≡ kept (digits_value 10 (take (i + 1) t)) =
+    omega (arith, number, c.loop-count.invariant.number, c.with_digit-value.ensures) in
     record {
       within = omega arith;
       digits = omega (arith, more, c.loop-count.invariant.digits);

@@ -1,5 +1,6 @@
-use Rattle.std.proofs.Common.{◌∙◌, ap, map, inl, refl, subst, sym}
-use Rattle.std.proofs.lemmas.Result.{err_from_is_err_and}
+use Rattle.std.proofs.Common.{◌≡◌, ◌==◌, ◌∙◌, [], ap, arith, length, map, subst, sym, true}
+use Rattle.std.proofs.lemmas.List.{nil_from_length}
+use Rattle.std.proofs.lemmas.Bool.Decides.{nat_tests}
 use Rattle.rt_editing.specs.Settled.{IsSettled}
 use Rattle.rt_text.specs.Widgets.{Viewed}
 use Rattle.rt_editing.specs.Edited.{edited}
@@ -8,19 +9,16 @@ use Rattle.rt_peers.specs.ViewStep.{as_piece}
 use Rattle.rt_peers.proofs.Steps.{changed_answers}
 use Rattle.rt_peers.proofs.viewer.Viewer.insert.Goals as goal
 
-pub insert-inserted-requires : goal.insert-inserted-requires
-insert-inserted-requires c = subst (λ (v : Viewed). IsSettled v c.args.recorder.now) (sym c.self.view_is) c.requires
+pub insert-plain-requires : goal.insert-plain-requires
+insert-plain-requires c = subst (λ (v : Viewed). IsSettled v c.args.recorder.now) (sym c.self.view_is) c.requires
 
-pub returns-in_err-pieces : goal.returns-in_err-pieces
-returns-in_err-pieces c =
-    let (y, is, gives) = err_from_is_err_and c.from_residual.result c.from_residual.ensures.1 in
-    rw (is, gives) (record { answers = (refl, inl c.in_err-pieces.ensures.err); settled = c.requires })
-
-pub returns : goal.returns
-returns c =
-    let pieces = c.deref.ensures.value ∙ c.in_ok-pieces.ensures.ok ∙ ap (map as_piece) c.pieces.ensures in
+pub returns-then-is_empty : goal.returns-then-is_empty
+returns-then-is_empty c =
+    let zero : (length c.pieces.result.now == 0) ≡ true = sym c.is_empty.ensures ∙ c.if-is_empty.true in
+    let none : c.args.texts.now.pieces ≡ [] = sym c.pieces.ensures ∙ nil_from_length c.pieces.result.now (grind (arith, nat_tests, zero)) in
+    let pieces = ap (map as_piece) (sym none) in
     record {
-      answers = changed_answers (edited c.args.self.now c.args.recorder.now) _ _ _ _ c.insert-inserted.result c.changed.result (λ i. edited (c.self.view_is i) c.args.recorder.now)
-          (λ i. text_inserted (edited (c.self.view_is i) c.args.recorder.now) (c.text.ensures i) (pieces i) (c.rest.ensures i)) c.insert-inserted.ensures.ok c.insert-inserted.ensures.err c.insert-inserted.ensures.unchanged c.changed.ensures;
-      settled = c.insert-inserted.ensures.settled;
+      answers = changed_answers (edited c.args.self.now c.args.recorder.now) _ _ _ _ c.insert-plain.result c.changed.result (λ i. edited (c.self.view_is i) c.args.recorder.now)
+          (λ i. text_inserted (edited (c.self.view_is i) c.args.recorder.now) (c.text.ensures i) (pieces i) (c.rest.ensures i)) c.insert-plain.ensures.ok c.insert-plain.ensures.err c.insert-plain.ensures.unchanged c.changed.ensures;
+      settled = c.insert-plain.ensures.settled;
     }

@@ -1,6 +1,9 @@
-use Rattle.std.proofs.Common.{ℕ, List, ◌-◌, ◌^◌, arith, ap, sym, ◌∙◌, subst}
+use Rattle.std.proofs.Common.{ℕ, List, Option, ◌-◌, ◌^◌, arith, ap, sym, ◌∙◌, subst}
+use Rattle.std.specs.Prelude.{IfSome}
 use Rattle.rt_store.specs.declared.cell.Cell.{Cell}
 use Rattle.rt_store.specs.Cells.{AreDistinct, put_at}
+use Rattle.rt_tree.specs.declared.walk.Found.{Found}
+use Rattle.rt_tree.specs.Holds.{Holds}
 use Rattle.rt_tree.specs.Runs.{cells_of}
 use Rattle.rt_tree.specs.Shape.{tree_runs}
 use Rattle.rt_tree.specs.Sharing.{AreBelowGreatest, AreOnce, AreUpTo}
@@ -102,7 +105,7 @@ invariant_of-self c =
       spans = (let had = c.self.invariant.spans in let left = e.left in omega (arith, had, left, cells, cuts, ra, rb));
       sums = record { many = e.told.many; memory = e.told.memory; tags = let h = c.self.invariant.sums.tags in omega (arith, h, e.tags) };
       counts = subst (IsCountOf c.counts_with-self-inside.result) (sym shown_cells) (c.counts_with-self-inside.ensures c.args.at (cells_of s.text.items old) c.self.invariant.counts);
-      last = e.held;
+      last = subst (λ (l : Option Found). IfSome l (Holds c.put_cells-change.new.mem c.put_cells-change.result.root.index)) (sym c.keep.ensures) e.held;
     }
 
 pub returns-clause-cells : goal.returns-clause-cells
