@@ -1,5 +1,5 @@
 // Interned tag states of characters.
-ghost use Rattle.std.specs.Prelude.{List, ℕ, ◌≡◌, IsOk, All, ◌==◌, [], ◌∷◌, ◌++◌, ◌<◌, ◌≤◌, ◌&&◌, OnOk, None, OnErr, IfOk, IsOkUnless, IfSome, IfNone, Ok, Some, true, false, map, filter, length, slice_get, slice_index_or, position, string_bytes, vec_len};
+ghost use Rattle.std.specs.Prelude.{List, ℕ, ◌≡◌, IsOk, All, ◌==◌, [], ◌∷◌, ◌++◌, ◌<◌, ◌≤◌, ◌&&◌, OnOk, None, OnErr, IfOk, IsOkUnless, IfSome, IfNone, Ok, Some, true, false, map, filter, length, slice_get, slice_index_or, position, string_bytes, take, vec_len};
 ghost use Rattle.std.specs.List.{prefix_len};
 ghost use Rattle.std.specs.Ordering.{ordering_index};
 ghost use Rattle.std.specs.declared.cmp.Ordering.TheVariants.{Less};
@@ -356,9 +356,8 @@ impl StateTable {
         self.names.get_index(tag.place).unwrap().as_str()
     }
 
-    /// The state after one more write of a tag: of each tag the greatest writer stays. The state itself
-    /// where it has a writer of that tag that isn't less. `NoMemory` is its only fault, and the table is
-    /// then as it was.
+    /// The state after one more write of a tag: of each tag the greatest writer stays. The state itself where it has
+    /// a writer of that tag that isn't less. `NoMemory` is its only fault, and the table is then as it was.
     pub fn with(
         &mut self,
         state: StateId,
@@ -410,14 +409,15 @@ impl StateTable {
     }
 
     /// The state in which a list of names is on under one writer, made at once: no state on the way is
-    /// kept. New names get numbers. `NoMemory` is its only fault; the states are then as they were, and
-    /// names that got a number keep it.
+    /// kept. New names get numbers. `NoMemory` is its only fault; the states are then as they were, and names
+    /// that got a number keep it: after a fault the names are those that the first so many of the list gave.
     #[inline(always)]
     pub fn state_of_list(&mut self, writer: Stamp, names: &[String]) -> Result<StateId, Fault>
         ensures given { IfOk result (IsState self.new) }
         ensures state { IfOk result (λ id. state_at self.new id ≡ state_after [] (listed_by writer (as_words names.now))) }
         ensures interned { IfOk result (λ id. Interns (state_after [] (listed_by writer (as_words names.now))) self.old.states id self.new.states) }
         ensures names { OnOk result (self.new.names ≡ (all_numbered (as_words names.now) self.old).names) }
+        ensures partly { OnErr result ((k : ℕ) × (self.new.names ≡ (all_numbered (take k (as_words names.now)) self.old).names)) }
         ensures err { OnErr result (self.new.states ≡ self.old.states) }
         ensures fault { IsOkUnless result Fault.NoMemory }
         ensures ids { KeepsIds self.old self.new }
@@ -437,6 +437,7 @@ impl StateTable {
         ensures given { IfOk result (λ tags. All (IsTag self.new) tags.items) }
         ensures tags { IfOk result (λ tags. map (name_at self.new) tags.items ≡ as_words names.now) }
         ensures names { OnOk result (self.new.names ≡ (all_numbered (as_words names.now) self.old).names) }
+        ensures partly { OnErr result ((k : ℕ) × (self.new.names ≡ (all_numbered (take k (as_words names.now)) self.old).names)) }
         ensures states { self.new.states ≡ self.old.states }
         ensures fault { IsOkUnless result Fault.NoMemory }
         ensures ids { KeepsIds self.old self.new }
