@@ -49,7 +49,7 @@ returns-in_err-push c =
       names = tt;
       partly = first_gave c.args.names.now (c.loop-name.name-index + 1) c.args.self.now c.number.new.self
           (one_more_gave front (as_words (take (c.loop-name.name-index + 1) c.args.names.now)) c.deref.result.now c.args.self.now c.loop-name.self c.number.new.self
-            c.in_ok-tag.ensures.ok c.loop-name.invariant.names more);
+          c.in_ok-tag.ensures.ok c.loop-name.invariant.names more);
       states = ap (λ (t : TagStates). t.states) c.in_ok-tag.ensures.ok ∙ c.loop-name.invariant.states;
       fault = refl;
       ids = keeps_both c.args.self.now c.loop-name.self c.number.new.self c.loop-name.invariant.ids c.number.ensures.ids;
