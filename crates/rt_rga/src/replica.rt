@@ -146,6 +146,7 @@ impl<S: TextStore> Replica<S> {
     }
 
     /// Says that what follows is about the text around a place (`TextStore::focus`).
+    #[inline(always)]
     pub fn focus(&mut self, place: usize)
         ensures { self.new ≡ self.old }
     {

@@ -37,6 +37,7 @@ pub(crate) fn select_all(
 
 /// Moves the marks of a site, of a widget and of each other one for `n` characters that were inserted at a
 /// place. It takes no memory.
+#[inline(always)]
 pub(crate) fn insert_all(
     marks: &mut Marks,
     widget: &mut Widget,
