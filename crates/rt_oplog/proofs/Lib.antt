@@ -10,3 +10,4 @@ pub mod Places
 pub mod Pushes
 pub mod ReadBack
 pub mod Sets
+pub mod Writing

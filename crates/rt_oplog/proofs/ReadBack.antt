@@ -1,10 +1,10 @@
 -- What is written of a log is read back as the log's operations, and they have that log.
-use Rattle.std.proofs.Common.{◌≡◌, ◌↔◌, ℕ, zero, suc, ◌+◌, ◌<◌, Bool, true, inl, inr, refl, sym, ap, subst, ◌∙◌, arith, List, [], ◌∷◌, ◌++◌, length, take, reverse, Some, None}
+use Rattle.std.proofs.Common.{◌≡◌, ◌↔◌, ℕ, zero, suc, Bool, true, inl, inr, refl, sym, subst, arith, List, [], ◌∷◌, ◌++◌, take, reverse, Some, None}
 use Rattle.std.specs.Prelude.{slice_get}
 use Rattle.std.specs.List.{AllByRecursion}
 use Rattle.std.proofs.lemmas.Bool.Decides.{nat_tests}
-use Rattle.std.proofs.lemmas.List.{reverse-append, take_all, take_more, length-reverse}
-use Rattle.std.proofs.lemmas.Option.{slice_get_within, get_or_from_slice_get}
+use Rattle.std.proofs.lemmas.List.{reverse-append}
+use Rattle.std.proofs.lemmas.Option.{slice_get_within}
 use Rattle.rt_stamps.specs.declared.fault.Fault.{Fault}
 use Rattle.rt_stamps.specs.Stamps.{is_before}
 use Rattle.rt_ops.specs.Operations.{Operation, stamp_of}
@@ -15,7 +15,6 @@ use Rattle.rt_oplog.specs.Logs.{Has, holds, clash, IsFalling, IsLog}
 use Rattle.rt_oplog.specs.Outcomes.{IsLogOf, IsFirstRefused}
 use Rattle.rt_oplog.proofs.Sets.{split, none_from, same_set, member_before}
 use Rattle.rt_oplog.proofs.Merges.{has_end, end_has}
-use Rattle.rt_ops.proofs.Readings.{all_push, in_file_none}
 use Rattle.rt_ops.proofs.Unique.{spelled_is_read}
 
 reverse_cons : (op : Operation) (older : List Operation) → reverse (op ∷ older) ≡ reverse older ++ op ∷ []
@@ -50,17 +49,8 @@ rising_reversed (op ∷ older) f =
 
 -- ---- the file of a log
 
-pub records_take : (ops : List Operation) (i : ℕ) (op : Operation) → slice_get ops i ≡ Some op → AllByRecursion HasRecord (take i ops) → HasRecord op → AllByRecursion HasRecord (take (i + 1) ops)
-records_take ops i op h all has =
-    let more : take (i + 1) ops ≡ take i ops ++ op ∷ [] = take_more ops i op (slice_get_within ops i op h) ∙ ap (λ x. take i ops ++ x ∷ []) (get_or_from_slice_get ops i op op h) in
-    subst (AllByRecursion HasRecord) (sym more) (all_push (take i ops) op all has)
-
-pub written_is_read : (log : List Operation) (n : ℕ) → n ≡ length log → (0 < n → IsLog log) → AllByRecursion HasRecord (take n (reverse log)) → Reads (spelling (reverse log)) (reverse log) (offsets_from 8 (reverse log)) None
-written_is_read [] n e is all = spelled_is_read [] in_file_none
-written_is_read (op ∷ older) n e is all =
-    let ops = reverse (op ∷ older) in
-    let records = subst (AllByRecursion HasRecord) (take_all n ops (omega (arith, e, length-reverse (op ∷ older)))) all in
-    spelled_is_read ops (record { records = records; rising = rising_reversed (op ∷ older) (is (omega (arith, e))).falling })
+pub written_is_read : (log : List Operation) → IsLog log → AllByRecursion HasRecord (reverse log) → Reads (spelling (reverse log)) (reverse log) (offsets_from 8 (reverse log)) None
+written_is_read log is all = spelled_is_read (reverse log) (record { records = all; rising = rising_reversed log is.falling })
 
 -- ---- the log of the operations of a log
 

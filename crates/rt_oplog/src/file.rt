@@ -1,12 +1,14 @@
 // The operation file of a log.
-ghost use Rattle.std.specs.Prelude.{◌≡◌, ◌+◌, ◌⊎◌, reverse, None, IsOkUnless, OnOk, MatchResult};
+ghost use Rattle.std.specs.Prelude.{◌≡◌, ◌+◌, ◌<◌, ◌⊎◌, length, map, reverse, None, IsOkUnless, OnOk, MatchResult};
+ghost use Rattle.std.specs.List.{AllByRecursion, flat_map};
 ghost use Rattle.rt_stamps.specs.declared.fault.Fault.TheVariants.{NoMemory, WriteFault};
 ghost use Rattle.rt_stamps.specs.Source.{failures_of};
 ghost use Rattle.rt_stamps.specs.Written.{Wrote};
-ghost use Rattle.rt_ops.specs.File.{spelling, magic};
+ghost use Rattle.rt_ops.specs.File.{spelling, magic, record_of, HasRecord};
 ghost use Rattle.rt_ops.specs.Reading.{offsets_from, Reads};
+ghost use Rattle.rt_oplog.specs.Kept.{op_at};
 
-use crate::OpLog;
+use crate::{Op, OpLog};
 use rt_ops::spell::spell;
 use rt_stamps::{Fault, Sink, write_all};
 use std::alloc::Global;
@@ -18,6 +20,27 @@ fn write_magic<W: Sink>(out: &mut W) -> Result<(), Fault>
     ensures failures { W.failures out.new ≡ W.failures out.old + failures_of result }
 {
     write_all(out, b"RGATEXT1")
+}
+
+/// Writes the records of the operations of these places, each through the buffer.
+fn write_records<W: Sink>(
+    record: &mut Vec<u8>,
+    ops: &[Op],
+    places: &[usize],
+    out: &mut W,
+) -> Result<(), Fault>
+    requires { AllByRecursion (λ place. place < length ops.now) places.now }
+    ensures wrote { Wrote (W.contents out.old) (W.contents out.new) result (flat_map record_of (map (op_at ops.now) places.now)) }
+    ensures records { OnOk result (AllByRecursion HasRecord (map (op_at ops.now) places.now)) }
+    ensures failures { MatchResult result
+        (λ _. W.failures out.new ≡ W.failures out.old)
+        (λ fault. ((fault ≡ NoMemory) × (W.failures out.new ≡ W.failures out.old)) ⊎ ((fault ≡ WriteFault) × (W.failures out.new ≡ W.failures out.old + 1))) }
+{
+    for place in places {
+        spell(record, &ops[*place])?;
+        write_all(out, record)?;
+    }
+    Ok(())
 }
 
 /// Writes the file of a log's operations by rising stamp, one record after the other, through a
@@ -33,10 +56,10 @@ pub fn write_file<W: Sink>(alloc: Global, log: &OpLog, out: &mut W) -> Result<()
         (λ fault. ((fault ≡ NoMemory) × (W.failures out.new ≡ W.failures out.old)) ⊎ ((fault ≡ WriteFault) × (W.failures out.new ≡ W.failures out.old + 1))) }
 {
     write_magic(out)?;
+    let (ops, blocks) = log.blocks();
     let mut record = Vec::new(alloc);
-    for place in 0..log.len() {
-        spell(&mut record, log.get(place))?;
-        write_all(out, &record)?;
+    for block in blocks {
+        write_records(&mut record, ops, &block.places, out)?;
     }
     Ok(())
 }

@@ -228,6 +228,15 @@ impl OpLog {
         &self.ops[self.order.get(place)]
     }
 
+    /// The operations as they came, and their places by rising stamp, in blocks.
+    pub(crate) fn blocks(&self) -> (&[Op], &[Block])
+        ensures within { AllByRecursion (λ place. place < length result.0.now) (in_blocks result.1.now) }
+        ensures operations { map (op_at result.0.now) (in_blocks result.1.now) ≡ reverse self.now.operations }
+        ensures log { IsLog self.now.operations }
+    {
+        (&self.ops, self.order.blocks())
+    }
+
     /// The operations by rising stamp, or want of memory.
     pub fn in_order(&self) -> Result<Vec<&Op>, Fault>
         ensures operations { IfOk result (λ ops. map (λ op. op.now) ops.items ≡ reverse self.now.operations) }

@@ -1,0 +1,13 @@
+use Rattle.std.proofs.Common.{◌≡◌, map, take}
+use Rattle.std.specs.Io.KnownBytes.{Appends}
+use Rattle.std.specs.List.{AllByRecursion, flat_map}
+use Rattle.rt_ops.specs.File.{record_of, HasRecord}
+use Rattle.rt_oplog.specs.Kept.{op_at}
+use Rattle.rt_oplog.proofs.file.write_records.Given as goal
+
+abbrev pub invariant-loop-place : goal.invariant-loop-place
+invariant-loop-place g l = record {
+  wrote : Appends (g.W.Sink.contents l.fn.out) (g.W.Sink.contents l.out) (flat_map record_of (map (op_at l.ops) (take l.place-index l.places)));
+  records : AllByRecursion HasRecord (map (op_at l.ops) (take l.place-index l.places));
+  failures : g.W.Sink.failures l.out ≡ g.W.Sink.failures l.fn.out;
+}
