@@ -7,7 +7,6 @@ pub mod Noted
 pub mod Outcomes
 pub mod PutBack
 pub mod PutBackInTurn
-pub mod Receptions
 pub mod Removals
 pub mod Renamed
 pub mod Replaced

@@ -12,7 +12,7 @@ use Rattle.rt_edits.specs.Deletions.{delete_drafts, loss_in}
 use Rattle.rt_edits.specs.Flat.{left_of}
 use Rattle.rt_edits.specs.InsertionDrafts.{insertion_drafts}
 use Rattle.rt_edits.specs.Insertions.{Piece, left_neighbour}
-use Rattle.rt_text.specs.Accepted.{view_after}
+use Rattle.rt_text.specs.Accepted.{view_with_new}
 use Rattle.rt_text.specs.Commands.{deleted, inserted, insertion_place, names_in, none_inserted, replaced, right_behind, with_pieces_at, with_range_replaced, without_ranges}
 use Rattle.rt_text.specs.Index.{index_check, place_at_index}
 use Rattle.rt_text.specs.Ranges.{ranges_of}
@@ -77,7 +77,5 @@ both_indices view new from to pieces rest h =
 
 -- OPERATIONS OF OTHER SITES
 
-pub grows_accepted : (answer : Answer) (op : Operation) (view : Viewed) → Grows view.doc.log (view_after answer op view).doc.log
-grows_accepted New op view = grows_with op view.doc.log
-grows_accepted Repeat op view = grows_same view.doc.log view.doc.log refl
-grows_accepted (Refused fault) op view = grows_same view.doc.log view.doc.log refl
+pub grows_taken : (op : Operation) (view : Viewed) → Grows view.doc.log (view_with_new op view).doc.log
+grows_taken op view = grows_with op view.doc.log

@@ -6,7 +6,6 @@ use Rattle.rt_stamps.specs.Words.{Word}
 use Rattle.rt_ops.specs.Operations.{Operation}
 use Rattle.rt_store.specs.Cells.{text_of}
 use Rattle.rt_store.specs.Shown.{TaggedCell}
-use Rattle.rt_rga.specs.Answers.{Answer}
 use Rattle.rt_edits.specs.declared.range.Range.{Range}
 use Rattle.rt_edits.specs.Flat.{Flat}
 use Rattle.rt_edits.specs.Insertions.{Piece}
@@ -16,7 +15,7 @@ use Rattle.rt_undo.specs.Actions.{Action}
 use Rattle.rt_undo.specs.Undo.{History, added, forced_on}
 use Rattle.rt_revert.specs.Reverting.{as_removed}
 use Rattle.rt_editing.specs.Recordings.{made}
-use Rattle.rt_text.specs.Accepted.{view_after}
+use Rattle.rt_text.specs.Accepted.{view_with_new}
 use Rattle.rt_text.specs.Commands.{deleted, inserted, lost_in, replaced}
 use Rattle.rt_text.specs.Index.{place_at_index}
 use Rattle.rt_text.specs.Ranges.{ranges_of}
@@ -77,8 +76,8 @@ text_replaced text from to pieces rest = recorded_edit Replace (lost_from text.v
 
 -- OPERATIONS OF OTHER SITES
 
--- what is offered and accepted is never recorded, but forces the modified flag where it changes the visible text
-abbrev pub text_after : Answer → Operation → Edited → Edited
-text_after answer op text =
-    let view = view_after answer op text.view in
+-- what is taken is never recorded, but forces the modified flag where it changes the visible text
+abbrev pub text_with_new : Operation → Edited → Edited
+text_with_new op text =
+    let view = view_with_new op text.view in
     record text { view = view; history = if is_changed text.view.doc view.doc then forced_on text.history else text.history }

@@ -3,7 +3,6 @@ pub mod Edited
 pub mod Edits
 pub mod Naming
 pub mod Noting
-pub mod Receiving
 pub mod Recordings
 pub mod Returns
 pub mod Reversals
@@ -11,7 +10,6 @@ pub mod Reverts
 pub mod Seen
 pub mod Settled
 pub use Rattle.rt_ops.specs.File
-pub use Rattle.rt_ops.specs.Reading
 pub use Rattle.rt_rga.specs.Answers
 pub use Rattle.rt_text.specs.Accepted
 pub use Rattle.rt_text.specs.Widgets

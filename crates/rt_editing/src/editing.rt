@@ -1,21 +1,20 @@
 // Insertions, removals, replacements, and operations of other sites.
-ghost use Rattle.std.specs.Prelude.{◌≡◌, ◌⊎◌, Ok, IfErr, IfOk, OnErr, OnOk};
+ghost use Rattle.std.specs.Prelude.{◌≡◌, Ok, IfErr, IfOk, OnErr, OnOk};
 ghost use Rattle.rt_stamps.specs.Outcomes.{Refuses};
 ghost use Rattle.rt_stamps.specs.Words.{as_words};
-ghost use Rattle.rt_rga.specs.Answers.{Refused};
-ghost use Rattle.rt_rga.specs.Taken.{TellsChange, told};
-ghost use Rattle.rt_tags.specs.States.{TagStates};
+ghost use Rattle.rt_rga.specs.Answers.{New};
+ghost use Rattle.rt_rga.specs.Taken.{IsChange};
 ghost use Rattle.rt_editing.specs.Settled.{IsSettled};
 ghost use Rattle.rt_text.specs.Accepted.{answer_of};
 ghost use Rattle.rt_editing.specs.Edited.{edited};
-ghost use Rattle.rt_editing.specs.Edits.{text_after, text_deleted, text_inserted, text_replaced};
+ghost use Rattle.rt_editing.specs.Edits.{text_deleted, text_inserted, text_replaced, text_with_new};
 
 use crate::Recorder;
 use crate::before::Before;
 use crate::noting::{note, prepare_deletion, prepare_insertion, prepare_replacement};
 use rt_edits::Piece;
 use rt_oplog::Op;
-use rt_rga::Taken;
+use rt_rga::Change;
 use rt_stamps::Fault;
 use rt_store::TextStore;
 use rt_text::View;
@@ -87,25 +86,26 @@ pub fn replace<S: TextStore>(
     Ok(())
 }
 
-/// Accepts an operation of any site, as `View::accept` does: it is never recorded, and forces the modified
-/// flag where it changes the visible text. What is new tells its change. Its faults, and then all is as it was.
-pub fn accept<S: TextStore>(
-    view: &mut View<S>,
-    recorder: &mut Recorder,
-    op: Op,
-) -> Result<Taken, Fault>
-    requires { IsSettled view.old recorder.old }
-    ensures answer { IfOk result (λ taken. answer_of view.old.doc op ≡ told taken) }
-    ensures change { IfOk result (λ taken. (table : TagStates) × TellsChange op view.old.doc.cells table taken) }
-    ensures ok { OnOk result (edited view.new recorder.new ≡ text_after (answer_of view.old.doc op) op (edited view.old recorder.old)) }
-    ensures refused { IfErr result (λ fault. (answer_of view.old.doc op ≡ Refused fault) ⊎ (fault ≡ Fault.NoMemory)) }
+/// Takes an operation that is new, as `View::take` does: it is never recorded, and forces the modified flag where
+/// it changes the visible text. It tells what changed in the text. Where memory is wanting the operation is given
+/// back, and all is as it was.
+pub fn take<S: TextStore>(view: &mut View<S>, recorder: &mut Recorder, op: Op) -> Result<Change, Op>
+    requires settled { IsSettled view.old recorder.old }
+    requires new { answer_of view.old.doc op ≡ New }
+    ensures taken { OnOk result (edited view.new recorder.new ≡ text_with_new op (edited view.old recorder.old)) }
+    ensures change { IfOk result (IsChange op view.old.doc.cells) }
     ensures unchanged { OnErr result (edited view.new recorder.new ≡ edited view.old recorder.old) }
+    ensures back { IfErr result (λ back. back ≡ op) }
     ensures settled { IsSettled view.new recorder.new }
 {
     let before = Before::of(view);
-    let taken = view.accept(op)?;
-    if before.has_changed(view) {
-        recorder.force();
+    match view.take(op) {
+        Err(op) => Err(op),
+        Ok(change) => {
+            if before.has_changed(view) {
+                recorder.force();
+            }
+            Ok(change)
+        }
     }
-    Ok(taken)
 }

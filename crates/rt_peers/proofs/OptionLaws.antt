@@ -127,13 +127,13 @@ led_one_more place old new settings said =
     omega (arith, more, before, after)
 
 pub created_as : (place : ℕ) (path : Word) (state new : State) (settings : WidgetSettings) → is_some (place_of path state.paths) ≡ false
-    → text_with_peer (text_led place state.text) settings ≡ Ok (text_led place new.text) → new.paths ≡ state.paths ++ path ∷ []
+    → text_with_peer (text_led place state.text) settings ≡ Ok (text_led place new.text) → new.paths ≡ state.paths ++ path ∷ [] → new.held ≡ state.held
     → created place path state settings (path_check path state.paths) ≡ Ok (one_word path, new)
-created_as place path state new settings free said paths =
+created_as place path state new settings free said paths held =
     let one : List Word = one_word path in
     ap (λ b. created place path state settings (cond b (Some WidgetExists) None)) free
     ∙ ap (as_outcome (λ text. (one_word path, with_widget place path state text))) said
-    ∙ (λ i. Ok (one, record { paths = sym paths i; text = text_back new.text place i }))
+    ∙ (λ i. Ok (one, record { paths = sym paths i; text = text_back new.text place i; held = sym held i }))
 
 pub created_refused : (place : ℕ) (path : Word) (state : State) (settings : WidgetSettings) (fault : Fault) → is_some (place_of path state.paths) ≡ false
     → Refuses (text_with_peer (text_led place state.text) settings) fault → Refuses (created place path state settings (path_check path state.paths)) fault

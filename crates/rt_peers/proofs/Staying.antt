@@ -14,7 +14,6 @@ use Rattle.rt_stamps.specs.Words.{Word}
 use Rattle.rt_marks.specs.declared.gravity.Gravity.{Gravity}
 use Rattle.rt_marks.specs.Marks.{without_all}
 use Rattle.rt_ops.specs.Operations.{Operation}
-use Rattle.rt_rga.specs.Answers.{Answer, New, Repeat, Refused}
 use Rattle.rt_requests.specs.declared.request.EditRequest.{EditRequest}
 use Rattle.rt_requests.specs.declared.request.EditRequest.TheVariants as edits
 use Rattle.rt_requests.specs.declared.request.MarkRequest.{MarkRequest}
@@ -33,7 +32,6 @@ use Rattle.rt_store.specs.Shown.{TaggedCell}
 use Rattle.rt_tagcmd.specs.MarkCommands.{set_at, with_gravity}
 use Rattle.rt_tagcmd.specs.TagCommands.{tag_written}
 use Rattle.rt_text.specs.declared.own_mark.OwnMark.{OwnMark}
-use Rattle.rt_text.specs.Accepted.{answer_of}
 use Rattle.rt_text.specs.Commands.{compared, counted, deleted, got, got_list, got_one, inserted, insertion_place, position_of_index, replaced, with_pieces_at, with_range_replaced, with_tag_in, with_tags_deleted, without_ranges}
 use Rattle.rt_text.specs.Index.{place_at_index}
 use Rattle.rt_text.specs.Ranges.{ranges_of}
@@ -44,11 +42,16 @@ use Rattle.rt_undo.specs.Actions.{Action}
 use Rattle.rt_undo.specs.Undo.{History, next_redo, next_undo, redo_done, undo_done}
 use Rattle.rt_editing.specs.Reversals.{redone, reverted_by, undone}
 use Rattle.rt_editing.specs.Edited.{Edited}
-use Rattle.rt_editing.specs.Edits.{lost_between, lost_from, recorded_edit, text_after, text_deleted, text_inserted, text_replaced}
+use Rattle.rt_editing.specs.Edits.{lost_between, lost_from, recorded_edit, text_deleted, text_inserted, text_replaced, text_with_new}
 use Rattle.rt_editing.specs.Reverts.{text_redone, text_undone, with_history}
 use Rattle.rt_editing.proofs.Outcomes.{given}
-use Rattle.rt_editing.specs.declared.receiving.Received.{Received}
-use Rattle.rt_editing.specs.Receiving.{Offers, Receives}
+use Rattle.rt_holding.specs.declared.held.Offered.{Offered}
+use Rattle.rt_holding.specs.declared.held.Offered.TheVariants as offerings
+use Rattle.rt_holding.specs.declared.receiving.Received.{Received}
+use Rattle.rt_holding.specs.Receiving.{Offers, Receives, State as Holder}
+use Rattle.rt_holding.specs.Holding.{Holding, with_taken}
+use Rattle.rt_holding.specs.Taken.{AreTried, IsOffered, all_after, holding}
+use Rattle.rt_peers.specs.SiteStep.{text_limit, text_log}
 use Rattle.rt_peers.specs.Step.{edit_step, on_view, step}
 use Rattle.rt_peers.specs.ViewStep.{Outcome, as_piece, changed_step, element_words, get_step, mark_step, one_word, tag_step, text_of_bool, told_step}
 
@@ -247,19 +250,33 @@ answer_stays old request (Err fault) new h = ap (λ (t : Edited). length t.view.
 
 -- OPERATIONS OF OTHER SITES
 
-after_stays : (answer : Answer) (op : Operation) (text : Edited) → Stay text.view (text_after answer op text).view
-after_stays New op text = length-map text.view.others _
-after_stays Repeat op text = refl
-after_stays (Refused fault) op text = refl
+taken_stays : (op : Operation) (text : Edited) → Stay text.view (text_with_new op text).view
+taken_stays op text = length-map text.view.others _
 
-offers_stay : (ops : List Operation) (offsets : List ℕ) (ending : Option (Fault × ℕ)) (old : Edited) (received : Received) (new : Edited) → Offers ops offsets ending old received new → Stay old.view new.view
-offers_stay [] offsets ending old received new h = ap (λ (t : Edited). length t.view.others) h.1
+pub all_taken_stay : (ops : List Operation) (text : Edited) → Stay text.view (all_after text_with_new ops text).view
+all_taken_stay [] text = refl
+all_taken_stay (op ∷ ops) text = all_taken_stay ops (text_with_new op text) ∙ taken_stays op text
+
+pub tried_stay : (limit : ℕ) (state : Holding) (old new : Edited) (left : List Operation) (count : ℕ)
+    → AreTried text_log text_with_new limit state old new left count → Stay old.view new.view
+tried_stay limit state old new left count h = ap (λ (t : Edited). length t.view.others) h.each ∙ all_taken_stay h.more old
+
+offered_stays : (limit : ℕ) (op : Operation) (offered : Offered) (old : Edited) (held : List Operation) (new : Edited) (left : List Operation)
+    → IsOffered text_log text_with_new limit op offered old held new left → Stay old.view new.view
+offered_stays limit op (offerings.New more) old held new left h =
+    tried_stay limit (with_taken op (holding text_log old held)) (text_with_new op old) new left more h ∙ taken_stays op old
+offered_stays limit op offerings.Repeat old held new left h = ap (λ (t : Edited). length t.view.others) h.0
+offered_stays limit op offerings.Held old held new left h = ap (λ (t : Edited). length t.view.others) h.0
+
+offers_stay : (ops : List Operation) (offsets : List ℕ) (ending : Option (Fault × ℕ)) (old : Holder Edited) (received : Received) (new : Holder Edited)
+    → Offers text_log text_limit text_with_new ops offsets ending old received new → Stay old.site.view new.site.view
+offers_stay [] offsets ending old received new h = ap (λ (s : Holder Edited). length s.site.view.others) h.1
 offers_stay (op ∷ ops) [] ending old received new h = absurd h
-offers_stay (op ∷ ops) (offset ∷ offsets) ending old received new (inl h) = ap (λ (t : Edited). length t.view.others) h.3
+offers_stay (op ∷ ops) (offset ∷ offsets) ending old received new (inl h) = ap (λ (s : Holder Edited). length s.site.view.others) h.3
 offers_stay (op ∷ ops) (offset ∷ offsets) ending old received new (inr h) =
-    let answer = answer_of old.view.doc op in
-    offers_stay ops offsets ending (text_after answer op old) h.0 new h.3 ∙ after_stays answer op old
+    offers_stay ops offsets ending h.1 h.2 new h.6 ∙ offered_stays (text_limit old.site) op h.0 old.site old.held h.1.site h.1.held h.4
 
-pub received_stays : (bytes : List ℕ) (old : Edited) (received : Received) (new : Edited) → Receives bytes old received new → Stay old.view new.view
+pub received_stays : (bytes : List ℕ) (old : Holder Edited) (received : Received) (new : Holder Edited)
+    → Receives text_log text_limit text_with_new bytes old received new → Stay old.site.view new.site.view
 received_stays bytes old received new (inl h) = offers_stay h.0 h.1 h.2 old received new h.4
-received_stays bytes old received new (inr h) = ap (λ (t : Edited). length t.view.others) h.1
+received_stays bytes old received new (inr h) = ap (λ (s : Holder Edited). length s.site.view.others) h.1

@@ -17,4 +17,5 @@ pub use Rattle.rt_text.specs.Limited
 pub use Rattle.rt_editing.specs.Edited
 pub use Rattle.rt_editing.specs.Edits
 pub use Rattle.rt_editing.specs.Reverts
-pub use Rattle.rt_editing.specs.Receiving
+pub use Rattle.rt_holding.specs.Holding
+pub use Rattle.rt_holding.specs.Receiving

@@ -26,7 +26,7 @@ text_led place text = record text { view = view_led place text.view }
 
 -- a site with one more path, the last one, where the widget at a place left the text with one more widget
 abbrev pub with_widget : ℕ → Word → State → Edited → State
-with_widget place path state text = record { paths = state.paths ++ path ∷ []; text = text_led place text }
+with_widget place path state text = record state { paths = state.paths ++ path ∷ []; text = text_led place text }
 
 -- the widget at a place is no longer there; the others stay in their order
 abbrev pub view_without : ℕ → Viewed → Viewed
@@ -36,4 +36,4 @@ view_without place view =
 
 abbrev pub without_widget : ℕ → State → State
 without_widget place state =
-    record { paths = remove state.paths place; text = record state.text { view = view_without place state.text.view } }
+    record state { paths = remove state.paths place; text = record state.text { view = view_without place state.text.view } }

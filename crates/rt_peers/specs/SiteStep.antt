@@ -1,5 +1,5 @@
 -- What the commands of a site's widgets do: the reply and the site after it, or why it is refused.
-use Rattle.std.specs.Prelude.{◌≡◌, ◌⊎◌, ℕ, List, [], ◌∷◌, Option, Some, None, Result, Err, MatchBool, codes}
+use Rattle.std.specs.Prelude.{◌≡◌, ◌⊎◌, ℕ, Bool, nat_lt, List, [], ◌∷◌, length, Option, Some, None, Result, Err, MatchBool, codes}
 use Rattle.std.specs.Str.{bytes_eq}
 use Rattle.rt_stamps.specs.declared.fault.Fault.{Fault}
 use Rattle.rt_stamps.specs.declared.fault.Fault.TheVariants.{NoMemory, NoWidget}
@@ -13,11 +13,14 @@ use Rattle.rt_peer_requests.specs.declared.settings.WidgetSettings.{WidgetSettin
 use Rattle.rt_peer_requests.specs.PeerWords.{asked_of_peers}
 use Rattle.rt_peer_requests.specs.SettingWords.{asked_named_option, asked_settings}
 use Rattle.rt_editing.specs.Edited.{Edited}
-use Rattle.rt_editing.specs.declared.receiving.Received.{Received}
-use Rattle.rt_editing.specs.Receiving.{Receives}
+use Rattle.rt_editing.specs.Edits.{text_with_new}
+use Rattle.rt_holding.specs.declared.receiving.Received.{Received}
+use Rattle.rt_holding.specs.Receiving.{Receives}
+use Rattle.rt_holding.specs.Taken.{AreTried}
+use Rattle.rt_ops.specs.Operations.{Operation}
 use Rattle.rt_peers.specs.Options.{option_outcome, option_step, settings_outcome, settings_step}
 use Rattle.rt_peers.specs.PeerStep.{peer_outcome, peer_step}
-use Rattle.rt_peers.specs.State.{State, place_of}
+use Rattle.rt_peers.specs.State.{State, holding_of, place_of}
 use Rattle.rt_peers.specs.Step.{outcome, step}
 use Rattle.rt_peers.specs.ViewStep.{Outcome, as_outcome}
 use Rattle.rt_peers.specs.Peers.{text_led}
@@ -47,12 +50,35 @@ option_at path state option = at_widget (place_of path state.paths) (λ place. b
 abbrev pub peer_step_at : Word → State → PeerRequest → Outcome State
 peer_step_at path state request = at_widget (place_of path state.paths) (λ place. peer_step path place state request)
 
+-- HELD OPERATIONS
+
+-- the log of a text, and how many cells it may have
+abbrev pub text_log : Edited → List Operation
+text_log text = text.view.doc.log
+
+abbrev pub text_limit : Edited → ℕ
+text_limit text = text.view.doc.limit
+
+-- Held operations are tried: those that can be taken are, one after the other, and change the text as received ones do.
+pub record Tries (old new : State) : Type 0 where
+  pub count : ℕ
+  pub tried : AreTried text_log text_with_new (text_limit old.text) (holding_of old) old.text new.text new.held count
+  pub widgets : new.paths ≡ old.paths
+
+-- a site made operations: its log has more than before
+abbrev pub has_made : State → State → Bool
+has_made old new = nat_lt (length old.text.view.doc.log) (length new.text.view.doc.log)
+
+-- A request is answered as its outcome says. Where the site made operations for it, those that it holds are tried then.
+abbrev pub AnswersInTurn : Outcome State → State → Result (List Word) Fault → State → Type 0
+AnswersInTurn outcome old result new = (mid : State) × Answers outcome old result mid × MatchBool (has_made old mid) (Tries mid new) (new ≡ mid)
+
 -- COMMANDS
 
 -- a widget's command answers what its words ask for; memory may be wanting before that is known
 abbrev pub WidgetGives : ℕ → List Word → State → Result (List Word) Fault → State → Type 0
 WidgetGives place words old result new =
-    ((asked : Asked) × Asks words asked × Answers (by_widget place old (λ text. outcome text asked)) old result new)
+    ((asked : Asked) × Asks words asked × AnswersInTurn (by_widget place old (λ text. outcome text asked)) old result new)
     ⊎ Answers (Err NoMemory) old result new
 
 -- COMMAND WORDS of a widget: `peer` is about the widgets of the site, `configure` and `cget` are about the options of this widget,
@@ -72,9 +98,10 @@ pub record Gives (path : Word) (words : List Word) (old : State) (result : Resul
 
 -- OPERATIONS OF OTHER SITES
 
--- a site receives the bytes of a file: its text does, and its widgets stay
+-- a site receives the bytes of a file: its text does, with the operations that it holds, and its widgets stay
 pub record SiteReceives (bytes : List ℕ) (old : State) (received : Received) (new : State) : Type 0 where
-  pub text : Receives bytes old.text received new.text
+  pub text : Receives text_log text_limit text_with_new bytes (record { site = old.text; held = old.held }) received
+    (record { site = new.text; held = new.held })
   pub widgets : new.paths ≡ old.paths
 
 -- PARTS OF A COMMAND, as private functions run them

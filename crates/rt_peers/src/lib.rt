@@ -12,5 +12,5 @@ mod text;
 mod viewer;
 
 pub use reply::Reply;
-pub use rt_editing::Received;
+pub use rt_holding::Received;
 pub use site::SiteState;

@@ -1,10 +1,9 @@
 // A site, and what is asked of its widgets.
 ghost use Rattle.std.specs.Prelude.{◌≡◌, ◌∷◌, ◌<◌, ◌≤◌, IfOk, IsOkUnless, length};
 ghost use Rattle.rt_stamps.specs.declared.limits.TheConstants.{MOST_CELLS};
-ghost use Rattle.rt_stamps.specs.Outcomes.{Answers};
 ghost use Rattle.rt_stamps.specs.Words.{as_words};
 ghost use Rattle.rt_peers.specs.Peers.{HavePaths};
-ghost use Rattle.rt_peers.specs.SiteStep.{AskingGives, CommandGives, Gives, OwnGives, WidgetGives, by_widget, step_at};
+ghost use Rattle.rt_peers.specs.SiteStep.{AnswersInTurn, AskingGives, CommandGives, Gives, OwnGives, WidgetGives, by_widget, step_at};
 ghost use Rattle.rt_peers.specs.State.{new_state};
 ghost use Rattle.rt_peers.specs.Step.{step};
 
@@ -15,16 +14,19 @@ mod peers;
 use crate::paths::{is_cget, is_configure, is_peer, place_of};
 use crate::reply::Reply;
 use crate::text::EditedText;
+use rt_holding::Held;
 use rt_requests::Request;
 use rt_stamps::{Fault, Site};
 use std::alloc::Global;
 use std::marker::Model;
 
-/// A site with its document, the widgets that show it, and what it recorded of its edits.
+/// A site with its document, the widgets that show it, what it recorded of its edits, and the operations that it
+/// holds as they came early.
 pub struct SiteState {
     alloc: Global,
     paths: Vec<String>,
     text: EditedText,
+    held: Held,
 }
 
 // Written out, so that where a site is let go is one step for the crates above, and not one for each
@@ -35,6 +37,7 @@ impl Drop for SiteState {
             alloc: _,
             paths: _,
             text: _,
+            held: _,
         } = self;
     }
 }
@@ -46,7 +49,7 @@ impl Model for SiteState {
 
     ghost Value = { State };
 
-    ghost view = { λ s. record { paths = as_words s.paths.items; text = s.text } };
+    ghost view = { λ s. record { paths = as_words s.paths.items; text = s.text; held = s.held } };
 
     ghost invariant = { λ s. HavePaths (as_words s.paths.items) s.text.view };
 }
@@ -62,7 +65,12 @@ impl SiteState {
         let text = EditedText::new(alloc, site, limit)?;
         let mut paths = Vec::with_capacity(alloc, 1)?;
         paths.push(String::from_str(alloc, ".t")?)?;
-        Ok(SiteState { alloc, paths, text })
+        Ok(SiteState {
+            alloc,
+            paths,
+            text,
+            held: Held::new(alloc),
+        })
     }
 
     /// The paths of its widgets, in the order in which they were made.
@@ -74,21 +82,27 @@ impl SiteState {
     }
 
     // What is asked of the widget at a place. Refused by the request's own faults, or for want of
-    // memory; then the site is as it was.
+    // memory; then the site is as it was. Where it made operations, held ones are tried then.
     fn request(&mut self, place: usize, request: &Request<'_>) -> Result<Reply, Fault>
         requires { place < length self.old.paths }
-        ensures { Answers (by_widget place self.old (λ text. step text request.now)) self.old result self.new }
+        ensures { AnswersInTurn (by_widget place self.old (λ text. step text request.now)) self.old result self.new }
     {
+        let before = self.text.log().len();
         self.text.lead(place);
         let reply = self.text.request(request);
         self.text.lead(place);
+        if before < self.text.log().len() {
+            self.held.settle(&mut self.text);
+        }
         reply
     }
 
     /// What is asked of the widget of a path. Refused by the first of `NoWidget` and the request's own
-    /// faults, or for want of memory; then the site is as it was.
+    /// faults, or for want of memory; then the site is as it was. Where the site made operations for it, those that
+    /// it holds are tried then, and those that can be taken change text, marks and tags as received ones do; the
+    /// reply speaks of the state before that.
     pub fn answer(&mut self, path: &str, request: &Request<'_>) -> Result<Reply, Fault>
-        ensures { Answers (step_at path.now self.old request.now) self.old result self.new }
+        ensures { AnswersInTurn (step_at path.now self.old request.now) self.old result self.new }
     {
         let Some(place) = place_of(&self.paths, path) else {
             return Err(Fault::NoWidget);
@@ -101,8 +115,10 @@ impl SiteState {
         requires { place < length self.old.paths }
         ensures { WidgetGives place (as_words words.now) self.old result self.new }
     {
-        let request = Request::of(self.alloc, words)?;
-        self.request(place, &request)
+        match Request::of(self.alloc, words) {
+            Ok(request) => self.request(place, &request),
+            Err(fault) => Err(fault),
+        }
     }
 
     // NAME WORDS of the widget at a place, which is neither `peer` nor `configure`.

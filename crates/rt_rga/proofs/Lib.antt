@@ -32,6 +32,7 @@ pub mod Relation
 pub mod RemovedPlaces
 pub mod Replicas
 pub mod Requests
+pub mod RetaggedPlaces
 pub mod Rising
 pub mod Room
 pub mod Rooted

@@ -1,9 +1,7 @@
--- The place of a position, and the numbers of names.
-use Rattle.std.proofs.Common.{◌≡◌, ℕ, zero, suc, ◌+◌, ◌<◌, true, false, not, refl, sym, ap, ◌∙◌, arith, get_or, Some, None, List, [], ◌∷◌, ◌++◌, cond, length, map, take, All}
+-- The place of a position.
+use Rattle.std.proofs.Common.{◌≡◌, ℕ, zero, suc, ◌+◌, ◌<◌, true, false, not, refl, sym, ap, ◌∙◌, arith, Some, None, List, [], ◌∷◌, cond, length, map, take}
 use Rattle.std.specs.Prelude.{nat_lt, slice_get, option_map}
 use Rattle.std.proofs.lemmas.Bool.Decides.{nat_tests}
-use Rattle.std.proofs.lemmas.List.{take_more}
-use Rattle.std.proofs.lemmas.List.Elements.{All-append, All-cons, All-from_recursion, All-nil, recursion_from_All}
 use Rattle.std.proofs.lemmas.Map.Keys.{IsDistinct-head, IsDistinct-tail}
 use Rattle.std.specs.List.{AllByRecursion, position_or_len}
 use Rattle.rt_stamps.specs.declared.stamp.Stamp.{Stamp}
@@ -13,7 +11,6 @@ use Rattle.rt_store.specs.declared.cell.Cell.{Cell}
 use Rattle.rt_store.specs.Cells.{AreDistinct, map_state, position_of, skip_from, stamps_of, visible_before, visible_of}
 use Rattle.rt_store.proofs.Shown.{length_shown, skip_shown, visible_shown}
 use Rattle.rt_ops.specs.Operations.{Body, Insert, Delete, Tag}
-use Rattle.rt_tags.specs.States.{IsTag, KeepsIds, TagStates, name_at}
 use Rattle.rt_rga.specs.Taken.{place_by}
 
 apart_at : {T : Type 0} (s : Stamp) (cells : List (Cell T)) (n : ℕ) (x : Cell T) → AllByRecursion (λ t. is_same s t ≡ false) (stamps_of cells) → slice_get cells n ≡ Some x → is_same s x.stamp ≡ false
@@ -35,7 +32,7 @@ first_at (c ∷ cs) (suc n) x d e =
     ap (λ b. cond (not b) (1 + position_or_len (λ cell. is_same cell.stamp x.stamp) cs) 0) f
     ∙ ap (λ m. 1 + m) (first_at cs n x (IsDistinct-tail is_same c.stamp (stamps_of cs) d) e) ∙ next n
 
-get_within : {X : Type 0} (xs : List X) (n : ℕ) (x : X) → slice_get xs n ≡ Some x → n < length xs
+pub get_within : {X : Type 0} (xs : List X) (n : ℕ) (x : X) → slice_get xs n ≡ Some x → n < length xs
 get_within [] n x e = absurd (cc e)
 get_within (y ∷ xs) zero x e = omega arith
 get_within (y ∷ xs) (suc n) x e = let i = get_within xs n x e in omega arith
@@ -68,33 +65,3 @@ place_shown f stamp (Insert after tags text) cells =
     ap (visible_before (map (map_state f) cells)) (skip_shown f cells after stamp) ∙ before_shown f cells (skip_from cells after stamp)
 place_shown f stamp (Delete spans) cells = refl
 place_shown f stamp (Tag on name spans) cells = refl
-
--- NUMBERS OF NAMES
-
-names_later : (now new : TagStates) (tags : List ℕ) → KeepsIds now new → AllByRecursion (IsTag now) tags → map (name_at new) tags ≡ map (name_at now) tags
-names_later now new [] k h = refl
-names_later now new (t ∷ ts) k h = λ i. (k.tags t h.0).1 i ∷ names_later now new ts k h.1 i
-
-pub names_kept : (now new : TagStates) (tags : List ℕ) → KeepsIds now new → All (IsTag now) tags → map (name_at new) tags ≡ map (name_at now) tags
-names_kept now new tags k h = names_later now new tags k (recursion_from_All (IsTag now) tags h)
-
-each_later : (now new : TagStates) (tags : List ℕ) → KeepsIds now new → AllByRecursion (IsTag now) tags → AllByRecursion (IsTag new) tags
-each_later now new [] k h = tt
-each_later now new (t ∷ ts) k h = ((k.tags t h.0).0, each_later now new ts k h.1)
-
-pub tags_kept : (now new : TagStates) (tags : List ℕ) → KeepsIds now new → All (IsTag now) tags → All (IsTag new) tags
-tags_kept now new tags k h = All-from_recursion (IsTag new) tags (each_later now new tags k (recursion_from_All (IsTag now) tags h))
-
-map_append : {A B : Type 0} (f : A → B) (xs ys : List A) → map f (xs ++ ys) ≡ map f xs ++ map f ys
-map_append f [] ys = refl
-map_append f (x ∷ xs) ys = ap (λ l. f x ∷ l) (map_append f xs ys)
-
-pub names_more : {A : Type 0} (view : A → List ℕ) (now new : TagStates) (tags : List ℕ) (tag : ℕ) (names : List A) (i : ℕ) (item : A) → i < length names → item ≡ get_or names i item
-    → KeepsIds now new → All (IsTag now) tags → name_at new tag ≡ view item
-    → map (name_at now) tags ≡ map view (take i names) → map (name_at new) (tags ++ tag ∷ []) ≡ map view (take (i + 1) names)
-names_more {A} view now new tags tag names i item l is k h e f =
-    map_append (name_at new) tags (tag ∷ []) ∙ (λ j. (names_kept now new tags k h ∙ f) j ++ e j ∷ [])
-    ∙ sym (ap (map view) (take_more names i item l ∙ ap (λ (x : A). take i names ++ x ∷ []) (sym is)) ∙ map_append view (take i names) (item ∷ []))
-
-pub tags_more : (now new : TagStates) (tags : List ℕ) (tag : ℕ) → KeepsIds now new → All (IsTag now) tags → IsTag new tag → All (IsTag new) (tags ++ tag ∷ [])
-tags_more now new tags tag k h t = All-append (IsTag new) tags (tag ∷ []) (tags_kept now new tags k h) (All-cons (IsTag new) tag [] t (All-nil (IsTag new)))

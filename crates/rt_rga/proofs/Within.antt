@@ -15,12 +15,10 @@ use Rattle.rt_rga.specs.Histories.{Continues, IsHistory, greatest_last_count, in
 use Rattle.rt_rga.specs.Kept.{AreCellsOf, IsWithin, ReplicaValue}
 use Rattle.rt_rga.specs.Replicas.{IsReplica}
 use Rattle.rt_rga.specs.Cells.{deletes}
-use Rattle.rt_rga.specs.Taken.{AreFallingRuns, IsChange, takes_away}
-use Rattle.rt_rga.specs.declared.taken.Change.{Change}
+use Rattle.rt_rga.specs.Taken.{takes_away}
 use Rattle.rt_rga.proofs.Accepting.{history_if_new}
 use Rattle.rt_rga.proofs.Counts.{count_with}
 use Rattle.rt_rga.proofs.Histories.{continues_from}
-use Rattle.rt_rga.proofs.PlacesAt.{names_kept, place_shown, tags_kept}
 use Rattle.rt_store.proofs.Shown.{length_shown, shown_later, stamps_shown, visible_at_shown, visible_shown}
 use Rattle.rt_stamps.specs.declared.stamp.TheConstants.{FINAL}
 use Rattle.rt_rga.proofs.Final.{final_stays}
@@ -80,28 +78,17 @@ final_spared log table kept op r k = by op.body refl
     by (Delete spans) e = final_stays log op spans e r.history k
     by (Tag on name spans) e = refl
 
-visible_count : {S T : Type 0} (f : S → T) (cells : List (Cell S)) → length (visible_of (map (map_state f) cells)) ≡ length (visible_of cells)
+pub visible_count : {S T : Type 0} (f : S → T) (cells : List (Cell S)) → length (visible_of (map (map_state f) cells)) ≡ length (visible_of cells)
 visible_count {S} {T} f cells = ap (λ (cs : List (Cell T)). length cs) (visible_shown f cells) ∙ length_shown f (visible_of cells)
 
 -- the same characters are taken away, whatever the states stand for
-taken_shown : {S T : Type 0} (f : S → T) (body : Body) (cells : List (Cell S)) (place : ℕ) → takes_away body (map (map_state f) cells) place ≡ takes_away body cells place
+pub taken_shown : {S T : Type 0} (f : S → T) (body : Body) (cells : List (Cell S)) (place : ℕ) → takes_away body (map (map_state f) cells) place ≡ takes_away body cells place
 taken_shown {S} {T} f body cells place =
     ap (λ (o : Option (Cell T)). unwrap_or (option_map (λ cell. deletes body cell.stamp) o) false) (visible_at_shown f cells place) ∙ by (slice_get (visible_of cells) place)
   where
     by : (o : Option (Cell S)) → unwrap_or (option_map (λ cell. deletes body cell.stamp) (option_map (map_state f) o)) false ≡ unwrap_or (option_map (λ cell. deletes body cell.stamp) o) false
     by None = refl
     by (Some c) = refl
-
--- a change of kept cells is one of what they show
-pub change_shown : (op : Operation) (table now new : TagStates) (kept : List (Cell ℕ)) (change : Change) → KeepsIds now new → IsChange op kept now change → IsChange op (map (shown table) kept) new change
-change_shown op table now new kept change k c = record {
-  first = c.first ∙ sym (place_shown (state_at table) (stamp_of op) op.body kept);
-  more = c.more;
-  removed = λ place. c.removed place ∙ sym (taken_shown (state_at table) op.body kept place);
-  runs = subst (λ n. AreFallingRuns n change.removed.items) (sym (visible_count (state_at table) kept)) c.runs;
-  names = names_kept now new change.lists.items k c.given ∙ c.names;
-  given = tags_kept now new change.lists.items k c.given;
-}
 
 -- WHAT IS NEW CONTINUES THE LOG
 

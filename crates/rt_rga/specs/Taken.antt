@@ -1,18 +1,20 @@
 -- What taking an operation tells.
-use Rattle.std.specs.Prelude.{◌≡◌, ℕ, ◌<◌, ◌&&◌, nat_le, nat_lt, List, [], ◌∷◌, length, map, Bool, false, ⊤, if◌then◌else◌, slice_get, option_map, unwrap_or}
-use Rattle.std.specs.List.{All, list_any}
+use Rattle.std.specs.Prelude.{◌≡◌, ℕ, ◌+◌, ◌<◌, ◌&&◌, nat_le, nat_lt, List, [], ◌∷◌, length, Bool, false, not, ⊤, if◌then◌else◌, slice_get, option_map, unwrap_or}
+use Rattle.std.specs.List.{list_any}
 use Rattle.rt_stamps.specs.declared.stamp.Stamp.{Stamp}
+use Rattle.rt_stamps.specs.Words.{as_words}
 use Rattle.rt_ops.specs.Operations.{Operation, Body, Insert, Delete, Tag, Name, stamp_of}
 use Rattle.rt_store.specs.declared.cell.Cell.{Cell}
 use Rattle.rt_store.specs.Cells.{skip_from, visible_before, visible_of}
-use Rattle.rt_tags.specs.States.{IsTag, TagStates, name_at}
+use Rattle.rt_store.specs.Shown.{TaggedCell}
+use Rattle.rt_store.specs.Spans.{is_in_spans}
+use Rattle.rt_tags.specs.States.{is_on, is_settled}
 use Rattle.rt_rga.specs.declared.taken.Change.{Change}
 use Rattle.rt_rga.specs.declared.taken.PlaceRun.{PlaceRun}
 use Rattle.rt_rga.specs.declared.taken.Taken.{Taken}
 use Rattle.rt_rga.specs.declared.taken.Taken.TheVariants as takings
 use Rattle.rt_rga.specs.Answers.{Answer, New, Repeat}
 use Rattle.rt_rga.specs.Cells.{deletes}
-use Rattle.rt_store.specs.Shown.{TaggedCell}
 use Rattle.rt_rga.specs.Histories.{inserted}
 
 -- the tags that an operation lists: an Insert its own, a Tag that puts one on its name
@@ -34,6 +36,22 @@ place_in op cells = place_by (stamp_of op) op.body cells
 abbrev pub takes_away : {T : Type 0} → Body → List (Cell T) → ℕ → Bool
 takes_away body cells place = unwrap_or (option_map (λ cell. deletes body cell.stamp) (slice_get (visible_of cells) place)) false
 
+-- of two answers one is yes
+abbrev pub differ : Bool → Bool → Bool
+differ a b = if a then not b else b
+
+-- A Tag changes a cell that it names: no write of its tag there is as new, and the tag is not yet as the Tag says.
+abbrev pub changes_tag : Stamp → Body → TaggedCell → Bool
+changes_tag stamp (Insert after tags text) cell = false
+changes_tag stamp (Delete spans) cell = false
+changes_tag stamp (Tag on name spans) cell =
+    is_in_spans spans cell.stamp
+    && (not (is_settled (record { name = name; writer = stamp; on = on }) cell.state) && differ on (is_on name cell.state))
+
+-- it changes the visible cell at a place
+abbrev pub retags : Stamp → Body → List TaggedCell → ℕ → Bool
+retags stamp body cells place = unwrap_or (option_map (changes_tag stamp body) (slice_get (visible_of cells) place)) false
+
 -- a place is in a run: from its beginning on, and below its end
 abbrev pub is_in_run : PlaceRun → ℕ → Bool
 is_in_run run place = nat_le run.from place && nat_lt place run.to
@@ -47,15 +65,16 @@ abbrev pub AreFallingRuns : ℕ → List PlaceRun → Type 0
 AreFallingRuns end [] = ⊤
 AreFallingRuns end (run ∷ runs) = (run.from < run.to) × (run.to < end) × AreFallingRuns run.from runs
 
--- What an operation does to the visible text of cells, and the tags that it lists. Places of what it takes away are those
--- before the operation; the last place, which is the final newline's, is none of them.
-pub record IsChange {T : Type 0} (op : Operation) (cells : List (Cell T)) (table : TagStates) (change : Change) : Type 0 where
+-- What an operation does to the visible text of cells, and the tags that it lists. Places of what it takes away or tags are
+-- those before the operation; the last place, which is the final newline's, is none of what it takes away.
+pub record IsChange (op : Operation) (cells : List TaggedCell) (change : Change) : Type 0 where
   pub first : change.place ≡ place_in op cells
   pub more : change.inserted ≡ length (inserted op)
   pub removed : (place : ℕ) → is_in_runs change.removed.items place ≡ takes_away op.body cells place
   pub runs : AreFallingRuns (length (visible_of cells)) change.removed.items
-  pub names : map (name_at table) change.lists.items ≡ lists_of op.body
-  pub given : All (IsTag table) change.lists.items
+  pub retagged : (place : ℕ) → is_in_runs change.retagged.items place ≡ retags (stamp_of op) op.body cells place
+  pub tagged_runs : AreFallingRuns (length (visible_of cells) + 1) change.retagged.items
+  pub lists : as_words change.lists.items ≡ lists_of op.body
 
 -- the answer that is told
 abbrev pub told : Taken → Answer
@@ -63,6 +82,6 @@ told (takings.New change) = New
 told takings.Repeat = Repeat
 
 -- what is new tells its change
-abbrev pub TellsChange : Operation → List TaggedCell → TagStates → Taken → Type 0
-TellsChange op cells table (takings.New change) = IsChange op cells table change
-TellsChange op cells table takings.Repeat = Unit {0}
+abbrev pub TellsChange : Operation → List TaggedCell → Taken → Type 0
+TellsChange op cells (takings.New change) = IsChange op cells change
+TellsChange op cells takings.Repeat = Unit {0}

@@ -1,22 +1,24 @@
 // What an operation will change in the visible text.
-ghost use Rattle.std.specs.Prelude.{◌≡◌, ◌<◌, ◌≤◌, All, IfOk, IsOkUnless, List, ℕ, false, length, map};
+ghost use Rattle.std.specs.Prelude.{◌≡◌, ◌+◌, ◌<◌, ◌≤◌, IfOk, IsOkUnless, List, ℕ, false, length, map};
 ghost use Rattle.rt_stamps.specs.declared.limits.TheConstants.{MOST_CELLS};
 ghost use Rattle.rt_stamps.specs.declared.stamp.Stamp.{Stamp as StampOf};
 ghost use Rattle.rt_stamps.specs.declared.stamp.TheConstants.{FINAL};
 ghost use Rattle.rt_stamps.specs.Words.{as_words};
 ghost use Rattle.rt_ops.specs.Operations.{Insert, Name, stamp_of};
 ghost use Rattle.rt_store.specs.Cells.{AreDistinct, IsPlaced, visible_before, visible_of};
-ghost use Rattle.rt_tags.specs.States.{IsTag, KeepsIds, name_at};
+ghost use Rattle.rt_store.specs.Shown.{shown};
+ghost use Rattle.rt_tags.specs.States.{KeepsIds};
 ghost use Rattle.rt_rga.specs.Cells.{deletes};
-ghost use Rattle.rt_rga.specs.Taken.{AreFallingRuns, IsChange, is_in_runs, lists_of, place_in, takes_away};
+ghost use Rattle.rt_rga.specs.Taken.{AreFallingRuns, IsChange, is_in_runs, lists_of, place_in, retags, takes_away};
 
 use crate::answer::cells_more;
 use crate::removed::runs_in;
+use crate::retagged::retagged_in;
 use crate::taken::{Change, PlaceRun};
 use rt_oplog::{Edit, Op};
 use rt_stamps::Fault;
 use rt_store::TextStore;
-use rt_tags::{StateTable, TagId};
+use rt_tags::StateTable;
 use std::alloc::Global;
 use std::slice;
 
@@ -77,27 +79,51 @@ fn removed<S: TextStore>(alloc: Global, store: &S, op: &Op) -> Result<Vec<PlaceR
     }
 }
 
-/// The numbers of names. Want of memory.
-#[tactic(auto, using(rt_tags::proofs::Listing::keeps_both))]
-fn numbers(alloc: Global, states: &mut StateTable, names: &[String]) -> Result<Vec<TagId>, Fault>
-    ensures names { IfOk result (λ tags. map (name_at states.new) tags.items ≡ as_words names.now) }
-    ensures given { IfOk result (λ tags. All (IsTag states.new) tags.items) }
+/// The places whose tag an operation will change, as runs, the last one in the text first. Want of
+/// memory.
+fn retagged<S: TextStore>(
+    alloc: Global,
+    store: &S,
+    states: &mut StateTable,
+    op: &Op,
+) -> Result<Vec<PlaceRun>, Fault>
+    requires agrees { S.agrees store.now states.old }
+    requires distinct { AreDistinct (S.list store.now) }
+    requires few { length (S.list store.now) ≤ MOST_CELLS }
+    ensures retagged { IfOk result (λ runs. (place : ℕ) → is_in_runs runs.items place
+        ≡ retags (stamp_of op.now) op.now.body (map (shown states.old) (S.list store.now)) place) }
+    ensures runs { IfOk result (λ runs. AreFallingRuns (length (visible_of (S.list store.now)) + 1) runs.items) }
     ensures ids { KeepsIds states.old states.new }
     ensures fault { IsOkUnless result Fault.NoMemory }
 {
-    let mut tags = Vec::new(alloc);
-    for name in names {
-        let tag = states.number(name)?;
-        tags.push(tag)?;
+    match op.edit() {
+        Edit::Insert {
+            after: _,
+            tags: _,
+            text: _,
+        } => Ok(Vec::new(alloc)),
+        Edit::Delete { spans: _ } => Ok(Vec::new(alloc)),
+        Edit::Tag { on, name, spans } => {
+            retagged_in(alloc, store, states, spans, name, op.stamp(), *on)
+        }
     }
-    Ok(tags)
+}
+
+/// Copies of names. Want of memory.
+fn copies_of(alloc: Global, names: &[String]) -> Result<Vec<String>, Fault>
+    ensures names { IfOk result (λ copies. as_words copies.items ≡ as_words names.now) }
+    ensures fault { IsOkUnless result Fault.NoMemory }
+{
+    let mut copies = Vec::new(alloc);
+    for name in names {
+        copies.push(name.clone()?)?;
+    }
+    Ok(copies)
 }
 
 /// The tags that an operation lists. Want of memory.
-fn lists(alloc: Global, states: &mut StateTable, op: &Op) -> Result<Vec<TagId>, Fault>
-    ensures names { IfOk result (λ tags. map (name_at states.new) tags.items ≡ lists_of op.now.body) }
-    ensures given { IfOk result (λ tags. All (IsTag states.new) tags.items) }
-    ensures ids { KeepsIds states.old states.new }
+fn lists(alloc: Global, op: &Op) -> Result<Vec<String>, Fault>
+    ensures names { IfOk result (λ names. as_words names.items ≡ lists_of op.now.body) }
     ensures fault { IsOkUnless result Fault.NoMemory }
 {
     match op.edit() {
@@ -105,12 +131,12 @@ fn lists(alloc: Global, states: &mut StateTable, op: &Op) -> Result<Vec<TagId>, 
             after: _,
             tags,
             text: _,
-        } => numbers(alloc, states, tags),
+        } => copies_of(alloc, tags),
         Edit::Tag {
             on: true,
             name,
             spans: _,
-        } => numbers(alloc, states, slice::from_ref(name)),
+        } => copies_of(alloc, slice::from_ref(name)),
         _ => Ok(Vec::new(alloc)),
     }
 }
@@ -124,20 +150,23 @@ pub(crate) fn describe<S: TextStore>(
 ) -> Result<Change, Fault>
     requires placed { (after : StampOf) (tags : List Name) (text : List ℕ) → op.now.body ≡ Insert after tags text
         → IsPlaced (S.list store.now) after (stamp_of op.now) }
+    requires agrees { S.agrees store.now states.old }
     requires distinct { AreDistinct (S.list store.now) }
     requires few { length (S.list store.now) ≤ MOST_CELLS }
     requires stays { deletes op.now.body FINAL ≡ false }
-    ensures change { IfOk result (IsChange op.now (S.list store.now) states.new) }
+    ensures change { IfOk result (IsChange op.now (map (shown states.old) (S.list store.now))) }
     ensures ids { KeepsIds states.old states.new }
     ensures fault { IsOkUnless result Fault.NoMemory }
 {
     let removed = removed(alloc, store, op)?;
-    let lists = lists(alloc, states, op)?;
+    let retagged = retagged(alloc, store, states, op)?;
+    let lists = lists(alloc, op)?;
     let place = place_in(store, op);
     Ok(Change {
         place,
         inserted: cells_more(op),
         removed,
+        retagged,
         lists,
     })
 }

@@ -13,9 +13,11 @@ mod new_cells;
 mod plan;
 mod removed;
 pub mod replica;
+mod retagged;
 mod tagging;
 pub mod taken;
 
+pub use answer::Offer;
 pub use few::Few;
 pub use replica::Replica;
 pub use rt_oplog::Edit as Draft;

@@ -1,4 +1,4 @@
-// The places that a Delete takes away, as runs.
+// The places that a Delete takes away, as runs; and the runs of any places.
 ghost use Rattle.std.specs.Prelude.{◌≡◌, ◌+◌, ◌<◌, ◌≤◌, ◌==◌, ◌++◌, true, false, All, IfOk, IsOkUnless, OnOk, IsPermutation, ℕ, length};
 ghost use Rattle.std.specs.List.{list_any};
 ghost use Rattle.rt_stamps.specs.declared.limits.TheConstants.{MOST_CELLS};
@@ -35,7 +35,7 @@ fn push_place<S: TextStore>(
 }
 
 /// The places of those of some cells that are visible. Want of memory.
-fn places_of<S: TextStore>(
+pub(crate) fn places_of<S: TextStore>(
     alloc: Global,
     store: &S,
     cells: &[Cell<StateId>],
@@ -51,7 +51,7 @@ fn places_of<S: TextStore>(
 }
 
 /// Places, the greatest first.
-fn sort(places: &mut Vec<usize>)
+pub(crate) fn sort(places: &mut Vec<usize>)
     ensures same { IsPermutation places.old.items places.new.items }
     ensures falling { fall places.new.items ≡ true }
 {
@@ -59,7 +59,7 @@ fn sort(places: &mut Vec<usize>)
 }
 
 /// The longest runs of places, of which each is at least the next one. Want of memory.
-fn runs_of(alloc: Global, places: &[usize]) -> Result<Vec<PlaceRun>, Fault>
+pub(crate) fn runs_of(alloc: Global, places: &[usize]) -> Result<Vec<PlaceRun>, Fault>
     requires few { All (λ place. place < MOST_CELLS) places.now }
     requires falling { fall places.now ≡ true }
     ensures same { IfOk result (λ runs. (place : ℕ) → is_in_runs runs.items place ≡ list_any (λ other. other == place) places.now) }

@@ -1,5 +1,5 @@
 // A replica: accepted operations, and the cells that are kept of them.
-ghost use Rattle.std.specs.Prelude.{◌≡◌, ◌⊎◌, ℕ, ◌+◌, ◌<◌, ◌≤◌, ◌∷◌, [], IfOk, IfErr, IsOkUnless, None, OnErr, OnOk, Some, length, map};
+ghost use Rattle.std.specs.Prelude.{◌≡◌, ◌⊎◌, ℕ, ◌+◌, ◌<◌, ◌≤◌, ◌∷◌, [], IfOk, IfErr, IsOkUnless, None, OnErr, OnOk, Some, length, map, true};
 ghost use Rattle.rt_stamps.specs.declared.limits.TheConstants.{MOST_CELLS};
 ghost use Rattle.rt_stamps.specs.declared.stamp.Stamp.{Stamp as StampValue};
 ghost use Rattle.rt_store.specs.Cells.{final_cell};
@@ -11,6 +11,8 @@ ghost use Rattle.rt_rga.specs.Answers.{New, Refused, answer_within, set_after};
 ghost use Rattle.rt_rga.specs.Cells.{cells_of};
 ghost use Rattle.rt_rga.specs.Drafts.{one_character, operations_of, with_drafts, with_operations};
 ghost use Rattle.rt_rga.specs.Few.{items_in};
+ghost use Rattle.rt_rga.specs.Kept.{said};
+ghost use Rattle.rt_ops.specs.Rules.{keeps_rules};
 ghost use Rattle.rt_rga.specs.Made.{refusal_of};
 ghost use Rattle.rt_rga.specs.Making.{AreNewest, ContinueInTurn, fresh_cells, next_insert};
 ghost use Rattle.rt_rga.specs.Requests.{MayBeMade};
@@ -160,27 +162,45 @@ impl<S: TextStore> Replica<S> {
         &self.clock
     }
 
-    /// Takes an operation that continues the log, within the limit of cells. Want of memory.
-    fn take(&mut self, op: Op) -> Result<Change, Fault>
+    /// What is answered to an operation, where memory is left.
+    pub fn answer(&self, op: &Op) -> Result<Offer, Fault>
+        ensures answer { said result ≡ answer_within self.now.limit op.now self.now.log }
+        ensures rules { keeps_rules op.now.body ≡ true }
+    {
+        answer_within(&self.log, &self.store, self.limit, op)
+    }
+
+    /// Takes an operation that continues the log, within the limit of cells, or gives it back for want of
+    /// memory.
+    pub fn take(&mut self, op: Op) -> Result<Change, Op>
         requires continues { Continues self.old.log op }
         requires room { length self.old.cells + length (inserted op) ≤ self.old.limit }
         ensures log { OnOk result (self.new.log ≡ with_operation op self.old.log) }
-        ensures change { IfOk result (IsChange op self.old.cells self.new.table) }
+        ensures change { IfOk result (IsChange op self.old.cells) }
         ensures same { OnErr result (self.new ≡ record self.old { table = self.new.table }) }
+        ensures back { IfErr result (λ back. back ≡ op) }
         ensures site { self.new.site ≡ self.old.site }
         ensures limit { self.new.limit ≡ self.old.limit }
         ensures ids { KeepsIds self.old.table self.new.table }
-        ensures fault { IsOkUnless result Fault.NoMemory }
     {
-        self.log.reserve(1)?;
-        let told = describe(self.alloc, &self.store, &mut self.states, &op)?;
-        change(
+        if self.log.reserve(1).is_err() {
+            return Err(op);
+        }
+        let told = match describe(self.alloc, &self.store, &mut self.states, &op) {
+            Ok(told) => told,
+            Err(_) => return Err(op),
+        };
+        if change(
             self.alloc,
             &mut self.store,
             &mut self.states,
             &self.log,
             &op,
-        )?;
+        )
+        .is_err()
+        {
+            return Err(op);
+        }
         self.clock.saw(op.last_count());
         let _added = self.log.push(op);
         Ok(told)
@@ -197,7 +217,7 @@ impl<S: TextStore> Replica<S> {
         ensures refused { IfErr result (λ fault. (answer_within self.old.limit op self.old.log
             ≡ Refused fault) ⊎ ((fault ≡ Fault.NoMemory) × (answer_within self.old.limit op self.old.log ≡ New))) }
         ensures log { OnOk result (self.new.log ≡ set_after (answer_within self.old.limit op self.old.log) op self.old.log) }
-        ensures change { IfOk result (TellsChange op self.old.cells self.new.table) }
+        ensures change { IfOk result (TellsChange op self.old.cells) }
         ensures same { OnErr result (self.new ≡ record self.old { table = self.new.table }) }
         ensures kept { (answer_within self.old.limit op self.old.log ≡ New → ⊥) → self.new ≡ self.old }
         ensures site { self.new.site ≡ self.old.site }
@@ -206,7 +226,10 @@ impl<S: TextStore> Replica<S> {
     {
         match answer_within(&self.log, &self.store, self.limit, &op)? {
             Offer::Repeat => Ok(Taken::Repeat),
-            Offer::New => Ok(Taken::New(self.take(op)?)),
+            Offer::New => match self.take(op) {
+                Ok(change) => Ok(Taken::New(change)),
+                Err(_) => Err(Fault::NoMemory),
+            },
         }
     }
 

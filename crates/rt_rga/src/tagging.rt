@@ -70,14 +70,14 @@ pub(crate) fn named_cells<S: TextStore>(
 
 /// What a state came into by a write.
 #[derive(Clone, Copy)]
-struct StateChange {
-    before: StateId,
-    after: StateId,
+pub(crate) struct StateChange {
+    pub(crate) before: StateId,
+    pub(crate) after: StateId,
 }
 
 /// The state after one more write of a tag. Where that is known by the last change, no state is made
 /// and looked for. Want of memory.
-fn state_with(
+pub(crate) fn state_with(
     states: &mut StateTable,
     before: StateId,
     tag: TagId,

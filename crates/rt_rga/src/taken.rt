@@ -1,5 +1,4 @@
 // What taking an operation tells.
-use rt_tags::TagId;
 
 /// Places of the visible text, from one up to another, without that one. There is at least one.
 #[derive(Clone, Copy, Debug, PartialEq, Eq)]
@@ -19,9 +18,12 @@ pub struct Change {
     /// run in the text first, so what is done to the places of one leaves those of the next ones. At
     /// least one place lies between two runs.
     pub removed: Vec<PlaceRun>,
-    /// The tags that the operation lists: an Insert its own, by the bytes of their names, a Tag that
-    /// puts one on that one.
-    pub lists: Vec<TagId>,
+    /// The places of the characters on which a Tag put its tag, or from which it took it off, as runs
+    /// in the same order. Where the tag was so already, or a greater write of it stands, nothing changes.
+    pub retagged: Vec<PlaceRun>,
+    /// The names of the tags that the operation lists: an Insert's own, by their bytes, or the one that
+    /// a Tag puts on.
+    pub lists: Vec<String>,
 }
 
 /// What became of an operation that wasn't refused.

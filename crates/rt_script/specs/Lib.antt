@@ -19,4 +19,4 @@ pub use Rattle.rt_files.specs.Files
 pub use Rattle.rt_edits.specs.Flat
 pub use Rattle.rt_text.specs.Index
 pub use Rattle.rt_text.specs.Commands
-pub use Rattle.rt_editing.specs.Receiving
+pub use Rattle.rt_holding.specs.Receiving

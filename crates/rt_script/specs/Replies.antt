@@ -1,5 +1,5 @@
 -- The line of an answer.
-use Rattle.std.specs.Prelude.{ℕ, List, [], ◌∷◌, ◌++◌, flat_map, Option, Some, None, codes}
+use Rattle.std.specs.Prelude.{ℕ, ◌==◌, List, [], ◌∷◌, ◌++◌, flat_map, Option, Some, None, codes, if◌then◌else◌}
 use Rattle.std.specs.Fmt.{decimal}
 use Rattle.rt_stamps.specs.declared.fault.Fault.{Fault}
 use Rattle.rt_stamps.specs.Fault.{text_of}
@@ -12,19 +12,26 @@ use Rattle.rt_script.specs.declared.answer.Answer.TheVariants.{Replied, Refused,
 abbrev pub text_of_refusal : Fault → List ℕ
 text_of_refusal fault = 33 ∷ 32 ∷ text_of fault
 
--- what became of a file is `=` and how many operations were new and how many repeats; or else the fault that ended it, as a
--- refusal, with its offset and these numbers
-abbrev pub text_of_received : ℕ → ℕ → Option (Fault × ℕ) → List ℕ
-text_of_received new repeats None = 61 ∷ spaced (decimal new ∷ decimal repeats ∷ [])
-text_of_received new repeats (Some found) =
+-- how many operations are held is told where some are
+abbrev pub held_alone : ℕ → List (List ℕ)
+held_alone held = if held == 0 then [] else decimal held ∷ []
+
+abbrev pub held_by_name : ℕ → List (List ℕ)
+held_by_name held = if held == 0 then [] else codes "held" ∷ decimal held ∷ []
+
+-- What became of a file is `=` and how many operations were new, how many repeats, and how many are held; or else the fault that
+-- ended it, as a refusal, with its offset and these numbers.
+abbrev pub text_of_received : ℕ → ℕ → ℕ → Option (Fault × ℕ) → List ℕ
+text_of_received new repeats held None = 61 ∷ spaced (decimal new ∷ decimal repeats ∷ held_alone held)
+text_of_received new repeats held (Some found) =
     text_of_refusal found.0
-    ++ spaced (codes "at" ∷ decimal found.1 ∷ codes "new" ∷ decimal new ∷ codes "repeat" ∷ decimal repeats ∷ [])
+    ++ (spaced (codes "at" ∷ decimal found.1 ∷ codes "new" ∷ decimal new ∷ codes "repeat" ∷ decimal repeats ∷ []) ++ spaced (held_by_name held))
 
 -- a reply is `=` and its words, a space before each
 abbrev pub text_of_answer : Answer → List ℕ
 text_of_answer (Replied words) = 61 ∷ flat_map (λ word. 32 ∷ text_of_word word) words
 text_of_answer (Refused fault) = text_of_refusal fault
-text_of_answer (Received received) = text_of_received received.new received.repeats received.fault
+text_of_answer (Received received) = text_of_received received.new received.repeats received.held received.fault
 
 abbrev pub reply_line : Answer → List ℕ
 reply_line answer = text_of_answer answer ++ (10 ∷ [])

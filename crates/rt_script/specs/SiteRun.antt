@@ -11,7 +11,7 @@ use Rattle.rt_script.specs.Run.{Ends}
 use Rattle.rt_script.specs.State.{State, new_state}
 use Rattle.rt_script.specs.Site.{NamedFile, SiteGives}
 use Rattle.rt_script.specs.SiteStep.{SiteReceives}
-use Rattle.rt_editing.specs.declared.receiving.Received.{Received}
+use Rattle.rt_holding.specs.declared.receiving.Received.{Received}
 use Rattle.rt_script.specs.declared.site_run.Outcome.{Outcome}
 
 -- A site begins as a new one, which has room for all cells there may be; or with all that it receives of a log.

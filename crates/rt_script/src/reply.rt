@@ -6,7 +6,7 @@ ghost use Rattle.rt_files.specs.Shown.{spaced};
 ghost use Rattle.rt_stamps.specs.Source.{failures_of};
 ghost use Rattle.rt_words.specs.Writing.{text_of_word};
 ghost use Rattle.rt_stamps.specs.Written.{Wrote};
-ghost use Rattle.rt_script.specs.Replies.{text_of_answer, text_of_received, text_of_refusal, reply_line};
+ghost use Rattle.rt_script.specs.Replies.{held_alone, held_by_name, text_of_answer, text_of_received, text_of_refusal, reply_line};
 
 use crate::Answer;
 use rt_files::parts::{Part, write_parts};
@@ -15,9 +15,9 @@ use rt_stamps::{Fault, Sink, write_all};
 use rt_words::{has_quoted, write_word};
 
 /// Writes the line of an answer: `=` and the words of a reply, or `!` and a fault's number and
-/// name; of a file that was received how many of its operations were new and how many repeats, behind
-/// `=`, or behind its fault and the fault's offset. `WriteFault` where a write fails or takes nothing;
-/// a front of the line was then written.
+/// name; of a file that was received how many operations were new, how many repeats, and, where some are, how many
+/// are held, behind `=`, or behind its fault and the fault's offset. `WriteFault` where a write fails or takes
+/// nothing; a front of the line was then written.
 pub fn reply_line<W: Sink>(answer: &Answer, out: &mut W) -> Result<(), Fault>
     ensures wrote { Wrote (W.contents out.old) (W.contents out.new) result (reply_line answer.now) }
     ensures fault { IsOkUnless result Fault.WriteFault }
@@ -39,38 +39,60 @@ fn write_answer<W: Sink>(answer: &Answer, out: &mut W) -> Result<(), Fault>
     }
 }
 
-// How many operations of a file were new, and how many repeats, after why it was not all received.
+// What became of a file: how many of its operations were new, how many repeats, and how many are held, after why it was not
+// all received.
 fn write_received<W: Sink>(received: Received, out: &mut W) -> Result<(), Fault>
-    ensures wrote { Wrote (W.contents out.old) (W.contents out.new) result (text_of_received received.new received.repeats received.fault) }
+    ensures wrote { Wrote (W.contents out.old) (W.contents out.new) result (text_of_received received.new received.repeats received.held received.fault) }
     ensures fault { IsOkUnless result Fault.WriteFault }
     ensures failures { W.failures out.new ≡ W.failures out.old + failures_of result }
 {
     match received.fault {
-        Some((fault, offset)) => write_ended(fault, offset, received.new, received.repeats, out),
-        None => write_taken(received.new, received.repeats, out),
+        Some((fault, offset)) => write_ended(fault, offset, received, out),
+        None => write_taken(received, out),
     }
 }
 
-// How many operations of a whole file were new, and how many repeats.
-fn write_taken<W: Sink>(new: u64, repeats: u64, out: &mut W) -> Result<(), Fault>
-    ensures wrote { Wrote (W.contents out.old) (W.contents out.new) result (61 ∷ spaced (decimal new ∷ decimal repeats ∷ [])) }
+// The numbers of a whole file.
+fn write_taken<W: Sink>(received: Received, out: &mut W) -> Result<(), Fault>
+    ensures wrote { Wrote (W.contents out.old) (W.contents out.new) result
+        (61 ∷ spaced (decimal received.new ∷ decimal received.repeats ∷ held_alone received.held)) }
     ensures fault { IsOkUnless result Fault.WriteFault }
     ensures failures { W.failures out.new ≡ W.failures out.old + failures_of result }
 {
     write_all(out, b"=")?;
-    write_parts(&[Part::Number(new), Part::Number(repeats)], out)
+    let parts = [
+        Part::Number(received.new),
+        Part::Number(received.repeats),
+        Part::Number(received.held),
+    ];
+    if received.held == 0 {
+        return write_parts(&parts[..2], out);
+    }
+    write_parts(&parts, out)
 }
 
-// Why a file was not all received, where, and what was.
+// How many operations are held, where some are.
+fn write_held<W: Sink>(held: u64, out: &mut W) -> Result<(), Fault>
+    ensures wrote { Wrote (W.contents out.old) (W.contents out.new) result (spaced (held_by_name held)) }
+    ensures fault { IsOkUnless result Fault.WriteFault }
+    ensures failures { W.failures out.new ≡ W.failures out.old + failures_of result }
+{
+    if held == 0 {
+        return Ok(());
+    }
+    write_parts(&[Part::Letters(b"held"), Part::Number(held)], out)
+}
+
+// Why a file was not all received, where, and the numbers.
 fn write_ended<W: Sink>(
     fault: Fault,
     offset: u64,
-    new: u64,
-    repeats: u64,
+    received: Received,
     out: &mut W,
 ) -> Result<(), Fault>
     ensures wrote { Wrote (W.contents out.old) (W.contents out.new) result (text_of_refusal fault
-        ++ spaced (codes "at" ∷ decimal offset ∷ codes "new" ∷ decimal new ∷ codes "repeat" ∷ decimal repeats ∷ [])) }
+        ++ (spaced (codes "at" ∷ decimal offset ∷ codes "new" ∷ decimal received.new ∷ codes "repeat" ∷ decimal received.repeats ∷ [])
+        ++ spaced (held_by_name received.held))) }
     ensures fault { IsOkUnless result Fault.WriteFault }
     ensures failures { W.failures out.new ≡ W.failures out.old + failures_of result }
 {
@@ -79,11 +101,12 @@ fn write_ended<W: Sink>(
         Part::Letters(b"at"),
         Part::Number(offset),
         Part::Letters(b"new"),
-        Part::Number(new),
+        Part::Number(received.new),
         Part::Letters(b"repeat"),
-        Part::Number(repeats),
+        Part::Number(received.repeats),
     ];
-    write_parts(&parts, out)
+    write_parts(&parts, out)?;
+    write_held(received.held, out)
 }
 
 fn write_fault<W: Sink>(fault: Fault, out: &mut W) -> Result<(), Fault>

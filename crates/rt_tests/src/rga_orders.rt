@@ -146,6 +146,7 @@ impl Peer {
                     place: _,
                     inserted: _,
                     removed,
+                    retagged: _,
                     lists: _,
                 },
             ) => Ok(removed),

@@ -148,8 +148,8 @@ receive off -> = 1 0
 receive abcd -> = 0 1
 receive unsound -> ! 34 BadStamp at 8 new 0 repeat 0
 receive clashes -> ! 35 Conflict at 8 new 0 repeat 0
-receive behind_a_gap -> ! 36 NotYet at 8 new 0 repeat 0
-receive of_nothing -> ! 37 BadTarget at 8 new 0 repeat 0
+receive behind_a_gap -> = 0 0 1
+receive of_nothing -> ! 37 BadTarget at 8 new 0 repeat 0 held 1
 .t index left -> = 1.2
 .t index right -> = 1.2
 .t index insert -> = 1.2

@@ -8,7 +8,7 @@ use crate::sites::{Script, answered, new_site};
 use crate::spent::SPENT;
 use rt_samples::files::{
     AFTER_DELETE, AFTER_ITSELF, CUT, DELETE_FINAL, DELETE_SECOND, INSERT_AB, INSERT_B, INSERT_LAST,
-    INSERT_Y, SHORT_LENGTH, TAG_FIRST,
+    INSERT_Y, INSERT_Z, SHORT_LENGTH, TAG_FIRST,
 };
 use rt_script::SiteState;
 use rt_stamps::Fault;
@@ -101,6 +101,7 @@ const SAMPLES: Files<'static> = &[
     ("second_gone", DELETE_SECOND),
     ("cut", CUT),
     ("y", INSERT_Y),
+    ("z", INSERT_Z),
     ("last", INSERT_LAST),
     ("b", INSERT_B),
     ("after_itself", AFTER_ITSELF),
@@ -295,11 +296,23 @@ receive second_gone -> = 1 1
     (
         3,
         r#"
-receive y -> ! 36 NotYet at 8 new 0 repeat 0
+receive y -> = 0 0 1
 .t get 1.0 end -> = "\n"
-receive ab -> = 1 0
-receive y -> = 1 0
+receive y -> = 0 1 1
+receive cut -> ! 32 Truncated at 44 new 2 repeat 0
+receive y -> = 0 1
 .t get 1.0 end -> = "aYb\n"
+"#,
+    ),
+    (
+        3,
+        r#"
+receive y -> = 0 0 1
+receive z -> = 0 0 2
+receive front -> ! 32 Truncated at 8 new 0 repeat 0 held 2
+receive ab -> = 2 0
+.t get 1.0 end -> = "aYb\n"
+receive z -> ! 35 Conflict at 8 new 0 repeat 0
 "#,
     ),
     (

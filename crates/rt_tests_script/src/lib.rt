@@ -10,6 +10,8 @@ mod checks;
 #[cfg(test)]
 mod commands;
 #[cfg(test)]
+mod early;
+#[cfg(test)]
 mod embedding;
 #[cfg(test)]
 mod exchange;

@@ -25,20 +25,19 @@ use Rattle.rt_tags.specs.States.{TagStates, Write, is_on, name_at, write_of}
 use Rattle.rt_tags.specs.Tags.{IsName, is_listed, sel}
 use Rattle.rt_tags.specs.Writers.{listed_by, state_after}
 use Rattle.rt_tags.proofs.Places.{name_itself, same_name, split}
-use Rattle.rt_rga.specs.Answers.{New, answer_within, set_after}
+use Rattle.rt_rga.specs.Answers.{New, answer_within}
 use Rattle.rt_rga.specs.Cells.{cells_of}
 use Rattle.rt_rga.specs.Changes.{changed_by, with_write, written_in_any}
-use Rattle.rt_rga.specs.Histories.{IsHistory, greatest_last_count, inserted, inserted_by}
+use Rattle.rt_rga.specs.Histories.{Continues, IsHistory, greatest_last_count, inserted, inserted_by}
 use Rattle.rt_rga.specs.Kept.{ReplicaValue}
 use Rattle.rt_rga.specs.declared.taken.Change.{Change}
-use Rattle.rt_rga.specs.declared.taken.Taken.{Taken}
-use Rattle.rt_rga.specs.declared.taken.Taken.TheVariants as takings
-use Rattle.rt_rga.specs.Taken.{IsChange, TellsChange, is_in_runs, lists_of, place_in, takes_away, told}
+use Rattle.rt_rga.specs.Taken.{IsChange, is_in_runs, lists_of, place_in, takes_away}
 use Rattle.rt_rga.proofs.Changing.{length_text}
 use Rattle.rt_rga.proofs.Histories.{continues_from}
 use Rattle.rt_rga.proofs.Merging.{cells_with}
 use Rattle.rt_rga.proofs.Room.{new_within}
 use Rattle.rt_rga.proofs.Sel.{no_sel}
+use Rattle.rt_rga.proofs.Within.{continues_new}
 use Rattle.rt_edits.specs.Flat.{Flat}
 use Rattle.rt_edits.specs.Insertions.{all_listed}
 use Rattle.rt_edits.specs.Listed.{AreListed, IsShared}
@@ -309,44 +308,45 @@ accepted_is flat op h more known rules doc =
     subst (λ l. IsDoc (cells_of (with_operation op flat.log)) (marks_left (takes_away op.body l) (marks_inserted (place_in op l) (length (inserted op)) flat.marks)) (all_listed (lists_of op.body) flat.tags)) (sym known)
     (accepted_doc flat.log op h more flat.marks flat.tags rules (subst (λ l. IsDoc l flat.marks flat.tags) known doc))
 
-module _ (old : ReplicaValue) (op : Operation) (table : TagStates) (change : Change) (taken : Taken) (is : taken ≡ takings.New change) (answer : answer_within old.limit op old.log ≡ told taken) (tells : TellsChange op old.cells table taken) where
-  -- it is new, and its change is told
-  pub answered_new : answer_within old.limit op old.log ≡ New
-  answered_new = answer ∙ ap told is
+-- a replica takes what is new to its document
+module _ (old : ReplicaValue) (op : Operation) (flat : Flat) (marks : List Mark) (names : List Word) (view : seen_with old marks names ≡ flat) (is_new : answer_within flat.limit op flat.log ≡ New) where
+  pub seen_new : answer_within old.limit op old.log ≡ New
+  seen_new = ap (λ (f : Flat). answer_within f.limit op f.log) view ∙ is_new
 
-  pub change_told : IsChange op old.cells table change
-  change_told = subst (TellsChange op old.cells table) is tells
+  pub seen_continues : IsHistory flat.log → keeps_rules op.body ≡ true → Continues old.log op
+  seen_continues history rules =
+      (continues_new old.limit op old.log (subst IsHistory (sym (ap (λ (f : Flat). f.log) view)) history) rules seen_new).0
 
-  -- the tags to list
-  pub given_names : (states : TagStates) (tags : List ℕ) → states ≡ table → tags ≡ change.lists.items → map (name_at states) tags ≡ lists_of op.body
-  given_names states tags s t = ap (λ x. map (name_at x) tags) s ∙ ap (map (name_at table)) t ∙ change_told.names
+  pub seen_room : flat.cells ≡ cells_of flat.log → length old.cells + length (inserted op) ≤ old.limit
+  seen_room known =
+      let cells : old.cells ≡ cells_of old.log = ap (λ (f : Flat). f.cells) view ∙ known ∙ ap cells_of (sym (ap (λ (f : Flat). f.log) view)) in
+      omega (arith, accepted_room old.limit op old.log seen_new, ap length cells)
 
+module _ (old : ReplicaValue) (op : Operation) (change : Change) (is_new : answer_within old.limit op old.log ≡ New) (tells : IsChange op old.cells change) where
   -- no mark's place becomes too great
   pub accepted_fits : (flat : Flat) (marks : List Mark) (names : List Word) → seen_with old marks names ≡ flat → flat.cells ≡ cells_of flat.log → flat.limit ≤ MOST_CELLS → length (text_of old.cells) + change.inserted ≤ 2 ^ 64 - 1
   accepted_fits flat marks names view known most =
       let cells : old.cells ≡ cells_of old.log = ap (λ (f : Flat). f.cells) view ∙ known ∙ ap cells_of (sym (ap (λ (f : Flat). f.log) view)) in
-      let room : length (cells_of old.log) + length (inserted op) ≤ old.limit = accepted_room old.limit op old.log answered_new in
+      let room : length (cells_of old.log) + length (inserted op) ≤ old.limit = accepted_room old.limit op old.log is_new in
       let within : length (text_of old.cells) ≤ length old.cells = text_within old.cells in
       let same : length old.cells ≡ length (cells_of old.log) = ap length cells in
-      let more : change.inserted ≡ length (inserted op) = change_told.more in
+      let more : change.inserted ≡ length (inserted op) = tells.more in
       let limit : old.limit ≡ flat.limit = ap (λ (f : Flat). f.limit) view in
       omega (arith, room, within, same, more, limit, most)
 
   -- what is seen of it then
   pub accepted_seen : (flat : Flat) (new : ReplicaValue) (marks moved : List Mark) (names listed : List Word) → seen_with old marks names ≡ flat
-      → new.log ≡ set_after (answer_within old.limit op old.log) op old.log → new.cells ≡ cells_of new.log → new.site ≡ old.site → new.limit ≡ old.limit
+      → new.log ≡ with_operation op old.log → new.cells ≡ cells_of new.log → new.site ≡ old.site → new.limit ≡ old.limit
       → moved ≡ marks_left (is_in_runs change.removed.items) (marks_inserted change.place change.inserted marks) → listed ≡ all_listed (lists_of op.body) names
       → seen_with new moved listed ≡ with_new op flat
   accepted_seen flat new marks moved names listed view log cells site limit m l =
-      let made : new.log ≡ with_operation op old.log = log ∙ ap (λ a. set_after a op old.log) answered_new in
-      let ch = change_told in
       (λ i. record {
-        cells = (cells ∙ ap cells_of made) i;
+        cells = (cells ∙ ap cells_of log) i;
         site = site i;
         limit = limit i;
-        log = made i;
-        count = greatest_last_count (made i);
-        marks = (m ∙ (λ j. marks_left (λ p. ch.removed p j) (marks_inserted (ch.first j) (ch.more j) marks))) i;
+        log = log i;
+        count = greatest_last_count (log i);
+        marks = (m ∙ (λ j. marks_left (λ p. tells.removed p j) (marks_inserted (tells.first j) (tells.more j) marks))) i;
         tags = l i;
       })
       ∙ ap (with_new op) view

@@ -3,7 +3,7 @@ use Rattle.std.specs.Prelude.{length}
 use Rattle.rt_marks.specs.Marks.{marks_inserted, marks_left}
 use Rattle.rt_oplog.specs.Logs.{with_operation}
 use Rattle.rt_ops.specs.Operations.{Operation}
-use Rattle.rt_rga.specs.Answers.{Answer, New, Repeat, Refused, answer_within}
+use Rattle.rt_rga.specs.Answers.{Answer, answer_within}
 use Rattle.rt_rga.specs.Cells.{cells_of}
 use Rattle.rt_rga.specs.Histories.{greatest_last_count, inserted}
 use Rattle.rt_rga.specs.Taken.{lists_of, place_in, takes_away}
@@ -28,17 +28,9 @@ with_new op flat =
 abbrev pub own_with_new : Operation → Flat → Own → Own
 own_with_new op flat own = own_left (takes_away op.body flat.cells) (own_inserted (place_in op flat.cells) (length (inserted op)) own)
 
--- what the answer to an operation makes of a document
-abbrev pub flat_after : Answer → Operation → Flat → Flat
-flat_after New op flat = with_new op flat
-flat_after Repeat op flat = flat
-flat_after (Refused fault) op flat = flat
-
--- and of a view of it
-abbrev pub view_after : Answer → Operation → Viewed → Viewed
-view_after New op view = each_widget (own_with_new op view.doc) (record view { doc = with_new op view.doc })
-view_after Repeat op view = view
-view_after (Refused fault) op view = view
+-- and a view of it
+abbrev pub view_with_new : Operation → Viewed → Viewed
+view_with_new op view = each_widget (own_with_new op view.doc) (record view { doc = with_new op view.doc })
 
 -- what is answered to an operation that is offered to a document
 abbrev pub answer_of : Flat → Operation → Answer

@@ -1,13 +1,11 @@
 // What an accepted operation does to the marks of its text and to the list of tags.
-ghost use Rattle.std.specs.Prelude.{ℕ, List, ◌≡◌, ◌+◌, ◌≤◌, ◌||◌, All, IsOk, IsOkUnless, OnOk, map, string_bytes, true};
+ghost use Rattle.std.specs.Prelude.{ℕ, List, ◌≡◌, ◌+◌, ◌≤◌, ◌||◌, All, IsOk, IsOkUnless, OnOk, true};
 ghost use Rattle.std.specs.List.{AllByRecursion};
 ghost use Rattle.rt_marks.specs.Marks.{marks_inserted, marks_left};
-ghost use Rattle.rt_tags.specs.States.{IsTag, name_at};
-ghost use Rattle.rt_tags.specs.Tags.{IsName, is_listed, is_ready};
+ghost use Rattle.rt_tags.specs.Tags.{is_listed, is_ready};
 ghost use Rattle.rt_ops.specs.Edits.{body_of};
 ghost use Rattle.rt_ops.specs.Rules.{keeps_rules};
 ghost use Rattle.rt_rga.specs.Taken.{AreFallingRuns, is_in_runs, lists_of};
-ghost use Rattle.rt_edits.specs.Insertions.{all_listed};
 ghost use Rattle.rt_text.specs.Parts.{own_in};
 ghost use Rattle.rt_text.specs.Widgets.{own_inserted, own_left};
 
@@ -18,7 +16,7 @@ use rt_marks::Marks;
 use rt_oplog::Edit;
 use rt_rga::Change;
 use rt_stamps::Fault;
-use rt_tags::{StateTable, TagId, TagTable};
+use rt_tags::TagTable;
 
 /// Prepares the tags that an edit lists: to list them takes no memory. It lists nothing, names that were
 /// ready stay so, and no others than those become so. Want of memory, and only where one of them isn't
@@ -41,18 +39,6 @@ pub(crate) fn prepare_lists(table: &mut TagTable, edit: &Edit) -> Result<(), Fau
         } => prepare_tags(table, tags),
         Edit::Delete { spans: _ } => Ok(()),
         Edit::Tag { on, name, spans: _ } => prepare_if(table, *on, name),
-    }
-}
-
-/// Lists tags that a replica gives, which were prepared. It takes no memory.
-pub(crate) fn list_given(table: &mut TagTable, states: &StateTable, tags: &[TagId])
-    requires given { All (IsTag states.now) tags.now }
-    requires names { All (λ tag. IsName (name_at states.now tag)) tags.now }
-    requires ready { All (λ tag. is_ready (name_at states.now tag) table.old ≡ true) tags.now }
-    ensures { table.new.names ≡ all_listed (map (name_at states.now) tags.now) table.old.names }
-{
-    for tag in tags {
-        table.ensure(states.name(*tag)).unwrap();
     }
 }
 

@@ -7,23 +7,31 @@ ghost use Rattle.rt_rga.specs.Histories.{IsHistory, greatest_last_count};
 ghost use Rattle.rt_peers.specs.SiteStep.{SiteReceives};
 
 use super::SiteState;
-use rt_editing::{Received, export};
+use rt_editing::export;
+use rt_holding::{Received, receive};
 use rt_oplog::OpLog;
 use rt_stamps::Fault;
 
 impl SiteState {
-    /// Receives the bytes of a file of operations, at most `MOST_BYTES`: its operations are offered one
-    /// after the other. One that is new changes the text, moves all marks, those of each widget too, and
-    /// lists its tags; what is selected stays so, and where it changes the visible text it forces the
-    /// modified flag. The first that is refused ends it, with its fault, and those before it stay
-    /// accepted: `BadStamp`, `Conflict`, `NotYet`, `BadTarget`, `TextFull`. Else the reading's own fault
-    /// is told, if it has one: `BadMagic`, `BadVersion`, `Truncated`, `BadRecord`. `NoMemory` in place of
-    /// any.
+    /// Receives the bytes of a file of operations, at most `MOST_BYTES`: its operations are offered one after the
+    /// other. One that is new changes the text, moves all marks, those of each widget too, and lists its tags; what
+    /// is selected stays so, and where it changes the visible text it forces the modified flag. One that comes before
+    /// what it was made upon is held, 65,536 at most, and taken as soon as that is there. The first that is refused
+    /// ends it, with its fault, and those before it stay accepted: `BadStamp`, `Conflict`, `BadTarget`, `TextFull`,
+    /// `WaitingFull`. Else the reading's own fault is told, if it has one: `BadMagic`, `BadVersion`, `Truncated`,
+    /// `BadRecord`. `NoMemory` in place of any.
     pub fn receive(&mut self, bytes: &[u8]) -> Received
         requires { length bytes.now ≤ MOST_BYTES }
         ensures { SiteReceives bytes.now self.old result self.new }
     {
-        self.text.receive(bytes)
+        receive(self.alloc, &mut self.text, &mut self.held, bytes)
+    }
+
+    /// How many operations it holds that came early.
+    pub fn held(&self) -> usize
+        ensures { result ≡ length self.now.held }
+    {
+        self.held.len()
     }
 
     /// The log of the operations that the site accepted or made. The cells of its text are those of the

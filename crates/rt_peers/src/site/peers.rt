@@ -28,6 +28,7 @@ impl SiteState {
         requires free { place_of path.now self.old.paths ≡ None }
         ensures ok { OnOk result (text_with_peer (text_led place self.old.text) settings.now ≡ Ok (text_led place self.new.text)) }
         ensures path { OnOk result (self.new.paths ≡ self.old.paths ++ path.now ∷ []) }
+        ensures held { self.new.held ≡ self.old.held }
         ensures err { IfErr result (Refuses (text_with_peer (text_led place self.old.text) settings.now)) }
         ensures unchanged { OnErr result (self.new ≡ self.old) }
     {

@@ -1,23 +1,39 @@
 // Operations of other sites, and those of the site itself for them.
-ghost use Rattle.std.specs.Prelude.{◌≡◌, ◌≤◌, length};
-ghost use Rattle.rt_stamps.specs.declared.limits.TheConstants.{MOST_BYTES};
+ghost use Rattle.std.specs.Prelude.{◌≡◌};
 ghost use Rattle.rt_rga.specs.Cells.{cells_of};
 ghost use Rattle.rt_rga.specs.Histories.{IsHistory, greatest_last_count};
-ghost use Rattle.rt_editing.specs.Receiving.{Receives};
+ghost use Rattle.rt_editing.specs.Edits.{text_with_new};
 
 use super::EditedText;
-use rt_editing::Received;
-use rt_oplog::OpLog;
+use rt_holding::Taking;
+use rt_oplog::{Op, OpLog};
+use rt_rga::Offer;
+use rt_stamps::Fault;
 
-impl EditedText {
-    /// The bytes of a file of operations are received.
-    pub(crate) fn receive(&mut self, bytes: &[u8]) -> Received
-        requires { length bytes.now ≤ MOST_BYTES }
-        ensures { Receives bytes.now self.old result self.new }
-    {
-        self.viewer.receive(&mut self.recorder, bytes)
+impl Taking for EditedText {
+    ghost log = { λ text. text.view.doc.log };
+
+    ghost limit = { λ text. text.view.doc.limit };
+
+    ghost after = { text_with_new };
+
+    fn answer(&self, op: &Op) -> Result<Offer, Fault> {
+        self.viewer.answer(op)
     }
 
+    fn known(&self, site: u16) -> u64 {
+        self.viewer.log().known(site)
+    }
+
+    fn take(&mut self, op: Op) -> Result<(), Op> {
+        match self.viewer.take(&mut self.recorder, op) {
+            Ok(_) => Ok(()),
+            Err(op) => Err(op),
+        }
+    }
+}
+
+impl EditedText {
     /// The log of the document, which is a history: the cells are its cells.
     pub(crate) fn log(&self) -> &OpLog
         ensures operations { result.now.operations ≡ self.now.view.doc.log }

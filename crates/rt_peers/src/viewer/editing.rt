@@ -1,21 +1,24 @@
 // Edits of the text, with what is recorded of them.
-ghost use Rattle.std.specs.Prelude.{◌≤◌, length, map};
-ghost use Rattle.rt_stamps.specs.declared.limits.TheConstants.{MOST_BYTES};
+ghost use Rattle.std.specs.Prelude.{◌≡◌, IfErr, OnErr, OnOk, map};
 ghost use Rattle.rt_stamps.specs.Outcomes.{Answers};
 ghost use Rattle.rt_requests.specs.Parts.{all_of};
 ghost use Rattle.rt_editing.specs.Settled.{IsSettled};
 ghost use Rattle.rt_editing.specs.Edited.{edited};
-ghost use Rattle.rt_editing.specs.Edits.{text_deleted, text_inserted, text_replaced};
+ghost use Rattle.rt_editing.specs.Edits.{text_deleted, text_inserted, text_replaced, text_with_new};
 ghost use Rattle.rt_editing.specs.Reverts.{text_redone, text_undone};
-ghost use Rattle.rt_editing.specs.Receiving.{Receives};
+ghost use Rattle.rt_rga.specs.Answers.{New};
+ghost use Rattle.rt_rga.specs.Kept.{said};
+ghost use Rattle.rt_text.specs.Accepted.{answer_of};
 ghost use Rattle.rt_peers.specs.ViewStep.{as_piece, changed_step};
 
 use super::Viewer;
 use crate::pieces::owned;
 use crate::replies::changed;
 use crate::reply::Reply;
-use rt_editing::{Received, Recorder};
+use rt_editing::Recorder;
+use rt_oplog::Op;
 use rt_requests::{Texts, Word, Words};
+use rt_rga::{Change, Offer};
 use rt_stamps::Fault;
 use rt_tree::TreeStore;
 
@@ -126,13 +129,22 @@ impl Viewer {
         changed(self.alloc, redone)
     }
 
-    // The bytes of a file of operations are received.
-    pub(crate) fn receive(&mut self, recorder: &mut Recorder, bytes: &[u8]) -> Received
-        requires bytes { length bytes.now ≤ MOST_BYTES }
+    // What is answered to an operation of any site.
+    pub(crate) fn answer(&self, op: &Op) -> Result<Offer, Fault>
+        ensures { said result ≡ answer_of self.now.doc op.now }
+    {
+        self.view.answer(op)
+    }
+
+    // An operation that is new is taken, and what changed in the text is told; or it is given back for want of memory.
+    pub(crate) fn take(&mut self, recorder: &mut Recorder, op: Op) -> Result<Change, Op>
         requires settled { IsSettled self.old recorder.old }
-        ensures receives { Receives bytes.now (edited self.old recorder.old) result (edited self.new recorder.new) }
+        requires new { answer_of self.old.doc op ≡ New }
+        ensures taken { OnOk result (edited self.new recorder.new ≡ text_with_new op (edited self.old recorder.old)) }
+        ensures unchanged { OnErr result (edited self.new recorder.new ≡ edited self.old recorder.old) }
+        ensures back { IfErr result (λ back. back ≡ op) }
         ensures settled { IsSettled self.new recorder.new }
     {
-        rt_editing::receive(self.alloc, &mut self.view, recorder, bytes)
+        rt_editing::take(&mut self.view, recorder, op)
     }
 }

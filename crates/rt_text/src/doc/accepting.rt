@@ -1,40 +1,52 @@
 // Operations of other sites.
-ghost use Rattle.std.specs.Prelude.{◌≡◌, ◌⊎◌, IfOk, IfErr, OnOk, OnErr};
-ghost use Rattle.rt_rga.specs.Answers.{Refused};
-ghost use Rattle.rt_tags.specs.States.{TagStates};
-ghost use Rattle.rt_rga.specs.Taken.{TellsChange, told};
-ghost use Rattle.rt_text.specs.Accepted.{answer_of, flat_after};
+ghost use Rattle.std.specs.Prelude.{◌≡◌, IfErr, IfOk, OnErr, OnOk};
+ghost use Rattle.rt_rga.specs.Answers.{New};
+ghost use Rattle.rt_rga.specs.Kept.{said};
+ghost use Rattle.rt_rga.specs.Taken.{IsChange};
+ghost use Rattle.rt_rga.specs.Texts.{tagged_text};
+ghost use Rattle.rt_changes.specs.Replays.{replayed, told_by};
+ghost use Rattle.rt_text.specs.Accepted.{answer_of, with_new};
 
 use super::Doc;
-use crate::following::{follow, list_given, prepare_lists};
+use crate::following::{follow, prepare_lists};
+use crate::preparing::list_tags;
 use rt_oplog::Op;
-use rt_rga::Taken;
+use rt_rga::{Change, Offer};
 use rt_stamps::Fault;
 use rt_store::TextStore;
 
 impl<S: TextStore> Doc<S> {
-    /// Accepts an operation of any site, as the replica does: one that is new changes the text, moves
-    /// the site's marks, and lists its tags; a repeat changes nothing. Refused by the first of
-    /// `BadStamp`, `Conflict`, `NotYet`, `BadTarget`, `TextFull` that applies, or for want of memory, and
-    /// then nothing changes.
-    pub fn accept(&mut self, op: Op) -> Result<Taken, Fault>
-        ensures answer { IfOk result (λ taken. answer_of self.old op ≡ told taken) }
-        ensures ok { OnOk result (self.new ≡ flat_after (answer_of self.old op) op self.old) }
-        ensures change { IfOk result (λ taken. (table : TagStates) × TellsChange op self.old.cells table taken) }
-        ensures refused { IfErr result (λ fault. (answer_of self.old op ≡ Refused fault) ⊎ (fault ≡ Fault.NoMemory)) }
+    /// What is answered to an operation of any site, where memory is left: new, a repeat, or refused by the first
+    /// of `BadStamp`, `Conflict`, `NotYet`, `BadTarget`, `TextFull` that applies. It takes no memory.
+    pub fn answer(&self, op: &Op) -> Result<Offer, Fault>
+        ensures { said result ≡ answer_of self.now op.now }
+    {
+        self.replica.answer(op)
+    }
+
+    /// Takes an operation that is new to it: the text changes, the site's marks move, and its tags are listed. It
+    /// tells what changed in the text: replayed on the text before, that gives the text after. Where memory is wanting
+    /// the operation is given back, and nothing changes.
+    pub fn take(&mut self, op: Op) -> Result<Change, Op>
+        requires { answer_of self.old op ≡ New }
+        ensures taken { OnOk result (self.new ≡ with_new op self.old) }
+        ensures change { IfOk result (IsChange op self.old.cells) }
+        ensures replays { IfOk result (λ change. replayed (told_by op.body change) (tagged_text self.old.cells) ≡ tagged_text self.new.cells) }
         ensures unchanged { OnErr result (self.new ≡ self.old) }
+        ensures back { IfErr result (λ back. back ≡ op) }
     {
         let _ = self.kept();
-        prepare_lists(&mut self.tags, op.edit())?;
-        let taken = self.replica.accept(op)?;
-        let _ = self.replica.log();
-        let _ = self.replica.store();
-        match taken {
-            Taken::Repeat => Ok(Taken::Repeat),
-            Taken::New(change) => {
+        if prepare_lists(&mut self.tags, op.edit()).is_err() {
+            return Err(op);
+        }
+        match self.replica.take(op) {
+            Err(op) => Err(op),
+            Ok(change) => {
+                let _ = self.replica.log();
+                let _ = self.replica.store();
                 follow(&mut self.marks, &change);
-                list_given(&mut self.tags, self.replica.states(), &change.lists);
-                Ok(Taken::New(change))
+                list_tags(&mut self.tags, &change.lists);
+                Ok(change)
             }
         }
     }

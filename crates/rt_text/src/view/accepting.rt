@@ -1,39 +1,48 @@
 // Operations of other sites.
-ghost use Rattle.std.specs.Prelude.{◌≡◌, ◌⊎◌, IfOk, IfErr, OnOk, OnErr};
-ghost use Rattle.rt_rga.specs.Answers.{Refused};
-ghost use Rattle.rt_tags.specs.States.{TagStates};
-ghost use Rattle.rt_rga.specs.Taken.{TellsChange, told};
-ghost use Rattle.rt_text.specs.Accepted.{answer_of, view_after};
+ghost use Rattle.std.specs.Prelude.{◌≡◌, IfErr, IfOk, OnErr, OnOk};
+ghost use Rattle.rt_rga.specs.Answers.{New};
+ghost use Rattle.rt_rga.specs.Kept.{said};
+ghost use Rattle.rt_rga.specs.Taken.{IsChange};
+ghost use Rattle.rt_rga.specs.Texts.{tagged_text};
+ghost use Rattle.rt_changes.specs.Replays.{replayed, told_by};
+ghost use Rattle.rt_text.specs.Accepted.{answer_of, view_with_new};
 
 use super::View;
 use crate::others::follow_each;
 use rt_oplog::Op;
-use rt_rga::Taken;
+use rt_rga::{Change, Offer};
 use rt_stamps::Fault;
 use rt_store::TextStore;
 
 impl<S: TextStore> View<S> {
-    /// Accepts an operation of any site, as the replica does: one that is new changes the text, moves
-    /// the site's marks and those of each widget, and lists its tags; what is selected stays so. A repeat
-    /// changes nothing. Refused by the first of `BadStamp`, `Conflict`, `NotYet`, `BadTarget`,
-    /// `TextFull` that applies, or for want of memory, and then nothing changes.
-    pub fn accept(&mut self, op: Op) -> Result<Taken, Fault>
-        ensures answer { IfOk result (λ taken. answer_of self.old.doc op ≡ told taken) }
-        ensures ok { OnOk result (self.new ≡ view_after (answer_of self.old.doc op) op self.old) }
-        ensures change { IfOk result (λ taken. (table : TagStates) × TellsChange op self.old.doc.cells table taken) }
-        ensures refused { IfErr result (λ fault. (answer_of self.old.doc op ≡ Refused fault) ⊎ (fault ≡ Fault.NoMemory)) }
+    /// What is answered to an operation of any site, where memory is left: new, a repeat, or refused by the first
+    /// of `BadStamp`, `Conflict`, `NotYet`, `BadTarget`, `TextFull` that applies. It takes no memory.
+    pub fn answer(&self, op: &Op) -> Result<Offer, Fault>
+        ensures { said result ≡ answer_of self.now.doc op.now }
+    {
+        self.doc.answer(op)
+    }
+
+    /// Takes an operation that is new to it: the text changes, the site's marks and those of each widget move, and
+    /// its tags are listed; what is selected stays so. It tells what changed in the text. Where memory is wanting the
+    /// operation is given back, and nothing changes.
+    pub fn take(&mut self, op: Op) -> Result<Change, Op>
+        requires { answer_of self.old.doc op ≡ New }
+        ensures taken { OnOk result (self.new ≡ view_with_new op self.old) }
+        ensures change { IfOk result (IsChange op self.old.doc.cells) }
+        ensures replays { IfOk result (λ change. replayed (told_by op.body change) (tagged_text self.old.doc.cells) ≡ tagged_text self.new.doc.cells) }
         ensures unchanged { OnErr result (self.new ≡ self.old) }
+        ensures back { IfErr result (λ back. back ≡ op) }
     {
         let _ = self.doc.log();
         let _ = self.doc.kept();
-        let taken = self.doc.accept(op)?;
-        let _ = self.doc.log();
-        match taken {
-            Taken::Repeat => Ok(Taken::Repeat),
-            Taken::New(change) => {
+        match self.doc.take(op) {
+            Err(op) => Err(op),
+            Ok(change) => {
+                let _ = self.doc.log();
                 self.widget.follow(&change);
                 follow_each(&mut self.others, &change);
-                Ok(Taken::New(change))
+                Ok(change)
             }
         }
     }

@@ -4,7 +4,7 @@ use Rattle.std.specs.Prelude.{MatchResult}
 use Rattle.std.specs.Borrow.{Bor}
 use Rattle.rt_stamps.specs.declared.fault.Fault.{Fault}
 use Rattle.rt_stamps.specs.declared.limits.TheConstants.{MOST_CELLS}
-use Rattle.rt_editing.specs.declared.receiving.Received.{Received}
+use Rattle.rt_holding.specs.declared.receiving.Received.{Received}
 use Rattle.rt_script.specs.State.{State, new_state}
 use Rattle.rt_script.specs.SiteStep.{SiteReceives}
 use Rattle.rt_script.specs.SiteRun.{Begins}

@@ -37,6 +37,6 @@ returns c =
     ap (λ p. is_some (place_of p old.paths)) (sym c.text.ensures) ∙ ap is_some at ∙ sym c.is_some.ensures ∙ c.if-is_some.false in
     let ok = c.in_ok-add_widget.ensures in
     let paths = ok.path ∙ ap (λ p. old.paths ++ p ∷ []) c.text-3.ensures in
-    let made = created_as c.args.place path old c.add_widget.new.self c.args.settings.now free ok.ok paths in
+    let made = created_as c.args.place path old c.add_widget.new.self c.args.settings.now free ok.ok paths c.add_widget.ensures.held in
     let same : path ∷ [] ≡ c.in_ok-reply.reply = sym (c.in_ok-reply.ensures.ok ∙ ap (λ w. w ∷ []) (c.in_ok-from_str.ensures.ok ∙ c.text-2.ensures)) in
     made ∙ ap (λ (r : List Word). Ok (r, c.add_widget.new.self)) same

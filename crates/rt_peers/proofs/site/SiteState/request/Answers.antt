@@ -1,13 +1,12 @@
-use Rattle.std.proofs.Common.{◌∙◌, ap, arith, length, subst, sym}
-use Rattle.rt_stamps.specs.Outcomes.{Answers}
+use Rattle.std.proofs.Common.{◌<◌, ◌≤◌, ◌∙◌, ap, arith, length, refl, subst}
 use Rattle.rt_stamps.specs.Words.{as_words}
-use Rattle.rt_editing.specs.Edited.{Edited}
 use Rattle.rt_peers.specs.Peers.{text_led, widgets_of}
-use Rattle.rt_peers.specs.State.{State}
-use Rattle.rt_peers.specs.SiteStep.{by_widget}
+use Rattle.rt_peers.specs.State.{State, holding_of}
+use Rattle.rt_peers.specs.SiteStep.{AnswersInTurn, Tries, by_widget, text_limit}
 use Rattle.rt_peers.specs.Step.{step}
-use Rattle.rt_peers.proofs.Staying.{answer_stays}
-use Rattle.rt_peers.proofs.PeerLaws.{by_led, led_number}
+use Rattle.rt_peers.proofs.InTurn.{made, made_none, request_answers}
+use Rattle.rt_peers.proofs.Staying.{answer_stays, tried_stay}
+use Rattle.rt_peers.proofs.PeerLaws.{led_number}
 use Rattle.rt_peers.proofs.site.SiteState.request.Goals as goal
 
 pub lead-requires-2 : goal.lead-requires-2
@@ -22,18 +21,41 @@ invariant_of-self c =
     let stays = answer_stays c.lead.new.self c.args.request.now c.request-reply.result c.request-reply.new.self c.request-reply.ensures in
     let led = ap (λ t. length (widgets_of t.view)) c.lead.ensures ∙ led_number c.self.inside.text.view c.args.place in
     let back = ap (λ t. length (widgets_of t.view)) c.lead-2.ensures ∙ led_number c.request-reply.new.self.view c.args.place in
+    let mid : State = record { paths = as_words c.self.inside.paths.items; text = c.lead-2.new.self; held = c.self.inside.held } in
+    let tried = tried_stay (text_limit mid.text) (holding_of mid) mid.text c.settle.new.site c.settle.new.self c.settle.result c.settle.ensures.tried in
+    record { each = omega (arith, stays, led, back, tried, c.self.invariant.each); differ = c.self.invariant.differ }
+
+pub invariant_of-self-else-before-len : goal.invariant_of-self-else-before-len
+invariant_of-self-else-before-len c =
+    let stays = answer_stays c.lead.new.self c.args.request.now c.request-reply.result c.request-reply.new.self c.request-reply.ensures in
+    let led = ap (λ t. length (widgets_of t.view)) c.lead.ensures ∙ led_number c.self.inside.text.view c.args.place in
+    let back = ap (λ t. length (widgets_of t.view)) c.lead-2.ensures ∙ led_number c.request-reply.new.self.view c.args.place in
     record { each = omega (arith, stays, led, back, c.self.invariant.each); differ = c.self.invariant.differ }
 
-pub returns : goal.returns
-returns c =
-    let paths = as_words c.self.inside.paths.items in
-    let state : State = record { paths = paths; text = c.self.inside.text } in
+pub returns-then-before-len : goal.returns-then-before-len
+returns-then-before-len c =
     let place = c.args.place in
+    let request = c.args.request.now in
     let result = c.request-reply.result in
-    let answers : Answers (step (text_led place state.text) c.args.request.now) (text_led place state.text) result c.request-reply.new.self =
-    subst (λ (t : Edited). Answers (step t c.args.request.now) t result c.request-reply.new.self) c.lead.ensures c.request-reply.ensures in
-    let led : Answers (by_widget place state (λ text. step text c.args.request.now)) state result (record state { text = text_led place c.request-reply.new.self }) =
-    by_led place state (λ text. step text c.args.request.now) result c.request-reply.new.self answers in
-    let there : Answers (by_widget place state (λ text. step text c.args.request.now)) state result (record { paths = paths; text = c.lead-2.new.self }) =
-    subst (λ (t : Edited). Answers (by_widget place state (λ text. step text c.args.request.now)) state result (record { paths = paths; text = t })) (sym c.lead-2.ensures) led in
-    subst (λ (s : State). Answers (by_widget place s (λ text. step text c.args.request.now)) s result (record { paths = paths; text = c.lead-2.new.self })) c.self.view_is there
+    let state : State = record { paths = as_words c.self.inside.paths.items; text = c.self.inside.text; held = c.self.inside.held } in
+    let mid : State = record state { text = c.lead-2.new.self } in
+    let new : State = record { paths = state.paths; text = c.settle.new.site; held = c.settle.new.self } in
+    let answers = request_answers place request state c.lead.new.self c.request-reply.new.self c.lead-2.new.self result c.lead.ensures c.request-reply.ensures c.lead-2.ensures in
+    let more : length state.text.view.doc.log < length mid.text.view.doc.log =
+    omega (arith, c.if-before-len.true, c.len-before.ensures, c.len.ensures, ap length c.log.ensures.operations, ap length c.log-2.ensures.operations) in
+    let tries : Tries mid new = record { count = c.settle.result; tried = c.settle.ensures.tried; widgets = refl } in
+    subst (λ (s : State). AnswersInTurn (by_widget place s (λ text. step text request)) s result new) c.self.view_is
+    (made (by_widget place state (λ text. step text request)) state mid new result answers more tries)
+
+pub returns-else-before-len : goal.returns-else-before-len
+returns-else-before-len c =
+    let place = c.args.place in
+    let request = c.args.request.now in
+    let result = c.request-reply.result in
+    let state : State = record { paths = as_words c.self.inside.paths.items; text = c.self.inside.text; held = c.self.inside.held } in
+    let mid : State = record state { text = c.lead-2.new.self } in
+    let answers = request_answers place request state c.lead.new.self c.request-reply.new.self c.lead-2.new.self result c.lead.ensures c.request-reply.ensures c.lead-2.ensures in
+    let none : length mid.text.view.doc.log ≤ length state.text.view.doc.log =
+    omega (arith, c.if-before-len.false, c.len-before.ensures, c.len.ensures, ap length c.log.ensures.operations, ap length c.log-2.ensures.operations) in
+    subst (λ (s : State). AnswersInTurn (by_widget place s (λ text. step text request)) s result mid) c.self.view_is
+    (made_none (by_widget place state (λ text. step text request)) state mid result answers none)

@@ -27,13 +27,13 @@ invariant_of-self c =
 pub returns : goal.returns
 returns c =
     let paths = as_words c.self.inside.paths.items in
-    let state : State = record { paths = paths; text = c.self.inside.text } in
+    let state : State = record { paths = paths; text = c.self.inside.text; held = c.self.inside.held } in
     let place = c.args.place in
     let result = c.set-reply.result in
     let answers : Answers (settings_step (text_led place state.text) c.args.settings.now) (text_led place state.text) result c.set-reply.new.self =
     subst (λ (t : Edited). Answers (settings_step t c.args.settings.now) t result c.set-reply.new.self) c.lead.ensures c.set-reply.ensures in
     let led : Answers (by_widget place state (λ text. settings_step text c.args.settings.now)) state result (record state { text = text_led place c.set-reply.new.self }) =
     by_led place state (λ text. settings_step text c.args.settings.now) result c.set-reply.new.self answers in
-    let there : Answers (by_widget place state (λ text. settings_step text c.args.settings.now)) state result (record { paths = paths; text = c.lead-2.new.self }) =
-    subst (λ (t : Edited). Answers (by_widget place state (λ text. settings_step text c.args.settings.now)) state result (record { paths = paths; text = t })) (sym c.lead-2.ensures) led in
-    subst (λ (s : State). Answers (by_widget place s (λ text. settings_step text c.args.settings.now)) s result (record { paths = paths; text = c.lead-2.new.self })) c.self.view_is there
+    let there : Answers (by_widget place state (λ text. settings_step text c.args.settings.now)) state result (record { paths = paths; text = c.lead-2.new.self; held = c.self.inside.held }) =
+    subst (λ (t : Edited). Answers (by_widget place state (λ text. settings_step text c.args.settings.now)) state result (record { paths = paths; text = t; held = c.self.inside.held })) (sym c.lead-2.ensures) led in
+    subst (λ (s : State). Answers (by_widget place s (λ text. settings_step text c.args.settings.now)) s result (record { paths = paths; text = c.lead-2.new.self; held = c.self.inside.held })) c.self.view_is there

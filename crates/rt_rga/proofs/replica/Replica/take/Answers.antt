@@ -1,6 +1,5 @@
 use Rattle.std.proofs.Common.{◌≡◌, ◌∙◌, ◌+◌, ◌≤◌, ℕ, List, ap, arith, length, max, refl, subst, sym}
 use Rattle.std.proofs.lemmas.List.{length-map}
-use Rattle.std.proofs.lemmas.Result.{err_from_is_err_and}
 use Rattle.rt_oplog.specs.Logs.{with_operation}
 use Rattle.rt_ops.specs.Operations.{Operation}
 use Rattle.rt_store.specs.declared.cell.Cell.{Cell}
@@ -13,9 +12,19 @@ use Rattle.rt_rga.specs.Taken.{IsChange}
 use Rattle.rt_tags.proofs.Listing.{keeps_both}
 use Rattle.rt_rga.proofs.Pushing.{taken_in}
 use Rattle.rt_rga.proofs.Replicas.{replica_distinct}
-use Rattle.rt_rga.proofs.Within.{change_shown, final_spared, placed_by, same_value, within_later, within_more}
+use Rattle.rt_rga.proofs.Within.{final_spared, placed_by, same_value, within_later, within_more}
 use Rattle.rt_store.specs.Shown.{shown, TaggedCell}
+use Rattle.std.specs.Prelude.{false, true, Result, Ok, Err, OnErr, OnOk}
+use Rattle.std.specs.Result.{is_err}
 use Rattle.rt_rga.proofs.replica.Replica.take.Goals as goal
+
+on_ok : {A B P : Type 0} (r : Result A B) → false ≡ is_err r → OnOk r P → P
+on_ok (Ok a) e p = p
+on_ok (Err b) e p = absurd (cc e)
+
+on_err : {A B P : Type 0} (r : Result A B) → true ≡ is_err r → OnErr r P → P
+on_err (Ok a) e p = absurd (cc e)
+on_err (Err b) e p = p
 
 pub describe-requires-clause-placed : goal.describe-requires-clause-placed
 describe-requires-clause-placed g c =
@@ -45,8 +54,8 @@ describe-requires-clause-stays g c =
     let continues : Continues log c.args.op = subst (λ (l : List Operation). Continues l c.args.op) (sym seen) c.requires.continues in
     final_spared log v.states kept c.args.op c.self.invariant.within.replica continues
 
-pub invariant_of-self-in_err-told : goal.invariant_of-self-in_err-told
-invariant_of-self-in_err-told g c =
+pub invariant_of-self-in-Err : goal.invariant_of-self-in-Err
+invariant_of-self-in-Err g c =
     let v = c.self.inside in
     let log = v.log.operations in
     let kept : List (Cell ℕ) = g.S.TextStore.list v.store in
@@ -59,13 +68,13 @@ change-requires-clause-replica g c =
     let kept : List (Cell ℕ) = g.S.TextStore.list v.store in
     (within_later log c.reserve.new.self.operations v.states c.describe.new.states kept kept v.clock v.limit c.reserve.ensures.same refl c.describe.ensures.ids c.self.invariant.within).replica
 
-pub invariant_of-self-in_err-change : goal.invariant_of-self-in_err-change
-invariant_of-self-in_err-change g c =
+pub invariant_of-self-then-is_err-2 : goal.invariant_of-self-then-is_err-2
+invariant_of-self-then-is_err-2 g c =
     let v = c.self.inside in
     let log = v.log.operations in
     let kept : List (Cell ℕ) = g.S.TextStore.list v.store in
     let ids : KeepsIds v.states c.change.new.states = keeps_both v.states c.describe.new.states c.change.new.states c.describe.ensures.ids c.change.ensures.ids in
-    record { within = within_later log c.reserve.new.self.operations v.states c.change.new.states kept (g.S.TextStore.list c.change.new.store) v.clock v.limit c.reserve.ensures.same c.in_err-change.ensures.same ids c.self.invariant.within; agrees = c.change.ensures.agrees }
+    record { within = within_later log c.reserve.new.self.operations v.states c.change.new.states kept (g.S.TextStore.list c.change.new.store) v.clock v.limit c.reserve.ensures.same (on_err c.change.result c.if-is_err-2.ensures.value c.change.ensures.same) ids c.self.invariant.within; agrees = c.change.ensures.agrees }
 
 pub invariant_of-self-2 : goal.invariant_of-self-2
 invariant_of-self-2 g c =
@@ -76,9 +85,9 @@ invariant_of-self-2 g c =
     let continues : Continues log c.args.op = subst (λ (l : List Operation). Continues l c.args.op) (sym seen) c.requires.continues in
     let history : IsHistory c.reserve.new.self.operations = subst IsHistory (sym c.reserve.ensures.same) c.self.invariant.within.replica.history in
     let goes_on : Continues c.reserve.new.self.operations c.args.op = subst (λ (l : List Operation). Continues l c.args.op) (sym c.reserve.ensures.same) continues in
-    let pushed : c.push-added.new.self.operations ≡ with_operation c.args.op log = (taken_in c.args.op c.reserve.new.self c.push-added.new.self c.push-added.result c.push-added.ensures history goes_on c.in_ok-reserve.ensures.ok).0 ∙ ap (with_operation c.args.op) c.reserve.ensures.same in
+    let pushed : c.push-added.new.self.operations ≡ with_operation c.args.op log = (taken_in c.args.op c.reserve.new.self c.push-added.new.self c.push-added.result c.push-added.ensures history goes_on (on_ok c.reserve.result c.if-is_err.ensures.value c.reserve.ensures.ok)).0 ∙ ap (with_operation c.args.op) c.reserve.ensures.same in
     let replica : IsReplica (with_operation c.args.op log) c.change.new.states (g.S.TextStore.list c.change.new.store) =
-    subst (λ (l : List Operation). IsReplica (with_operation c.args.op l) c.change.new.states (g.S.TextStore.list c.change.new.store)) c.reserve.ensures.same c.in_ok-change.ensures.replica in
+    subst (λ (l : List Operation). IsReplica (with_operation c.args.op l) c.change.new.states (g.S.TextStore.list c.change.new.store)) c.reserve.ensures.same (on_ok c.change.result c.if-is_err-2.ensures.value c.change.ensures.replica) in
     let room : length kept + length (inserted c.args.op) ≤ v.limit = omega (
       arith,
       c.requires.room,
@@ -87,7 +96,7 @@ invariant_of-self-2 g c =
       length-map kept (shown v.states),
     ) in
     record {
-      within = within_more log c.push-added.new.self.operations v.states c.change.new.states kept (g.S.TextStore.list c.change.new.store) v.clock c.saw.new.self v.limit c.args.op pushed replica c.in_ok-change.ensures.cells room
+      within = within_more log c.push-added.new.self.operations v.states c.change.new.states kept (g.S.TextStore.list c.change.new.store) v.clock c.saw.new.self v.limit c.args.op pushed replica (on_ok c.change.result c.if-is_err-2.ensures.value c.change.ensures.cells) room
           (c.saw.ensures ∙ ap (max v.clock) c.last_count.ensures) c.self.invariant.within;
       agrees = c.change.ensures.agrees;
     }
@@ -101,16 +110,11 @@ returns-clause-log g c =
     let continues : Continues log c.args.op = subst (λ (l : List Operation). Continues l c.args.op) (sym seen) c.requires.continues in
     let history : IsHistory c.reserve.new.self.operations = subst IsHistory (sym c.reserve.ensures.same) c.self.invariant.within.replica.history in
     let goes_on : Continues c.reserve.new.self.operations c.args.op = subst (λ (l : List Operation). Continues l c.args.op) (sym c.reserve.ensures.same) continues in
-    let pushed : c.push-added.new.self.operations ≡ with_operation c.args.op log = (taken_in c.args.op c.reserve.new.self c.push-added.new.self c.push-added.result c.push-added.ensures history goes_on c.in_ok-reserve.ensures.ok).0 ∙ ap (with_operation c.args.op) c.reserve.ensures.same in
+    let pushed : c.push-added.new.self.operations ≡ with_operation c.args.op log = (taken_in c.args.op c.reserve.new.self c.push-added.new.self c.push-added.result c.push-added.ensures history goes_on (on_ok c.reserve.result c.if-is_err.ensures.value c.reserve.ensures.ok)).0 ∙ ap (with_operation c.args.op) c.reserve.ensures.same in
     pushed ∙ ap (with_operation c.args.op) seen
 
 pub returns-clause-change : goal.returns-clause-change
-returns-clause-change g c =
-    let v = c.self.inside in
-    let log = v.log.operations in
-    let kept : List (Cell ℕ) = g.S.TextStore.list v.store in
-    subst (λ (cells : List TaggedCell). IsChange c.args.op cells c.change.new.states c.in_ok-told.told) (ap (λ (a : ReplicaValue). a.cells) c.self.view_is)
-    (change_shown c.args.op v.states c.describe.new.states c.change.new.states kept c.in_ok-told.told c.change.ensures.ids c.in_ok-told.ensures.change)
+returns-clause-change g c = subst (λ (cells : List TaggedCell). IsChange c.args.op cells c.in-Ok.told) (ap (λ (a : ReplicaValue). a.cells) c.self.view_is) c.in-Ok.ensures.change
 
 pub returns-clause-ids : goal.returns-clause-ids
 returns-clause-ids g c =
@@ -126,57 +130,6 @@ invariant_of-self g c =
     let kept : List (Cell ℕ) = g.S.TextStore.list v.store in
     record { within = within_later v.log.operations c.reserve.new.self.operations v.states v.states kept kept v.clock v.limit c.reserve.ensures.same refl (keeps_itself v.states) c.self.invariant.within; agrees = c.self.invariant.agrees }
 
-pub returns-in_err-reserve : goal.returns-in_err-reserve
-returns-in_err-reserve g c =
-    let (y, is, gives) = err_from_is_err_and c.from_residual.result c.from_residual.ensures.1 in
-    let v = c.self.inside in
-    let kept : List (Cell ℕ) = g.S.TextStore.list v.store in
-    let ids : KeepsIds v.states v.states = keeps_itself v.states in
-    rw (is, gives) (record {
-      log = tt;
-      change = tt;
-      same = same_value v.log.operations c.reserve.new.self.operations v.states v.states kept kept v.site.number v.limit c.reserve.ensures.same refl ids c.self.invariant.within.replica.states
-          ∙ ap (λ (a : ReplicaValue). record a { table = v.states }) c.self.view_is;
-      site = ap (λ (a : ReplicaValue). a.site) c.self.view_is;
-      limit = ap (λ (a : ReplicaValue). a.limit) c.self.view_is;
-      ids = subst (λ (t : TagStates). KeepsIds t v.states) (ap (λ (a : ReplicaValue). a.table) c.self.view_is) ids;
-      fault = c.in_err-reserve.ensures.fault;
-    })
-
-pub returns-in_err-told : goal.returns-in_err-told
-returns-in_err-told g c =
-    let (y, is, gives) = err_from_is_err_and c.from_residual-in_err-told.result c.from_residual-in_err-told.ensures.1 in
-    let v = c.self.inside in
-    let kept : List (Cell ℕ) = g.S.TextStore.list v.store in
-    let ids : KeepsIds v.states c.describe.new.states = c.describe.ensures.ids in
-    rw (is, gives) (record {
-      log = tt;
-      change = tt;
-      same = same_value v.log.operations c.reserve.new.self.operations v.states c.describe.new.states kept kept v.site.number v.limit c.reserve.ensures.same refl ids c.self.invariant.within.replica.states
-          ∙ ap (λ (a : ReplicaValue). record a { table = c.describe.new.states }) c.self.view_is;
-      site = ap (λ (a : ReplicaValue). a.site) c.self.view_is;
-      limit = ap (λ (a : ReplicaValue). a.limit) c.self.view_is;
-      ids = subst (λ (t : TagStates). KeepsIds t c.describe.new.states) (ap (λ (a : ReplicaValue). a.table) c.self.view_is) ids;
-      fault = c.in_err-told.ensures.fault;
-    })
-
-pub returns-in_err-change : goal.returns-in_err-change
-returns-in_err-change g c =
-    let (y, is, gives) = err_from_is_err_and c.from_residual-in_err-change.result c.from_residual-in_err-change.ensures.1 in
-    let v = c.self.inside in
-    let kept : List (Cell ℕ) = g.S.TextStore.list v.store in
-    let ids : KeepsIds v.states c.change.new.states = keeps_both v.states c.describe.new.states c.change.new.states c.describe.ensures.ids c.change.ensures.ids in
-    rw (is, gives) (record {
-      log = tt;
-      change = tt;
-      same = same_value v.log.operations c.reserve.new.self.operations v.states c.change.new.states kept (g.S.TextStore.list c.change.new.store) v.site.number v.limit c.reserve.ensures.same c.in_err-change.ensures.same ids c.self.invariant.within.replica.states
-          ∙ ap (λ (a : ReplicaValue). record a { table = c.change.new.states }) c.self.view_is;
-      site = ap (λ (a : ReplicaValue). a.site) c.self.view_is;
-      limit = ap (λ (a : ReplicaValue). a.limit) c.self.view_is;
-      ids = subst (λ (t : TagStates). KeepsIds t c.change.new.states) (ap (λ (a : ReplicaValue). a.table) c.self.view_is) ids;
-      fault = c.in_err-change.ensures.fault;
-    })
-
 pub returns-clause-same : goal.returns-clause-same
 returns-clause-same g c = tt
 
@@ -186,8 +139,26 @@ returns-clause-site g c = ap (λ (a : ReplicaValue). a.site) c.self.view_is
 pub returns-clause-limit : goal.returns-clause-limit
 returns-clause-limit g c = ap (λ (a : ReplicaValue). a.limit) c.self.view_is
 
-pub returns-clause-fault : goal.returns-clause-fault
-returns-clause-fault g c = tt
-
 pub change-requires-clause-agrees : goal.change-requires-clause-agrees
 change-requires-clause-agrees g c = g.met.S.TextStore.grows c.self.inside.store c.self.inside.states c.describe.new.states c.describe.ensures.ids c.self.invariant.agrees
+
+pub returns-in-Err-clause-same : goal.returns-in-Err-clause-same
+returns-in-Err-clause-same g c =
+    let v = c.self.inside in
+    let kept : List (Cell ℕ) = g.S.TextStore.list v.store in
+    same_value v.log.operations c.reserve.new.self.operations v.states c.describe.new.states kept kept v.site.number v.limit c.reserve.ensures.same refl c.describe.ensures.ids c.self.invariant.within.replica.states
+    ∙ ap (λ (a : ReplicaValue). record a { table = c.describe.new.states }) c.self.view_is
+
+pub returns-then-is_err-2-clause-same : goal.returns-then-is_err-2-clause-same
+returns-then-is_err-2-clause-same g c =
+    let v = c.self.inside in
+    let kept : List (Cell ℕ) = g.S.TextStore.list v.store in
+    let ids : KeepsIds v.states c.change.new.states = keeps_both v.states c.describe.new.states c.change.new.states c.describe.ensures.ids c.change.ensures.ids in
+    same_value v.log.operations c.reserve.new.self.operations v.states c.change.new.states kept (g.S.TextStore.list c.change.new.store) v.site.number v.limit c.reserve.ensures.same (on_err c.change.result c.if-is_err-2.ensures.value c.change.ensures.same) ids c.self.invariant.within.replica.states
+    ∙ ap (λ (a : ReplicaValue). record a { table = c.change.new.states }) c.self.view_is
+
+pub returns-then-is_err-2-clause-ids : goal.returns-then-is_err-2-clause-ids
+returns-then-is_err-2-clause-ids g c =
+    let v = c.self.inside in
+    let ids : KeepsIds v.states c.change.new.states = keeps_both v.states c.describe.new.states c.change.new.states c.describe.ensures.ids c.change.ensures.ids in
+    subst (λ (t : TagStates). KeepsIds t c.change.new.states) (ap (λ (a : ReplicaValue). a.table) c.self.view_is) ids

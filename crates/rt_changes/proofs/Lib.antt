@@ -1,0 +1,12 @@
+pub mod Accepted
+pub mod Characters
+pub mod Exact
+pub mod Listed
+pub mod Places
+pub mod Runs
+pub mod Stamps
+pub mod TagNames
+pub mod Texts
+pub mod Told
+pub mod Turns
+pub mod Within

@@ -1,0 +1,77 @@
+-- How held operations are kept, in a map by their stamps and by when they came; and how the code tries them. No public clause
+-- cites these.
+use Rattle.std.specs.Prelude.{◌≡◌, ◌<◌, ◌≤◌, ℕ, Bool, true, false, List, [], ◌∷◌, ◌++◌, length, Option, Some, None, IsSomeAnd}
+use Rattle.std.specs.List.{AllByRecursion}
+use Rattle.std.specs.Ordering.{nat_cmp, ordering_then}
+use Rattle.std.specs.declared.cmp.Ordering.{Ordering}
+use Rattle.std.specs.declared.cmp.Ordering.TheVariants.{Greater}
+use Rattle.rt_stamps.specs.declared.fault.Fault.TheVariants.{NotYet, TextFull}
+use Rattle.rt_stamps.specs.declared.stamp.Stamp.{Stamp}
+use Rattle.rt_ops.specs.Operations.{Operation, has_bad_stamp, stamp_of}
+use Rattle.rt_ops.specs.Rules.{keeps_rules}
+use Rattle.rt_oplog.specs.Logs.{Has}
+use Rattle.rt_rga.specs.Answers.{Answer, New, Repeat, Refused, answer_within}
+use Rattle.rt_holding.specs.declared.trying.Outcome.{Outcome}
+use Rattle.rt_holding.specs.declared.trying.Outcome.TheVariants.{Taken, Stays, Dropped}
+use Rattle.rt_holding.specs.Holding.{most_held, next_of, waits}
+use Rattle.rt_holding.specs.Runs.{AreOnce, AreRising}
+
+-- where a held operation stands: by its stamp, and of equal stamps by when it came
+abbrev pub Place : Type 0
+Place = Stamp × ℕ
+
+abbrev pub by_stamp_and_arrival : Place → Place → Ordering
+by_stamp_and_arrival a b = ordering_then (ordering_then (nat_cmp a.0.count b.0.count) (nat_cmp a.0.site b.0.site)) (nat_cmp a.1 b.1)
+
+-- at a place an operation; or none, while it is being tried
+abbrev pub Entry : Type 0
+Entry = Place × Option Operation
+
+abbrev pub put_in_front : Option Operation → List Operation → List Operation
+put_in_front None ops = ops
+put_in_front (Some op) ops = op ∷ ops
+
+abbrev pub ops_in : List Entry → List Operation
+ops_in [] = []
+ops_in (e ∷ entries) = put_in_front e.1 (ops_in entries)
+
+-- an operation at the place of its stamp, and of an arrival below a number
+pub record IsInPlace (arrivals : ℕ) (e : Entry) : Type 0 where
+  pub op : IsSomeAnd e.1 (λ op. e.0.0 ≡ stamp_of op)
+  pub came : e.0.1 < arrivals
+
+-- what a map of held operations keeps to
+pub record AreHeld (arrivals : ℕ) (entries : List Entry) : Type 0 where
+  pub places : AllByRecursion (IsInPlace arrivals) entries
+  pub few : length entries ≤ most_held
+  pub once : AreOnce (ops_in entries)
+  pub order : AreRising (ops_in entries)
+  pub rules : (op : Operation) → Has (ops_in entries) op → keeps_rules op.body ≡ true
+  pub sound : (op : Operation) → Has (ops_in entries) op → has_bad_stamp op ≡ false
+
+-- an operation stands at a place, behind those of lesser places
+pub record IsAt (place : Place) (op : Operation) (entries : List Entry) : Type 0 where
+  pub front : List Entry
+  pub behind : List Entry
+  pub is : entries ≡ front ++ (place, Some op) ∷ behind
+  pub before : AllByRecursion (λ e. by_stamp_and_arrival place e.0 ≡ Greater) front
+
+-- what becomes of a held operation that is tried, by what is answered
+abbrev pub outcome_of : Answer → Outcome
+outcome_of New = Taken
+outcome_of Repeat = Dropped
+outcome_of (Refused NotYet) = Stays
+outcome_of (Refused TextFull) = Stays
+outcome_of (Refused _) = Dropped
+
+-- the next one to be tried stands at a place, and is new
+pub record IsNextAt (limit : ℕ) (log : List Operation) (entries : List Entry) (place : Place) : Type 0 where
+  pub op : Operation
+  pub there : IsAt place op entries
+  pub next : next_of limit [] log (ops_in entries) ≡ Some op
+  pub new : answer_within limit op log ≡ New
+
+-- it would be taken or stay
+abbrev pub waits_on : ℕ → List Operation → Option Operation → Bool
+waits_on limit log None = true
+waits_on limit log (Some op) = waits (answer_within limit op log)

@@ -1,0 +1,12 @@
+pub mod Arrivals
+pub mod Chains
+pub mod Due
+pub mod Examples
+pub mod Holding
+pub mod Kept
+pub mod Laws
+pub mod Receiving
+pub mod Replies
+pub mod Runs
+pub mod Taken
+pub mod Waiting

@@ -1,0 +1,56 @@
+-- What a file of operations does to a site that receives it, and to what is held for it.
+use Rattle.std.specs.Prelude.{◌≡◌, ◌⊎◌, ℕ, ◌+◌, List, [], ◌∷◌, length, Option, Some, Ok}
+use Rattle.rt_stamps.specs.declared.fault.Fault.{Fault}
+use Rattle.rt_stamps.specs.declared.fault.Fault.TheVariants.{NoMemory}
+use Rattle.rt_ops.specs.Operations.{Operation}
+use Rattle.rt_ops.specs.Reading.{Reads}
+use Rattle.rt_holding.specs.declared.held.Offered.{Offered}
+use Rattle.rt_holding.specs.declared.held.Offered.TheVariants as offered
+use Rattle.rt_holding.specs.declared.receiving.Received.{Received}
+use Rattle.rt_holding.specs.Holding.{reply_to}
+use Rattle.rt_holding.specs.Replies.{Reply}
+use Rattle.rt_holding.specs.Taken.{IsOffered, IsRefused, holding, replied}
+
+-- no operation was accepted, and these are held
+abbrev pub none_accepted : Option (Fault × ℕ) → List Operation → Received
+none_accepted ending held = record { new = 0; repeats = 0; held = length held; fault = ending }
+
+-- One more was offered before others: it was new, and so many were taken after it; or it was there already, or it is held.
+abbrev pub one_more : Offered → Received → Received
+one_more (offered.New more) received = record received { new = 1 + more + received.new }
+one_more offered.Repeat received = record received { repeats = 1 + received.repeats }
+one_more offered.Held received = received
+
+-- how many it counts
+abbrev pub most_counted : Offered → ℕ
+most_counted (offered.New more) = 1 + more
+most_counted offered.Repeat = 1
+most_counted offered.Held = 0
+
+-- a site, and the operations that are held for it
+pub record State (Site : Type 0) : Type 0 where
+  pub site : Site
+  pub held : List Operation
+
+module _ {Site : Type 0} (log : Site → List Operation) (limit : Site → ℕ) (after : Operation → Site → Site) where
+  abbrev pub reply_at : Operation → State Site → Reply
+  reply_at op s = reply_to (limit s.site) op (holding log s.site s.held)
+
+  -- Operations are offered one after the other, each with the offset of its record, up to the first that is refused: its fault is
+  -- told with its offset. Where none is, the ending is told. Want of memory may refuse one that is new, or that is to be held.
+  abbrev pub Offers : List Operation → List ℕ → Option (Fault × ℕ) → State Site → Received → State Site → Type 0
+  Offers [] offsets ending old received new = (received ≡ none_accepted ending old.held) × (new ≡ old)
+  Offers (op ∷ ops) [] ending old received new = ⊥
+  Offers (op ∷ ops) (offset ∷ offsets) ending old received new =
+      ((fault : Fault) × IsRefused (reply_at op old) fault × (received ≡ none_accepted (Some (fault, offset)) old.held) × (new ≡ old))
+      ⊎ ((offered : Offered) × (next : State Site) × (rest : Received) × (reply_at op old ≡ replied (Ok offered))
+      × IsOffered log after (limit old.site) op offered old.site old.held next.site next.held
+      × (received ≡ one_more offered rest) × Offers ops offsets ending next rest new)
+
+  -- The operations of a file are offered, and then the fault of its reading is told, if it has one. Or the file found no memory,
+  -- which is told at the offset 0.
+  abbrev pub Receives : List ℕ → State Site → Received → State Site → Type 0
+  Receives bytes old received new =
+      ((ops : List Operation) × (offsets : List ℕ) × (ending : Option (Fault × ℕ)) × Reads bytes ops offsets ending
+      × Offers ops offsets ending old received new)
+      ⊎ ((received ≡ none_accepted (Some (NoMemory, 0)) old.held) × (new ≡ old))

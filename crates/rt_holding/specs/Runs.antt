@@ -1,0 +1,138 @@
+-- Whole runs of a site that holds early operations, and what it then has accepted.
+use Rattle.std.specs.Prelude.{◌≡◌, ◌↔◌, ◌⊎◌, ℕ, ◌≤◌, Bool, true, false, ◌&&◌, nat_le, List, [], ◌∷◌, ◌++◌, length, if◌then◌else◌}
+use Rattle.rt_stamps.specs.declared.fault.Fault.TheVariants.{TextFull, WaitingFull}
+use Rattle.rt_stamps.specs.declared.limits.TheConstants.{GREATEST_COUNT}
+use Rattle.std.specs.List.{AllByRecursion}
+use Rattle.rt_stamps.specs.Stamps.{is_before}
+use Rattle.rt_ops.specs.Operations.{Body, Operation, stamp_of}
+use Rattle.rt_ops.specs.Rules.{keeps_rules}
+use Rattle.rt_oplog.specs.Logs.{Has, clash, holds, with_operation}
+use Rattle.rt_rga.specs.Answers.{New, answer_within}
+use Rattle.rt_rga.specs.Cells.{cells_of}
+use Rattle.rt_rga.specs.Drafts.{operations_of, with_drafts}
+use Rattle.rt_rga.specs.Histories.{IsHistory, greatest_last_count}
+use Rattle.rt_rga.specs.Orders.{AreIn}
+use Rattle.rt_rga.specs.Requests.{MayBeAsked, Make, Offer, Request, last_count_after}
+use Rattle.rt_holding.specs.Holding.{Holding, Settles, after_answer, has_no_room, is_new, most_held, reply_to, settled, stays, waits}
+use Rattle.rt_holding.specs.Replies.{Reply}
+use Rattle.rt_holding.specs.Replies as replies
+
+-- ONE REQUEST
+
+-- the counts of drafts fit, and their cells
+abbrev pub fit : ℕ → ℕ → List Body → List Operation → Bool
+fit site limit drafts log =
+    nat_le (last_count_after (greatest_last_count log) drafts) GREATEST_COUNT && nat_le (length (cells_of (with_drafts site drafts log))) limit
+
+-- a request accepts operations of its own: an offer that is answered New, drafts that fit
+abbrev pub accepts : ℕ → ℕ → Request → Holding → Bool
+accepts site limit (Offer op) s = is_new (answer_within limit op s.log)
+accepts site limit (Make drafts) s = fit site limit drafts s.log
+
+-- the state before held operations are tried
+abbrev pub at_first : ℕ → ℕ → Request → Holding → Holding
+at_first site limit (Offer op) s = after_answer (answer_within limit op s.log) op s
+at_first site limit (Make drafts) s = if fit site limit drafts s.log then record { log = with_drafts site drafts s.log; held = s.held } else s
+
+-- with ample memory
+abbrev pub after_request : ℕ → ℕ → Request → Holding → Holding
+after_request site limit request s = if accepts site limit request s then settled limit (at_first site limit request s) else at_first site limit request s
+
+abbrev pub after_requests : ℕ → ℕ → List Request → Holding → Holding
+after_requests site limit [] s = s
+after_requests site limit (request ∷ requests) s = after_requests site limit requests (after_request site limit request s)
+
+-- Where tries may find no memory: one state leads to another, in which some held ones are taken.
+abbrev pub Leads : ℕ → ℕ → Request → Holding → Holding → List Operation → Type 0
+Leads site limit request s t more =
+    ((accepts site limit request s ≡ true) × Settles limit [] (at_first site limit request s) t more)
+    ⊎ ((accepts site limit request s ≡ false) × (t ≡ at_first site limit request s) × (more ≡ []))
+
+-- WHAT REQUESTS BRING
+
+-- an offered operation is refused for want of room: of its cells, or among the held ones
+abbrev pub finds_no_room : Reply → Bool
+finds_no_room replies.New = false
+finds_no_room replies.Repeat = false
+finds_no_room replies.Held = false
+finds_no_room (replies.Refused TextFull) = true
+finds_no_room (replies.Refused WaitingFull) = true
+finds_no_room (replies.Refused _) = false
+
+-- the operations that a request brings: the offered one, unless it is refused for want of room; those that are made
+abbrev pub brought_by : ℕ → ℕ → Request → Holding → List Operation
+brought_by site limit (Offer op) s = if finds_no_room (reply_to limit op s) then [] else op ∷ []
+brought_by site limit (Make drafts) s = if fit site limit drafts s.log then operations_of site drafts s.log else []
+
+-- Requests lead from one state to another, and bring operations. One that was refused for want of memory is as one that
+-- wasn't made.
+pub data Runs (site limit : ℕ) : List Request → Holding → Holding → List Operation → Type 0 where
+  none : {s : Holding} → Runs site limit [] s s []
+  next : {request : Request} {requests : List Request} {s t u : Holding} {ops : List Operation} (more : List Operation)
+      → MayBeAsked site s.log request → Leads site limit request s t more → Runs site limit requests t u ops
+      → Runs site limit (request ∷ requests) s u (brought_by site limit request s ++ ops)
+
+-- WHAT IS ACCEPTED
+
+-- no two of some operations clash
+abbrev pub AreFree : List Operation → Type 0
+AreFree ops = (p q : Operation) → Has ops p → Has ops q → clash p q ≡ false
+
+-- a history of some operations that has each other history of them
+pub record IsGreatestHistoryWithin (ops set : List Operation) : Type 0 where
+  pub history : IsHistory set
+  pub within : AreIn set ops
+  pub greatest : (other : List Operation) → IsHistory other → AreIn other ops → AreIn other set
+
+-- no held operation could be taken, if there were memory and room
+abbrev pub NoneCouldBeTaken : ℕ → Holding → Type 0
+NoneCouldBeTaken limit s =
+    (op : Operation) → Has s.held op
+    → (is_new (answer_within limit op s.log) ≡ false) × (has_no_room (answer_within limit op s.log) ≡ false)
+
+-- some operations, in whatever order and with repeats, are those of a set
+abbrev pub AreOf : List Operation → List Operation → Type 0
+AreOf ops set = (op : Operation) → Has ops op ↔ Has set op
+
+-- WHAT A SITE KEEPS TO
+
+-- none is there twice
+abbrev pub AreOnce : List Operation → Type 0
+AreOnce [] = Unit {0}
+AreOnce (op ∷ ops) = (holds ops op ≡ false) × AreOnce ops
+
+-- none has a lesser stamp than one before it
+abbrev pub AreRising : List Operation → Type 0
+AreRising [] = Unit {0}
+AreRising (op ∷ ops) = AllByRecursion (λ later. is_before (stamp_of later) (stamp_of op) ≡ false) ops × AreRising ops
+
+-- The accepted ones are a history within the limit of cells. The held ones are no more than may be, by rising stamp, none is there
+-- twice, and each waits: it comes too early, or finds no room, or found no memory.
+pub record IsHolding (limit : ℕ) (s : Holding) : Type 0 where
+  pub history : IsHistory s.log
+  pub room : length (cells_of s.log) ≤ limit
+  pub few : length s.held ≤ most_held
+  pub once : AreOnce s.held
+  pub order : AreRising s.held
+  pub rules : (op : Operation) → Has s.held op → keeps_rules op.body ≡ true
+  pub waiting : (op : Operation) → Has s.held op → waits (answer_within limit op s.log) ≡ true
+
+-- each operation continues a log with those before it, within the limit of cells
+abbrev pub AreTakenInTurn : ℕ → List Operation → List Operation → Type 0
+AreTakenInTurn limit log [] = Unit {0}
+AreTakenInTurn limit log (op ∷ ops) = (answer_within limit op log ≡ New) × AreTakenInTurn limit (with_operation op log) ops
+
+-- WITH AMPLE MEMORY
+
+-- what requests bring, one after the other
+abbrev pub brought : ℕ → ℕ → List Request → Holding → List Operation
+brought site limit [] s = []
+brought site limit (request ∷ requests) s = brought_by site limit request s ++ brought site limit requests (after_request site limit request s)
+
+abbrev pub AllMayBeAsked : ℕ → ℕ → List Request → Holding → Type 0
+AllMayBeAsked site limit [] s = Unit {0}
+AllMayBeAsked site limit (request ∷ requests) s = MayBeAsked site s.log request × AllMayBeAsked site limit requests (after_request site limit request s)
+
+-- each held one comes too early or finds no room
+abbrev pub AllStay : ℕ → Holding → Type 0
+AllStay limit s = (op : Operation) → Has s.held op → stays (answer_within limit op s.log) ≡ true

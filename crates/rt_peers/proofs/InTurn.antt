@@ -1,0 +1,64 @@
+-- Requests that are answered before held operations are tried.
+use Rattle.std.proofs.Common.{◌≡◌, ◌⊎◌, ◌≤◌, ◌<◌, ℕ, Bool, true, false, List, Result, Ok, Err, inl, inr, length, refl, subst, sym, arith}
+use Rattle.std.specs.Prelude.{MatchBool, nat_lt}
+use Rattle.std.proofs.lemmas.Bool.Decides.{nat_tests}
+use Rattle.rt_requests.specs.declared.request.Request.{Request}
+use Rattle.rt_requests.specs.Asking.{Asked, Asks}
+use Rattle.rt_stamps.specs.declared.fault.Fault.{Fault}
+use Rattle.rt_stamps.specs.declared.fault.Fault.TheVariants.{NoMemory}
+use Rattle.rt_stamps.specs.Outcomes.{Answers}
+use Rattle.rt_stamps.specs.Words.{Word}
+use Rattle.rt_editing.specs.Edited.{Edited}
+use Rattle.rt_peers.specs.Peers.{text_led}
+use Rattle.rt_peers.specs.SiteStep.{AnswersInTurn, Tries, WidgetGives, by_widget}
+use Rattle.rt_peers.specs.State.{State}
+use Rattle.rt_peers.specs.Step.{outcome, step}
+use Rattle.rt_peers.specs.ViewStep.{Outcome}
+use Rattle.rt_peers.proofs.PeerLaws.{by_led}
+
+less : (n m : ℕ) → n < m → nat_lt n m ≡ true
+less n m h = grind (arith, nat_tests)
+
+not_less : (n m : ℕ) → m ≤ n → nat_lt n m ≡ false
+not_less n m h = grind (arith, nat_tests)
+
+-- where operations were made, held ones are tried
+pub made : (outcome : Outcome State) (old mid new : State) (result : Result (List Word) Fault) → Answers outcome old result mid
+    → length old.text.view.doc.log < length mid.text.view.doc.log → Tries mid new → AnswersInTurn outcome old result new
+made outcome old mid new result answers more tries =
+    let test = less (length old.text.view.doc.log) (length mid.text.view.doc.log) more in
+    (mid, answers, subst (λ (b : Bool). MatchBool b (Tries mid new) (new ≡ mid)) (sym test) tries)
+
+-- where none were, none are
+pub made_none : (outcome : Outcome State) (old mid : State) (result : Result (List Word) Fault) → Answers outcome old result mid
+    → length mid.text.view.doc.log ≤ length old.text.view.doc.log → AnswersInTurn outcome old result mid
+made_none outcome old mid result answers none =
+    let test = not_less (length old.text.view.doc.log) (length mid.text.view.doc.log) none in
+    (mid, answers, subst (λ (b : Bool). MatchBool b (Tries mid mid) (mid ≡ mid)) (sym test) refl)
+
+-- what is refused, or only tells something
+pub at_once : (outcome : Outcome State) (old : State) (result : Result (List Word) Fault) → Answers outcome old result old → AnswersInTurn outcome old result old
+at_once outcome old result answers = made_none outcome old old result answers (omega arith)
+
+-- a request of the widget at a place is answered by the text, which that widget leads meanwhile
+pub request_answers : (place : ℕ) (request : Request) (state : State) (led after back : Edited) (result : Result (List Word) Fault)
+    → led ≡ text_led place state.text → Answers (step led request) led result after → back ≡ text_led place after
+    → Answers (by_widget place state (λ text. step text request)) state result (record state { text = back })
+request_answers place request state led after back result l a b =
+    let answers : Answers (step (text_led place state.text) request) (text_led place state.text) result after =
+    subst (λ (t : Edited). Answers (step t request) t result after) l a in
+    subst (λ (t : Edited). Answers (by_widget place state (λ text. step text request)) state result (record state { text = t })) (sym b)
+    (by_led place state (λ text. step text request) result after answers)
+
+-- words that are refused, and words that ask for something
+pub refused_words : (place : ℕ) (words : List Word) (old : State) (asked : Asked) (fault : Fault) → Asks words asked ⊎ (asked ≡ Err NoMemory) → asked ≡ Err fault
+    → WidgetGives place words old (Err fault) old
+refused_words place words old asked fault (inl asks) is =
+    inl (Err fault, subst (Asks words) is asks, at_once (by_widget place old (λ text. outcome text (Err fault))) old (Err fault) (refl, inr refl))
+refused_words place words old asked fault (inr none) is = let same : fault ≡ NoMemory = cc (is, none) in inr (refl, inl same)
+
+pub asked_words : (place : ℕ) (words : List Word) (old new : State) (asked : Asked) (request : Request) (result : Result (List Word) Fault)
+    → Asks words asked ⊎ (asked ≡ Err NoMemory) → asked ≡ Ok request → AnswersInTurn (by_widget place old (λ text. step text request)) old result new
+    → WidgetGives place words old result new
+asked_words place words old new asked request result (inl asks) is answers = inl (Ok request, subst (Asks words) is asks, answers)
+asked_words place words old new asked request result (inr none) is answers = let no : ⊥ = cc (is, none) in absurd no

@@ -1,0 +1,24 @@
+use Rattle.std.proofs.Common.{◌∙◌, ◌+◌, ℕ, List, subst, sym}
+use Rattle.rt_ops.specs.Operations.{stamp_of}
+use Rattle.rt_store.specs.declared.cell.Cell.{Cell}
+use Rattle.rt_tags.specs.States.{Write, state_at}
+use Rattle.rt_rga.specs.Taken.{AreFallingRuns}
+use Rattle.rt_rga.proofs.PlacesAt.{place_shown}
+use Rattle.rt_rga.proofs.Within.{taken_shown, visible_count}
+use Rattle.rt_rga.proofs.describe.describe.Goals as goal
+
+-- what is found in the kept cells holds of what they show
+pub returns-clause-change : goal.returns-clause-change
+returns-clause-change g c =
+    let kept : List (Cell ℕ) = g.S.TextStore.list c.args.store.now in
+    let means : ℕ → List Write = state_at c.args.states.now in
+    let op = c.args.op.now in
+    record {
+      first = c.place_in-place.ensures ∙ sym (place_shown means (stamp_of op) op.body kept);
+      more = c.cells_more.ensures.value;
+      removed = λ place. c.in_ok-removed.ensures.removed place ∙ sym (taken_shown means op.body kept place);
+      runs = subst (λ n. AreFallingRuns n c.in_ok-removed.removed.items) (sym (visible_count means kept)) c.in_ok-removed.ensures.runs;
+      retagged = c.in_ok-retagged.ensures.retagged;
+      tagged_runs = subst (λ n. AreFallingRuns (n + 1) c.in_ok-retagged.retagged.items) (sym (visible_count means kept)) c.in_ok-retagged.ensures.runs;
+      lists = c.in_ok-lists.ensures.names;
+    }

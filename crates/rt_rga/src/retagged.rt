@@ -1,0 +1,87 @@
+// The places at which a Tag changes whether its tag is on, as runs.
+ghost use Rattle.std.specs.Prelude.{◌≡◌, ◌+◌, ◌≤◌, IfOk, IsOkUnless, ℕ, filter, length, map};
+ghost use Rattle.rt_stamps.specs.declared.limits.TheConstants.{MOST_CELLS};
+ghost use Rattle.rt_ops.specs.Operations.{Tag};
+ghost use Rattle.rt_store.specs.Cells.{AreDistinct, visible_of};
+ghost use Rattle.rt_store.specs.Shown.{shown};
+ghost use Rattle.rt_store.specs.Tagged.{AreStates};
+ghost use Rattle.rt_tags.specs.States.{IsState, IsTag, KeepsIds, is_on, name_at, state_at, write_at};
+ghost use Rattle.rt_rga.specs.Removed.{changes_kept};
+ghost use Rattle.rt_rga.specs.Taken.{AreFallingRuns, differ, is_in_runs, retags};
+
+use crate::removed::{places_of, runs_of, sort};
+use crate::tagging::{StateChange, named_cells, state_with};
+use crate::taken::PlaceRun;
+use rt_stamps::{Fault, Span, Stamp};
+use rt_store::{Cell, TextStore};
+use rt_tags::{StateId, StateTable, TagId};
+use std::alloc::Global;
+
+/// Whether a tag is on in one of two states and off in the other.
+fn do_differ(states: &StateTable, tag: TagId, before: StateId, after: StateId) -> bool
+    requires tag { IsTag states.now tag }
+    requires before { IsState states.now before }
+    requires after { IsState states.now after }
+    ensures { result ≡ differ (is_on (name_at states.now tag) (state_at states.now before)) (is_on (name_at states.now tag) (state_at states.now after)) }
+{
+    states.has(before, tag) != states.has(after, tag)
+}
+
+/// Those of some cells on which one more write of a tag changes whether it is on. Want of memory.
+#[tactic(auto, using(rt_tags::proofs::Listing::keeps_both))]
+fn changed_cells(
+    alloc: Global,
+    states: &mut StateTable,
+    cells: &[Cell<StateId>],
+    tag: TagId,
+    writer: Stamp,
+    on: bool,
+) -> Result<Vec<Cell<StateId>>, Fault>
+    requires states { AreStates states.old cells.now }
+    requires tag { IsTag states.old tag }
+    ensures cells { IfOk result (λ changed. changed.items ≡ filter (changes_kept states.old (write_at states.old tag writer on)) cells.now) }
+    ensures ids { KeepsIds states.old states.new }
+    ensures fault { IsOkUnless result Fault.NoMemory }
+{
+    let mut changed = Vec::new(alloc);
+    let mut last = None;
+    for cell in cells {
+        let after = state_with(states, cell.state, tag, writer, on, last)?;
+        last = Some(StateChange {
+            before: cell.state,
+            after,
+        });
+        if do_differ(states, tag, cell.state, after) {
+            changed.push(*cell)?;
+        }
+    }
+    Ok(changed)
+}
+
+/// The places of the visible cells of spans at which a Tag changes whether its tag is on, as runs, the
+/// last one in the text first. Takes time and memory for the stamps of the spans. Want of memory.
+pub(crate) fn retagged_in<S: TextStore>(
+    alloc: Global,
+    store: &S,
+    states: &mut StateTable,
+    spans: &[Span],
+    name: &str,
+    writer: Stamp,
+    on: bool,
+) -> Result<Vec<PlaceRun>, Fault>
+    requires agrees { S.agrees store.now states.old }
+    requires distinct { AreDistinct (S.list store.now) }
+    requires few { length (S.list store.now) ≤ MOST_CELLS }
+    ensures retagged { IfOk result (λ runs. (place : ℕ) → is_in_runs runs.items place
+        ≡ retags writer (Tag on name.now spans.now) (map (shown states.old) (S.list store.now)) place) }
+    ensures runs { IfOk result (λ runs. AreFallingRuns (length (visible_of (S.list store.now)) + 1) runs.items) }
+    ensures ids { KeepsIds states.old states.new }
+    ensures fault { IsOkUnless result Fault.NoMemory }
+{
+    let named = named_cells(alloc, store, spans)?;
+    let tag = states.number(name)?;
+    let cells = changed_cells(alloc, states, &named, tag, writer, on)?;
+    let mut places = places_of(alloc, store, &cells)?;
+    sort(&mut places);
+    runs_of(alloc, &places)
+}
