@@ -13,7 +13,8 @@ tests/bench.py replica: times a replica over the plain list that accepts typed t
 tests/bench.py tree: counts, by callgrind too, the instructions that an operation takes on the tree of a text and on the plain list, in
 a program of its own, tests/bench/tree.
 tests/bench.py growth [PROGRAM [PERCENT]]: times what an editor and its peers do, at n and at 2n (tests/bench/growth.py), in seconds of
-the processor, the least of three runs where these are short; with PERCENT, so many hundredths of each n. It is wrong where 2n takes more than 2.3 times n.
+the processor, the least of seven runs, of three where one takes a second; with PERCENT, so many hundredths of each n. It is wrong where
+2n takes more than 2.3 times n.
 Then the memory of the editing session over its visible characters, at most 200 bytes. Some twenty minutes on a busy machine.
 tests/bench.py steps [PROGRAM [COMMANDS]]: counts the instructions of a command in 4,000 and in 8,000, by callgrind too. It is wrong
 where they differ by more than a tenth.

@@ -5,7 +5,7 @@ tests/bench.py steps OUT.
 `rt try` compiles a program with a check at each step. This takes the module that it hands to clang, leaves the checks out, puts the
 hints on inlining back in, which a try drops, and compiles and links it as rt does. The counts are two to twenty-two hundredths above
 those of the program that `rt run` makes, but what a change saves shows at once, in two minutes and with no proof: about, as it leaves
-out the zeros that rt fills locals with, and functions of the kit seem to keep checks of bounds (docs/BUILDING.md). It trusts
+out the zeros that rt fills locals with, and functions of the kit seem to keep checks of bounds (docs/MEASURED.md). It trusts
 the kit's own files to look as they do now, and says so where they don't."""
 import os
 import pathlib

@@ -59,7 +59,7 @@ def received():
         ("a file given twice", ("ab", "ab"), ["receive ab", "receive ab"], ["= 1 0", "= 0 1"]),
         ("a file that is cut", ("cut",), ["receive cut", get], ["! 32 Truncated at 44 new 1 repeat 0", '= "ab\\n"']),
         ("one that is cut after it was received", ("cut", "ab"), ["receive ab", "receive cut"], ["= 1 0", "! 32 Truncated at 44 new 0 repeat 1"]),
-        ("what comes too early", ("y", "ab"), ["receive y", "receive ab", "receive y", get], ["! 36 NotYet at 8 new 0 repeat 0", "= 1 0", "= 1 0", '= "aYb\\n"']),
+        ("what comes too early", ("y", "ab"), ["receive y", "receive y", "receive ab", "receive y", get], ["= 0 0 1", "= 0 1 1", "= 2 0", "= 0 1", '= "aYb\\n"']),
         ("the greatest count", ("last",), ["receive last", ".t insert end a", get], ["= 1 0", "! 17 ClockSpent", '= "z\\n"']),
         ("no file", (), ["receive none"], ["! 20 NoFile"]),
         ("a file that wasn't given", ("ab",), ["receive deleted", "receive ./ab"], ["! 20 NoFile", "! 20 NoFile"]),
@@ -113,7 +113,7 @@ def faults_before_the_script():
     for words, name, fault in [
         (("--log", "cut"), "cut", "32 Truncated at 44"), (("--log", "empty"), "empty", "32 Truncated at 0"), (("--log", "magic"), "magic", "30 BadMagic at 0"),
         (("--log", "version"), "version", "31 BadVersion at 0"), (("--log", "short"), "short", "33 BadRecord at 8"), (("--log", "unsound"), "unsound", "34 BadStamp at 8"),
-        (("--log", "clash"), "clash", "35 Conflict at 44"), (("--log", "y"), "y", "36 NotYet at 8"), (("--log", "final"), "final", "37 BadTarget at 8"),
+        (("--log", "clash"), "clash", "35 Conflict at 44"), (("--log", "final"), "final", "37 BadTarget at 8"),
         (("--log", "missing"), "missing", "40 ReadFault"), (("--log", "folder"), "folder", "40 ReadFault"), (("--log="), "", "40 ReadFault"),
         (("missing",), "missing", "40 ReadFault"), (("folder",), "folder", "40 ReadFault"), (("ab", "cut", "missing", "folder"), "missing", "40 ReadFault"),
         (("folder", "missing"), "folder", "40 ReadFault"), (("ab", "folder", "ab", "missing"), "folder", "40 ReadFault"),

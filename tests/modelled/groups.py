@@ -23,11 +23,15 @@ class Group:
         self.files[name] = (sorted(ops, key=stamp), size)
 
     def snapshot(self, site, turn):
-        """A site's log as a file for others: the whole of it, its later operations alone, or a front of its bytes."""
+        """A site's log as a file for others: the whole of it, its later operations alone, some of them, one, or a front of its bytes."""
         ops = sorted(self.logs[site], key=stamp)
         self.write(f"{site}.{turn}", ops)
-        if ops and self.chance.random() < .3:
+        if ops and self.chance.random() < .5:
             self.write(f"{site}.{turn}.late", ops[self.chance.randrange(len(ops)):])
+        if ops and self.chance.random() < .5:
+            self.write(f"{site}.{turn}.some", [op for op in ops if self.chance.random() < .5])
+        if ops and self.chance.random() < .3:
+            self.write(f"{site}.{turn}.one", [self.chance.choice(ops)])
         if self.chance.random() < .2:
             self.write(f"{site}.{turn}.cut", ops, self.chance.randrange(len(spelling(ops))))
 

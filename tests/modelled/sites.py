@@ -4,7 +4,7 @@ import collections
 
 from modelled.undo import Action, Undo
 from modelled.widget import Widget, shared
-from modelled.words import BAD_COMMAND, BAD_OPTION, NOT_YET, NOTHING_TO_REDO, NOTHING_TO_UNDO, TRUNCATED, Refused
+from modelled.words import BAD_COMMAND, BAD_OPTION, NOTHING_TO_REDO, NOTHING_TO_UNDO, TRUNCATED, Refused
 
 # an operation: its count, site and prev; for an Insert the stamp that it goes after, the text and its tags; for a Delete the
 # stamps; for a Tag whether it is on, its name and the stamps
@@ -102,11 +102,11 @@ def truth(word):
 
 
 class Site(Widget):
-    """A site: the widget, the stamps of its characters, the operations that it has accepted, and the undo stacks."""
+    """A site: the widget, the stamps of its characters, the operations that it has accepted, those that it holds, and the undo stacks."""
 
     def __init__(self, site):
         super().__init__()
-        self.site, self.ops, self.stamps = site, [], [FINAL_STAMP]
+        self.site, self.ops, self.held, self.stamps = site, [], [], [FINAL_STAMP]
         self.undo, self.put_in, self.taken_away = Undo(), [], []
 
     def known_end(self, site):
@@ -208,6 +208,14 @@ class Site(Widget):
         return [str(int(values[words[0]]))]
 
     def command(self, name, words):
+        """The reply to a command; where it made operations, those that are held are tried then."""
+        made_before = len(self.ops)
+        reply = self.asked(name, words)
+        if len(self.ops) > made_before:
+            self.settle()
+        return reply
+
+    def asked(self, name, words):
         if name == "edit":
             return self.edit(words)
         if name == "configure":
@@ -237,18 +245,37 @@ class Site(Widget):
             if isinstance(op, Tag) and op.on:
                 self.listed([op.name])
 
-    def accept(self, op):
-        """Whether an operation is new, or that it comes too early; those of these tests are never at fault otherwise."""
-        if op in self.ops:
-            return False
+    def is_early(self, op):
         known = {FINAL_STAMP, ROOT_STAMP}.union(*map(made, self.ops))
-        if op.prev != self.known_end(op.site) or not set(named(op)) <= known:
-            raise Refused(NOT_YET)
+        return op.prev > self.known_end(op.site) or not set(named(op)) <= known
+
+    def take_and_note(self, op):
         before = self.stamps
         self.take(op)
         if self.stamps != before:
             self.undo.is_forced = True
-        return True
+
+    def settle(self):
+        """Takes held operations until none can be, the least stamp first; tells how many."""
+        count = 0
+        while ready := [op for op in self.held if not self.is_early(op)]:
+            op = min(ready, key=stamp)
+            self.held.remove(op)
+            if op.prev == self.known_end(op.site):
+                self.take_and_note(op)
+                count += 1
+        return count
+
+    def accept(self, op):
+        """How many operations are new by one that is offered; none where it is a repeat or held. Those of these tests are never at
+        fault."""
+        if op in self.ops or op in self.held:
+            return 0
+        if self.is_early(op):
+            self.held.append(op)
+            return 0
+        self.take_and_note(op)
+        return 1 + self.settle()
 
     def receive(self, file):
         """The reply to a file: a list of operations, and how many of its bytes there are."""
@@ -258,17 +285,15 @@ class Site(Widget):
         for op in ops:
             if at + len(record(op)) > size:
                 break
-            try:
-                if self.accept(op):
-                    new += 1
-                else:
-                    repeats += 1
-            except Refused as why:
-                return f"{why} at {at} new {new} repeat {repeats}"
+            repeats += op in self.ops or op in self.held
+            new += self.accept(op)
             at += len(record(op))
         if size < 8 or at < size:
             fault = TRUNCATED
-        return f"{fault} at {at if size >= 8 else 0} new {new} repeat {repeats}" if fault else f"= {new} {repeats}"
+        held = len(self.held)
+        if fault:
+            return f"{fault} at {at if size >= 8 else 0} new {new} repeat {repeats}" + (f" held {held}" if held else "")
+        return f"= {new} {repeats}" + (f" {held}" if held else "")
 
     def is_sound(self):
         """Whether the widget shows what its operations say."""
