@@ -43,7 +43,7 @@ is_new New = true
 is_new Repeat = false
 is_new (Refused fault) = false
 
--- there is a place for one more among the held ones
+-- there is no place for one more among the held ones
 abbrev pub is_full : List Operation → Bool
 is_full held = nat_le most_held (length held)
 
@@ -93,7 +93,7 @@ after_answer answer op s =
 
 -- HELD OPERATIONS ARE TRIED
 
--- when it is tried, a held one stays held that is still too early or finds no room
+-- a held one isn't tried, and stays, that is still too early or finds no room
 abbrev pub stays : Answer → Bool
 stays answer = is_early answer || has_no_room answer
 

@@ -60,7 +60,7 @@ RepeatChangesNothing =
 abbrev pub SettledSettles : Type 0
 SettledSettles = (limit : ℕ) (s : Holding) → Settles limit [] s (settled limit s) (taken_then limit s)
 
--- Then none is left that could be taken, and what was tried is as if each had found memory.
+-- Then none is left that could be taken.
 abbrev pub SettledLeavesNone : Type 0
 SettledLeavesNone = (limit : ℕ) (s : Holding) → next_held limit [] (settled limit s) ≡ None
 
@@ -76,7 +76,7 @@ CellsChangeInTurn =
     → AreTakenInTurn limit log ops
     → cells_of (with_operations ops log) ≡ all_changed ops (cells_of log)
 
--- What finds no room never finds any: cells are never given up.
+-- What finds no room isn't New after one more operation: cells are never given up.
 abbrev pub FullStays : Type 0
 FullStays =
     (limit : ℕ) (op y : Operation) (log : List Operation) → IsHistory log → keeps_rules op.body ≡ true

@@ -24,7 +24,7 @@ abbrev pub fit : ℕ → ℕ → List Body → List Operation → Bool
 fit site limit drafts log =
     nat_le (last_count_after (greatest_last_count log) drafts) GREATEST_COUNT && nat_le (length (cells_of (with_drafts site drafts log))) limit
 
--- a request accepts operations of its own: an offer that is answered New, drafts that fit
+-- a request accepts operations: the one that is offered, where it is answered New, or drafts that fit (also none)
 abbrev pub accepts : ℕ → ℕ → Request → Holding → Bool
 accepts site limit (Offer op) s = is_new (answer_within limit op s.log)
 accepts site limit (Make drafts) s = fit site limit drafts s.log

@@ -1,4 +1,4 @@
--- What a held operation waits for: counts that the known ends of sites haven't come to.
+-- The keys of a held operation: counts that known ends haven't come to, and at which its answer may change.
 use Rattle.std.specs.Prelude.{◌≡◌, ◌+◌, ◌==◌, Bool, true, false, not, ◌&&◌, ◌||◌, nat_le, nat_lt, max, min, List, [], ◌∷◌, if◌then◌else◌}
 use Rattle.std.specs.List.{flat_map, list_any}
 use Rattle.rt_stamps.specs.declared.fault.Fault.TheVariants.{BadTarget, NotYet}

@@ -21,7 +21,7 @@ pub const MOST_HELD: usize = 65_536;
 pub enum Offered {
     /// It was taken, and after it so many of those that were held.
     New { more: usize },
-    /// The site had it already, or it was held already.
+    /// The site had it already, or it comes too early and is held already.
     Repeat,
     /// It came too early, and is held.
     Held,
@@ -122,8 +122,8 @@ impl Held {
         }
     }
 
-    /// Tries held operations until none can be taken. Where one finds no memory, no other is taken in
-    /// this call.
+    /// Drops held operations that are refused for good, and takes others in their order, until none is left
+    /// that could be taken or one finds no memory; answers how many were taken.
     pub fn settle<T: Taking>(&mut self, site: &mut T) -> usize
         ensures tried { AreTried T.log T.after (T.limit site.old) (holding T.log site.old self.old) site.old
             site.new self.new result }
