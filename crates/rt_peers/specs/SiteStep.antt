@@ -101,7 +101,7 @@ pub record Gives (path : Word) (words : List Word) (old : State) (result : Resul
 -- a site receives the bytes of a file: its text does, with the operations that it holds, and its widgets stay
 pub record SiteReceives (bytes : List ℕ) (old : State) (received : Received) (new : State) : Type 0 where
   pub text : Receives text_log text_limit text_with_new bytes (record { site = old.text; held = old.held }) received
-    (record { site = new.text; held = new.held })
+      (record { site = new.text; held = new.held })
   pub widgets : new.paths ≡ old.paths
 
 -- PARTS OF A COMMAND, as private functions run them
