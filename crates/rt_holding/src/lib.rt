@@ -6,7 +6,6 @@ pub mod examples;
 mod held;
 pub mod laws;
 pub mod receiving;
-mod same;
 mod taking;
 mod trying;
 

@@ -11,9 +11,8 @@ ghost use Rattle.rt_holding.specs.Chains.{AreFewer, AreLinked, AreSound, IsSetAt
 ghost use Rattle.rt_holding.specs.Kept.{IsAt, IsInPlace, IsNextAt, by_stamp_and_arrival, ops_in, outcome_of, waits_on};
 
 use crate::chains::{Chains, Link, link_of};
-use crate::same::is_same;
 use crate::taking::Taking;
-use rt_oplog::Op;
+use rt_oplog::{Op, is_same};
 use rt_rga::Offer;
 use rt_stamps::{Fault, Stamp};
 use std::alloc::AllocError;

@@ -9,8 +9,9 @@ pub mod laws;
 pub mod log;
 mod merge;
 mod order;
-mod same;
+pub mod same;
 
 pub use file::write_file;
 pub use log::{OpLog, Refused, join};
 pub use rt_ops::{Edit, Op, Reading, Text, read_bytes, read_file, read_whole};
+pub use same::is_same;

@@ -53,8 +53,8 @@ fn is_same_edit(one: &Edit, other: &Edit) -> bool
     }
 }
 
-/// Whether two operations are the same.
-pub(crate) fn is_same(one: &Op, other: &Op) -> bool
+/// Whether two operations are the same: in stamp, previous count and all that they do.
+pub fn is_same(one: &Op, other: &Op) -> bool
     ensures { result ≡ same_operation one.now other.now }
 {
     one.stamp() == other.stamp()
