@@ -2,6 +2,7 @@ pub mod Accepted
 pub mod Ample
 pub mod Arrivals
 pub mod Arriving
+pub mod Came
 pub mod Chained
 pub mod Dropping
 pub mod Due

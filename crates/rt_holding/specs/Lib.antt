@@ -1,4 +1,5 @@
 pub mod Arrivals
+pub mod Came
 pub mod Chains
 pub mod Due
 pub mod Examples

@@ -1,5 +1,5 @@
 // What the site's widget shows, and what is asked of it.
-ghost use Rattle.std.specs.Prelude.{◌≡◌, ◌≤◌, IfOk, IsOkUnless};
+ghost use Rattle.std.specs.Prelude.{◌≡◌, ◌<◌, ◌≤◌, IfOk, IsOkUnless, length};
 ghost use Rattle.rt_stamps.specs.declared.limits.TheConstants.{MOST_CELLS};
 ghost use Rattle.rt_rga.specs.Cells.{cells_of};
 ghost use Rattle.rt_rga.specs.Histories.{IsHistory, greatest_last_count};
@@ -52,7 +52,9 @@ impl Viewer {
         ensures operations { result.now.operations ≡ self.now.doc.log }
         ensures history { IsHistory self.now.doc.log }
         ensures cells { self.now.doc.cells ≡ cells_of self.now.doc.log }
+        ensures few { length self.now.doc.cells ≤ self.now.doc.limit }
         ensures count { self.now.doc.count ≡ greatest_last_count self.now.doc.log }
+        ensures site { 0 < self.now.doc.site }
     {
         self.view.doc().log()
     }

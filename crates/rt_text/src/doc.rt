@@ -106,15 +106,18 @@ impl<S: TextStore> Doc<S> {
         })
     }
 
-    /// The log of the operations, which is a history: the document's cells are its cells, and its
-    /// count is its greatest.
+    /// The log of the operations, which is a history: the document's cells are its cells, no more than its
+    /// limit, and its count is its greatest.
     pub fn log(&self) -> &OpLog
         ensures operations { result.now.operations ≡ self.now.log }
         ensures history { IsHistory self.now.log }
         ensures cells { self.now.cells ≡ cells_of self.now.log }
+        ensures few { length self.now.cells ≤ self.now.limit }
         ensures count { self.now.count ≡ greatest_last_count self.now.log }
+        ensures site { 0 < self.now.site }
     {
         let _ = self.replica.store();
+        let _ = self.replica.site();
         self.replica.log()
     }
 

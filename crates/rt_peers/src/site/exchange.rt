@@ -1,5 +1,5 @@
 // Operations of other sites, and those of the site itself for them.
-ghost use Rattle.std.specs.Prelude.{◌≡◌, ◌≤◌, IfOk, IsOkUnless, length, reverse};
+ghost use Rattle.std.specs.Prelude.{◌≡◌, ◌<◌, ◌≤◌, IfOk, IsOkUnless, length, reverse};
 ghost use Rattle.rt_stamps.specs.declared.limits.TheConstants.{MOST_BYTES};
 ghost use Rattle.rt_ops.specs.File.{spelling};
 ghost use Rattle.rt_rga.specs.Cells.{cells_of};
@@ -40,7 +40,9 @@ impl SiteState {
         ensures operations { result.now.operations ≡ self.now.text.view.doc.log }
         ensures history { IsHistory self.now.text.view.doc.log }
         ensures cells { self.now.text.view.doc.cells ≡ cells_of self.now.text.view.doc.log }
+        ensures few { length self.now.text.view.doc.cells ≤ self.now.text.view.doc.limit }
         ensures count { self.now.text.view.doc.count ≡ greatest_last_count self.now.text.view.doc.log }
+        ensures site { 0 < self.now.text.view.doc.site }
     {
         self.text.log()
     }

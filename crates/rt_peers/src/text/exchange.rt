@@ -1,5 +1,5 @@
 // Operations of other sites, and those of the site itself for them.
-ghost use Rattle.std.specs.Prelude.{◌≡◌};
+ghost use Rattle.std.specs.Prelude.{◌≡◌, ◌<◌, ◌≤◌, length};
 ghost use Rattle.rt_rga.specs.Cells.{cells_of};
 ghost use Rattle.rt_rga.specs.Histories.{IsHistory, greatest_last_count};
 ghost use Rattle.rt_editing.specs.Edits.{text_with_new};
@@ -39,7 +39,9 @@ impl EditedText {
         ensures operations { result.now.operations ≡ self.now.view.doc.log }
         ensures history { IsHistory self.now.view.doc.log }
         ensures cells { self.now.view.doc.cells ≡ cells_of self.now.view.doc.log }
+        ensures few { length self.now.view.doc.cells ≤ self.now.view.doc.limit }
         ensures count { self.now.view.doc.count ≡ greatest_last_count self.now.view.doc.log }
+        ensures site { 0 < self.now.view.doc.site }
     {
         self.viewer.log()
     }
