@@ -6,6 +6,7 @@ pub mod Came
 pub mod Chained
 pub mod Dropping
 pub mod Due
+pub mod Exchanged
 pub mod Greatest
 pub mod Keeping
 pub mod Keys

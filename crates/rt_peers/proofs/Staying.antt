@@ -1,5 +1,5 @@
 -- The widgets of a site stay as many as they are, whatever is asked of one of them.
-use Rattle.std.proofs.Common.{◌≡◌, ◌∙◌, ℕ, suc, Bool, true, false, cond, List, [], ◌∷◌, Option, None, Some, Ok, Err, Result, ap, inl, inr, length, map, refl, sym}
+use Rattle.std.proofs.Common.{◌≡◌, ◌∙◌, ℕ, suc, Bool, true, false, cond, List, [], ◌∷◌, Option, None, Some, Ok, Err, Result, ap, inl, inr, length, map, min, refl, subst, sym, ◌-◌}
 use Rattle.std.specs.Prelude.{flat_map}
 use Rattle.std.specs.Fmt.{signed_decimal}
 use Rattle.std.specs.Option.{option_map_or}
@@ -35,7 +35,7 @@ use Rattle.rt_text.specs.declared.own_mark.OwnMark.{OwnMark}
 use Rattle.rt_text.specs.Commands.{compared, counted, deleted, got, got_list, got_one, inserted, insertion_place, position_of_index, replaced, with_pieces_at, with_range_replaced, with_tag_in, with_tags_deleted, without_ranges}
 use Rattle.rt_text.specs.Index.{place_at_index}
 use Rattle.rt_text.specs.Ranges.{ranges_of}
-use Rattle.rt_text.specs.Widgets.{Own, Viewed, own_mark_of, widget_of, with_marks, with_selections, with_tags}
+use Rattle.rt_text.specs.Widgets.{Own, Viewed, length_shown, own_mark_of, widget_of, with_marks, with_selections, with_tags}
 use Rattle.rt_undo.specs.declared.action.Kind.{Kind}
 use Rattle.rt_undo.specs.declared.action.Kind.TheVariants as kinds
 use Rattle.rt_undo.specs.Actions.{Action}
@@ -52,6 +52,7 @@ use Rattle.rt_holding.specs.Receiving.{Offers, Receives, State as Holder}
 use Rattle.rt_holding.specs.Holding.{Holding, with_taken}
 use Rattle.rt_holding.specs.Taken.{AreTried, IsOffered, all_after, holding}
 use Rattle.rt_peers.specs.SiteStep.{text_limit, text_log}
+use Rattle.rt_peers.proofs.Gaining.{Gains, IsOfSame, deleted_gain, gains_none, gains_then, group_gains, pieces_gain, ranges_gain, write_gains}
 use Rattle.rt_peers.specs.Step.{edit_step, on_view, step}
 use Rattle.rt_peers.specs.ViewStep.{Outcome, as_piece, changed_step, element_words, get_step, mark_step, one_word, tag_step, text_of_bool, told_step}
 
@@ -84,11 +85,21 @@ told_is f old (Err fault) words new h = absurd (cc h)
 same_is : {S : Type 0} (told words : List Word) (old new : S) → ◌≡◌ {A = Outcome S} (Ok (told, old)) (Ok (words, new)) → old ≡ new
 same_is {S} told words old new h = ap (λ (o : Outcome S). left_by o old) h
 
-same : (old new : Viewed) → old ≡ new → Stay old new
-same old new e = ap (λ v. length v.others) (sym e)
+-- WHAT A COMMAND CHANGES: not how many widgets there are; and of operations, the log has those more that the site makes of drafts
 
-checked : (check : Option Fault) (old value new : Viewed) → unless check value ≡ Ok new → Stay old value → Stay old new
-checked check old value new h stay = ap (λ v. length v.others) (sym (given check value new h)) ∙ stay
+pub record Steps (old new : Viewed) : Type 0 where
+  pub number : Stay old new
+  pub gains : Gains old.doc new.doc
+
+same : (old new : Viewed) → old ≡ new → Steps old new
+same old new e = subst (Steps old) e (record { number = refl; gains = gains_none old.doc })
+
+-- what is changed is no operation
+apart : (old new : Viewed) → Stay old new → new.doc.log ≡ old.doc.log → IsOfSame old.doc new.doc → Steps old new
+apart old new number log same = record { number = number; gains = record { drafts = []; log = log; same = same } }
+
+checked : (check : Option Fault) (old value new : Viewed) → unless check value ≡ Ok new → Steps old value → Steps old new
+checked check old value new h steps = subst (Steps old) (given check value new h) steps
 
 -- EDITS
 
@@ -97,24 +108,30 @@ as_many selections [] = refl
 as_many [] (own ∷ widgets) = refl
 as_many (selection ∷ selections) (own ∷ widgets) = ap suc (as_many selections widgets)
 
-pieces_stay : (view : Viewed) (place : ℕ) (pieces : List Piece) (rest : Word) → Stay view (with_pieces_at view place pieces rest)
-pieces_stay view place pieces rest = as_many _ _ ∙ length-map view.others _
+pieces_stay : (view : Viewed) (place : ℕ) (pieces : List Piece) (rest : Word) → Steps view (with_pieces_at view place pieces rest)
+pieces_stay view place pieces rest = record { number = as_many _ _ ∙ length-map view.others _; gains = pieces_gain view place pieces rest }
 
-ranges_stay : (view : Viewed) (ranges : List Range) → Stay view (without_ranges view ranges)
-ranges_stay view ranges = length-map view.others _
+ranges_stay : (view : Viewed) (ranges : List Range) → Steps view (without_ranges view ranges)
+ranges_stay view ranges = record { number = length-map view.others _; gains = ranges_gain view ranges }
 
-inserted_stays : (view new : Viewed) (index : Word) (pieces : List Piece) (rest : Word) → inserted view index pieces rest ≡ Ok new → Stay view new
+-- one change after another
+both : (old mid new : Viewed) → Steps old mid → Steps mid new → Steps old new
+both old mid new p q = record { number = q.number ∙ p.number; gains = gains_then old.doc mid.doc new.doc p.gains q.gains }
+
+inserted_stays : (view new : Viewed) (index : Word) (pieces : List Piece) (rest : Word) → inserted view index pieces rest ≡ Ok new → Steps view new
 inserted_stays view new index pieces rest h =
     let place = insertion_place (widget_of view) index in checked _ view (with_pieces_at view place pieces rest) new h (pieces_stay view place pieces rest)
 
-deleted_stays : (view new : Viewed) (indices : List Word) → deleted view indices ≡ Ok new → Stay view new
+deleted_stays : (view new : Viewed) (indices : List Word) → deleted view indices ≡ Ok new → Steps view new
 deleted_stays view new indices h =
     let ranges = ranges_of (map (place_at_index (widget_of view)) indices) in checked _ view (without_ranges view ranges) new h (ranges_stay view ranges)
 
-replaced_stays : (view new : Viewed) (from to : Word) (pieces : List Piece) (rest : Word) → replaced view from to pieces rest ≡ Ok new → Stay view new
+replaced_stays : (view new : Viewed) (from to : Word) (pieces : List Piece) (rest : Word) → replaced view from to pieces rest ≡ Ok new → Steps view new
 replaced_stays view new from to pieces rest h =
     let range : Range = record { from = place_at_index (widget_of view) from; to = place_at_index (widget_of view) to } in
-    checked _ view (with_range_replaced view range pieces rest) new h (pieces_stay (without_ranges view (range ∷ [])) _ pieces rest ∙ ranges_stay view (range ∷ []))
+    let left = without_ranges view (range ∷ []) in
+    checked _ view (with_range_replaced view range pieces rest) new h
+    (both view left (with_range_replaced view range pieces rest) (ranges_stay view (range ∷ [])) (pieces_stay left (min range.from (length_shown left - 1)) pieces rest))
 
 recorded_is : (kind : Kind) (lost : List TaggedCell) (text new : Edited) (said : Result Viewed Fault) → recorded_edit kind lost text said ≡ Ok new → said ≡ Ok new.view
 recorded_is kind lost text new (Ok view) h = ap (λ (o : Result Edited Fault). Ok (value_of o text).view) h
@@ -127,43 +144,44 @@ reverted_is text new (Ok left) h = (left.1, ap (λ (o : Result Edited Fault). Ok
 reverted_is text new (Err fault) h = absurd (cc h)
 
 group_stays : (done : List (Action (List Word)) → History (List Word) → History (List Word)) (view new : Viewed) (old history : History (List Word)) (group : List (Action (List Word)))
-    → reverted_by done view old group ≡ Ok (new, history) → Stay view new
+    → reverted_by done view old group ≡ Ok (new, history) → Steps view new
 group_stays done view new old history group h =
-    ap (λ (o : Viewed × History (List Word)). length o.0.others) (sym (given _ _ _ h)) ∙ length-map view.others _
+    let e = given _ _ _ h in
+    subst (Steps view) (λ i. (e i).0) (record { number = length-map view.others _; gains = group_gains view group })
 
 last_stays : (done : List (Action (List Word)) → History (List Word) → History (List Word)) (none : Fault) (view new : Viewed) (old history : History (List Word))
-    (group : Option (List (Action (List Word)))) → option_map_or (reverted_by done view old) group (Err none) ≡ Ok (new, history) → Stay view new
+    (group : Option (List (Action (List Word)))) → option_map_or (reverted_by done view old) group (Err none) ≡ Ok (new, history) → Steps view new
 last_stays done none view new old history None h = absurd (cc h)
 last_stays done none view new old history (Some group) h = group_stays done view new old history group h
 
-undone_by : (undo : Bool) (text new : Edited) (said : Result Edited Fault) → cond undo said (Ok text) ≡ Ok new → (said ≡ Ok new → Stay text.view new.view) → Stay text.view new.view
-undone_by true text new said h stay = stay h
-undone_by false text new said h stay = ap (λ (o : Result Edited Fault). length (value_of o text).view.others) (sym h)
+undone_by : (undo : Bool) (text new : Edited) (said : Result Edited Fault) → cond undo said (Ok text) ≡ Ok new → (said ≡ Ok new → Steps text.view new.view) → Steps text.view new.view
+undone_by true text new said h steps = steps h
+undone_by false text new said h steps = same text.view new.view (ap (λ (o : Result Edited Fault). (value_of o text).view) h)
 
-undone_stays : (text new : Edited) → text_undone text ≡ Ok new → Stay text.view new.view
+undone_stays : (text new : Edited) → text_undone text ≡ Ok new → Steps text.view new.view
 undone_stays text new h =
     undone_by text.undo text new (with_history text (undone text.view text.history)) h
     (λ e. let said = reverted_is text new (undone text.view text.history) e in last_stays undo_done NothingToUndo text.view new.view text.history said.0 (next_undo text.history) said.1)
 
-redone_stays : (text new : Edited) → text_redone text ≡ Ok new → Stay text.view new.view
+redone_stays : (text new : Edited) → text_redone text ≡ Ok new → Steps text.view new.view
 redone_stays text new h =
     undone_by text.undo text new (with_history text (redone text.view text.history)) h
     (λ e. let said = reverted_is text new (redone text.view text.history) e in last_stays redo_done NothingToRedo text.view new.view text.history said.0 (next_redo text.history) said.1)
 
 -- MARKS AND TAGS
 
-set_stays : (which : Option OwnMark) (view : Viewed) (name : Word) (place : ℕ) → Stay view (set_at which view name place)
-set_stays (Some which) view name place = refl
-set_stays None view name place = refl
+set_stays : (which : Option OwnMark) (view : Viewed) (name : Word) (place : ℕ) → Steps view (set_at which view name place)
+set_stays (Some which) view name place = apart view (set_at (Some which) view name place) refl refl (record { site = refl; limit = refl })
+set_stays None view name place = apart view (set_at None view name place) refl refl (record { site = refl; limit = refl })
 
-gravity_stays : (which : Option OwnMark) (view : Viewed) (name : Word) (gravity : Gravity) → Stay view (with_gravity which view name gravity)
-gravity_stays (Some which) view name gravity = refl
-gravity_stays None view name gravity = refl
+gravity_stays : (which : Option OwnMark) (view : Viewed) (name : Word) (gravity : Gravity) → Steps view (with_gravity which view name gravity)
+gravity_stays (Some which) view name gravity = apart view (with_gravity (Some which) view name gravity) refl refl (record { site = refl; limit = refl })
+gravity_stays None view name gravity = apart view (with_gravity None view name gravity) refl refl (record { site = refl; limit = refl })
 
-mark_stays : (view new : Viewed) (request : MarkRequest) (words : List Word) → mark_step view request ≡ Ok (words, new) → Stay view new
+pub mark_stays : (view new : Viewed) (request : MarkRequest) (words : List Word) → mark_step view request ≡ Ok (words, new) → Steps view new
 mark_stays view new (marks.Set name index) words h =
     let place = place_at_index (widget_of view) index in checked _ view (set_at (own_mark_of name) view name place) new (changed_is _ words new h) (set_stays (own_mark_of name) view name place)
-mark_stays view new (marks.Unset names) words h = checked _ view (with_marks view (without_all (all_of names) view.doc.marks)) new (changed_is _ words new h) refl
+mark_stays view new (marks.Unset names) words h = let value = with_marks view (without_all (all_of names) view.doc.marks) in checked _ view value new (changed_is _ words new h) (apart view value refl refl (record { site = refl; limit = refl }))
 mark_stays view new (marks.Gravity name) words h = same view new (told_is _ view _ words new h)
 mark_stays view new (marks.SetGravity name gravity) words h =
     checked _ view (with_gravity (own_mark_of name) view name gravity) new (changed_is _ words new h) (gravity_stays (own_mark_of name) view name gravity)
@@ -175,27 +193,27 @@ one_of_two : (own : Bool) (old one other : Viewed) → Stay old one → Stay old
 one_of_two true old one other first second = first
 one_of_two false old one other first second = second
 
-write_stays : (view : Viewed) (on : Bool) (name : Word) (ranges : List Range) → Stay view (with_tag_in view on name ranges)
-write_stays view on name ranges = one_of_two (bytes_eq name sel) view _ _ refl refl
+write_stays : (view : Viewed) (on : Bool) (name : Word) (ranges : List Range) → Steps view (with_tag_in view on name ranges)
+write_stays view on name ranges = record { number = one_of_two (bytes_eq name sel) view _ _ refl refl; gains = write_gains view on name ranges }
 
-written_stays : (on : Bool) (view new : Viewed) (name : Word) (indices : List Word) (words : List Word) → changed_step (tag_written on view name indices) ≡ Ok (words, new) → Stay view new
+written_stays : (on : Bool) (view new : Viewed) (name : Word) (indices : List Word) (words : List Word) → changed_step (tag_written on view name indices) ≡ Ok (words, new) → Steps view new
 written_stays on view new name indices words h =
     let ranges = ranges_of (map (place_at_index (widget_of view)) indices) in
     checked _ view (with_tag_in view on name ranges) new (changed_is _ words new h) (write_stays view on name ranges)
 
-tag_stays : (view new : Viewed) (request : TagRequest) (words : List Word) → tag_step view request ≡ Ok (words, new) → Stay view new
+pub tag_stays : (view new : Viewed) (request : TagRequest) (words : List Word) → tag_step view request ≡ Ok (words, new) → Steps view new
 tag_stays view new (tags.Add name indices) words h = written_stays true view new name (all_of indices) words h
 tag_stays view new (tags.Remove name indices) words h = written_stays false view new name (all_of indices) words h
-tag_stays view new (tags.Delete names) words h = checked _ view (with_tags_deleted view (all_of names)) new (changed_is _ words new h) refl
-tag_stays view new (tags.Raise name above) words h = checked _ view (with_tags view (raised name above view.doc.tags)) new (changed_is _ words new h) refl
-tag_stays view new (tags.Lower name below) words h = checked _ view (with_tags view (lowered name below view.doc.tags)) new (changed_is _ words new h) refl
+tag_stays view new (tags.Delete names) words h = checked _ view (with_tags_deleted view (all_of names)) new (changed_is _ words new h) (record { number = refl; gains = deleted_gain view (all_of names) })
+tag_stays view new (tags.Raise name above) words h = let value = with_tags view (raised name above view.doc.tags) in checked _ view value new (changed_is _ words new h) (apart view value refl refl (record { site = refl; limit = refl }))
+tag_stays view new (tags.Lower name below) words h = let value = with_tags view (lowered name below view.doc.tags) in checked _ view value new (changed_is _ words new h) (apart view value refl refl (record { site = refl; limit = refl }))
 tag_stays view new tags.Names words h = same view new (same_is _ words view new h)
 tag_stays view new (tags.NamesAt index) words h = same view new (told_is _ view _ words new h)
 tag_stays view new (tags.Ranges name) words h = same view new (told_is _ view _ words new h)
 tag_stays view new (tags.NextRange name from to) words h = same view new (told_is _ view _ words new h)
 tag_stays view new (tags.PreviousRange name to from) words h = same view new (told_is _ view _ words new h)
 
-get_stays : (view new : Viewed) (indices : List Word) (words : List Word) → get_step view indices ≡ Ok (words, new) → Stay view new
+get_stays : (view new : Viewed) (indices : List Word) (words : List Word) → get_step view indices ≡ Ok (words, new) → Steps view new
 get_stays view new [] words h = same view new (told_is (λ (texts : List Word). texts) view (got_list view []) words new h)
 get_stays view new (index ∷ []) words h = same view new (told_is one_word view (got_one view index) words new h)
 get_stays view new (from ∷ to ∷ []) words h = same view new (told_is one_word view (got view from to) words new h)
@@ -207,20 +225,20 @@ shown_is : (text new : Edited) (outcome : Outcome Viewed) (words : List Word) �
 shown_is text new (Ok answer) words h = ap (λ (o : Outcome Edited). Ok (words_by o, (left_by o text).view)) h
 shown_is text new (Err fault) words h = absurd (cc h)
 
-told_stays : {T : Type 0} (f : T → List Word) (text new : Edited) (said : Result T Fault) (words : List Word) → on_view text (told_step f text.view said) ≡ Ok (words, new) → Stay text.view new.view
+told_stays : {T : Type 0} (f : T → List Word) (text new : Edited) (said : Result T Fault) (words : List Word) → on_view text (told_step f text.view said) ≡ Ok (words, new) → Steps text.view new.view
 told_stays f text new said words h = same text.view new.view (told_is f text.view said words new.view (shown_is text new (told_step f text.view said) words h))
 
-edit_stays : (text new : Edited) (request : EditRequest) (words : List Word) → edit_step text request ≡ Ok (words, new) → Stay text.view new.view
+edit_stays : (text new : Edited) (request : EditRequest) (words : List Word) → edit_step text request ≡ Ok (words, new) → Steps text.view new.view
 edit_stays text new edits.Undo words h = undone_stays text new (changed_is (text_undone text) words new h)
 edit_stays text new edits.Redo words h = redone_stays text new (changed_is (text_redone text) words new h)
-edit_stays text new edits.Separator words h = ap (λ (o : Outcome Edited). length (left_by o text).view.others) (sym h)
-edit_stays text new edits.Reset words h = ap (λ (o : Outcome Edited). length (left_by o text).view.others) (sym h)
-edit_stays text new edits.CanUndo words h = ap (λ (o : Outcome Edited). length (left_by o text).view.others) (sym h)
-edit_stays text new edits.CanRedo words h = ap (λ (o : Outcome Edited). length (left_by o text).view.others) (sym h)
-edit_stays text new edits.Modified words h = ap (λ (o : Outcome Edited). length (left_by o text).view.others) (sym h)
-edit_stays text new (edits.SetModified on) words h = ap (λ (o : Outcome Edited). length (left_by o text).view.others) (sym h)
+edit_stays text new edits.Separator words h = same text.view new.view (ap (λ (o : Outcome Edited). (left_by o text).view) h)
+edit_stays text new edits.Reset words h = same text.view new.view (ap (λ (o : Outcome Edited). (left_by o text).view) h)
+edit_stays text new edits.CanUndo words h = same text.view new.view (ap (λ (o : Outcome Edited). (left_by o text).view) h)
+edit_stays text new edits.CanRedo words h = same text.view new.view (ap (λ (o : Outcome Edited). (left_by o text).view) h)
+edit_stays text new edits.Modified words h = same text.view new.view (ap (λ (o : Outcome Edited). (left_by o text).view) h)
+edit_stays text new (edits.SetModified on) words h = same text.view new.view (ap (λ (o : Outcome Edited). (left_by o text).view) h)
 
-step_stays : (text new : Edited) (request : Request) (words : List Word) → step text request ≡ Ok (words, new) → Stay text.view new.view
+step_stays : (text new : Edited) (request : Request) (words : List Word) → step text request ≡ Ok (words, new) → Steps text.view new.view
 step_stays text new (Insert index texts) words h =
     let pieces : List Piece = map as_piece texts.pieces in
     inserted_stays text.view new.view index pieces texts.rest
@@ -241,42 +259,53 @@ step_stays text new (Dump shown from to) words h = told_stays (flat_map element_
 step_stays text new (Mark request) words h = mark_stays text.view new.view request words (shown_is text new (mark_step text.view request) words h)
 step_stays text new (Tag request) words h = tag_stays text.view new.view request words (shown_is text new (tag_step text.view request) words h)
 step_stays text new (Edit request) words h = edit_stays text new request words h
-step_stays text new (Configure settings) words h = ap (λ (o : Outcome Edited). length (left_by o text).view.others) (sym h)
-step_stays text new (Cget option) words h = ap (λ (o : Outcome Edited). length (left_by o text).view.others) (sym h)
+step_stays text new (Configure settings) words h = same text.view new.view (ap (λ (o : Outcome Edited). (left_by o text).view) h)
+step_stays text new (Cget option) words h = same text.view new.view (ap (λ (o : Outcome Edited). (left_by o text).view) h)
 
-pub answer_stays : (old : Edited) (request : Request) (result : Result (List Word) Fault) (new : Edited) → Answers (step old request) old result new → Stay old.view new.view
+pub answer_stays : (old : Edited) (request : Request) (result : Result (List Word) Fault) (new : Edited) → Answers (step old request) old result new → Steps old.view new.view
 answer_stays old request (Ok words) new h = step_stays old new request words h
-answer_stays old request (Err fault) new h = ap (λ (t : Edited). length t.view.others) h.0
+answer_stays old request (Err fault) new h = same old.view new.view (λ i. (sym h.0 i).view)
 
 -- OPERATIONS OF OTHER SITES
 
-taken_stays : (op : Operation) (text : Edited) → Stay text.view (text_with_new op text).view
-taken_stays op text = length-map text.view.others _
+-- What each operation that is taken keeps, is kept by all that are.
+module _ (P : Edited → Type 0) (keeps : (op : Operation) (text : Edited) → P text → P (text_with_new op text)) where
+  all_keep : (ops : List Operation) (text : Edited) → P text → P (all_after text_with_new ops text)
+  all_keep [] text h = h
+  all_keep (op ∷ ops) text h = all_keep ops (text_with_new op text) (keeps op text h)
 
-pub all_taken_stay : (ops : List Operation) (text : Edited) → Stay text.view (all_after text_with_new ops text).view
-all_taken_stay [] text = refl
-all_taken_stay (op ∷ ops) text = all_taken_stay ops (text_with_new op text) ∙ taken_stays op text
+  pub tried_keep : (limit : ℕ) (state : Holding) (old new : Edited) (left : List Operation) (count : ℕ)
+      → AreTried text_log text_with_new limit state old new left count → P old → P new
+  tried_keep limit state old new left count h p = subst P (sym h.each) (all_keep h.more old p)
+
+  offered_keeps : (limit : ℕ) (op : Operation) (offered : Offered) (old : Edited) (held : List Operation) (new : Edited) (left : List Operation)
+      → IsOffered text_log text_with_new limit op offered old held new left → P old → P new
+  offered_keeps limit op (offerings.New more) old held new left h p =
+      tried_keep limit (with_taken op (holding text_log old held)) (text_with_new op old) new left more h (keeps op old p)
+  offered_keeps limit op offerings.Repeat old held new left h p = subst P (sym h.0) p
+  offered_keeps limit op offerings.Held old held new left h p = subst P (sym h.0) p
+
+  offers_keep : (ops : List Operation) (offsets : List ℕ) (ending : Option (Fault × ℕ)) (old : Holder Edited) (received : Received) (new : Holder Edited)
+      → Offers text_log text_limit text_with_new ops offsets ending old received new → P old.site → P new.site
+  offers_keep [] offsets ending old received new h p = subst (λ (s : Holder Edited). P s.site) (sym h.1) p
+  offers_keep (op ∷ ops) [] ending old received new h p = absurd h
+  offers_keep (op ∷ ops) (offset ∷ offsets) ending old received new (inl h) p = subst (λ (s : Holder Edited). P s.site) (sym h.3) p
+  offers_keep (op ∷ ops) (offset ∷ offsets) ending old received new (inr h) p =
+      offers_keep ops offsets ending h.1 h.2 new h.6 (offered_keeps (text_limit old.site) op h.0 old.site old.held h.1.site h.1.held h.4 p)
+
+  pub received_keep : (bytes : List ℕ) (old : Holder Edited) (received : Received) (new : Holder Edited)
+      → Receives text_log text_limit text_with_new bytes old received new → P old.site → P new.site
+  received_keep bytes old received new (inl h) p = offers_keep h.0 h.1 h.2 old received new h.4 p
+  received_keep bytes old received new (inr h) p = subst (λ (s : Holder Edited). P s.site) (sym h.1) p
+
+-- how many widgets there are
+taken_stays : (old : Viewed) (op : Operation) (text : Edited) → Stay old text.view → Stay old (text_with_new op text).view
+taken_stays old op text h = length-map text.view.others _ ∙ h
 
 pub tried_stay : (limit : ℕ) (state : Holding) (old new : Edited) (left : List Operation) (count : ℕ)
     → AreTried text_log text_with_new limit state old new left count → Stay old.view new.view
-tried_stay limit state old new left count h = ap (λ (t : Edited). length t.view.others) h.each ∙ all_taken_stay h.more old
-
-offered_stays : (limit : ℕ) (op : Operation) (offered : Offered) (old : Edited) (held : List Operation) (new : Edited) (left : List Operation)
-    → IsOffered text_log text_with_new limit op offered old held new left → Stay old.view new.view
-offered_stays limit op (offerings.New more) old held new left h =
-    tried_stay limit (with_taken op (holding text_log old held)) (text_with_new op old) new left more h ∙ taken_stays op old
-offered_stays limit op offerings.Repeat old held new left h = ap (λ (t : Edited). length t.view.others) h.0
-offered_stays limit op offerings.Held old held new left h = ap (λ (t : Edited). length t.view.others) h.0
-
-offers_stay : (ops : List Operation) (offsets : List ℕ) (ending : Option (Fault × ℕ)) (old : Holder Edited) (received : Received) (new : Holder Edited)
-    → Offers text_log text_limit text_with_new ops offsets ending old received new → Stay old.site.view new.site.view
-offers_stay [] offsets ending old received new h = ap (λ (s : Holder Edited). length s.site.view.others) h.1
-offers_stay (op ∷ ops) [] ending old received new h = absurd h
-offers_stay (op ∷ ops) (offset ∷ offsets) ending old received new (inl h) = ap (λ (s : Holder Edited). length s.site.view.others) h.3
-offers_stay (op ∷ ops) (offset ∷ offsets) ending old received new (inr h) =
-    offers_stay ops offsets ending h.1 h.2 new h.6 ∙ offered_stays (text_limit old.site) op h.0 old.site old.held h.1.site h.1.held h.4
+tried_stay limit state old new left count h = tried_keep (λ t. Stay old.view t.view) (taken_stays old.view) limit state old new left count h refl
 
 pub received_stays : (bytes : List ℕ) (old : Holder Edited) (received : Received) (new : Holder Edited)
     → Receives text_log text_limit text_with_new bytes old received new → Stay old.site.view new.site.view
-received_stays bytes old received new (inl h) = offers_stay h.0 h.1 h.2 old received new h.4
-received_stays bytes old received new (inr h) = ap (λ (s : Holder Edited). length s.site.view.others) h.1
+received_stays bytes old received new h = received_keep (λ t. Stay old.site.view t.view) (taken_stays old.site.view) bytes old received new h refl

@@ -1,3 +1,5 @@
+pub mod Exchange
+pub mod Lives
 pub mod Options
 pub mod PeerStep
 pub mod Peers

@@ -1,5 +1,5 @@
 -- What the commands of a site's widgets do: the reply and the site after it, or why it is refused.
-use Rattle.std.specs.Prelude.{◌≡◌, ◌⊎◌, ℕ, Bool, nat_lt, List, [], ◌∷◌, length, Option, Some, None, Result, Err, MatchBool, codes}
+use Rattle.std.specs.Prelude.{◌≡◌, ◌⊎◌, ℕ, Bool, true, nat_lt, List, [], ◌∷◌, length, Option, Some, None, Result, Err, MatchBool, codes}
 use Rattle.std.specs.Str.{bytes_eq}
 use Rattle.rt_stamps.specs.declared.fault.Fault.{Fault}
 use Rattle.rt_stamps.specs.declared.fault.Fault.TheVariants.{NoMemory, NoWidget}
@@ -17,7 +17,10 @@ use Rattle.rt_editing.specs.Edits.{text_with_new}
 use Rattle.rt_holding.specs.declared.receiving.Received.{Received}
 use Rattle.rt_holding.specs.Receiving.{Receives}
 use Rattle.rt_holding.specs.Taken.{AreTried}
-use Rattle.rt_ops.specs.Operations.{Operation}
+use Rattle.rt_holding.specs.Runs.{fit}
+use Rattle.rt_ops.specs.Operations.{Body, Operation}
+use Rattle.rt_rga.specs.Drafts.{with_drafts}
+use Rattle.rt_rga.specs.Requests.{MayBeMade}
 use Rattle.rt_peers.specs.Options.{option_outcome, option_step, settings_outcome, settings_step}
 use Rattle.rt_peers.specs.PeerStep.{peer_outcome, peer_step}
 use Rattle.rt_peers.specs.State.{State, holding_of, place_of}
@@ -65,13 +68,49 @@ pub record Tries (old new : State) : Type 0 where
   pub tried : AreTried text_log text_with_new (text_limit old.text) (holding_of old) old.text new.text new.held count
   pub widgets : new.paths ≡ old.paths
 
+-- OPERATIONS OF ITS OWN
+
+-- a site's log, its number, and how many cells it may have
+abbrev pub log_of : State → List Operation
+log_of state = text_log state.text
+
+abbrev pub site_of : State → ℕ
+site_of state = state.text.view.doc.site
+
+abbrev pub limit_of : State → ℕ
+limit_of state = text_limit state.text
+
+-- a site accepts no operation, and holds those that it held
+pub record KeepsOperations (old new : State) : Type 0 where
+  pub log : log_of new ≡ log_of old
+  pub held : new.held ≡ old.held
+  pub site : site_of new ≡ site_of old
+  pub limit : limit_of new ≡ limit_of old
+
+-- It makes operations of drafts. Each keeps the rules and names what is known when its turn comes; their counts fit, and so do all
+-- cells; the log has just these operations more.
+pub record Makes (drafts : List Body) (old new : State) : Type 0 where
+  pub may : MayBeMade (site_of old) (log_of old) drafts
+  pub fit : fit (site_of old) (limit_of old) drafts (log_of old) ≡ true
+  pub log : log_of new ≡ with_drafts (site_of old) drafts (log_of old)
+  pub held : new.held ≡ old.held
+  pub site : site_of new ≡ site_of old
+  pub limit : limit_of new ≡ limit_of old
+
+-- it makes some, and then those that it holds are tried
+pub record MakesAndTries (old mid new : State) : Type 0 where
+  pub drafts : List Body
+  pub makes : Makes drafts old mid
+  pub tries : Tries mid new
+
 -- a site made operations: its log has more than before
 abbrev pub has_made : State → State → Bool
-has_made old new = nat_lt (length old.text.view.doc.log) (length new.text.view.doc.log)
+has_made old new = nat_lt (length (log_of old)) (length (log_of new))
 
 -- A request is answered as its outcome says. Where the site made operations for it, those that it holds are tried then.
 abbrev pub AnswersInTurn : Outcome State → State → Result (List Word) Fault → State → Type 0
-AnswersInTurn outcome old result new = (mid : State) × Answers outcome old result mid × MatchBool (has_made old mid) (Tries mid new) (new ≡ mid)
+AnswersInTurn outcome old result new =
+    (mid : State) × Answers outcome old result mid × MatchBool (has_made old mid) (MakesAndTries old mid new) (KeepsOperations old mid × (new ≡ mid))
 
 -- COMMANDS
 

@@ -1,11 +1,21 @@
 // Laws of the definitions, each the contract of a function that does nothing.
-ghost use Rattle.std.specs.Prelude.{◌≡◌, ℕ, List, Ok};
+ghost use Rattle.std.specs.Prelude.{◌≡◌, ℕ, List, Ok, Result};
+ghost use Rattle.rt_stamps.specs.declared.fault.Fault.{Fault};
+ghost use Rattle.rt_stamps.specs.Outcomes.{Answers};
 ghost use Rattle.rt_stamps.specs.Words.{Word};
 ghost use Rattle.rt_rga.specs.Texts.{tagged_text};
 ghost use Rattle.rt_editing.specs.Edited.{Edited};
+ghost use Rattle.rt_holding.specs.declared.receiving.Received.{Received};
+ghost use Rattle.rt_peer_requests.specs.declared.options.NamedOption.{NamedOption};
+ghost use Rattle.rt_peer_requests.specs.declared.peers.PeerRequest.{PeerRequest};
+ghost use Rattle.rt_peer_requests.specs.declared.settings.WidgetSettings.{WidgetSettings};
+ghost use Rattle.rt_peers.specs.Exchange.{ExchangeAgrees, ReceivesWhole};
+ghost use Rattle.rt_peers.specs.Lives.{AcceptsGreatest, AcceptsHistory, AgreeInAnyOrder, LivesOn, SitesHold};
 ghost use Rattle.rt_peers.specs.Peers.{text_led};
-ghost use Rattle.rt_peers.specs.SiteStep.{by_widget};
+ghost use Rattle.rt_peers.specs.PeerStep.{destroyed};
+ghost use Rattle.rt_peers.specs.SiteStep.{AnswersInTurn, Gives, SiteReceives, by_widget, log_of, option_at, peer_step_at, settings_at};
 ghost use Rattle.rt_peers.specs.State.{HaveSame, State};
+ghost use Rattle.rt_peers.specs.ViewStep.{Outcome};
 
 use crate::SiteState;
 
@@ -27,3 +37,50 @@ pub fn sites_agree(one: &SiteState, other: &SiteState)
     let _ = one.log();
     let _ = other.log();
 }
+
+/// Sites to which the same operations came, no two of which clash, hold equal cells, and so equal text with equal
+/// tags, as soon as neither holds one that could be taken: in whatever orders they came, in whatever files and with
+/// repeats, and whatever each site made of its own between. So it is as soon as neither holds any. An operation that was
+/// refused for want of memory, of cells or of a place among the held ones counts as one that didn't come.
+pub fn sites_agree_in_any_order(one: &SiteState, other: &SiteState)
+    ensures { AgreeInAnyOrder one.now other.now }
+{
+    let _ = one.log();
+    let _ = other.log();
+}
+
+/// A site that holds nothing receives the whole log of another, as `SiteState::export` gives it, of which no operation
+/// clashes with one of its own: it comes to the join of both logs, and so do both sites that receive each other's. Only
+/// want of memory or of room ends it early.
+pub fn exchange(one: &SiteState, other: &SiteState)
+    ensures whole { ReceivesWhole one.now (log_of other.now) }
+    ensures agree { ExchangeAgrees one.now other.now }
+{
+    let _ = one.log();
+    let _ = other.log();
+}
+
+/// What a site has accepted of what came to it, and what it keeps to.
+pub fn accepted()
+    ensures greatest { AcceptsGreatest }
+    ensures history { AcceptsHistory }
+    ensures holding { SitesHold }
+{}
+
+/// Whatever a call of a site says of the site before it and after it, the site goes on from what it was: it accepts
+/// nothing, or it makes operations of its own, or it receives those of a file.
+pub fn calls()
+    ensures answers { (outcome : Outcome State) (old new : State) (result : Result (List Word) Fault)
+        → AnswersInTurn outcome old result new → LivesOn old new }
+    ensures commands { (path : Word) (words : List Word) (old new : State) (result : Result (List Word) Fault)
+        → Gives path words old result new → LivesOn old new }
+    ensures settings { (path : Word) (settings : WidgetSettings) (old new : State) (result : Result (List Word) Fault)
+        → Answers (settings_at path old settings) old result new → LivesOn old new }
+    ensures options { (path : Word) (option : NamedOption) (old new : State) (result : Result (List Word) Fault)
+        → Answers (option_at path old option) old result new → LivesOn old new }
+    ensures peers { (path : Word) (request : PeerRequest) (old new : State) (result : Result (List Word) Fault)
+        → Answers (peer_step_at path old request) old result new → LivesOn old new }
+    ensures destroyed { (path : Word) (old new : State) → destroyed path old ≡ Ok new → LivesOn old new }
+    ensures received { (bytes : List ℕ) (received : Received) (old new : State)
+        → SiteReceives bytes old received new → LivesOn old new }
+{}

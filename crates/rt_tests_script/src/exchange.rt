@@ -318,6 +318,18 @@ receive z -> ! 35 Conflict at 8 new 0 repeat 0
     (
         1,
         r#"
+receive y -> = 0 0 1
+receive z -> = 0 0 2
+.t insert 1.0 ab -> =
+.t get 1.0 end -> = "aYb\n"
+.t index insert -> = 1.3
+receive z -> ! 35 Conflict at 8 new 0 repeat 0
+receive y -> = 0 1
+"#,
+    ),
+    (
+        1,
+        r#"
 receive last -> = 1 0
 .t insert end a -> ! 17 ClockSpent
 .t get 1.0 end -> = "z\n"

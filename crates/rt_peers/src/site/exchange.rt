@@ -1,7 +1,8 @@
 // Operations of other sites, and those of the site itself for them.
-ghost use Rattle.std.specs.Prelude.{◌≡◌, ◌<◌, ◌≤◌, IfOk, IsOkUnless, length, reverse};
+ghost use Rattle.std.specs.Prelude.{◌≡◌, ◌<◌, ◌≤◌, IfOk, IsOkUnless, None, OnOk, length, reverse};
 ghost use Rattle.rt_stamps.specs.declared.limits.TheConstants.{MOST_BYTES};
 ghost use Rattle.rt_ops.specs.File.{spelling};
+ghost use Rattle.rt_ops.specs.Reading.{Reads, offsets_from};
 ghost use Rattle.rt_rga.specs.Cells.{cells_of};
 ghost use Rattle.rt_rga.specs.Histories.{IsHistory, greatest_last_count};
 ghost use Rattle.rt_peers.specs.SiteStep.{SiteReceives};
@@ -16,7 +17,7 @@ impl SiteState {
     /// Receives the bytes of a file of operations, at most `MOST_BYTES`: its operations are offered one after the
     /// other. One that is new changes the text, moves all marks, those of each widget too, and lists its tags; what
     /// is selected stays so, and where it changes the visible text it forces the modified flag. One that comes before
-    /// what it was made upon is held, 65,536 at most, and taken as soon as that is there. The first that is refused
+    /// what it was made upon is held, 65,536 at most, and tried after each one that is accepted. The first that is refused
     /// ends it, with its fault, and those before it stay accepted: `BadStamp`, `Conflict`, `BadTarget`, `TextFull`,
     /// `WaitingFull`. Else the reading's own fault is told, if it has one: `BadMagic`, `BadVersion`, `Truncated`,
     /// `BadRecord`. `NoMemory` in place of any.
@@ -47,9 +48,11 @@ impl SiteState {
         self.text.log()
     }
 
-    /// The file of the log: its operations in the order of their stamps. Want of memory.
+    /// The file of the log: its operations in the order of their stamps, as which it is read. Want of memory.
     pub fn export(&self) -> Result<Vec<u8>, Fault>
         ensures ok { IfOk result (λ bytes. bytes.items ≡ spelling (reverse self.now.text.view.doc.log)) }
+        ensures read_back { OnOk result (Reads (spelling (reverse self.now.text.view.doc.log)) (reverse self.now.text.view.doc.log)
+            (offsets_from 8 (reverse self.now.text.view.doc.log)) None) }
         ensures err { IsOkUnless result Fault.NoMemory }
     {
         export(self.alloc, self.log())

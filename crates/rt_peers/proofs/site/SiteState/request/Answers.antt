@@ -1,10 +1,12 @@
-use Rattle.std.proofs.Common.{◌<◌, ◌≤◌, ◌∙◌, ap, arith, length, refl, subst}
+use Rattle.std.proofs.Common.{◌<◌, ◌≤◌, ◌∙◌, List, ap, arith, length, refl, subst}
 use Rattle.rt_stamps.specs.Words.{as_words}
 use Rattle.rt_peers.specs.Peers.{text_led, widgets_of}
 use Rattle.rt_peers.specs.State.{State, holding_of}
-use Rattle.rt_peers.specs.SiteStep.{AnswersInTurn, Tries, by_widget, text_limit}
+use Rattle.rt_store.specs.Shown.{TaggedCell}
+use Rattle.rt_peers.specs.SiteStep.{AnswersInTurn, MakesAndTries, Tries, by_widget, limit_of, log_of, text_limit}
 use Rattle.rt_peers.specs.Step.{step}
-use Rattle.rt_peers.proofs.InTurn.{made, made_none, request_answers}
+use Rattle.rt_peers.proofs.InTurn.{made, made_none, request_answers, request_gains}
+use Rattle.rt_peers.proofs.Making.{site_keeps, site_makes}
 use Rattle.rt_peers.proofs.Staying.{answer_stays, tried_stay}
 use Rattle.rt_peers.proofs.PeerLaws.{led_number}
 use Rattle.rt_peers.proofs.site.SiteState.request.Goals as goal
@@ -14,7 +16,7 @@ lead-requires-2 c =
     let stays = answer_stays c.lead.new.self c.args.request.now c.request-reply.result c.request-reply.new.self c.request-reply.ensures in
     let led = ap (λ t. length (widgets_of t.view)) c.lead.ensures ∙ led_number c.self.inside.text.view c.args.place in
     let paths = ap (λ s. length s.paths) c.self.view_is in
-    omega (arith, stays, led, paths, c.self.invariant.each, c.requires)
+    omega (arith, stays.number, led, paths, c.self.invariant.each, c.requires)
 
 pub invariant_of-self : goal.invariant_of-self
 invariant_of-self c =
@@ -23,14 +25,14 @@ invariant_of-self c =
     let back = ap (λ t. length (widgets_of t.view)) c.lead-2.ensures ∙ led_number c.request-reply.new.self.view c.args.place in
     let mid : State = record { paths = as_words c.self.inside.paths.items; text = c.lead-2.new.self; held = c.self.inside.held } in
     let tried = tried_stay (text_limit mid.text) (holding_of mid) mid.text c.settle.new.site c.settle.new.self c.settle.result c.settle.ensures.tried in
-    record { each = omega (arith, stays, led, back, tried, c.self.invariant.each); differ = c.self.invariant.differ }
+    record { each = omega (arith, stays.number, led, back, tried, c.self.invariant.each); differ = c.self.invariant.differ }
 
 pub invariant_of-self-else-before-len : goal.invariant_of-self-else-before-len
 invariant_of-self-else-before-len c =
     let stays = answer_stays c.lead.new.self c.args.request.now c.request-reply.result c.request-reply.new.self c.request-reply.ensures in
     let led = ap (λ t. length (widgets_of t.view)) c.lead.ensures ∙ led_number c.self.inside.text.view c.args.place in
     let back = ap (λ t. length (widgets_of t.view)) c.lead-2.ensures ∙ led_number c.request-reply.new.self.view c.args.place in
-    record { each = omega (arith, stays, led, back, c.self.invariant.each); differ = c.self.invariant.differ }
+    record { each = omega (arith, stays.number, led, back, c.self.invariant.each); differ = c.self.invariant.differ }
 
 pub returns-then-before-len : goal.returns-then-before-len
 returns-then-before-len c =
@@ -41,11 +43,14 @@ returns-then-before-len c =
     let mid : State = record state { text = c.lead-2.new.self } in
     let new : State = record { paths = state.paths; text = c.settle.new.site; held = c.settle.new.self } in
     let answers = request_answers place request state c.lead.new.self c.request-reply.new.self c.lead-2.new.self result c.lead.ensures c.request-reply.ensures c.lead-2.ensures in
-    let more : length state.text.view.doc.log < length mid.text.view.doc.log =
+    let gains = request_gains place request state c.lead.new.self c.request-reply.new.self c.lead-2.new.self result c.lead.ensures c.request-reply.ensures c.lead-2.ensures in
+    let few = subst (λ (cells : List TaggedCell). length cells ≤ limit_of mid) c.log-2.ensures.cells c.log-2.ensures.few in
+    let more : length (log_of state) < length (log_of mid) =
     omega (arith, c.if-before-len.true, c.len-before.ensures, c.len.ensures, ap length c.log.ensures.operations, ap length c.log-2.ensures.operations) in
     let tries : Tries mid new = record { count = c.settle.result; tried = c.settle.ensures.tried; widgets = refl } in
+    let makes : MakesAndTries state mid new = record { drafts = gains.drafts; makes = site_makes state mid gains refl c.log-2.ensures.history few; tries = tries } in
     subst (λ (s : State). AnswersInTurn (by_widget place s (λ text. step text request)) s result new) c.self.view_is
-    (made (by_widget place state (λ text. step text request)) state mid new result answers more tries)
+    (made (by_widget place state (λ text. step text request)) state mid new result answers more makes)
 
 pub returns-else-before-len : goal.returns-else-before-len
 returns-else-before-len c =
@@ -55,7 +60,8 @@ returns-else-before-len c =
     let state : State = record { paths = as_words c.self.inside.paths.items; text = c.self.inside.text; held = c.self.inside.held } in
     let mid : State = record state { text = c.lead-2.new.self } in
     let answers = request_answers place request state c.lead.new.self c.request-reply.new.self c.lead-2.new.self result c.lead.ensures c.request-reply.ensures c.lead-2.ensures in
-    let none : length mid.text.view.doc.log ≤ length state.text.view.doc.log =
+    let gains = request_gains place request state c.lead.new.self c.request-reply.new.self c.lead-2.new.self result c.lead.ensures c.request-reply.ensures c.lead-2.ensures in
+    let none : length (log_of mid) ≤ length (log_of state) =
     omega (arith, c.if-before-len.false, c.len-before.ensures, c.len.ensures, ap length c.log.ensures.operations, ap length c.log-2.ensures.operations) in
     subst (λ (s : State). AnswersInTurn (by_widget place s (λ text. step text request)) s result mid) c.self.view_is
-    (made_none (by_widget place state (λ text. step text request)) state mid result answers none)
+    (made_none (by_widget place state (λ text. step text request)) state mid result answers none (site_keeps state mid gains refl none))

@@ -1,0 +1,46 @@
+-- A site that holds nothing receives the whole log of another.
+use Rattle.std.proofs.Common.{◌≡◌, ◌⊎◌, ◌∙◌, ℕ, List, [], None, Ok, ap, inl, inr, refl, sym}
+use Rattle.std.specs.Option.{IfSome}
+use Rattle.rt_stamps.specs.declared.fault.Fault.TheVariants.{NoMemory, TextFull}
+use Rattle.rt_ops.specs.Operations.{Operation}
+use Rattle.rt_oplog.specs.Logs.{Has, clash, joined, union}
+use Rattle.rt_oplog.proofs.Sets.{clash_sym, has_union, union_has}
+use Rattle.rt_rga.specs.Histories.{IsHistory}
+use Rattle.rt_rga.proofs.Accepting.{one_list}
+use Rattle.rt_rga.proofs.Joining.{all_free, joined_free_histories, union_history}
+use Rattle.rt_editing.specs.Edited.{Edited}
+use Rattle.rt_editing.specs.Edits.{text_with_new}
+use Rattle.rt_holding.specs.declared.receiving.Received.{Received}
+use Rattle.rt_holding.specs.Receiving.{State as Holder}
+use Rattle.rt_holding.proofs.Exchanged.{HasLog, file_ends, file_joins}
+use Rattle.rt_peers.specs.Exchange.{AreApart, ExchangeAgrees, IsFileOf, ReceivesWhole}
+use Rattle.rt_peers.specs.SiteStep.{SiteReceives, log_of, text_limit, text_log}
+use Rattle.rt_peers.specs.State.{State}
+
+abbrev holder : State → Holder Edited
+holder state = record { site = state.text; held = state.held }
+
+joins : (bytes : List ℕ) (one new : State) (log : List Operation) (received : Received) → IsFileOf bytes log → AreApart (log_of one) log → one.held ≡ [] → SiteReceives bytes one received new
+    → IsHistory (log_of one) → IsHistory log → received.fault ≡ None → HasLog text_log text_limit text_with_new (union (log_of one) log) (holder new)
+joins bytes one new log received file apart none h p q e =
+    file_joins text_log text_limit text_with_new bytes file.0 (log_of one) log (holder one) received (holder new) file.1 h.text e (record { log_is = refl; none = none }) p q apart
+
+pub receives_whole : (one : State) (log : List Operation) → IsHistory (log_of one) → IsHistory log → ReceivesWhole one log
+receives_whole one log p q bytes received new file apart none h = (
+  λ e. (let all = joins bytes one new log received file apart none h p q e in (joined_free_histories (log_of one) log p q apart ∙ ap (λ l. Ok l) (sym all.log_is), all.none)),
+  file_ends text_log text_limit text_with_new bytes file.0 (log_of one) log (holder one) received (holder new) file.1 h.text (record { log_is = refl; none = none }) p q apart,
+)
+
+turned : (one other : List Operation) (x : Operation) → Has (union one other) x → Has (union other one) x
+turned one other x i = union_has other one x (elim (has_union one other x i) [ inl j ↦ inr j | inr j ↦ inl j ])
+
+pub exchange_agrees : (one other : State) → IsHistory (log_of one) → IsHistory (log_of other) → ExchangeAgrees one other
+exchange_agrees one other p q bytes more received got new newer file back apart none empty h k e f =
+    let a = log_of one in
+    let b = log_of other in
+    let other_way : AreApart b a = λ x y i j. clash_sym x y ∙ apart y x j i in
+    let first = joins bytes one new b received file apart none h p q e in
+    let second = joins more other newer a got back other_way empty k q p f in
+    first.log_is
+    ∙ one_list (union a b) (union b a) (union_history a b p q (all_free a b p q apart)) (union_history b a q p (all_free b a q p other_way)) (λ x. (turned a b x, turned b a x))
+    ∙ sym second.log_is

@@ -1,0 +1,143 @@
+-- Documents that gain the operations of drafts, and nothing else that other sites have.
+use Rattle.std.proofs.Common.{◌≡◌, ◌∙◌, ℕ, Bool, true, false, cond, List, [], ◌∷◌, ◌++◌, Option, None, Some, reverse, refl, sym, subst}
+use Rattle.std.specs.Prelude.{option_map, unwrap_or}
+use Rattle.std.specs.Str.{bytes_eq}
+use Rattle.rt_stamps.specs.declared.limits.TheConstants.{MOST_SPANS}
+use Rattle.rt_stamps.specs.declared.stamp.Stamp.{Stamp}
+use Rattle.rt_stamps.specs.Words.{Word}
+use Rattle.rt_ops.specs.Operations.{Body}
+use Rattle.rt_rga.specs.Drafts.{with_drafts}
+use Rattle.rt_rga.proofs.Appending.{drafts_append}
+use Rattle.rt_store.specs.Shown.{TaggedCell}
+use Rattle.rt_tags.specs.Tags.{sel, without}
+use Rattle.rt_tags.specs.States.{names_on}
+use Rattle.rt_edits.specs.declared.range.Range.{Range}
+use Rattle.rt_edits.specs.Deletions.{Loss, delete_drafts, loss_in, newline_of, without_places, without_text}
+use Rattle.rt_edits.specs.Flat.{Flat, logged}
+use Rattle.rt_edits.specs.Insertions.{Piece}
+use Rattle.rt_edits.specs.Removals.{is_covered, stamps_at}
+use Rattle.rt_edits.specs.Selections.{selection_with}
+use Rattle.rt_edits.specs.TagDrafts.{deletion_drafts, tag_drafts_at}
+use Rattle.rt_edits.specs.TagWrites.{bared, listed_if, with_tag, with_tag_at, without_tag, without_tags}
+use Rattle.rt_undo.specs.Actions.{Action, Removed}
+use Rattle.rt_revert.specs.Reverting.{Reversion, as_it_is, gone_cell_of, reversion, reverted, stamp_after, with_character, with_each_reverted, with_gone, with_return, with_returns, with_reverted}
+use Rattle.rt_text.specs.Commands.{with_pieces_at, with_range_replaced, with_tag_in, with_tags_deleted, without_ranges}
+use Rattle.rt_text.specs.Replacements.{drafts_at}
+use Rattle.rt_text.specs.Reversions.{view_reverted}
+use Rattle.rt_text.specs.Widgets.{Viewed, begin_of, places_in_text, text_shown}
+
+-- THE SAME SITE AND LIMIT
+
+pub record IsOfSame (old new : Flat) : Type 0 where
+  pub site : new.site ≡ old.site
+  pub limit : new.limit ≡ old.limit
+
+of_same : (flat : Flat) → IsOfSame flat flat
+of_same flat = record { site = refl; limit = refl }
+
+of_both : (old mid new : Flat) → IsOfSame old mid → IsOfSame mid new → IsOfSame old new
+of_both old mid new p q = record { site = q.site ∙ p.site; limit = q.limit ∙ p.limit }
+
+bared_same : (flat : Flat) (stamp : Stamp) (names : List Word) → IsOfSame flat (bared flat stamp names)
+bared_same flat stamp [] = of_same flat
+bared_same flat stamp (name ∷ names) = let r = bared_same (with_tag flat name false (stamp ∷ [])) stamp names in record { site = r.site; limit = r.limit }
+
+left_same : (flat left : Flat) (newline : Option TaggedCell) → IsOfSame flat left
+    → IsOfSame flat (unwrap_or (option_map (λ (cell : TaggedCell). bared left cell.stamp (names_on cell.state)) newline) left)
+left_same flat left None same = same
+left_same flat left (Some cell) same = of_both flat left (bared left cell.stamp (names_on cell.state)) same (bared_same left cell.stamp (names_on cell.state))
+
+text_same : (flat : Flat) (loss : Loss) → IsOfSame flat (without_text flat loss)
+text_same flat loss = left_same flat (without_places flat loss.places) (newline_of flat loss) (record { site = refl; limit = refl })
+
+listed_same : (on : Bool) (name : Word) (flat : Flat) → IsOfSame flat (listed_if on name flat)
+listed_same true name flat = record { site = refl; limit = refl }
+listed_same false name flat = of_same flat
+
+one_untagged : (own : Bool) (flat other : Flat) → IsOfSame flat other → IsOfSame flat (cond own flat other)
+one_untagged true flat other same = of_same flat
+one_untagged false flat other same = same
+
+tags_same : (flat : Flat) (names : List Word) → IsOfSame flat (without_tags flat names)
+tags_same flat [] = of_same flat
+tags_same flat (name ∷ names) =
+    let off = with_tag_at flat (λ _. true) false name in
+    of_both flat (without_tag flat name) (without_tags (without_tag flat name) names)
+    (one_untagged (bytes_eq name sel) flat (record off { tags = without name off.tags }) (record { site = refl; limit = refl })) (tags_same (without_tag flat name) names)
+
+-- reverting
+
+returned_same : (removed : Removed (List Word)) (stamp : Stamp) (r : Reversion) (found : Option TaggedCell)
+    → IsOfSame r.doc (unwrap_or (option_map (λ (cell : TaggedCell). with_character stamp removed.tags cell.ch r) found) r).doc
+returned_same removed stamp r None = of_same r.doc
+returned_same removed stamp r (Some cell) = record { site = refl; limit = refl }
+
+returns_same : (removed : List (Removed (List Word))) (r : Reversion) → IsOfSame r.doc (with_returns removed r).doc
+returns_same [] r = of_same r.doc
+returns_same (one ∷ removed) r =
+    let stamp = stamp_after r.returns one.stamp in
+    of_both r.doc (with_return one r).doc (with_returns removed (with_return one r)).doc (returned_same one stamp r (gone_cell_of r.doc.cells stamp)) (returns_same removed (with_return one r))
+
+reverted_same : (actions : List (Action (List Word))) (r : Reversion) → IsOfSame r.doc (with_each_reverted actions r).doc
+reverted_same [] r = of_same r.doc
+reverted_same (action ∷ actions) r =
+    let inserted = Rattle.std.specs.Prelude.map (stamp_after r.returns) action.inserted in
+    let gone = with_gone inserted r in
+    let one = with_reverted action r in
+    let back = returns_same action.removed gone in
+    of_both r.doc one.doc (with_each_reverted actions one).doc (record { site = back.site; limit = back.limit }) (reverted_same actions one)
+
+-- OPERATIONS OF DRAFTS
+
+-- The site and the limit stay, and the log has the operations more that the site makes of some drafts.
+pub record Gains (old new : Flat) : Type 0 where
+  pub drafts : List Body
+  pub log : new.log ≡ with_drafts old.site drafts old.log
+  pub same : IsOfSame old new
+
+pub gains_none : (flat : Flat) → Gains flat flat
+gains_none flat = record { drafts = []; log = refl; same = of_same flat }
+
+pub gains_then : (old mid new : Flat) → Gains old mid → Gains mid new → Gains old new
+gains_then old mid new p q = record {
+  drafts = p.drafts ++ q.drafts;
+  log = q.log ∙ (λ i. with_drafts (p.same.site i) q.drafts (p.log i)) ∙ sym (drafts_append old.site p.drafts q.drafts old.log);
+  same = of_both old mid new p.same q.same;
+}
+
+-- EDITS
+
+pub pieces_gain : (view : Viewed) (place : ℕ) (pieces : List Piece) (rest : Word) → Gains view.doc (with_pieces_at view place pieces rest).doc
+pieces_gain view place pieces rest = record { drafts = drafts_at view place pieces rest; log = refl; same = record { site = refl; limit = refl } }
+
+pub ranges_gain : (view : Viewed) (ranges : List Range) → Gains view.doc (without_ranges view ranges).doc
+ranges_gain view ranges =
+    let loss = loss_in (text_shown view) (begin_of view) ranges in
+    let same = text_same view.doc loss in
+    record { drafts = delete_drafts MOST_SPANS view.doc loss; log = refl; same = record { site = same.site; limit = same.limit } }
+
+pub group_gains : (view : Viewed) (group : List (Action (List Word))) → Gains view.doc (view_reverted view group).doc
+group_gains view group =
+    let r = reversion view.doc group in
+    let same = reverted_same (reverse group) (as_it_is view.doc) in
+    record { drafts = r.drafts; log = refl; same = record { site = same.site; limit = same.limit } }
+
+pub deleted_gain : (view : Viewed) (names : List Word) → Gains view.doc (with_tags_deleted view names).doc
+deleted_gain view names =
+    let same = tags_same view.doc names in
+    record { drafts = deletion_drafts MOST_SPANS view.doc names; log = refl; same = record { site = same.site; limit = same.limit } }
+
+-- a tag written on the characters at some places
+abbrev tag_by : Viewed → Bool → Word → (ℕ → Bool) → Bool → Viewed
+tag_by view on name places own =
+    cond own (record view { own = record view.own { sel = selection_with on (stamps_at places 0 view.doc.cells) view.own.sel } })
+    (record view { doc = logged view.doc (tag_drafts_at MOST_SPANS places on name view.doc.cells) (listed_if on name (with_tag_at view.doc places on name)) })
+
+by_gains : (view : Viewed) (on : Bool) (name : Word) (places : ℕ → Bool) (own : Bool) → Gains view.doc (tag_by view on name places own).doc
+by_gains view on name places true = gains_none view.doc
+by_gains view on name places false =
+    let same = listed_same on name (with_tag_at view.doc places on name) in
+    record { drafts = tag_drafts_at MOST_SPANS places on name view.doc.cells; log = refl; same = record { site = same.site; limit = same.limit } }
+
+pub write_gains : (view : Viewed) (on : Bool) (name : Word) (ranges : List Range) → Gains view.doc (with_tag_in view on name ranges).doc
+write_gains view on name ranges = by_gains view on name (places_in_text view (is_covered ranges)) (bytes_eq name sel)

@@ -1,0 +1,33 @@
+-- Sites that receive each other's logs.
+use Rattle.std.specs.Prelude.{◌≡◌, ◌⊎◌, ℕ, false, List, [], reverse, None, Ok, IfSome}
+use Rattle.rt_stamps.specs.declared.fault.Fault.TheVariants.{NoMemory, TextFull}
+use Rattle.rt_ops.specs.Operations.{Operation}
+use Rattle.rt_ops.specs.Reading.{Reads}
+use Rattle.rt_oplog.specs.Logs.{Has, clash, joined}
+use Rattle.rt_holding.specs.declared.receiving.Received.{Received}
+use Rattle.rt_peers.specs.SiteStep.{SiteReceives, log_of}
+use Rattle.rt_peers.specs.State.{State}
+
+-- bytes read as the operations of a log, as those of its file do
+abbrev pub IsFileOf : List ℕ → List Operation → Type 0
+IsFileOf bytes log = (offsets : List ℕ) × Reads bytes (reverse log) offsets None
+
+-- no operation of one log clashes with one of the other
+abbrev pub AreApart : List Operation → List Operation → Type 0
+AreApart one other = (p q : Operation) → Has one p → Has other q → clash p q ≡ false
+
+-- A site that holds nothing receives the whole log of another, from which it is apart: then it has accepted the join of both logs, and
+-- holds nothing, or a fault was told; and no other than want of memory or of room is.
+abbrev pub ReceivesWhole : State → List Operation → Type 0
+ReceivesWhole one log =
+    (bytes : List ℕ) (received : Received) (new : State) → IsFileOf bytes log → AreApart (log_of one) log → one.held ≡ [] → SiteReceives bytes one received new
+    → (received.fault ≡ None → (joined (log_of one) log ≡ Ok (log_of new)) × (new.held ≡ []))
+    × IfSome received.fault (λ found. (found.0 ≡ NoMemory) ⊎ (found.0 ≡ TextFull))
+
+-- Two such sites receive each other's logs, and no fault is told: then both have one log.
+abbrev pub ExchangeAgrees : State → State → Type 0
+ExchangeAgrees one other =
+    (bytes more : List ℕ) (received got : Received) (new newer : State) → IsFileOf bytes (log_of other) → IsFileOf more (log_of one)
+    → AreApart (log_of one) (log_of other) → one.held ≡ [] → other.held ≡ []
+    → SiteReceives bytes one received new → SiteReceives more other got newer → received.fault ≡ None → got.fault ≡ None
+    → log_of new ≡ log_of newer

@@ -1,0 +1,65 @@
+-- What becomes of the operations of a site from its beginning on, call by call, and which of them came to it.
+use Rattle.std.specs.Prelude.{◌≡◌, ℕ, ◌<◌, List, [], ◌++◌}
+use Rattle.rt_ops.specs.Operations.{Operation}
+use Rattle.rt_rga.specs.Cells.{cells_of}
+use Rattle.rt_rga.specs.Drafts.{operations_of}
+use Rattle.rt_rga.specs.Histories.{IsHistory}
+use Rattle.rt_editing.specs.Edits.{text_with_new}
+use Rattle.rt_holding.specs.declared.receiving.Received.{Received}
+use Rattle.rt_holding.specs.Came.{came_with}
+use Rattle.rt_holding.specs.Runs.{AreFree, AreOf, IsGreatestHistoryWithin, IsHolding, NoneCouldBeTaken}
+use Rattle.rt_peers.specs.SiteStep.{KeepsOperations, MakesAndTries, SiteReceives, limit_of, log_of, site_of, text_limit, text_log}
+use Rattle.rt_peers.specs.State.{State, holding_of, new_state}
+
+-- the operations that a site made for a call
+abbrev pub made_by : {old mid new : State} → MakesAndTries old mid new → List Operation
+made_by {old} h = operations_of (site_of old) h.drafts (log_of old)
+
+-- the operations that came to it with a file: those that it was offered, unless memory, cells or a place among the held ones wanted
+abbrev pub came_to : (bytes : List ℕ) (old : State) (received : Received) (new : State) → SiteReceives bytes old received new → List Operation
+came_to bytes old received new h =
+    came_with text_log text_limit text_with_new bytes (record { site = old.text; held = old.held }) received (record { site = new.text; held = new.held }) h.text
+
+-- A site of a number, that may have so many cells, has come to a state, call by call: one call accepts nothing; one makes operations
+-- of the site's own, and then those that it holds are tried; one receives a file. The list has the operations that came to it, its
+-- own among them.
+pub data Lives (site limit : ℕ) : State → List Operation → Type 0 where
+  begins : 0 < site → 0 < limit → Lives site limit (new_state site limit) []
+  keeps : {old new : State} {came : List Operation} → Lives site limit old came → KeepsOperations old new → Lives site limit new came
+  makes : {old mid new : State} {came : List Operation} → Lives site limit old came → (h : MakesAndTries old mid new) → Lives site limit new (came ++ made_by h)
+  receives : {old new : State} {came : List Operation} (bytes : List ℕ) (received : Received) → Lives site limit old came
+      → (h : SiteReceives bytes old received new) → Lives site limit new (came ++ came_to bytes old received new h)
+
+-- a call of a site, from one state to another, goes on where it has come to
+abbrev pub LivesOn : State → State → Type 0
+LivesOn old new = (site limit : ℕ) (came : List Operation) → Lives site limit old came → (more : List Operation) × Lives site limit new (came ++ more)
+
+-- none of the operations that it holds could be taken, if there were memory and room: so it is where it holds none
+abbrev pub IsAtRest : State → Type 0
+IsAtRest state = NoneCouldBeTaken (limit_of state) (holding_of state)
+
+-- In whatever order operations come to two sites, in whatever files and with repeats, and whatever they make between: where the same
+-- came to both, no two of which clash, and both are at rest, they hold equal cells.
+abbrev pub AgreeInAnyOrder : State → State → Type 0
+AgreeInAnyOrder one other =
+    (site number limit most : ℕ) (came more : List Operation) → Lives site limit one came → Lives number most other more
+    → AreOf came more → AreFree came → IsAtRest one → IsAtRest other → one.text.view.doc.cells ≡ other.text.view.doc.cells
+
+-- WHAT A SITE HAS ACCEPTED
+
+-- the greatest history within what came to it
+abbrev pub AcceptsGreatest : Type 0
+AcceptsGreatest =
+    (site limit : ℕ) (state : State) (came : List Operation) → Lives site limit state came → AreFree came → IsAtRest state
+    → IsGreatestHistoryWithin came (log_of state)
+
+-- and where a history came to it, just that, with none held
+abbrev pub AcceptsHistory : Type 0
+AcceptsHistory =
+    (site limit : ℕ) (state : State) (came set : List Operation) → Lives site limit state came → IsHistory set → AreOf came set → IsAtRest state
+    → (log_of state ≡ set) × (state.held ≡ [])
+
+-- what a site that holds operations keeps to
+abbrev pub SitesHold : Type 0
+SitesHold =
+    (site limit : ℕ) (state : State) (came : List Operation) → Lives site limit state came → IsHolding limit (holding_of state)
