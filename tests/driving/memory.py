@@ -105,6 +105,56 @@ def failing_allocations_of_receive():
     check("the last of them is behind us", number < 40000, True)
 
 
+def after_one(name, line, has_ab, y):
+    """What a site has after this reply to `receive ab` or `receive y`: whether it has `ab`, and whether it knows nothing of `Y`,
+    holds it, or took it; none where no such reply may come. What is held and could be taken stays held where it found no memory."""
+    if re.fullmatch(r"! 1 NoMemory( at [0-9]+ new 0 repeat 0( held 1)?)?", line):
+        return has_ab, y
+    if name == "ab":
+        # a new `ab` has the held `Y` tried behind it; a repeat has none tried
+        may = {"= 0 1 1" if y == "held" else "= 0 1": (True, y)} if has_ab else {"= 1 0 1" if y == "held" else "= 1 0": (True, y)}
+        if y == "held" and not has_ab:
+            may["= 2 0"] = (True, "taken")
+    elif y == "taken":
+        may = {"= 0 1": (has_ab, y)}
+    elif has_ab:
+        may = {"= 1 0": (True, "taken")}
+    else:
+        may = {"= 0 1 1" if y == "held" else "= 0 0 1": (False, "held")}
+    return may.get(line)
+
+
+def failing_allocations_of_held():
+    """Each allocation fails in turn while an operation is held and tried: what finds no memory stays held, and is taken later."""
+    shim = failing_library(".")
+    if shim is None:
+        return
+    asks = ["receive y", "receive ab", ".t get 1.0 end", "receive y", "receive ab", ".t get 1.0 end", "receive y", ".t get 1.0 end"]
+    script = "".join(line + "\n" for line in asks).encode()
+    texts = {(False, "none"): '= "\\n"', (False, "held"): '= "\\n"', (True, "none"): '= "ab\\n"', (True, "held"): '= "ab\\n"', (True, "taken"): '= "aYb\\n"'}
+    left_held = late = number = quiet = 0
+    while quiet < 30 and number < 40000:
+        number += 1
+        out, err, status = without_an_allocation(shim, number, "run", "--site", "3", "ab", "y", script=script)
+        lines, known, good, kept = out.decode().splitlines(), (False, "none"), True, False
+        for ask, line in zip(asks, lines):
+            if ask.startswith("receive"):
+                after = after_one(ask.split()[1], line, *known)
+                good &= after is not None
+                kept |= after == (True, "held")
+                late += kept and after == (True, "taken")
+                known = known if after is None else after
+            else:
+                good &= line in ("! 1 NoMemory", texts[known])
+        left_held += kept
+        ended = (err, status) == (b"peertext: 1 NoMemory\n", 1)
+        check(f"held without allocation {number}: {lines} {err} {status}", good and (ended or (len(lines) == len(asks) and status == 0)), True)
+        quiet = quiet + 1 if not any("NoMemory" in line for line in lines) and not kept and not ended else 0
+    check("some held operation found no memory and stayed", left_held > 0, True)
+    check("and was taken later", late > 0, True)
+    check("the last of the allocations is behind us", number < 40000, True)
+
+
 UNDO_LINES = """.t configure -undo 1
 .t insert 1.0 hello t
 .t insert 1.2 "a\\nb" "u t"

@@ -1,6 +1,7 @@
 pub mod EndsLaws
 pub mod FilesStay
 pub mod LinesLaws
+pub mod Living
 pub mod ReadReplies
 pub mod ReplyWords
 pub mod RunLaws

@@ -1,3 +1,4 @@
+pub mod Headline
 pub mod Lines
 pub mod Pieces
 pub mod Replies

@@ -1,8 +1,9 @@
-// A law of the definitions, as the contract of a function that does nothing.
+// Laws of the definitions, each the contract of a function that does nothing.
 ghost use Rattle.std.specs.Prelude.{◌≡◌, ◌∷◌, List, codes};
 ghost use Rattle.rt_stamps.specs.Words.{Word};
 ghost use Rattle.rt_words.specs.Spelling.{Spells};
 ghost use Rattle.rt_script.specs.declared.answer.Answer.TheVariants.{Replied};
+ghost use Rattle.rt_script.specs.Headline.{RunsLive, ScriptsLiveOn};
 ghost use Rattle.rt_script.specs.Replies.{text_of_answer};
 
 /// The text of a reply spells `=` and the reply's words, whatever characters they have, and
@@ -10,4 +11,12 @@ ghost use Rattle.rt_script.specs.Replies.{text_of_answer};
 pub fn reply_is_read_back()
     ensures spells { (words : List Word) → Spells (text_of_answer (Replied words)) (codes "=" ∷ words) }
     ensures nothing_else { (words others : List Word) → Spells (text_of_answer (Replied words)) others → others ≡ codes "=" ∷ words }
+{}
+
+/// A run of a script by a site is so many calls of it, however it ends: to a site that was begun, with a log or
+/// without, and that ran a script, some operations came, and `sites_agree_in_any_order` and `accepted` of rt_peers
+/// speak of it.
+pub fn runs()
+    ensures lives { RunsLive }
+    ensures scripts { ScriptsLiveOn }
 {}

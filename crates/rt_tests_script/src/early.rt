@@ -1,4 +1,4 @@
-// Operations that come early: many of them, and a few in every order.
+// Operations that come early: many of them.
 ghost use Rattle.std.specs.Prelude.{◌≡◌, ◌≤◌};
 
 use crate::checks::same;
