@@ -77,8 +77,8 @@ refused_keeps state new fault (Err found) h = same_keeps state new h.0
 
 at_keeps : (found : Option ℕ) (does : ℕ → Outcome State) (state new : State) (result : Result (List Word) Fault)
     → ((place : ℕ) → Answers (does place) state result new → KeepsOperations state new) → Answers (at_widget found does) state result new → KeepsOperations state new
-at_keeps None does state new result keeps h = refused_keeps state new NoWidget result h
-at_keeps (Some place) does state new result keeps h = keeps place h
+at_keeps None does state new result each h = refused_keeps state new NoWidget result h
+at_keeps (Some place) does state new result each h = each place h
 
 -- OPTIONS
 
@@ -139,7 +139,7 @@ destroyed_keeps (Some place) state new h =
 
 tried_on : (b : Bool) (old mid new : State) → MatchBool b (MakesAndTries old mid new) (KeepsOperations old mid × (new ≡ mid)) → LivesOn old new
 tried_on true old mid new h site limit came l = (made_by h, makes l h)
-tried_on false old mid new h = subst (LivesOn old) (sym h.1) (kept_on old mid h.0)
+tried_on false old mid new h site limit came l = subst (LivesOn old) (sym h.1) (kept_on old mid h.0) site limit came l
 
 pub answers_on : (outcome : Outcome State) (old new : State) (result : Result (List Word) Fault) → AnswersInTurn outcome old result new → LivesOn old new
 answers_on outcome old new result h = tried_on _ old h.0 new h.2
