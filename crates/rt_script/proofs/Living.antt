@@ -77,7 +77,7 @@ words_on files (first ∷ words) old new answer h = tested (bytes_eq first (code
 -- LINES
 
 line_on : (old new : Session) (line : List ℕ) (answer : Answer) → LineGives SiteGives old line answer new → LivesOn old.site new.site
-line_on old new line answer (inl h) = words_on old.files h.1 old.site new.site answer h.3.1
+line_on old new line answer (inl h) = words_on old.files h.1.0 old.site new.site answer h.1.2.1
 line_on old new line answer (inr (inl h)) = stays_on old.site new.site (λ i. (h.2 i).site)
 line_on old new line answer (inr (inr h)) = stays_on old.site new.site (λ i. (h.2 i).site)
 

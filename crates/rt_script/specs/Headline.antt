@@ -4,10 +4,7 @@ use Rattle.std.specs.Borrow.{Bor}
 use Rattle.rt_stamps.specs.declared.limits.TheConstants.{MOST_CELLS}
 use Rattle.rt_stamps.specs.Streams.{Stream}
 use Rattle.rt_ops.specs.Operations.{Operation}
-use Rattle.rt_rga.specs.Cells.{cells_of}
-use Rattle.rt_holding.specs.Runs.{AreFree, AreOf}
-use Rattle.rt_peers.specs.Lives.{IsAtRest, Lives, LivesOn}
-use Rattle.rt_peers.specs.SiteStep.{log_of}
+use Rattle.rt_peers.specs.Lives.{Lives, LivesOn}
 use Rattle.rt_peers.specs.State.{State}
 use Rattle.rt_script.specs.declared.site_run.Outcome.{Outcome}
 use Rattle.rt_script.specs.Site.{NamedFile}
