@@ -1,7 +1,7 @@
 pub mod Arrivals
-pub mod Chains
 pub mod Due
 pub mod Examples
+pub mod Grown
 pub mod Holding
 pub mod Kept
 pub mod Laws
@@ -10,3 +10,4 @@ pub mod Replies
 pub mod Runs
 pub mod Taken
 pub mod Waiting
+pub mod Waits
