@@ -41,16 +41,34 @@ fn outcome_for<T: Taking>(site: &T, keys: &Keys, op: &Op, place: Place, lacks: b
     ensures { result ≡ outcome_of lacks (answer_within (T.limit site.now) op.now (T.log site.now)) (are_kept keys.now (T.log site.now) place op.now) }
 {
     match site.answer(op) {
-        Ok(Offer::New) => { if lacks { Outcome::Waits } else { Outcome::Taken } }
+        Ok(Offer::New) => {
+            if lacks {
+                Outcome::Waits
+            } else {
+                Outcome::Taken
+            }
+        }
         Ok(Offer::Repeat) => Outcome::Dropped,
-        Err(Fault::NotYet) => { if are_all_kept(site, keys, op, place) { Outcome::Sleeps } else { Outcome::Waits } }
+        Err(Fault::NotYet) => {
+            if are_all_kept(site, keys, op, place) {
+                Outcome::Sleeps
+            } else {
+                Outcome::Waits
+            }
+        }
         Err(Fault::TextFull) => Outcome::Waits,
         Err(_) => Outcome::Dropped,
     }
 }
 
 /// What becomes of the operation at a place that is tried.
-pub(crate) fn outcome_at<T: Taking>(site: &T, ops: &Ops, keys: &Keys, place: Place, lacks: bool) -> Outcome
+pub(crate) fn outcome_at<T: Taking>(
+    site: &T,
+    ops: &Ops,
+    keys: &Keys,
+    place: Place,
+    lacks: bool,
+) -> Outcome
     ensures { result ≡ outcome_there lacks (T.limit site.now) (T.log site.now) keys.now place (get by_stamp_and_arrival ops.now place) }
 {
     match ops.get(&place) {

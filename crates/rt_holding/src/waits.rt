@@ -189,8 +189,19 @@ fn is_span_kept<T: Taking>(site: &T, keys: &Keys, span: Span, place: Place) -> b
     if span.last <= known {
         return true;
     }
-    let count = if span.first <= known { known + 1 } else { span.first };
-    has_it(keys, Stamp { count, site: span.site }, place)
+    let count = if span.first <= known {
+        known + 1
+    } else {
+        span.first
+    };
+    has_it(
+        keys,
+        Stamp {
+            count,
+            site: span.site,
+        },
+        place,
+    )
 }
 
 /// Whether they are of all spans.
@@ -213,9 +224,23 @@ pub(crate) fn are_all_kept<T: Taking>(site: &T, keys: &Keys, op: &Op, place: Pla
     let own = op.site();
     let prev = op.prev();
     if site.known(own) < prev {
-        return has_it(keys, Stamp { count: prev, site: own }, place);
+        return has_it(
+            keys,
+            Stamp {
+                count: prev,
+                site: own,
+            },
+            place,
+        );
     }
-    if !has_it(keys, Stamp { count: prev + 1, site: own }, place) {
+    if !has_it(
+        keys,
+        Stamp {
+            count: prev + 1,
+            site: own,
+        },
+        place,
+    ) {
         return false;
     }
     match op.edit() {
@@ -245,15 +270,18 @@ fn make_room(waits: &mut Waits) -> Result<(), AllocError>
     ensures due { heap_items waits.new.due ≡ heap_items waits.old.due }
     ensures again { waits.new.again.items ≡ waits.old.again.items }
 {
-    let Some(room) = (waits.due.len() + waits.again.len() + waits.keys.len()).checked_add(1) else {
-        return Err(AllocError);
-    };
-    waits.due.reserve(room)?;
-    waits.again.reserve(room)
+    let keys = waits.keys.len() + 1;
+    waits.due.reserve(waits.again.len() + keys)?;
+    waits.again.reserve(waits.due.len() + keys)
 }
 
 /// One more key, where the known end of its site hasn't come to it.
-fn put_key<T: Taking>(site: &T, waits: &mut Waits, stamp: Stamp, place: Place) -> Result<(), AllocError>
+fn put_key<T: Taking>(
+    site: &T,
+    waits: &mut Waits,
+    stamp: Stamp,
+    place: Place,
+) -> Result<(), AllocError>
     requires { IsReady 0 waits.old }
     ensures ready { IsReady 0 waits.new }
     ensures keyed { IsKeyedMore place waits.old waits.new }
@@ -274,13 +302,26 @@ fn put_key<T: Taking>(site: &T, waits: &mut Waits, stamp: Stamp, place: Place) -
 }
 
 /// One for the first stamp of each span.
-fn put_spans<T: Taking>(site: &T, waits: &mut Waits, spans: &[Span], place: Place) -> Result<(), AllocError>
+fn put_spans<T: Taking>(
+    site: &T,
+    waits: &mut Waits,
+    spans: &[Span],
+    place: Place,
+) -> Result<(), AllocError>
     requires { IsReady 0 waits.old }
     ensures ready { IsReady 0 waits.new }
     ensures keyed { IsKeyedMore place waits.old waits.new }
 {
     for span in spans {
-        put_key(site, waits, Stamp { count: span.first, site: span.site }, place)?;
+        put_key(
+            site,
+            waits,
+            Stamp {
+                count: span.first,
+                site: span.site,
+            },
+            place,
+        )?;
     }
     Ok(())
 }
@@ -293,8 +334,24 @@ fn put_keys<T: Taking>(site: &T, waits: &mut Waits, op: &Op, place: Place) -> Re
 {
     let own = op.site();
     let prev = op.prev();
-    put_key(site, waits, Stamp { count: prev, site: own }, place)?;
-    put_key(site, waits, Stamp { count: prev.saturating_add(1), site: own }, place)?;
+    put_key(
+        site,
+        waits,
+        Stamp {
+            count: prev,
+            site: own,
+        },
+        place,
+    )?;
+    put_key(
+        site,
+        waits,
+        Stamp {
+            count: prev.saturating_add(1),
+            site: own,
+        },
+        place,
+    )?;
     match op.edit() {
         Edit::Insert { after, .. } => put_key(site, waits, *after, place),
         Edit::Delete { spans } => put_spans(site, waits, spans, place),
@@ -303,7 +360,12 @@ fn put_keys<T: Taking>(site: &T, waits: &mut Waits, op: &Op, place: Place) -> Re
 }
 
 /// The keys of an operation at a place, and room to look at it again.
-pub(crate) fn prepare<T: Taking>(site: &T, waits: &mut Waits, op: &Op, place: Place) -> Result<(), AllocError>
+pub(crate) fn prepare<T: Taking>(
+    site: &T,
+    waits: &mut Waits,
+    op: &Op,
+    place: Place,
+) -> Result<(), AllocError>
     requires { IsReady 0 waits.old }
     ensures ready { IsReady 0 waits.new }
     ensures room { OnOk result (IsReady 1 waits.new) }
@@ -333,7 +395,14 @@ fn drop_spans(keys: &mut Keys, spans: &[Span], place: Place)
     ensures fewer { length keys.new.keys ≤ length keys.old.keys }
 {
     for span in spans {
-        drop_key(keys, Stamp { count: span.first, site: span.site }, place);
+        drop_key(
+            keys,
+            Stamp {
+                count: span.first,
+                site: span.site,
+            },
+            place,
+        );
     }
 }
 
@@ -344,8 +413,22 @@ pub(crate) fn forget(keys: &mut Keys, op: &Op, place: Place)
 {
     let own = op.site();
     let prev = op.prev();
-    drop_key(keys, Stamp { count: prev, site: own }, place);
-    drop_key(keys, Stamp { count: prev.saturating_add(1), site: own }, place);
+    drop_key(
+        keys,
+        Stamp {
+            count: prev,
+            site: own,
+        },
+        place,
+    );
+    drop_key(
+        keys,
+        Stamp {
+            count: prev.saturating_add(1),
+            site: own,
+        },
+        place,
+    );
     match op.edit() {
         Edit::Insert { after, .. } => drop_key(keys, *after, place),
         Edit::Delete { spans } => drop_spans(keys, spans, place),
