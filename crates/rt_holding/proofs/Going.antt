@@ -1,39 +1,26 @@
 -- Held operations that are due are tried, the first of them each time.
-use Rattle.std.proofs.Common.{◌≡◌, ℕ, ◌+◌, ◌<◌, ◌≤◌, Bool, true, false, ◌⊎◌, inl, inr, refl, sym, ap, subst, ◌∙◌, arith, List, [], ◌∷◌, ◌++◌, Option, Some, None, cond, not, ◌&&◌, ◌||◌, ◌==◌, length, nat_lt}
-use Rattle.std.proofs.lemmas.Bool.Decides.{nat_tests}
+use Rattle.std.proofs.Common.{◌≡◌, ℕ, ◌+◌, Bool, true, false, ◌⊎◌, inl, inr, refl, sym, ap, subst, ◌∙◌, List, [], ◌∷◌, ◌++◌, Option, Some, None, cond, ◌&&◌, ◌||◌, length, nat_lt}
 use Rattle.std.specs.BTreeMap.{BTreeMap, IsOrdered, get, insert_entry, is_at}
-use Rattle.std.specs.BTreeSet.{BTreeSet, contains}
-use Rattle.std.specs.declared.collections.BinaryHeap.{BinaryHeap}
 use Rattle.std.specs.List.{AllByRecursion, list_all, list_any}
 use Rattle.std.specs.Map.{lookup, remove_entry}
 use Rattle.std.specs.Ordering.{is_eq, is_lt, match_ordering, ordering_reverse}
 use Rattle.std.specs.declared.cmp.Ordering.{Ordering}
 use Rattle.std.specs.declared.cmp.Ordering.TheVariants.{Equal, Greater, Less}
-use Rattle.rt_stamps.specs.declared.fault.Fault.TheVariants.{NotYet, TextFull}
 use Rattle.rt_stamps.specs.declared.stamp.Stamp.{Stamp}
 use Rattle.rt_stamps.specs.Stamps.{is_same}
+use Rattle.rt_stamps.proofs.Order.{same_refl, same_from_true}
 use Rattle.rt_ops.specs.Operations.{Operation}
-use Rattle.rt_oplog.specs.Logs.{Has, holds, known_end, same_operation}
-use Rattle.rt_oplog.proofs.Sets.{operation_refl}
-use Rattle.rt_store.specs.Spans.{is_among}
-use Rattle.rt_rga.specs.Answers.{Answer, New, Repeat, Refused, answer_to, answer_within, refused_if_full}
+use Rattle.rt_oplog.specs.Logs.{holds}
+use Rattle.rt_rga.specs.Answers.{Answer, New, Repeat, Refused, answer_to, refused_if_full}
 use Rattle.rt_rga.specs.Cells.{cells_of}
-use Rattle.rt_rga.specs.Histories.{IsHistory, inserted}
+use Rattle.rt_rga.specs.Histories.{inserted}
 use Rattle.rt_rga.proofs.Skipping.{split}
-use Rattle.rt_holding.specs.declared.trying.Outcome.{Outcome}
-use Rattle.rt_holding.specs.declared.trying.Outcome.TheVariants.{Taken, Waits, Sleeps, Dropped}
-use Rattle.rt_holding.specs.declared.waits.Key.{Key}
 use Rattle.rt_holding.specs.declared.waits.Waits.{Waits as Table}
-use Rattle.rt_holding.specs.Due.{AreKept}
-use Rattle.rt_holding.specs.Grown.{HasGrownBy}
 use Rattle.rt_holding.specs.Holding.{is_early, is_left, is_new, next_of, stays}
-use Rattle.rt_holding.specs.Kept.{Entry, IsInPlace, Place, by_stamp_and_arrival, ops_in, outcome_of, put_in_front}
-use Rattle.rt_holding.specs.Waiting.{WaitsAt, is_passed, keys_of}
-use Rattle.rt_holding.specs.Waits.{IsFirstDue, IsKeyedMore, IsSetAt, IsWoken, KeepsOthers, are_kept, are_tried_at, by_key, has_key, is_due, is_listed, is_tried_at, key_at, outcome_there, sleeps}
-use Rattle.rt_holding.proofs.Keys.{passed_by, unpassed_kept}
+use Rattle.rt_holding.specs.Kept.{Entry, Place, by_stamp_and_arrival, ops_in, put_in_front}
+use Rattle.rt_holding.specs.Waits.{are_kept, are_tried_at, is_due, is_listed, is_tried_at, sleeps}
 use Rattle.rt_holding.proofs.Places.{places_total}
-use Rattle.rt_holding.proofs.Standing.{at_found, each_found, found_all, own_place, there_before, this_place}
-use Rattle.rt_holding.proofs.Waiting.{unpassed_stay}
+use Rattle.rt_holding.proofs.Standing.{at_found, each_found, found_all, this_place}
 
 -- TESTS
 
@@ -58,23 +45,14 @@ all_at p [] h s k = absurd (cc k)
 all_at p (x ∷ xs) h s k =
     let (i, j) = both (p x) (list_all p xs) h in
     split (is_same x s)
-    (λ e. subst (λ t. p t ≡ true) (same x s e) i)
+    (λ e. subst (λ t. p t ≡ true) (same_from_true x s e) i)
     (λ e. all_at p xs j s (rw e at k))
-  where
-    same : (x s : Stamp) → is_same x s ≡ true → x ≡ s
-    same x s e =
-        let c : x.count ≡ s.count = grind (arith, nat_tests, e) in
-        let t : x.site ≡ s.site = grind (arith, nat_tests, e) in
-        ap (λ n. record { count = n; site = x.site }) c ∙ ap (λ n. record { count = s.count; site = n }) t
 
 pub all_from : (p : Stamp → Bool) (xs : List Stamp) → ((s : Stamp) → list_any (λ t. is_same t s) xs ≡ true → p s ≡ true) → list_all p xs ≡ true
 all_from p [] f = refl
 all_from p (x ∷ xs) f =
-    let i : p x ≡ true = f x (here x) in
+    let i : p x ≡ true = f x (or_left (is_same x x) (list_any (λ t. is_same t x) xs) (same_refl x)) in
     rw i (all_from p xs (λ s h. f s (or_right (is_same x s) (list_any (λ t. is_same t s) xs) h)))
-  where
-    here : (x : Stamp) → (is_same x x || list_any (λ t. is_same t x) xs) ≡ true
-    here x = let i : is_same x x ≡ true = grind (arith, nat_tests) in rw i refl
 
 -- WHAT IS LEFT
 

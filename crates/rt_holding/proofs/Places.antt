@@ -4,7 +4,7 @@ use Rattle.std.proofs.lemmas.Bool.Decides.{nat_tests}
 use Rattle.std.proofs.lemmas.Cmp.{nat_cmp_total, on_total, then_total}
 use Rattle.std.proofs.lemmas.Map.Keys.{sorted_head, sorted_tail}
 use Rattle.std.specs.Cmp.{IsTotalOrder}
-use Rattle.std.specs.List.{AllByRecursion, filter}
+use Rattle.std.specs.List.{AllByRecursion}
 use Rattle.std.specs.List.Sorted.{IsStrictlySortedBy}
 use Rattle.std.specs.Map.{keys_of, lookup, remove_entry}
 use Rattle.std.specs.BTreeMap.Range.{entries_between, range_contains}
@@ -19,10 +19,9 @@ use Rattle.rt_ops.specs.Operations.{Operation, has_bad_stamp, stamp_of}
 use Rattle.rt_ops.specs.Rules.{keeps_rules}
 use Rattle.rt_oplog.specs.Logs.{Has, holds, same_operation}
 use Rattle.rt_oplog.proofs.Sets.{operation_refl, operation_sym, operation_true}
-use Rattle.rt_rga.specs.Answers.{answer_within}
 use Rattle.rt_rga.proofs.Skipping.{split}
 use Rattle.std.proofs.lemmas.List.{take-append-drop}
-use Rattle.rt_holding.specs.Holding.{most_held, put_held, waits, without}
+use Rattle.rt_holding.specs.Holding.{most_held, put_held, without}
 use Rattle.rt_holding.specs.Kept.{AreHeld, Entry, IsAt, IsInPlace, Place, by_stamp_and_arrival, ops_in, put_in_front}
 use Rattle.rt_holding.specs.Runs.{AreOnce, AreRising}
 use Rattle.rt_holding.proofs.Keeping.{has_put, without_has}

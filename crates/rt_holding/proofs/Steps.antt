@@ -1,13 +1,12 @@
 -- How each try of a held operation goes on.
-use Rattle.std.proofs.Common.{◌≡◌, ℕ, suc, ◌+◌, ◌*◌, ◌<◌, ◌≤◌, Bool, true, false, ◌⊎◌, inl, inr, refl, sym, ap, subst, ◌∙◌, arith, List, [], ◌∷◌, Option, Some, None, cond, ◌&&◌, ◌||◌, ◌==◌, length, nat_lt, suc-mul}
+use Rattle.std.proofs.Common.{◌≡◌, ℕ, suc, ◌+◌, ◌*◌, ◌<◌, ◌≤◌, Bool, true, false, ◌⊎◌, inl, inr, refl, sym, ap, subst, ◌∙◌, arith, List, [], ◌∷◌, Option, Some, None, ◌&&◌, ◌||◌, ◌==◌, length, nat_lt, suc-mul}
 use Rattle.std.specs.BTreeMap.{BTreeMap, IsOrdered, get, is_at}
-use Rattle.std.specs.BTreeSet.{BTreeSet, contains}
+use Rattle.std.specs.BTreeSet.{BTreeSet}
 use Rattle.std.specs.declared.alloc.Global.{Global}
 use Rattle.std.specs.declared.cmp.Reverse.{Reverse}
 use Rattle.std.specs.declared.collections.BinaryHeap.{BinaryHeap}
 use Rattle.std.specs.List.{list_all, list_any}
 use Rattle.std.specs.Map.{lookup, remove_entry}
-use Rattle.std.specs.Ordering.{is_lt}
 use Rattle.rt_stamps.specs.declared.fault.Fault.TheVariants.{NotYet, TextFull}
 use Rattle.rt_stamps.specs.declared.stamp.Stamp.{Stamp}
 use Rattle.rt_ops.specs.Operations.{Operation}
@@ -23,12 +22,12 @@ use Rattle.rt_holding.specs.declared.waits.Key.{Key}
 use Rattle.rt_holding.specs.declared.waits.Waits.{Waits as Table}
 use Rattle.rt_holding.specs.Due.{AreKept}
 use Rattle.rt_holding.specs.Grown.{HasGrownBy}
-use Rattle.rt_holding.specs.Holding.{Holding, is_early, is_left, is_new, next_of, stays, without}
-use Rattle.rt_holding.specs.Kept.{AreHeld, Entry, IsAt, IsNewAt, Place, by_stamp_and_arrival, ops_in, outcome_of}
+use Rattle.rt_holding.specs.Holding.{Holding, is_early, is_left, is_new, stays}
+use Rattle.rt_holding.specs.Kept.{AreHeld, IsAt, IsNewAt, Place, by_stamp_and_arrival, ops_in, outcome_of}
 use Rattle.rt_holding.specs.Taken.{AreTried, holding}
 use Rattle.rt_holding.specs.Waiting.{WaitsAt, is_passed, keys_of}
 use Rattle.rt_holding.specs.Waits.{IsFirstDue, IsSetAt, IsWoken, KeepsOthers, are_kept, are_tried_at, has_key, is_due, is_listed, key_at, outcome_there, sleeps}
-use Rattle.rt_holding.proofs.Going.{AreReady, IsLeftAt, all_at, all_from, both, either, next_due, none_due, or_left, or_right, tried_in, tried_now}
+use Rattle.rt_holding.proofs.Going.{AreReady, all_at, all_from, both, either, next_due, none_due, or_left, or_right, tried_in, tried_now}
 use Rattle.rt_holding.proofs.Keys.{other_end, passed_by, unpassed_kept}
 use Rattle.rt_holding.proofs.Places.{get_at, taken_from}
 use Rattle.rt_holding.proofs.Standing.{at_found, own_place, there_before, this_place}

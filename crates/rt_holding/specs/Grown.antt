@@ -1,5 +1,5 @@
 -- What callers see of the operations that a site holds, and how its log has grown since they were last tried.
-use Rattle.std.specs.Prelude.{◌≡◌, ◌==◌, ℕ, Bool, true, false, List}
+use Rattle.std.specs.Prelude.{◌≡◌, ◌==◌, ℕ, true, false, List}
 use Rattle.std.specs.BTreeSet.{BTreeSet}
 use Rattle.rt_ops.specs.Operations.{Operation}
 use Rattle.rt_oplog.specs.Logs.{known_end}

@@ -138,12 +138,12 @@ impl Held {
         ensures limit { T.limit site.new ≡ T.limit site.old }
         ensures log { AreTriedAt (T.log site.new) self.new }
     {
+        wake(&mut self.waits, made_by, site.known(made_by));
         if self.ops.len() == 0 {
             return 0;
         }
         let mut taken = 0;
         let mut lacks = false;
-        wake(&mut self.waits, made_by, site.known(made_by));
         while let Some(place) = pop_first(&mut self.waits.due) {
             match outcome_at(site, &self.ops, &self.waits.keys, place, lacks) {
                 Outcome::Taken => {

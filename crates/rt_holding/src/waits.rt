@@ -189,11 +189,7 @@ fn is_span_kept<T: Taking>(site: &T, keys: &Keys, span: Span, place: Place) -> b
     if span.last <= known {
         return true;
     }
-    let count = if span.first <= known {
-        known + 1
-    } else {
-        span.first
-    };
+    let count = span.first.max(known + 1);
     has_it(
         keys,
         Stamp {

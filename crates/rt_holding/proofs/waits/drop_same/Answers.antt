@@ -1,7 +1,7 @@
-use Rattle.std.proofs.Common.{◌≡◌, ◌||◌, ◌∙◌, arith, true}
-use Rattle.std.specs.BinaryHeap.{heap_capacity, heap_items, heap_len}
+use Rattle.std.proofs.Common.{◌∙◌, arith}
+use Rattle.std.specs.BinaryHeap.{heap_items, heap_len}
 use Rattle.std.specs.BTreeMap.{is_at}
-use Rattle.rt_holding.specs.Kept.{Place, by_stamp_and_arrival}
+use Rattle.rt_holding.specs.Kept.{by_stamp_and_arrival}
 use Rattle.rt_holding.specs.Waits.{is_due}
 use Rattle.rt_holding.proofs.Passing.{either_more, heap_popped, none_popped, popped, same_place, shorter_popped}
 use Rattle.rt_holding.proofs.waits.drop_same.Goals as goal

@@ -1,14 +1,14 @@
-use Rattle.std.proofs.Common.{◌≡◌, ◌∙◌, refl, ℕ, ◌+◌, ◌*◌, ◌<◌, ◌≤◌, List, [], None, inr, true, arith, ap, length, subst, sym, suc}
+use Rattle.std.proofs.Common.{◌∙◌, refl, ◌≤◌, List, [], inr, true, arith, ap, length, subst, sym}
 use Rattle.std.proofs.lemmas.List.{nil_from_length}
 use Rattle.std.specs.BTreeMap.{get}
 use Rattle.std.specs.BinaryHeap.{heap_len}
 use Rattle.rt_ops.specs.Operations.{Operation}
 use Rattle.rt_rga.specs.Histories.{IsHistory}
 use Rattle.rt_holding.specs.Grown.{AreTriedAt, HeldValue}
-use Rattle.rt_holding.specs.Holding.{is_new}
+use Rattle.rt_holding.specs.Holding.{is_new, next_of}
 use Rattle.rt_holding.specs.Kept.{AreHeld, IsNewAt, by_stamp_and_arrival, ops_in}
 use Rattle.rt_holding.specs.Taken.{AreTried, holding}
-use Rattle.rt_holding.specs.Waits.{IsReady, all_listed, outcome_there}
+use Rattle.rt_holding.specs.Waits.{all_listed, outcome_there}
 use Rattle.rt_holding.proofs.Steps.{IsGoing, IsThere, done_in, dropped, fewer_ops, going, same_entries, slept, stayed, taken_new, took, waits_there}
 use Rattle.rt_holding.proofs.Places.{get_at}
 use Rattle.rt_holding.proofs.Tries.{begins, ends}
@@ -19,9 +19,11 @@ returns-then-len-eq0-clause-tried g c =
     let log = g.T.Taking.log in
     let site = c.args.site.now in
     let limit = g.T.Taking.limit site in
-    let none : c.args.self.now.held ≡ [] = ap (λ (v : HeldValue). v.held) (sym c.self.view_is) ∙ ap ops_in (nil_from_length c.self.inside.ops.entries (sym c.len.ensures.len ∙ c.if-len-eq0.true)) in
-    subst (λ (held : List Operation). AreTried log g.T.Taking.after limit (holding log site held) site site held 0) (sym none)
-    (ends log g.T.Taking.after limit [] (holding log site []) site site [] 0 (begins log g.T.Taking.after limit site []) refl)
+    let entries = c.self.inside.ops.entries in
+    let none = nil_from_length entries (sym c.len.ensures.len ∙ c.if-len-eq0.true) in
+    subst (λ (held : List Operation). AreTried log g.T.Taking.after limit (holding log site held) site site (ops_in entries) 0) (ap (λ (v : HeldValue). v.held) c.self.view_is)
+    (ends log g.T.Taking.after limit [] (holding log site (ops_in entries)) site site (ops_in entries) 0 (begins log g.T.Taking.after limit site (ops_in entries))
+    (ap (λ es. next_of limit [] (log site) (ops_in es)) none))
 
 pub loop-place-init : goal.loop-place-init
 loop-place-init g c = record {
@@ -220,8 +222,8 @@ loop-place-preserved g c =
       all = omega (arith, all, popped, fewer);
     }
 
-pub invariant_of-self : goal.invariant_of-self
-invariant_of-self g c =
+pub invariant_of-self-in_default : goal.invariant_of-self-in_default
+invariant_of-self-in_default g c =
     let b = c.loop-place.invariant in
     let due = b.waits.due in
     let again = b.waits.again in
