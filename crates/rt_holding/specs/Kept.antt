@@ -1,5 +1,5 @@
--- How held operations are kept, in a map by their stamps and by when they came; and how the code tries them. No public clause
--- cites these.
+-- How held operations are kept, in a map by their stamps and by when they came; and how the code tries them. Public clauses
+-- cite these by `AreTriedAt` alone.
 use Rattle.std.specs.Prelude.{◌≡◌, ◌<◌, ◌≤◌, ℕ, Bool, true, false, List, [], ◌∷◌, ◌++◌, length, Option, Some, None, IsSomeAnd, if◌then◌else◌}
 use Rattle.std.specs.List.{AllByRecursion}
 use Rattle.std.specs.Ordering.{nat_cmp, ordering_then}

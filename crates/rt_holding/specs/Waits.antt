@@ -1,4 +1,4 @@
--- What held operations wait for, as the code keeps it. No public clause cites these.
+-- What held operations wait for, as the code keeps it. Public clauses cite these by `AreTriedAt` alone.
 use Rattle.std.specs.Prelude.{◌≡◌, ◌+◌, ◌≤◌, ℕ, Bool, true, false, cond, ◌&&◌, ◌||◌, List, length, Option, Some, None, vec_len, vec_capacity}
 use Rattle.std.specs.declared.cmp.Reverse.{Reverse}
 use Rattle.std.specs.declared.cmp.Ordering.{Ordering}
