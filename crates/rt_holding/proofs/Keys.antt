@@ -53,7 +53,7 @@ keys_unpassed log op w =
 
 -- ANOTHER OPERATION
 
-other_end : (y : Operation) (older : List Operation) (site : ℕ) → (y.site == site) ≡ false → known_end (with_operation y older) site ≡ known_end older site
+pub other_end : (y : Operation) (older : List Operation) (site : ℕ) → (y.site == site) ≡ false → known_end (with_operation y older) site ≡ known_end older site
 other_end y [] site e = rw e refl
 other_end y (q ∷ older) site e =
     let i = other_end y older site e in
@@ -62,18 +62,23 @@ other_end y (q ∷ older) site e =
       | false ↦ ap (λ n. cond (q.site == site) (max (last_count q) n) n) i
     ]
 
+-- where only one site's known end has moved
+pub passed_by : (kept : ℕ → ℕ → Bool) (older log : List Operation) (by : ℕ) (op : Operation) → ((other : ℕ) → (by == other) ≡ false → known_end log other ≡ known_end older other)
+    → WaitsAt older op → AreKept kept older op → list_any (is_passed log) (keys_of older op) ≡ true → (count : ℕ) × (count ≤ known_end log by) × (kept by count ≡ true)
+passed_by kept older log by op others w k e =
+    let (key, i, p) = some_named (is_passed log) (keys_of older op) e in
+    let n = none_at (is_passed older) (keys_of older op) (keys_unpassed older op w) key i in
+    split (by == key.site)
+    (λ s. let t : key.site ≡ by = grind (arith, nat_tests, s) in
+    let l : key.count ≤ known_end log key.site = grind (arith, nat_tests, p) in
+    let m = ap (known_end log) t in
+    (key.count, omega (arith, l, m), subst (λ site. kept site key.count ≡ true) t (k key i)))
+    (λ s. absurd (let m = others key.site s in
+    let p' : nat_le key.count (known_end older key.site) ≡ true = subst (λ end. nat_le key.count end ≡ true) m p in cc (p', n)))
+
 pub passed_found : (kept : ℕ → ℕ → Bool) (older : List Operation) (y op : Operation) → WaitsAt older op → AreKept kept older op → list_any (is_passed (with_operation y older)) (keys_of older op) ≡ true
     → (count : ℕ) × (count ≤ known_end (with_operation y older) y.site) × (kept y.site count ≡ true)
-passed_found kept older y op w k e =
-    let (key, i, p) = some_named (is_passed (with_operation y older)) (keys_of older op) e in
-    let n = none_at (is_passed older) (keys_of older op) (keys_unpassed older op w) key i in
-    split (y.site == key.site)
-    (λ s. let t : key.site ≡ y.site = grind (arith, nat_tests, s) in
-    let l : key.count ≤ known_end (with_operation y older) key.site = grind (arith, nat_tests, p) in
-    let m = ap (known_end (with_operation y older)) t in
-    (key.count, omega (arith, l, m), subst (λ site. kept site key.count ≡ true) t (k key i)))
-    (λ s. absurd (let m = other_end y older key.site s in
-    let p' : nat_le key.count (known_end older key.site) ≡ true = subst (λ end. nat_le key.count end ≡ true) m p in cc (p', n)))
+passed_found kept older y op w k e = passed_by kept older (with_operation y older) y.site op (λ site n. other_end y older site n) w k e
 
 pub unpassed_kept : (kept left : ℕ → ℕ → Bool) (older log : List Operation) (op : Operation) → IsHistory older → IsHistory log → AreIn older log → WaitsAt older op
     → AreKept kept older op → NoneIsPassed older log op → ((site count : ℕ) → known_end log site < count → left site count ≡ kept site count) → AreKept left log op

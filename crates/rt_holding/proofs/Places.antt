@@ -4,7 +4,7 @@ use Rattle.std.proofs.lemmas.Bool.Decides.{nat_tests}
 use Rattle.std.proofs.lemmas.Cmp.{nat_cmp_total, on_total, then_total}
 use Rattle.std.proofs.lemmas.Map.Keys.{sorted_head, sorted_tail}
 use Rattle.std.specs.Cmp.{IsTotalOrder}
-use Rattle.std.specs.List.{AllByRecursion, filter}
+use Rattle.std.specs.List.{AllByRecursion}
 use Rattle.std.specs.List.Sorted.{IsStrictlySortedBy}
 use Rattle.std.specs.Map.{keys_of, lookup, remove_entry}
 use Rattle.std.specs.BTreeMap.Range.{entries_between, range_contains}
@@ -19,11 +19,10 @@ use Rattle.rt_ops.specs.Operations.{Operation, has_bad_stamp, stamp_of}
 use Rattle.rt_ops.specs.Rules.{keeps_rules}
 use Rattle.rt_oplog.specs.Logs.{Has, holds, same_operation}
 use Rattle.rt_oplog.proofs.Sets.{operation_refl, operation_sym, operation_true}
-use Rattle.rt_rga.specs.Answers.{answer_within}
 use Rattle.rt_rga.proofs.Skipping.{split}
 use Rattle.std.proofs.lemmas.List.{take-append-drop}
-use Rattle.rt_holding.specs.Holding.{most_held, put_held, waits, without}
-use Rattle.rt_holding.specs.Kept.{AreHeld, Entry, IsAt, IsInPlace, Place, by_stamp_and_arrival, ops_in, put_in_front, waits_on}
+use Rattle.rt_holding.specs.Holding.{most_held, put_held, without}
+use Rattle.rt_holding.specs.Kept.{AreHeld, Entry, IsAt, IsInPlace, Place, by_stamp_and_arrival, ops_in, put_in_front}
 use Rattle.rt_holding.specs.Runs.{AreOnce, AreRising}
 use Rattle.rt_holding.proofs.Keeping.{has_put, without_has}
 use Rattle.rt_holding.proofs.Sites.{length_put, put_once, put_order, without_none, without_once, without_order}
@@ -325,88 +324,6 @@ put_held_in n op entries new h f l r b e =
       order = subst AreRising (sym ops) (put_order op (ops_in entries) h.order);
       rules = λ x i. elim (has_put op (ops_in entries) x (subst (λ z. Has z x) ops i)) [ inl j ↦ subst (λ (y : Operation). keeps_rules y.body ≡ true) j r | inr j ↦ h.rules x j ];
       sound = λ x i. elim (has_put op (ops_in entries) x (subst (λ z. Has z x) ops i)) [ inl j ↦ subst (λ (y : Operation). has_bad_stamp y ≡ false) j b | inr j ↦ h.sound x j ];
-    })
-
--- THOSE THAT PASS A TEST
-
-passes_has : (p : Operation → Bool) (ops : List Operation) (x : Operation) → Has (filter p ops) x → Has ops x
-passes_has p [] x h = h
-passes_has p (q ∷ ops) x h = (elim (p q) as (λ t. Has (cond t (q ∷ filter p ops) (filter p ops)) x → Has (q ∷ ops) x) [
-  | true ↦ λ k. elim k [ inl e ↦ inl e | inr i ↦ inr (passes_has p ops x i) ]
-  | false ↦ λ k. inr (passes_has p ops x k)
-]) h
-
-passes_not : (p : Operation → Bool) (ops : List Operation) (x : Operation) → holds ops x ≡ false → holds (filter p ops) x ≡ false
-passes_not p [] x h = refl
-passes_not p (q ∷ ops) x h =
-    let i = passes_not p ops x (grind (arith, h)) in
-    elim (p q) as (λ t. holds (cond t (q ∷ filter p ops) (filter p ops)) x ≡ false) [ true ↦ grind (arith, h, i) | false ↦ i ]
-
-passes_once : (p : Operation → Bool) (ops : List Operation) → AreOnce ops → AreOnce (filter p ops)
-passes_once p [] o = tt
-passes_once p (q ∷ ops) o = elim (p q) as (λ t. AreOnce (cond t (q ∷ filter p ops) (filter p ops))) [
-  | true ↦ (passes_not p ops q o.0, passes_once p ops o.1)
-  | false ↦ passes_once p ops o.1
-]
-
-passes_all : {A : Type 0} (P : A → Type 0) (p : A → Bool) (ops : List A) → AllByRecursion P ops → AllByRecursion P (filter p ops)
-passes_all P p [] a = tt
-passes_all P p (q ∷ ops) a = elim (p q) as (λ t. AllByRecursion P (cond t (q ∷ filter p ops) (filter p ops))) [
-  | true ↦ (a.0, passes_all P p ops a.1)
-  | false ↦ passes_all P p ops a.1
-]
-
-passes_order : (p : Operation → Bool) (ops : List Operation) → AreRising ops → AreRising (filter p ops)
-passes_order p [] o = tt
-passes_order p (q ∷ ops) o = elim (p q) as (λ t. AreRising (cond t (q ∷ filter p ops) (filter p ops))) [
-  | true ↦ (passes_all (λ later. is_before (stamp_of later) (stamp_of q) ≡ false) p ops o.0, passes_order p ops o.1)
-  | false ↦ passes_order p ops o.1
-]
-
-passes_le : (p : Entry → Bool) (entries : List Entry) → length (filter p entries) ≤ length entries
-passes_le p [] = omega arith
-passes_le p (e ∷ entries) =
-    let i = passes_le p entries in
-    elim (p e) as (λ t. length (cond t (e ∷ filter p entries) (filter p entries)) ≤ suc (length entries)) [ true ↦ omega (arith, i) | false ↦ omega (arith, i) ]
-
-passes_in : (limit : ℕ) (log : List Operation) (entries : List Entry)
-    → ops_in (filter (λ e. waits_on limit log e.1) entries) ≡ filter (λ op. waits (answer_within limit op log)) (ops_in entries)
-passes_in limit log [] = refl
-passes_in limit log (e ∷ entries) =
-    let i = passes_in limit log entries in
-    elim e.1 as (λ v. ops_in (cond (waits_on limit log v) ((e.0, v) ∷ filter (λ e. waits_on limit log e.1) entries) (filter (λ e. waits_on limit log e.1) entries))
-    ≡ filter (λ op. waits (answer_within limit op log)) (put_in_front v (ops_in entries))) [
-      | None ↦ i
-      | Some op ↦ elim (waits (answer_within limit op log)) as (λ t. ops_in (cond t ((e.0, Some op) ∷ filter (λ e. waits_on limit log e.1) entries) (filter (λ e. waits_on limit log e.1) entries))
-          ≡ cond t (op ∷ filter (λ op. waits (answer_within limit op log)) (ops_in entries)) (filter (λ op. waits (answer_within limit op log)) (ops_in entries))) [
-            | true ↦ ap (λ l. op ∷ l) i
-            | false ↦ i
-          ]
-    ]
-
--- those that are refused for good are dropped
-pub record AreKeptOn (limit : ℕ) (log : List Operation) (arrivals : ℕ) (entries less : List Entry) : Type 0 where
-  pub ops : ops_in less ≡ filter (λ op. waits (answer_within limit op log)) (ops_in entries)
-  pub held : AreHeld arrivals less
-  pub length : length less ≤ length entries
-
-pub kept_on : (limit : ℕ) (log : List Operation) (arrivals : ℕ) (entries less : List Entry) → AreHeld arrivals entries
-    → less ≡ filter (λ e. waits_on limit log e.1) entries → AreKeptOn limit log arrivals entries less
-kept_on limit log arrivals entries less h e =
-    let p : Entry → Bool = λ e. waits_on limit log e.1 in
-    let q : Operation → Bool = λ op. waits (answer_within limit op log) in
-    let ops = passes_in limit log entries in
-    subst (AreKeptOn limit log arrivals entries) (sym e) (record {
-      ops = ops;
-      held = record {
-        places = passes_all (IsInPlace arrivals) p entries h.places;
-        few = (let f = h.few in let l = passes_le p entries in omega (arith, f, l));
-        once = subst AreOnce (sym ops) (passes_once q (ops_in entries) h.once);
-        order = subst AreRising (sym ops) (passes_order q (ops_in entries) h.order);
-        rules = λ x i. h.rules x (passes_has q (ops_in entries) x (subst (λ l. Has l x) ops i));
-        sound = λ x i. h.sound x (passes_has q (ops_in entries) x (subst (λ l. Has l x) ops i));
-      };
-      length = passes_le p entries;
     })
 
 -- one that may be held is held no more

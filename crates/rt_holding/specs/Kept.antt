@@ -1,6 +1,6 @@
--- How held operations are kept, in a map by their stamps and by when they came; and how the code tries them. No public clause
--- cites these.
-use Rattle.std.specs.Prelude.{◌≡◌, ◌<◌, ◌≤◌, ℕ, Bool, true, false, List, [], ◌∷◌, ◌++◌, length, Option, Some, None, IsSomeAnd}
+-- How held operations are kept, in a map by their stamps and by when they came; and how the code tries them. Public clauses
+-- cite these by `AreTriedAt` alone.
+use Rattle.std.specs.Prelude.{◌≡◌, ◌<◌, ◌≤◌, ℕ, Bool, true, false, List, [], ◌∷◌, ◌++◌, length, Option, Some, None, IsSomeAnd, if◌then◌else◌}
 use Rattle.std.specs.List.{AllByRecursion}
 use Rattle.std.specs.Ordering.{nat_cmp, ordering_then}
 use Rattle.std.specs.declared.cmp.Ordering.{Ordering}
@@ -12,8 +12,8 @@ use Rattle.rt_ops.specs.Rules.{keeps_rules}
 use Rattle.rt_oplog.specs.Logs.{Has}
 use Rattle.rt_rga.specs.Answers.{Answer, New, Repeat, Refused, answer_within}
 use Rattle.rt_holding.specs.declared.trying.Outcome.{Outcome}
-use Rattle.rt_holding.specs.declared.trying.Outcome.TheVariants.{Taken, Stays, Dropped}
-use Rattle.rt_holding.specs.Holding.{most_held, next_of, waits}
+use Rattle.rt_holding.specs.declared.trying.Outcome.TheVariants.{Taken, Waits, Sleeps, Dropped}
+use Rattle.rt_holding.specs.Holding.{most_held}
 use Rattle.rt_holding.specs.Runs.{AreOnce, AreRising}
 
 -- where a held operation stands: by its stamp, and of equal stamps by when it came
@@ -56,22 +56,17 @@ pub record IsAt (place : Place) (op : Operation) (entries : List Entry) : Type 0
   pub is : entries ≡ front ++ (place, Some op) ∷ behind
   pub before : AllByRecursion (λ e. by_stamp_and_arrival place e.0 ≡ Greater) front
 
--- what becomes of a held operation that is tried, by what is answered
-abbrev pub outcome_of : Answer → Outcome
-outcome_of New = Taken
-outcome_of Repeat = Dropped
-outcome_of (Refused NotYet) = Stays
-outcome_of (Refused TextFull) = Stays
-outcome_of (Refused _) = Dropped
+-- what becomes of a held operation that is tried: by whether memory was wanting before, by what is answered, and by whether all its
+-- keys are kept
+abbrev pub outcome_of : Bool → Answer → Bool → Outcome
+outcome_of lacks New kept = if lacks then Waits else Taken
+outcome_of lacks Repeat kept = Dropped
+outcome_of lacks (Refused NotYet) kept = if kept then Sleeps else Waits
+outcome_of lacks (Refused TextFull) kept = Waits
+outcome_of lacks (Refused _) kept = Dropped
 
--- the next one to be tried stands at a place, and is new
-pub record IsNextAt (limit : ℕ) (log : List Operation) (entries : List Entry) (place : Place) : Type 0 where
+-- at a place stands one that is new
+pub record IsNewAt (limit : ℕ) (log : List Operation) (entries : List Entry) (place : Place) : Type 0 where
   pub op : Operation
   pub there : IsAt place op entries
-  pub next : next_of limit [] log (ops_in entries) ≡ Some op
   pub new : answer_within limit op log ≡ New
-
--- it would be taken or stay
-abbrev pub waits_on : ℕ → List Operation → Option Operation → Bool
-waits_on limit log None = true
-waits_on limit log (Some op) = waits (answer_within limit op log)

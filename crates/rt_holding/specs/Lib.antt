@@ -1,8 +1,8 @@
 pub mod Arrivals
 pub mod Came
-pub mod Chains
 pub mod Due
 pub mod Examples
+pub mod Grown
 pub mod Holding
 pub mod Kept
 pub mod Laws
@@ -11,3 +11,4 @@ pub mod Replies
 pub mod Runs
 pub mod Taken
 pub mod Waiting
+pub mod Waits

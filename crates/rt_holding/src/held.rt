@@ -1,16 +1,17 @@
 // Held operations.
-ghost use Rattle.std.specs.Prelude.{◌≡◌, ◌⊎◌, ◌<◌, ◌≤◌, ◌↔◌, [], IfErr, IfOk, IsOkUnless, IsTrue, OnErr, OnOk, false, length};
+ghost use Rattle.std.specs.Prelude.{◌≡◌, ◌⊎◌, ◌<◌, ◌≤◌, ◌↔◌, [], IfErr, IfOk, IsOkUnless, IsTrue, List, OnErr, OnOk, false, length, true};
 ghost use Rattle.rt_stamps.specs.declared.fault.Fault.TheVariants.{NoMemory, NotYet};
+ghost use Rattle.rt_ops.specs.Operations.{Operation};
 ghost use Rattle.rt_oplog.specs.Logs.{holds};
 
-use crate::chains::{Chains, link_of};
 use crate::taking::Taking;
-use crate::trying::{Ops, forget, next_place, place_of, take_at};
+use crate::trying::{Ops, Outcome, drop_at, outcome_at, place_of, take_at, take_away};
+use crate::waits::{Waits, forget, keep, pop_first, prepare, wake};
 use rt_oplog::Op;
 use rt_rga::Offer;
 use rt_stamps::Fault;
 use std::alloc::{AllocError, Global};
-use std::collections::{BTreeMap, BTreeSet};
+use std::collections::BTreeMap;
 use std::marker::Model;
 
 /// The most operations that are held.
@@ -31,109 +32,135 @@ pub enum Offered {
 #[derive(Drop)]
 pub struct Held {
     ops: Ops,
-    chains: Chains,
+    waits: Waits,
     // How many have come: each has the number of those before it.
     arrivals: u64,
 }
 
 impl Model for Held {
-    ghost use Rattle.std.specs.Prelude.{List};
-    ghost use Rattle.rt_ops.specs.Operations.{Operation};
+    ghost use Rattle.rt_holding.specs.Grown.{HeldValue};
 
-    ghost Value = { List Operation };
+    ghost Value = { HeldValue };
 
-    ghost use Rattle.rt_holding.specs.Chains.{AreLinked};
     ghost use Rattle.rt_holding.specs.Kept.{AreHeld, ops_in};
+    ghost use Rattle.rt_holding.specs.Waits.{IsReady};
 
-    ghost view = { λ h. ops_in h.ops.entries };
+    ghost view = { λ h. record { held = ops_in h.ops.entries; table = record { entries = h.ops.entries; keys = h.waits.keys; again = h.waits.again.items } } };
 
-    ghost invariant = { λ h. record { held : AreHeld h.arrivals h.ops.entries; linked : AreLinked h.chains h.ops } };
+    ghost invariant = { λ h. record { held : AreHeld h.arrivals h.ops.entries; ready : IsReady 0 h.waits } };
 }
 
 impl Held {
     ghost use Rattle.rt_ops.specs.Operations.{has_bad_stamp};
+    ghost use Rattle.rt_holding.specs.Grown.{AreTriedAt, AreTriedBefore};
     ghost use Rattle.rt_holding.specs.Holding.{put_held, reply_for, reply_to};
     ghost use Rattle.rt_rga.specs.Answers.{New, Refused, answer_within};
+    ghost use Rattle.rt_rga.specs.Histories.{IsHistory};
     ghost use Rattle.rt_holding.specs.Replies as replies;
     ghost use Rattle.rt_holding.specs.Runs.{AreOnce, AreRising};
     ghost use Rattle.rt_holding.specs.Taken.{AreTried, IsOffered, IsRefused, held_after, holding, replied};
 
     pub fn new(alloc: Global) -> Held
-        ensures { result ≡ [] }
+        ensures none { result.held ≡ [] }
+        ensures tried { (log : List Operation) → AreTriedAt log result }
     {
         Held {
             ops: BTreeMap::new(alloc),
-            chains: BTreeSet::new(alloc),
+            waits: Waits::new(alloc),
             arrivals: 0,
         }
     }
 
     /// How many are held.
     pub fn len(&self) -> usize
-        ensures len { result ≡ length self.now }
+        ensures len { result ≡ length self.now.held }
         ensures most { result ≤ MOST_HELD }
-        ensures once { AreOnce self.now }
-        ensures order { AreRising self.now }
+        ensures once { AreOnce self.now.held }
+        ensures order { AreRising self.now.held }
     {
         self.ops.len()
     }
 
     /// Whether none is held.
     pub fn is_empty(&self) -> bool
-        ensures { IsTrue result ↔ (self.now ≡ []) }
+        ensures { IsTrue result ↔ (self.now.held ≡ []) }
     {
         self.len() == 0
     }
 
     /// Whether an operation is held.
     pub fn contains(&self, op: &Op) -> bool
-        ensures { result ≡ holds self.now op.now }
+        ensures { result ≡ holds self.now.held op.now }
     {
         place_of(&self.ops, self.arrivals, op).is_some()
     }
 
     /// Holds one more. Want of memory.
-    fn put(&mut self, op: Op) -> Result<(), Fault>
+    fn put<T: Taking>(&mut self, site: &T, op: Op) -> Result<(), Fault>
         requires sound { has_bad_stamp op ≡ false }
-        requires new { holds self.old op ≡ false }
-        requires room { length self.old < MOST_HELD }
-        ensures put { OnOk result (self.new ≡ put_held op self.old) }
+        requires new { holds self.old.held op ≡ false }
+        requires room { length self.old.held < MOST_HELD }
+        ensures put { OnOk result (self.new.held ≡ put_held op self.old.held) }
         ensures fault { IsOkUnless result NoMemory }
-        ensures same { OnErr result (self.new ≡ self.old) }
+        ensures same { OnErr result (self.new.held ≡ self.old.held) }
+        ensures tried { (log : List Operation) → AreTriedAt log self.old → AreTriedAt log self.new }
     {
         let _ = op.edit();
         let arrival = self.arrivals;
+        let place = (op.stamp(), arrival);
         let Some(next) = arrival.checked_add(1) else {
             return Err(Fault::NoMemory);
         };
-        let link = link_of(&op, (op.stamp(), arrival));
-        let Ok(_) = self.chains.insert(link) else {
+        let Ok(()) = prepare(site, &mut self.waits, &op, place) else {
             return Err(Fault::NoMemory);
         };
-        match self.ops.insert((op.stamp(), arrival), Some(op)) {
+        match self.ops.insert(place, Some(op)) {
             Ok(_) => {
                 self.arrivals = next;
+                keep(&mut self.waits, place);
                 Ok(())
             }
-            Err(_) => {
-                let _was_there = self.chains.remove(&link);
+            Err(refused) => {
+                if let Some(op) = refused.value.1 {
+                    forget(&mut self.waits.keys, &op, place);
+                }
                 Err(Fault::NoMemory)
             }
         }
     }
 
-    /// Drops held operations that are refused for good, and takes others in their order, until none is left
-    /// that could be taken or one finds no memory; answers how many were taken.
-    pub fn settle<T: Taking>(&mut self, site: &mut T) -> usize
-        ensures tried { AreTried T.log T.after (T.limit site.old) (holding T.log site.old self.old) site.old
-            site.new self.new result }
+    /// The log has grown by operations of a site: drops held operations that are refused for good, and takes others in
+    /// their order, until none is left that could be taken or one finds no memory; answers how many were taken.
+    pub fn settle<T: Taking>(&mut self, site: &mut T, made_by: u16) -> usize
+        requires { AreTriedBefore made_by self.old (T.log site.old) }
+        ensures tried { AreTried T.log T.after (T.limit site.old) (holding T.log site.old self.old.held) site.old
+            site.new self.new.held result }
         ensures limit { T.limit site.new ≡ T.limit site.old }
+        ensures log { AreTriedAt (T.log site.new) self.new }
     {
+        wake(&mut self.waits, made_by, site.known(made_by));
+        if self.ops.len() == 0 {
+            return 0;
+        }
         let mut taken = 0;
-        while let Some(place) = next_place(site, &mut self.ops, &mut self.chains) {
-            match take_at(site, &mut self.ops, &mut self.chains, place) {
-                Ok(()) => taken += 1,
-                Err(AllocError) => return taken,
+        let mut lacks = false;
+        while let Some(place) = pop_first(&mut self.waits.due) {
+            match outcome_at(site, &self.ops, &self.waits.keys, place, lacks) {
+                Outcome::Taken => {
+                    match take_at(site, &mut self.ops, place) {
+                        Ok(by) => {
+                            taken += 1;
+                            wake(&mut self.waits, by, site.known(by));
+                        }
+                        Err(AllocError) => {
+                            lacks = true;
+                            keep(&mut self.waits, place);
+                        }
+                    }
+                }
+                Outcome::Waits => keep(&mut self.waits, place),
+                Outcome::Sleeps => {}
+                Outcome::Dropped => drop_at(&mut self.ops, &mut self.waits.keys, place),
             }
         }
         taken
@@ -143,49 +170,58 @@ impl Held {
     /// is held. Refused as the site answers it, with `WaitingFull` where too many others are held, or with
     /// `NoMemory`.
     pub fn offer<T: Taking>(&mut self, site: &mut T, op: Op) -> Result<Offered, Fault>
-        ensures reply { IfOk result (λ offered. reply_to (T.limit site.old) op (holding T.log site.old self.old) ≡ replied (Ok offered)) }
-        ensures refused { IfErr result (IsRefused (reply_to (T.limit site.old) op (holding T.log site.old self.old))) }
-        ensures offered { IfOk result (λ offered. IsOffered T.log T.after (T.limit site.old) op offered site.old self.old site.new self.new) }
+        requires { AreTriedAt (T.log site.old) self.old }
+        ensures reply { IfOk result (λ offered. reply_to (T.limit site.old) op (holding T.log site.old self.old.held) ≡ replied (Ok offered)) }
+        ensures refused { IfErr result (IsRefused (reply_to (T.limit site.old) op (holding T.log site.old self.old.held))) }
+        ensures offered { IfOk result (λ offered. IsOffered T.log T.after (T.limit site.old) op offered site.old self.old.held
+            site.new self.new.held) }
         ensures same_site { OnErr result (site.new ≡ site.old) }
-        ensures same { OnErr result (self.new ≡ self.old) }
+        ensures same { OnErr result (self.new.held ≡ self.old.held) }
         ensures limit { T.limit site.new ≡ T.limit site.old }
+        ensures log { AreTriedAt (T.log site.new) self.new }
     {
         match site.answer(&op) {
             Ok(Offer::New) => self.take(site, op),
             Ok(Offer::Repeat) => Ok(Offered::Repeat),
-            Err(Fault::NotYet) => self.hold(op),
+            Err(Fault::NotYet) => self.hold(site, op),
             Err(fault) => Err(fault),
         }
     }
 
     // A new one, which may be among those that are held, as one that found no memory.
     fn take<T: Taking>(&mut self, site: &mut T, op: Op) -> Result<Offered, Fault>
-        requires { answer_within (T.limit site.old) op (T.log site.old) ≡ New }
+        requires new { answer_within (T.limit site.old) op (T.log site.old) ≡ New }
+        requires history { IsHistory (T.log site.old) }
+        requires tried { AreTriedAt (T.log site.old) self.old }
         ensures new { IfOk result (λ offered. replied (Ok offered) ≡ replies.New) }
-        ensures offered { IfOk result (λ offered. IsOffered T.log T.after (T.limit site.old) op offered site.old self.old site.new self.new) }
+        ensures offered { IfOk result (λ offered. IsOffered T.log T.after (T.limit site.old) op offered site.old self.old.held
+            site.new self.new.held) }
         ensures fault { IsOkUnless result NoMemory }
         ensures same_site { OnErr result (site.new ≡ site.old) }
         ensures same { OnErr result (self.new ≡ self.old) }
         ensures limit { T.limit site.new ≡ T.limit site.old }
+        ensures log { OnOk result (AreTriedAt (T.log site.new) self.new) }
     {
         let held = place_of(&self.ops, self.arrivals, &op);
+        let made_by = op.site();
         match site.take(op) {
             Ok(()) => {}
             Err(_) => return Err(Fault::NoMemory),
         }
-        forget(&mut self.ops, &mut self.chains, held);
+        take_away(&mut self.ops, held);
         Ok(Offered::New {
-            more: self.settle(site),
+            more: self.settle(site, made_by),
         })
     }
 
     // One that comes too early.
-    fn hold(&mut self, op: Op) -> Result<Offered, Fault>
+    fn hold<T: Taking>(&mut self, site: &T, op: Op) -> Result<Offered, Fault>
         requires { has_bad_stamp op ≡ false }
-        ensures reply { IfOk result (λ offered. reply_for (Refused NotYet) op self.old ≡ replied (Ok offered)) }
-        ensures refused { IfErr result (IsRefused (reply_for (Refused NotYet) op self.old)) }
-        ensures held { IfOk result (λ offered. self.new ≡ held_after offered op self.old) }
-        ensures same { OnErr result (self.new ≡ self.old) }
+        ensures reply { IfOk result (λ offered. reply_for (Refused NotYet) op self.old.held ≡ replied (Ok offered)) }
+        ensures refused { IfErr result (IsRefused (reply_for (Refused NotYet) op self.old.held)) }
+        ensures held { IfOk result (λ offered. self.new.held ≡ held_after offered op self.old.held) }
+        ensures same { OnErr result (self.new.held ≡ self.old.held) }
+        ensures tried { (log : List Operation) → AreTriedAt log self.old → AreTriedAt log self.new }
     {
         if self.contains(&op) {
             return Ok(Offered::Repeat);
@@ -193,7 +229,7 @@ impl Held {
         if self.len() >= MOST_HELD {
             return Err(Fault::WaitingFull);
         }
-        self.put(op)?;
+        self.put(site, op)?;
         Ok(Offered::Held)
     }
 }

@@ -1,6 +1,7 @@
 // Files of operations that a site receives.
 ghost use Rattle.std.specs.Prelude.{◌≡◌, ◌+◌, ◌<◌, ◌≤◌, length};
 ghost use Rattle.rt_stamps.specs.declared.limits.TheConstants.{MOST_BYTES};
+ghost use Rattle.rt_holding.specs.Grown.{AreTriedAt};
 ghost use Rattle.rt_holding.specs.Receiving.{Offers, Receives, most_counted, one_more};
 
 use crate::held::{Held, Offered};
@@ -64,8 +65,10 @@ fn offer_all<T: Taking>(
     ending: Option<(Fault, u64)>,
 ) -> Received
     requires offsets { length offsets.now ≡ length ops.items }
-    ensures offers { Offers T.log T.limit T.after ops.items offsets.now ending (record { site = site.old; held = held.old })
-        result (record { site = site.new; held = held.new }) }
+    requires tried { AreTriedAt (T.log site.old) held.old }
+    ensures offers { Offers T.log T.limit T.after ops.items offsets.now ending (record { site = site.old; held = held.old.held })
+        result (record { site = site.new; held = held.new.held }) }
+    ensures tried { AreTriedAt (T.log site.new) held.new }
 {
     let mut received = Received::nothing(ending, held.len());
     let mut i = 0;
@@ -92,8 +95,10 @@ fn offer_all<T: Taking>(
 /// where the file found no memory.
 pub fn receive<T: Taking>(alloc: Global, site: &mut T, held: &mut Held, bytes: &[u8]) -> Received
     requires bytes { length bytes.now ≤ MOST_BYTES }
-    ensures receives { Receives T.log T.limit T.after bytes.now (record { site = site.old; held = held.old })
-        result (record { site = site.new; held = held.new }) }
+    requires tried { AreTriedAt (T.log site.old) held.old }
+    ensures receives { Receives T.log T.limit T.after bytes.now (record { site = site.old; held = held.old.held })
+        result (record { site = site.new; held = held.new.held }) }
+    ensures tried { AreTriedAt (T.log site.new) held.new }
 {
     match read_bytes(alloc, bytes) {
         Ok(reading) => offer_all(site, held, reading.ops, &reading.offsets, reading.fault),

@@ -3,6 +3,7 @@ ghost use Rattle.std.specs.Prelude.{◌≡◌, ℕ, List, IfErr, OnErr, OnOk};
 ghost use Rattle.rt_ops.specs.Operations.{Operation};
 ghost use Rattle.rt_oplog.specs.Logs.{known_end, with_operation};
 ghost use Rattle.rt_rga.specs.Answers.{New, answer_within};
+ghost use Rattle.rt_rga.specs.Histories.{IsHistory};
 ghost use Rattle.rt_rga.specs.Kept.{said};
 
 use rt_oplog::Op;
@@ -18,13 +19,15 @@ pub trait Taking {
     // What an operation makes of the site that takes it.
     ghost after: { Operation → Self → Self };
 
-    /// What is answered to an operation, where memory is left.
+    /// What is answered to an operation, where memory is left. The log is a history.
     fn answer(&self, op: &Op) -> Result<Offer, Fault>
-        ensures { said result ≡ answer_within (limit self.now) op.now (log self.now) };
+        ensures answer { said result ≡ answer_within (limit self.now) op.now (log self.now) }
+        ensures history { IsHistory (log self.now) };
 
     /// The greatest last count of a site's operations in the log, 0 if it has none.
     fn known(&self, site: u16) -> u64
-        ensures { result ≡ known_end (log self.now) site };
+        ensures known { result ≡ known_end (log self.now) site }
+        ensures history { IsHistory (log self.now) };
 
     /// Takes an operation that is new, or gives it back for want of memory.
     fn take(&mut self, op: Op) -> Result<(), Op>

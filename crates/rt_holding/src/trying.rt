@@ -1,23 +1,21 @@
 // Held operations are tried.
-ghost use Rattle.std.specs.Prelude.{◌≡◌, [], false, IfNone, IfSome, None, OnErr, OnOk};
+ghost use Rattle.std.specs.Prelude.{◌≡◌, ◌≤◌, false, length, IfNone, IfOk, IfSome, None, OnErr, OnOk, Some};
 ghost use Rattle.std.specs.Map.{remove_entry};
 ghost use Rattle.std.specs.BTreeMap.{IsOrdered, get, insert_entry, is_at};
-ghost use Rattle.std.specs.List.{AllByRecursion, filter};
+ghost use Rattle.std.specs.List.{AllByRecursion};
 ghost use Rattle.rt_ops.specs.Operations.{Operation};
 ghost use Rattle.rt_oplog.specs.Logs.{holds, with_operation};
 ghost use Rattle.rt_rga.specs.Answers.{answer_within};
-ghost use Rattle.rt_holding.specs.Holding.{next_of};
-ghost use Rattle.rt_holding.specs.Chains.{AreFewer, AreLinked, AreSound, IsSetAt, first_of, outcome_there};
-ghost use Rattle.rt_holding.specs.Kept.{IsAt, IsInPlace, IsNextAt, by_stamp_and_arrival, ops_in, outcome_of, waits_on};
+ghost use Rattle.rt_holding.specs.Kept.{IsAt, IsInPlace, IsNewAt, by_stamp_and_arrival, ops_in, outcome_of};
+ghost use Rattle.rt_holding.specs.Waits.{IsSetAt, KeepsOthers, are_kept, outcome_there};
 
-use crate::chains::{Chains, Link, link_of};
 use crate::taking::Taking;
+use crate::waits::{Keys, are_all_kept, forget};
 use rt_oplog::{Op, is_same};
 use rt_rga::Offer;
 use rt_stamps::{Fault, Stamp};
 use std::alloc::AllocError;
 use std::collections::BTreeMap;
-use std::ops::Bound;
 
 /// Where a held operation stands: by its stamp, and of equal stamps by when it came.
 pub(crate) type Place = (Stamp, u64);
@@ -25,75 +23,58 @@ pub(crate) type Place = (Stamp, u64);
 /// The held operations in order; none at the place of the one that is being tried.
 pub(crate) type Ops = BTreeMap<Place, Option<Op>>;
 
-/// What becomes of a held operation that is tried, where memory is left.
+/// What becomes of a held operation that is tried.
 #[derive(Clone, Copy, Debug, PartialEq, Eq)]
 pub(crate) enum Outcome {
+    /// It is taken.
     Taken,
-    Stays,
+    /// It stays, and is looked at again.
+    Waits,
+    /// It stays, and isn't looked at until one of its keys is passed.
+    Sleeps,
+    /// It is refused for good.
     Dropped,
 }
 
-/// What becomes of a held operation that is tried.
-pub(crate) fn outcome_for<T: Taking>(site: &T, op: &Op) -> Outcome
-    ensures { result ≡ outcome_of (answer_within (T.limit site.now) op.now (T.log site.now)) }
+/// What becomes of a held operation that is tried. Where memory was wanting before, none is taken.
+fn outcome_for<T: Taking>(site: &T, keys: &Keys, op: &Op, place: Place, lacks: bool) -> Outcome
+    ensures { result ≡ outcome_of lacks (answer_within (T.limit site.now) op.now (T.log site.now)) (are_kept keys.now (T.log site.now) place op.now) }
 {
     match site.answer(op) {
-        Ok(Offer::New) => Outcome::Taken,
+        Ok(Offer::New) => {
+            if lacks {
+                Outcome::Waits
+            } else {
+                Outcome::Taken
+            }
+        }
         Ok(Offer::Repeat) => Outcome::Dropped,
-        Err(Fault::NotYet) | Err(Fault::TextFull) => Outcome::Stays,
+        Err(Fault::NotYet) => {
+            if are_all_kept(site, keys, op, place) {
+                Outcome::Sleeps
+            } else {
+                Outcome::Waits
+            }
+        }
+        Err(Fault::TextFull) => Outcome::Waits,
         Err(_) => Outcome::Dropped,
     }
 }
 
 /// What becomes of the operation at a place that is tried.
-fn outcome_at<T: Taking>(site: &T, ops: &Ops, place: Place) -> Outcome
-    ensures { result ≡ outcome_there (T.limit site.now) (T.log site.now) (get by_stamp_and_arrival ops.now place) }
+pub(crate) fn outcome_at<T: Taking>(
+    site: &T,
+    ops: &Ops,
+    keys: &Keys,
+    place: Place,
+    lacks: bool,
+) -> Outcome
+    ensures { result ≡ outcome_there lacks (T.limit site.now) (T.log site.now) keys.now place (get by_stamp_and_arrival ops.now place) }
 {
     match ops.get(&place) {
-        Some(Some(op)) => outcome_for(site, op),
-        _ => Outcome::Stays,
+        Some(Some(op)) => outcome_for(site, keys, op, place, lacks),
+        _ => Outcome::Sleeps,
     }
-}
-
-/// The lesser place.
-fn first_of_both(one: Option<Place>, other: Place) -> Place
-    ensures { result ≡ first_of one other }
-{
-    match one {
-        Some(first) => { if other < first { other } else { first } }
-        None => other,
-    }
-}
-
-/// Drops those that are refused for good, and tells the place of the first one then that would be taken. Of each
-/// site only those are looked at that go on from no more than its known end; all others stay.
-pub(crate) fn next_place<T: Taking>(site: &T, ops: &mut Ops, chains: &mut Chains) -> Option<Place>
-    requires linked { AreLinked chains.old ops.old }
-    requires sound { AreSound ops.old.entries }
-    ensures entries { ops.new.entries ≡ filter (λ e. waits_on (T.limit site.now) (T.log site.now) e.1) ops.old.entries }
-    ensures some { IfSome result (λ place. IsNextAt (T.limit site.now) (T.log site.now) ops.new.entries place) }
-    ensures none { IfNone result (next_of (T.limit site.now) [] (T.log site.now) (ops_in ops.new.entries) ≡ None) }
-    ensures linked { AreLinked chains.new ops.new }
-{
-    if ops.len() == 0 {
-        return None;
-    }
-    let mut least = None;
-    let mut end = Bound::Unbounded;
-    while let Some(&last) = chains.range((Bound::Unbounded, end)).next_back() {
-        let known = site.known(last.site);
-        if known < last.prev {
-            end = Bound::Excluded(Link::least(last.site, known + 1));
-            continue;
-        }
-        end = Bound::Excluded(last);
-        match outcome_at(site, ops, last.place) {
-            Outcome::Taken => least = Some(first_of_both(least, last.place)),
-            Outcome::Stays => {}
-            Outcome::Dropped => drop_at(ops, chains, last.place),
-        }
-    }
-    least
 }
 
 /// Where an operation is held, if it is: looks at those of its stamp.
@@ -124,56 +105,53 @@ fn take_out(ops: &mut Ops, place: Place) -> Op
     was.unwrap().unwrap().unwrap()
 }
 
-/// Drops the place, with the operation at it, if there is one.
-pub(crate) fn drop_at(ops: &mut Ops, chains: &mut Chains, place: Place)
-    requires { AreLinked chains.old ops.old }
+/// Drops the place, with the operation at it and its keys, if there is one.
+pub(crate) fn drop_at(ops: &mut Ops, keys: &mut Keys, place: Place)
     ensures entries { ops.new.entries ≡ remove_entry (is_at (by_stamp_and_arrival place)) ops.old.entries }
     ensures others { IsSetAt place None ops.old ops.new }
     ensures ordered { IsOrdered by_stamp_and_arrival ops.new }
-    ensures linked { AreLinked chains.new ops.new }
-    ensures fewer { AreFewer chains.old chains.new }
+    ensures keys { KeepsOthers place keys.old keys.new }
+    ensures fewer { length keys.new.keys ≤ length keys.old.keys }
 {
     if let Some(op) = ops.remove(&place).flatten() {
-        let _was_there = chains.remove(&link_of(&op, place));
+        forget(keys, &op, place);
     }
 }
 
-/// The same at a place, if there is one.
-pub(crate) fn forget(ops: &mut Ops, chains: &mut Chains, place: Option<Place>)
-    requires { AreLinked chains.old ops.old }
+/// Takes out the operation at a place, if there is one, of which all keys are passed.
+pub(crate) fn take_away(ops: &mut Ops, place: Option<Place>)
     ensures some { IfSome place (λ p. ops.new.entries ≡ remove_entry (is_at (by_stamp_and_arrival p)) ops.old.entries) }
+    ensures others { IfSome place (λ p. IsSetAt p None ops.old ops.new) }
     ensures none { IfNone place (ops.new.entries ≡ ops.old.entries) }
-    ensures linked { AreLinked chains.new ops.new }
 {
     if let Some(place) = place {
-        drop_at(ops, chains, place);
+        let _op = ops.remove(&place);
     }
 }
 
-/// Takes the operation at a place, or leaves it there for want of memory.
+/// Takes the operation at a place, and tells its site; or leaves it there for want of memory.
 pub(crate) fn take_at<T: Taking>(
     site: &mut T,
     ops: &mut Ops,
-    chains: &mut Chains,
     place: Place,
-) -> Result<(), AllocError>
-    requires next { IsNextAt (T.limit site.old) (T.log site.old) ops.old.entries place }
-    requires linked { AreLinked chains.old ops.old }
+) -> Result<u16, AllocError>
+    requires { IsNewAt (T.limit site.old) (T.log site.old) ops.old.entries place }
     ensures site { OnOk result ((op : Operation) → IsAt place op ops.old.entries → site.new ≡ T.after op site.old) }
     ensures log { OnOk result ((op : Operation) → IsAt place op ops.old.entries → T.log site.new ≡ with_operation op (T.log site.old)) }
+    ensures by { IfOk result (λ by. (op : Operation) → IsAt place op ops.old.entries → by ≡ op.site) }
     ensures out { OnOk result (ops.new.entries ≡ remove_entry (is_at (by_stamp_and_arrival place)) ops.old.entries) }
+    ensures others { OnOk result (IsSetAt place None ops.old ops.new) }
+    ensures ordered { IsOrdered by_stamp_and_arrival ops.new }
     ensures limit { T.limit site.new ≡ T.limit site.old }
     ensures same_site { OnErr result (site.new ≡ site.old) }
     ensures same_ops { OnErr result (ops.new.entries ≡ ops.old.entries) }
-    ensures linked { AreLinked chains.new ops.new }
 {
     let op = take_out(ops, place);
-    let link = link_of(&op, place);
+    let by = op.site();
     match site.take(op) {
         Ok(()) => {
             let _none = ops.remove(&place);
-            let _was_there = chains.remove(&link);
-            Ok(())
+            Ok(by)
         }
         Err(back) => {
             let _none = ops.insert(place, Some(back));

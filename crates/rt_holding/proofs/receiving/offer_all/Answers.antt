@@ -14,7 +14,7 @@ with-received-requires g c =
     let most = before.most in
     let left = before.left in
     let offsets = c.type_inv.offsets in
-    let more = offered_length g.T.Taking.log g.T.Taking.limit g.T.Taking.after (g.T.Taking.limit c.loop-op.site) c.in-Some.op c.in-Ok.offered c.loop-op.site c.loop-op.held c.offer.new.site c.offer.new.self c.in-Ok.ensures.offered in
+    let more = offered_length g.T.Taking.log g.T.Taking.limit g.T.Taking.after (g.T.Taking.limit c.loop-op.site) c.in-Some.op c.in-Ok.offered c.loop-op.site c.loop-op.held.held c.offer.new.site c.offer.new.self.held c.in-Ok.ensures.offered in
     omega (arith, few, most, left, more)
 
 pub returns-in-Err : goal.returns-in-Err
@@ -28,9 +28,9 @@ returns-in-Err g c =
     let before = c.loop-op.invariant in
     let offsets = c.args.offsets.now in
     let i = c.loop-op.i in
-    let old : State g.row.T.Denot = record { site = c.loop-op.site; held = c.loop-op.held } in
-    let new : State g.row.T.Denot = record { site = c.offer.new.site; held = c.offer.new.self } in
-    let start : State g.row.T.Denot = record { site = c.args.site.now; held = c.args.held.now } in
+    let old : State g.row.T.Denot = record { site = c.loop-op.site; held = c.loop-op.held.held } in
+    let new : State g.row.T.Denot = record { site = c.offer.new.site; held = c.offer.new.self.held } in
+    let start : State g.row.T.Denot = record { site = c.args.site.now; held = c.args.held.now.held } in
     let first_length = ap length first in
     let left = before.left in
     let there : i < length offsets = omega (arith, first_length, left) in
@@ -39,12 +39,13 @@ returns-in-Err g c =
     let same : new ≡ old = λ k. record { site = site k; held = held k } in
     let ending : Option (Fault × ℕ) = Some (c.in-Err.fault, slice_index_or offsets i 0) in
     let last = stopped log limit after op rest offsets i c.args.ending old new c.in-Err.fault there c.in-Err.ensures.refused same in
-    let whole = before.goes_on (none_accepted ending c.loop-op.held) new
-    (subst (λ (ops : List Operation). Offers log limit after ops (drop i offsets) c.args.ending old (none_accepted ending c.loop-op.held) new) (sym first) last) in
-    let length_same : length c.loop-op.held ≡ c.len-in-Err.result = ap length (sym held) ∙ sym c.len-in-Err.ensures.len in
+    let whole = before.goes_on (none_accepted ending c.loop-op.held.held) new
+    (subst (λ (ops : List Operation). Offers log limit after ops (drop i offsets) c.args.ending old (none_accepted ending c.loop-op.held.held) new) (sym first) last) in
+    let length_same : length c.loop-op.held.held ≡ c.len-in-Err.result = ap length (sym held) ∙ sym c.len-in-Err.ensures.len in
     record {
       offers = subst (λ (r : Received). Offers log limit after c.args.ops.items offsets c.args.ending start r new)
-          (added_nothing c.loop-op.received ending c.loop-op.held ∙ ap (λ n. record c.loop-op.received { held = n; fault = ending }) length_same) whole;
+          (added_nothing c.loop-op.received ending c.loop-op.held.held ∙ ap (λ n. record c.loop-op.received { held = n; fault = ending }) length_same) whole;
+      tried = c.offer.ensures.log;
     }
 
 pub loop-op-preserved : goal.loop-op-preserved
@@ -59,9 +60,9 @@ loop-op-preserved g c =
     let offsets = c.args.offsets.now in
     let i = c.loop-op.i in
     let o = c.in-Ok.offered in
-    let old : State g.row.T.Denot = record { site = c.loop-op.site; held = c.loop-op.held } in
-    let mid : State g.row.T.Denot = record { site = c.offer.new.site; held = c.offer.new.self } in
-    let start : State g.row.T.Denot = record { site = c.args.site.now; held = c.args.held.now } in
+    let old : State g.row.T.Denot = record { site = c.loop-op.site; held = c.loop-op.held.held } in
+    let mid : State g.row.T.Denot = record { site = c.offer.new.site; held = c.offer.new.self.held } in
+    let start : State g.row.T.Denot = record { site = c.args.site.now; held = c.args.held.now.held } in
     let first_length = ap length first in
     let left = before.left in
     let there : i < length offsets = omega (arith, first_length, left) in
@@ -69,11 +70,12 @@ loop-op-preserved g c =
     let counted = c.with-received.ensures.counted in
     let sums = counted_more log limit after o c.loop-op.received in
     let sum = ap (λ (r : Received). r.new + r.repeats) counted in
-    let more = offered_length log limit after (limit c.loop-op.site) op o c.loop-op.site c.loop-op.held c.offer.new.site c.offer.new.self c.in-Ok.ensures.offered in
+    let more = offered_length log limit after (limit c.loop-op.site) op o c.loop-op.site c.loop-op.held.held c.offer.new.site c.offer.new.self.held c.in-Ok.ensures.offered in
     record {
       left = omega (arith, first_length, left);
       few = omega (arith, few, sums, sum, more);
       most = before.most;
+      tried = c.offer.ensures.log;
       none = ap (λ (r : Received). r.fault) counted ∙ same_fault log limit after o c.loop-op.received ∙ before.none;
       goes_on = λ received new k.
           subst (λ (r : Received). Offers log limit after c.args.ops.items offsets c.args.ending start r new)
@@ -91,13 +93,14 @@ returns g c =
     let before = c.loop-op.invariant in
     let ops = into_iter_items c.loop-op.op-iterator in
     let offsets = c.args.offsets.now in
-    let end : State g.row.T.Denot = record { site = c.loop-op.site; held = c.loop-op.held } in
-    let start : State g.row.T.Denot = record { site = c.args.site.now; held = c.args.held.now } in
+    let end : State g.row.T.Denot = record { site = c.loop-op.site; held = c.loop-op.held.held } in
+    let start : State g.row.T.Denot = record { site = c.args.site.now; held = c.args.held.now.held } in
     let none : length ops ≡ 0 = sym c.loop-op.op-iterator.rest.ok.0 ∙ c.in-None.ensures.steps.0 in
-    let whole = before.goes_on (none_accepted c.args.ending c.loop-op.held) end (none_left log limit after ops (drop c.loop-op.i offsets) c.args.ending end none) in
+    let whole = before.goes_on (none_accepted c.args.ending c.loop-op.held.held) end (none_left log limit after ops (drop c.loop-op.i offsets) c.args.ending end none) in
     record {
       offers = subst (λ (r : Received). Offers log limit after c.args.ops.items offsets c.args.ending start r end)
-          (added_nothing c.loop-op.received c.args.ending c.loop-op.held
+          (added_nothing c.loop-op.received c.args.ending c.loop-op.held.held
           ∙ ap (λ n. record c.loop-op.received { held = n; fault = c.args.ending }) (sym c.len-2.ensures.len)
           ∙ ap (λ (e : Option (Fault × ℕ)). record c.loop-op.received { held = c.len-2.result; fault = e }) (sym before.none)) whole;
+      tried = before.tried;
     }

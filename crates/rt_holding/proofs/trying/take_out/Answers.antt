@@ -1,7 +1,7 @@
 use Rattle.std.proofs.Common.{◌≡◌, None, Some, refl, subst}
 use Rattle.rt_ops.specs.Operations.{Operation}
 use Rattle.rt_holding.specs.Kept.{IsAt}
-use Rattle.rt_holding.proofs.Links.{updated}
+use Rattle.rt_holding.proofs.Standing.{updated}
 use Rattle.rt_holding.proofs.Places.{was_there}
 use Rattle.rt_holding.proofs.trying.take_out.Goals as goal
 

@@ -1,10 +1,10 @@
-use Rattle.std.proofs.Common.{◌∙◌, List, ap}
-use Rattle.rt_ops.specs.Operations.{Operation}
+use Rattle.std.proofs.Common.{◌∙◌, ap}
 use Rattle.rt_oplog.specs.Logs.{holds}
+use Rattle.rt_holding.specs.Grown.{HeldValue}
 use Rattle.rt_holding.proofs.Places.{found_if}
 use Rattle.rt_holding.proofs.held.Held.contains.Goals as goal
 
 pub returns : goal.returns
 returns c =
     c.is_some.ensures ∙ found_if c.self.inside.ops.entries c.args.op.now c.place_of.result c.place_of.ensures.some c.place_of.ensures.none
-    ∙ ap (λ (l : List Operation). holds l c.args.op.now) c.self.view_is
+    ∙ ap (λ (v : HeldValue). holds v.held c.args.op.now) c.self.view_is

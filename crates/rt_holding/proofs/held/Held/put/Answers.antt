@@ -1,53 +1,73 @@
 use Rattle.std.proofs.Common.{◌≡◌, ◌∙◌, ◌<◌, List, Some, ap, arith, false, length, refl, subst, sym, true}
-use Rattle.std.specs.BTreeMap.{insert_entry}
-use Rattle.rt_ops.specs.Operations.{Operation, stamp_of}
+use Rattle.std.specs.BTreeMap.{insert_entry, is_at}
+use Rattle.std.specs.BTreeSet.{BTreeSet}
+use Rattle.std.specs.List.{list_all}
+use Rattle.rt_ops.specs.Operations.{Operation}
 use Rattle.rt_oplog.specs.Logs.{holds}
-use Rattle.rt_holding.specs.declared.chains.Link.{Link}
-use Rattle.rt_holding.specs.Chains.{IsSetAt, made_link}
+use Rattle.rt_holding.specs.declared.waits.Key.{Key}
+use Rattle.rt_holding.specs.Grown.{AreTriedAt, HeldValue}
 use Rattle.rt_holding.specs.Holding.{most_held, put_held}
 use Rattle.rt_holding.specs.Kept.{AreHeld, Place, by_stamp_and_arrival, ops_in}
-use Rattle.rt_holding.proofs.Links.{IsLinkedSo, linked_back, linked_more, none_so_late}
+use Rattle.rt_holding.specs.Waits.{are_tried_at, is_listed, is_tried_at, sleeps}
+use Rattle.rt_holding.proofs.Going.{or_left, or_right, tried_more}
+use Rattle.rt_holding.proofs.Passing.{others_on}
 use Rattle.rt_holding.proofs.Places.{length_in, put_held_in, put_in}
+use Rattle.rt_holding.proofs.Standing.{own_place}
+use Rattle.rt_holding.proofs.Putting.{tried_kept}
 use Rattle.rt_holding.proofs.held.Held.put.Goals as goal
 
+pub returns-in_default-prepare-clause-tried : goal.returns-in_default-prepare-clause-tried
+returns-in_default-prepare-clause-tried g c log h =
+    let old = c.self.inside in
+    let keyed = c.prepare.ensures.keyed in
+    tried_kept log old.arrivals _ old.waits.keys c.prepare.new.waits.keys old.waits.again.items c.prepare.new.waits.again.items refl keyed.keys
+    (λ q i. ap (is_listed q) keyed.again ∙ i) old.ops.entries c.self.invariant.held.places (subst (AreTriedAt log) (sym c.self.view_is) h)
+
 pub invariant_of-self-in-Ok-insert : goal.invariant_of-self-in-Ok-insert
-invariant_of-self-in-Ok-insert c =
+invariant_of-self-in-Ok-insert g c =
     let entries = c.self.inside.ops.entries in
     let n = c.self.inside.arrivals in
     let op = c.args.op in
-    let new = c.requires.new in
-    let none : holds (ops_in entries) op ≡ false = subst (λ (l : List Operation). holds l op ≡ false) (sym c.self.view_is) new in
-    let few : length (ops_in entries) < most_held = subst (λ (l : List Operation). length l < most_held) (sym c.self.view_is) c.requires.room in
+    let held = ap (λ (v : HeldValue). v.held) (sym c.self.view_is) in
+    let none : holds (ops_in entries) op ≡ false = subst (λ (l : List Operation). holds l op ≡ false) held c.requires.new in
+    let few : length (ops_in entries) < most_held = subst (λ (l : List Operation). length l < most_held) held c.requires.room in
     let same = length_in n entries c.self.invariant.held.places in
-    let put = c.in-Ok-insert.ensures.entries ∙ ap (λ s. insert_entry by_stamp_and_arrival entries (s, n) (Some op)) c.stamp-2.ensures in
-    let link : c.link_of-link.result ≡ made_link op (stamp_of op, n) = c.link_of-link.ensures ∙ ap (λ s. made_link op (s, n)) c.stamp.ensures in
+    let put = c.in-Ok-insert.ensures.entries ∙ ap (λ s. insert_entry by_stamp_and_arrival entries (s, n) (Some op)) c.stamp.ensures in
     record {
-      held = subst (λ m. AreHeld m c.insert-2.new.self.entries) (sym c.in-Some.ensures.1)
-          (put_held_in n op entries c.insert-2.new.self.entries c.self.invariant.held none (omega (arith, few, same)) c.edit.ensures.rules c.requires.sound put);
-      linked = linked_more c.self.inside.chains c.insert.new.self c.self.inside.ops c.insert-2.new.self (stamp_of op, n) op c.self.invariant.linked
-          (none_so_late n op entries c.self.invariant.held.places (stamp_of op, n) refl)
-          (subst (λ (l : Link). IsLinkedSo l true c.self.inside.chains c.insert.new.self) link c.in-Ok.ensures.updates.0)
-          (subst (λ (s : Place). IsSetAt s (Some (Some op)) c.self.inside.ops c.insert-2.new.self) (ap (λ s. (s, n)) c.stamp-2.ensures) c.in-Ok-insert.ensures.updates.0);
+      held = subst (λ m. AreHeld m c.insert.new.self.entries) (sym c.in-Some.ensures.1)
+          (put_held_in n op entries c.insert.new.self.entries c.self.invariant.held none (omega (arith, few, same)) c.edit.ensures.rules c.requires.sound put);
+      ready = c.keep.ensures.ready;
     }
 
 pub returns-in-Ok-insert-clause-put : goal.returns-in-Ok-insert-clause-put
-returns-in-Ok-insert-clause-put c =
+returns-in-Ok-insert-clause-put g c =
     let entries = c.self.inside.ops.entries in
     let n = c.self.inside.arrivals in
-    ap ops_in (c.in-Ok-insert.ensures.entries ∙ ap (λ s. insert_entry by_stamp_and_arrival entries (s, n) (Some c.args.op)) c.stamp-2.ensures)
-    ∙ put_in n c.args.op entries c.self.invariant.held.places ∙ ap (put_held c.args.op) c.self.view_is
+    ap ops_in (c.in-Ok-insert.ensures.entries ∙ ap (λ s. insert_entry by_stamp_and_arrival entries (s, n) (Some c.args.op)) c.stamp.ensures)
+    ∙ put_in n c.args.op entries c.self.invariant.held.places ∙ ap (λ (v : HeldValue). put_held c.args.op v.held) c.self.view_is
 
-pub invariant_of-self-in-Err : goal.invariant_of-self-in-Err
-invariant_of-self-in-Err c =
-    let entries = c.self.inside.ops.entries in
-    let n = c.self.inside.arrivals in
-    let op = c.args.op in
-    let link : c.link_of-link.result ≡ made_link op (stamp_of op, n) = c.link_of-link.ensures ∙ ap (λ s. made_link op (s, n)) c.stamp.ensures in
-    record {
-      held = subst (AreHeld n) (sym c.in-Err.ensures.err) c.self.invariant.held;
-      linked = linked_back c.self.inside.chains c.insert.new.self c.remove-was_there.new.self c.self.inside.ops c.insert-2.new.self (stamp_of op, n) op c.self.invariant.linked
-          (none_so_late n op entries c.self.invariant.held.places (stamp_of op, n) refl)
-          (subst (λ (l : Link). IsLinkedSo l true c.self.inside.chains c.insert.new.self) link c.in-Ok.ensures.updates.0)
-          (subst (λ (l : Link). IsLinkedSo l false c.insert.new.self c.remove-was_there.new.self) link c.remove-was_there.ensures.updates.0)
-          c.in-Err.ensures.err;
-    }
+pub returns-in-Ok-insert-clause-tried : goal.returns-in-Ok-insert-clause-tried
+returns-in-Ok-insert-clause-tried g c log h =
+    let old = c.self.inside in
+    let keyed = c.prepare.ensures.keyed in
+    let keys = c.keep.new.waits.keys in
+    let again = c.keep.new.waits.again.items in
+    let place : Place = (c.stamp.result, old.arrivals) in
+    let others = tried_kept log old.arrivals place old.waits.keys c.prepare.new.waits.keys old.waits.again.items again refl keyed.keys
+    (λ q i. c.keep.ensures.listed q ∙ or_left (is_listed q c.prepare.new.waits.again.items) (is_at (by_stamp_and_arrival q) place) (ap (is_listed q) keyed.again ∙ i))
+    old.ops.entries c.self.invariant.held.places (subst (AreTriedAt log) (sym c.self.view_is) h) in
+    let listed : is_listed place again ≡ true = c.keep.ensures.listed place ∙ or_right (is_listed place c.prepare.new.waits.again.items) (is_at (by_stamp_and_arrival place) place) (own_place place) in
+    let here : is_tried_at log keys again (place, Some c.args.op) ≡ true = or_left (is_listed place again) (sleeps keys log place c.args.op) listed in
+    ap (list_all (is_tried_at log keys again)) c.in-Ok-insert.ensures.entries
+    ∙ tried_more (is_tried_at log keys again) old.ops.entries place (Some c.args.op) here
+    (subst (λ (k : BTreeSet Key). are_tried_at log k again old.ops.entries ≡ true) (sym c.keep.ensures.keys) others)
+
+pub returns-in-Some-1₀-clause-tried : goal.returns-in-Some-1₀-clause-tried
+returns-in-Some-1₀-clause-tried g c log h =
+    let old = c.self.inside in
+    let keyed = c.prepare.ensures.keyed in
+    let place : Place = (c.stamp.result, old.arrivals) in
+    ap (list_all (is_tried_at log c.forget.new.keys c.prepare.new.waits.again.items)) c.in-Err.ensures.err
+    ∙ tried_kept log old.arrivals place old.waits.keys c.forget.new.keys old.waits.again.items c.prepare.new.waits.again.items refl
+    (others_on place old.waits.keys c.prepare.new.waits.keys c.forget.new.keys keyed.keys c.forget.ensures.others) (λ q i. ap (is_listed q) keyed.again ∙ i)
+    old.ops.entries c.self.invariant.held.places (subst (AreTriedAt log) (sym c.self.view_is) h)

@@ -1,89 +1,255 @@
-use Rattle.std.proofs.Common.{◌≡◌, ◌∙◌, ℕ, List, [], None, arith, subst, sym}
+use Rattle.std.proofs.Common.{◌∙◌, refl, ◌≤◌, List, [], inr, true, arith, ap, length, subst, sym}
+use Rattle.std.proofs.lemmas.List.{nil_from_length}
+use Rattle.std.specs.BTreeMap.{get}
+use Rattle.std.specs.BinaryHeap.{heap_len}
 use Rattle.rt_ops.specs.Operations.{Operation}
-use Rattle.rt_holding.specs.Holding.{next_of}
-use Rattle.rt_holding.specs.Kept.{AreHeld, ops_in}
+use Rattle.rt_rga.specs.Histories.{IsHistory}
+use Rattle.rt_holding.specs.Grown.{AreTriedAt, HeldValue}
+use Rattle.rt_holding.specs.Holding.{is_new, next_of}
+use Rattle.rt_holding.specs.Kept.{AreHeld, IsNewAt, by_stamp_and_arrival, ops_in}
 use Rattle.rt_holding.specs.Taken.{AreTried, holding}
-use Rattle.rt_holding.proofs.Dropping.{all_dropped}
-use Rattle.rt_holding.proofs.Places.{kept_on, taken_from}
-use Rattle.rt_holding.proofs.Tries.{ends, ends_lacking, entry_taken, waiting_in}
+use Rattle.rt_holding.specs.Waits.{all_listed, outcome_there}
+use Rattle.rt_holding.proofs.Steps.{IsGoing, IsThere, done_in, dropped, fewer_ops, going, same_entries, slept, stayed, taken_new, took, waits_there}
+use Rattle.rt_holding.proofs.Places.{get_at}
+use Rattle.rt_holding.proofs.Tries.{begins, ends}
 use Rattle.rt_holding.proofs.held.Held.settle.Goals as goal
+
+pub returns-then-len-eq0-clause-tried : goal.returns-then-len-eq0-clause-tried
+returns-then-len-eq0-clause-tried g c =
+    let log = g.T.Taking.log in
+    let site = c.args.site.now in
+    let limit = g.T.Taking.limit site in
+    let entries = c.self.inside.ops.entries in
+    let none = nil_from_length entries (sym c.len.ensures.len ∙ c.if-len-eq0.true) in
+    subst (λ (held : List Operation). AreTried log g.T.Taking.after limit (holding log site held) site site (ops_in entries) 0) (ap (λ (v : HeldValue). v.held) c.self.view_is)
+    (ends log g.T.Taking.after limit [] (holding log site (ops_in entries)) site site (ops_in entries) 0 (begins log g.T.Taking.after limit site (ops_in entries))
+    (ap (λ es. next_of limit [] (log site) (ops_in es)) none))
+
+pub loop-place-init : goal.loop-place-init
+loop-place-init g c = record {
+  limit = refl;
+  history = c.known.ensures.history;
+  held = c.self.invariant.held;
+  waits = c.wake.ensures.ready;
+  ordered = c.len.ensures.ordered;
+  goes = going g.T.Taking.log g.T.Taking.after (g.T.Taking.limit c.args.site.now) c.args.made_by c.known.result c.requires.older c.args.site.now c.self.inside.ops c.self.inside.waits c.wake.new.waits
+      c.requires.grown c.known.ensures.history c.known.ensures.known c.wake.ensures.woken (subst (AreTriedAt c.requires.older) (sym c.self.view_is) c.requires.tried);
+  few = omega arith;
+  all = omega arith;
+}
+
+pub take_at-requires : goal.take_at-requires
+take_at-requires g c =
+    let log = g.T.Taking.log in
+    let l = c.loop-place in
+    let b = l.invariant in
+    let limit = g.T.Taking.limit c.args.site.now in
+    let state = holding log c.args.site.now (ops_in c.self.inside.ops.entries) in
+    let o = c.outcome_at.ensures ∙ ap (λ n. outcome_there l.lacks n (log l.site) l.self-inside.waits.keys c.in-Some.place (get by_stamp_and_arrival l.self-inside.ops c.in-Some.place)) b.limit in
+    subst (λ n. IsNewAt n (log l.site) l.self-inside.ops.entries c.in-Some.place) (sym b.limit)
+    (taken_new log g.T.Taking.after l.lacks limit state c.args.site.now l.site l.self-inside.ops l.self-inside.waits l.taken b.goes c.pop_first.new.due c.in-Some.place c.in-Some.ensures.some
+    c.outcome_at.result c.in-Taken.is o b.ordered).0
+
+pub loop-place-smaller-in-Ok : goal.loop-place-smaller-in-Ok
+loop-place-smaller-in-Ok g c =
+    let log = g.T.Taking.log in
+    let l = c.loop-place in
+    let b = l.invariant in
+    let limit = g.T.Taking.limit c.args.site.now in
+    let state = holding log c.args.site.now (ops_in c.self.inside.ops.entries) in
+    let o = c.outcome_at.ensures ∙ ap (λ n. outcome_there l.lacks n (log l.site) l.self-inside.waits.keys c.in-Some.place (get by_stamp_and_arrival l.self-inside.ops c.in-Some.place)) b.limit in
+    let (n, f) = taken_new log g.T.Taking.after l.lacks limit state c.args.site.now l.site l.self-inside.ops l.self-inside.waits l.taken b.goes c.pop_first.new.due c.in-Some.place c.in-Some.ensures.some
+    c.outcome_at.result c.in-Taken.is o b.ordered in
+    let gone = took log g.T.Taking.after l.lacks limit state c.args.site.now l.site l.self-inside.ops l.self-inside.waits l.taken b.goes c.pop_first.new.due c.in-Some.place c.in-Some.ensures.some
+    n f b.ordered b.history c.take_at.new.site l.self-inside.arrivals c.in-Ok.by c.known-in-Ok.result c.take_at.new.ops c.wake-in-Ok.new.waits b.held c.known-in-Ok.ensures.history
+    c.in-Ok.ensures.site c.in-Ok.ensures.log c.in-Ok.ensures.by c.known-in-Ok.ensures.known c.wake-in-Ok.ensures.woken c.in-Ok.ensures.others c.in-Ok.ensures.out in
+    let all = b.all in
+    let on = c.wake-in-Ok.ensures.woken.all in
+    let popped = c.in-Some.ensures.len in
+    let due : heap_len c.wake-in-Ok.new.waits.due ≤ all_listed c.wake.new.waits = omega (arith, all, on, popped) in
+    fewer_ops (length c.take_at.new.ops.entries) (length l.self-inside.ops.entries) (heap_len c.wake-in-Ok.new.waits.due) (all_listed c.wake.new.waits) (heap_len l.self-inside.waits.due) gone.length due
+
+pub loop-place-preserved-in-Ok : goal.loop-place-preserved-in-Ok
+loop-place-preserved-in-Ok g c =
+    let log = g.T.Taking.log in
+    let l = c.loop-place in
+    let b = l.invariant in
+    let limit = g.T.Taking.limit c.args.site.now in
+    let state = holding log c.args.site.now (ops_in c.self.inside.ops.entries) in
+    let o = c.outcome_at.ensures ∙ ap (λ n. outcome_there l.lacks n (log l.site) l.self-inside.waits.keys c.in-Some.place (get by_stamp_and_arrival l.self-inside.ops c.in-Some.place)) b.limit in
+    let (n, f) = taken_new log g.T.Taking.after l.lacks limit state c.args.site.now l.site l.self-inside.ops l.self-inside.waits l.taken b.goes c.pop_first.new.due c.in-Some.place c.in-Some.ensures.some
+    c.outcome_at.result c.in-Taken.is o b.ordered in
+    let gone = took log g.T.Taking.after l.lacks limit state c.args.site.now l.site l.self-inside.ops l.self-inside.waits l.taken b.goes c.pop_first.new.due c.in-Some.place c.in-Some.ensures.some
+    n f b.ordered b.history c.take_at.new.site l.self-inside.arrivals c.in-Ok.by c.known-in-Ok.result c.take_at.new.ops c.wake-in-Ok.new.waits b.held c.known-in-Ok.ensures.history
+    c.in-Ok.ensures.site c.in-Ok.ensures.log c.in-Ok.ensures.by c.known-in-Ok.ensures.known c.wake-in-Ok.ensures.woken c.in-Ok.ensures.others c.in-Ok.ensures.out in
+    let few = b.few in
+    let less = gone.length in
+    let all = b.all in
+    let on = c.wake-in-Ok.ensures.woken.all in
+    let popped = c.in-Some.ensures.len in
+    record {
+      limit = c.take_at.ensures.limit ∙ b.limit;
+      history = c.known-in-Ok.ensures.history;
+      held = gone.held;
+      waits = c.wake-in-Ok.ensures.ready;
+      ordered = c.take_at.ensures.ordered;
+      goes = gone.goes;
+      few = omega (arith, few, less);
+      all = omega (arith, all, on, popped);
+    }
+
+pub loop-place-preserved-in-Err : goal.loop-place-preserved-in-Err
+loop-place-preserved-in-Err g c =
+    let log = g.T.Taking.log in
+    let l = c.loop-place in
+    let b = l.invariant in
+    let limit = g.T.Taking.limit c.args.site.now in
+    let state = holding log c.args.site.now (ops_in c.self.inside.ops.entries) in
+    let o = c.outcome_at.ensures ∙ ap (λ n. outcome_there l.lacks n (log l.site) l.self-inside.waits.keys c.in-Some.place (get by_stamp_and_arrival l.self-inside.ops c.in-Some.place)) b.limit in
+    let (n, f) = taken_new log g.T.Taking.after l.lacks limit state c.args.site.now l.site l.self-inside.ops l.self-inside.waits l.taken b.goes c.pop_first.new.due c.in-Some.place c.in-Some.ensures.some
+    c.outcome_at.result c.in-Taken.is o b.ordered in
+    let there : IsThere l.self-inside.ops c.in-Some.place = record { op = n.op; found = get_at l.self-inside.ops c.in-Some.place n.op n.there } in
+    let goes = stayed log g.T.Taking.after l.lacks limit state c.args.site.now l.site l.self-inside.ops l.self-inside.waits l.taken b.goes c.pop_first.new.due c.in-Some.place c.in-Some.ensures.some
+    true c.keep.new.waits there b.ordered c.keep.ensures.keys c.keep.ensures.due c.keep.ensures.listed (λ e. f) (inr (ap is_new n.new, refl)) in
+    let few = b.few in
+    let shorter = ap length c.in-Err.ensures.same_ops in
+    let all = b.all in
+    let on = c.keep.ensures.all in
+    let popped = c.in-Some.ensures.len in
+    record {
+      limit = c.take_at.ensures.limit ∙ b.limit;
+      history = subst IsHistory (ap log (sym c.in-Err.ensures.same_site)) b.history;
+      held = subst (AreHeld l.self-inside.arrivals) (sym c.in-Err.ensures.same_ops) b.held;
+      waits = c.keep.ensures.ready;
+      ordered = c.take_at.ensures.ordered;
+      goes = subst (λ s. IsGoing log g.T.Taking.after true limit state c.args.site.now s c.take_at.new.ops c.keep.new.waits l.taken) (sym c.in-Err.ensures.same_site)
+          (same_entries log g.T.Taking.after true limit state c.args.site.now l.site l.self-inside.ops c.take_at.new.ops c.keep.new.waits l.taken goes c.in-Err.ensures.same_ops);
+      few = omega (arith, few, shorter);
+      all = omega (arith, all, on, popped);
+    }
+
+pub loop-place-preserved-in-Waits : goal.loop-place-preserved-in-Waits
+loop-place-preserved-in-Waits g c =
+    let log = g.T.Taking.log in
+    let l = c.loop-place in
+    let b = l.invariant in
+    let limit = g.T.Taking.limit c.args.site.now in
+    let state = holding log c.args.site.now (ops_in c.self.inside.ops.entries) in
+    let o = c.outcome_at.ensures ∙ ap (λ n. outcome_there l.lacks n (log l.site) l.self-inside.waits.keys c.in-Some.place (get by_stamp_and_arrival l.self-inside.ops c.in-Some.place)) b.limit in
+    let w = waits_there l.lacks limit (log l.site) l.self-inside.waits.keys l.self-inside.ops c.in-Some.place c.outcome_at.result c.in-Waits.is o in
+    let few = b.few in
+    let all = b.all in
+    let on = c.keep-in-Waits.ensures.all in
+    let popped = c.in-Some.ensures.len in
+    record {
+      limit = b.limit;
+      history = b.history;
+      held = b.held;
+      waits = c.keep-in-Waits.ensures.ready;
+      ordered = b.ordered;
+      goes = stayed log g.T.Taking.after l.lacks limit state c.args.site.now l.site l.self-inside.ops l.self-inside.waits l.taken b.goes c.pop_first.new.due c.in-Some.place c.in-Some.ensures.some
+          l.lacks c.keep-in-Waits.new.waits w.there b.ordered c.keep-in-Waits.ensures.keys c.keep-in-Waits.ensures.due c.keep-in-Waits.ensures.listed (λ e. e) w.why;
+      few = few;
+      all = omega (arith, all, on, popped);
+    }
+
+pub loop-place-preserved-in-Sleeps : goal.loop-place-preserved-in-Sleeps
+loop-place-preserved-in-Sleeps g c =
+    let log = g.T.Taking.log in
+    let l = c.loop-place in
+    let b = l.invariant in
+    let limit = g.T.Taking.limit c.args.site.now in
+    let state = holding log c.args.site.now (ops_in c.self.inside.ops.entries) in
+    let o = c.outcome_at.ensures ∙ ap (λ n. outcome_there l.lacks n (log l.site) l.self-inside.waits.keys c.in-Some.place (get by_stamp_and_arrival l.self-inside.ops c.in-Some.place)) b.limit in
+    let all = b.all in
+    let due = b.waits.due in
+    let again = b.waits.again in
+    let popped = c.in-Some.ensures.len in
+    let room = c.in-Some.ensures.capacity in
+    record {
+      limit = b.limit;
+      history = b.history;
+      held = b.held;
+      waits = record { heap = c.in-Some.ensures.heap; due = omega (arith, due, popped, room); again = omega (arith, again, popped) };
+      ordered = b.ordered;
+      goes = slept log g.T.Taking.after l.lacks limit state c.args.site.now l.site l.self-inside.ops l.self-inside.waits l.taken b.goes c.pop_first.new.due c.in-Some.place c.in-Some.ensures.some
+          c.outcome_at.result c.in-Sleeps.is o;
+      few = b.few;
+      all = omega (arith, all, popped);
+    }
 
 pub loop-place-smaller : goal.loop-place-smaller
 loop-place-smaller g c =
+    let log = g.T.Taking.log in
     let l = c.loop-place in
-    let kept = kept_on (g.T.Taking.limit l.site) (g.T.Taking.log l.site) l.self-inside.arrivals l.self-inside.ops.entries c.next_place.new.ops.entries l.invariant.held c.next_place.ensures.entries in
-    let n = c.in-Some.ensures.some in
-    let out = taken_from l.self-inside.arrivals c.in-Some.place n.op c.next_place.new.ops.entries c.take_at.new.ops.entries kept.held n.there c.in-Ok.ensures.out in
-    let fewer = kept.length in
-    let shorter = out.length in
-    omega (arith, fewer, shorter)
+    let b = l.invariant in
+    let limit = g.T.Taking.limit c.args.site.now in
+    let state = holding log c.args.site.now (ops_in c.self.inside.ops.entries) in
+    let o = c.outcome_at.ensures ∙ ap (λ n. outcome_there l.lacks n (log l.site) l.self-inside.waits.keys c.in-Some.place (get by_stamp_and_arrival l.self-inside.ops c.in-Some.place)) b.limit in
+    let gone = dropped log g.T.Taking.after l.lacks limit state c.args.site.now l.site l.self-inside.ops l.self-inside.waits l.taken b.goes c.pop_first.new.due c.in-Some.place c.in-Some.ensures.some
+    c.outcome_at.result c.in-Dropped.is o b.ordered l.self-inside.arrivals c.drop_at.new.ops c.drop_at.new.keys b.held c.drop_at.ensures.others c.drop_at.ensures.keys c.drop_at.ensures.entries in
+    let all = b.all in
+    let popped = c.in-Some.ensures.len in
+    let due : heap_len c.pop_first.new.due ≤ all_listed c.wake.new.waits = omega (arith, all, popped) in
+    fewer_ops (length c.drop_at.new.ops.entries) (length l.self-inside.ops.entries) (heap_len c.pop_first.new.due) (all_listed c.wake.new.waits) (heap_len l.self-inside.waits.due) gone.length due
 
 pub loop-place-preserved : goal.loop-place-preserved
 loop-place-preserved g c =
     let log = g.T.Taking.log in
-    let after = g.T.Taking.after in
     let l = c.loop-place in
-    let before = l.invariant in
-    let kept = kept_on (g.T.Taking.limit l.site) (log l.site) l.self-inside.arrivals l.self-inside.ops.entries c.next_place.new.ops.entries before.held c.next_place.ensures.entries in
-    let n = c.in-Some.ensures.some in
-    let out = taken_from l.self-inside.arrivals c.in-Some.place n.op c.next_place.new.ops.entries c.take_at.new.ops.entries kept.held n.there c.in-Ok.ensures.out in
-    let fewer = kept.length in
-    let shorter = out.length in
-    let few = before.few in
+    let b = l.invariant in
+    let limit = g.T.Taking.limit c.args.site.now in
+    let state = holding log c.args.site.now (ops_in c.self.inside.ops.entries) in
+    let o = c.outcome_at.ensures ∙ ap (λ n. outcome_there l.lacks n (log l.site) l.self-inside.waits.keys c.in-Some.place (get by_stamp_and_arrival l.self-inside.ops c.in-Some.place)) b.limit in
+    let gone = dropped log g.T.Taking.after l.lacks limit state c.args.site.now l.site l.self-inside.ops l.self-inside.waits l.taken b.goes c.pop_first.new.due c.in-Some.place c.in-Some.ensures.some
+    c.outcome_at.result c.in-Dropped.is o b.ordered l.self-inside.arrivals c.drop_at.new.ops c.drop_at.new.keys b.held c.drop_at.ensures.others c.drop_at.ensures.keys c.drop_at.ensures.entries in
+    let few = b.few in
+    let less = gone.length in
+    let all = b.all in
+    let due = b.waits.due in
+    let again = b.waits.again in
+    let fewer = c.drop_at.ensures.fewer in
+    let popped = c.in-Some.ensures.len in
+    let room = c.in-Some.ensures.capacity in
     record {
-      limit = c.take_at.ensures.limit ∙ before.limit;
-      held = out.held;
-      linked = c.take_at.ensures.linked;
-      far = entry_taken log after (g.T.Taking.limit c.args.site.now) (g.T.Taking.limit l.site) l.self-inside.arrivals _ _ _ _ c.next_place.new.ops _ _ _ before.limit
-          (all_dropped log after (g.T.Taking.limit c.args.site.now) (g.T.Taking.limit l.site) _ _ l.site (ops_in l.self-inside.ops.entries) (ops_in c.next_place.new.ops.entries) l.taken before.limit before.far kept.ops)
-          kept.held n c.in-Ok.ensures.site c.in-Ok.ensures.log c.in-Ok.ensures.out;
-      few = omega (arith, fewer, shorter, few);
+      limit = b.limit;
+      history = b.history;
+      held = gone.held;
+      waits = record { heap = c.in-Some.ensures.heap; due = omega (arith, due, popped, room, fewer); again = omega (arith, again, popped, fewer) };
+      ordered = c.drop_at.ensures.ordered;
+      goes = gone.goes;
+      few = omega (arith, few, less);
+      all = omega (arith, all, popped, fewer);
     }
 
 pub invariant_of-self-in_default : goal.invariant_of-self-in_default
 invariant_of-self-in_default g c =
-    let l = c.loop-place in
+    let b = c.loop-place.invariant in
+    let due = b.waits.due in
+    let again = b.waits.again in
+    let popped = c.in_default.ensures.fewer in
+    let room = c.in_default.ensures.capacity in
     record {
-      held = (kept_on (g.T.Taking.limit l.site) (g.T.Taking.log l.site) l.self-inside.arrivals l.self-inside.ops.entries c.next_place.new.ops.entries l.invariant.held c.next_place.ensures.entries).held;
-      linked = c.next_place.ensures.linked;
+      held = b.held;
+      ready = record { heap = c.in_default.ensures.heap; due = omega (arith, due, popped, room); again = omega (arith, again, popped) };
     }
 
 pub returns-clause-tried : goal.returns-clause-tried
 returns-clause-tried g c =
     let log = g.T.Taking.log in
-    let after = g.T.Taking.after in
+    let l = c.loop-place in
+    let b = l.invariant in
     let limit = g.T.Taking.limit c.args.site.now in
-    let l = c.loop-place in
-    let before = l.invariant in
-    let left = ops_in c.next_place.new.ops.entries in
-    let kept = kept_on (g.T.Taking.limit l.site) (log l.site) l.self-inside.arrivals l.self-inside.ops.entries c.next_place.new.ops.entries before.held c.next_place.ensures.entries in
-    subst (λ (held : List Operation). AreTried log after limit (holding log c.args.site.now held) c.args.site.now l.site left l.taken) c.self.view_is
-    (ends log after limit _ c.args.site.now l.site left l.taken
-    (all_dropped log after limit (g.T.Taking.limit l.site) _ _ l.site (ops_in l.self-inside.ops.entries) left l.taken before.limit before.far kept.ops)
-    (subst (λ (most : ℕ). next_of most [] (log l.site) left ≡ None) before.limit c.in_default.ensures.none))
-
-pub invariant_of-self : goal.invariant_of-self
-invariant_of-self g c =
-    let l = c.loop-place in
-    let kept = kept_on (g.T.Taking.limit l.site) (g.T.Taking.log l.site) l.self-inside.arrivals l.self-inside.ops.entries c.next_place.new.ops.entries l.invariant.held c.next_place.ensures.entries in
-    record {
-      held = subst (AreHeld l.self-inside.arrivals) (sym c.in-Err.ensures.same_ops) kept.held;
-      linked = c.take_at.ensures.linked;
-    }
-
-pub returns-in-Err-clause-tried : goal.returns-in-Err-clause-tried
-returns-in-Err-clause-tried g c =
-    let log = g.T.Taking.log in
-    let after = g.T.Taking.after in
-    let limit = g.T.Taking.limit c.args.site.now in
-    let l = c.loop-place in
-    let before = l.invariant in
-    let left = ops_in l.self-inside.ops.entries in
-    let less = ops_in c.next_place.new.ops.entries in
-    let kept = kept_on (g.T.Taking.limit l.site) (log l.site) l.self-inside.arrivals l.self-inside.ops.entries c.next_place.new.ops.entries before.held c.next_place.ensures.entries in
-    let dropped : less ≡ waiting_in limit (log l.site) left = subst (λ (most : ℕ). less ≡ waiting_in most (log l.site) left) before.limit kept.ops in
     let state = holding log c.args.site.now (ops_in c.self.inside.ops.entries) in
-    let tried : AreTried log after limit state c.args.site.now l.site less l.taken = ends_lacking log after limit state c.args.site.now l.site left less l.taken before.far dropped in
-    subst (λ (held : List Operation). AreTried log after limit (holding log c.args.site.now held) c.args.site.now c.take_at.new.site (ops_in c.take_at.new.ops.entries) l.taken) c.self.view_is
-    (subst (λ es. AreTried log after limit state c.args.site.now c.take_at.new.site (ops_in es) l.taken) (sym c.in-Err.ensures.same_ops)
-    (subst (λ s. AreTried log after limit state c.args.site.now s less l.taken) (sym c.in-Err.ensures.same_site) tried))
+    subst (λ (held : List Operation). AreTried log g.T.Taking.after limit (holding log c.args.site.now held) c.args.site.now l.site (ops_in l.self-inside.ops.entries) l.taken)
+    (ap (λ (v : HeldValue). v.held) c.self.view_is)
+    (done_in log g.T.Taking.after l.lacks limit state c.args.site.now l.site l.self-inside.ops l.self-inside.waits l.taken b.goes c.in_default.ensures.none b.ordered).0
+
+pub returns-clause-log : goal.returns-clause-log
+returns-clause-log g c =
+    let log = g.T.Taking.log in
+    let l = c.loop-place in
+    let b = l.invariant in
+    let limit = g.T.Taking.limit c.args.site.now in
+    let state = holding log c.args.site.now (ops_in c.self.inside.ops.entries) in
+    (done_in log g.T.Taking.after l.lacks limit state c.args.site.now l.site l.self-inside.ops l.self-inside.waits l.taken b.goes c.in_default.ensures.none b.ordered).1

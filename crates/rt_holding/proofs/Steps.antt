@@ -1,0 +1,364 @@
+-- How each try of a held operation goes on.
+use Rattle.std.proofs.Common.{◌≡◌, ℕ, suc, ◌+◌, ◌*◌, ◌<◌, ◌≤◌, Bool, true, false, ◌⊎◌, inl, inr, refl, sym, ap, subst, ◌∙◌, arith, List, [], ◌∷◌, Option, Some, None, ◌&&◌, ◌||◌, ◌==◌, length, nat_lt, suc-mul}
+use Rattle.std.specs.BTreeMap.{BTreeMap, IsOrdered, get, is_at}
+use Rattle.std.specs.BTreeSet.{BTreeSet}
+use Rattle.std.specs.declared.alloc.Global.{Global}
+use Rattle.std.specs.declared.cmp.Reverse.{Reverse}
+use Rattle.std.specs.declared.collections.BinaryHeap.{BinaryHeap}
+use Rattle.std.specs.List.{list_all, list_any}
+use Rattle.std.specs.Map.{lookup, remove_entry}
+use Rattle.rt_stamps.specs.declared.fault.Fault.TheVariants.{NotYet, TextFull}
+use Rattle.rt_stamps.specs.declared.stamp.Stamp.{Stamp}
+use Rattle.rt_ops.specs.Operations.{Operation}
+use Rattle.rt_oplog.specs.Logs.{Has, holds, known_end, same_operation, with_operation}
+use Rattle.rt_oplog.proofs.Sets.{operation_refl, with_has}
+use Rattle.rt_rga.specs.Answers.{Answer, New, Repeat, Refused, answer_to, answer_within, refused_if_full}
+use Rattle.rt_rga.specs.Cells.{cells_of}
+use Rattle.rt_rga.specs.Histories.{IsHistory, inserted}
+use Rattle.rt_rga.proofs.Skipping.{split}
+use Rattle.rt_holding.specs.declared.trying.Outcome.{Outcome}
+use Rattle.rt_holding.specs.declared.trying.Outcome.TheVariants.{Taken, Waits, Sleeps, Dropped}
+use Rattle.rt_holding.specs.declared.waits.Key.{Key}
+use Rattle.rt_holding.specs.declared.waits.Waits.{Waits as Table}
+use Rattle.rt_holding.specs.Due.{AreKept}
+use Rattle.rt_holding.specs.Grown.{HasGrownBy}
+use Rattle.rt_holding.specs.Holding.{Holding, is_early, is_left, is_new, stays}
+use Rattle.rt_holding.specs.Kept.{AreHeld, IsAt, IsNewAt, Place, by_stamp_and_arrival, ops_in, outcome_of}
+use Rattle.rt_holding.specs.Taken.{AreTried, holding}
+use Rattle.rt_holding.specs.Waiting.{WaitsAt, is_passed, keys_of}
+use Rattle.rt_holding.specs.Waits.{IsFirstDue, IsSetAt, IsWoken, KeepsOthers, are_kept, are_tried_at, has_key, is_due, is_listed, key_at, outcome_there, sleeps}
+use Rattle.rt_holding.proofs.Going.{AreReady, all_at, all_from, both, either, next_due, none_due, or_left, or_right, tried_in, tried_now}
+use Rattle.rt_holding.proofs.Keys.{other_end, passed_by, unpassed_kept}
+use Rattle.rt_holding.proofs.Places.{get_at, taken_from}
+use Rattle.rt_holding.proofs.Standing.{at_found, own_place, there_before, this_place}
+use Rattle.rt_holding.proofs.Tries.{IsSettling, begins, ends, one_dropped, one_lacking, one_taken}
+use Rattle.rt_holding.proofs.Waiting.{unpassed_stay}
+
+-- A KEY IS PASSED, OR NONE IS
+
+-- where a log has grown by one site's operations, one that slept is due, or sleeps on
+pub woken : (by known : ℕ) (older log : List Operation) (old new : Table) → HasGrownBy by older log → IsHistory log → known ≡ known_end log by → IsWoken by known old new
+    → (p : Place) (x : Operation) → sleeps old.keys older p x ≡ true → (is_due p new.due ≡ true) ⊎ (sleeps new.keys log p x ≡ true)
+woken by known older log old new g h i w p x s =
+    let (e, k) = both (is_early (answer_to x older)) (are_kept old.keys older p x) s in
+    let late : WaitsAt older x = or_left (is_early (answer_to x older)) (is_new (answer_to x older)) e in
+    let kept : ℕ → ℕ → Bool = λ site count. has_key old.keys p (record { count = count; site = site }) in
+    let left : ℕ → ℕ → Bool = λ site count. has_key new.keys p (record { count = count; site = site }) in
+    let all : AreKept kept older x = λ key j. all_at (has_key old.keys p) (keys_of older x) k key j in
+    split (list_any (is_passed log) (keys_of older x))
+    (λ t. let (count, l, m) = passed_by kept older log by x g.others late all t in
+    inl (w.passed (key_at (record { count = count; site = by }) p) m refl (omega (arith, l, i))))
+    (λ n. let same = unpassed_stay older log x g.history h g.among late n in
+    let early : is_early (answer_to x log) ≡ true = ap is_early same.0 ∙ e in
+    let on = unpassed_kept kept left older log x g.history h g.among late all n (λ site count l.
+    w.kept (key_at (record { count = count; site = site }) p) (λ a b. let c = ap (known_end log) a in omega (arith, l, b, c, i))) in
+    let now : are_kept new.keys log p x ≡ true = all_from (has_key new.keys p) (keys_of log x) on in
+    inr (rw early now))
+
+-- all that were tried before are ready now
+pub started : (limit by known : ℕ) (wanting older log : List Operation) (m : BTreeMap Place (Option Operation)) (old new : Table) → HasGrownBy by older log → IsHistory log → known ≡ known_end log by → IsWoken by known old new
+    → are_tried_at older old.keys old.again.items m.entries ≡ true → AreReady limit wanting log m new
+started limit by known wanting older log m old new g h i w a p x f =
+    elim (either (is_listed p old.again.items) (sleeps old.keys older p x) (tried_in older old m.entries a p x f)) [
+      | inl j ↦ inl (w.again p j)
+      | inr s ↦ elim (woken by known older log old new g h i w p x s) [ inl d ↦ inl d | inr k ↦ inr (inr k) ]
+    ]
+
+-- a log grows by one operation
+pub grown_by : (older log : List Operation) (by : ℕ) (op : Operation) → IsHistory older → by ≡ op.site → log ≡ with_operation op older → HasGrownBy by older log
+grown_by older log by op h b l = record {
+  history = h;
+  among = λ x i. subst (λ (ops : List Operation). Has ops x) (sym l) (with_has op older x (inr i));
+  others = λ other e. ap (λ ops. known_end ops other) l ∙ other_end op older other (ap (λ n. n == other) (sym b) ∙ e);
+}
+
+-- OUTCOMES
+
+not_yet : (full : Bool) (a : Answer) → refused_if_full full a ≡ Refused NotYet → is_early a ≡ true
+not_yet true New e = absurd (cc e)
+not_yet false New e = absurd (cc e)
+not_yet full Repeat e = absurd (cc e)
+not_yet full (Refused fault) e = ap is_early e
+
+sleeps_if : (lacks : Bool) (a : Answer) (kept : Bool) → Sleeps ≡ outcome_of lacks a kept → (a ≡ Refused NotYet) × (kept ≡ true)
+sleeps_if true New kept e = absurd (cc e)
+sleeps_if false New kept e = absurd (cc e)
+sleeps_if lacks Repeat kept e = absurd (cc e)
+sleeps_if lacks (Refused NotYet) true e = (refl, refl)
+sleeps_if lacks (Refused NotYet) false e = absurd (cc e)
+sleeps_if lacks (Refused TextFull) kept e = absurd (cc e)
+sleeps_if lacks (Refused _) kept e = absurd (cc e)
+
+waits_if : (lacks : Bool) (a : Answer) (kept : Bool) → Waits ≡ outcome_of lacks a kept → (stays a ≡ true) ⊎ ((is_new a ≡ true) × (lacks ≡ true))
+waits_if true New kept e = inr (refl, refl)
+waits_if false New kept e = absurd (cc e)
+waits_if lacks Repeat kept e = absurd (cc e)
+waits_if lacks (Refused NotYet) kept e = inl refl
+waits_if lacks (Refused TextFull) kept e = inl refl
+waits_if lacks (Refused _) kept e = absurd (cc e)
+
+taken_if : (lacks : Bool) (a : Answer) (kept : Bool) → Taken ≡ outcome_of lacks a kept → (a ≡ New) × (lacks ≡ false)
+taken_if true New kept e = absurd (cc e)
+taken_if false New kept e = (refl, refl)
+taken_if lacks Repeat kept e = absurd (cc e)
+taken_if lacks (Refused NotYet) true e = absurd (cc e)
+taken_if lacks (Refused NotYet) false e = absurd (cc e)
+taken_if lacks (Refused TextFull) kept e = absurd (cc e)
+taken_if lacks (Refused _) kept e = absurd (cc e)
+
+dropped_if : (lacks : Bool) (a : Answer) (kept : Bool) → Dropped ≡ outcome_of lacks a kept → (is_new a ≡ false) × (stays a ≡ false)
+dropped_if true New kept e = absurd (cc e)
+dropped_if false New kept e = absurd (cc e)
+dropped_if lacks Repeat kept e = (refl, refl)
+dropped_if lacks (Refused NotYet) true e = absurd (cc e)
+dropped_if lacks (Refused NotYet) false e = absurd (cc e)
+dropped_if lacks (Refused TextFull) kept e = absurd (cc e)
+dropped_if lacks (Refused _) kept e = (refl, refl)
+
+-- an operation stands at a place
+pub record IsThere (m : BTreeMap Place (Option Operation)) (p : Place) : Type 0 where
+  pub op : Operation
+  pub found : get by_stamp_and_arrival m p ≡ Some (Some op)
+
+-- nothing else than sleeping becomes of none
+pub there_if : (lacks : Bool) (limit : ℕ) (log : List Operation) (keys : BTreeSet Key) (m : BTreeMap Place (Option Operation)) (p : Place) (o : Outcome) → o ≡ outcome_there lacks limit log keys p (get by_stamp_and_arrival m p)
+    → (Sleeps ≡ o → ⊥) → IsThere m p
+there_if lacks limit log keys m p o e n = one (get by_stamp_and_arrival m p) refl
+  where
+    one : (v : Option (Option Operation)) → get by_stamp_and_arrival m p ≡ v → IsThere m p
+    one None f = absurd (n (sym (e ∙ ap (outcome_there lacks limit log keys p) f)))
+    one (Some None) f = absurd (n (sym (e ∙ ap (outcome_there lacks limit log keys p) f)))
+    one (Some (Some op)) f = record { op = op; found = f }
+
+-- one that waits on stays, or could be taken but memory is wanting
+pub record WaitsOn (lacks : Bool) (limit : ℕ) (log : List Operation) (m : BTreeMap Place (Option Operation)) (p : Place) : Type 0 where
+  pub there : IsThere m p
+  pub why : (stays (answer_within limit there.op log) ≡ true) ⊎ ((is_new (answer_within limit there.op log) ≡ true) × (lacks ≡ true))
+
+pub outcome_here : (lacks : Bool) (limit : ℕ) (log : List Operation) (keys : BTreeSet Key) (m : BTreeMap Place (Option Operation)) (p : Place) (o : Outcome) (x : Operation) → o ≡ outcome_there lacks limit log keys p (get by_stamp_and_arrival m p)
+    → get by_stamp_and_arrival m p ≡ Some (Some x) → o ≡ outcome_of lacks (answer_within limit x log) (are_kept keys log p x)
+outcome_here lacks limit log keys m p o x e f = e ∙ ap (outcome_there lacks limit log keys p) f
+
+pub waits_there : (lacks : Bool) (limit : ℕ) (log : List Operation) (keys : BTreeSet Key) (m : BTreeMap Place (Option Operation)) (p : Place) (o : Outcome) → o ≡ Waits → o ≡ outcome_there lacks limit log keys p (get by_stamp_and_arrival m p)
+    → WaitsOn lacks limit log m p
+waits_there lacks limit log keys m p o i e =
+    let t = there_if lacks limit log keys m p o e (λ j. let k : Sleeps ≡ Waits = j ∙ i in cc k) in
+    record { there = t; why = waits_if lacks (answer_within limit t.op log) (are_kept keys log p t.op) (sym i ∙ outcome_here lacks limit log keys m p o t.op e t.found) }
+
+not_left : (new stay found : Bool) → new ≡ false → stay ≡ false → (stay || (new && found)) ≡ false
+not_left true stay found n s = absurd (cc n)
+not_left false true found n s = absurd (cc s)
+not_left false false found n s = refl
+
+-- keys of another place stay
+pub kept_others : (p : Place) (old new : BTreeSet Key) → KeepsOthers p old new → (q : Place) (keys : List Stamp) → is_at (by_stamp_and_arrival p) q ≡ false → list_all (has_key new q) keys ≡ list_all (has_key old q) keys
+kept_others p old new k q [] n = refl
+kept_others p old new k q (key ∷ keys) n =
+    ap (λ b. b && list_all (has_key new q) keys) (k (key_at key q) n) ∙ ap (λ b. has_key old q key && b) (kept_others p old new k q keys n)
+
+-- WHAT GOES ON
+
+-- there are more of those that found no memory
+left_on : (limit : ℕ) (wanting log : List Operation) (op x : Operation) → is_left limit wanting log x ≡ true → is_left limit (op ∷ wanting) log x ≡ true
+left_on limit wanting log op x h = more (stays (answer_within limit x log)) (is_new (answer_within limit x log)) (same_operation op x) (holds wanting x) h
+  where
+    more : (s n a h : Bool) → (s || (n && h)) ≡ true → (s || (n && (a || h))) ≡ true
+    more true n a h e = refl
+    more false true true h e = refl
+    more false true false h e = e
+    more false false a h e = absurd (cc e)
+
+left_now : (limit : ℕ) (wanting log : List Operation) (op : Operation) → is_new (answer_within limit op log) ≡ true → is_left limit (op ∷ wanting) log op ≡ true
+left_now limit wanting log op n =
+    let r = operation_refl op in
+    elim (stays (answer_within limit op log)) as (λ s. (s || (is_new (answer_within limit op log) && (same_operation op op || holds wanting op))) ≡ true) [ true ↦ refl | false ↦ rw (n, r) refl ]
+
+module _ {Site : Type 0} (log : Site → List Operation) (after : Operation → Site → Site) where
+  -- The tries have come so far, and all that isn't due needn't be tried. None is left for want of memory before that is wanting.
+  pub record IsGoing (lacks : Bool) (limit : ℕ) (state : Holding) (then_site now : Site) (m : BTreeMap Place (Option Operation)) (waits : Table) (count : ℕ) : Type 0 where
+    pub wanting : List Operation
+    pub far : IsSettling log after limit wanting state then_site now (ops_in m.entries) count
+    pub ready : AreReady limit wanting (log now) m waits
+    pub none : lacks ≡ false → wanting ≡ []
+
+  pub going : (limit by known : ℕ) (older : List Operation) (site : Site) (m : BTreeMap Place (Option Operation)) (old new : Table) → HasGrownBy by older (log site) → IsHistory (log site) → known ≡ known_end (log site) by
+      → IsWoken by known old new → are_tried_at older old.keys old.again.items m.entries ≡ true → IsGoing false limit (holding log site (ops_in m.entries)) site site m new 0
+  going limit by known older site m old new g h i w a = record {
+    wanting = [];
+    far = begins log after limit site (ops_in m.entries);
+    ready = started limit by known [] older (log site) m old new g h i w a;
+    none = λ e. refl;
+  }
+
+  module _ (lacks : Bool) (limit : ℕ) (state : Holding) (then_site now : Site) (m : BTreeMap Place (Option Operation)) (old : Table) (count : ℕ) (g : IsGoing lacks limit state then_site now m old count)
+      (due : BinaryHeap (Reverse Place) Global) (p : Place) (first : IsFirstDue p old.due due) where
+    -- one that was due before is, or is the one that is tried
+    due_on : (q : Place) → is_due q old.due ≡ true → (is_due q due ≡ true) ⊎ (q ≡ p)
+    due_on q d = elim (either (is_due q due) (is_at (by_stamp_and_arrival q) p) (first.others q d)) [ inl i ↦ inl i | inr i ↦ inr (this_place q p i) ]
+
+    -- it sleeps, or none stands there
+    pub slept : (o : Outcome) → o ≡ Sleeps → o ≡ outcome_there lacks limit (log now) old.keys p (get by_stamp_and_arrival m p)
+        → IsGoing lacks limit state then_site now m (record { keys = old.keys; due = due; again = old.again }) count
+    slept o i e = record {
+      wanting = g.wanting;
+      far = g.far;
+      ready = λ q x f. elim (g.ready q x f) [
+        | inl d ↦ elim (due_on q d) [
+          | inl j ↦ inl j
+          | inr s ↦ (let h = outcome_here lacks limit (log now) old.keys m p o x e (subst (λ (r : Place). get by_stamp_and_arrival m r ≡ Some (Some x)) s f) in
+              let k = sleeps_if lacks (answer_within limit x (log now)) (are_kept old.keys (log now) p x) (sym i ∙ h) in
+              let early = not_yet (nat_lt limit (length (cells_of (log now)) + length (inserted x))) (answer_to x (log now)) k.0 in
+              let kept : are_kept old.keys (log now) q x ≡ true = subst (λ (r : Place). are_kept old.keys (log now) r x ≡ true) (sym s) k.1 in
+              inr (inr (rw early kept)))
+        ]
+        | inr j ↦ inr j
+      ];
+      none = g.none;
+    }
+
+    -- one that was left, or is the one that is tried, is looked at again
+    ready_again : (later : List Operation) (new : Table) (x : Operation) → get by_stamp_and_arrival m p ≡ Some (Some x) → new.keys ≡ old.keys → new.due ≡ due
+        → ((q : Place) → is_listed q new.again.items ≡ (is_listed q old.again.items || is_at (by_stamp_and_arrival q) p))
+        → ((y : Operation) → is_left limit g.wanting (log now) y ≡ true → is_left limit later (log now) y ≡ true) → is_left limit later (log now) x ≡ true
+        → AreReady limit later (log now) m new
+    ready_again later new x there k d a on l q y f = elim (g.ready q y f) [
+      | inl e ↦ elim (due_on q e) [
+        | inl j ↦ inl (ap (is_due q) d ∙ j)
+        | inr s ↦ (let same : Some (Some x) ≡ Some (Some y) = sym there ∙ ap (get by_stamp_and_arrival m) (sym s) ∙ f in
+            let is : x ≡ y = cc in
+            let here : is_at (by_stamp_and_arrival q) p ≡ true = subst (λ (r : Place). is_at (by_stamp_and_arrival q) r ≡ true) s (own_place q) in
+            inr (inl (a q ∙ or_right (is_listed q old.again.items) (is_at (by_stamp_and_arrival q) p) here, subst (λ (z : Operation). is_left limit later (log now) z ≡ true) is l)))
+      ]
+      | inr j ↦ elim j [
+        | inl i ↦ inr (inl (a q ∙ or_left (is_listed q old.again.items) (is_at (by_stamp_and_arrival q) p) i.0, on y i.1))
+        | inr s ↦ inr (inr (subst (λ (t : BTreeSet Key). sleeps t (log now) q y ≡ true) (sym k) s))
+      ]
+    ]
+
+    -- it stays, or could be taken but memory is wanting
+    pub stayed : (lacking : Bool) (new : Table) (t : IsThere m p) → IsOrdered by_stamp_and_arrival m → new.keys ≡ old.keys → new.due ≡ due
+        → ((q : Place) → is_listed q new.again.items ≡ (is_listed q old.again.items || is_at (by_stamp_and_arrival q) p))
+        → (lacking ≡ false → lacks ≡ false)
+        → (stays (answer_within limit t.op (log now)) ≡ true) ⊎ ((is_new (answer_within limit t.op (log now)) ≡ true) × (lacking ≡ true))
+        → IsGoing lacking limit state then_site now m new count
+    stayed lacking new t s k d a n c = split (is_left limit g.wanting (log now) t.op)
+        (λ l. record {
+          wanting = g.wanting;
+          far = g.far;
+          ready = ready_again g.wanting new t.op t.found k d a (λ y i. i) l;
+          none = λ e. g.none (n e);
+        })
+        (λ l. elim c [
+          | inl i ↦ absurd (let j = or_left (stays (answer_within limit t.op (log now))) (is_new (answer_within limit t.op (log now)) && holds g.wanting t.op) i in cc (j, l))
+          | inr i ↦ record {
+            wanting = t.op ∷ g.wanting;
+            far = one_lacking log after limit g.wanting state then_site now (ops_in m.entries) count t.op g.far
+                (next_due limit g.wanting (log now) m old p t.op g.ready first.first s t.found l) i.0;
+            ready = ready_again (t.op ∷ g.wanting) new t.op t.found k d a (left_on limit g.wanting (log now) t.op) (left_now limit g.wanting (log now) t.op i.0);
+            none = λ e. absurd (let w = i.1 in cc (e, w));
+          }
+        ])
+
+    -- what stays where another was taken out
+    other_place : (q : Place) → is_at (by_stamp_and_arrival p) q ≡ false → q ≡ p → ⊥
+    other_place q t s = let o : is_at (by_stamp_and_arrival p) q ≡ true = subst (λ (r : Place). is_at (by_stamp_and_arrival p) r ≡ true) (sym s) (own_place p) in cc (o, t)
+
+    -- one is tried no more
+    pub record IsGone (lacking : Bool) (site : Site) (less : BTreeMap Place (Option Operation)) (new : Table) (arrivals more : ℕ) : Type 0 where
+      pub goes : IsGoing lacking limit state then_site site less new more
+      pub held : AreHeld arrivals less.entries
+      pub length : suc (length less.entries) ≡ length m.entries
+
+    pub dropped : (o : Outcome) → o ≡ Dropped → o ≡ outcome_there lacks limit (log now) old.keys p (get by_stamp_and_arrival m p) → IsOrdered by_stamp_and_arrival m
+        → (arrivals : ℕ) (less : BTreeMap Place (Option Operation)) (keys : BTreeSet Key) → AreHeld arrivals m.entries → IsSetAt p None m less → KeepsOthers p old.keys keys
+        → less.entries ≡ remove_entry (is_at (by_stamp_and_arrival p)) m.entries → IsGone lacks now less (record { keys = keys; due = due; again = old.again }) arrivals count
+    dropped o i e s arrivals less keys h set others r =
+        let t = there_if lacks limit (log now) old.keys m p o e (λ j. let k : Sleeps ≡ Dropped = j ∙ i in cc k) in
+        let d = dropped_if lacks (answer_within limit t.op (log now)) (are_kept old.keys (log now) p t.op) (sym i ∙ outcome_here lacks limit (log now) old.keys m p o t.op e t.found) in
+        let out = taken_from arrivals p t.op m.entries less.entries h (at_found m.entries p t.op s t.found) r in
+        let l = not_left (is_new (answer_within limit t.op (log now))) (stays (answer_within limit t.op (log now))) (holds g.wanting t.op) d.0 d.1 in
+        record {
+          goes = record {
+            wanting = g.wanting;
+            far = one_dropped log after limit g.wanting state then_site now (ops_in m.entries) (ops_in less.entries) count t.op g.far
+                (next_due limit g.wanting (log now) m old p t.op g.ready first.first s t.found l) d.0 out.ops;
+            ready = λ q x f. let (n, was) = there_before m less p q (Some x) set f in elim (g.ready q x was) [
+              | inl u ↦ elim (due_on q u) [ inl j ↦ inl j | inr j ↦ absurd (other_place q n j) ]
+              | inr u ↦ elim u [
+                | inl j ↦ inr (inl j)
+                | inr j ↦ inr (inr (ap (λ b. is_early (answer_to x (log now)) && b) (kept_others p old.keys keys others q (keys_of (log now) x) n) ∙ j))
+              ]
+            ];
+            none = g.none;
+          };
+          held = out.held;
+          length = out.length;
+        }
+
+    -- what is to be taken is new
+    pub taken_new : (o : Outcome) → o ≡ Taken → o ≡ outcome_there lacks limit (log now) old.keys p (get by_stamp_and_arrival m p) → IsOrdered by_stamp_and_arrival m
+        → IsNewAt limit (log now) m.entries p × (lacks ≡ false)
+    taken_new o i e s =
+        let t = there_if lacks limit (log now) old.keys m p o e (λ j. let k : Sleeps ≡ Taken = j ∙ i in cc k) in
+        let d = taken_if lacks (answer_within limit t.op (log now)) (are_kept old.keys (log now) p t.op) (sym i ∙ outcome_here lacks limit (log now) old.keys m p o t.op e t.found) in
+        (record { op = t.op; there = at_found m.entries p t.op s t.found; new = d.0 }, d.1)
+
+    pub took : IsNewAt limit (log now) m.entries p → lacks ≡ false → IsOrdered by_stamp_and_arrival m → IsHistory (log now)
+        → (site : Site) (arrivals by known : ℕ) (less : BTreeMap Place (Option Operation)) (new : Table) → AreHeld arrivals m.entries → IsHistory (log site)
+        → ((op : Operation) → IsAt p op m.entries → site ≡ after op now) → ((op : Operation) → IsAt p op m.entries → log site ≡ with_operation op (log now))
+        → ((op : Operation) → IsAt p op m.entries → by ≡ op.site) → known ≡ known_end (log site) by
+        → IsWoken by known (record { keys = old.keys; due = due; again = old.again }) new
+        → IsSetAt p None m less → less.entries ≡ remove_entry (is_at (by_stamp_and_arrival p)) m.entries → IsGone lacks site less new arrivals (count + 1)
+    took t n s history site arrivals by known less new h later is_after is_log is_by is_known w set r =
+        let op = t.op in
+        let l = is_log op t.there in
+        let b = is_by op t.there in
+        let out = taken_from arrivals p op m.entries less.entries h t.there r in
+        let found = get_at m p op t.there in
+        let not : is_left limit g.wanting (log now) op ≡ false = subst (λ ops. is_left limit ops (log now) op ≡ false) (sym (g.none n)) (let e = t.new in rw e refl) in
+        let grown = grown_by (log now) (log site) by op history b l in
+        record {
+          goes = record {
+            wanting = g.wanting;
+            far = one_taken log after limit g.wanting state then_site now site (ops_in m.entries) (ops_in less.entries) count op g.far
+                (next_due limit g.wanting (log now) m old p op g.ready first.first s found not) t.new (is_after op t.there) l out.ops;
+            ready = λ q x f. let (n, was) = there_before m less p q (Some x) set f in elim (g.ready q x was) [
+              | inl u ↦ elim (due_on q u) [ inl j ↦ inl (w.due q j) | inr j ↦ absurd (other_place q n j) ]
+              | inr u ↦ elim u [
+                | inl j ↦ inl (w.again q j.0)
+                | inr j ↦ elim (woken by known (log now) (log site) (record { keys = old.keys; due = due; again = old.again }) new grown later is_known w q x j) [ inl k ↦ inl k | inr k ↦ inr (inr k) ]
+              ]
+            ];
+            none = g.none;
+          };
+          held = out.held;
+          length = out.length;
+        }
+
+  -- in a map of the same entries
+  pub same_entries : (lacks : Bool) (limit : ℕ) (state : Holding) (then_site now : Site) (m other : BTreeMap Place (Option Operation)) (waits : Table) (count : ℕ) → IsGoing lacks limit state then_site now m waits count
+      → other.entries ≡ m.entries → IsGoing lacks limit state then_site now other waits count
+  same_entries lacks limit state then_site now m other waits count g e = record {
+    wanting = g.wanting;
+    far = subst (λ es. IsSettling log after limit g.wanting state then_site now (ops_in es) count) (sym e) g.far;
+    ready = λ q x f. g.ready q x (ap (lookup (is_at (by_stamp_and_arrival q))) (sym e) ∙ f);
+    none = g.none;
+  }
+
+  -- none is due
+  pub done_in : (lacks : Bool) (limit : ℕ) (state : Holding) (then_site now : Site) (m : BTreeMap Place (Option Operation)) (waits : Table) (count : ℕ) → IsGoing lacks limit state then_site now m waits count
+      → ((q : Place) → is_due q waits.due ≡ false) → IsOrdered by_stamp_and_arrival m
+      → AreTried log after limit state then_site now (ops_in m.entries) count × (are_tried_at (log now) waits.keys waits.again.items m.entries ≡ true)
+  done_in lacks limit state then_site now m waits count g f s = (
+    ends log after limit g.wanting state then_site now (ops_in m.entries) count g.far (none_due limit g.wanting (log now) m waits g.ready f s),
+    tried_now limit g.wanting (log now) m waits g.ready f s,
+  )
+
+-- MEASURES
+
+-- one operation less, and no more that is due than there are places
+pub fewer_ops : (less all due most was : ℕ) → suc less ≡ all → due ≤ most → less * (most + 1) + due < all * (most + 1) + was
+fewer_ops less all due most was e d =
+    let m : suc less * (most + 1) ≡ less * (most + 1) + (most + 1) = suc-mul less (most + 1) in
+    let k : all * (most + 1) ≡ less * (most + 1) + (most + 1) = ap (λ n. n * (most + 1)) (sym e) ∙ m in
+    omega (arith, k, d)

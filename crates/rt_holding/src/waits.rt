@@ -1,0 +1,433 @@
+// Which of the held operations may be tried, and at which counts others may be.
+ghost use Rattle.std.specs.Prelude.{◌≡◌, ℕ, ◌+◌, ◌<◌, ◌≤◌, ◌||◌, Bool, true, false, [], length, IfNone, IfSome, OnOk, OnSome};
+ghost use Rattle.std.specs.List.{flat_map, list_all};
+ghost use Rattle.std.specs.BinaryHeap.{IsHeap, KeepsHeap, heap_capacity, heap_items, heap_len};
+ghost use Rattle.std.specs.BTreeMap.{is_at};
+ghost use Rattle.std.specs.BTreeSet.{contains};
+ghost use Rattle.rt_ops.specs.Operations.{has_bad_stamp};
+ghost use Rattle.rt_holding.specs.Kept.{Place, by_stamp_and_arrival};
+ghost use Rattle.rt_holding.specs.Waiting.{key_in};
+ghost use Rattle.rt_holding.specs.Waits.{IsFirstDue, IsKeyedMore, IsPassedIn, IsReady, IsWoken, KeepsOthers, LeavesNone, all_listed, are_kept, by_key, by_later, has_key, is_due, is_listed, least_key};
+
+use crate::taking::Taking;
+use crate::trying::Place;
+use rt_oplog::{Edit, Op};
+use rt_stamps::{ROOT, Span, Stamp};
+use std::alloc::{AllocError, Global};
+use std::cmp::Reverse;
+use std::collections::{BTreeSet, BinaryHeap};
+
+/// The known end of a site is to come to a count, and what for: where a held operation stands.
+#[derive(Clone, Copy, PartialEq, Eq, PartialOrd, Ord)]
+pub(crate) struct Key {
+    pub(crate) site: u16,
+    pub(crate) count: u64,
+    pub(crate) place: Place,
+}
+
+pub(crate) type Keys = BTreeSet<Key>;
+
+/// Where those stand that may be tried, the first of them on top.
+pub(crate) type Due = BinaryHeap<Reverse<Place>>;
+
+/// What held operations wait for. There is room for all of them among those that are due, and among those that are looked at again.
+#[derive(Drop)]
+pub(crate) struct Waits {
+    pub(crate) keys: Keys,
+    pub(crate) due: Due,
+    /// Those that are looked at after each operation that is taken.
+    pub(crate) again: Vec<Place>,
+}
+
+impl Waits {
+    pub(crate) fn new(alloc: Global) -> Waits
+        ensures { IsReady 0 result }
+    {
+        Waits {
+            keys: BTreeSet::new(alloc),
+            due: BinaryHeap::new(alloc),
+            again: Vec::new(alloc),
+        }
+    }
+}
+
+// WHAT IS DUE
+
+/// One more is due.
+fn push_due(due: &mut Due, place: Place)
+    requires { heap_len due.old < heap_capacity due.old }
+    ensures due { (p : Place) → is_due p due.new ≡ is_at (by_stamp_and_arrival p) place || is_due p due.old }
+    ensures len { heap_len due.new ≡ heap_len due.old + 1 }
+    ensures capacity { heap_capacity due.old ≤ heap_capacity due.new }
+    ensures heap { KeepsHeap by_later (heap_items due.old) (heap_items due.new) }
+{
+    let pushed: Result<_, _> = due.push(Reverse(place));
+    pushed.unwrap();
+}
+
+/// Takes a place out that stands on top, as often as it does.
+fn drop_same(due: &mut Due, place: Place)
+    requires { IsHeap by_later (heap_items due.old) }
+    ensures heap { IsHeap by_later (heap_items due.new) }
+    ensures due { (p : Place) → is_due p due.old ≡ true → (is_due p due.new || is_at (by_stamp_and_arrival p) place) ≡ true }
+    ensures len { heap_len due.new ≤ heap_len due.old }
+    ensures capacity { heap_capacity due.new ≡ heap_capacity due.old }
+{
+    while let Some(&Reverse(top)) = due.peek() {
+        if top != place {
+            return;
+        }
+        let _same = due.pop();
+    }
+}
+
+/// Takes out the first of those that are due.
+pub(crate) fn pop_first(due: &mut Due) -> Option<Place>
+    requires { IsHeap by_later (heap_items due.old) }
+    ensures heap { IsHeap by_later (heap_items due.new) }
+    ensures some { IfSome result (λ place. IsFirstDue place due.old due.new) }
+    ensures none { IfNone result ((p : Place) → is_due p due.old ≡ false) }
+    ensures len { OnSome result (heap_len due.new < heap_len due.old) }
+    ensures fewer { heap_len due.new ≤ heap_len due.old }
+    ensures capacity { heap_capacity due.new ≡ heap_capacity due.old }
+{
+    let Reverse(first) = due.pop()?;
+    drop_same(due, first);
+    Some(first)
+}
+
+/// One more is looked at again.
+pub(crate) fn keep(waits: &mut Waits, place: Place)
+    requires { IsReady 1 waits.old }
+    ensures ready { IsReady 0 waits.new }
+    ensures listed { (p : Place) → is_listed p waits.new.again.items ≡ is_listed p waits.old.again.items || is_at (by_stamp_and_arrival p) place }
+    ensures keys { waits.new.keys ≡ waits.old.keys }
+    ensures due { waits.new.due ≡ waits.old.due }
+    ensures all { all_listed waits.new ≡ all_listed waits.old + 1 }
+{
+    let pushed: Result<_, _> = waits.again.push(place);
+    pushed.unwrap();
+}
+
+// KEYS
+
+impl Key {
+    /// All of a site stand behind it, or at it.
+    fn least(site: u16) -> Key
+        ensures { result ≡ least_key site }
+    {
+        Key {
+            site,
+            count: 0,
+            place: (ROOT, 0),
+        }
+    }
+}
+
+/// The first key of a site to which its known end has come.
+fn first_passed(keys: &Keys, site: u16, known: u64) -> Option<Key>
+    ensures some { IfSome result (IsPassedIn keys.now site known) }
+    ensures none { IfNone result (LeavesNone keys.now site known) }
+{
+    let first = keys.range(Key::least(site)..).next()?;
+    let key = *first;
+    if key.site == site && key.count <= known {
+        Some(key)
+    } else {
+        None
+    }
+}
+
+/// All that are looked at again are due.
+fn look_again(waits: &mut Waits)
+    requires { IsReady 0 waits.old }
+    ensures ready { IsReady 0 waits.new }
+    ensures keys { waits.new.keys ≡ waits.old.keys }
+    ensures due { (p : Place) → is_due p waits.old.due ≡ true → is_due p waits.new.due ≡ true }
+    ensures again { (p : Place) → is_listed p waits.old.again.items ≡ true → is_due p waits.new.due ≡ true }
+    ensures all { all_listed waits.new ≤ all_listed waits.old }
+{
+    while let Some(place) = waits.again.pop() {
+        push_due(&mut waits.due, place);
+    }
+}
+
+/// The known end of a site has come to a count: all are due that wait for that, or are looked at again.
+pub(crate) fn wake(waits: &mut Waits, site: u16, known: u64)
+    requires { IsReady 0 waits.old }
+    ensures ready { IsReady 0 waits.new }
+    ensures woken { IsWoken site known waits.old waits.new }
+{
+    look_again(waits);
+    while let Some(key) = first_passed(&waits.keys, site, known) {
+        let _was_there = waits.keys.remove(&key);
+        push_due(&mut waits.due, key.place);
+    }
+}
+
+// WHAT AN OPERATION WAITS FOR
+
+/// Whether a key is kept.
+fn has_it(keys: &Keys, stamp: Stamp, place: Place) -> bool
+    ensures { result ≡ has_key keys.now place stamp }
+{
+    keys.contains(&Key {
+        site: stamp.site,
+        count: stamp.count,
+        place,
+    })
+}
+
+/// Whether the key is kept of what a span names past the known end of its site, if it does.
+fn is_span_kept<T: Taking>(site: &T, keys: &Keys, span: Span, place: Place) -> bool
+    ensures { result ≡ list_all (has_key keys.now place) (key_in (T.log site.now) span) }
+{
+    if span.site == 0 || span.last < span.first {
+        return true;
+    }
+    let known = site.known(span.site);
+    if span.last <= known {
+        return true;
+    }
+    let count = span.first.max(known + 1);
+    has_it(
+        keys,
+        Stamp {
+            count,
+            site: span.site,
+        },
+        place,
+    )
+}
+
+/// Whether they are of all spans.
+fn are_spans_kept<T: Taking>(site: &T, keys: &Keys, spans: &[Span], place: Place) -> bool
+    ensures { result ≡ list_all (has_key keys.now place) (flat_map (key_in (T.log site.now)) spans.now) }
+{
+    for span in spans {
+        if !is_span_kept(site, keys, *span, place) {
+            return false;
+        }
+    }
+    true
+}
+
+/// Whether all keys of an operation at a place are kept.
+pub(crate) fn are_all_kept<T: Taking>(site: &T, keys: &Keys, op: &Op, place: Place) -> bool
+    requires { has_bad_stamp op.now ≡ false }
+    ensures { result ≡ are_kept keys.now (T.log site.now) place op.now }
+{
+    let own = op.site();
+    let prev = op.prev();
+    if site.known(own) < prev {
+        return has_it(
+            keys,
+            Stamp {
+                count: prev,
+                site: own,
+            },
+            place,
+        );
+    }
+    if !has_it(
+        keys,
+        Stamp {
+            count: prev + 1,
+            site: own,
+        },
+        place,
+    ) {
+        return false;
+    }
+    match op.edit() {
+        Edit::Insert { after, .. } => is_span_kept(site, keys, only(*after), place),
+        Edit::Delete { spans } => are_spans_kept(site, keys, spans, place),
+        Edit::Tag { spans, .. } => are_spans_kept(site, keys, spans, place),
+    }
+}
+
+/// A stamp alone.
+fn only(stamp: Stamp) -> Span
+    ensures { result ≡ record { site = stamp.site; first = stamp.count; last = stamp.count } }
+{
+    Span {
+        site: stamp.site,
+        first: stamp.count,
+        last: stamp.count,
+    }
+}
+
+/// Makes room for one more, among those that are due and those that are looked at again.
+fn make_room(waits: &mut Waits) -> Result<(), AllocError>
+    requires { IsReady 0 waits.old }
+    ensures ready { IsReady 0 waits.new }
+    ensures room { OnOk result (IsReady 1 waits.new) }
+    ensures keys { waits.new.keys ≡ waits.old.keys }
+    ensures due { heap_items waits.new.due ≡ heap_items waits.old.due }
+    ensures again { waits.new.again.items ≡ waits.old.again.items }
+{
+    let keys = waits.keys.len() + 1;
+    waits.due.reserve(waits.again.len() + keys)?;
+    waits.again.reserve(waits.due.len() + keys)
+}
+
+/// One more key, where the known end of its site hasn't come to it.
+fn put_key<T: Taking>(
+    site: &T,
+    waits: &mut Waits,
+    stamp: Stamp,
+    place: Place,
+) -> Result<(), AllocError>
+    requires { IsReady 0 waits.old }
+    ensures ready { IsReady 0 waits.new }
+    ensures keyed { IsKeyedMore place waits.old waits.new }
+{
+    if stamp.count <= site.known(stamp.site) {
+        return Ok(());
+    }
+    make_room(waits)?;
+    let key = Key {
+        site: stamp.site,
+        count: stamp.count,
+        place,
+    };
+    match waits.keys.insert(key) {
+        Ok(_) => Ok(()),
+        Err(_) => Err(AllocError),
+    }
+}
+
+/// One for the first stamp of each span.
+fn put_spans<T: Taking>(
+    site: &T,
+    waits: &mut Waits,
+    spans: &[Span],
+    place: Place,
+) -> Result<(), AllocError>
+    requires { IsReady 0 waits.old }
+    ensures ready { IsReady 0 waits.new }
+    ensures keyed { IsKeyedMore place waits.old waits.new }
+{
+    for span in spans {
+        put_key(
+            site,
+            waits,
+            Stamp {
+                count: span.first,
+                site: span.site,
+            },
+            place,
+        )?;
+    }
+    Ok(())
+}
+
+/// Those of an operation: for the one before it, for one in its own place, and for what it names.
+fn put_keys<T: Taking>(site: &T, waits: &mut Waits, op: &Op, place: Place) -> Result<(), AllocError>
+    requires { IsReady 0 waits.old }
+    ensures ready { IsReady 0 waits.new }
+    ensures keyed { IsKeyedMore place waits.old waits.new }
+{
+    let own = op.site();
+    let prev = op.prev();
+    put_key(
+        site,
+        waits,
+        Stamp {
+            count: prev,
+            site: own,
+        },
+        place,
+    )?;
+    put_key(
+        site,
+        waits,
+        Stamp {
+            count: prev.saturating_add(1),
+            site: own,
+        },
+        place,
+    )?;
+    match op.edit() {
+        Edit::Insert { after, .. } => put_key(site, waits, *after, place),
+        Edit::Delete { spans } => put_spans(site, waits, spans, place),
+        Edit::Tag { spans, .. } => put_spans(site, waits, spans, place),
+    }
+}
+
+/// The keys of an operation at a place, and room to look at it again.
+pub(crate) fn prepare<T: Taking>(
+    site: &T,
+    waits: &mut Waits,
+    op: &Op,
+    place: Place,
+) -> Result<(), AllocError>
+    requires { IsReady 0 waits.old }
+    ensures ready { IsReady 0 waits.new }
+    ensures room { OnOk result (IsReady 1 waits.new) }
+    ensures keyed { IsKeyedMore place waits.old waits.new }
+{
+    if put_keys(site, waits, op, place).is_ok() && make_room(waits).is_ok() {
+        return Ok(());
+    }
+    forget(&mut waits.keys, op, place);
+    Err(AllocError)
+}
+
+/// Takes a key out, if it is there.
+fn drop_key(keys: &mut Keys, stamp: Stamp, place: Place)
+    ensures others { KeepsOthers place keys.old keys.new }
+    ensures fewer { length keys.new.keys ≤ length keys.old.keys }
+{
+    let _was_there = keys.remove(&Key {
+        site: stamp.site,
+        count: stamp.count,
+        place,
+    });
+}
+
+fn drop_spans(keys: &mut Keys, spans: &[Span], place: Place)
+    ensures others { KeepsOthers place keys.old keys.new }
+    ensures fewer { length keys.new.keys ≤ length keys.old.keys }
+{
+    for span in spans {
+        drop_key(
+            keys,
+            Stamp {
+                count: span.first,
+                site: span.site,
+            },
+            place,
+        );
+    }
+}
+
+/// Takes out the keys of an operation at a place.
+pub(crate) fn forget(keys: &mut Keys, op: &Op, place: Place)
+    ensures others { KeepsOthers place keys.old keys.new }
+    ensures fewer { length keys.new.keys ≤ length keys.old.keys }
+{
+    let own = op.site();
+    let prev = op.prev();
+    drop_key(
+        keys,
+        Stamp {
+            count: prev,
+            site: own,
+        },
+        place,
+    );
+    drop_key(
+        keys,
+        Stamp {
+            count: prev.saturating_add(1),
+            site: own,
+        },
+        place,
+    );
+    match op.edit() {
+        Edit::Insert { after, .. } => drop_key(keys, *after, place),
+        Edit::Delete { spans } => drop_spans(keys, spans, place),
+        Edit::Tag { spans, .. } => drop_spans(keys, spans, place),
+    }
+}
