@@ -1,18 +1,22 @@
 -- Operations that a site made of drafts: what is so of these where the log is a history afterwards.
-use Rattle.std.proofs.Common.{◌≡◌, ◌∙◌, ℕ, suc, ◌+◌, ◌<◌, ◌≤◌, Bool, true, false, ◌&&◌, List, [], ◌∷◌, ap, arith, length, nat_le, refl, subst, sym}
+use Rattle.std.proofs.Common.{◌≡◌, ◌∙◌, ℕ, suc, ◌+◌, ◌<◌, ◌≤◌, Bool, true, false, ◌&&◌, ◌==◌, inl, List, [], ◌∷◌, ap, arith, length, nat_le, refl, subst, sym}
 use Rattle.std.proofs.lemmas.Bool.Decides.{nat_tests}
 use Rattle.rt_stamps.specs.declared.limits.TheConstants.{GREATEST_COUNT}
 use Rattle.rt_stamps.specs.Stamps.{is_before}
 use Rattle.rt_ops.specs.Operations.{Body, Operation, stamp_of}
-use Rattle.rt_oplog.specs.Logs.{with_operation}
+use Rattle.rt_edits.specs.Flat.{Flat}
+use Rattle.rt_oplog.specs.Logs.{Has, known_end, with_operation}
 use Rattle.rt_rga.specs.Cells.{cells_of}
-use Rattle.rt_rga.specs.Drafts.{next_operation, with_drafts}
+use Rattle.rt_rga.specs.Drafts.{next_operation, operations_of, with_drafts}
 use Rattle.rt_rga.specs.Histories.{IsHistory, greatest_last_count}
 use Rattle.rt_rga.specs.Requests.{MayBeMade, last_count_after}
 use Rattle.rt_rga.proofs.Drafting.{newest}
 use Rattle.rt_rga.proofs.Requests.{all_count_on, greatest_bound}
 use Rattle.rt_rga.proofs.Skipping.{split}
+use Rattle.rt_holding.specs.Grown.{HasGrownBy}
 use Rattle.rt_holding.specs.Runs.{fit}
+use Rattle.rt_holding.proofs.Keeping.{with_all}
+use Rattle.rt_holding.proofs.Keys.{other_end}
 use Rattle.rt_peers.specs.SiteStep.{KeepsOperations, Makes, limit_of, log_of, site_of}
 use Rattle.rt_peers.specs.State.{State}
 use Rattle.rt_peers.proofs.Gaining.{Gains}
@@ -82,3 +86,18 @@ pub site_keeps : (old new : State) → Gains old.text.view.doc new.text.view.doc
 site_keeps old new g held few =
     let same = none_made (site_of old) g.drafts (log_of old) (let l = ap length g.log in omega (arith, l, few)) in
     record { log = g.log ∙ same; held = held; site = g.same.site; limit = g.same.limit }
+
+-- OPERATIONS OF ONE SITE
+
+others_stay : (site : ℕ) (drafts : List Body) (set : List Operation) (other : ℕ) → (site == other) ≡ false → known_end (with_drafts site drafts set) other ≡ known_end set other
+others_stay site [] set other e = refl
+others_stay site (draft ∷ drafts) set other e =
+    let op = next_operation site draft set in others_stay site drafts (with_operation op set) other e ∙ other_end op set other e
+
+-- the log grows by operations of the site
+pub gains_grow_by : (old new : Flat) → Gains old new → IsHistory old.log → HasGrownBy old.site old.log new.log
+gains_grow_by old new g h = record {
+  history = h;
+  among = λ x i. subst (λ (log : List Operation). Has log x) (sym g.log) (with_all (operations_of old.site g.drafts old.log) old.log x (inl i));
+  others = λ other e. ap (λ (log : List Operation). known_end log other) g.log ∙ others_stay old.site g.drafts old.log other e;
+}

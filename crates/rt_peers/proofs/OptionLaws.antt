@@ -90,6 +90,15 @@ settings_stay old settings (Ok words) new h =
     sym (ap length (limited_leaves old.view new.view start end said).1)
 settings_stay old settings (Err fault) new h = ap (λ (t : Edited). length t.view.others) h.0
 
+-- and the document stays
+pub settings_doc : (old : Edited) (settings : WidgetSettings) (result : Result (List Word) Fault) (new : Edited) → Answers (settings_step old settings) old result new → old.view.doc ≡ new.view.doc
+settings_doc old settings (Ok words) new h =
+    let start = choice_of settings.start_line in
+    let end = choice_of settings.end_line in
+    let said : limited old.view start end ≡ Ok new.view = configured_is old new settings.shared (limited old.view start end) (changed_is _ words new h) in
+    (limited_leaves old.view new.view start end said).0
+settings_doc old settings (Err fault) new h = ap (λ (t : Edited). t.view.doc) (sym h.0)
+
 -- ONE MORE WIDGET, which one that commands in the place of the first makes
 
 pub there_still : {T : Type 0} (place : ℕ) (old led made : Edited) (settings : WidgetSettings) (result : Result T Fault) → led ≡ text_led place old
@@ -125,6 +134,13 @@ led_one_more place old new settings said =
     let before = led_number old.view place in
     let after = led_number new.view place in
     omega (arith, more, before, after)
+
+pub made_doc : (place : ℕ) (old new : Edited) (settings : WidgetSettings) → text_with_peer (text_led place old) settings ≡ Ok (text_led place new) → old.view.doc ≡ new.view.doc
+made_doc place old new settings said =
+    let led = text_led place old in
+    let start = choice_of settings.start_line in
+    let end = choice_of settings.end_line in
+    (one_more led.view (text_led place new).view start end (configured_is led (text_led place new) settings.shared (with_peer led.view start end) said)).0
 
 pub created_as : (place : ℕ) (path : Word) (state new : State) (settings : WidgetSettings) → is_some (place_of path state.paths) ≡ false
     → text_with_peer (text_led place state.text) settings ≡ Ok (text_led place new.text) → new.paths ≡ state.paths ++ path ∷ [] → new.held ≡ state.held

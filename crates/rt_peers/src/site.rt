@@ -44,14 +44,15 @@ impl Drop for SiteState {
 
 impl Model for SiteState {
     ghost use Rattle.rt_stamps.specs.Words.{as_words};
+    ghost use Rattle.rt_holding.specs.Grown.{AreTriedAt};
     ghost use Rattle.rt_peers.specs.Peers.{HavePaths};
     ghost use Rattle.rt_peers.specs.State.{State};
 
     ghost Value = { State };
 
-    ghost view = { λ s. record { paths = as_words s.paths.items; text = s.text; held = s.held } };
+    ghost view = { λ s. record { paths = as_words s.paths.items; text = s.text; held = s.held.held } };
 
-    ghost invariant = { λ s. HavePaths (as_words s.paths.items) s.text.view };
+    ghost invariant = { λ s. record { paths : HavePaths (as_words s.paths.items) s.text.view; tried : AreTriedAt s.text.view.doc.log s.held } };
 }
 
 impl SiteState {
@@ -92,7 +93,8 @@ impl SiteState {
         let reply = self.text.request(request);
         self.text.lead(place);
         if before < self.text.log().len() {
-            self.held.settle(&mut self.text);
+            let site = self.text.site().number();
+            self.held.settle(&mut self.text, site);
         }
         reply
     }

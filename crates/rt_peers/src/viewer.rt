@@ -47,6 +47,13 @@ impl Viewer {
         Ok(Viewer { alloc, view })
     }
 
+    /// The site whose document it is.
+    pub fn site(&self) -> Site
+        ensures { result.number ≡ self.now.doc.site }
+    {
+        self.view.doc().site()
+    }
+
     /// The log of the document, which is a history: the cells are its cells.
     pub fn log(&self) -> &OpLog
         ensures operations { result.now.operations ≡ self.now.doc.log }

@@ -8,7 +8,7 @@ use super::EditedText;
 use rt_holding::Taking;
 use rt_oplog::{Op, OpLog};
 use rt_rga::Offer;
-use rt_stamps::Fault;
+use rt_stamps::{Fault, Site};
 
 impl Taking for EditedText {
     ghost log = { λ text. text.view.doc.log };
@@ -18,6 +18,7 @@ impl Taking for EditedText {
     ghost after = { text_with_new };
 
     fn answer(&self, op: &Op) -> Result<Offer, Fault> {
+        let _ = self.log();
         self.viewer.answer(op)
     }
 
@@ -34,6 +35,13 @@ impl Taking for EditedText {
 }
 
 impl EditedText {
+    /// The site that it is of.
+    pub(crate) fn site(&self) -> Site
+        ensures { result.number ≡ self.now.view.doc.site }
+    {
+        self.viewer.site()
+    }
+
     /// The log of the document, which is a history: the cells are its cells.
     pub(crate) fn log(&self) -> &OpLog
         ensures operations { result.now.operations ≡ self.now.view.doc.log }

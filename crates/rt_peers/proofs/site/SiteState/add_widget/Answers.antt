@@ -2,7 +2,9 @@ use Rattle.std.proofs.Common.{◌≡◌, ◌∙◌, ◌++◌, ◌∷◌, [], Lis
 use Rattle.std.proofs.lemmas.List.{map-append}
 use Rattle.rt_peers.specs.Peers.{HavePaths}
 use Rattle.rt_peers.specs.State.{State, place_of}
-use Rattle.rt_peers.proofs.OptionLaws.{led_one_more}
+use Rattle.rt_edits.specs.Flat.{Flat}
+use Rattle.rt_holding.specs.Grown.{AreTriedAt}
+use Rattle.rt_peers.proofs.OptionLaws.{led_one_more, made_doc}
 use Rattle.rt_peers.proofs.PeerLaws.{one_more_path}
 use Rattle.rt_peers.proofs.site.SiteState.add_widget.Goals as goal
 
@@ -17,4 +19,8 @@ invariant_of-self-2 c =
     ap (map f) (c.push_reserved.ensures.items ∙ ap (λ l. l ++ c.in_ok-path.path ∷ []) c.in_ok-reserve.ensures.items) ∙ map-append f old (c.in_ok-path.path ∷ [])
     ∙ ap (λ x. map f old ++ x ∷ []) c.in_ok-path.ensures.ok in
     let more = led_one_more c.args.place c.self.inside.text c.add_peer.new.self c.args.settings.now c.in_ok-add_peer.ensures.ok in
-    subst (λ l. HavePaths l c.add_peer.new.self.view) (sym items) (one_more_path (map f old) view c.add_peer.new.self.view new c.self.invariant none more)
+    let docs = made_doc c.args.place c.self.inside.text c.add_peer.new.self c.args.settings.now c.in_ok-add_peer.ensures.ok in
+    record {
+      paths = subst (λ l. HavePaths l c.add_peer.new.self.view) (sym items) (one_more_path (map f old) view c.add_peer.new.self.view new c.self.invariant.paths none more);
+      tried = subst (λ (d : Flat). AreTriedAt d.log c.self.inside.held) docs c.self.invariant.tried;
+    }

@@ -5,6 +5,8 @@ use Rattle.rt_stamps.specs.declared.fault.Fault.TheVariants.{LastWidget}
 use Rattle.rt_stamps.specs.Outcomes.{unless}
 use Rattle.rt_stamps.specs.Words.{Word, as_words}
 use Rattle.rt_text.specs.Widgets.{Viewed}
+use Rattle.rt_editing.specs.Edited.{Edited}
+use Rattle.rt_holding.specs.Grown.{AreTriedAt}
 use Rattle.rt_peers.specs.Peers.{HavePaths, without_widget}
 use Rattle.rt_peers.specs.PeerStep.{destroyed, destroyed_at}
 use Rattle.rt_peers.specs.State.{State, place_of}
@@ -31,17 +33,20 @@ invariant_of-self c =
     let view = c.self.inside.text.view in
     let there : place < length (paths_in c) = place_within c.args.path.now (paths_in c) place (found c) in
     let items : as_words c.remove.new.self.items ≡ remove (paths_in c) place = ap as_words c.remove.ensures.items ∙ strings_without c.self.inside.paths.items place in
-    subst (λ (l : List Word). HavePaths l c.remove_widget.new.self.view) (sym items)
-    (subst (λ (v : Viewed). HavePaths (remove (paths_in c) place) v) (sym (ap (λ t. t.view) c.remove_widget.ensures)) (path_gone (paths_in c) view place c.self.invariant there (several c)))
+    record {
+      paths = subst (λ (l : List Word). HavePaths l c.remove_widget.new.self.view) (sym items)
+          (subst (λ (v : Viewed). HavePaths (remove (paths_in c) place) v) (sym (ap (λ t. t.view) c.remove_widget.ensures)) (path_gone (paths_in c) view place c.self.invariant.paths there (several c)));
+      tried = subst (λ (t : Edited). AreTriedAt t.view.doc.log c.self.inside.held) (sym c.remove_widget.ensures) c.self.invariant.tried;
+    }
 
 pub returns-clause-ok : goal.returns-clause-ok
 returns-clause-ok c =
     let place = c.in-Some.place in
-    let state : State = record { paths = paths_in c; text = c.self.inside.text; held = c.self.inside.held } in
+    let state : State = record { paths = paths_in c; text = c.self.inside.text; held = c.self.inside.held.held } in
     let items : as_words c.remove.new.self.items ≡ remove (paths_in c) place = ap as_words c.remove.ensures.items ∙ strings_without c.self.inside.paths.items place in
-    let left : without_widget place state ≡ record { paths = as_words c.remove.new.self.items; text = c.remove_widget.new.self; held = c.self.inside.held } =
-    λ i. record { paths = sym items i; text = sym c.remove_widget.ensures i; held = c.self.inside.held } in
+    let left : without_widget place state ≡ record { paths = as_words c.remove.new.self.items; text = c.remove_widget.new.self; held = c.self.inside.held.held } =
+    λ i. record { paths = sym items i; text = sym c.remove_widget.ensures i; held = c.self.inside.held.held } in
     let gone : destroyed c.args.path.now state ≡ Ok (without_widget place state) =
     ap (λ o. destroyed_at o state) (found c) ∙ ap (λ b. unless (cond b None (Some LastWidget)) (without_widget place state)) (counted _ (several c)) in
-    let all : destroyed c.args.path.now state ≡ Ok (record { paths = as_words c.remove.new.self.items; text = c.remove_widget.new.self; held = c.self.inside.held }) = gone ∙ ap (λ s. Ok s) left in
-    subst (λ (s : State). destroyed c.args.path.now s ≡ Ok (record { paths = as_words c.remove.new.self.items; text = c.remove_widget.new.self; held = c.self.inside.held })) c.self.view_is all
+    let all : destroyed c.args.path.now state ≡ Ok (record { paths = as_words c.remove.new.self.items; text = c.remove_widget.new.self; held = c.self.inside.held.held }) = gone ∙ ap (λ s. Ok s) left in
+    subst (λ (s : State). destroyed c.args.path.now s ≡ Ok (record { paths = as_words c.remove.new.self.items; text = c.remove_widget.new.self; held = c.self.inside.held.held })) c.self.view_is all

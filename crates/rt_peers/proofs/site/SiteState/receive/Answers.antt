@@ -6,7 +6,7 @@ use Rattle.rt_peers.proofs.site.SiteState.receive.Goals as goal
 
 pub invariant_of-self : goal.invariant_of-self
 invariant_of-self c =
-    let old : Holder Edited = record { site = c.self.inside.text; held = c.self.inside.held } in
-    let new : Holder Edited = record { site = c.receive.new.site; held = c.receive.new.held } in
+    let old : Holder Edited = record { site = c.self.inside.text; held = c.self.inside.held.held } in
+    let new : Holder Edited = record { site = c.receive.new.site; held = c.receive.new.held.held } in
     let stay = received_stays c.args.bytes.now old c.receive.result new c.receive.ensures.receives in
-    record { each = c.self.invariant.each ∙ sym (ap suc stay); differ = c.self.invariant.differ }
+    record { paths = record { each = c.self.invariant.paths.each ∙ sym (ap suc stay); differ = c.self.invariant.paths.differ }; tried = c.receive.ensures.tried }
