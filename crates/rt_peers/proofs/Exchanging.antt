@@ -1,9 +1,7 @@
 -- A site that holds nothing receives the whole log of another.
-use Rattle.std.proofs.Common.{◌≡◌, ◌⊎◌, ◌∙◌, ℕ, List, [], None, Ok, ap, inl, inr, refl, sym}
-use Rattle.std.specs.Option.{IfSome}
-use Rattle.rt_stamps.specs.declared.fault.Fault.TheVariants.{NoMemory, TextFull}
+use Rattle.std.proofs.Common.{◌≡◌, ◌∙◌, ℕ, List, [], None, Ok, ap, inl, inr, refl, sym}
 use Rattle.rt_ops.specs.Operations.{Operation}
-use Rattle.rt_oplog.specs.Logs.{Has, clash, joined, union}
+use Rattle.rt_oplog.specs.Logs.{Has, union}
 use Rattle.rt_oplog.proofs.Sets.{clash_sym, has_union, union_has}
 use Rattle.rt_rga.specs.Histories.{IsHistory}
 use Rattle.rt_rga.proofs.Accepting.{one_list}

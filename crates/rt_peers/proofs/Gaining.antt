@@ -1,5 +1,5 @@
 -- Documents that gain the operations of drafts, and nothing else that other sites have.
-use Rattle.std.proofs.Common.{◌≡◌, ◌∙◌, ℕ, Bool, true, false, cond, List, [], ◌∷◌, ◌++◌, Option, None, Some, reverse, refl, sym, subst}
+use Rattle.std.proofs.Common.{◌≡◌, ◌∙◌, ℕ, Bool, true, false, cond, List, [], ◌∷◌, ◌++◌, Option, None, Some, reverse, refl, sym}
 use Rattle.std.specs.Prelude.{option_map, unwrap_or}
 use Rattle.std.specs.Str.{bytes_eq}
 use Rattle.rt_stamps.specs.declared.limits.TheConstants.{MOST_SPANS}
@@ -20,8 +20,8 @@ use Rattle.rt_edits.specs.Selections.{selection_with}
 use Rattle.rt_edits.specs.TagDrafts.{deletion_drafts, tag_drafts_at}
 use Rattle.rt_edits.specs.TagWrites.{bared, listed_if, with_tag, with_tag_at, without_tag, without_tags}
 use Rattle.rt_undo.specs.Actions.{Action, Removed}
-use Rattle.rt_revert.specs.Reverting.{Reversion, as_it_is, gone_cell_of, reversion, reverted, stamp_after, with_character, with_each_reverted, with_gone, with_return, with_returns, with_reverted}
-use Rattle.rt_text.specs.Commands.{with_pieces_at, with_range_replaced, with_tag_in, with_tags_deleted, without_ranges}
+use Rattle.rt_revert.specs.Reverting.{Reversion, as_it_is, gone_cell_of, reversion, stamp_after, with_character, with_each_reverted, with_gone, with_return, with_returns, with_reverted}
+use Rattle.rt_text.specs.Commands.{with_pieces_at, with_tag_in, with_tags_deleted, without_ranges}
 use Rattle.rt_text.specs.Replacements.{drafts_at}
 use Rattle.rt_text.specs.Reversions.{view_reverted}
 use Rattle.rt_text.specs.Widgets.{Viewed, begin_of, places_in_text, text_shown}

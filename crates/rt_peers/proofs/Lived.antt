@@ -1,9 +1,9 @@
 -- What came to a site: its calls are the requests of runs that hold operations.
-use Rattle.std.proofs.Common.{◌≡◌, ◌∙◌, ℕ, ◌<◌, inl, List, [], ◌∷◌, ◌++◌, ap, arith, refl, subst, sym}
+use Rattle.std.proofs.Common.{◌≡◌, ◌∙◌, ℕ, ◌<◌, inl, List, [], ◌∷◌, ◌++◌, arith, refl, subst, sym}
 use Rattle.std.proofs.lemmas.List.{append-nil}
 use Rattle.rt_ops.specs.Operations.{Operation}
 use Rattle.rt_rga.specs.Cells.{cells_of}
-use Rattle.rt_rga.specs.Drafts.{operations_of, with_drafts}
+use Rattle.rt_rga.specs.Drafts.{with_drafts}
 use Rattle.rt_rga.specs.Histories.{IsHistory}
 use Rattle.rt_rga.specs.Requests.{Make, Request}
 use Rattle.rt_editing.specs.Edited.{Edited}
@@ -16,8 +16,8 @@ use Rattle.rt_holding.proofs.Accepted.{greatest_accepted, histories_accepted, si
 use Rattle.rt_holding.proofs.Came.{file_goes, runs_on}
 use Rattle.rt_holding.proofs.Sites.{requests_keep}
 use Rattle.rt_peers.specs.Lives.{IsAtRest, Lives, begins, came_to, keeps, made_by, makes, receives}
-use Rattle.rt_peers.specs.SiteStep.{KeepsOperations, MakesAndTries, SiteReceives, Tries, limit_of, log_of, site_of, text_limit, text_log}
-use Rattle.rt_peers.specs.State.{State, holding_of, new_state}
+use Rattle.rt_peers.specs.SiteStep.{KeepsOperations, MakesAndTries, SiteReceives, limit_of, log_of, site_of, text_limit, text_log}
+use Rattle.rt_peers.specs.State.{State, holding_of}
 use Rattle.rt_peers.proofs.Staying.{received_keep, tried_keep}
 
 -- a text of a site, that may have so many cells: it is so whichever operations are taken

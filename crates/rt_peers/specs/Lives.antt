@@ -1,7 +1,6 @@
 -- What becomes of the operations of a site from its beginning on, call by call, and which of them came to it.
 use Rattle.std.specs.Prelude.{◌≡◌, ℕ, ◌<◌, List, [], ◌++◌}
 use Rattle.rt_ops.specs.Operations.{Operation}
-use Rattle.rt_rga.specs.Cells.{cells_of}
 use Rattle.rt_rga.specs.Drafts.{operations_of}
 use Rattle.rt_rga.specs.Histories.{IsHistory}
 use Rattle.rt_editing.specs.Edits.{text_with_new}

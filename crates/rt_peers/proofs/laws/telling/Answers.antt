@@ -1,8 +1,5 @@
-use Rattle.std.proofs.Common.{Result, Ok, ap}
-use Rattle.rt_stamps.specs.declared.fault.Fault.{Fault}
+use Rattle.std.proofs.Common.{Ok, ap}
 use Rattle.rt_editing.specs.Edited.{Edited}
-use Rattle.rt_peers.specs.State.{State}
-use Rattle.rt_peers.specs.ViewStep.{Outcome}
 use Rattle.rt_peers.proofs.PeerLaws.{text_back}
 use Rattle.rt_peers.proofs.laws.telling.Goals as goal
 

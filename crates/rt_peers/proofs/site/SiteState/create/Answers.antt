@@ -1,11 +1,11 @@
-use Rattle.std.proofs.Common.{◌≡◌, ◌∙◌, ◌++◌, [], ◌∷◌, List, ℕ, Bool, true, false, None, Ok, Some, ap, cond, inr, refl, subst, sym}
+use Rattle.std.proofs.Common.{◌≡◌, ◌∙◌, ◌++◌, [], ◌∷◌, List, true, false, None, Ok, Some, ap, cond, inr, refl, subst, sym}
 use Rattle.std.specs.Prelude.{is_some}
 use Rattle.std.proofs.lemmas.Result.{err_from_is_err_and}
 use Rattle.rt_stamps.specs.declared.fault.Fault.TheVariants.{WidgetExists}
 use Rattle.rt_stamps.specs.Outcomes.{Refuses}
 use Rattle.rt_stamps.specs.Words.{Word}
 use Rattle.rt_peers.specs.PeerStep.{created, path_check}
-use Rattle.rt_peers.specs.State.{State, place_of}
+use Rattle.rt_peers.specs.State.{place_of}
 use Rattle.rt_peers.proofs.OptionLaws.{created_as, created_refused}
 use Rattle.rt_peers.proofs.PeerLaws.{place_in}
 use Rattle.rt_peers.proofs.site.SiteState.create.Goals as goal

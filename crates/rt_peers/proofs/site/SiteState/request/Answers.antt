@@ -1,6 +1,6 @@
 use Rattle.std.proofs.Common.{◌≡◌, ◌<◌, ◌≤◌, ◌∙◌, List, ap, arith, length, refl, subst, sym}
 use Rattle.rt_stamps.specs.Words.{as_words}
-use Rattle.rt_peers.specs.Peers.{text_led, widgets_of}
+use Rattle.rt_peers.specs.Peers.{widgets_of}
 use Rattle.rt_peers.specs.State.{State, holding_of}
 use Rattle.rt_store.specs.Shown.{TaggedCell}
 use Rattle.rt_ops.specs.Operations.{Operation}

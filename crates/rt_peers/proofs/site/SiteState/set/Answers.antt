@@ -25,7 +25,7 @@ invariant_of-self c =
     let led = ap (λ t. length (widgets_of t.view)) c.lead.ensures ∙ led_number c.self.inside.text.view c.args.place in
     let back = ap (λ t. length (widgets_of t.view)) c.lead-2.ensures ∙ led_number c.set-reply.new.self.view c.args.place in
     let docs = ap (λ t. t.view.doc.log) (sym c.lead.ensures) ∙ ap (λ d. d.log) (settings_doc c.lead.new.self c.args.settings.now c.set-reply.result c.set-reply.new.self c.set-reply.ensures)
-        ∙ ap (λ t. t.view.doc.log) (sym c.lead-2.ensures) in
+    ∙ ap (λ t. t.view.doc.log) (sym c.lead-2.ensures) in
     record {
       paths = record { each = omega (arith, stays, led, back, c.self.invariant.paths.each); differ = c.self.invariant.paths.differ };
       tried = subst (λ (log : List Operation). AreTriedAt log c.self.inside.held) docs c.self.invariant.tried;
