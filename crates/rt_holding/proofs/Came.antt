@@ -1,11 +1,11 @@
 -- A file that a site receives is so many requests, one for each operation that came with it.
-use Rattle.std.proofs.Common.{◌≡◌, ◌⊎◌, ◌∙◌, ◌++◌, ℕ, ◌<◌, Bool, true, false, cond, inl, inr, refl, sym, ap, subst, List, [], ◌∷◌, Option, None, Some, Ok, append_assoc, not, take}
+use Rattle.std.proofs.Common.{◌≡◌, ◌∙◌, ◌++◌, ℕ, ◌<◌, Bool, true, false, cond, inl, inr, refl, sym, ap, subst, List, [], ◌∷◌, Option, None, Some, Ok, append_assoc, not, take}
 use Rattle.std.specs.List.{AllByRecursion}
 use Rattle.rt_stamps.specs.declared.fault.Fault.{Fault}
 use Rattle.rt_stamps.specs.declared.fault.Fault.TheVariants.{NoMemory, TextFull, WaitingFull}
-use Rattle.rt_ops.specs.File.{AreInFile, HasRecord}
+use Rattle.rt_ops.specs.File.{HasRecord}
 use Rattle.rt_ops.specs.Operations.{Operation}
-use Rattle.rt_ops.specs.Reading.{Reads, ReadsAs, head_fault}
+use Rattle.rt_ops.specs.Reading.{ReadsAs, head_fault}
 use Rattle.rt_ops.specs.Rules.{keeps_rules}
 use Rattle.rt_oplog.specs.Logs.{Has, holds}
 use Rattle.rt_rga.specs.Answers.{Answer, New, Repeat, Refused, answer_within}
@@ -15,12 +15,12 @@ use Rattle.rt_holding.specs.declared.held.Offered.{Offered}
 use Rattle.rt_holding.specs.declared.held.Offered.TheVariants as offerings
 use Rattle.rt_holding.specs.declared.receiving.Received.{Received}
 use Rattle.rt_holding.specs.Came.{came_with, is_want, offered_in}
-use Rattle.rt_holding.specs.Holding.{Holding, Settles, after_answer, as_reply, is_early, is_full, is_new, put_held, reply_for, reply_to, with_taken}
+use Rattle.rt_holding.specs.Holding.{Holding, Settles, after_answer, as_reply, is_early, is_full, is_new, put_held, reply_to, with_taken}
 use Rattle.rt_holding.specs.Receiving.{Offers, Receives, State}
 use Rattle.rt_holding.specs.Replies.{Reply}
 use Rattle.rt_holding.specs.Replies as replies
 use Rattle.rt_holding.specs.Runs.{IsHolding, Leads, Runs, at_first, brought_by, finds_no_room, next, none}
-use Rattle.rt_holding.specs.Taken.{AreTried, IsOffered, IsRefused, all_after, holding, replied}
+use Rattle.rt_holding.specs.Taken.{IsOffered, IsRefused, all_after, holding, replied}
 use Rattle.rt_holding.proofs.Sites.{refused_changes_nothing, repeat_changes_nothing, requests_keep}
 
 -- ONE REQUEST AFTER OTHERS

@@ -1,5 +1,5 @@
 -- A site that holds nothing receives a whole history: it takes each operation of it that it hasn't, in turn.
-use Rattle.std.proofs.Common.{◌≡◌, ◌⊎◌, ◌∙◌, ◌++◌, ℕ, Bool, true, false, inl, inr, refl, sym, ap, subst, List, [], ◌∷◌, Option, None, Some, Ok, reverse}
+use Rattle.std.proofs.Common.{◌≡◌, ◌⊎◌, ◌∙◌, ◌++◌, ℕ, Bool, true, false, inl, inr, refl, sym, ap, subst, List, [], ◌∷◌, None, Ok, reverse}
 use mathlib.Core.List.{reverse-cons}
 use Rattle.std.specs.Option.{IfSome}
 use Rattle.rt_stamps.specs.declared.fault.Fault.{Fault}
