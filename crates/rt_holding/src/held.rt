@@ -138,10 +138,10 @@ impl Held {
         ensures limit { T.limit site.new ≡ T.limit site.old }
         ensures log { AreTriedAt (T.log site.new) self.new }
     {
-        wake(&mut self.waits, made_by, site.known(made_by));
-        if self.ops.len() == 0 {
+        if self.ops.len() == 0 && self.waits.are_over() {
             return 0;
         }
+        wake(&mut self.waits, made_by, site.known(made_by));
         let mut taken = 0;
         let mut lacks = false;
         while let Some(place) = pop_first(&mut self.waits.due) {

@@ -1,5 +1,5 @@
 // Which of the held operations may be tried, and at which counts others may be.
-ghost use Rattle.std.specs.Prelude.{◌≡◌, ℕ, ◌+◌, ◌<◌, ◌≤◌, ◌||◌, Bool, true, false, [], length, IfNone, IfSome, OnOk, OnSome};
+ghost use Rattle.std.specs.Prelude.{◌≡◌, ℕ, ◌+◌, ◌<◌, ◌≤◌, ◌==◌, ◌&&◌, ◌||◌, vec_len, Bool, true, false, [], length, IfNone, IfSome, OnOk, OnSome};
 ghost use Rattle.std.specs.List.{flat_map, list_all};
 ghost use Rattle.std.specs.BinaryHeap.{IsHeap, KeepsHeap, heap_capacity, heap_items, heap_len};
 ghost use Rattle.std.specs.BTreeMap.{is_at};
@@ -48,6 +48,13 @@ impl Waits {
             due: BinaryHeap::new(alloc),
             again: Vec::new(alloc),
         }
+    }
+
+    /// None is due, and none is looked at again.
+    pub(crate) fn are_over(&self) -> bool
+        ensures { result ≡ (vec_len self.now.again == 0) && (heap_len self.now.due == 0) }
+    {
+        self.again.len() == 0 && self.due.len() == 0
     }
 }
 

@@ -14,14 +14,14 @@ use Rattle.rt_holding.proofs.Places.{get_at}
 use Rattle.rt_holding.proofs.Tries.{begins, ends}
 use Rattle.rt_holding.proofs.held.Held.settle.Goals as goal
 
-pub returns-then-len-eq0-clause-tried : goal.returns-then-len-eq0-clause-tried
-returns-then-len-eq0-clause-tried g c =
+pub returns-then-are_over-clause-tried : goal.returns-then-are_over-clause-tried
+returns-then-are_over-clause-tried g c =
     let log = g.T.Taking.log in
     let site = c.args.site.now in
     let limit = g.T.Taking.limit site in
     let entries = c.self.inside.ops.entries in
     let none = nil_from_length entries (sym c.len.ensures.len ∙ c.if-len-eq0.true) in
-    subst (λ (held : List Operation). AreTried log g.T.Taking.after limit (holding log site held) site site (ops_in entries) 0) (ap (λ (v : HeldValue). v.held) c.self.view_is)
+    subst (λ (held : List Operation). AreTried log g.T.Taking.after limit (holding log site held) site site held 0) (ap (λ (v : HeldValue). v.held) c.self.view_is)
     (ends log g.T.Taking.after limit [] (holding log site (ops_in entries)) site site (ops_in entries) 0 (begins log g.T.Taking.after limit site (ops_in entries))
     (ap (λ es. next_of limit [] (log site) (ops_in es)) none))
 
@@ -222,8 +222,8 @@ loop-place-preserved g c =
       all = omega (arith, all, popped, fewer);
     }
 
-pub invariant_of-self-in_default : goal.invariant_of-self-in_default
-invariant_of-self-in_default g c =
+pub invariant_of-self : goal.invariant_of-self
+invariant_of-self g c =
     let b = c.loop-place.invariant in
     let due = b.waits.due in
     let again = b.waits.again in
