@@ -6,7 +6,7 @@ import tempfile
 
 from driving.program import BUILT, ROOT, SITE, check
 from driving.samples import AB, AB_LINE, FILES, HEAD, OLD, TAKE_B, Y, contents, put
-from modelled.sites import Site, spelling
+from modelled.sites import Insert, Site, spelling
 from modelled.words import words_of
 
 
@@ -125,10 +125,12 @@ def after_one(name, line, has_ab, y):
 
 
 def failing_allocations_of_held():
-    """Each allocation fails in turn while an operation is held and tried: what finds no memory stays held, and is taken later."""
+    """Each allocation fails in turn while an operation is held and tried: what finds no memory stays held, and is taken later.
+    It has many tags, so that taking it asks for memory."""
     shim = failing_library(".")
     if shim is None:
         return
+    put("y", spelling([Insert(3, 2, 0, (1, 1), "Y", frozenset(f"tag {i}" for i in range(60)))]))
     asks = ["receive y", "receive ab", ".t get 1.0 end", "receive y", "receive ab", ".t get 1.0 end", "receive y", ".t get 1.0 end"]
     script = "".join(line + "\n" for line in asks).encode()
     texts = {(False, "none"): '= "\\n"', (False, "held"): '= "\\n"', (True, "none"): '= "ab\\n"', (True, "held"): '= "ab\\n"', (True, "taken"): '= "aYb\\n"'}

@@ -3,7 +3,7 @@ import os
 import subprocess
 
 from modelled.peers import Peers
-from modelled.sites import Site, spelling, stamp
+from modelled.sites import Insert, Site, last_count, spelling, stamp
 from modelled.words import BAD_COMMAND, NO_FILE, spelled
 
 
@@ -12,6 +12,8 @@ class Group:
 
     def __init__(self, program, chance, folder, count, has_peers):
         self.program, self.chance, self.folder, self.has_peers = program, chance, folder, has_peers
+        # whether operations are forged, so that sites need not agree in the end
+        self.is_forging = chance.random() < .25
         self.logs = {site: [] for site in chance.sample([1, 2, 3, 7, 65535], count)}
         self.files = {}
 
@@ -34,6 +36,19 @@ class Group:
             self.write(f"{site}.{turn}.one", [self.chance.choice(ops)])
         if self.chance.random() < .2:
             self.write(f"{site}.{turn}.cut", ops, self.chance.randrange(len(spelling(ops))))
+        if ops and self.is_forging:
+            self.write(f"{site}.{turn}.forged", self.forged(ops))
+
+    def forged(self, ops):
+        """Some of the later operations, of which some do something else than what was done under their stamps, and so clash with these, and
+        an Insert behind what its own site never made."""
+        some = [op for op in ops[self.chance.randrange(len(ops)):] if self.chance.random() < .8]
+        some = [op._replace(text="z" * len(op.text)) if isinstance(op, Insert) and self.chance.random() < .4 else op for op in some]
+        last = ops[-1]
+        if self.chance.random() < .5:
+            count = last_count(last) + 2
+            some.append(Insert(count, last.site, last_count(last), (count - 1, last.site), "q", frozenset()))
+        return some
 
     def lines(self, site, names):
         """A script: commands, and files that are received."""
@@ -96,7 +111,7 @@ class Group:
             for op in sorted(self.logs[site], key=stamp):
                 model.accept(op)
             answers.append((sorted(map(str, self.logs[site])), [model.answer(words[1:]) for words in shown]))
-        if any(answer != answers[0] for answer in answers):
+        if not self.is_forging and any(answer != answers[0] for answer in answers):
             print("failed: sites that accepted the same differ in the model")
             good = False
         return good

@@ -12,6 +12,8 @@ Insert = collections.namedtuple("Insert", "count site prev after text tags")
 Delete = collections.namedtuple("Delete", "count site prev stamps")
 Tag = collections.namedtuple("Tag", "count site prev stamps on name")
 ROOT_STAMP, FINAL_STAMP = (0, 0), (1, 0)
+# what is answered to an operation that is offered
+NEW, REPEAT, EARLY, CONFLICT, BAD_TARGET = "new", "repeat", "early", "! 35 Conflict", "! 37 BadTarget"
 TRUTHS = {"1": True, "true": True, "yes": True, "on": True, "0": False, "false": False, "no": False, "off": False}
 
 
@@ -245,9 +247,19 @@ class Site(Widget):
             if isinstance(op, Tag) and op.on:
                 self.listed([op.name])
 
-    def is_early(self, op):
+    def answer_to(self, op):
+        """What is answered to an operation that is offered: REPEAT, CONFLICT, EARLY, BAD_TARGET or NEW, the first that applies."""
+        if op in self.ops:
+            return REPEAT
+        end = self.known_end(op.site)
+        if op.prev != end:
+            return CONFLICT if op.prev < end else EARLY
         known = {FINAL_STAMP, ROOT_STAMP}.union(*map(made, self.ops))
-        return op.prev > self.known_end(op.site) or not set(named(op)) <= known
+        missing = [(count, site) for count, site in named(op) if (count, site) not in known]
+        # none is there, and none will be: of its own site, or of counts that another site has passed
+        if any(site == op.site or count <= self.known_end(site) for count, site in missing):
+            return BAD_TARGET
+        return EARLY if missing else NEW
 
     def take_and_note(self, op):
         before = self.stamps
@@ -256,26 +268,26 @@ class Site(Widget):
             self.undo.is_forced = True
 
     def settle(self):
-        """Takes held operations until none can be, the least stamp first; tells how many."""
+        """Takes held operations until none can be, the least stamp first, and drops those that are refused for good; tells how
+        many were taken."""
         count = 0
-        while ready := [op for op in self.held if not self.is_early(op)]:
+        while ready := [op for op in self.held if self.answer_to(op) != EARLY]:
             op = min(ready, key=stamp)
             self.held.remove(op)
-            if op.prev == self.known_end(op.site):
+            if self.answer_to(op) == NEW:
                 self.take_and_note(op)
                 count += 1
         return count
 
     def accept(self, op):
-        """How many operations are new by one that is offered; none where it is a repeat or held. Those of these tests are never at
-        fault."""
-        if op in self.ops or op in self.held:
-            return 0
-        if self.is_early(op):
+        """How many operations are new by one that is offered, none where it is a repeat or held; and its fault, if it is refused."""
+        answer = self.answer_to(op)
+        if answer == NEW:
+            self.take_and_note(op)
+            return 1 + self.settle(), None
+        if answer == EARLY and op not in self.held:
             self.held.append(op)
-            return 0
-        self.take_and_note(op)
-        return 1 + self.settle()
+        return 0, answer if answer in (CONFLICT, BAD_TARGET) else None
 
     def receive(self, file):
         """The reply to a file: a list of operations, and how many of its bytes there are."""
@@ -285,10 +297,12 @@ class Site(Widget):
         for op in ops:
             if at + len(record(op)) > size:
                 break
-            repeats += op in self.ops or op in self.held
-            new += self.accept(op)
-            at += len(record(op))
-        if size < 8 or at < size:
+            again = op in self.ops or op in self.held
+            more, fault = self.accept(op)
+            if fault:
+                break
+            repeats, new, at = repeats + again, new + more, at + len(record(op))
+        if not fault and (size < 8 or at < size):
             fault = TRUNCATED
         held = len(self.held)
         if fault:
