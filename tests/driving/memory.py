@@ -229,6 +229,8 @@ def failing_allocations():
             print("no C compiler: the failing allocations were not tried")
             return
         asks = [
+            (".t insert 1.0 a t b u", lambda text: ("ab" + text, "=")),
+            (".t get 1.0 end", lambda text: (text, f'= "{text}\\n"')),
             (".t insert 1.0 hello", lambda text: ("hello" + text, "=")),
             (".t get 1.0 end", lambda text: (text, f'= "{text}\\n"')),
             (".t insert 1.0 \"" + "a" * 3000 + '"', lambda text: ("a" * 3000 + text, "=")),
