@@ -1,4 +1,4 @@
--- Which operations came to a site with a file that it received.
+-- Which operations came to a site with a file that it received, told by how its offers went: each was refused, or it wasn't.
 use mathlib.Core.Logic.{inl, inr}
 use Rattle.std.specs.Prelude.{ℕ, Bool, true, false, List, [], ◌∷◌, Option, if◌then◌else◌}
 use Rattle.rt_stamps.specs.declared.fault.Fault.{Fault}
@@ -21,9 +21,11 @@ module _ {Site : Type 0} (log : Site → List Operation) (limit : Site → ℕ) 
   offered_in [] offsets ending old received new h = []
   offered_in (op ∷ ops) [] ending old received new h = []
   offered_in (op ∷ ops) (offset ∷ offsets) ending old received new (inl refused) = if is_want refused.0 then [] else op ∷ []
-  offered_in (op ∷ ops) (offset ∷ offsets) ending old received new (inr offered) = op ∷ offered_in ops offsets ending offered.1 offered.2 new offered.6
+  offered_in (op ∷ ops) (offset ∷ offsets) ending old received new (inr offered) =
+      op ∷ offered_in ops offsets ending offered.1 offered.2 new offered.6
 
   -- none of a file that found no memory
-  abbrev pub came_with : (bytes : List ℕ) (old : State Site) (received : Received) (new : State Site) → Receives log limit after bytes old received new → List Operation
+  abbrev pub came_with : (bytes : List ℕ) (old : State Site) (received : Received) (new : State Site)
+      → Receives log limit after bytes old received new → List Operation
   came_with bytes old received new (inl read) = offered_in read.0 read.1 read.2 old received new read.4
   came_with bytes old received new (inr none) = []

@@ -1,4 +1,4 @@
--- Each call of a site is one of those by which it lives on.
+-- Each call of a site accepts nothing, or makes operations of its own, or receives a file; so the site lives on.
 use Rattle.std.proofs.Common.{◌≡◌, ℕ, Bool, true, false, List, [], ◌∷◌, Option, None, Some, Ok, Err, Result, inl, inr, ap, refl, subst, sym}
 use Rattle.std.specs.Prelude.{MatchBool, codes}
 use Rattle.std.specs.Str.{bytes_eq}
@@ -17,7 +17,7 @@ use Rattle.rt_text.specs.Limited.{limited, with_peer}
 use Rattle.rt_editing.specs.Edited.{Edited}
 use Rattle.rt_editing.proofs.Outcomes.{given}
 use Rattle.rt_holding.specs.declared.receiving.Received.{Received}
-use Rattle.rt_peers.specs.Lives.{Lives, LivesOn, came_to, keeps, made_by, makes, receives}
+use Rattle.rt_peers.specs.Lives.{KeepsOrMakes, Lives, LivesOn, came_to, keeps, made_by, makes, receives}
 use Rattle.rt_peers.specs.Options.{choice_of, option_outcome, option_step, settings_outcome, settings_step, text_set}
 use Rattle.rt_peers.specs.Peers.{text_led, with_widget, without_widget}
 use Rattle.rt_peers.specs.PeerStep.{created, destroyed, destroyed_at, last_check, path_check, peer_outcome, peer_step, text_with_peer}
@@ -31,6 +31,11 @@ use Rattle.rt_peers.proofs.InTurn.{all_kept}
 
 kept_on : (old new : State) → KeepsOperations old new → LivesOn old new
 kept_on old new k site limit came l = ([], subst (Lives site limit new) (sym (append-nil came)) (keeps l k))
+
+-- so it goes on where nothing is accepted, and where operations are made
+goes_on : (old new : State) → KeepsOrMakes old new → LivesOn old new
+goes_on old new (inl k) site limit came l = kept_on old new k site limit came l
+goes_on old new (inr m) site limit came l = (made_by m.1, makes l m.1)
 
 same_keeps : (old new : State) → new ≡ old → KeepsOperations old new
 same_keeps old new e = subst (KeepsOperations old) (sym e) (all_kept old)
@@ -137,58 +142,65 @@ destroyed_keeps (Some place) state new h =
 
 -- REQUESTS
 
-tried_on : (b : Bool) (old mid new : State) → MatchBool b (MakesAndTries old mid new) (KeepsOperations old mid × (new ≡ mid)) → LivesOn old new
-tried_on true old mid new h site limit came l = (made_by h, makes l h)
-tried_on false old mid new h site limit came l = subst (LivesOn old) (sym h.1) (kept_on old mid h.0) site limit came l
+tried : (b : Bool) (old mid new : State) → MatchBool b (MakesAndTries old mid new) (KeepsOperations old mid × (new ≡ mid)) → KeepsOrMakes old new
+tried true old mid new h = inr (mid, h)
+tried false old mid new h = inl (subst (KeepsOperations old) (sym h.1) h.0)
 
-pub answers_on : (outcome : Outcome State) (old new : State) (result : Result (List Word) Fault) → AnswersInTurn outcome old result new → LivesOn old new
-answers_on outcome old new result h = tried_on _ old h.0 new h.2
+pub answered : (outcome : Outcome State) (old new : State) (result : Result (List Word) Fault) → AnswersInTurn outcome old result new → KeepsOrMakes old new
+answered outcome old new result h = tried _ old h.0 new h.2
 
-pub settings_on : (path : Word) (settings : WidgetSettings) (old new : State) (result : Result (List Word) Fault) → Answers (settings_at path old settings) old result new → LivesOn old new
-settings_on path settings old new result h =
-    kept_on old new (at_keeps (place_of path old.paths) (λ place. by_widget place old (λ text. settings_step text settings)) old new result
-    (λ place a. by_keeps place old new (λ text. settings_step text settings) result (set_stays settings) a) h)
+pub settings_kept : (path : Word) (settings : WidgetSettings) (old new : State) (result : Result (List Word) Fault) → Answers (settings_at path old settings) old result new
+    → KeepsOperations old new
+settings_kept path settings old new result h =
+    at_keeps (place_of path old.paths) (λ place. by_widget place old (λ text. settings_step text settings)) old new result
+    (λ place a. by_keeps place old new (λ text. settings_step text settings) result (set_stays settings) a) h
 
-pub option_on : (path : Word) (option : NamedOption) (old new : State) (result : Result (List Word) Fault) → Answers (option_at path old option) old result new → LivesOn old new
-option_on path option old new result h =
-    kept_on old new (at_keeps (place_of path old.paths) (λ place. by_widget place old (λ text. option_step text option)) old new result
-    (λ place a. by_keeps place old new (λ text. option_step text option) result (told_stays option) a) h)
+pub option_kept : (path : Word) (option : NamedOption) (old new : State) (result : Result (List Word) Fault) → Answers (option_at path old option) old result new → KeepsOperations old new
+option_kept path option old new result h =
+    at_keeps (place_of path old.paths) (λ place. by_widget place old (λ text. option_step text option)) old new result
+    (λ place a. by_keeps place old new (λ text. option_step text option) result (told_stays option) a) h
 
-pub peers_on : (path : Word) (request : PeerRequest) (old new : State) (result : Result (List Word) Fault) → Answers (peer_step_at path old request) old result new → LivesOn old new
-peers_on path request old new result h =
-    kept_on old new (at_keeps (place_of path old.paths) (λ place. peer_step path place old request) old new result (λ place a. peer_keeps path place old new request result a) h)
+pub peers_kept : (path : Word) (request : PeerRequest) (old new : State) (result : Result (List Word) Fault) → Answers (peer_step_at path old request) old result new → KeepsOperations old new
+peers_kept path request old new result h =
+    at_keeps (place_of path old.paths) (λ place. peer_step path place old request) old new result (λ place a. peer_keeps path place old new request result a) h
 
-pub destroyed_on : (path : Word) (old new : State) → destroyed path old ≡ Ok new → LivesOn old new
-destroyed_on path old new h = kept_on old new (destroyed_keeps (place_of path old.paths) old new h)
+pub destroyed_kept : (path : Word) (old new : State) → destroyed path old ≡ Ok new → KeepsOperations old new
+destroyed_kept path old new h = destroyed_keeps (place_of path old.paths) old new h
 
 -- COMMANDS
 
-widget_on : (place : ℕ) (words : List Word) (old new : State) (result : Result (List Word) Fault) → WidgetGives place words old result new → LivesOn old new
-widget_on place words old new result (inl h) = answers_on _ old new result h.2
-widget_on place words old new result (inr h) = kept_on old new (refused_keeps old new NoMemory result h)
+widget_gives : (place : ℕ) (words : List Word) (old new : State) (result : Result (List Word) Fault) → WidgetGives place words old result new → KeepsOrMakes old new
+widget_gives place words old new result (inl h) = answered _ old new result h.2
+widget_gives place words old new result (inr h) = inl (refused_keeps old new NoMemory result h)
 
-one_of : (b : Bool) (P Q : Type 0) (old new : State) → (P → LivesOn old new) → (Q → LivesOn old new) → MatchBool b P Q → LivesOn old new
+one_of : (b : Bool) (P Q : Type 0) (old new : State) → (P → KeepsOrMakes old new) → (Q → KeepsOrMakes old new) → MatchBool b P Q → KeepsOrMakes old new
 one_of true P Q old new f g h = f h
 one_of false P Q old new f g h = g h
 
-command_on : (path : Word) (place : ℕ) (words : List Word) (old new : State) (result : Result (List Word) Fault) → CommandGives path place words old result new → LivesOn old new
-command_on path place [] old new result h = widget_on place [] old new result h
-command_on path place (name ∷ words) old new result h =
-    one_of (bytes_eq name (codes "peer")) _ _ old new (λ a. kept_on old new (asked_peer_keeps path place old new (asked_of_peers words) result a))
+command_gives : (path : Word) (place : ℕ) (words : List Word) (old new : State) (result : Result (List Word) Fault) → CommandGives path place words old result new → KeepsOrMakes old new
+command_gives path place [] old new result h = widget_gives place [] old new result h
+command_gives path place (name ∷ words) old new result h =
+    one_of (bytes_eq name (codes "peer")) _ _ old new (λ a. inl (asked_peer_keeps path place old new (asked_of_peers words) result a))
     (one_of (bytes_eq name (codes "configure")) _ _ old new
-    (λ a. kept_on old new (by_keeps place old new (λ text. settings_outcome text (asked_settings words)) result (asked_set_stays (asked_settings words)) a))
+    (λ a. inl (by_keeps place old new (λ text. settings_outcome text (asked_settings words)) result (asked_set_stays (asked_settings words)) a))
     (one_of (bytes_eq name (codes "cget")) _ _ old new
-    (λ a. kept_on old new (by_keeps place old new (λ text. option_outcome text (asked_named_option words)) result (asked_told_stays (asked_named_option words)) a))
-    (widget_on place (name ∷ words) old new result))) h
+    (λ a. inl (by_keeps place old new (λ text. option_outcome text (asked_named_option words)) result (asked_told_stays (asked_named_option words)) a))
+    (widget_gives place (name ∷ words) old new result))) h
+
+pub given_by : (path : Word) (words : List Word) (old new : State) (result : Result (List Word) Fault) → Gives path words old result new → KeepsOrMakes old new
+given_by path words old new result h = found (place_of path old.paths) refl
+  where
+    found : (o : Option ℕ) → place_of path old.paths ≡ o → KeepsOrMakes old new
+    found None e = inl (refused_keeps old new NoWidget result (h.none e))
+    found (Some place) e = command_gives path place words old new result (h.some place e)
+
+-- LIVES
 
 pub gives_on : (path : Word) (words : List Word) (old new : State) (result : Result (List Word) Fault) → Gives path words old result new → LivesOn old new
-gives_on path words old new result h = found (place_of path old.paths) refl
-  where
-    found : (o : Option ℕ) → place_of path old.paths ≡ o → LivesOn old new
-    found None e = kept_on old new (refused_keeps old new NoWidget result (h.none e))
-    found (Some place) e = command_on path place words old new result (h.some place e)
+gives_on path words old new result h = goes_on old new (given_by path words old new result h)
 
--- FILES
+pub destroyed_on : (path : Word) (old new : State) → destroyed path old ≡ Ok new → LivesOn old new
+destroyed_on path old new h = kept_on old new (destroyed_kept path old new h)
 
 pub received_on : (bytes : List ℕ) (received : Received) (old new : State) → SiteReceives bytes old received new → LivesOn old new
 received_on bytes received old new h site limit came l = (came_to bytes old received new h, receives bytes received l h)

@@ -33,12 +33,12 @@ turned : (one other : List Operation) (x : Operation) → Has (union one other) 
 turned one other x i = union_has other one x (elim (has_union one other x i) [ inl j ↦ inr j | inr j ↦ inl j ])
 
 pub exchange_agrees : (one other : State) → IsHistory (log_of one) → IsHistory (log_of other) → ExchangeAgrees one other
-exchange_agrees one other p q bytes more received got new newer file back apart none empty h k e f =
+exchange_agrees one other p q file_one file_other received_one received_other new_one new_other back file apart none empty h k e f =
     let a = log_of one in
     let b = log_of other in
     let other_way : AreApart b a = λ x y i j. clash_sym x y ∙ apart y x j i in
-    let first = joins bytes one new b received file apart none h p q e in
-    let second = joins more other newer a got back other_way empty k q p f in
+    let first = joins file_other one new_one b received_one file apart none h p q e in
+    let second = joins file_one other new_other a received_other back other_way empty k q p f in
     first.log_is
     ∙ one_list (union a b) (union b a) (union_history a b p q (all_free a b p q apart)) (union_history b a q p (all_free b a q p other_way)) (λ x. (turned a b x, turned b a x))
     ∙ sym second.log_is

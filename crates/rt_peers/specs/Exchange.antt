@@ -20,14 +20,15 @@ AreApart one other = (p q : Operation) → Has one p → Has other q → clash p
 -- holds nothing, or a fault was told; and no other than want of memory or of room is.
 abbrev pub ReceivesWhole : State → List Operation → Type 0
 ReceivesWhole one log =
-    (bytes : List ℕ) (received : Received) (new : State) → IsFileOf bytes log → AreApart (log_of one) log → one.held ≡ [] → SiteReceives bytes one received new
+    (bytes : List ℕ) (received : Received) (new : State) → IsFileOf bytes log → AreApart (log_of one) log → one.held ≡ []
+    → SiteReceives bytes one received new
     → (received.fault ≡ None → (joined (log_of one) log ≡ Ok (log_of new)) × (new.held ≡ []))
     × IfSome received.fault (λ found. (found.0 ≡ NoMemory) ⊎ (found.0 ≡ TextFull))
 
 -- Two such sites receive each other's logs, and no fault is told: then both have one log.
 abbrev pub ExchangeAgrees : State → State → Type 0
 ExchangeAgrees one other =
-    (bytes more : List ℕ) (received got : Received) (new newer : State) → IsFileOf bytes (log_of other) → IsFileOf more (log_of one)
-    → AreApart (log_of one) (log_of other) → one.held ≡ [] → other.held ≡ []
-    → SiteReceives bytes one received new → SiteReceives more other got newer → received.fault ≡ None → got.fault ≡ None
-    → log_of new ≡ log_of newer
+    (file_one file_other : List ℕ) (received_one received_other : Received) (new_one new_other : State)
+    → IsFileOf file_one (log_of one) → IsFileOf file_other (log_of other) → AreApart (log_of one) (log_of other) → one.held ≡ [] → other.held ≡ []
+    → SiteReceives file_other one received_one new_one → SiteReceives file_one other received_other new_other
+    → received_one.fault ≡ None → received_other.fault ≡ None → log_of new_one ≡ log_of new_other

@@ -1,5 +1,5 @@
 -- What becomes of the operations of a site from its beginning on, call by call, and which of them came to it.
-use Rattle.std.specs.Prelude.{◌≡◌, ℕ, ◌<◌, List, [], ◌++◌}
+use Rattle.std.specs.Prelude.{◌≡◌, ◌⊎◌, ℕ, ◌<◌, List, [], ◌++◌}
 use Rattle.rt_ops.specs.Operations.{Operation}
 use Rattle.rt_rga.specs.Drafts.{operations_of}
 use Rattle.rt_rga.specs.Histories.{IsHistory}
@@ -17,11 +17,12 @@ made_by {old} h = operations_of (site_of old) h.drafts (log_of old)
 -- the operations that came to it with a file: those that it was offered, unless memory, cells or a place among the held ones wanted
 abbrev pub came_to : (bytes : List ℕ) (old : State) (received : Received) (new : State) → SiteReceives bytes old received new → List Operation
 came_to bytes old received new h =
-    came_with text_log text_limit text_with_new bytes (record { site = old.text; held = old.held }) received (record { site = new.text; held = new.held }) h.text
+    came_with text_log text_limit text_with_new bytes (record { site = old.text; held = old.held }) received
+    (record { site = new.text; held = new.held }) h.text
 
--- A site of a number, that may have so many cells, has come to a state, call by call: one call accepts nothing; one makes operations
--- of the site's own, and then those that it holds are tried; one receives a file. The list has the operations that came to it, its
--- own among them.
+-- The operations of a site of a number, that may have so many cells, have become those of a state, call by call: one call accepts
+-- nothing; one makes operations of the site's own, and then those that it holds are tried; one receives a file. The list has the
+-- operations that came to it, its own among them. Of the cells `SiteState::log` speaks.
 pub data Lives (site limit : ℕ) : State → List Operation → Type 0 where
   begins : 0 < site → 0 < limit → Lives site limit (new_state site limit) []
   keeps : {old new : State} {came : List Operation} → Lives site limit old came → KeepsOperations old new → Lives site limit new came
@@ -29,7 +30,11 @@ pub data Lives (site limit : ℕ) : State → List Operation → Type 0 where
   receives : {old new : State} {came : List Operation} (bytes : List ℕ) (received : Received) → Lives site limit old came
       → (h : SiteReceives bytes old received new) → Lives site limit new (came ++ came_to bytes old received new h)
 
--- a call of a site, from one state to another, goes on where it has come to
+-- What a call does that receives no file: it accepts nothing, or makes operations of the site's own.
+abbrev pub KeepsOrMakes : State → State → Type 0
+KeepsOrMakes old new = KeepsOperations old new ⊎ ((mid : State) × MakesAndTries old mid new)
+
+-- some calls lead from one state to another
 abbrev pub LivesOn : State → State → Type 0
 LivesOn old new = (site limit : ℕ) (came : List Operation) → Lives site limit old came → (more : List Operation) × Lives site limit new (came ++ more)
 
@@ -38,11 +43,12 @@ abbrev pub IsAtRest : State → Type 0
 IsAtRest state = NoneCouldBeTaken (limit_of state) (holding_of state)
 
 -- In whatever order operations come to two sites, in whatever files and with repeats, and whatever they make between: where the same
--- came to both, no two of which clash, and both are at rest, they hold equal cells.
-abbrev pub AgreeInAnyOrder : State → State → Type 0
-AgreeInAnyOrder one other =
-    (site number limit most : ℕ) (came more : List Operation) → Lives site limit one came → Lives number most other more
-    → AreOf came more → AreFree came → IsAtRest one → IsAtRest other → one.text.view.doc.cells ≡ other.text.view.doc.cells
+-- came to both, no two of which clash, and both are at rest, they show the same.
+abbrev pub AgreeInAnyOrder : {Shown : Type 0} → (State → Shown) → State → State → Type 0
+AgreeInAnyOrder shown one other =
+    (site_one site_other limit_one limit_other : ℕ) (came_one came_other : List Operation)
+    → Lives site_one limit_one one came_one → Lives site_other limit_other other came_other
+    → AreOf came_one came_other → AreFree came_one → IsAtRest one → IsAtRest other → shown one ≡ shown other
 
 -- WHAT A SITE HAS ACCEPTED
 

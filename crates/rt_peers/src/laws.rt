@@ -5,15 +5,14 @@ ghost use Rattle.rt_stamps.specs.Outcomes.{Answers};
 ghost use Rattle.rt_stamps.specs.Words.{Word};
 ghost use Rattle.rt_rga.specs.Texts.{tagged_text};
 ghost use Rattle.rt_editing.specs.Edited.{Edited};
-ghost use Rattle.rt_holding.specs.declared.receiving.Received.{Received};
 ghost use Rattle.rt_peer_requests.specs.declared.options.NamedOption.{NamedOption};
 ghost use Rattle.rt_peer_requests.specs.declared.peers.PeerRequest.{PeerRequest};
 ghost use Rattle.rt_peer_requests.specs.declared.settings.WidgetSettings.{WidgetSettings};
 ghost use Rattle.rt_peers.specs.Exchange.{ExchangeAgrees, ReceivesWhole};
-ghost use Rattle.rt_peers.specs.Lives.{AcceptsGreatest, AcceptsHistory, AgreeInAnyOrder, LivesOn, SitesHold};
+ghost use Rattle.rt_peers.specs.Lives.{AcceptsGreatest, AcceptsHistory, AgreeInAnyOrder, KeepsOrMakes, SitesHold};
 ghost use Rattle.rt_peers.specs.Peers.{text_led};
 ghost use Rattle.rt_peers.specs.PeerStep.{destroyed};
-ghost use Rattle.rt_peers.specs.SiteStep.{AnswersInTurn, Gives, SiteReceives, by_widget, log_of, option_at, peer_step_at, settings_at};
+ghost use Rattle.rt_peers.specs.SiteStep.{AnswersInTurn, Gives, KeepsOperations, by_widget, log_of, option_at, peer_step_at, settings_at};
 ghost use Rattle.rt_peers.specs.State.{HaveSame, State};
 ghost use Rattle.rt_peers.specs.ViewStep.{Outcome};
 
@@ -43,7 +42,8 @@ pub fn sites_agree(one: &SiteState, other: &SiteState)
 /// repeats, and whatever each site made of its own between. So it is as soon as neither holds any. An operation that was
 /// refused for want of memory, of cells or of a place among the held ones counts as one that didn't come.
 pub fn sites_agree_in_any_order(one: &SiteState, other: &SiteState)
-    ensures { AgreeInAnyOrder one.now other.now }
+    ensures cells { AgreeInAnyOrder (λ state. state.text.view.doc.cells) one.now other.now }
+    ensures text { AgreeInAnyOrder (λ state. tagged_text state.text.view.doc.cells) one.now other.now }
 {
     let _ = one.log();
     let _ = other.log();
@@ -60,27 +60,26 @@ pub fn exchange(one: &SiteState, other: &SiteState)
     let _ = other.log();
 }
 
-/// What a site has accepted of what came to it, and what it keeps to.
+/// What a site has accepted of what came to it, where no two of these clash and none could be taken any more, or where they
+/// are a history; and what it keeps to.
 pub fn accepted()
     ensures greatest { AcceptsGreatest }
     ensures history { AcceptsHistory }
     ensures holding { SitesHold }
 {}
 
-/// Whatever a call of a site says of the site before it and after it, the site goes on from what it was: it accepts
-/// nothing, or it makes operations of its own, or it receives those of a file.
+/// What a call of a site does to its operations, by what its own clause says: it accepts nothing, or it makes
+/// operations of the site's own, after which held ones are tried. Besides these calls there is `SiteState::receive`.
 pub fn calls()
     ensures answers { (outcome : Outcome State) (old new : State) (result : Result (List Word) Fault)
-        → AnswersInTurn outcome old result new → LivesOn old new }
+        → AnswersInTurn outcome old result new → KeepsOrMakes old new }
     ensures commands { (path : Word) (words : List Word) (old new : State) (result : Result (List Word) Fault)
-        → Gives path words old result new → LivesOn old new }
+        → Gives path words old result new → KeepsOrMakes old new }
     ensures settings { (path : Word) (settings : WidgetSettings) (old new : State) (result : Result (List Word) Fault)
-        → Answers (settings_at path old settings) old result new → LivesOn old new }
+        → Answers (settings_at path old settings) old result new → KeepsOperations old new }
     ensures options { (path : Word) (option : NamedOption) (old new : State) (result : Result (List Word) Fault)
-        → Answers (option_at path old option) old result new → LivesOn old new }
+        → Answers (option_at path old option) old result new → KeepsOperations old new }
     ensures peers { (path : Word) (request : PeerRequest) (old new : State) (result : Result (List Word) Fault)
-        → Answers (peer_step_at path old request) old result new → LivesOn old new }
-    ensures destroyed { (path : Word) (old new : State) → destroyed path old ≡ Ok new → LivesOn old new }
-    ensures received { (bytes : List ℕ) (received : Received) (old new : State)
-        → SiteReceives bytes old received new → LivesOn old new }
+        → Answers (peer_step_at path old request) old result new → KeepsOperations old new }
+    ensures destroyed { (path : Word) (old new : State) → destroyed path old ≡ Ok new → KeepsOperations old new }
 {}
