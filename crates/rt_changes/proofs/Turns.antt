@@ -3,7 +3,7 @@ use Rattle.std.proofs.Common.{◌≡◌, ℕ, ◌<◌, List, [], ◌∷◌, ◌+
 use Rattle.std.specs.Prelude.{nat_le}
 use Rattle.std.proofs.lemmas.Bool.{and_parts, leb-true}
 use Rattle.rt_stamps.specs.declared.limits.TheConstants.{GREATEST_COUNT}
-use Rattle.rt_rga.specs.Requests.{AllMayBeAsked, Make, MayBeAsked, Offer, Request, after_request, after_requests, last_count_after}
+use Rattle.rt_rga.specs.Requests.{AllMayBeAsked, Make, MayBeAsked, Offer, Request, after_request, after_requests, fit, last_count_after}
 use Rattle.rt_rga.proofs.Requests.{all_history, drafts_for}
 use Rattle.rt_rga.proofs.Within.{continues_new}
 use Rattle.std.specs.List.{AllByRecursion}
@@ -18,7 +18,7 @@ use Rattle.rt_rga.specs.Texts.{TaggedCharacter, tagged_text}
 use Rattle.rt_rga.proofs.Accepting.{history_if_new, taken_history}
 use Rattle.rt_rga.proofs.Drafting.{draft_continues}
 use Rattle.rt_rga.proofs.Histories.{continues_from, history_with}
-use Rattle.rt_changes.specs.Replays.{VisibleChange, all_changes, can_make, replayed, changes_by_request, changes_by_requests, changes_if_new, changes_in_turn, changes_of, with_change}
+use Rattle.rt_changes.specs.Replays.{VisibleChange, all_changes, replayed, changes_by_request, changes_by_requests, changes_if_new, changes_in_turn, changes_of, with_change}
 use Rattle.rt_changes.proofs.Texts.{changes_replay}
 
 replayed_append : (changes more : List VisibleChange) (t : List TaggedCharacter) → replayed (changes ++ more) t ≡ replayed more (replayed changes t)
@@ -52,9 +52,9 @@ own_replay site (draft ∷ drafts) set l h a =
 one_request : (site limit : ℕ) (request : Request) (set : List Operation) → 0 < site → IsHistory set → MayBeAsked site set request
     → replayed (changes_by_request site limit request set) (tagged_text (cells_of set)) ≡ tagged_text (cells_of (after_request site limit request set))
 one_request site limit (Offer op) set l h m = one_offer (answer_within limit op set) op set h (λ e. history_with op set h (continues_new limit op set h m e).0)
-one_request site limit (Make drafts) set l h m = by (can_make site limit drafts set) refl
+one_request site limit (Make drafts) set l h m = by (fit site limit drafts set) refl
   where
-    by : (b : Bool) → can_make site limit drafts set ≡ b
+    by : (b : Bool) → fit site limit drafts set ≡ b
         → replayed (cond b (changes_in_turn (operations_of site drafts set) set) []) (tagged_text (cells_of set)) ≡ tagged_text (cells_of (cond b (with_drafts site drafts set) set))
     by true e =
         let fit = (and_parts (nat_le (last_count_after (greatest_last_count set) drafts) GREATEST_COUNT) (nat_le (length (cells_of (with_drafts site drafts set))) limit) e).0 in

@@ -1,7 +1,6 @@
 -- What an operation does to the visible text with its tags, as a list of changes that are replayed one after the other.
-use Rattle.std.specs.Prelude.{ℕ, zero, suc, ◌+◌, ◌<◌, ◌≤◌, nat_le, ◌==◌, ◌&&◌, Bool, List, [], ◌∷◌, ◌++◌, length, take, drop, map, filter, if◌then◌else◌}
+use Rattle.std.specs.Prelude.{ℕ, zero, suc, ◌+◌, ◌<◌, ◌≤◌, ◌==◌, Bool, List, [], ◌∷◌, ◌++◌, length, take, drop, map, filter, if◌then◌else◌}
 use Rattle.std.specs.Ordering.{is_gt, is_lt}
-use Rattle.rt_stamps.specs.declared.limits.TheConstants.{GREATEST_COUNT}
 use Rattle.rt_stamps.specs.declared.stamp.Stamp.{Stamp}
 use Rattle.rt_stamps.specs.Names.{name_order}
 use Rattle.rt_ops.specs.Operations.{Operation, Body, Insert, Delete, Tag, Name, stamp_of}
@@ -10,9 +9,8 @@ use Rattle.rt_store.specs.Cells.{put_at, visible_of}
 use Rattle.rt_store.specs.Shown.{TaggedCell}
 use Rattle.rt_rga.specs.Answers.{Answer, New, Repeat, Refused, answer_to, answer_within, taken}
 use Rattle.rt_rga.specs.Cells.{cells_of}
-use Rattle.rt_rga.specs.Drafts.{operations_of, with_drafts}
-use Rattle.rt_rga.specs.Histories.{greatest_last_count}
-use Rattle.rt_rga.specs.Requests.{Make, Offer, Request, after_request, last_count_after}
+use Rattle.rt_rga.specs.Drafts.{operations_of}
+use Rattle.rt_rga.specs.Requests.{Make, Offer, Request, after_request, fit}
 use Rattle.rt_rga.specs.Taken.{place_by, retags, takes_away}
 use Rattle.rt_rga.specs.Texts.{TaggedCharacter}
 use Rattle.rt_rga.specs.declared.taken.Change.{Change}
@@ -129,16 +127,11 @@ all_changes (op ∷ ops) set = changes_if_new (answer_to op set) op (cells_of se
 
 -- WHAT IS ASKED OF A SITE
 
--- drafts are made: their counts fit, and their cells
-abbrev pub can_make : ℕ → ℕ → List Body → List Operation → Bool
-can_make site limit drafts set =
-    nat_le (last_count_after (greatest_last_count set) drafts) GREATEST_COUNT && nat_le (length (cells_of (with_drafts site drafts set))) limit
-
 -- the changes of a request to the replica of a site that keeps at most so many cells
 abbrev pub changes_by_request : ℕ → ℕ → Request → List Operation → List VisibleChange
 changes_by_request site limit (Offer op) set = changes_if_new (answer_within limit op set) op (cells_of set)
 changes_by_request site limit (Make drafts) set =
-    if can_make site limit drafts set then changes_in_turn (operations_of site drafts set) set else []
+    if fit site limit drafts set then changes_in_turn (operations_of site drafts set) set else []
 
 abbrev pub changes_by_requests : ℕ → ℕ → List Request → List Operation → List VisibleChange
 changes_by_requests site limit [] set = []

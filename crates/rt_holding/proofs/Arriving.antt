@@ -11,7 +11,7 @@ use Rattle.rt_rga.specs.Answers.{Answer, New, Repeat, Refused, answer_to, answer
 use Rattle.rt_rga.specs.Cells.{cells_of}
 use Rattle.rt_rga.specs.Drafts.{operations_of, with_drafts}
 use Rattle.rt_rga.specs.Histories.{greatest_last_count}
-use Rattle.rt_rga.specs.Requests.{MayBeAsked, MayBeMade, Make, Offer, Request, last_count_after}
+use Rattle.rt_rga.specs.Requests.{MayBeAsked, MayBeMade, Make, Offer, Request, fit, last_count_after}
 use Rattle.rt_rga.proofs.Skipping.{split}
 use Rattle.rt_rga.proofs.Drafting.{made}
 use Rattle.rt_rga.proofs.Orders.{rules_in}
@@ -19,7 +19,7 @@ use Rattle.rt_rga.proofs.Requests.{drafts_for}
 use Rattle.rt_holding.specs.Replies.{Reply}
 use Rattle.rt_holding.specs.Replies as replies
 use Rattle.rt_holding.specs.Holding.{Holding, after_answer, has_no_room, hold, is_early, is_full, is_new, no_more_held, nothing, put_held, reply_for, reply_to, stays, with_taken}
-use Rattle.rt_holding.specs.Runs.{Leads, Runs, accepts, at_first, brought_by, finds_no_room, fit, next, none}
+use Rattle.rt_holding.specs.Runs.{Leads, Runs, accepts, at_first, brought_by, finds_no_room, next, none}
 use Rattle.rt_holding.proofs.Greatest.{is_out}
 use Rattle.rt_holding.proofs.Keeping.{AreLate, IsKept, IsKeptBut, IsPlaced, all_with, append_has, dropped_is, dropped_kept, has_append, has_put, kept_but, out_more, kept_same, put_has, settles_kept, settles_late, taken_kept, with_all, without_has}
 

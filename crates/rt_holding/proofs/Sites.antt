@@ -13,14 +13,14 @@ use Rattle.rt_rga.specs.Answers.{Answer, New, Repeat, Refused, answer_within}
 use Rattle.rt_rga.specs.Cells.{cells_of}
 use Rattle.rt_rga.specs.Drafts.{with_drafts}
 use Rattle.rt_rga.specs.Histories.{IsHistory}
-use Rattle.rt_rga.specs.Requests.{MayBeAsked, Make, Offer, Request}
+use Rattle.rt_rga.specs.Requests.{MayBeAsked, Make, Offer, Request, fit}
 use Rattle.rt_rga.proofs.Skipping.{split}
 use Rattle.rt_rga.proofs.Orders.{rules_in}
 use Rattle.rt_rga.proofs.Room.{taken_within}
 use Rattle.rt_holding.specs.Replies.{Reply}
 use Rattle.rt_holding.specs.Replies as replies
 use Rattle.rt_holding.specs.Holding.{Holding, Settles, after_answer, has_no_room, hold, is_early, is_full, is_new, most_held, no_more_held, put_held, reply_for, reply_to, rest, takes, drops, lacks, stays, waits, with_taken, without}
-use Rattle.rt_holding.specs.Runs.{AreOnce, AreRising, IsHolding, Leads, at_first, fit}
+use Rattle.rt_holding.specs.Runs.{AreOnce, AreRising, IsHolding, Leads, at_first}
 use Rattle.rt_holding.proofs.Keeping.{IsKept, dropped_is, dropped_kept, is_new_true, kept_but, left_not, next_is, taken_kept}
 use Rattle.rt_holding.proofs.Arriving.{Bringing, Keeps, first_kept, leads_keeps}
 use Rattle.rt_holding.proofs.Settling.{without_le}

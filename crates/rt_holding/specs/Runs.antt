@@ -1,28 +1,22 @@
 -- Whole runs of a site that holds early operations, and what it then has accepted.
-use Rattle.std.specs.Prelude.{◌≡◌, ◌↔◌, ◌⊎◌, ℕ, ◌≤◌, Bool, true, false, ◌&&◌, nat_le, List, [], ◌∷◌, ◌++◌, length, if◌then◌else◌}
+use Rattle.std.specs.Prelude.{◌≡◌, ◌↔◌, ◌⊎◌, ℕ, ◌≤◌, Bool, true, false, List, [], ◌∷◌, ◌++◌, length, if◌then◌else◌}
 use Rattle.rt_stamps.specs.declared.fault.Fault.TheVariants.{TextFull, WaitingFull}
-use Rattle.rt_stamps.specs.declared.limits.TheConstants.{GREATEST_COUNT}
 use Rattle.std.specs.List.{AllByRecursion}
 use Rattle.rt_stamps.specs.Stamps.{is_before}
-use Rattle.rt_ops.specs.Operations.{Body, Operation, stamp_of}
+use Rattle.rt_ops.specs.Operations.{Operation, stamp_of}
 use Rattle.rt_ops.specs.Rules.{keeps_rules}
 use Rattle.rt_oplog.specs.Logs.{Has, clash, holds, with_operation}
 use Rattle.rt_rga.specs.Answers.{New, answer_within}
 use Rattle.rt_rga.specs.Cells.{cells_of}
 use Rattle.rt_rga.specs.Drafts.{operations_of, with_drafts}
-use Rattle.rt_rga.specs.Histories.{IsHistory, greatest_last_count}
+use Rattle.rt_rga.specs.Histories.{IsHistory}
 use Rattle.rt_rga.specs.Orders.{AreIn}
-use Rattle.rt_rga.specs.Requests.{MayBeAsked, Make, Offer, Request, last_count_after}
+use Rattle.rt_rga.specs.Requests.{MayBeAsked, Make, Offer, Request, fit}
 use Rattle.rt_holding.specs.Holding.{Holding, Settles, after_answer, has_no_room, is_new, most_held, reply_to, settled, stays, waits}
 use Rattle.rt_holding.specs.Replies.{Reply}
 use Rattle.rt_holding.specs.Replies as replies
 
 -- ONE REQUEST
-
--- the counts of drafts fit, and their cells
-abbrev pub fit : ℕ → ℕ → List Body → List Operation → Bool
-fit site limit drafts log =
-    nat_le (last_count_after (greatest_last_count log) drafts) GREATEST_COUNT && nat_le (length (cells_of (with_drafts site drafts log))) limit
 
 -- a request accepts operations: the one that is offered, where it is answered New, or drafts that fit (also none)
 abbrev pub accepts : ℕ → ℕ → Request → Holding → Bool

@@ -9,12 +9,11 @@ use Rattle.rt_oplog.specs.Logs.{Has, known_end, with_operation}
 use Rattle.rt_rga.specs.Cells.{cells_of}
 use Rattle.rt_rga.specs.Drafts.{next_operation, operations_of, with_drafts}
 use Rattle.rt_rga.specs.Histories.{IsHistory, greatest_last_count}
-use Rattle.rt_rga.specs.Requests.{MayBeMade, last_count_after}
+use Rattle.rt_rga.specs.Requests.{MayBeMade, fit, last_count_after}
 use Rattle.rt_rga.proofs.Drafting.{newest}
 use Rattle.rt_rga.proofs.Requests.{all_count_on, greatest_bound}
 use Rattle.rt_rga.proofs.Skipping.{split}
 use Rattle.rt_holding.specs.Grown.{HasGrownBy}
-use Rattle.rt_holding.specs.Runs.{fit}
 use Rattle.rt_holding.proofs.Keeping.{with_all}
 use Rattle.rt_holding.proofs.Keys.{other_end}
 use Rattle.rt_peers.specs.SiteStep.{KeepsOperations, Makes, limit_of, log_of, site_of}

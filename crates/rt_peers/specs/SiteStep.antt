@@ -17,10 +17,9 @@ use Rattle.rt_editing.specs.Edits.{text_with_new}
 use Rattle.rt_holding.specs.declared.receiving.Received.{Received}
 use Rattle.rt_holding.specs.Receiving.{Receives}
 use Rattle.rt_holding.specs.Taken.{AreTried}
-use Rattle.rt_holding.specs.Runs.{fit}
 use Rattle.rt_ops.specs.Operations.{Body, Operation}
 use Rattle.rt_rga.specs.Drafts.{with_drafts}
-use Rattle.rt_rga.specs.Requests.{MayBeMade}
+use Rattle.rt_rga.specs.Requests.{MayBeMade, fit}
 use Rattle.rt_peers.specs.Options.{option_outcome, option_step, settings_outcome, settings_step}
 use Rattle.rt_peers.specs.PeerStep.{peer_outcome, peer_step}
 use Rattle.rt_peers.specs.State.{State, holding_of, place_of}

@@ -1,6 +1,6 @@
 -- What is asked of a site's replica, one thing after another, and the set of operations that it then has. What is refused
 -- changes nothing, so a request that was refused for want of memory is one that wasn't made.
-use Rattle.std.specs.Prelude.{◌≡◌, ℕ, ◌+◌, true, ◌&&◌, nat_le, List, [], ◌∷◌, length, if◌then◌else◌}
+use Rattle.std.specs.Prelude.{◌≡◌, ℕ, ◌+◌, Bool, true, ◌&&◌, nat_le, List, [], ◌∷◌, length, if◌then◌else◌}
 use Rattle.std.specs.List.{list_all}
 use Rattle.rt_stamps.specs.declared.limits.TheConstants.{GREATEST_COUNT}
 use Rattle.rt_ops.specs.Operations.{Operation, Body, Insert, Delete, Tag, last_of, named}
@@ -31,11 +31,14 @@ abbrev pub characters_in_all : List Body → ℕ
 characters_in_all [] = 0
 characters_in_all (draft ∷ drafts) = characters_in draft + characters_in_all drafts
 
--- Drafts become operations, all or none: their counts have to fit, and their cells.
+-- the counts of drafts fit, and so do all cells that there are then
+abbrev pub fit : ℕ → ℕ → List Body → List Operation → Bool
+fit site limit drafts set =
+    nat_le (last_count_after (greatest_last_count set) drafts) GREATEST_COUNT && nat_le (length (cells_of (with_drafts site drafts set))) limit
+
+-- Drafts become operations, all or none: they have to fit.
 abbrev pub made_within : ℕ → ℕ → List Body → List Operation → List Operation
-made_within site limit drafts set =
-    let more = with_drafts site drafts set in
-    if nat_le (last_count_after (greatest_last_count set) drafts) GREATEST_COUNT && nat_le (length (cells_of more)) limit then more else set
+made_within site limit drafts set = if fit site limit drafts set then with_drafts site drafts set else set
 
 -- the set after a request to the replica of a site that keeps at most so many cells
 abbrev pub after_request : ℕ → ℕ → Request → List Operation → List Operation
