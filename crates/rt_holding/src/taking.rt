@@ -2,13 +2,13 @@
 ghost use Rattle.std.specs.Prelude.{◌≡◌, ℕ, List, IfErr, OnErr, OnOk};
 ghost use Rattle.rt_ops.specs.Operations.{Operation};
 ghost use Rattle.rt_oplog.specs.Logs.{known_end, with_operation};
-ghost use Rattle.rt_rga.specs.Answers.{New, answer_within};
+ghost use Rattle.rt_rga.specs.Answers.{New, answer_within, has_gap};
 ghost use Rattle.rt_rga.specs.Histories.{IsHistory};
 ghost use Rattle.rt_rga.specs.Kept.{said};
 
 use rt_oplog::Op;
 use rt_rga::Offer;
-use rt_stamps::Fault;
+use rt_stamps::{Fault, Span};
 
 /// A site that takes operations: into its log, within a limit of cells. What else it has follows.
 pub trait Taking {
@@ -28,6 +28,11 @@ pub trait Taking {
     fn known(&self, site: u16) -> u64
         ensures known { result ≡ known_end (log self.now) site }
         ensures history { IsHistory (log self.now) };
+
+    /// Whether some stamp of a span is that of no character that an operation of the log inserted. It looks stamps up,
+    /// from the first on to the first that is none.
+    fn has_gap(&self, span: Span) -> bool
+        ensures gap { result ≡ has_gap (log self.now) span };
 
     /// Takes an operation that is new, or gives it back for want of memory.
     fn take(&mut self, op: Op) -> Result<(), Op>

@@ -7,7 +7,7 @@ ghost use Rattle.rt_store.specs.Tagged.{AreStates};
 ghost use Rattle.rt_tags.specs.States.{KeepsIds};
 ghost use Rattle.rt_ops.specs.Edits.{body_of};
 ghost use Rattle.rt_oplog.specs.Logs.{with_operation};
-ghost use Rattle.rt_rga.specs.Answers.{New, Refused, answer_within, set_after};
+ghost use Rattle.rt_rga.specs.Answers.{New, Refused, answer_within, has_gap, set_after};
 ghost use Rattle.rt_rga.specs.Cells.{cells_of};
 ghost use Rattle.rt_rga.specs.Drafts.{one_character, operations_of, with_drafts, with_operations};
 ghost use Rattle.rt_rga.specs.Few.{items_in};
@@ -21,7 +21,7 @@ ghost use Rattle.rt_store.specs.Shown.{shown};
 ghost use Rattle.rt_rga.specs.Taken.{IsChange, TellsChange, told};
 
 use crate::Draft;
-use crate::answer::{Offer, answer_within};
+use crate::answer::{Offer, answer_within, has_gap};
 use crate::character::{push_character, put_character};
 use crate::describe::describe;
 use crate::edits::change;
@@ -30,7 +30,7 @@ use crate::make::{change_all, copied, list_of, prepared, push_few};
 use crate::taken::{Change, Taken};
 use rt_oplog::{Op, OpLog};
 use rt_stamps::limits::GREATEST_COUNT;
-use rt_stamps::{Clock, Fault, Site, Stamp};
+use rt_stamps::{Clock, Fault, Site, Span, Stamp};
 use rt_store::TextStore;
 use rt_tags::StateTable;
 use std::alloc::Global;
@@ -168,6 +168,14 @@ impl<S: TextStore> Replica<S> {
         ensures rules { keeps_rules op.now.body ≡ true }
     {
         answer_within(&self.log, &self.store, self.limit, op)
+    }
+
+    /// Whether some stamp of a span is that of no character that an operation of the log inserted. It looks
+    /// stamps up, from the first on to the first that is none.
+    pub fn has_gap(&self, span: Span) -> bool
+        ensures { result ≡ has_gap self.now.log span }
+    {
+        has_gap(&self.store, span)
     }
 
     /// Takes an operation that continues the log, within the limit of cells, or gives it back for want of

@@ -8,7 +8,7 @@ use super::EditedText;
 use rt_holding::Taking;
 use rt_oplog::{Op, OpLog};
 use rt_rga::Offer;
-use rt_stamps::{Fault, Site};
+use rt_stamps::{Fault, Site, Span};
 
 impl Taking for EditedText {
     ghost log = { λ text. text.view.doc.log };
@@ -24,6 +24,10 @@ impl Taking for EditedText {
 
     fn known(&self, site: u16) -> u64 {
         self.viewer.log().known(site)
+    }
+
+    fn has_gap(&self, span: Span) -> bool {
+        self.viewer.has_gap(span)
     }
 
     fn take(&mut self, op: Op) -> Result<(), Op> {

@@ -6,7 +6,7 @@ ghost use Rattle.rt_editing.specs.Settled.{IsSettled};
 ghost use Rattle.rt_editing.specs.Edited.{edited};
 ghost use Rattle.rt_editing.specs.Edits.{text_deleted, text_inserted, text_replaced, text_with_new};
 ghost use Rattle.rt_editing.specs.Reverts.{text_redone, text_undone};
-ghost use Rattle.rt_rga.specs.Answers.{New};
+ghost use Rattle.rt_rga.specs.Answers.{New, has_gap};
 ghost use Rattle.rt_rga.specs.Kept.{said};
 ghost use Rattle.rt_text.specs.Accepted.{answer_of};
 ghost use Rattle.rt_peers.specs.ViewStep.{as_piece, changed_step};
@@ -19,7 +19,7 @@ use rt_editing::Recorder;
 use rt_oplog::Op;
 use rt_requests::{Texts, Word, Words};
 use rt_rga::{Change, Offer};
-use rt_stamps::Fault;
+use rt_stamps::{Fault, Span};
 use rt_tree::TreeStore;
 
 impl Viewer {
@@ -134,6 +134,13 @@ impl Viewer {
         ensures { said result ≡ answer_of self.now.doc op.now }
     {
         self.view.answer(op)
+    }
+
+    // Whether some stamp of a span is that of no character of the log.
+    pub(crate) fn has_gap(&self, span: Span) -> bool
+        ensures { result ≡ has_gap self.now.doc.log span }
+    {
+        self.view.has_gap(span)
     }
 
     // An operation that is new is taken, and what changed in the text is told; or it is given back for want of memory.

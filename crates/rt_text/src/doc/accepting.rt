@@ -1,6 +1,6 @@
 // Operations of other sites.
 ghost use Rattle.std.specs.Prelude.{◌≡◌, IfErr, IfOk, OnErr, OnOk};
-ghost use Rattle.rt_rga.specs.Answers.{New};
+ghost use Rattle.rt_rga.specs.Answers.{New, has_gap};
 ghost use Rattle.rt_rga.specs.Kept.{said};
 ghost use Rattle.rt_rga.specs.Taken.{IsChange};
 ghost use Rattle.rt_rga.specs.Texts.{tagged_text};
@@ -12,7 +12,7 @@ use crate::following::{follow, prepare_lists};
 use crate::preparing::list_tags;
 use rt_oplog::Op;
 use rt_rga::{Change, Offer};
-use rt_stamps::Fault;
+use rt_stamps::{Fault, Span};
 use rt_store::TextStore;
 
 impl<S: TextStore> Doc<S> {
@@ -22,6 +22,13 @@ impl<S: TextStore> Doc<S> {
         ensures { said result ≡ answer_of self.now op.now }
     {
         self.replica.answer(op)
+    }
+
+    /// Whether some stamp of a span is that of no character of the log (`Replica::has_gap`).
+    pub fn has_gap(&self, span: Span) -> bool
+        ensures { result ≡ has_gap self.now.log span }
+    {
+        self.replica.has_gap(span)
     }
 
     /// Takes an operation that is new to it: the text changes, the site's marks move, and its tags are listed. It

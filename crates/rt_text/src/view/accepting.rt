@@ -1,6 +1,6 @@
 // Operations of other sites.
 ghost use Rattle.std.specs.Prelude.{◌≡◌, IfErr, IfOk, OnErr, OnOk};
-ghost use Rattle.rt_rga.specs.Answers.{New};
+ghost use Rattle.rt_rga.specs.Answers.{New, has_gap};
 ghost use Rattle.rt_rga.specs.Kept.{said};
 ghost use Rattle.rt_rga.specs.Taken.{IsChange};
 ghost use Rattle.rt_rga.specs.Texts.{tagged_text};
@@ -11,7 +11,7 @@ use super::View;
 use crate::others::follow_each;
 use rt_oplog::Op;
 use rt_rga::{Change, Offer};
-use rt_stamps::Fault;
+use rt_stamps::{Fault, Span};
 use rt_store::TextStore;
 
 impl<S: TextStore> View<S> {
@@ -21,6 +21,13 @@ impl<S: TextStore> View<S> {
         ensures { said result ≡ answer_of self.now.doc op.now }
     {
         self.doc.answer(op)
+    }
+
+    /// Whether some stamp of a span is that of no character of the log (`Replica::has_gap`).
+    pub fn has_gap(&self, span: Span) -> bool
+        ensures { result ≡ has_gap self.now.doc.log span }
+    {
+        self.doc.has_gap(span)
     }
 
     /// Takes an operation that is new to it: the text changes, the site's marks and those of each widget move, and
