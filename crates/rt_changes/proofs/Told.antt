@@ -55,17 +55,17 @@ one_list end more (x ∷ xs) (y ∷ ys) h k s =
     λ i. record { from = from i; to = to i } ∷ rest i
 
 -- falling runs of some places below a bound are the longest runs of these
-known_runs : (at : ℕ → Bool) (n end : ℕ) (runs : List PlaceRun) → ((q : ℕ) → is_in_runs runs q ≡ at q) → ((q : ℕ) → n ≤ q → at q ≡ false) → AreFallingRuns end runs → runs ≡ runs_of at n
+pub known_runs : (at : ℕ → Bool) (n end : ℕ) (runs : List PlaceRun) → ((q : ℕ) → is_in_runs runs q ≡ at q) → ((q : ℕ) → n ≤ q → at q ≡ false) → AreFallingRuns end runs → runs ≡ runs_of at n
 known_runs at n end runs h none f =
     one_list end (n + 1) runs (runs_of at n) f (runs_fall at n) (λ q. h q ∙ split (nat_lt q n)
     (λ t. let below : q < n = grind (arith, nat_tests, t) in sym (runs_have at n q below))
     (λ e. let past : n ≤ q = grind (arith, nat_tests, e) in none q past ∙ sym (none_past (n + 1) (runs_of at n) q (runs_fall at n) (omega (arith, past)))))
 
 -- no place past the visible text is taken away or tagged
-none_taken : (body : Body) (cells : List TaggedCell) (q : ℕ) → length (visible_of cells) ≤ q → takes_away body cells q ≡ false
+pub none_taken : (body : Body) (cells : List TaggedCell) (q : ℕ) → length (visible_of cells) ≤ q → takes_away body cells q ≡ false
 none_taken body cells q past = ap (λ o. unwrap_or (option_map (λ (cell : TaggedCell). deletes body cell.stamp) o) false) (slice_get_past (visible_of cells) q past)
 
-none_tagged : (stamp : Stamp) (body : Body) (cells : List TaggedCell) (q : ℕ) → length (visible_of cells) ≤ q → retags stamp body cells q ≡ false
+pub none_tagged : (stamp : Stamp) (body : Body) (cells : List TaggedCell) (q : ℕ) → length (visible_of cells) ≤ q → retags stamp body cells q ≡ false
 none_tagged stamp body cells q past = ap (λ o. unwrap_or (option_map (changes_tag stamp body) o) false) (slice_get_past (visible_of cells) q past)
 
 module _ (op : Operation) (cells : List TaggedCell) (change : Change) (c : IsChange op cells change) where

@@ -29,8 +29,8 @@ pub record IsRetaggedAt (on : Bool) (name : Name) (old new : List TaggedCell) (p
   pub before : option_map (λ c. is_listed name c.tags) (slice_get (tagged_text old) place) ≡ Some (not on)
   pub after : option_map (λ c. is_listed name c.tags) (slice_get (tagged_text new) place) ≡ Some on
 
--- Each place that a change names is one that changes. The places are those before the operation, as its runs come the last in
--- the text first.
+-- Each place that a change names is one that changes. Places of what is deleted or tagged are those before the operation, as its
+-- runs come the last in the text first; places of what is inserted are those after it.
 abbrev pub IsExact : List TaggedCell → List TaggedCell → VisibleChange → Type 0
 IsExact old new (Deleted from to) = (place : ℕ) → from ≤ place → place < to → IsTakenAt old new place
 IsExact old new (Inserted at text tags) = (place : ℕ) → at ≤ place → place < at + length text → IsPutAt old new place

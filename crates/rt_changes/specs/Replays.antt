@@ -15,8 +15,6 @@ use Rattle.rt_rga.specs.Taken.{place_by, retags, takes_away}
 use Rattle.rt_rga.specs.Texts.{TaggedCharacter}
 use Rattle.rt_rga.specs.declared.taken.Change.{Change}
 use Rattle.rt_rga.specs.declared.taken.PlaceRun.{PlaceRun}
-use Rattle.rt_rga.specs.declared.taken.Taken.{Taken}
-use Rattle.rt_rga.specs.declared.taken.Taken.TheVariants as takings
 
 -- A TEXT THAT CHANGES
 
@@ -102,11 +100,6 @@ abbrev pub told_by : Body → Change → List VisibleChange
 told_by (Insert after tags text) change = Inserted change.place text tags ∷ []
 told_by (Delete spans) change = map (λ run. Deleted run.from run.to) change.removed.items
 told_by (Tag on name spans) change = map (λ run. Tagged on name run.from run.to) change.retagged.items
-
--- a repeat changes nothing
-abbrev pub told_changes : Body → Taken → List VisibleChange
-told_changes body (takings.New change) = told_by body change
-told_changes body takings.Repeat = []
 
 -- WHAT OPERATIONS CHANGE IN TURN
 

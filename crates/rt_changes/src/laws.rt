@@ -29,8 +29,8 @@ pub fn stamps()
     ensures tagged { TagsLeaveStamps }
 {}
 
-/// The longest runs of some places are known by these places, and tags with one more on or off by what
-/// they list.
+/// The longest runs of some places are known by these places; and which tags are listed with one more on or
+/// off.
 pub fn words()
     ensures have { RunsHavePlaces }
     ensures fall { RunsFall }

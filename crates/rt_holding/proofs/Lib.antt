@@ -3,6 +3,7 @@ pub mod Ample
 pub mod Arrivals
 pub mod Arriving
 pub mod Came
+pub mod Drafts
 pub mod Due
 pub mod Exchanged
 pub mod Going

@@ -190,8 +190,11 @@ command_gives path place (name ∷ words) old new result h =
 pub given_by : (path : Word) (words : List Word) (old new : State) (result : Result (List Word) Fault) → Gives path words old result new → KeepsOrMakes old new
 given_by path words old new result h = found (place_of path old.paths) refl
   where
+    no_widget : (result ≡ Err NoWidget) × (new ≡ old) → Answers (Err NoWidget) old result new
+    no_widget e = subst (λ r. Answers (Err NoWidget) old r new) (sym e.0) (e.1, inr refl)
+
     found : (o : Option ℕ) → place_of path old.paths ≡ o → KeepsOrMakes old new
-    found None e = inl (refused_keeps old new NoWidget result (h.none e))
+    found None e = inl (refused_keeps old new NoWidget result (no_widget (h.none e)))
     found (Some place) e = command_gives path place words old new result (h.some place e)
 
 -- LIVES

@@ -14,8 +14,7 @@ use Rattle.rt_rga.proofs.Drafting.{newest}
 use Rattle.rt_rga.proofs.Requests.{all_count_on, greatest_bound}
 use Rattle.rt_rga.proofs.Skipping.{split}
 use Rattle.rt_holding.specs.Grown.{HasGrownBy}
-use Rattle.rt_holding.proofs.Keeping.{with_all}
-use Rattle.rt_holding.proofs.Keys.{other_end}
+use Rattle.rt_holding.proofs.Drafts.{drafts_grow_by}
 use Rattle.rt_peers.specs.SiteStep.{KeepsOperations, Makes, limit_of, log_of, site_of}
 use Rattle.rt_peers.specs.State.{State}
 use Rattle.rt_peers.proofs.Gaining.{Gains}
@@ -88,15 +87,6 @@ site_keeps old new g held few =
 
 -- OPERATIONS OF ONE SITE
 
-others_stay : (site : ℕ) (drafts : List Body) (set : List Operation) (other : ℕ) → (site == other) ≡ false → known_end (with_drafts site drafts set) other ≡ known_end set other
-others_stay site [] set other e = refl
-others_stay site (draft ∷ drafts) set other e =
-    let op = next_operation site draft set in others_stay site drafts (with_operation op set) other e ∙ other_end op set other e
-
 -- the log grows by operations of the site
 pub gains_grow_by : (old new : Flat) → Gains old new → IsHistory old.log → HasGrownBy old.site old.log new.log
-gains_grow_by old new g h = record {
-  history = h;
-  among = λ x i. subst (λ (log : List Operation). Has log x) (sym g.log) (with_all (operations_of old.site g.drafts old.log) old.log x (inl i));
-  others = λ other e. ap (λ (log : List Operation). known_end log other) g.log ∙ others_stay old.site g.drafts old.log other e;
-}
+gains_grow_by old new g h = subst (HasGrownBy old.site old.log) (sym g.log) (drafts_grow_by old.site g.drafts old.log h)

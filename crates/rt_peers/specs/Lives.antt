@@ -26,7 +26,8 @@ came_to bytes old received new h =
 pub data Lives (site limit : ℕ) : State → List Operation → Type 0 where
   begins : 0 < site → 0 < limit → Lives site limit (new_state site limit) []
   keeps : {old new : State} {came : List Operation} → Lives site limit old came → KeepsOperations old new → Lives site limit new came
-  makes : {old mid new : State} {came : List Operation} → Lives site limit old came → (h : MakesAndTries old mid new) → Lives site limit new (came ++ made_by h)
+  makes : {old mid new : State} {came : List Operation} → Lives site limit old came → (h : MakesAndTries old mid new)
+      → Lives site limit new (came ++ made_by h)
   receives : {old new : State} {came : List Operation} (bytes : List ℕ) (received : Received) → Lives site limit old came
       → (h : SiteReceives bytes old received new) → Lives site limit new (came ++ came_to bytes old received new h)
 

@@ -119,19 +119,29 @@ WidgetGives place words old result new =
     ((asked : Asked) × Asks words asked × AnswersInTurn (by_widget place old (λ text. outcome text asked)) old result new)
     ⊎ Answers (Err NoMemory) old result new
 
--- COMMAND WORDS of a widget: `peer` is about the widgets of the site, `configure` and `cget` are about the options of this widget,
--- and every other command is about what it shows
+-- COMMAND WORDS of a widget that is neither about widgets nor sets options: `cget` tells an option of this widget, and every other
+-- command is about what it shows
+abbrev pub AskingGives : ℕ → Word → List Word → State → Result (List Word) Fault → State → Type 0
+AskingGives place name words old result new = MatchBool (bytes_eq name (codes "cget"))
+    (Answers (by_widget place old (λ text. option_outcome text (asked_named_option words))) old result new)
+    (WidgetGives place (name ∷ words) old result new)
+
+-- one that isn't about widgets: `configure` sets options of this widget
+abbrev pub OwnGives : ℕ → Word → List Word → State → Result (List Word) Fault → State → Type 0
+OwnGives place name words old result new = MatchBool (bytes_eq name (codes "configure"))
+    (Answers (by_widget place old (λ text. settings_outcome text (asked_settings words))) old result new)
+    (AskingGives place name words old result new)
+
+-- any: `peer` is about the widgets of the site
 abbrev pub CommandGives : Word → ℕ → List Word → State → Result (List Word) Fault → State → Type 0
 CommandGives path place [] old result new = WidgetGives place [] old result new
-CommandGives path place (name ∷ words) old result new =
-    MatchBool (bytes_eq name (codes "peer")) (Answers (peer_outcome path place old (asked_of_peers words)) old result new)
-    (MatchBool (bytes_eq name (codes "configure")) (Answers (by_widget place old (λ text. settings_outcome text (asked_settings words))) old result new)
-    (MatchBool (bytes_eq name (codes "cget")) (Answers (by_widget place old (λ text. option_outcome text (asked_named_option words))) old result new)
-    (WidgetGives place (name ∷ words) old result new)))
+CommandGives path place (name ∷ words) old result new = MatchBool (bytes_eq name (codes "peer"))
+    (Answers (peer_outcome path place old (asked_of_peers words)) old result new)
+    (OwnGives place name words old result new)
 
 -- What PATH COMMAND WORDS gives in a state: a reply or a fault, and the state after it.
 pub record Gives (path : Word) (words : List Word) (old : State) (result : Result (List Word) Fault) (new : State) : Type 0 where
-  pub none : place_of path old.paths ≡ None → Answers (Err NoWidget) old result new
+  pub none : place_of path old.paths ≡ None → (result ≡ Err NoWidget) × (new ≡ old)
   pub some : (place : ℕ) → place_of path old.paths ≡ Some place → CommandGives path place words old result new
 
 -- OPERATIONS OF OTHER SITES
@@ -141,17 +151,3 @@ pub record SiteReceives (bytes : List ℕ) (old : State) (received : Received) (
   pub text : Receives text_log text_limit text_with_new bytes (record { site = old.text; held = old.held }) received
       (record { site = new.text; held = new.held })
   pub widgets : new.paths ≡ old.paths
-
--- PARTS OF A COMMAND, as private functions run them
-
--- one that is neither `peer` nor `configure`
-abbrev pub AskingGives : ℕ → Word → List Word → State → Result (List Word) Fault → State → Type 0
-AskingGives place name words old result new = MatchBool (bytes_eq name (codes "cget"))
-    (Answers (by_widget place old (λ text. option_outcome text (asked_named_option words))) old result new)
-    (WidgetGives place (name ∷ words) old result new)
-
--- one that isn't `peer`
-abbrev pub OwnGives : ℕ → Word → List Word → State → Result (List Word) Fault → State → Type 0
-OwnGives place name words old result new = MatchBool (bytes_eq name (codes "configure"))
-    (Answers (by_widget place old (λ text. settings_outcome text (asked_settings words))) old result new)
-    (AskingGives place name words old result new)

@@ -11,9 +11,6 @@ use Rattle.rt_store.specs.Spans.{is_in_spans}
 use Rattle.rt_tags.specs.States.{is_on, is_settled}
 use Rattle.rt_rga.specs.declared.taken.Change.{Change}
 use Rattle.rt_rga.specs.declared.taken.PlaceRun.{PlaceRun}
-use Rattle.rt_rga.specs.declared.taken.Taken.{Taken}
-use Rattle.rt_rga.specs.declared.taken.Taken.TheVariants as takings
-use Rattle.rt_rga.specs.Answers.{Answer, New, Repeat}
 use Rattle.rt_rga.specs.Cells.{deletes}
 use Rattle.rt_rga.specs.Histories.{inserted}
 
@@ -75,13 +72,3 @@ pub record IsChange (op : Operation) (cells : List TaggedCell) (change : Change)
   pub retagged : (place : ℕ) → is_in_runs change.retagged.items place ≡ retags (stamp_of op) op.body cells place
   pub tagged_runs : AreFallingRuns (length (visible_of cells) + 1) change.retagged.items
   pub lists : as_words change.lists.items ≡ lists_of op.body
-
--- the answer that is told
-abbrev pub told : Taken → Answer
-told (takings.New change) = New
-told takings.Repeat = Repeat
-
--- what is new tells its change
-abbrev pub TellsChange : Operation → List TaggedCell → Taken → Type 0
-TellsChange op cells (takings.New change) = IsChange op cells change
-TellsChange op cells takings.Repeat = Unit {0}

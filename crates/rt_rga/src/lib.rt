@@ -21,4 +21,4 @@ pub use answer::Offer;
 pub use few::Few;
 pub use replica::Replica;
 pub use rt_oplog::Edit as Draft;
-pub use taken::{Change, PlaceRun, Taken};
+pub use taken::{Change, PlaceRun};

@@ -7,7 +7,7 @@ ghost use Rattle.rt_store.specs.Tagged.{AreStates};
 ghost use Rattle.rt_tags.specs.States.{KeepsIds};
 ghost use Rattle.rt_ops.specs.Edits.{body_of};
 ghost use Rattle.rt_oplog.specs.Logs.{with_operation};
-ghost use Rattle.rt_rga.specs.Answers.{New, Refused, answer_within, has_gap, set_after};
+ghost use Rattle.rt_rga.specs.Answers.{answer_within, has_gap};
 ghost use Rattle.rt_rga.specs.Cells.{cells_of};
 ghost use Rattle.rt_rga.specs.Drafts.{one_character, operations_of, with_drafts, with_operations};
 ghost use Rattle.rt_rga.specs.Few.{items_in};
@@ -18,7 +18,7 @@ ghost use Rattle.rt_rga.specs.Making.{AreNewest, ContinueInTurn, fresh_cells, ne
 ghost use Rattle.rt_rga.specs.Requests.{MayBeMade};
 ghost use Rattle.rt_rga.specs.Histories.{Continues, IsHistory, greatest_last_count, inserted};
 ghost use Rattle.rt_store.specs.Shown.{shown};
-ghost use Rattle.rt_rga.specs.Taken.{IsChange, TellsChange, told};
+ghost use Rattle.rt_rga.specs.Taken.{IsChange};
 
 use crate::Draft;
 use crate::answer::{Offer, answer_within, has_gap};
@@ -27,7 +27,7 @@ use crate::describe::describe;
 use crate::edits::change;
 use crate::few::Few;
 use crate::make::{change_all, copied, list_of, prepared, push_few};
-use crate::taken::{Change, Taken};
+use crate::taken::Change;
 use rt_oplog::{Op, OpLog};
 use rt_stamps::limits::GREATEST_COUNT;
 use rt_stamps::{Clock, Fault, Site, Span, Stamp};
@@ -212,33 +212,6 @@ impl<S: TextStore> Replica<S> {
         self.clock.saw(op.last_count());
         let _added = self.log.push(op);
         Ok(told)
-    }
-
-    /// Accepts an operation of any site, in the order of the causes: `BadStamp` for one that isn't
-    /// sound; a repeat; `Conflict` and `NotYet` where its `prev` is below or above the known end of its
-    /// site; `BadTarget` where it names what can never be known, `NotYet` what isn't known; `TextFull`
-    /// where the cells would pass the limit. `NoMemory` only where none of these applies, and then all
-    /// is as before but for names and states that got numbers. After a repeat or another fault all is
-    /// as before.
-    pub fn accept(&mut self, op: Op) -> Result<Taken, Fault>
-        ensures answer { IfOk result (λ taken. answer_within self.old.limit op self.old.log ≡ told taken) }
-        ensures refused { IfErr result (λ fault. (answer_within self.old.limit op self.old.log
-            ≡ Refused fault) ⊎ ((fault ≡ Fault.NoMemory) × (answer_within self.old.limit op self.old.log ≡ New))) }
-        ensures log { OnOk result (self.new.log ≡ set_after (answer_within self.old.limit op self.old.log) op self.old.log) }
-        ensures change { IfOk result (TellsChange op self.old.cells) }
-        ensures same { OnErr result (self.new ≡ record self.old { table = self.new.table }) }
-        ensures kept { (answer_within self.old.limit op self.old.log ≡ New → ⊥) → self.new ≡ self.old }
-        ensures site { self.new.site ≡ self.old.site }
-        ensures limit { self.new.limit ≡ self.old.limit }
-        ensures ids { KeepsIds self.old.table self.new.table }
-    {
-        match answer_within(&self.log, &self.store, self.limit, &op)? {
-            Offer::Repeat => Ok(Taken::Repeat),
-            Offer::New => match self.take(op) {
-                Ok(change) => Ok(Taken::New(change)),
-                Err(_) => Err(Fault::NoMemory),
-            },
-        }
     }
 
     /// Logs operations that are newer than all before them, each of which continues the log with those

@@ -25,12 +25,3 @@ pub struct Change {
     /// a Tag puts on.
     pub lists: Vec<String>,
 }
-
-/// What became of an operation that wasn't refused.
-#[derive(Drop)]
-pub enum Taken {
-    /// It was new, and the cells are changed.
-    New(Change),
-    /// The log had it already.
-    Repeat,
-}

@@ -18,7 +18,7 @@ impl SiteState {
     /// other. One that is new changes the text, moves all marks, those of each widget too, and lists its tags; what
     /// is selected stays so, and where it changes the visible text it forces the modified flag. One that comes before
     /// what it was made upon is held, 65,536 at most, and tried after each one that is accepted. The first that is refused
-    /// ends it, with its fault, and those before it stay accepted: `BadStamp`, `Conflict`, `BadTarget`, `TextFull`,
+    /// ends it, with its fault, and those before it stay accepted or held: `BadStamp`, `Conflict`, `BadTarget`, `TextFull`,
     /// `WaitingFull`. Else the reading's own fault is told, if it has one: `BadMagic`, `BadVersion`, `Truncated`,
     /// `BadRecord`. `NoMemory` in place of any.
     pub fn receive(&mut self, bytes: &[u8]) -> Received

@@ -1,4 +1,4 @@
-use Rattle.std.proofs.Common.{◌≡◌, ◌∙◌, ℕ, None, Some, ap, inr, refl, subst}
+use Rattle.std.proofs.Common.{◌≡◌, ◌∙◌, ℕ, None, Some, ap, refl, subst}
 use Rattle.rt_stamps.specs.Words.{as_words}
 use Rattle.rt_peers.specs.SiteStep.{CommandGives}
 use Rattle.rt_peers.specs.State.{place_of}
@@ -9,7 +9,7 @@ pub returns-in_default : goal.returns-in_default
 returns-in_default c =
     let found : place_of c.args.path.now c.args.self.now.paths ≡ c.place_of.result = place_in c.args.path.now c.deref.result.now c.self.inside.paths.items c.args.self.now.paths c.place_of.result c.place_of.ensures c.deref.ensures.value (ap (λ s. s.paths) c.self.view_is) in
     let is : place_of c.args.path.now c.args.self.now.paths ≡ None = found ∙ c.in_default.is in
-    record { none = λ h. (refl, inr refl); some = λ place h. absurd (cc (is, h)) }
+    record { none = λ h. (refl, refl); some = λ place h. absurd (cc (is, h)) }
 
 pub returns : goal.returns
 returns c =

@@ -6,7 +6,6 @@ use Rattle.rt_oplog.specs.Logs.{with_operation}
 use Rattle.rt_rga.specs.Answers.{New, answer_within}
 use Rattle.rt_rga.specs.Histories.{IsHistory}
 use Rattle.rt_rga.specs.Taken.{IsChange, lists_of}
-use Rattle.rt_rga.specs.declared.taken.Taken.TheVariants as takings
 use Rattle.rt_store.specs.Shown.{TaggedCell}
 use Rattle.rt_changes.proofs.Accepted.{told_replays}
 use Rattle.rt_stamps.specs.Words.{as_words}
@@ -101,6 +100,6 @@ pub returns-in-Ok-clause-replays : goal.returns-in-Ok-clause-replays
 returns-in-Ok-clause-replays g c =
     let flat = c.args.self.now in
     let cells : c.self.inside.replica.cells ≡ flat.cells = ap (λ (f : Flat). f.cells) c.self.view_is in
-    told_replays flat.log c.take.new.self.log flat.cells c.take.new.self.cells c.args.op (takings.New c.in-Ok.change) New c.kept.ensures.history c.log.ensures.history
-    c.kept.ensures.document.cells c.store.ensures.cells refl (c.in-Ok.ensures.log ∙ ap (λ (f : Flat). with_operation c.args.op f.log) c.self.view_is)
+    told_replays flat.log c.take.new.self.log flat.cells c.take.new.self.cells c.args.op c.in-Ok.change c.kept.ensures.history c.log.ensures.history
+    c.kept.ensures.document.cells c.store.ensures.cells (c.in-Ok.ensures.log ∙ ap (λ (f : Flat). with_operation c.args.op f.log) c.self.view_is)
     (subst (λ (l : List TaggedCell). IsChange c.args.op l c.in-Ok.change) cells c.in-Ok.ensures.change)
