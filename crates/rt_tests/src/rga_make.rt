@@ -6,7 +6,8 @@ ghost use Rattle.rt_ops.specs.Operations.{Delete, Insert};
 
 use crate::checks::{same, same_len};
 use rt_oplog::{Op, Text};
-use rt_rga::{Draft, Replica, Taken};
+use rt_replica::{HoldingReplica, Made, Taken};
+use rt_rga::Draft;
 use rt_stamps::{Fault, ROOT, Site, Span, Stamp};
 use rt_store::{ListStore, TextStore};
 use std::alloc::Global;
@@ -16,7 +17,7 @@ use std::test::Fail;
 /// A replica of site 1.
 pub(crate) struct Own {
     alloc: Global,
-    pub(crate) replica: Replica<ListStore>,
+    pub(crate) replica: HoldingReplica<ListStore>,
 }
 
 // Written out, so that each way out of a test lets it go in one step of its proof.
@@ -37,7 +38,7 @@ impl Own {
     {
         let site = Site::new(1).ok_or("a site")?;
         let store = ListStore::new(alloc)?;
-        let replica = Replica::new(alloc, store, site, limit)?;
+        let replica = HoldingReplica::new(alloc, store, site, limit)?;
         Ok(Own { alloc, replica })
     }
 
@@ -52,7 +53,7 @@ impl Own {
     // How many operations there are, and how many characters, and the first of these.
     fn state(&self) -> (usize, usize, [char; 4]) {
         let mut text = ['-'; 4];
-        let count = self.replica.store().characters(0, &mut text);
+        let count = self.replica.replica().store().characters(0, &mut text);
         (self.replica.log().len(), count, text)
     }
 }
@@ -105,13 +106,21 @@ fn two(alloc: Global) -> Result<Vec<Draft>, Fault>
     Ok(drafts)
 }
 
-// Both drafts on a new replica.
-fn make_two(own: &mut Own) -> Result<Vec<Op>, Fault>
+// Both drafts on a replica without operations.
+fn make_both(own: &mut Own) -> Result<Made, Fault>
     requires log { own.old.replica.log ≡ [] }
     requires site { own.old.replica.site ≡ 1 }
 {
     let drafts = two(own.alloc)?;
     own.replica.make(drafts)
+}
+
+// The operations of both.
+fn make_two(own: &mut Own) -> Result<Vec<Op>, Fault>
+    requires log { own.old.replica.log ≡ [] }
+    requires site { own.old.replica.site ≡ 1 }
+{
+    Ok(make_both(own)?.ops)
 }
 
 #[test]
@@ -130,7 +139,7 @@ fn operations_made(rt: HostRuntime) -> Result<(), Fail> {
     for op in ops {
         assert!(rt; matches!(other.replica.accept(op)?, Taken::New(_)));
     }
-    same(&rt, other.replica.store().visible(), 2);
+    same(&rt, other.replica.replica().store().visible(), 2);
     Ok(())
 }
 
@@ -159,5 +168,21 @@ fn a_full_text(rt: HostRuntime) -> Result<(), Fail> {
     let mut other = Own::new(rt.alloc(), 3)?;
     make_two(&mut other)?;
     is_full(&rt, &mut other, (2, 2, ['a', '\n', '-', '-']));
+    Ok(())
+}
+
+// A held operation that waits for one of the site's own is taken after that, and what it changes is told.
+#[test]
+fn a_held_one_is_told(rt: HostRuntime) -> Result<(), Fail> {
+    let mut own = Own::new(rt.alloc(), 10)?;
+    let stamp = Stamp { count: 5, site: 2 };
+    let after = Stamp { count: 1, site: 1 };
+    let text = Vec::from_slice(rt.alloc(), &['Y', 'Z'])?;
+    let op = Op::insert(stamp, 0, after, Vec::new(rt.alloc()), text)?;
+    assert!(&rt; matches!(own.replica.accept(op)?, Taken::Held));
+    let made = make_both(&mut own)?;
+    same_len(&rt, made.changes.len(), 1);
+    same(&rt, (made.changes[0].place, made.changes[0].inserted), (1, 2));
+    same(&rt, own.state(), (3, 4, ['a', 'Y', 'Z', '\n']));
     Ok(())
 }

@@ -1,7 +1,8 @@
-// Operations of a few sites, offered in each order that is allowed, each twice.
+// Operations of a few sites, offered in every order, each twice.
 use crate::checks::same;
 use rt_oplog::Op;
-use rt_rga::{Change, PlaceRun, Replica, Taken};
+use rt_replica::{HoldingReplica, Taken};
+use rt_rga::{Change, PlaceRun};
 use rt_stamps::{Fault, Site, Span, Stamp};
 use rt_store::{ListStore, TextStore};
 use std::alloc::Global;
@@ -80,6 +81,7 @@ fn op(alloc: Global, made: Made) -> Result<Op, Fault> {
 pub(crate) enum Said {
     New(usize, usize, usize),
     Repeat,
+    Held,
     Refused(Fault),
 }
 
@@ -97,17 +99,26 @@ impl Said {
     }
 }
 
+// The first change that is told, as what is answered.
+fn first_told(changes: &[Change]) -> Said {
+    match changes.first() {
+        Some(change) => Said::New(change.place, change.inserted, change.lists.len()),
+        None => Said::New(0, 0, 0),
+    }
+}
+
 fn told(taken: Taken) -> Said {
     match taken {
-        Taken::New(change) => Said::New(change.place, change.inserted, change.lists.len()),
+        Taken::New(changes) => first_told(&changes),
         Taken::Repeat => Said::Repeat,
+        Taken::Held => Said::Held,
     }
 }
 
 /// A replica of site 9.
 pub(crate) struct Peer {
     alloc: Global,
-    pub(crate) replica: Replica<ListStore>,
+    pub(crate) replica: HoldingReplica<ListStore>,
 }
 
 // Written out, so that each way out of a test lets a peer go in one step of its proof.
@@ -124,7 +135,7 @@ impl Peer {
     pub(crate) fn new(alloc: Global, limit: usize) -> Result<Peer, Fail> {
         let site = Site::new(9).ok_or("a site")?;
         let store = ListStore::new(alloc)?;
-        let replica = Replica::new(alloc, store, site, limit.max(1).min(1_000))?;
+        let replica = HoldingReplica::new(alloc, store, site, limit.max(1).min(1_000))?;
         Ok(Peer { alloc, replica })
     }
 
@@ -140,8 +151,8 @@ impl Peer {
 
     // Offers an operation that is new, and tells what it takes away.
     fn takes_away(&mut self, made: Made) -> Result<Vec<PlaceRun>, Fail> {
-        match self.replica.accept(op(self.alloc, made)?)? {
-            Taken::New(
+        match self.told_of(made)?.pop() {
+            Some(
                 Change {
                     place: _,
                     inserted: _,
@@ -150,13 +161,22 @@ impl Peer {
                     lists: _,
                 },
             ) => Ok(removed),
-            Taken::Repeat => Err(Fail::from("it is new")),
+            None => Err(Fail::from("it is told")),
+        }
+    }
+
+    // Offers an operation that is new, and tells what it changes, and what held ones change after it.
+    fn told_of(&mut self, made: Made) -> Result<Vec<Change>, Fail> {
+        match self.replica.accept(op(self.alloc, made)?)? {
+            Taken::New(changes) => Ok(changes),
+            Taken::Repeat => Err(Fail::from("it is new, not a repeat")),
+            Taken::Held => Err(Fail::from("it is new, not held")),
         }
     }
 
     // The text, with a star behind each character that has the tag `t`.
     pub(crate) fn reading(&self) -> Result<String, Fail> {
-        let store = self.replica.store();
+        let store = self.replica.replica().store();
         let mut text = String::new(self.alloc);
         for place in 0..store.visible() {
             text.push(store.char_at(place))?;
@@ -169,9 +189,13 @@ impl Peer {
 
     // The first place from one up with the tag `t`.
     fn tagged_from(&self, place: usize) -> Option<usize> {
-        let states = self.replica.states();
+        let states = self.replica.replica().states();
         match states.known("t") {
-            Some(tag) => self.replica.store().next_tagged(states, tag, place),
+            Some(tag) => self
+                .replica
+                .replica()
+                .store()
+                .next_tagged(states, tag, place),
             None => None,
         }
     }
@@ -235,7 +259,7 @@ fn comes_out(rt: &impl Abort, alloc: Global, row: &Row) -> Result<(), Fail> {
     let mut peer = Peer::new(alloc, 100)?;
     offer_twice(rt, &mut peer, all);
     same(rt, peer.reading()?.as_str(), text);
-    same(rt, peer.replica.store().cells(), cells);
+    same(rt, peer.replica.replica().store().cells(), cells);
     Ok(())
 }
 
@@ -282,7 +306,8 @@ const CHANGES: &[(Made, Said)] = &[
 ];
 
 const REFUSALS: &[(Made, Said)] = &[
-    (Y, Said::Refused(Fault::NotYet)),
+    (Y, Said::Held),
+    (Y, Said::Repeat),
     (AB, Said::New(0, 2, 0)),
     (AB, Said::Repeat),
     (Y, Said::Refused(Fault::TextFull)),
@@ -296,7 +321,7 @@ const REFUSALS: &[(Made, Said)] = &[
     ),
     (
         (9, 1, 5, Does::Inserts((0, 0), &['b'])),
-        Said::Refused(Fault::NotYet),
+        Said::Held,
     ),
     (
         (9, 1, 2, Does::Inserts((4, 1), &['b'])),
@@ -323,11 +348,11 @@ const LONG_SPANS: &[(Made, Said)] = &[
     (AB, Said::New(0, 2, 0)),
     (
         (MOST, 2, 0, Does::Deletes((1, 1, MOST - 1))),
-        Said::Refused(Fault::NotYet),
+        Said::Held,
     ),
     (
         (MOST, 2, 0, Does::Deletes((7, 1, MOST - 1))),
-        Said::Refused(Fault::NotYet),
+        Said::Held,
     ),
     (
         (MOST, 1, 2, Does::Deletes((1, 1, MOST - 1))),
@@ -382,4 +407,29 @@ fn changes_and_refusals(rt: HostRuntime) -> Result<(), Fail> {
     answers(&rt, rt.alloc(), 100, CHANGES)?;
     answers(&rt, rt.alloc(), 3, REFUSALS)?;
     answers(&rt, rt.alloc(), 100, LONG_SPANS)
+}
+
+// Places and numbers of the characters that changes insert.
+fn insertions(alloc: Global, changes: &[Change]) -> Result<Vec<(usize, usize)>, Fail> {
+    let mut places = Vec::new(alloc);
+    for change in changes {
+        places.push((change.place, change.inserted))?;
+    }
+    Ok(places)
+}
+
+// What held ones change is told behind what the offered one changes, the least stamp first, each in the text that those
+// before it left.
+#[test]
+fn held_ones_are_told(rt: HostRuntime) -> Result<(), Fail> {
+    let mut peer = Peer::new(rt.alloc(), 100)?;
+    same(&rt, peer.offer(Y), Said::Held);
+    same(&rt, peer.offer(XX), Said::Held);
+    same(&rt, peer.replica.held(), 2);
+    let changes = peer.told_of(AB)?;
+    let places = insertions(rt.alloc(), &changes)?;
+    same(&rt, places.as_slice(), &[(0, 2), (1, 2), (1, 1)]);
+    same(&rt, peer.replica.held(), 0);
+    same(&rt, peer.reading()?.as_str(), "aYXXb\n");
+    Ok(())
 }

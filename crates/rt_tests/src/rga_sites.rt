@@ -1,7 +1,7 @@
 // Random histories of three sites, delivered in random orders, against a plain reading of them.
 use crate::checks::same;
 use crate::rga_orders::{Does, Made, Peer};
-use rt_stamps::{FINAL, Fault, Stamp};
+use rt_stamps::{FINAL, Stamp};
 use rt_store::TextStore;
 use std::alloc::Global;
 use std::process::Abort;
@@ -65,7 +65,7 @@ const TEXTS: &[&[char]] = &[&['a'], &['b', 'c'], &['d', 'e', 'f']];
 
 // The stamp of a cell of a peer, gone or not.
 fn some_stamp(peer: &Peer, dice: &mut Dice) -> Stamp {
-    let store = peer.replica.store();
+    let store = peer.replica.replica().store();
     let position = dice.below(store.cells());
     if position < store.cells() {
         store.nth(position).stamp
@@ -81,7 +81,7 @@ fn some_span(peer: &Peer, stamp: Stamp) -> (u16, u64, u64) {
         count,
         site: stamp.site,
     };
-    let last = match peer.replica.store().cell_of(next) {
+    let last = match peer.replica.replica().store().cell_of(next) {
         Some(_) => count,
         None => stamp.count,
     };
@@ -111,7 +111,7 @@ fn some_deed(peer: &Peer, dice: &mut Dice) -> Does {
 
 // The next operation of a site.
 fn some_operation(peer: &Peer, site: u16, dice: &mut Dice) -> Made {
-    let count = peer.replica.clock().seen().saturating_add(1);
+    let count = peer.replica.replica().clock().seen().saturating_add(1);
     let prev = peer.replica.log().known(site);
     (count, site, prev, some_deed(peer, dice))
 }
@@ -137,12 +137,12 @@ fn make(
     Ok(())
 }
 
-// A site is offered some operation: it is new, a repeat, or comes too early.
+// A site is offered some operation: it is new, a repeat, or held.
 fn offer(rt: &impl Abort, sites: &mut Sites, all: &[Made], dice: &mut Dice) {
     let place = dice.below(3);
     if let Some(made) = all.get(dice.below(all.len())) {
         let fault = sites.pick(place).offer(*made).fault();
-        same(rt, fault.unwrap_or(Fault::NotYet), Fault::NotYet);
+        same(rt, fault, None);
     }
 }
 
@@ -314,6 +314,7 @@ fn agrees(rt: &impl Abort, peer: &mut Peer, all: &[Made], wanted: &str) -> Resul
     for made in all {
         same(rt, peer.offer(*made).fault(), None);
     }
+    same(rt, peer.replica.held(), 0);
     same(rt, peer.reading()?.as_str(), wanted);
     Ok(())
 }
