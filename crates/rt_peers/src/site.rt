@@ -1,10 +1,10 @@
 // A site, and what is asked of its widgets.
-ghost use Rattle.std.specs.Prelude.{◌≡◌, ◌∷◌, ◌<◌, ◌≤◌, IfOk, IsOkUnless, length};
+ghost use Rattle.std.specs.Prelude.{◌≡◌, ◌∷◌, ◌<◌, ◌≤◌, Err, IfOk, IsOkUnless, None, length};
 ghost use Rattle.rt_stamps.specs.declared.limits.TheConstants.{MOST_CELLS};
 ghost use Rattle.rt_stamps.specs.Words.{as_words};
 ghost use Rattle.rt_peers.specs.Peers.{HavePaths};
 ghost use Rattle.rt_peers.specs.SiteStep.{AnswersInTurn, AskingGives, CommandGives, Gives, OwnGives, WidgetGives, by_widget, step_at};
-ghost use Rattle.rt_peers.specs.State.{new_state};
+ghost use Rattle.rt_peers.specs.State.{new_state, place_of};
 ghost use Rattle.rt_peers.specs.Step.{step};
 
 mod exchange;
@@ -104,7 +104,8 @@ impl SiteState {
     /// it holds are tried then, and those that can be taken change text, marks and tags as received ones do; the
     /// reply speaks of the state before that.
     pub fn answer(&mut self, path: &str, request: &Request<'_>) -> Result<Reply, Fault>
-        ensures { AnswersInTurn (step_at path.now self.old request.now) self.old result self.new }
+        ensures answers { AnswersInTurn (step_at path.now self.old request.now) self.old result self.new }
+        ensures none { place_of path.now self.old.paths ≡ None → result ≡ Err Fault.NoWidget }
     {
         let Some(place) = place_of(&self.paths, path) else {
             return Err(Fault::NoWidget);

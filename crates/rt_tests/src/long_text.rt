@@ -54,7 +54,7 @@ fn runs_of_one_character(rt: HostRuntime) -> Result<(), Fail> {
     same(&rt, (runs, height == 3 || height == 4), (2001, true));
     has_places(&rt, &pair, 2000);
     let own = made_in_front(rt.alloc())?;
-    same(&rt, pair.has_cells_of(own.replica.store()), true);
+    same(&rt, pair.has_cells_of(own.replica.replica().store()), true);
     let first = Span {
         site: 1,
         first: 1001,

@@ -1,10 +1,11 @@
 // The options of a site's widgets.
-ghost use Rattle.std.specs.Prelude.{◌<◌, length};
+ghost use Rattle.std.specs.Prelude.{◌≡◌, ◌<◌, Err, None, length};
 ghost use Rattle.rt_stamps.specs.Outcomes.{Answers};
 ghost use Rattle.rt_stamps.specs.Words.{as_words};
 ghost use Rattle.rt_peer_requests.specs.SettingWords.{asked_named_option, asked_settings};
 ghost use Rattle.rt_peers.specs.Options.{option_outcome, option_step, settings_outcome, settings_step};
 ghost use Rattle.rt_peers.specs.SiteStep.{by_widget, option_at, settings_at};
+ghost use Rattle.rt_peers.specs.State.{place_of};
 
 use super::SiteState;
 use crate::paths::place_of;
@@ -58,7 +59,8 @@ impl SiteState {
     /// Sets options of the widget of a path ("configure"): those that all widgets share, and the limits of what this one
     /// shows. Refused by the first of `NoWidget` and `BadView`, or for want of memory; then the site is as it was.
     pub fn configure(&mut self, path: &str, settings: &WidgetSettings) -> Result<Reply, Fault>
-        ensures { Answers (settings_at path.now self.old settings.now) self.old result self.new }
+        ensures answers { Answers (settings_at path.now self.old settings.now) self.old result self.new }
+        ensures none { place_of path.now self.old.paths ≡ None → result ≡ Err Fault.NoWidget }
     {
         let Some(place) = place_of(&self.paths, path) else {
             return Err(Fault::NoWidget);
@@ -69,7 +71,8 @@ impl SiteState {
     /// What an option of the widget of a path is set to ("cget"). Refused by `NoWidget`, or for want of memory; the site
     /// stays as it is.
     pub fn cget(&mut self, path: &str, option: NamedOption) -> Result<Reply, Fault>
-        ensures { Answers (option_at path.now self.old option) self.old result self.new }
+        ensures answers { Answers (option_at path.now self.old option) self.old result self.new }
+        ensures none { place_of path.now self.old.paths ≡ None → result ≡ Err Fault.NoWidget }
     {
         let Some(place) = place_of(&self.paths, path) else {
             return Err(Fault::NoWidget);

@@ -96,7 +96,8 @@ impl SiteState {
     /// What is asked of the peers of the widget of a path. Refused by the first of `NoWidget`, `WidgetExists` and
     /// `BadView`, or for want of memory; then the site is as it was.
     pub fn answer_peers(&mut self, path: &str, request: &PeerRequest<'_>) -> Result<Reply, Fault>
-        ensures { Answers (peer_step_at path.now self.old request.now) self.old result self.new }
+        ensures answers { Answers (peer_step_at path.now self.old request.now) self.old result self.new }
+        ensures none { place_of path.now self.old.paths ≡ None → result ≡ Err Fault.NoWidget }
     {
         let Some(place) = place_of(&self.paths, path) else {
             return Err(Fault::NoWidget);

@@ -10,10 +10,16 @@ use Rattle.rt_peers.proofs.site.SiteState.answer.Goals as goal
 pub returns-in_default : goal.returns-in_default
 returns-in_default c =
     let found : place_of c.args.path.now c.args.self.now.paths ≡ c.place_of.result = place_in c.args.path.now c.deref.result.now c.self.inside.paths.items c.args.self.now.paths c.place_of.result c.place_of.ensures c.deref.ensures.value (ap (λ s. s.paths) c.self.view_is) in
-    at_once (step_at c.args.path.now c.args.self.now c.args.request.now) c.args.self.now (Err NoWidget)
-    (refl, inr (ap (λ o. at_widget o (λ place. by_widget place c.args.self.now (λ text. step text c.args.request.now))) (found ∙ c.in_default.is)))
+    record {
+      answers = at_once (step_at c.args.path.now c.args.self.now c.args.request.now) c.args.self.now (Err NoWidget)
+          (refl, inr (ap (λ o. at_widget o (λ place. by_widget place c.args.self.now (λ text. step text c.args.request.now))) (found ∙ c.in_default.is)));
+      none = λ h. refl;
+    }
 
 pub returns : goal.returns
 returns c =
     let found : place_of c.args.path.now c.args.self.now.paths ≡ c.place_of.result = place_in c.args.path.now c.deref.result.now c.self.inside.paths.items c.args.self.now.paths c.place_of.result c.place_of.ensures c.deref.ensures.value (ap (λ s. s.paths) c.self.view_is) in
-    subst (λ (o : Option ℕ). AnswersInTurn (at_widget o (λ place. by_widget place c.args.self.now (λ text. step text c.args.request.now))) c.args.self.now c.request.result c.request.new.self) (sym (found ∙ c.in-Some.is)) c.request.ensures
+    record {
+      answers = subst (λ (o : Option ℕ). AnswersInTurn (at_widget o (λ place. by_widget place c.args.self.now (λ text. step text c.args.request.now))) c.args.self.now c.request.result c.request.new.self) (sym (found ∙ c.in-Some.is)) c.request.ensures;
+      none = λ h. absurd (cc (found ∙ c.in-Some.is, h));
+    }

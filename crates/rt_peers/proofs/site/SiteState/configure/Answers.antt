@@ -9,9 +9,15 @@ use Rattle.rt_peers.proofs.site.SiteState.configure.Goals as goal
 pub returns-in_default : goal.returns-in_default
 returns-in_default c =
     let found : place_of c.args.path.now c.args.self.now.paths ≡ c.place_of.result = place_in c.args.path.now c.deref.result.now c.self.inside.paths.items c.args.self.now.paths c.place_of.result c.place_of.ensures c.deref.ensures.value (ap (λ s. s.paths) c.self.view_is) in
-    (refl, inr (ap (λ o. at_widget o (λ place. by_widget place c.args.self.now (λ text. settings_step text c.args.settings.now))) (found ∙ c.in_default.is)))
+    record {
+      answers = (refl, inr (ap (λ o. at_widget o (λ place. by_widget place c.args.self.now (λ text. settings_step text c.args.settings.now))) (found ∙ c.in_default.is)));
+      none = λ h. refl;
+    }
 
 pub returns : goal.returns
 returns c =
     let found : place_of c.args.path.now c.args.self.now.paths ≡ c.place_of.result = place_in c.args.path.now c.deref.result.now c.self.inside.paths.items c.args.self.now.paths c.place_of.result c.place_of.ensures c.deref.ensures.value (ap (λ s. s.paths) c.self.view_is) in
-    subst (λ (o : Option ℕ). Answers (at_widget o (λ place. by_widget place c.args.self.now (λ text. settings_step text c.args.settings.now))) c.args.self.now c.set.result c.set.new.self) (sym (found ∙ c.in-Some.is)) c.set.ensures
+    record {
+      answers = subst (λ (o : Option ℕ). Answers (at_widget o (λ place. by_widget place c.args.self.now (λ text. settings_step text c.args.settings.now))) c.args.self.now c.set.result c.set.new.self) (sym (found ∙ c.in-Some.is)) c.set.ensures;
+      none = λ h. absurd (cc (found ∙ c.in-Some.is, h));
+    }
