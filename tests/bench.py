@@ -187,9 +187,10 @@ def nodes():
 
 
 def replica():
-    """Proves and builds tests/bench/replica, a program over rt_rga, and runs it for two numbers of operations."""
+    """Proves and builds tests/bench/replica, a program over rt_replica, and runs it for two numbers of operations."""
     with tempfile.TemporaryDirectory() as folder:
-        ours = laid(folder, "replica", "bench_replica", "rt_stamps", "rt_tags", "rt_store", "rt_ops", "rt_oplog", "rt_rga")
+        ours = laid(folder, "replica", "bench_replica", "rt_stamps", "rt_tags", "rt_store", "rt_ops", "rt_oplog", "rt_rga", "rt_changes",
+                    "rt_holding", "rt_replica")
         subprocess.run(["rt", "run"], cwd=ours, stdout=subprocess.DEVNULL, check=True)
         program = os.path.join(ours, "out", "bench_replica")
         return max(subprocess.call([program, str(operations)]) for operations in (20_000, 40_000))
