@@ -13,11 +13,12 @@ use Rattle.rt_peer_requests.specs.declared.peers.PeerRequest.TheVariants.{Create
 use Rattle.rt_peer_requests.specs.declared.settings.WidgetSettings.{WidgetSettings}
 use Rattle.rt_peer_requests.specs.PeerWords.{AskedOfPeers, asked_of_peers}
 use Rattle.rt_peer_requests.specs.SettingWords.{AskedOfSettings, asked_named_option, asked_settings}
+use Rattle.rt_ops.specs.Operations.{Operation}
 use Rattle.rt_text.specs.Limited.{limited, with_peer}
 use Rattle.rt_editing.specs.Edited.{Edited}
 use Rattle.rt_editing.proofs.Outcomes.{given}
 use Rattle.rt_holding.specs.declared.receiving.Received.{Received}
-use Rattle.rt_peers.specs.Lives.{KeepsOrMakes, Lives, LivesOn, came_to, keeps, made_by, makes, receives}
+use Rattle.rt_peers.specs.Lives.{IsOfFile, KeepsOrMakes, Lives, LivesOn, came_to, keeps, made_by, makes, receives}
 use Rattle.rt_peers.specs.Options.{choice_of, option_outcome, option_step, settings_outcome, settings_step, text_set}
 use Rattle.rt_peers.specs.Peers.{text_led, with_widget, without_widget}
 use Rattle.rt_peers.specs.PeerStep.{created, destroyed, destroyed_at, last_check, path_check, peer_outcome, peer_step, text_with_peer}
@@ -25,17 +26,18 @@ use Rattle.rt_peers.specs.SiteStep.{AnswersInTurn, CommandGives, Gives, KeepsOpe
 use Rattle.rt_peers.specs.State.{State, place_of}
 use Rattle.rt_peers.specs.ViewStep.{Outcome, as_outcome, changed_step, one_word}
 use Rattle.rt_peers.proofs.OptionLaws.{configured_is, limited_leaves, one_more}
+use Rattle.rt_peers.proofs.Coming.{file_of, made_of}
 use Rattle.rt_peers.proofs.InTurn.{all_kept}
 
 -- CALLS THAT ACCEPT NOTHING
 
-kept_on : (old new : State) → KeepsOperations old new → LivesOn old new
-kept_on old new k site limit came l = ([], subst (Lives site limit new) (sym (append-nil came)) (keeps l k))
+kept_on : (IsOther : Operation → Type 0) (old new : State) → KeepsOperations old new → LivesOn IsOther old new
+kept_on IsOther old new k site limit came l = ([], subst (Lives site limit new) (sym (append-nil came)) (keeps l k), λ op i. absurd i)
 
 -- so it goes on where nothing is accepted, and where operations are made
-goes_on : (old new : State) → KeepsOrMakes old new → LivesOn old new
-goes_on old new (inl k) site limit came l = kept_on old new k site limit came l
-goes_on old new (inr m) site limit came l = (made_by m.1, makes l m.1)
+goes_on : (IsOther : Operation → Type 0) (old new : State) → KeepsOrMakes old new → LivesOn IsOther old new
+goes_on IsOther old new (inl k) site limit came l = kept_on IsOther old new k site limit came l
+goes_on IsOther old new (inr m) site limit came l = (made_by m.1, makes l m.1, λ op i. inl (made_of site limit old m.0 new came m.1 l op i))
 
 same_keeps : (old new : State) → new ≡ old → KeepsOperations old new
 same_keeps old new e = subst (KeepsOperations old) (sym e) (all_kept old)
@@ -199,11 +201,13 @@ given_by path words old new result h = found (place_of path old.paths) refl
 
 -- LIVES
 
-pub gives_on : (path : Word) (words : List Word) (old new : State) (result : Result (List Word) Fault) → Gives path words old result new → LivesOn old new
-gives_on path words old new result h = goes_on old new (given_by path words old new result h)
+pub gives_on : (IsOther : Operation → Type 0) (path : Word) (words : List Word) (old new : State) (result : Result (List Word) Fault) → Gives path words old result new
+    → LivesOn IsOther old new
+gives_on IsOther path words old new result h = goes_on IsOther old new (given_by path words old new result h)
 
-pub destroyed_on : (path : Word) (old new : State) → destroyed path old ≡ Ok new → LivesOn old new
-destroyed_on path old new h = kept_on old new (destroyed_kept path old new h)
+pub destroyed_on : (IsOther : Operation → Type 0) (path : Word) (old new : State) → destroyed path old ≡ Ok new → LivesOn IsOther old new
+destroyed_on IsOther path old new h = kept_on IsOther old new (destroyed_kept path old new h)
 
-pub received_on : (bytes : List ℕ) (received : Received) (old new : State) → SiteReceives bytes old received new → LivesOn old new
-received_on bytes received old new h site limit came l = (came_to bytes old received new h, receives bytes received l h)
+pub received_on : (bytes : List ℕ) (received : Received) (old new : State) → SiteReceives bytes old received new → LivesOn (IsOfFile bytes) old new
+received_on bytes received old new h site limit came l =
+    (came_to bytes old received new h, receives bytes received l h, λ op i. inr (file_of bytes old new received h op i))

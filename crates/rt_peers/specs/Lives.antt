@@ -1,6 +1,9 @@
 -- What becomes of the operations of a site from its beginning on, call by call, and which of them came to it.
-use Rattle.std.specs.Prelude.{◌≡◌, ◌⊎◌, ℕ, ◌<◌, List, [], ◌++◌}
+use Rattle.std.specs.Prelude.{◌≡◌, ◌⊎◌, ℕ, ◌<◌, List, [], ◌++◌, Option}
+use Rattle.rt_stamps.specs.declared.fault.Fault.{Fault}
 use Rattle.rt_ops.specs.Operations.{Operation}
+use Rattle.rt_ops.specs.Reading.{Reads}
+use Rattle.rt_oplog.specs.Logs.{Has}
 use Rattle.rt_rga.specs.Drafts.{operations_of}
 use Rattle.rt_rga.specs.Histories.{IsHistory}
 use Rattle.rt_editing.specs.Edits.{text_with_new}
@@ -35,9 +38,16 @@ pub data Lives (site limit : ℕ) : State → List Operation → Type 0 where
 abbrev pub KeepsOrMakes : State → State → Type 0
 KeepsOrMakes old new = KeepsOperations old new ⊎ ((mid : State) × MakesAndTries old mid new)
 
--- some calls lead from one state to another
-abbrev pub LivesOn : State → State → Type 0
-LivesOn old new = (site limit : ℕ) (came : List Operation) → Lives site limit old came → (more : List Operation) × Lives site limit new (came ++ more)
+-- an operation is one of those that the bytes of a file are read as, up to their first fault
+abbrev pub IsOfFile : List ℕ → Operation → Type 0
+IsOfFile bytes op = (ops : List Operation) × (offsets : List ℕ) × (ending : Option (Fault × ℕ)) × Reads bytes ops offsets ending × Has ops op
+
+-- Some calls lead from one state to another. What came to the site with them are operations of its own number, and others, of which
+-- something is known.
+abbrev pub LivesOn : (Operation → Type 0) → State → State → Type 0
+LivesOn IsOther old new =
+    (site limit : ℕ) (came : List Operation) → Lives site limit old came
+    → (more : List Operation) × Lives site limit new (came ++ more) × ((op : Operation) → Has more op → (op.site ≡ site) ⊎ IsOther op)
 
 -- none of the operations that it holds could be taken, if there were memory and room: so it is where it holds none
 abbrev pub IsAtRest : State → Type 0
