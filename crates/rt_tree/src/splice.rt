@@ -16,8 +16,8 @@ ghost use Rattle.rt_tree.specs.Summaries.{AreTold};
 ghost use Rattle.rt_tree.specs.Sums.{counts_of};
 ghost use Rattle.rt_tree.specs.Trees.{HasNodes};
 
-use crate::cut::{Change, Ended, cut_home};
-use crate::extend::extend;
+use crate::cut::{Change, Ended, Gap, cut_home};
+use crate::extend::{New, extend};
 use crate::find::{cells_of, first_stamp, has, seek};
 use crate::homes::Homes;
 use crate::node::{Measure, Mem, Run};
@@ -379,9 +379,13 @@ pub(crate) fn put_cells(
     ensures told { AreTold states.now mem.new sums.new (tree_runs mem.new result.root.index) }
     ensures tags { sums.new.tags ≡ sums.old.tags }
 {
-    let extended = extend(
-        mem, sums, states, root, text, at, cells, newest, homes, last,
-    );
+    let new = New {
+        text,
+        at,
+        cells,
+        newest,
+    };
+    let extended = extend(mem, sums, states, root, &new, homes, last);
     let done = extended.done;
     if done == cells.len() {
         return Grown {
@@ -394,17 +398,13 @@ pub(crate) fn put_cells(
     let place = at + done;
     let nothing = None;
     let last = still_there(last, &nothing, done);
-    let Ended { change: first, end } = cut_home(
-        mem,
-        sums,
-        states,
-        root,
-        place,
-        extended.is_edge,
-        extended.end,
+    let gap = Gap {
+        at: place,
+        is_edge: extended.is_edge,
+        end: extended.end,
         last,
-        homes,
-    );
+    };
+    let Ended { change: first, end } = cut_home(mem, sums, states, root, &gap, homes);
     let newest = newest_of(newest, &cells[..done]);
     let root = first.root;
     let then = put_runs(
