@@ -166,20 +166,26 @@ pub(crate) fn extend(
     ensures told { AreTold states.now mem.new sums.new (tree_runs mem.new root.index) }
     ensures tags { sums.new.tags ≡ sums.old.tags }
 {
-    if new.at == 0 || new.cells.is_empty() {
-        return not_extended(new.at == 0, None);
+    let New {
+        text,
+        at,
+        cells,
+        newest,
+    } = *new;
+    if at == 0 || cells.is_empty() {
+        return not_extended(at == 0, None);
     }
-    let found = cell_near(mem, root, last, new.at - 1);
+    let found = cell_near(mem, root, last, at - 1);
     if found.spot.offset + 1 < found.run.len as usize {
         return not_extended(false, None);
     }
     let end = Some(found.spot);
-    let run = run_of(new.text, new.cells);
+    let run = run_of(text, cells);
     if !are_joint(&found.run, &run) {
         return not_extended(true, end);
     }
-    let is_new = homes.is_new(new.newest, &run);
-    if is_barred(mem, root, new.newest, found.run, run, is_new) {
+    let is_new = homes.is_new(newest, &run);
+    if is_barred(mem, root, newest, found.run, run, is_new) {
         return not_extended(true, end);
     }
     let before = counts_before(mem, root, last, found.spot);

@@ -89,7 +89,7 @@ returns-clause-home c =
     let st = there c.args.mem.now c.args.root.index c.requires.tree (c.args.new.now.at - 1) c.cell_near-found.result c.cell_near-found.ensures in let f = c.cell_near-found.result in let b = c.run_of-run.result in
     let rep = subst (λ (r : Run). IsReplacedAt old new (c.args.new.now.at - 1) r) c.joined-whole.ensures (c.replace_at.ensures.runs (c.args.new.now.at - 1) c.cell_near-found.result.run c.cell_near-found.ensures) in
     let joint = sym c.are_joint.ensures ∙ c.if-not-are_joint.false in
-    let is = new_is c.args.new.now.text.now old c.args.new.now.at c.args.new.now.cells.now c.requires.kept f.run b (front c.args.mem.now c.args.root.index f) f.spot.offset st (let z = c.if-new-eq0.false in omega (arith, z)) (let l = c.if-found.false in let i = st.inside in omega (arith, l, i)) c.run_of-run.ensures joint new rep in
+    let is = new_is c.args.new.now.text.now old c.args.new.now.at c.args.new.now.cells.now c.requires.kept f.run b (front c.args.mem.now c.args.root.index f) f.spot.offset st (let z = c.if-at-eq0.false in omega (arith, z)) (let l = c.if-found.false in let i = st.inside in omega (arith, l, i)) c.run_of-run.ensures joint new rep in
     let leaves = c.args.homes.now.leaves in let after = c.enter.new.self.leaves in
     let e = c.enter.ensures in let i = c.is_new-is_new.ensures in
     λ sure.
@@ -113,7 +113,7 @@ returns-clause-housed c sure =
     let st = there m root c.requires.tree (c.args.new.now.at - 1) c.cell_near-found.result c.cell_near-found.ensures in let f = c.cell_near-found.result in let b = c.run_of-run.result in
     let rep = subst (λ (r : Run). IsReplacedAt old new (c.args.new.now.at - 1) r) c.joined-whole.ensures (c.replace_at.ensures.runs (c.args.new.now.at - 1) c.cell_near-found.result.run c.cell_near-found.ensures) in
     let joint = sym c.are_joint.ensures ∙ c.if-not-are_joint.false in
-    let is = new_is c.args.new.now.text.now old c.args.new.now.at c.args.new.now.cells.now c.requires.kept f.run b (front m root f) f.spot.offset st (let z = c.if-new-eq0.false in omega (arith, z)) (let l = c.if-found.false in let i = st.inside in omega (arith, l, i)) c.run_of-run.ensures joint new rep in
+    let is = new_is c.args.new.now.text.now old c.args.new.now.at c.args.new.now.cells.now c.requires.kept f.run b (front m root f) f.spot.offset st (let z = c.if-at-eq0.false in omega (arith, z)) (let l = c.if-found.false in let i = st.inside in omega (arith, l, i)) c.run_of-run.ensures joint new rep in
     let whole = c.joined-whole.ensures in
     let leaves = c.args.homes.now.leaves in let after = c.enter.new.self.leaves in
     let e = c.enter.ensures in let i = c.is_new-is_new.ensures in
@@ -132,7 +132,7 @@ returns-clause-apart c =
     let st = there c.args.mem.now c.args.root.index c.requires.tree (c.args.new.now.at - 1) c.cell_near-found.result c.cell_near-found.ensures in let f = c.cell_near-found.result in let b = c.run_of-run.result in
     let rep = subst (λ (r : Run). IsReplacedAt old new (c.args.new.now.at - 1) r) c.joined-whole.ensures (c.replace_at.ensures.runs (c.args.new.now.at - 1) c.cell_near-found.result.run c.cell_near-found.ensures) in
     let none = sym c.is_barred.ensures ∙ c.if-is_barred.false in
-    extended_apart c.args.new.now.text.now old c.args.new.now.at c.args.new.now.cells.now c.requires.kept f.run b (front c.args.mem.now c.args.root.index f) f.spot.offset st (let z = c.if-new-eq0.false in omega (arith, z)) (let l = c.if-found.false in let i = st.inside in omega (arith, l, i)) c.run_of-run.ensures (sym c.are_joint.ensures ∙ c.if-not-are_joint.false) new rep c.requires.apart none
+    extended_apart c.args.new.now.text.now old c.args.new.now.at c.args.new.now.cells.now c.requires.kept f.run b (front c.args.mem.now c.args.root.index f) f.spot.offset st (let z = c.if-at-eq0.false in omega (arith, z)) (let l = c.if-found.false in let i = st.inside in omega (arith, l, i)) c.run_of-run.ensures (sym c.are_joint.ensures ∙ c.if-not-are_joint.false) new rep c.requires.apart none
 
 pub replace_at-requires-clause-few : goal.replace_at-requires-clause-few
 replace_at-requires-clause-few c =
@@ -149,7 +149,7 @@ returns-clause-cells c =
     let old = tree_runs c.args.mem.now c.args.root.index in let new = tree_runs c.replace_at.new.mem c.args.root.index in
     let st = there c.args.mem.now c.args.root.index c.requires.tree (c.args.new.now.at - 1) c.cell_near-found.result c.cell_near-found.ensures in let f = c.cell_near-found.result in let b = c.run_of-run.result in
     let rep = subst (λ (r : Run). IsReplacedAt old new (c.args.new.now.at - 1) r) c.joined-whole.ensures (c.replace_at.ensures.runs (c.args.new.now.at - 1) c.cell_near-found.result.run c.cell_near-found.ensures) in
-    extended c.args.new.now.text.now old c.args.new.now.at c.args.new.now.cells.now c.requires.kept f.run b (front c.args.mem.now c.args.root.index f) f.spot.offset st (let z = c.if-new-eq0.false in omega (arith, z)) (let l = c.if-found.false in let i = st.inside in omega (arith, l, i)) c.run_of-run.ensures (sym c.are_joint.ensures ∙ c.if-not-are_joint.false) new rep
+    extended c.args.new.now.text.now old c.args.new.now.at c.args.new.now.cells.now c.requires.kept f.run b (front c.args.mem.now c.args.root.index f) f.spot.offset st (let z = c.if-at-eq0.false in omega (arith, z)) (let l = c.if-found.false in let i = st.inside in omega (arith, l, i)) c.run_of-run.ensures (sym c.are_joint.ensures ∙ c.if-not-are_joint.false) new rep
 
 pub replace_at-requires-clause-spot : goal.replace_at-requires-clause-spot
 replace_at-requires-clause-spot c = (c.args.new.now.at - 1, c.cell_near-found.result.run, c.cell_near-found.ensures)
@@ -170,8 +170,8 @@ replace_at-requires-clause-state c =
     let old = tree_runs c.args.mem.now c.args.root.index in let st = there c.args.mem.now c.args.root.index c.requires.tree (c.args.new.now.at - 1) c.cell_near-found.result c.cell_near-found.ensures in let table = c.args.states.now in
     subst (λ (x : Run). IsState table x.state) (sym c.joined-whole.ensures) (given_there table old st.left st.right c.cell_near-found.result.run st.here c.requires.told.given)
 
-pub returns-then-new-eq0-clause-edge : goal.returns-then-new-eq0-clause-edge
-returns-then-new-eq0-clause-edge c =
+pub returns-then-at-eq0-clause-edge : goal.returns-then-at-eq0-clause-edge
+returns-then-at-eq0-clause-edge c =
     let old = tree_runs c.args.mem.now c.args.root.index in
     λ is. let zero : c.args.new.now.at ≡ 0 = nat_is c.args.new.now.at 0 (sym (ap (λ (x : Extended). x.is_edge) c.not_extended.ensures) ∙ is) in
     let done = ap (λ (x : Extended). x.done) c.not_extended.ensures in
@@ -201,12 +201,12 @@ returns-then-not-are_joint-clause-edge c =
     let f = c.cell_near-found.result in let st = there c.args.mem.now c.args.root.index c.requires.tree (c.args.new.now.at - 1) f c.cell_near-found.ensures in
     let old = tree_runs c.args.mem.now c.args.root.index in
     λ _. subst (λ (x : Extended). IsEdge (lengths old) (c.args.new.now.at + x.done)) (sym c.not_extended-then-not-are_joint.ensures)
-    (ends old f.run (front c.args.mem.now c.args.root.index f) f.spot.offset c.args.new.now.at st (omega (arith, c.if-new-eq0.false)) (let l = c.if-found.false in let i = st.inside in omega (arith, l, i)))
+    (ends old f.run (front c.args.mem.now c.args.root.index f) f.spot.offset c.args.new.now.at st (omega (arith, c.if-at-eq0.false)) (let l = c.if-found.false in let i = st.inside in omega (arith, l, i)))
 
 pub returns-then-not-are_joint-clause-end : goal.returns-then-not-are_joint-clause-end
 returns-then-not-are_joint-clause-end c =
     let m = c.args.mem.now in let r = c.args.root.index in let f = c.cell_near-found.result in
-    let end : IsEndAt m r (c.args.new.now.at + 0) f.spot = ends_at m r c.args.new.now.at f c.cell_near-found.ensures (omega (arith, c.if-new-eq0.false)) c.if-found.false in
+    let end : IsEndAt m r (c.args.new.now.at + 0) f.spot = ends_at m r c.args.new.now.at f c.cell_near-found.ensures (omega (arith, c.if-at-eq0.false)) c.if-found.false in
     subst (λ (x : Extended). IfSome x.end (IsEndAt m r (c.args.new.now.at + x.done))) (sym c.not_extended-then-not-are_joint.ensures) end
 
 pub returns-then-not-are_joint-clause-known : goal.returns-then-not-are_joint-clause-known
@@ -218,12 +218,12 @@ returns-then-is_barred-clause-edge c =
     let f = c.cell_near-found.result in let st = there c.args.mem.now c.args.root.index c.requires.tree (c.args.new.now.at - 1) f c.cell_near-found.ensures in
     let old = tree_runs c.args.mem.now c.args.root.index in
     λ _. subst (λ (x : Extended). IsEdge (lengths old) (c.args.new.now.at + x.done)) (sym c.not_extended-then-is_barred.ensures)
-    (ends old f.run (front c.args.mem.now c.args.root.index f) f.spot.offset c.args.new.now.at st (omega (arith, c.if-new-eq0.false)) (let l = c.if-found.false in let i = st.inside in omega (arith, l, i)))
+    (ends old f.run (front c.args.mem.now c.args.root.index f) f.spot.offset c.args.new.now.at st (omega (arith, c.if-at-eq0.false)) (let l = c.if-found.false in let i = st.inside in omega (arith, l, i)))
 
 pub returns-then-is_barred-clause-end : goal.returns-then-is_barred-clause-end
 returns-then-is_barred-clause-end c =
     let m = c.args.mem.now in let r = c.args.root.index in let f = c.cell_near-found.result in
-    let end : IsEndAt m r (c.args.new.now.at + 0) f.spot = ends_at m r c.args.new.now.at f c.cell_near-found.ensures (omega (arith, c.if-new-eq0.false)) c.if-found.false in
+    let end : IsEndAt m r (c.args.new.now.at + 0) f.spot = ends_at m r c.args.new.now.at f c.cell_near-found.ensures (omega (arith, c.if-at-eq0.false)) c.if-found.false in
     subst (λ (x : Extended). IfSome x.end (IsEndAt m r (c.args.new.now.at + x.done))) (sym c.not_extended-then-is_barred.ensures) end
 
 pub returns-then-is_barred-clause-known : goal.returns-then-is_barred-clause-known
