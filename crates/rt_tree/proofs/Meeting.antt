@@ -120,6 +120,43 @@ pub then_all : (span : Span) (mark : Mark) (count : ℕ) (rs : List Run) → map
 then_all span mark count [] = refl
 then_all span mark count (r ∷ rs) = ap (λ x. x ∷ map (run_in span mark) (map (run_to span count mark) rs)) (in_twice span mark count r) ∙ ap (λ l. run_in span mark r ∷ l) (then_all span mark count rs)
 
+-- WHAT IS LEFT OF A SPAN
+
+-- a span from a later count on
+abbrev left_of : Span → ℕ → Span
+left_of span count = record span { first = count }
+
+then_left : (span : Span) (mark : Mark) (count next : ℕ) (r : Run) → span.first ≤ count → count ≤ next → run_to (left_of span count) next mark (run_to span count mark r) ≡ run_to span next mark r
+then_left span mark count next r low up =
+    let left = left_of span count in
+    ap (λ (s : Stamp). if is_in_span left s && nat_lt s.count next then marked_run mark (run_to span count mark r) else run_to span count mark r) (first_to span mark count r)
+    ∙ split (is_in_span span (first_stamp r))
+    (λ y. split (nat_lt r.first count)
+    (λ b.
+    let out : is_in_span left (first_stamp r) ≡ false = split (is_in_span left (first_stamp r)) (λ z. absurd (grind (arith, nat_tests))) (λ z. z) in
+    let far : nat_lt r.first next ≡ true = grind (arith, nat_tests) in
+    rw (y, b, out, far) refl)
+    (λ b. let in_left : is_in_span left (first_stamp r) ≡ true = grind (arith, nat_tests) in rw (y, b, in_left) refl))
+    (λ n.
+    let out : is_in_span left (first_stamp r) ≡ false = split (is_in_span left (first_stamp r)) (λ z. absurd (grind (arith, nat_tests))) (λ z. z) in
+    rw (n, out) refl)
+
+then_each : (span : Span) (mark : Mark) (count next : ℕ) (rs : List Run) → span.first ≤ count → count ≤ next → map (run_to (left_of span count) next mark) (map (run_to span count mark) rs) ≡ map (run_to span next mark) rs
+then_each span mark count next [] low up = refl
+then_each span mark count next (r ∷ rs) low up =
+    ap (λ x. x ∷ map (run_to (left_of span count) next mark) (map (run_to span count mark) rs)) (then_left span mark count next r low up)
+    ∙ ap (λ l. run_to span next mark r ∷ l) (then_each span mark count next rs low up)
+
+-- where what is left of a span was marked up to a count, the span was
+pub rest_on : (span : Span) (mark : Mark) (count next : ℕ) (old new : List Run) → span.first ≤ count → MarksOn (left_of span count) mark count next old new → MarksOn span mark count next old new
+rest_on span mark count next old new low on = record {
+  later = on.later;
+  marks = λ rs is.
+      on.marks old (at_first (left_of span count) mark old)
+      ∙ ap (map (run_to (left_of span count) next mark)) is
+      ∙ then_each span mark count next rs low (let l = on.later in omega (arith, l));
+}
+
 -- FROM STAMP TO STAMP
 
 pub in_it : (span : Span) (count : ℕ) (run : Run) → span.first ≤ count → count ≤ span.last → has run (record { count = count; site = span.site }) ≡ true → run.first ≡ count → (run.site ≡ span.site) × (is_in_span span (first_stamp run) ≡ true)

@@ -21,6 +21,16 @@ use crate::sums::entry_counts;
 use rt_nodes::NodeId;
 use rt_tags::StateTable;
 
+// A search of the nodes for characters that have a tag, or haven't it: what is looked for, and what tells of it.
+#[derive(Clone, Copy)]
+pub(crate) struct Search<'a> {
+    pub(crate) wanted: Wanted,
+    // The table that gave out the states of the characters, and knows the tags of each.
+    pub(crate) states: &'a StateTable,
+    // What is kept for each node of the tags on the characters below it.
+    pub(crate) sums: &'a [Summary],
+}
+
 // How far it is in one run.
 fn run_back(states: &StateTable, wanted: &Wanted, run: Run, upto: usize) -> usize
     requires tag { IsTag states.now wanted.now.tag }
@@ -51,32 +61,32 @@ fn is_before(states: &StateTable, wanted: &Wanted, summary: &Summary, upto: usiz
 #[cycle(reached_back)]
 fn entry_back(
     mem: &Mem,
-    sums: &[Summary],
-    states: &StateTable,
-    wanted: &Wanted,
+    search: &Search<'_>,
     root: NodeId,
     node: NodeId,
     i: usize,
     upto: usize,
 ) -> usize
     requires tree { IsTree mem.now root.index }
-    requires sums { AreSummed states.now mem.now sums.now }
-    requires many { length mem.now.heads ≤ length sums.now }
-    requires tag { IsTag states.now wanted.now.tag }
+    requires sums { AreSummed search.now.states.now mem.now search.now.sums.now }
+    requires many { length mem.now.heads ≤ length search.now.sums.now }
+    requires tag { IsTag search.now.states.now search.now.wanted.tag }
     requires node { IsNode mem.now node.index }
     requires within { i < length (entries mem.now node.index) }
-    requires given { AllByRecursion (IsState states.now) (shown_states (runs mem.now (level_of mem.now node.index) node.index)) }
+    requires given { AllByRecursion (IsState search.now.states.now) (shown_states (runs mem.now (level_of mem.now node.index) node.index)) }
     requires few { AreFew (counts_of (runs mem.now (level_of mem.now node.index) node.index)) }
     ensures { (e : Entry) → e ≡ slice_index_or (entries mem.now node.index) i e
-        → result ≡ reached_back (tagged_as states.now wanted.now.tag wanted.now.on) upto (below mem.now (level_of mem.now node.index) e) }
+        → result ≡ reached_back (tagged_as search.now.states.now search.now.wanted.tag search.now.wanted.on) upto
+        (below mem.now (level_of mem.now node.index) e) }
 {
     match *mem.entry(node, i) {
-        Entry::Here(run) => run_back(states, wanted, run, upto),
+        Entry::Here(run) => run_back(search.states, &search.wanted, run, upto),
         Entry::Down(child, _) => {
-            if is_before(states, wanted, &sums[child.index as usize], upto) {
+            let summary = &search.sums[child.index as usize];
+            if is_before(search.states, &search.wanted, summary, upto) {
                 0
             } else {
-                reached_back(mem, sums, states, wanted, root, child, upto)
+                reached_back(mem, search, root, child, upto)
             }
         }
     }
@@ -87,21 +97,20 @@ fn entry_back(
 #[cycle(reached_back)]
 pub(crate) fn reached_back(
     mem: &Mem,
-    sums: &[Summary],
-    states: &StateTable,
-    wanted: &Wanted,
+    search: &Search<'_>,
     root: NodeId,
     node: NodeId,
     upto: usize,
 ) -> usize
     requires tree { IsTree mem.now root.index }
-    requires sums { AreSummed states.now mem.now sums.now }
-    requires many { length mem.now.heads ≤ length sums.now }
-    requires tag { IsTag states.now wanted.now.tag }
+    requires sums { AreSummed search.now.states.now mem.now search.now.sums.now }
+    requires many { length mem.now.heads ≤ length search.now.sums.now }
+    requires tag { IsTag search.now.states.now search.now.wanted.tag }
     requires node { IsNode mem.now node.index }
-    requires given { AllByRecursion (IsState states.now) (shown_states (runs mem.now (level_of mem.now node.index) node.index)) }
+    requires given { AllByRecursion (IsState search.now.states.now) (shown_states (runs mem.now (level_of mem.now node.index) node.index)) }
     requires few { AreFew (counts_of (runs mem.now (level_of mem.now node.index) node.index)) }
-    ensures { result ≡ reached_back (tagged_as states.now wanted.now.tag wanted.now.on) upto (runs mem.now (level_of mem.now node.index) node.index) }
+    ensures { result ≡ reached_back (tagged_as search.now.states.now search.now.wanted.tag search.now.wanted.on) upto
+        (runs mem.now (level_of mem.now node.index) node.index) }
 {
     let mut left = sum_of(mem, node).visible as usize;
     let mut i = mem.len(node);
@@ -109,7 +118,7 @@ pub(crate) fn reached_back(
         i -= 1;
         left -= entry_counts(mem.entry(node, i)).visible as usize;
         let before = upto.saturating_sub(left);
-        let inside = entry_back(mem, sums, states, wanted, root, node, i, before);
+        let inside = entry_back(mem, search, root, node, i, before);
         if inside > 0 {
             return left + inside;
         }
@@ -135,6 +144,11 @@ pub(crate) fn previous_place(
     ensures { (text : List ℕ) → AllByRecursion (IsRun text) (tree_runs mem.now root.index)
         → result ≡ previous_place (tag_is states.now wanted.now.tag wanted.now.on) (visible_of (cells_of text (tree_runs mem.now root.index))) place }
 {
-    let found = reached_back(mem, sums, states, wanted, root, root, place);
+    let search = Search {
+        sums,
+        states,
+        wanted: *wanted,
+    };
+    let found = reached_back(mem, &search, root, root, place);
     if found > 0 { Some(found - 1) } else { None }
 }

@@ -153,6 +153,18 @@ pub(crate) fn cut(
     }
 }
 
+// The gap before the cell at a position, in which a run is to end or begin, and what is known of it.
+#[derive(Clone, Copy)]
+pub(crate) struct Gap<'a> {
+    pub(crate) at: usize,
+    // Whether a run is known to end or begin there.
+    pub(crate) is_edge: bool,
+    // The spot of the last cell of the run that ends there, where this is known.
+    pub(crate) end: Option<Spot>,
+    // A run that is known to stand somewhere.
+    pub(crate) last: &'a Option<Found>,
+}
+
 // The root after a cut, how many runs were put in, and the spot of the last cell of the run that ends there, if that is known.
 #[derive(Clone, Copy)]
 pub(crate) struct Ended {
@@ -161,35 +173,32 @@ pub(crate) struct Ended {
 }
 
 // Cuts, and tells where the stamps are of runs that are in another leaf now. Nothing is done where a run is known to begin or
-// end there; `end` is the spot of the last cell of the run that ends there, where this is known.
+// end at the position.
 #[inline(always)]
 pub(crate) fn cut_home(
     mem: &mut Mem,
     sums: &mut Summaries,
     states: &StateTable,
     root: NodeId,
-    at: usize,
-    is_edge: bool,
-    end: Option<Spot>,
-    last: &Option<Found>,
+    gap: &Gap<'_>,
     homes: &mut Homes,
 ) -> Ended
     requires tree { IsTree mem.old root.index }
     requires kept { AreKept (tree_runs mem.old root.index) }
     requires few { (counts_of (tree_runs mem.old root.index)).cells ≤ MOST_CELLS }
-    requires within { at ≤ (counts_of (tree_runs mem.old root.index)).cells }
+    requires within { gap.now.at ≤ (counts_of (tree_runs mem.old root.index)).cells }
     requires room { HasNodes mem.old (length (tree_runs mem.old root.index)) }
     requires home { homes.old.sure ≡ true → AreHome homes.old.leaves (tree_runs mem.old root.index) }
     requires housed { homes.old.sure ≡ true → AreHoused mem.old root.index homes.old.leaves }
     requires left { 0 < homes.old.left }
-    requires edge { is_edge ≡ true → IsEdge (lengths (tree_runs mem.old root.index)) at }
-    requires end { IfSome end (IsEndAt mem.old root.index at) }
-    requires held { IfSome last.now (Holds mem.old root.index) }
+    requires edge { gap.now.is_edge ≡ true → IsEdge (lengths (tree_runs mem.old root.index)) gap.now.at }
+    requires end { IfSome gap.now.end (IsEndAt mem.old root.index gap.now.at) }
+    requires held { IfSome gap.now.last.now (Holds mem.old root.index) }
     requires told { AreTold states.now mem.old sums.old (tree_runs mem.old root.index) }
     ensures tree { IsTree mem.new result.change.root.index }
     ensures recut { IsRecut (tree_runs mem.old root.index) (tree_runs mem.new result.change.root.index) }
-    ensures edge { IsEdge (lengths (tree_runs mem.new result.change.root.index)) at }
-    ensures parts { AreParts (tree_runs mem.old root.index) (tree_runs mem.new result.change.root.index) at }
+    ensures edge { IsEdge (lengths (tree_runs mem.new result.change.root.index)) gap.now.at }
+    ensures parts { AreParts (tree_runs mem.old root.index) (tree_runs mem.new result.change.root.index) gap.now.at }
     ensures runs { length (tree_runs mem.new result.change.root.index) ≡ length (tree_runs mem.old root.index) + result.change.more }
     ensures more { result.change.more ≤ 1 }
     ensures room { length mem.new.heads + mem.new.room ≡ length mem.old.heads + mem.old.room }
@@ -199,17 +208,17 @@ pub(crate) fn cut_home(
     ensures sure { homes.new.sure ≡ homes.old.sure }
     ensures told { AreTold states.now mem.new sums.new (tree_runs mem.new result.change.root.index) }
     ensures tags { sums.new.tags ≡ sums.old.tags }
-    ensures end { IfSome result.end (IsEndAt mem.new result.change.root.index at) }
-    ensures still { is_edge ≡ true → (mem.new ≡ mem.old) × (result.change.root ≡ root) }
+    ensures end { IfSome result.end (IsEndAt mem.new result.change.root.index gap.now.at) }
+    ensures still { gap.now.is_edge ≡ true → (mem.new ≡ mem.old) × (result.change.root ≡ root) }
 {
-    if is_edge {
+    if gap.is_edge {
         return Ended {
             change: Change { root, more: 0 },
-            end,
+            end: gap.end,
         };
     }
     let nodes = mem.nodes();
-    let Parted { change, front, end } = cut(mem, sums, states, root, at, last);
+    let Parted { change, front, end } = cut(mem, sums, states, root, gap.at, gap.last);
     if let Some(front) = front {
         homes.place(&front.run, front.leaf);
         homes.note_new(mem, nodes);
@@ -298,7 +307,13 @@ pub(crate) fn part(
         None => Change { root, more: 0 },
         Some(at) => {
             let last = None;
-            cut_home(mem, sums, states, root, at, false, None, &last, homes).change
+            let gap = Gap {
+                at,
+                is_edge: false,
+                end: None,
+                last: &last,
+            };
+            cut_home(mem, sums, states, root, &gap, homes).change
         }
     }
 }

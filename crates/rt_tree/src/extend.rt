@@ -86,6 +86,17 @@ fn is_barred(mem: &Mem, root: NodeId, newest: u64, before: Run, run: Run, is_new
     is_shared(mem, root, newest, &lengthened(before, run))
 }
 
+// New cells that come in at a position.
+#[derive(Clone, Copy)]
+pub(crate) struct New<'a> {
+    // The characters of all cells; those of the new ones are the last.
+    pub(crate) text: &'a [char],
+    pub(crate) at: usize,
+    pub(crate) cells: &'a [Cell<StateId>],
+    // No cell that is there already has a greater count.
+    pub(crate) newest: u64,
+}
+
 // How many cells a run went on with, and whether a run begins or ends behind them, as far as is known.
 #[derive(Clone, Copy)]
 pub(crate) struct Extended {
@@ -117,46 +128,50 @@ pub(crate) fn extend(
     sums: &mut Summaries,
     states: &StateTable,
     root: NodeId,
-    text: &[char],
-    at: usize,
-    cells: &[Cell<StateId>],
-    newest: u64,
+    new: &New<'_>,
     homes: &mut Homes,
     last: &Option<Found>,
 ) -> Extended
     requires home { homes.old.sure ≡ true → AreHome homes.old.leaves (tree_runs mem.old root.index) }
     requires housed { homes.old.sure ≡ true → AreHoused mem.old root.index homes.old.leaves }
-    requires left { length cells.now ≤ homes.old.left }
+    requires left { length new.now.cells.now ≤ homes.old.left }
     requires tree { IsTree mem.old root.index }
-    requires kept { AllByRecursion (IsRun text.now) (tree_runs mem.old root.index) }
+    requires kept { AllByRecursion (IsRun new.now.text.now) (tree_runs mem.old root.index) }
     requires apart { AreApart (tree_runs mem.old root.index) }
-    requires upto { AreUpTo newest (cells_of text.now (tree_runs mem.old root.index)) }
-    requires last { EndsWith text.now cells.now }
-    requires short { length text.now ≤ MOST_CELLS }
-    requires few { (counts_of (tree_runs mem.old root.index)).cells + length cells.now ≤ MOST_CELLS }
-    requires within { at < (counts_of (tree_runs mem.old root.index)).cells }
+    requires upto { AreUpTo new.now.newest (cells_of new.now.text.now (tree_runs mem.old root.index)) }
+    requires last { EndsWith new.now.text.now new.now.cells.now }
+    requires short { length new.now.text.now ≤ MOST_CELLS }
+    requires few { (counts_of (tree_runs mem.old root.index)).cells + length new.now.cells.now ≤ MOST_CELLS }
+    requires within { new.now.at < (counts_of (tree_runs mem.old root.index)).cells }
     requires held { IfSome last.now (Holds mem.old root.index) }
     requires told { AreTold states.now mem.old sums.old (tree_runs mem.old root.index) }
-    requires states { AreStates states.now cells.now }
+    requires states { AreStates states.now new.now.cells.now }
     ensures tree { IsTree mem.new root.index }
-    ensures within { result.done ≤ length cells.now }
-    ensures cells { AreChanged (tree_runs mem.old root.index) (tree_runs mem.new root.index) text.now (put_at at (take result.done cells.now)) }
-    ensures edge { result.is_edge ≡ true → IsEdge (lengths (tree_runs mem.new root.index)) (at + result.done) }
-    ensures end { IfSome result.end (IsEndAt mem.new root.index (at + result.done)) }
+    ensures within { result.done ≤ length new.now.cells.now }
+    ensures cells { AreChanged (tree_runs mem.old root.index) (tree_runs mem.new root.index) new.now.text.now
+        (put_at new.now.at (take result.done new.now.cells.now)) }
+    ensures edge { result.is_edge ≡ true → IsEdge (lengths (tree_runs mem.new root.index)) (new.now.at + result.done) }
+    ensures end { IfSome result.end (IsEndAt mem.new root.index (new.now.at + result.done)) }
     ensures known { IfSome result.end (λ _. result.is_edge ≡ true) }
     ensures apart { AreApart (tree_runs mem.new root.index) }
     ensures runs { length (tree_runs mem.new root.index) ≡ length (tree_runs mem.old root.index) }
     ensures home { homes.new.sure ≡ true → AreHome homes.new.leaves (tree_runs mem.new root.index) }
     ensures housed { homes.new.sure ≡ true → AreHoused mem.new root.index homes.new.leaves }
     ensures left { homes.old.left ≤ homes.new.left + result.done }
-    ensures sure { homes.old.sure ≡ true → AreOnce (cells_of text.now (tree_runs mem.old root.index)) cells.now → AreBelowGreatest cells.now
-        → homes.new.sure ≡ true }
+    ensures sure { homes.old.sure ≡ true → AreOnce (cells_of new.now.text.now (tree_runs mem.old root.index)) new.now.cells.now
+        → AreBelowGreatest new.now.cells.now → homes.new.sure ≡ true }
     ensures room { length mem.new.heads + mem.new.room ≡ length mem.old.heads + mem.old.room }
     ensures still { result.done ≡ 0 → mem.new ≡ mem.old }
     ensures held { IfSome result.last (Holds mem.new root.index) }
     ensures told { AreTold states.now mem.new sums.new (tree_runs mem.new root.index) }
     ensures tags { sums.new.tags ≡ sums.old.tags }
 {
+    let New {
+        text,
+        at,
+        cells,
+        newest,
+    } = *new;
     if at == 0 || cells.is_empty() {
         return not_extended(at == 0, None);
     }

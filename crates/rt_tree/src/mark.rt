@@ -106,19 +106,18 @@ fn mark_runs(
     }
 }
 
-// Marks the run that begins with a count of a span, if it is found, and tells the count behind it; if no run has that count, it
-// is the next one.
+// Marks the run that begins with the first count of what is left of a span, if it is found, and tells the count behind it; if no
+// run has that count, it is the next one.
 fn mark_at(
     mem: &mut Mem,
     sums: &mut Summaries,
     states: &StateTable,
     root: NodeId,
-    span: Span,
-    count: u64,
+    left: Span,
     mark: &Mark,
     homes: &Homes,
 ) -> Option<u64>
-    requires within { (span.first ≤ count) × (count ≤ span.last) }
+    requires within { left.first ≤ left.last }
     requires tree { IsTree mem.old root.index }
     requires kept { AreKept (tree_runs mem.old root.index) }
     requires few { (counts_of (tree_runs mem.old root.index)).cells ≤ MOST_CELLS }
@@ -128,13 +127,16 @@ fn mark_at(
     ensures tree { IsTree mem.new root.index }
     ensures stay { StampsStay mem.old mem.new }
     ensures none { result ≡ None → tree_runs mem.new root.index ≡ tree_runs mem.old root.index }
-    ensures some { IfSome result (λ next. MarksOn span mark.now count next (tree_runs mem.old root.index) (tree_runs mem.new root.index)) }
+    ensures some { IfSome result (λ next. MarksOn left mark.now left.first next (tree_runs mem.old root.index) (tree_runs mem.new root.index)) }
     ensures room { length mem.new.heads + mem.new.room ≡ length mem.old.heads + mem.old.room }
     ensures told { AreTold states.now mem.new sums.new (tree_runs mem.new root.index) }
     ensures tags { sums.new.tags ≡ sums.old.tags }
 {
-    let site = span.site;
-    let stamp = Stamp { count, site };
+    let count = left.first;
+    let stamp = Stamp {
+        count,
+        site: left.site,
+    };
     let leaf = homes.leaf_of(stamp);
     if homes.is_nowhere(leaf) {
         return count.checked_add(1);
@@ -150,7 +152,7 @@ fn mark_at(
         states,
         root,
         home.before.cells as usize,
-        span,
+        left,
         mark,
     );
     Some(next)
@@ -186,7 +188,11 @@ fn mark_by_homes(
     }
     let mut count = span.first;
     while count <= span.last {
-        match mark_at(mem, sums, states, root, span, count, mark, homes) {
+        let left = Span {
+            first: count,
+            ..span
+        };
+        match mark_at(mem, sums, states, root, left, mark, homes) {
             None => return false,
             Some(next) => count = next,
         }

@@ -16,8 +16,8 @@ ghost use Rattle.rt_tree.specs.Summaries.{AreTold};
 ghost use Rattle.rt_tree.specs.Sums.{counts_of};
 ghost use Rattle.rt_tree.specs.Trees.{HasNodes};
 
-use crate::cut::{Change, Ended, cut_home};
-use crate::extend::extend;
+use crate::cut::{Change, Ended, Gap, cut_home};
+use crate::extend::{New, extend};
 use crate::find::{cells_of, first_stamp, has, seek};
 use crate::homes::Homes;
 use crate::node::{Measure, Mem, Run};
@@ -237,7 +237,7 @@ fn choose(
     Next { run, lone: 0 }
 }
 
-// Puts cells in before a position at which a run begins; `end` is the spot of the cell before it, where this is known to be the
+// Puts new cells in before a position at which a run begins; `end` is the spot of the cell before it, where this is known to be the
 // last of its run.
 #[inline(always)]
 fn put_runs(
@@ -245,40 +245,37 @@ fn put_runs(
     sums: &mut Summaries,
     states: &StateTable,
     root: NodeId,
-    text: &[char],
-    at: usize,
-    cells: &[Cell<StateId>],
-    newest: u64,
+    new: &New<'_>,
     homes: &mut Homes,
     end: Option<Spot>,
 ) -> Change
     requires home { homes.old.sure ≡ true → AreHome homes.old.leaves (tree_runs mem.old root.index) }
     requires housed { homes.old.sure ≡ true → AreHoused mem.old root.index homes.old.leaves }
-    requires left { length cells.now ≤ homes.old.left }
+    requires left { length new.now.cells.now ≤ homes.old.left }
     requires tree { IsTree mem.old root.index }
-    requires kept { AllByRecursion (IsRun text.now) (tree_runs mem.old root.index) }
+    requires kept { AllByRecursion (IsRun new.now.text.now) (tree_runs mem.old root.index) }
     requires apart { AreApart (tree_runs mem.old root.index) }
-    requires upto { AreUpTo newest (cells_of text.now (tree_runs mem.old root.index)) }
-    requires last { EndsWith text.now cells.now }
-    requires short { length text.now ≤ MOST_CELLS }
-    requires few { (counts_of (tree_runs mem.old root.index)).cells + length cells.now ≤ MOST_CELLS }
-    requires within { at < (counts_of (tree_runs mem.old root.index)).cells }
-    requires edge { IsEdge (lengths (tree_runs mem.old root.index)) at }
-    requires end { IfSome end (IsEndAt mem.old root.index at) }
-    requires room { HasNodes mem.old (length (tree_runs mem.old root.index) + length cells.now) }
+    requires upto { AreUpTo new.now.newest (cells_of new.now.text.now (tree_runs mem.old root.index)) }
+    requires last { EndsWith new.now.text.now new.now.cells.now }
+    requires short { length new.now.text.now ≤ MOST_CELLS }
+    requires few { (counts_of (tree_runs mem.old root.index)).cells + length new.now.cells.now ≤ MOST_CELLS }
+    requires within { new.now.at < (counts_of (tree_runs mem.old root.index)).cells }
+    requires edge { IsEdge (lengths (tree_runs mem.old root.index)) new.now.at }
+    requires end { IfSome end (IsEndAt mem.old root.index new.now.at) }
+    requires room { HasNodes mem.old (length (tree_runs mem.old root.index) + length new.now.cells.now) }
     requires told { AreTold states.now mem.old sums.old (tree_runs mem.old root.index) }
-    requires states { AreStates states.now cells.now }
+    requires states { AreStates states.now new.now.cells.now }
     ensures tree { IsTree mem.new result.root.index }
-    ensures cells { AreChanged (tree_runs mem.old root.index) (tree_runs mem.new result.root.index) text.now (put_at at cells.now) }
+    ensures cells { AreChanged (tree_runs mem.old root.index) (tree_runs mem.new result.root.index) new.now.text.now (put_at new.now.at new.now.cells.now) }
     ensures apart { AreApart (tree_runs mem.new result.root.index) }
     ensures runs { length (tree_runs mem.new result.root.index) ≡ length (tree_runs mem.old root.index) + result.more }
-    ensures most { result.more ≤ length cells.now }
-    ensures more { AreOnce (cells_of text.now (tree_runs mem.old root.index)) cells.now → result.more ≤ stretches cells.now }
+    ensures most { result.more ≤ length new.now.cells.now }
+    ensures more { AreOnce (cells_of new.now.text.now (tree_runs mem.old root.index)) new.now.cells.now → result.more ≤ stretches new.now.cells.now }
     ensures home { homes.new.sure ≡ true → AreHome homes.new.leaves (tree_runs mem.new result.root.index) }
     ensures housed { homes.new.sure ≡ true → AreHoused mem.new result.root.index homes.new.leaves }
-    ensures left { homes.old.left ≤ homes.new.left + length cells.now }
-    ensures sure { homes.old.sure ≡ true → AreOnce (cells_of text.now (tree_runs mem.old root.index)) cells.now → AreBelowGreatest cells.now
-        → homes.new.sure ≡ true }
+    ensures left { homes.old.left ≤ homes.new.left + length new.now.cells.now }
+    ensures sure { homes.old.sure ≡ true → AreOnce (cells_of new.now.text.now (tree_runs mem.old root.index)) new.now.cells.now
+        → AreBelowGreatest new.now.cells.now → homes.new.sure ≡ true }
     ensures room { length mem.new.heads + mem.new.room ≡ length mem.old.heads + mem.old.room }
     ensures told { AreTold states.now mem.new sums.new (tree_runs mem.new result.root.index) }
     ensures tags { sums.new.tags ≡ sums.old.tags }
@@ -287,23 +284,23 @@ fn put_runs(
     let mut done = 0;
     let mut more = 0;
     let mut lone = 0;
-    let mut newest = newest;
+    let mut newest = new.newest;
     let mut end = end;
-    while done < cells.len() {
-        let next = choose(mem, root, text, cells, done, lone, newest, homes);
+    while done < new.cells.len() {
+        let next = choose(mem, root, new.text, new.cells, done, lone, newest, homes);
         let to = done + next.run.len as usize;
         root = put_home(
             mem,
             sums,
             states,
             root,
-            at + done,
+            new.at + done,
             behind(end),
             next.run,
             homes,
             newest,
         );
-        newest = newest_of(newest, &cells[done..to]);
+        newest = newest_of(newest, &new.cells[done..to]);
         done = to;
         end = None;
         lone = next.lone;
@@ -334,82 +331,76 @@ fn still_there<'a>(
     if done == 0 { last } else { nothing }
 }
 
-// Puts cells in at a position; their characters are the last of the text.
+// Puts new cells in at their position.
 #[inline(always)]
 pub(crate) fn put_cells(
     mem: &mut Mem,
     sums: &mut Summaries,
     states: &StateTable,
     root: NodeId,
-    text: &[char],
-    at: usize,
-    cells: &[Cell<StateId>],
-    newest: u64,
+    new: &New<'_>,
     homes: &mut Homes,
     last: &Option<Found>,
 ) -> Grown
     requires home { homes.old.sure ≡ true → AreHome homes.old.leaves (tree_runs mem.old root.index) }
     requires housed { homes.old.sure ≡ true → AreHoused mem.old root.index homes.old.leaves }
-    requires left { length cells.now + 1 ≤ homes.old.left }
+    requires left { length new.now.cells.now + 1 ≤ homes.old.left }
     requires tree { IsTree mem.old root.index }
-    requires kept { AllByRecursion (IsRun text.now) (tree_runs mem.old root.index) }
+    requires kept { AllByRecursion (IsRun new.now.text.now) (tree_runs mem.old root.index) }
     requires apart { AreApart (tree_runs mem.old root.index) }
-    requires upto { AreUpTo newest (cells_of text.now (tree_runs mem.old root.index)) }
-    requires last { EndsWith text.now cells.now }
-    requires short { length text.now ≤ MOST_CELLS }
-    requires few { (counts_of (tree_runs mem.old root.index)).cells + length cells.now ≤ MOST_CELLS }
-    requires within { at < (counts_of (tree_runs mem.old root.index)).cells }
-    requires room { HasNodes mem.old (length (tree_runs mem.old root.index) + length cells.now + 1) }
+    requires upto { AreUpTo new.now.newest (cells_of new.now.text.now (tree_runs mem.old root.index)) }
+    requires last { EndsWith new.now.text.now new.now.cells.now }
+    requires short { length new.now.text.now ≤ MOST_CELLS }
+    requires few { (counts_of (tree_runs mem.old root.index)).cells + length new.now.cells.now ≤ MOST_CELLS }
+    requires within { new.now.at < (counts_of (tree_runs mem.old root.index)).cells }
+    requires room { HasNodes mem.old (length (tree_runs mem.old root.index) + length new.now.cells.now + 1) }
     requires held { IfSome last.now (Holds mem.old root.index) }
     requires told { AreTold states.now mem.old sums.old (tree_runs mem.old root.index) }
-    requires states { AreStates states.now cells.now }
+    requires states { AreStates states.now new.now.cells.now }
     ensures tree { IsTree mem.new result.root.index }
-    ensures cells { AreChanged (tree_runs mem.old root.index) (tree_runs mem.new result.root.index) text.now (put_at at cells.now) }
+    ensures cells { AreChanged (tree_runs mem.old root.index) (tree_runs mem.new result.root.index) new.now.text.now (put_at new.now.at new.now.cells.now) }
     ensures apart { AreApart (tree_runs mem.new result.root.index) }
     ensures runs { length (tree_runs mem.new result.root.index) ≡ length (tree_runs mem.old root.index) + result.more }
-    ensures most { result.more ≤ length cells.now + 1 }
-    ensures more { AreOnce (cells_of text.now (tree_runs mem.old root.index)) cells.now → result.more ≤ stretches cells.now + 1 }
+    ensures most { result.more ≤ length new.now.cells.now + 1 }
+    ensures more { AreOnce (cells_of new.now.text.now (tree_runs mem.old root.index)) new.now.cells.now → result.more ≤ stretches new.now.cells.now + 1 }
     ensures home { homes.new.sure ≡ true → AreHome homes.new.leaves (tree_runs mem.new result.root.index) }
     ensures housed { homes.new.sure ≡ true → AreHoused mem.new result.root.index homes.new.leaves }
-    ensures left { homes.old.left ≤ homes.new.left + length cells.now + 1 }
-    ensures sure { homes.old.sure ≡ true → AreOnce (cells_of text.now (tree_runs mem.old root.index)) cells.now → AreBelowGreatest cells.now
-        → homes.new.sure ≡ true }
+    ensures left { homes.old.left ≤ homes.new.left + length new.now.cells.now + 1 }
+    ensures sure { homes.old.sure ≡ true → AreOnce (cells_of new.now.text.now (tree_runs mem.old root.index)) new.now.cells.now
+        → AreBelowGreatest new.now.cells.now → homes.new.sure ≡ true }
     ensures room { length mem.new.heads + mem.new.room ≡ length mem.old.heads + mem.old.room }
     ensures held { IfSome result.last (Holds mem.new result.root.index) }
     ensures told { AreTold states.now mem.new sums.new (tree_runs mem.new result.root.index) }
     ensures tags { sums.new.tags ≡ sums.old.tags }
 {
-    let extended = extend(
-        mem, sums, states, root, text, at, cells, newest, homes, last,
-    );
+    let extended = extend(mem, sums, states, root, new, homes, last);
     let done = extended.done;
-    if done == cells.len() {
+    if done == new.cells.len() {
         return Grown {
             root,
             more: 0,
             last: extended.last,
         };
     }
-    let rest = &cells[done..];
-    let place = at + done;
+    let place = new.at + done;
     let nothing = None;
     let last = still_there(last, &nothing, done);
-    let Ended { change: first, end } = cut_home(
-        mem,
-        sums,
-        states,
-        root,
-        place,
-        extended.is_edge,
-        extended.end,
+    let gap = Gap {
+        at: place,
+        is_edge: extended.is_edge,
+        end: extended.end,
         last,
-        homes,
-    );
-    let newest = newest_of(newest, &cells[..done]);
+    };
+    let Ended { change: first, end } = cut_home(mem, sums, states, root, &gap, homes);
+    let newest = newest_of(new.newest, &new.cells[..done]);
     let root = first.root;
-    let then = put_runs(
-        mem, sums, states, root, text, place, rest, newest, homes, end,
-    );
+    let rest = New {
+        text: new.text,
+        at: place,
+        cells: &new.cells[done..],
+        newest,
+    };
+    let then = put_runs(mem, sums, states, root, &rest, homes, end);
     Grown {
         root: then.root,
         more: first.more + then.more,

@@ -10,6 +10,7 @@ ghost use Rattle.rt_tree.specs.Trees.{Agrees, HasOwn};
 
 use super::Tree;
 use crate::copy::push_characters;
+use crate::extend::New;
 use crate::find::sum_of;
 use crate::homes::spans_for;
 use crate::mark::{Mark, mark_span};
@@ -183,15 +184,18 @@ impl Tree {
         ensures own { HasOwn self.new }
     {
         push_characters(&mut self.text, cells);
+        let new = New {
+            text: &self.text,
+            at,
+            cells,
+            newest: self.newest,
+        };
         let change = put_cells(
             &mut self.mem,
             &mut self.sums,
             states,
             self.root,
-            &self.text,
-            at,
-            cells,
-            self.newest,
+            &new,
             &mut self.homes,
             &self.last,
         );

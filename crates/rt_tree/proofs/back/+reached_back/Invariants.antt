@@ -15,7 +15,7 @@ abbrev pub invariant-reached_back-loop-i : goal.invariant-reached_back-loop-i
 invariant-reached_back-loop-i l =
     let es = entries l.mem l.node.index in
     let k = level_of l.mem l.node.index in
-    let test = tagged_as l.states l.wanted.tag l.wanted.on in
+    let test = tagged_as l.search.states.now l.search.wanted.tag l.search.wanted.on in
     record {
       within : l.i ≤ length es;
       left : l.left ≡ (sum_of (take l.i es)).visible;

@@ -50,8 +50,8 @@ returns-in-Some-clause-housed c sure =
     (parted_bordered leaves then m n root next front.run front.leaf told cut e.tree once housed (have_cells c.requires.kept.text old c.requires.kept.runs))
     (subst (λ k. HaveLeavesBelow k n then) (sym c.nodes-nodes.ensures) (parted_leaves leaves then m n root next front.run front.leaf told cut e.tree once housed))
 
-pub returns-then-is_edge-clause-edge : goal.returns-then-is_edge-clause-edge
-returns-then-is_edge-clause-edge c = c.requires.edge c.if-is_edge.true
+pub returns-then-gap-clause-edge : goal.returns-then-gap-clause-edge
+returns-then-gap-clause-edge c = c.requires.edge c.if-gap.true
 
-pub returns-then-is_edge-clause-parts : goal.returns-then-is_edge-clause-parts
-returns-then-is_edge-clause-parts c = let old = tree_runs c.args.mem.now c.args.root.index in no_parts old old c.args.at (returns-then-is_edge-clause-edge c)
+pub returns-then-gap-clause-parts : goal.returns-then-gap-clause-parts
+returns-then-gap-clause-parts c = let old = tree_runs c.args.mem.now c.args.root.index in no_parts old old c.args.gap.now.at (returns-then-gap-clause-edge c)

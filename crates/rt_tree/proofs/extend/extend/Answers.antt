@@ -40,21 +40,21 @@ nat_is a b is = grind (arith, nat_tests)
 pub cell_near-found-requires-clause-few : goal.cell_near-found-requires-clause-few
 cell_near-found-requires-clause-few c =
     let old = tree_runs c.args.mem.now c.args.root.index in
-    let kept : AreKept old = record { text = c.args.text.now; short = c.requires.short; runs = c.requires.kept } in
+    let kept : AreKept old = record { text = c.args.new.now.text.now; short = c.requires.short; runs = c.requires.kept } in
     few_all old kept (omega (arith, c.requires.few))
 
 pub is_barred-requires-clause-kept : goal.is_barred-requires-clause-kept
-is_barred-requires-clause-kept c = record { text = c.args.text.now; short = c.requires.short; runs = c.requires.kept }
+is_barred-requires-clause-kept c = record { text = c.args.new.now.text.now; short = c.requires.short; runs = c.requires.kept }
 
 pub is_barred-requires-clause-known : goal.is_barred-requires-clause-known
-is_barred-requires-clause-known c = record { text = c.args.text.now; kept = c.requires.kept; upto = c.requires.upto }
+is_barred-requires-clause-known c = record { text = c.args.new.now.text.now; kept = c.requires.kept; upto = c.requires.upto }
 
 pub is_new-is_new-requires : goal.is_new-is_new-requires
 is_new-is_new-requires c = c.run_of-run.ensures.front.run.counts
 
 pub is_barred-requires-clause-sum : goal.is_barred-requires-clause-sum
 is_barred-requires-clause-sum c =
-    let st = there c.args.mem.now c.args.root.index c.requires.tree (c.args.at - 1) c.cell_near-found.result c.cell_near-found.ensures in let run = c.cell_near-found.result.run in
+    let st = there c.args.mem.now c.args.root.index c.requires.tree (c.args.new.now.at - 1) c.cell_near-found.result c.cell_near-found.ensures in let run = c.cell_near-found.result.run in
     let w = ap (λ l. (counts_of l).cells) st.here ∙ counts_mid st.left run st.right in
     let low = c.run_of-run.ensures.front.within in
     omega (arith, w, low, c.requires.few)
@@ -66,7 +66,7 @@ pub is_barred-requires-clause-joint : goal.is_barred-requires-clause-joint
 is_barred-requires-clause-joint c = sym c.are_joint.ensures ∙ c.if-not-are_joint.false
 
 pub is_barred-requires-clause-among : goal.is_barred-requires-clause-among
-is_barred-requires-clause-among c = let st = there c.args.mem.now c.args.root.index c.requires.tree (c.args.at - 1) c.cell_near-found.result c.cell_near-found.ensures in record { left = st.left; right = st.right; here = st.here }
+is_barred-requires-clause-among c = let st = there c.args.mem.now c.args.root.index c.requires.tree (c.args.new.now.at - 1) c.cell_near-found.result c.cell_near-found.ensures in record { left = st.left; right = st.right; here = st.here }
 
 pub is_barred-requires-clause-once : goal.is_barred-requires-clause-once
 is_barred-requires-clause-once c = λ new. (c.requires.home (c.is_new-is_new.ensures.sure new)).once
@@ -74,11 +74,11 @@ is_barred-requires-clause-once c = λ new. (c.requires.home (c.is_new-is_new.ens
 pub is_barred-requires-clause-new : goal.is_barred-requires-clause-new
 is_barred-requires-clause-new c =
     let old = tree_runs c.args.mem.now c.args.root.index in
-    λ new. unknown_new c.args.homes.now.leaves c.args.newest c.run_of-run.result old (record { text = c.args.text.now; kept = c.requires.kept; upto = c.requires.upto }) (c.requires.home (c.is_new-is_new.ensures.sure new)) (c.is_new-is_new.ensures.unknown new)
+    λ new. unknown_new c.args.homes.now.leaves c.args.new.now.newest c.run_of-run.result old (record { text = c.args.new.now.text.now; kept = c.requires.kept; upto = c.requires.upto }) (c.requires.home (c.is_new-is_new.ensures.sure new)) (c.is_new-is_new.ensures.unknown new)
 
 pub joined-whole-requires : goal.joined-whole-requires
 joined-whole-requires c =
-    let st = there c.args.mem.now c.args.root.index c.requires.tree (c.args.at - 1) c.cell_near-found.result c.cell_near-found.ensures in let run = c.cell_near-found.result.run in
+    let st = there c.args.mem.now c.args.root.index c.requires.tree (c.args.new.now.at - 1) c.cell_near-found.result c.cell_near-found.ensures in let run = c.cell_near-found.result.run in
     let w = ap (λ l. (counts_of l).cells) st.here ∙ counts_mid st.left run st.right in
     let low = c.run_of-run.ensures.front.within in
     omega (arith, w, low, c.requires.few)
@@ -86,17 +86,17 @@ joined-whole-requires c =
 pub returns-clause-home : goal.returns-clause-home
 returns-clause-home c =
     let old = tree_runs c.args.mem.now c.args.root.index in let new = tree_runs c.replace_at.new.mem c.args.root.index in
-    let st = there c.args.mem.now c.args.root.index c.requires.tree (c.args.at - 1) c.cell_near-found.result c.cell_near-found.ensures in let f = c.cell_near-found.result in let b = c.run_of-run.result in
-    let rep = subst (λ (r : Run). IsReplacedAt old new (c.args.at - 1) r) c.joined-whole.ensures (c.replace_at.ensures.runs (c.args.at - 1) c.cell_near-found.result.run c.cell_near-found.ensures) in
+    let st = there c.args.mem.now c.args.root.index c.requires.tree (c.args.new.now.at - 1) c.cell_near-found.result c.cell_near-found.ensures in let f = c.cell_near-found.result in let b = c.run_of-run.result in
+    let rep = subst (λ (r : Run). IsReplacedAt old new (c.args.new.now.at - 1) r) c.joined-whole.ensures (c.replace_at.ensures.runs (c.args.new.now.at - 1) c.cell_near-found.result.run c.cell_near-found.ensures) in
     let joint = sym c.are_joint.ensures ∙ c.if-not-are_joint.false in
-    let is = new_is c.args.text.now old c.args.at c.args.cells.now c.requires.kept f.run b (front c.args.mem.now c.args.root.index f) f.spot.offset st (let z = c.if-at-eq0.false in omega (arith, z)) (let l = c.if-found.false in let i = st.inside in omega (arith, l, i)) c.run_of-run.ensures joint new rep in
+    let is = new_is c.args.new.now.text.now old c.args.new.now.at c.args.new.now.cells.now c.requires.kept f.run b (front c.args.mem.now c.args.root.index f) f.spot.offset st (let z = c.if-at-eq0.false in omega (arith, z)) (let l = c.if-found.false in let i = st.inside in omega (arith, l, i)) c.run_of-run.ensures joint new rep in
     let leaves = c.args.homes.now.leaves in let after = c.enter.new.self.leaves in
     let e = c.enter.ensures in let i = c.is_new-is_new.ensures in
     λ sure.
     let new_there = e.sure sure in
     let home = c.requires.home (i.sure new_there) in
     home_more leaves after b old new (joined_holders f.run b st.left st.right old new joint st.here is) home
-    (unknown_new leaves c.args.newest b old (record { text = c.args.text.now; kept = c.requires.kept; upto = c.requires.upto }) home (i.unknown new_there))
+    (unknown_new leaves c.args.new.now.newest b old (record { text = c.args.new.now.text.now; kept = c.requires.kept; upto = c.requires.upto }) home (i.unknown new_there))
     (joined_placed after f.run b joint (subst (IsPlaced after) c.joined-whole.ensures (e.placed sure)))
     e.keeps
     (entered_others leaves after c.joined-whole.result f.spot.leaf (e.entered sure) new st.left st.right (is ∙ ap (λ (x : Run). st.left ++ x ∷ st.right) (sym c.joined-whole.ensures)))
@@ -110,35 +110,35 @@ pub returns-clause-housed : goal.returns-clause-housed
 returns-clause-housed c sure =
     let m = c.args.mem.now in let n = c.replace_at.new.mem in let root = c.args.root.index in
     let old = tree_runs m root in let new = tree_runs n root in
-    let st = there m root c.requires.tree (c.args.at - 1) c.cell_near-found.result c.cell_near-found.ensures in let f = c.cell_near-found.result in let b = c.run_of-run.result in
-    let rep = subst (λ (r : Run). IsReplacedAt old new (c.args.at - 1) r) c.joined-whole.ensures (c.replace_at.ensures.runs (c.args.at - 1) c.cell_near-found.result.run c.cell_near-found.ensures) in
+    let st = there m root c.requires.tree (c.args.new.now.at - 1) c.cell_near-found.result c.cell_near-found.ensures in let f = c.cell_near-found.result in let b = c.run_of-run.result in
+    let rep = subst (λ (r : Run). IsReplacedAt old new (c.args.new.now.at - 1) r) c.joined-whole.ensures (c.replace_at.ensures.runs (c.args.new.now.at - 1) c.cell_near-found.result.run c.cell_near-found.ensures) in
     let joint = sym c.are_joint.ensures ∙ c.if-not-are_joint.false in
-    let is = new_is c.args.text.now old c.args.at c.args.cells.now c.requires.kept f.run b (front m root f) f.spot.offset st (let z = c.if-at-eq0.false in omega (arith, z)) (let l = c.if-found.false in let i = st.inside in omega (arith, l, i)) c.run_of-run.ensures joint new rep in
+    let is = new_is c.args.new.now.text.now old c.args.new.now.at c.args.new.now.cells.now c.requires.kept f.run b (front m root f) f.spot.offset st (let z = c.if-at-eq0.false in omega (arith, z)) (let l = c.if-found.false in let i = st.inside in omega (arith, l, i)) c.run_of-run.ensures joint new rep in
     let whole = c.joined-whole.ensures in
     let leaves = c.args.homes.now.leaves in let after = c.enter.new.self.leaves in
     let e = c.enter.ensures in let i = c.is_new-is_new.ensures in
     let new_there = e.sure sure in
     let home = c.requires.home (i.sure new_there) in
-    let fresh = unknown_new leaves c.args.newest b old (record { text = c.args.text.now; kept = c.requires.kept; upto = c.requires.upto }) home (i.unknown new_there) in
+    let fresh = unknown_new leaves c.args.new.now.newest b old (record { text = c.args.new.now.text.now; kept = c.requires.kept; upto = c.requires.upto }) home (i.unknown new_there) in
     let spot = c.cell_near-found.ensures in
     joined_housed leaves after c.joined-whole.result f.spot.leaf (e.entered sure) m n root c.requires.tree (c.requires.housed (i.sure new_there)) f.run b st.left st.right joint whole st.here
     (is ∙ ap (λ (x : Run). st.left ++ x ∷ st.right) (sym whole)) home.once (returns-clause-home c sure).once fresh
     (record { is = spot.is; low = spot.low; entry = f.spot.entry; here = spot.here })
-    (have_cells c.args.text.now old c.requires.kept) c.replace_at.ensures.stay c.replace_at.ensures.room.1
+    (have_cells c.args.new.now.text.now old c.requires.kept) c.replace_at.ensures.stay c.replace_at.ensures.room.1
 
 pub returns-clause-apart : goal.returns-clause-apart
 returns-clause-apart c =
     let old = tree_runs c.args.mem.now c.args.root.index in let new = tree_runs c.replace_at.new.mem c.args.root.index in
-    let st = there c.args.mem.now c.args.root.index c.requires.tree (c.args.at - 1) c.cell_near-found.result c.cell_near-found.ensures in let f = c.cell_near-found.result in let b = c.run_of-run.result in
-    let rep = subst (λ (r : Run). IsReplacedAt old new (c.args.at - 1) r) c.joined-whole.ensures (c.replace_at.ensures.runs (c.args.at - 1) c.cell_near-found.result.run c.cell_near-found.ensures) in
+    let st = there c.args.mem.now c.args.root.index c.requires.tree (c.args.new.now.at - 1) c.cell_near-found.result c.cell_near-found.ensures in let f = c.cell_near-found.result in let b = c.run_of-run.result in
+    let rep = subst (λ (r : Run). IsReplacedAt old new (c.args.new.now.at - 1) r) c.joined-whole.ensures (c.replace_at.ensures.runs (c.args.new.now.at - 1) c.cell_near-found.result.run c.cell_near-found.ensures) in
     let none = sym c.is_barred.ensures ∙ c.if-is_barred.false in
-    extended_apart c.args.text.now old c.args.at c.args.cells.now c.requires.kept f.run b (front c.args.mem.now c.args.root.index f) f.spot.offset st (let z = c.if-at-eq0.false in omega (arith, z)) (let l = c.if-found.false in let i = st.inside in omega (arith, l, i)) c.run_of-run.ensures (sym c.are_joint.ensures ∙ c.if-not-are_joint.false) new rep c.requires.apart none
+    extended_apart c.args.new.now.text.now old c.args.new.now.at c.args.new.now.cells.now c.requires.kept f.run b (front c.args.mem.now c.args.root.index f) f.spot.offset st (let z = c.if-at-eq0.false in omega (arith, z)) (let l = c.if-found.false in let i = st.inside in omega (arith, l, i)) c.run_of-run.ensures (sym c.are_joint.ensures ∙ c.if-not-are_joint.false) new rep c.requires.apart none
 
 pub replace_at-requires-clause-few : goal.replace_at-requires-clause-few
 replace_at-requires-clause-few c =
     let old = tree_runs c.args.mem.now c.args.root.index in
-    let kept : AreKept old = record { text = c.args.text.now; short = c.requires.short; runs = c.requires.kept } in
-    let st = there c.args.mem.now c.args.root.index c.requires.tree (c.args.at - 1) c.cell_near-found.result c.cell_near-found.ensures in let run = c.cell_near-found.result.run in let b = c.run_of-run.result in
+    let kept : AreKept old = record { text = c.args.new.now.text.now; short = c.requires.short; runs = c.requires.kept } in
+    let st = there c.args.mem.now c.args.root.index c.requires.tree (c.args.new.now.at - 1) c.cell_near-found.result c.cell_near-found.ensures in let run = c.cell_near-found.result.run in let b = c.run_of-run.result in
     let w = ap (λ l. (counts_of l).cells) st.here ∙ counts_mid st.left run st.right in
     let low = c.run_of-run.ensures.front.within in let some = c.run_of-run.ensures.front.run.some in
     subst (λ (r : Run). AreFew (plus (counts_of_run r) (counts_of old))) (sym c.joined-whole.ensures)
@@ -147,35 +147,35 @@ replace_at-requires-clause-few c =
 pub returns-clause-cells : goal.returns-clause-cells
 returns-clause-cells c =
     let old = tree_runs c.args.mem.now c.args.root.index in let new = tree_runs c.replace_at.new.mem c.args.root.index in
-    let st = there c.args.mem.now c.args.root.index c.requires.tree (c.args.at - 1) c.cell_near-found.result c.cell_near-found.ensures in let f = c.cell_near-found.result in let b = c.run_of-run.result in
-    let rep = subst (λ (r : Run). IsReplacedAt old new (c.args.at - 1) r) c.joined-whole.ensures (c.replace_at.ensures.runs (c.args.at - 1) c.cell_near-found.result.run c.cell_near-found.ensures) in
-    extended c.args.text.now old c.args.at c.args.cells.now c.requires.kept f.run b (front c.args.mem.now c.args.root.index f) f.spot.offset st (let z = c.if-at-eq0.false in omega (arith, z)) (let l = c.if-found.false in let i = st.inside in omega (arith, l, i)) c.run_of-run.ensures (sym c.are_joint.ensures ∙ c.if-not-are_joint.false) new rep
+    let st = there c.args.mem.now c.args.root.index c.requires.tree (c.args.new.now.at - 1) c.cell_near-found.result c.cell_near-found.ensures in let f = c.cell_near-found.result in let b = c.run_of-run.result in
+    let rep = subst (λ (r : Run). IsReplacedAt old new (c.args.new.now.at - 1) r) c.joined-whole.ensures (c.replace_at.ensures.runs (c.args.new.now.at - 1) c.cell_near-found.result.run c.cell_near-found.ensures) in
+    extended c.args.new.now.text.now old c.args.new.now.at c.args.new.now.cells.now c.requires.kept f.run b (front c.args.mem.now c.args.root.index f) f.spot.offset st (let z = c.if-at-eq0.false in omega (arith, z)) (let l = c.if-found.false in let i = st.inside in omega (arith, l, i)) c.run_of-run.ensures (sym c.are_joint.ensures ∙ c.if-not-are_joint.false) new rep
 
 pub replace_at-requires-clause-spot : goal.replace_at-requires-clause-spot
-replace_at-requires-clause-spot c = (c.args.at - 1, c.cell_near-found.result.run, c.cell_near-found.ensures)
+replace_at-requires-clause-spot c = (c.args.new.now.at - 1, c.cell_near-found.result.run, c.cell_near-found.ensures)
 
 pub returns-clause-runs : goal.returns-clause-runs
 returns-clause-runs c =
     let old = tree_runs c.args.mem.now c.args.root.index in let new = tree_runs c.replace_at.new.mem c.args.root.index in
-    replaced_length old new (c.args.at - 1) c.joined-whole.result (c.replace_at.ensures.runs (c.args.at - 1) c.cell_near-found.result.run c.cell_near-found.ensures)
+    replaced_length old new (c.args.new.now.at - 1) c.joined-whole.result (c.replace_at.ensures.runs (c.args.new.now.at - 1) c.cell_near-found.result.run c.cell_near-found.ensures)
 
 pub replace_at-requires-clause-short : goal.replace_at-requires-clause-short
 replace_at-requires-clause-short c =
     let old = tree_runs c.args.mem.now c.args.root.index in
     let few = c.requires.few in
-    short_kept old (record { text = c.args.text.now; short = c.requires.short; runs = c.requires.kept }) (omega (arith, few))
+    short_kept old (record { text = c.args.new.now.text.now; short = c.requires.short; runs = c.requires.kept }) (omega (arith, few))
 
 pub replace_at-requires-clause-state : goal.replace_at-requires-clause-state
 replace_at-requires-clause-state c =
-    let old = tree_runs c.args.mem.now c.args.root.index in let st = there c.args.mem.now c.args.root.index c.requires.tree (c.args.at - 1) c.cell_near-found.result c.cell_near-found.ensures in let table = c.args.states.now in
+    let old = tree_runs c.args.mem.now c.args.root.index in let st = there c.args.mem.now c.args.root.index c.requires.tree (c.args.new.now.at - 1) c.cell_near-found.result c.cell_near-found.ensures in let table = c.args.states.now in
     subst (λ (x : Run). IsState table x.state) (sym c.joined-whole.ensures) (given_there table old st.left st.right c.cell_near-found.result.run st.here c.requires.told.given)
 
 pub returns-then-at-eq0-clause-edge : goal.returns-then-at-eq0-clause-edge
 returns-then-at-eq0-clause-edge c =
     let old = tree_runs c.args.mem.now c.args.root.index in
-    λ is. let zero : c.args.at ≡ 0 = nat_is c.args.at 0 (sym (ap (λ (x : Extended). x.is_edge) c.not_extended.ensures) ∙ is) in
+    λ is. let zero : c.args.new.now.at ≡ 0 = nat_is c.args.new.now.at 0 (sym (ap (λ (x : Extended). x.is_edge) c.not_extended.ensures) ∙ is) in
     let done = ap (λ (x : Extended). x.done) c.not_extended.ensures in
-    edge_there [] old (c.args.at + c.not_extended.result.done) (omega (arith, zero, done))
+    edge_there [] old (c.args.new.now.at + c.not_extended.result.done) (omega (arith, zero, done))
 
 -- the run that was found ends at the position
 ends_at : (m : Memory) (root at : ℕ) (seen : Seen) → IsSpot m root Cells (at - 1) seen.spot.leaf.index seen.spot.entry seen.spot.offset seen.run → 0 < at → seen.run.len ≤ seen.spot.offset + 1 → IsEndAt m root (at + 0) seen.spot
@@ -198,16 +198,16 @@ returns-then-found-clause-edge c = λ is. absurd (true≢false (sym is ∙ ap (�
 
 pub returns-then-not-are_joint-clause-edge : goal.returns-then-not-are_joint-clause-edge
 returns-then-not-are_joint-clause-edge c =
-    let f = c.cell_near-found.result in let st = there c.args.mem.now c.args.root.index c.requires.tree (c.args.at - 1) f c.cell_near-found.ensures in
+    let f = c.cell_near-found.result in let st = there c.args.mem.now c.args.root.index c.requires.tree (c.args.new.now.at - 1) f c.cell_near-found.ensures in
     let old = tree_runs c.args.mem.now c.args.root.index in
-    λ _. subst (λ (x : Extended). IsEdge (lengths old) (c.args.at + x.done)) (sym c.not_extended-then-not-are_joint.ensures)
-    (ends old f.run (front c.args.mem.now c.args.root.index f) f.spot.offset c.args.at st (omega (arith, c.if-at-eq0.false)) (let l = c.if-found.false in let i = st.inside in omega (arith, l, i)))
+    λ _. subst (λ (x : Extended). IsEdge (lengths old) (c.args.new.now.at + x.done)) (sym c.not_extended-then-not-are_joint.ensures)
+    (ends old f.run (front c.args.mem.now c.args.root.index f) f.spot.offset c.args.new.now.at st (omega (arith, c.if-at-eq0.false)) (let l = c.if-found.false in let i = st.inside in omega (arith, l, i)))
 
 pub returns-then-not-are_joint-clause-end : goal.returns-then-not-are_joint-clause-end
 returns-then-not-are_joint-clause-end c =
     let m = c.args.mem.now in let r = c.args.root.index in let f = c.cell_near-found.result in
-    let end : IsEndAt m r (c.args.at + 0) f.spot = ends_at m r c.args.at f c.cell_near-found.ensures (omega (arith, c.if-at-eq0.false)) c.if-found.false in
-    subst (λ (x : Extended). IfSome x.end (IsEndAt m r (c.args.at + x.done))) (sym c.not_extended-then-not-are_joint.ensures) end
+    let end : IsEndAt m r (c.args.new.now.at + 0) f.spot = ends_at m r c.args.new.now.at f c.cell_near-found.ensures (omega (arith, c.if-at-eq0.false)) c.if-found.false in
+    subst (λ (x : Extended). IfSome x.end (IsEndAt m r (c.args.new.now.at + x.done))) (sym c.not_extended-then-not-are_joint.ensures) end
 
 pub returns-then-not-are_joint-clause-known : goal.returns-then-not-are_joint-clause-known
 returns-then-not-are_joint-clause-known c =
@@ -215,16 +215,16 @@ returns-then-not-are_joint-clause-known c =
 
 pub returns-then-is_barred-clause-edge : goal.returns-then-is_barred-clause-edge
 returns-then-is_barred-clause-edge c =
-    let f = c.cell_near-found.result in let st = there c.args.mem.now c.args.root.index c.requires.tree (c.args.at - 1) f c.cell_near-found.ensures in
+    let f = c.cell_near-found.result in let st = there c.args.mem.now c.args.root.index c.requires.tree (c.args.new.now.at - 1) f c.cell_near-found.ensures in
     let old = tree_runs c.args.mem.now c.args.root.index in
-    λ _. subst (λ (x : Extended). IsEdge (lengths old) (c.args.at + x.done)) (sym c.not_extended-then-is_barred.ensures)
-    (ends old f.run (front c.args.mem.now c.args.root.index f) f.spot.offset c.args.at st (omega (arith, c.if-at-eq0.false)) (let l = c.if-found.false in let i = st.inside in omega (arith, l, i)))
+    λ _. subst (λ (x : Extended). IsEdge (lengths old) (c.args.new.now.at + x.done)) (sym c.not_extended-then-is_barred.ensures)
+    (ends old f.run (front c.args.mem.now c.args.root.index f) f.spot.offset c.args.new.now.at st (omega (arith, c.if-at-eq0.false)) (let l = c.if-found.false in let i = st.inside in omega (arith, l, i)))
 
 pub returns-then-is_barred-clause-end : goal.returns-then-is_barred-clause-end
 returns-then-is_barred-clause-end c =
     let m = c.args.mem.now in let r = c.args.root.index in let f = c.cell_near-found.result in
-    let end : IsEndAt m r (c.args.at + 0) f.spot = ends_at m r c.args.at f c.cell_near-found.ensures (omega (arith, c.if-at-eq0.false)) c.if-found.false in
-    subst (λ (x : Extended). IfSome x.end (IsEndAt m r (c.args.at + x.done))) (sym c.not_extended-then-is_barred.ensures) end
+    let end : IsEndAt m r (c.args.new.now.at + 0) f.spot = ends_at m r c.args.new.now.at f c.cell_near-found.ensures (omega (arith, c.if-at-eq0.false)) c.if-found.false in
+    subst (λ (x : Extended). IfSome x.end (IsEndAt m r (c.args.new.now.at + x.done))) (sym c.not_extended-then-is_barred.ensures) end
 
 pub returns-then-is_barred-clause-known : goal.returns-then-is_barred-clause-known
 returns-then-is_barred-clause-known c =
@@ -233,7 +233,7 @@ returns-then-is_barred-clause-known c =
 pub counts_before-before-requires-clause-few : goal.counts_before-before-requires-clause-few
 counts_before-before-requires-clause-few c =
     let old = tree_runs c.args.mem.now c.args.root.index in
-    let kept : AreKept old = record { text = c.args.text.now; short = c.requires.short; runs = c.requires.kept } in
+    let kept : AreKept old = record { text = c.args.new.now.text.now; short = c.requires.short; runs = c.requires.kept } in
     few_all old kept (omega (arith, c.requires.few))
 
 pub counts_before-before-requires-clause-leaf : goal.counts_before-before-requires-clause-leaf
@@ -244,19 +244,19 @@ counts_before-before-requires-clause-leaf c =
 pub counts_before-before-requires-clause-within : goal.counts_before-before-requires-clause-within
 counts_before-before-requires-clause-within c =
     let f = c.cell_near-found.result in
-    let lt = spot_within c.args.mem.now c.args.root.index (c.args.at - 1) f.spot.leaf.index f.spot.entry f.spot.offset f.run c.cell_near-found.ensures in
+    let lt = spot_within c.args.mem.now c.args.root.index (c.args.new.now.at - 1) f.spot.leaf.index f.spot.entry f.spot.offset f.run c.cell_near-found.ensures in
     omega (arith, lt)
 
 pub returns-clause-held : goal.returns-clause-held
 returns-clause-held c =
     let f = c.cell_near-found.result in let m = c.args.mem.now in let r = c.args.root.index in
-    c.replace_at.ensures.held f.run c.counts_before-before.result (spot_held m r Cells (c.args.at - 1) f.spot.leaf.index f.spot.entry f.spot.offset f.run c.counts_before-before.result c.cell_near-found.ensures c.counts_before-before.ensures)
+    c.replace_at.ensures.held f.run c.counts_before-before.result (spot_held m r Cells (c.args.new.now.at - 1) f.spot.leaf.index f.spot.entry f.spot.offset f.run c.counts_before-before.result c.cell_near-found.ensures c.counts_before-before.ensures)
 
 -- new cells that share no stamp are known to be new
 pub returns-clause-sure : goal.returns-clause-sure
 returns-clause-sure c = λ was once below.
     let old = tree_runs c.args.mem.now c.args.root.index in
-    let text = c.args.text.now in let cells = c.args.cells.now in
+    let text = c.args.new.now.text.now in let cells = c.args.new.now.cells.now in
     let f = c.cell_near-found.result in let b = c.run_of-run.result in
     let front = c.run_of-run.ensures.front in
     let home = c.requires.home was in

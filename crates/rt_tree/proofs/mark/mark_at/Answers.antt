@@ -18,8 +18,8 @@ pub returns-then-is_nowhere-clause-some : goal.returns-then-is_nowhere-clause-so
 returns-then-is_nowhere-clause-some c =
     let all = tree_runs c.args.mem.now c.args.root.index in
     let none = c.is_nowhere.ensures c.if-is_nowhere.true in
-    let on = nowhere_on c.args.span c.args.mark.now c.args.count all (have_cells c.requires.kept.text all c.requires.kept.runs) ((c.requires.home none.0).known _ (sym c.leaf_of-leaf.ensures ∙ none.1)) in
-    some_on c.checked_add.result _ (c.args.count + 1) (λ next. MarksOn c.args.span c.args.mark.now c.args.count next all all) c.checked_add.ensures on
+    let on = nowhere_on c.args.left c.args.mark.now c.args.left.first all (have_cells c.requires.kept.text all c.requires.kept.runs) ((c.requires.home none.0).known _ (sym c.leaf_of-leaf.ensures ∙ none.1)) in
+    some_on c.checked_add.result _ (c.args.left.first + 1) (λ next. MarksOn c.args.left c.args.mark.now c.args.left.first next all all) c.checked_add.ensures on
 
 pub locate-requires-clause-few : goal.locate-requires-clause-few
 locate-requires-clause-few c = few_all (tree_runs c.args.mem.now c.args.root.index) c.requires.kept c.requires.few
@@ -36,10 +36,10 @@ returns-clause-some c =
     let old = tree_runs c.args.mem.now c.args.root.index in let new = tree_runs c.mark_run.new.mem c.args.root.index in
     let h = c.in_ok-home.home in let e = c.in_ok-home.ensures in
     let home = c.requires.home e.sure in
-    let first : h.run.first ≡ c.args.count = c.if-home-count.false in
-    let i = in_it c.args.span c.args.count h.run c.requires.within.0 c.requires.within.1 e.has first in
+    let first : h.run.first ≡ c.args.left.first = c.if-home-count.false in
+    let i = in_it c.args.left c.args.left.first h.run (omega arith) c.requires.within e.has first in
     let w = has_within h.run _ e.has in
-    let on = found_on c.args.span c.args.mark.now c.args.count h.run i.0 first (omega (arith, w)) i.1 old new h.before c.mark_run.result home.once (have_cells c.requires.kept.text old c.requires.kept.runs) e.home
+    let on = found_on c.args.left c.args.mark.now c.args.left.first h.run i.0 first (omega (arith, w)) i.1 old new h.before c.mark_run.result home.once (have_cells c.requires.kept.text old c.requires.kept.runs) e.home
     c.mark_run.ensures.run in
-    let next : c.in_ok-next.next ≡ c.args.count + h.run.len = (subst (λ (o : Option ℕ). SomeIff o (c.args.count + h.run.len < 2 ^ 64) (c.args.count + h.run.len)) c.in_ok-next.was c.checked_add-2.ensures).1 in
-    subst (λ n. MarksOn c.args.span c.args.mark.now c.args.count n old new) (sym next) on
+    let next : c.in_ok-next.next ≡ c.args.left.first + h.run.len = (subst (λ (o : Option ℕ). SomeIff o (c.args.left.first + h.run.len < 2 ^ 64) (c.args.left.first + h.run.len)) c.in_ok-next.was c.checked_add-2.ensures).1 in
+    subst (λ n. MarksOn c.args.left c.args.mark.now c.args.left.first n old new) (sym next) on

@@ -1,7 +1,7 @@
 use Rattle.std.proofs.Common.{arith, refl, ◌∙◌}
 use Rattle.rt_tree.specs.Shape.{tree_runs}
 use Rattle.rt_tree.proofs.Cutting.{few_all}
-use Rattle.rt_tree.proofs.Meeting.{at_first, at_last, counts_to, home_to, kept_to}
+use Rattle.rt_tree.proofs.Meeting.{at_first, at_last, counts_to, home_to, kept_to, rest_on}
 use Rattle.rt_tree.proofs.Housed.{stamps_same, stamps_then}
 use Rattle.rt_tree.proofs.mark.mark_by_homes.Goals as goal
 
@@ -32,7 +32,8 @@ mark_at-requires-clause-home c = λ sure. home_to c.args.span c.args.mark.now c.
 
 pub loop-count-preserved : goal.loop-count-preserved
 loop-count-preserved c =
-    let m = c.in-Some.ensures.some in let i = c.loop-count.invariant in
+    let i = c.loop-count.invariant in
+    let m = rest_on c.args.span c.args.mark.now c.loop-count.count c.in-Some.next (tree_runs c.loop-count.mem c.args.root.index) (tree_runs c.mark_at.new.mem c.args.root.index) i.low c.in-Some.ensures.some in
     record {
       low = (let l = m.later in let w = i.low in omega (arith, l, w));
       tree = c.mark_at.ensures.tree;

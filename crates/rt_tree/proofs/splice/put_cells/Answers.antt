@@ -19,41 +19,41 @@ use Rattle.rt_tree.proofs.splice.put_cells.Goals as goal
 pub cut_home-end-requires-clause-few : goal.cut_home-end-requires-clause-few
 cut_home-end-requires-clause-few c =
     let r = c.requires in let e = c.extend-extended.ensures in let old = tree_runs c.args.mem.now c.args.root.index in
-    let n = put_count c.args.text.now old (tree_runs c.extend-extended.new.mem c.args.root.index) c.args.at c.extend-extended.result.done c.args.cells.now r.kept e.cells e.within r.within in
+    let n = put_count c.args.new.now.text.now old (tree_runs c.extend-extended.new.mem c.args.root.index) c.args.new.now.at c.extend-extended.result.done c.args.new.now.cells.now r.kept e.cells e.within r.within in
     let w = e.within in let f = r.few in
     omega (arith, n, w, f)
 
 pub cut_home-end-requires-clause-within : goal.cut_home-end-requires-clause-within
 cut_home-end-requires-clause-within c =
     let r = c.requires in let e = c.extend-extended.ensures in let old = tree_runs c.args.mem.now c.args.root.index in
-    let n = put_count c.args.text.now old (tree_runs c.extend-extended.new.mem c.args.root.index) c.args.at c.extend-extended.result.done c.args.cells.now r.kept e.cells e.within r.within in
+    let n = put_count c.args.new.now.text.now old (tree_runs c.extend-extended.new.mem c.args.root.index) c.args.new.now.at c.extend-extended.result.done c.args.new.now.cells.now r.kept e.cells e.within r.within in
     let w = r.within in
     omega (arith, n, w)
 
 pub put_runs-then-requires-clause-kept : goal.put_runs-then-requires-clause-kept
-put_runs-then-requires-clause-kept c = c.cut_home-end.ensures.recut.kept c.args.text.now c.extend-extended.ensures.cells.kept
+put_runs-then-requires-clause-kept c = c.cut_home-end.ensures.recut.kept c.args.new.now.text.now c.extend-extended.ensures.cells.kept
 
 pub put_runs-then-requires-clause-apart : goal.put_runs-then-requires-clause-apart
 put_runs-then-requires-clause-apart c = c.cut_home-end.ensures.recut.apart c.extend-extended.ensures.apart
 
 pub put_runs-then-requires-clause-upto : goal.put_runs-then-requires-clause-upto
 put_runs-then-requires-clause-upto c =
-    let e = c.extend-extended.ensures in let text = c.args.text.now in let n = c.newest_of-newest.ensures in let m = c.newest_of-newest.result in
+    let e = c.extend-extended.ensures in let text = c.args.new.now.text.now in let n = c.newest_of-newest.ensures in let m = c.newest_of-newest.result in
     let old = cells_of text (tree_runs c.args.mem.now c.args.root.index) in
-    let front = take c.extend-extended.result.done c.args.cells.now in
+    let front = take c.extend-extended.result.done c.args.new.now.cells.now in
     subst (AreUpTo m) (sym (c.cut_home-end.ensures.recut.cells text e.cells.kept ∙ e.cells.cells))
-    (upto_put m c.args.at front old (upto_more c.args.newest m old n.least c.requires.upto) n.cells)
+    (upto_put m c.args.new.now.at front old (upto_more c.args.new.now.newest m old n.least c.requires.upto) n.cells)
 
 pub put_runs-then-requires-clause-last : goal.put_runs-then-requires-clause-last
 put_runs-then-requires-clause-last c =
-    let cells = c.args.cells.now in let k = c.extend-extended.result.done in let w = c.extend-extended.ensures.within in
-    subst (λ (x : List (Cell ℕ)). EndsWith c.args.text.now x) (sym (rest_is k cells w)) (ends_later c.args.text.now cells k w c.requires.last)
+    let cells = c.args.new.now.cells.now in let k = c.extend-extended.result.done in let w = c.extend-extended.ensures.within in
+    subst (λ (x : List (Cell ℕ)). EndsWith c.args.new.now.text.now x) (sym (rest_is k cells w)) (ends_later c.args.new.now.text.now cells k w c.requires.last)
 
 pub put_runs-then-requires-clause-few : goal.put_runs-then-requires-clause-few
 put_runs-then-requires-clause-few c =
     let r = c.requires in let e = c.extend-extended.ensures in let old = tree_runs c.args.mem.now c.args.root.index in
-    let k = c.extend-extended.result.done in let cells = c.args.cells.now in
-    let n = cut_count c.args.text.now old (tree_runs c.extend-extended.new.mem c.args.root.index) c.args.at k cells r.kept e.cells e.within r.within (tree_runs c.cut_home-end.new.mem c.cut_home-end.result.change.root.index) c.cut_home-end.ensures.recut in
+    let k = c.extend-extended.result.done in let cells = c.args.new.now.cells.now in
+    let n = cut_count c.args.new.now.text.now old (tree_runs c.extend-extended.new.mem c.args.root.index) c.args.new.now.at k cells r.kept e.cells e.within r.within (tree_runs c.cut_home-end.new.mem c.cut_home-end.result.change.root.index) c.cut_home-end.ensures.recut in
     let l = ap length (rest_is k cells e.within) ∙ length-drop k cells in
     let w = e.within in let f = r.few in
     omega (arith, n, l, w, f)
@@ -61,14 +61,14 @@ put_runs-then-requires-clause-few c =
 pub put_runs-then-requires-clause-within : goal.put_runs-then-requires-clause-within
 put_runs-then-requires-clause-within c =
     let r = c.requires in let e = c.extend-extended.ensures in let old = tree_runs c.args.mem.now c.args.root.index in
-    let n = cut_count c.args.text.now old (tree_runs c.extend-extended.new.mem c.args.root.index) c.args.at c.extend-extended.result.done c.args.cells.now r.kept e.cells e.within r.within (tree_runs c.cut_home-end.new.mem c.cut_home-end.result.change.root.index) c.cut_home-end.ensures.recut in
+    let n = cut_count c.args.new.now.text.now old (tree_runs c.extend-extended.new.mem c.args.root.index) c.args.new.now.at c.extend-extended.result.done c.args.new.now.cells.now r.kept e.cells e.within r.within (tree_runs c.cut_home-end.new.mem c.cut_home-end.result.change.root.index) c.cut_home-end.ensures.recut in
     let w = r.within in
     omega (arith, n, w)
 
 pub put_runs-then-requires-clause-room : goal.put_runs-then-requires-clause-room
 put_runs-then-requires-clause-room c =
     let r = c.requires in let e = c.extend-extended.ensures in let k = c.cut_home-end.ensures in
-    let l = ap length (rest_is c.extend-extended.result.done c.args.cells.now e.within) ∙ length-drop c.extend-extended.result.done c.args.cells.now in
+    let l = ap length (rest_is c.extend-extended.result.done c.args.new.now.cells.now e.within) ∙ length-drop c.extend-extended.result.done c.args.new.now.cells.now in
     let a = e.runs in let b = k.runs in let m = k.more in let x = e.room in let y = k.room in let z = r.room in
     omega (arith, a, b, m, l, x, y, z)
 
@@ -80,42 +80,42 @@ pub overflow_add-result : goal.overflow_add-result
 overflow_add-result c =
     let w = c.extend-extended.ensures.within in
     let m = c.put_runs-then.ensures.most in
-    let n = ap length (rest_is c.extend-extended.result.done c.args.cells.now w) ∙ length-drop c.extend-extended.result.done c.args.cells.now in
+    let n = ap length (rest_is c.extend-extended.result.done c.args.new.now.cells.now w) ∙ length-drop c.extend-extended.result.done c.args.new.now.cells.now in
     let k = c.cut_home-end.ensures.more in let f = c.requires.few in
     omega (arith, m, n, k, f)
 
 pub returns-clause-cells : goal.returns-clause-cells
 returns-clause-cells c =
     let r = c.requires in let e = c.extend-extended.ensures in let old = tree_runs c.args.mem.now c.args.root.index in
-    let k = c.extend-extended.result.done in let cells = c.args.cells.now in
+    let k = c.extend-extended.result.done in let cells = c.args.new.now.cells.now in
     let mid = tree_runs c.cut_home-end.new.mem c.cut_home-end.result.change.root.index in let new = tree_runs c.put_runs-then.new.mem c.put_runs-then.result.root.index in
-    put_twice c.args.text.now old (tree_runs c.extend-extended.new.mem c.args.root.index) c.args.at k cells r.kept e.cells e.within r.within mid c.cut_home-end.ensures.recut new
-    (subst (λ (x : List (Cell ℕ)). AreChanged mid new c.args.text.now (put_at (c.args.at + k) x)) (rest_is k cells e.within) c.put_runs-then.ensures.cells)
+    put_twice c.args.new.now.text.now old (tree_runs c.extend-extended.new.mem c.args.root.index) c.args.new.now.at k cells r.kept e.cells e.within r.within mid c.cut_home-end.ensures.recut new
+    (subst (λ (x : List (Cell ℕ)). AreChanged mid new c.args.new.now.text.now (put_at (c.args.new.now.at + k) x)) (rest_is k cells e.within) c.put_runs-then.ensures.cells)
 
 pub returns-clause-most : goal.returns-clause-most
 returns-clause-most c =
     let w = c.extend-extended.ensures.within in
     let m = c.put_runs-then.ensures.most in
-    let n = ap length (rest_is c.extend-extended.result.done c.args.cells.now w) ∙ length-drop c.extend-extended.result.done c.args.cells.now in
+    let n = ap length (rest_is c.extend-extended.result.done c.args.new.now.cells.now w) ∙ length-drop c.extend-extended.result.done c.args.new.now.cells.now in
     let k = c.cut_home-end.ensures.more in
     omega (arith, m, n, k)
 
 pub returns-clause-more : goal.returns-clause-more
 returns-clause-more c =
     let r = c.requires in let e = c.extend-extended.ensures in let old = tree_runs c.args.mem.now c.args.root.index in
-    let done = c.extend-extended.result.done in let cells = c.args.cells.now in
+    let done = c.extend-extended.result.done in let cells = c.args.new.now.cells.now in
     let mid = tree_runs c.cut_home-end.new.mem c.cut_home-end.result.change.root.index in
     let k = c.cut_home-end.ensures.more in
-    λ once. let o = rest_once c.args.text.now old (tree_runs c.extend-extended.new.mem c.args.root.index) c.args.at done cells r.kept e.cells e.within r.within mid c.cut_home-end.ensures.recut once in
-    let p = subst (λ (x : List (Cell ℕ)). AreOnce (cells_of c.args.text.now mid) x) (sym (rest_is done cells e.within)) o in
+    λ once. let o = rest_once c.args.new.now.text.now old (tree_runs c.extend-extended.new.mem c.args.root.index) c.args.new.now.at done cells r.kept e.cells e.within r.within mid c.cut_home-end.ensures.recut once in
+    let p = subst (λ (x : List (Cell ℕ)). AreOnce (cells_of c.args.new.now.text.now mid) x) (sym (rest_is done cells e.within)) o in
     let m = few cells done c.put_runs-then.result.more e.within (c.put_runs-then.ensures.more p) in
     omega (arith, m, k)
 
-pub returns-then-done-cells-clause-cells : goal.returns-then-done-cells-clause-cells
-returns-then-done-cells-clause-cells c =
+pub returns-then-done-new-clause-cells : goal.returns-then-done-new-clause-cells
+returns-then-done-new-clause-cells c =
     let e = c.extend-extended.ensures in let old = tree_runs c.args.mem.now c.args.root.index in let new = tree_runs c.extend-extended.new.mem c.args.root.index in
-    let all = take_all c.extend-extended.result.done c.args.cells.now (let d = c.if-done-cells.true in omega (arith, d)) in
-    subst (λ (x : List (Cell ℕ)). AreChanged old new c.args.text.now (put_at c.args.at x)) all e.cells
+    let all = take_all c.extend-extended.result.done c.args.new.now.cells.now (let d = c.if-done-new.true in omega (arith, d)) in
+    subst (λ (x : List (Cell ℕ)). AreChanged old new c.args.new.now.text.now (put_at c.args.new.now.at x)) all e.cells
 
 pub cut_home-end-requires-clause-home : goal.cut_home-end-requires-clause-home
 cut_home-end-requires-clause-home c = c.extend-extended.ensures.home
@@ -125,7 +125,7 @@ put_runs-then-requires-clause-home c = c.cut_home-end.ensures.home
 
 pub put_runs-then-requires-clause-left : goal.put_runs-then-requires-clause-left
 put_runs-then-requires-clause-left c =
-    let l = ap length (rest_is c.extend-extended.result.done c.args.cells.now c.extend-extended.ensures.within) ∙ length-drop c.extend-extended.result.done c.args.cells.now in
+    let l = ap length (rest_is c.extend-extended.result.done c.args.new.now.cells.now c.extend-extended.ensures.within) ∙ length-drop c.extend-extended.result.done c.args.new.now.cells.now in
     let x = c.extend-extended.ensures.left in let y = c.cut_home-end.ensures.left in
     omega (arith, l, x, y, c.requires.left)
 
@@ -143,7 +143,7 @@ put_runs-then-requires-clause-told c = c.cut_home-end.ensures.told
 
 pub put_runs-then-requires-clause-states : goal.put_runs-then-requires-clause-states
 put_runs-then-requires-clause-states c =
-    let table = c.args.states.now in let k = c.extend-extended.result.done in let cells = c.args.cells.now in
+    let table = c.args.states.now in let k = c.extend-extended.result.done in let cells = c.args.new.now.cells.now in
     let p : Cell ℕ → Type 0 = λ x. IsState table x.state in
     subst (AreStates table) (sym (rest_is k cells c.extend-extended.ensures.within)) (All-drop p k cells c.requires.states)
 
@@ -161,10 +161,10 @@ cut_home-end-requires-clause-held c =
 pub returns-clause-sure : goal.returns-clause-sure
 returns-clause-sure c = λ was once below.
     let r = c.requires in let e = c.extend-extended.ensures in let old = tree_runs c.args.mem.now c.args.root.index in
-    let done = c.extend-extended.result.done in let cells = c.args.cells.now in
+    let done = c.extend-extended.result.done in let cells = c.args.new.now.cells.now in
     let mid = tree_runs c.cut_home-end.new.mem c.cut_home-end.result.change.root.index in
     let same = sym (rest_is done cells e.within) in
-    let o = rest_once c.args.text.now old (tree_runs c.extend-extended.new.mem c.args.root.index) c.args.at done cells r.kept e.cells e.within r.within mid c.cut_home-end.ensures.recut once in
-    let p = subst (λ (x : List (Cell ℕ)). AreOnce (cells_of c.args.text.now mid) x) same o in
+    let o = rest_once c.args.new.now.text.now old (tree_runs c.extend-extended.new.mem c.args.root.index) c.args.new.now.at done cells r.kept e.cells e.within r.within mid c.cut_home-end.ensures.recut once in
+    let p = subst (λ (x : List (Cell ℕ)). AreOnce (cells_of c.args.new.now.text.now mid) x) same o in
     let b = subst AreBelowGreatest same (upto_drop (2 ^ 64 - 2) done cells below) in
     c.put_runs-then.ensures.sure (c.cut_home-end.ensures.sure ∙ e.sure was once below) p b

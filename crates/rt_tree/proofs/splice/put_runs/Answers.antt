@@ -17,7 +17,7 @@ use Rattle.rt_tree.proofs.splice.put_runs.Goals as goal
 pub loop-done-init : goal.loop-done-init
 loop-done-init c = record {
   tree = c.requires.tree;
-  spliced = none_spliced c.args.text.now (tree_runs c.args.mem.now c.args.root.index) c.args.at c.args.cells.now c.requires.kept c.requires.edge c.requires.apart;
+  spliced = none_spliced c.args.new.now.text.now (tree_runs c.args.mem.now c.args.root.index) c.args.new.now.at c.args.new.now.cells.now c.requires.kept c.requires.edge c.requires.apart;
   upto = c.requires.upto;
   room = refl;
   told = c.requires.told;
@@ -35,22 +35,22 @@ put_home-root-requires-clause-tree c = c.loop-done.invariant.tree
 pub put_home-root-requires-clause-within : goal.put_home-root-requires-clause-within
 put_home-root-requires-clause-within c =
     let r = c.requires in let l = c.loop-done in let old = tree_runs c.args.mem.now c.args.root.index in
-    spliced_within c.args.text.now old (tree_runs l.mem l.root.index) c.args.at l.done l.more l.lone c.args.cells.now r.kept r.short r.few r.within l.invariant.spliced
+    spliced_within c.args.new.now.text.now old (tree_runs l.mem l.root.index) c.args.new.now.at l.done l.more l.lone c.args.new.now.cells.now r.kept r.short r.few r.within l.invariant.spliced
 
 pub put_home-root-requires-clause-few : goal.put_home-root-requires-clause-few
 put_home-root-requires-clause-few c =
     let r = c.requires in let l = c.loop-done in let old = tree_runs c.args.mem.now c.args.root.index in
-    spliced_with c.args.text.now old (tree_runs l.mem l.root.index) c.args.at l.done l.more l.lone c.args.cells.now r.kept r.short r.few r.within l.invariant.spliced c.choose-next.result.run c.choose-next.ensures.run
+    spliced_with c.args.new.now.text.now old (tree_runs l.mem l.root.index) c.args.new.now.at l.done l.more l.lone c.args.new.now.cells.now r.kept r.short r.few r.within l.invariant.spliced c.choose-next.result.run c.choose-next.ensures.run
 
 pub put_home-root-requires-clause-height : goal.put_home-root-requires-clause-height
 put_home-root-requires-clause-height c =
     let r = c.requires in let l = c.loop-done in let old = tree_runs c.args.mem.now c.args.root.index in
-    spliced_low c.args.text.now old (tree_runs l.mem l.root.index) c.args.at l.done l.more l.lone c.args.cells.now r.kept r.short r.few r.within l.invariant.spliced l.mem l.root.index l.invariant.tree refl
+    spliced_low c.args.new.now.text.now old (tree_runs l.mem l.root.index) c.args.new.now.at l.done l.more l.lone c.args.new.now.cells.now r.kept r.short r.few r.within l.invariant.spliced l.mem l.root.index l.invariant.tree refl
 
 pub put_home-root-requires-clause-room : goal.put_home-root-requires-clause-room
 put_home-root-requires-clause-room c =
     let r = c.requires in let l = c.loop-done in let old = tree_runs c.args.mem.now c.args.root.index in
-    let n = spliced_runs c.args.text.now old (tree_runs l.mem l.root.index) c.args.at l.done l.more l.lone c.args.cells.now r.kept r.short r.few r.within l.invariant.spliced in
+    let n = spliced_runs c.args.new.now.text.now old (tree_runs l.mem l.root.index) c.args.new.now.at l.done l.more l.lone c.args.new.now.cells.now r.kept r.short r.few r.within l.invariant.spliced in
     omega (arith, n, r.room, l.invariant.room)
 
 pub loop-done-preserved : goal.loop-done-preserved
@@ -59,22 +59,22 @@ loop-done-preserved c =
     let p = c.put_home-root.ensures in let len = c.choose-next.result.run.len in let m = c.newest_of-newest.result in
     let now = tree_runs l.mem l.root.index in let new = tree_runs c.put_home-root.new.mem c.put_home-root.result.index in
     let n : l.done + len - l.done ≡ len = omega arith in
-    let more = subst (λ i. AreUpTo m (take i (drop l.done c.args.cells.now))) n c.newest_of-newest.ensures.cells in
-    let then_spliced = more_spliced c.args.text.now old (tree_runs l.mem l.root.index) c.args.at l.done l.more l.lone c.args.cells.now r.kept r.short r.few r.within l.invariant.spliced c.choose-next.result.run c.choose-next.ensures.run (tree_runs c.put_home-root.new.mem c.put_home-root.result.index) p.runs c.choose-next.result.lone c.choose-next.ensures.apart c.choose-next.ensures.stretch in
+    let more = subst (λ i. AreUpTo m (take i (drop l.done c.args.new.now.cells.now))) n c.newest_of-newest.ensures.cells in
+    let then_spliced = more_spliced c.args.new.now.text.now old (tree_runs l.mem l.root.index) c.args.new.now.at l.done l.more l.lone c.args.new.now.cells.now r.kept r.short r.few r.within l.invariant.spliced c.choose-next.result.run c.choose-next.ensures.run (tree_runs c.put_home-root.new.mem c.put_home-root.result.index) p.runs c.choose-next.result.lone c.choose-next.ensures.apart c.choose-next.ensures.stretch in
     record {
       tree = p.tree;
       spliced = then_spliced;
-      upto = upto_next l.newest m c.args.at l.done len c.args.cells.now (cells_of c.args.text.now old) (cells_of c.args.text.now now) (cells_of c.args.text.now new) c.newest_of-newest.ensures.least l.invariant.spliced.changed.cells then_spliced.changed.cells l.invariant.upto more;
+      upto = upto_next l.newest m c.args.new.now.at l.done len c.args.new.now.cells.now (cells_of c.args.new.now.text.now old) (cells_of c.args.new.now.text.now now) (cells_of c.args.new.now.text.now new) c.newest_of-newest.ensures.least l.invariant.spliced.changed.cells then_spliced.changed.cells l.invariant.upto more;
       room = p.room ∙ l.invariant.room;
       told = p.told;
       tags = p.tags ∙ l.invariant.tags;
       home = p.home;
       housed = p.housed;
       sure = λ was once below.
-          let text = c.args.text.now in let run = c.choose-next.result.run in let front = c.choose-next.ensures.run in let rest = drop l.done c.args.cells.now in
-          let apart = spliced_once text old now c.args.at l.done l.more l.lone c.args.cells.now r.kept r.short r.few r.within l.invariant.spliced once in
+          let text = c.args.new.now.text.now in let run = c.choose-next.result.run in let front = c.choose-next.ensures.run in let rest = drop l.done c.args.new.now.cells.now in
+          let apart = spliced_once text old now c.args.new.now.at l.done l.more l.lone c.args.new.now.cells.now r.kept r.short r.few r.within l.invariant.spliced once in
           p.sure (l.invariant.sure was once below) (front_new text run rest front now l.invariant.spliced.changed.kept apart) front.run.some
-          (front_below text run rest front (upto_drop (2 ^ 64 - 2) l.done c.args.cells.now below));
+          (front_below text run rest front (upto_drop (2 ^ 64 - 2) l.done c.args.new.now.cells.now below));
       left = let i = l.invariant.left in let s = c.choose-next.ensures.run.run.some in let n = p.left in omega (arith, i, s, n);
       end = tt;
     }
@@ -82,7 +82,7 @@ loop-done-preserved c =
 pub loop-done-smaller : goal.loop-done-smaller
 loop-done-smaller c =
     let r = c.requires in let l = c.loop-done in let old = tree_runs c.args.mem.now c.args.root.index in
-    fewer_cells c.args.text.now old (tree_runs l.mem l.root.index) c.args.at l.done l.more l.lone c.args.cells.now r.kept r.short r.few r.within l.invariant.spliced c.choose-next.result.run c.choose-next.ensures.run (tree_runs c.put_home-root.new.mem c.put_home-root.result.index) c.put_home-root.ensures.runs
+    fewer_cells c.args.new.now.text.now old (tree_runs l.mem l.root.index) c.args.new.now.at l.done l.more l.lone c.args.new.now.cells.now r.kept r.short r.few r.within l.invariant.spliced c.choose-next.result.run c.choose-next.ensures.run (tree_runs c.put_home-root.new.mem c.put_home-root.result.index) c.put_home-root.ensures.runs
 
 pub returns-clause-tree : goal.returns-clause-tree
 returns-clause-tree c = c.loop-done.invariant.tree
@@ -90,7 +90,7 @@ returns-clause-tree c = c.loop-done.invariant.tree
 pub returns-clause-cells : goal.returns-clause-cells
 returns-clause-cells c =
     let l = c.loop-done in let old = tree_runs c.args.mem.now c.args.root.index in
-    let a = all_spliced c.args.text.now old (tree_runs l.mem l.root.index) c.args.at l.done l.more l.lone c.args.cells.now l.invariant.spliced (omega (arith, c.loop-done-test.false)) in a.0
+    let a = all_spliced c.args.new.now.text.now old (tree_runs l.mem l.root.index) c.args.new.now.at l.done l.more l.lone c.args.new.now.cells.now l.invariant.spliced (omega (arith, c.loop-done-test.false)) in a.0
 
 pub returns-clause-runs : goal.returns-clause-runs
 returns-clause-runs c = c.loop-done.invariant.spliced.runs
@@ -98,7 +98,7 @@ returns-clause-runs c = c.loop-done.invariant.spliced.runs
 pub returns-clause-more : goal.returns-clause-more
 returns-clause-more c =
     let l = c.loop-done in let old = tree_runs c.args.mem.now c.args.root.index in
-    let a = all_spliced c.args.text.now old (tree_runs l.mem l.root.index) c.args.at l.done l.more l.lone c.args.cells.now l.invariant.spliced (omega (arith, c.loop-done-test.false)) in a.1
+    let a = all_spliced c.args.new.now.text.now old (tree_runs l.mem l.root.index) c.args.new.now.at l.done l.more l.lone c.args.new.now.cells.now l.invariant.spliced (omega (arith, c.loop-done-test.false)) in a.1
 
 pub returns-clause-room : goal.returns-clause-room
 returns-clause-room c = c.loop-done.invariant.room
@@ -124,7 +124,7 @@ choose-next-requires-clause-apart c = c.loop-done.invariant.spliced.apart
 pub choose-next-requires-clause-few : goal.choose-next-requires-clause-few
 choose-next-requires-clause-few c =
     let r = c.requires in let l = c.loop-done in let old = tree_runs c.args.mem.now c.args.root.index in
-    spliced_few c.args.text.now old (tree_runs l.mem l.root.index) c.args.at l.done l.more l.lone c.args.cells.now r.kept r.short r.few r.within l.invariant.spliced
+    spliced_few c.args.new.now.text.now old (tree_runs l.mem l.root.index) c.args.new.now.at l.done l.more l.lone c.args.new.now.cells.now r.kept r.short r.few r.within l.invariant.spliced
 
 pub returns-clause-apart : goal.returns-clause-apart
 returns-clause-apart c = c.loop-done.invariant.spliced.apart
@@ -142,7 +142,7 @@ pub put_home-root-requires-clause-counts : goal.put_home-root-requires-clause-co
 put_home-root-requires-clause-counts c = c.choose-next.ensures.run.run.counts
 
 pub put_home-root-requires-clause-known : goal.put_home-root-requires-clause-known
-put_home-root-requires-clause-known c = record { text = c.args.text.now; kept = c.loop-done.invariant.spliced.changed.kept; upto = c.loop-done.invariant.upto }
+put_home-root-requires-clause-known c = record { text = c.args.new.now.text.now; kept = c.loop-done.invariant.spliced.changed.kept; upto = c.loop-done.invariant.upto }
 
 pub put_home-root-requires-clause-home : goal.put_home-root-requires-clause-home
 put_home-root-requires-clause-home c = c.loop-done.invariant.home
@@ -170,14 +170,14 @@ put_home-root-requires-clause-told c = c.loop-done.invariant.told
 pub put_home-root-requires-clause-short : goal.put_home-root-requires-clause-short
 put_home-root-requires-clause-short c =
     let r = c.requires in let l = c.loop-done in let old = tree_runs c.args.mem.now c.args.root.index in
-    short_kept (tree_runs l.mem l.root.index) (record { text = c.args.text.now; short = r.short; runs = l.invariant.spliced.changed.kept })
-    (spliced_few c.args.text.now old (tree_runs l.mem l.root.index) c.args.at l.done l.more l.lone c.args.cells.now r.kept r.short r.few r.within l.invariant.spliced)
+    short_kept (tree_runs l.mem l.root.index) (record { text = c.args.new.now.text.now; short = r.short; runs = l.invariant.spliced.changed.kept })
+    (spliced_few c.args.new.now.text.now old (tree_runs l.mem l.root.index) c.args.new.now.at l.done l.more l.lone c.args.new.now.cells.now r.kept r.short r.few r.within l.invariant.spliced)
 
 pub put_home-root-requires-clause-state : goal.put_home-root-requires-clause-state
 put_home-root-requires-clause-state c =
     let l = c.loop-done in let table = c.args.states.now in
     let p : Cell ℕ → Type 0 = λ x. IsState table x.state in
-    front_given table c.args.text.now (drop l.done c.args.cells.now) c.choose-next.result.run c.choose-next.ensures.run (All-drop p l.done c.args.cells.now c.requires.states)
+    front_given table c.args.new.now.text.now (drop l.done c.args.new.now.cells.now) c.choose-next.result.run c.choose-next.ensures.run (All-drop p l.done c.args.new.now.cells.now c.requires.states)
 
 pub returns-clause-told : goal.returns-clause-told
 returns-clause-told c = c.loop-done.invariant.told
@@ -186,7 +186,7 @@ pub returns-clause-tags : goal.returns-clause-tags
 returns-clause-tags c = c.loop-done.invariant.tags
 
 pub put_home-root-requires-clause-hint : goal.put_home-root-requires-clause-hint
-put_home-root-requires-clause-hint c = let l = c.loop-done in known_behind l.end c.behind.result l.mem l.root.index (c.args.at + l.done) c.behind.ensures l.invariant.end
+put_home-root-requires-clause-hint c = let l = c.loop-done in known_behind l.end c.behind.result l.mem l.root.index (c.args.new.now.at + l.done) c.behind.ensures l.invariant.end
 
 pub returns-clause-sure : goal.returns-clause-sure
 returns-clause-sure c = c.loop-done.invariant.sure
