@@ -35,12 +35,12 @@ turn_replays limit (op ∷ ops) log h rules turn =
 -- CHANGES THAT ARE TOLD
 
 -- by what is told of it
-told_as : Body → Told → List VisibleChange
+abbrev told_as : Body → Told → List VisibleChange
 told_as (Insert after tags text) told = Inserted told.place text tags ∷ []
 told_as (Delete spans) told = map (λ (run : PlaceRun). Deleted run.from run.to) told.removed
 told_as (Tag on name spans) told = map (λ (run : PlaceRun). Tagged on name run.from run.to) told.retagged
 
-all_as : List Operation → List Told → List VisibleChange
+abbrev all_as : List Operation → List Told → List VisibleChange
 all_as [] all = []
 all_as (op ∷ ops) [] = []
 all_as (op ∷ ops) (told ∷ all) = told_as op.body told ++ all_as ops all

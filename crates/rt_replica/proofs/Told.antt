@@ -1,5 +1,5 @@
 -- What a replica tells of operations that it takes.
-use Rattle.std.proofs.Common.{◌≡◌, ◌∙◌, ◌+◌, List, [], ◌∷◌, ◌++◌, ap, length, refl, sym}
+use Rattle.std.proofs.Common.{◌≡◌, ◌∙◌, ◌+◌, List, [], ◌∷◌, ◌++◌, ap, length, map, refl, sym}
 use Rattle.rt_ops.specs.Operations.{Operation, stamp_of}
 use Rattle.rt_oplog.specs.Logs.{with_operation}
 use Rattle.rt_store.specs.Cells.{visible_of}
@@ -21,6 +21,14 @@ told_is op cells change c =
     λ i. record { place = c.first i; inserted = c.more i; removed = removed i; retagged = retagged i; lists = c.lists i }
 
 -- OPERATIONS IN TURN
+
+pub map_append : {X Y : Type 0} (f : X → Y) (xs ys : List X) → map f (xs ++ ys) ≡ map f xs ++ map f ys
+map_append f [] ys = refl
+map_append f (x ∷ xs) ys = ap (λ l. f x ∷ l) (map_append f xs ys)
+
+pub all_after_append : (ops more : List Operation) (t : TellingValue) → all_after after_taken (ops ++ more) t ≡ all_after after_taken more (all_after after_taken ops t)
+all_after_append [] more t = refl
+all_after_append (op ∷ ops) more t = all_after_append ops more (after_taken op t)
 
 append_none : {X : Type 0} (xs : List X) → xs ++ [] ≡ xs
 append_none [] = refl

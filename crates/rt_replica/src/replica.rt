@@ -117,8 +117,12 @@ impl<S: TextStore> HoldingReplica<S> {
         ensures site { self.new.site ≡ self.old.site }
         ensures limit { self.new.limit ≡ self.old.limit }
     {
+        let _ = self.telling.replica().log();
         match self.held.offer(&mut self.telling, op) {
-            Ok(Offered::New { more: _ }) => Ok(Taken::New(self.telling.told())),
+            Ok(Offered::New { more: _ }) => {
+                let _ = self.telling.replica().log();
+                Ok(Taken::New(self.telling.told()))
+            }
             Ok(Offered::Repeat) => Ok(Taken::Repeat),
             Ok(Offered::Held) => Ok(Taken::Held),
             Err(fault) => Err(fault),
@@ -139,10 +143,13 @@ impl<S: TextStore> HoldingReplica<S> {
         ensures site { self.new.site ≡ self.old.site }
         ensures limit { self.new.limit ≡ self.old.limit }
     {
-        let ops = self.telling.make(drafts)?;
-        let site = self.telling.replica().site().number();
         let _ = self.telling.replica().log();
+        let ops = self.telling.make(drafts)?;
+        let own = self.telling.replica();
+        let _ = own.log();
+        let site = own.site().number();
         self.held.settle(&mut self.telling, site);
+        let _ = self.telling.replica().log();
         Ok(Made {
             ops,
             changes: self.telling.told(),
