@@ -20,13 +20,22 @@ use crate::inserts::Inserts;
 use crate::lists::only_char;
 use crate::pieces::PlannedPieces;
 use crate::plain::{plain_plan, plain_sides};
-use crate::{Piece, Selection, Stamps};
+use crate::{Author, Piece, Selection, Stamps};
 use rt_rga::{Draft, Few};
 use rt_stamps::limits::GREATEST_COUNT;
-use rt_stamps::{Fault, Site, Stamp};
+use rt_stamps::{Fault, Stamp};
 use rt_store::Cell;
 use rt_tags::{StateId, StateTable};
 use std::alloc::Global;
+
+/// Where new text goes: the element that it comes behind, and its neighbours, whose tags it gets where both have them. The
+/// element is the left neighbour's where there is one.
+#[derive(Clone, Copy)]
+pub struct Gap {
+    pub after: Stamp,
+    pub left: Option<Cell<StateId>>,
+    pub right: Option<Cell<StateId>>,
+}
 
 /// What typing mostly comes to: a character between two neighbours.
 #[derive(Clone, Copy)]
@@ -70,52 +79,49 @@ impl Drop for Plan {
     }
 }
 
-/// The plan of pieces, and then characters without a list, behind an element and between two neighbours,
-/// with the counts after one. The element is the left neighbour's where there is one. Without a right
-/// neighbour, or without a left one and pieces, the characters without a list get no tags, and are
-/// nowhere selected; without a right one the selection may be any. `ClockSpent` where the counts would
-/// pass `GREATEST_COUNT`, or want of memory.
+/// The plan of pieces, and then characters without a list, in a gap, as the operations of an author.
+/// Without a right neighbour, or without a left one and pieces, the characters without a list get no
+/// tags, and are nowhere selected; without a right one the selection may be any. `ClockSpent` where the
+/// counts would pass `GREATEST_COUNT`, or want of memory.
 pub fn planned_between(
     alloc: Global,
     states: &StateTable,
-    site: Site,
-    count: u64,
+    author: Author,
     selection: &Selection,
-    after: Stamp,
-    left: Option<Cell<StateId>>,
-    right: Option<Cell<StateId>>,
+    gap: &Gap,
     pieces: &[Piece],
     rest: &str,
 ) -> Result<Plan, Fault>
-    requires left { IfSome left (λ cell. IsState states.now cell.state) }
-    requires right { IfSome right (λ cell. IsState states.now cell.state) }
-    requires after { IfSome left (λ cell. after ≡ cell.stamp) }
-    requires count { count ≤ GREATEST_COUNT }
+    requires left { IfSome gap.now.left (λ cell. IsState states.now cell.state) }
+    requires right { IfSome gap.now.right (λ cell. IsState states.now cell.state) }
+    requires after { IfSome gap.now.left (λ cell. gap.now.after ≡ cell.stamp) }
+    requires count { author.count ≤ GREATEST_COUNT }
     ensures drafts { IfOk result (λ plan. (sel : List Stamp) (others : List (List Stamp)) (tags : List Word)
-        → IfSome right (λ cell. sel ≡ selected_stamps selection.now) → map body_of (items_in plan.drafts)
-        ≡ insertion_drafts MOST_CHARACTERS site.number after
-        (option_map (shown states.now) left) (option_map (shown states.now) right) pieces.now rest.now
-        (record { cells = []; count = count; sel = sel; others = others; tags = tags })) }
+        → IfSome gap.now.right (λ cell. sel ≡ selected_stamps selection.now) → map body_of (items_in plan.drafts)
+        ≡ insertion_drafts MOST_CHARACTERS author.site.number gap.now.after
+        (option_map (shown states.now) gap.now.left) (option_map (shown states.now) gap.now.right) pieces.now rest.now
+        (record { cells = []; count = author.count; sel = sel; others = others; tags = tags })) }
     ensures plans { IfOk result (λ plan. (sel : List Stamp) (others : List (List Stamp)) (tags : List Word)
-        → IfSome right (λ cell. sel ≡ selected_stamps selection.now) → Plans plan sel others tags
-        (insertion_of site.number (option_map (shown states.now) left) (option_map (shown states.now) right) pieces.now rest.now
-        (record { cells = []; count = count; sel = sel; others = others; tags = tags }))) }
-    ensures alone { IfOk result (λ plan. right ≡ None → plan.between ≡ None) }
+        → IfSome gap.now.right (λ cell. sel ≡ selected_stamps selection.now) → Plans plan sel others tags
+        (insertion_of author.site.number (option_map (shown states.now) gap.now.left) (option_map (shown states.now) gap.now.right) pieces.now rest.now
+        (record { cells = []; count = author.count; sel = sel; others = others; tags = tags }))) }
+    ensures alone { IfOk result (λ plan. gap.now.right ≡ None → plan.between ≡ None) }
     ensures err { IfErr result (λ fault. (fault ≡ Fault.NoMemory)
         ⊎ ((fault ≡ Fault.ClockSpent) × ((sel : List Stamp) (others : List (List Stamp)) (tags : List Word)
-        → IfSome right (λ cell. sel ≡ selected_stamps selection.now) → GREATEST_COUNT
-        < (insertion_of site.number (option_map (shown states.now) left) (option_map (shown states.now) right) pieces.now rest.now
-        (record { cells = []; count = count; sel = sel; others = others; tags = tags })).count))) }
+        → IfSome gap.now.right (λ cell. sel ≡ selected_stamps selection.now) → GREATEST_COUNT
+        < (insertion_of author.site.number (option_map (shown states.now) gap.now.left) (option_map (shown states.now) gap.now.right) pieces.now rest.now
+        (record { cells = []; count = author.count; sel = sel; others = others; tags = tags })).count))) }
 {
+    let Author { site, count } = author;
     // What typing comes to is told at once.
-    if let Some(typed) = typed_between(states, count, selection, &left, &right, pieces, rest) {
-        return Ok(plain_plan(alloc, site, count, after, typed));
+    if let Some(typed) = typed_between(states, count, selection, gap, pieces, rest) {
+        return Ok(plain_plan(alloc, site, count, gap.after, typed));
     }
-    let mut all = match PlannedPieces::of(alloc, site, count, after, pieces) {
+    let mut all = match PlannedPieces::of(alloc, site, count, gap.after, pieces) {
         Ok(all) => all,
         Err(fault) => return Err(fault),
     };
-    let between = all.add_unlisted(alloc, states, site, selection, left, right, rest)?;
+    let between = all.add_unlisted(alloc, states, site, selection, gap.left, gap.right, rest)?;
     let PlannedPieces {
         texts,
         characters,
@@ -140,33 +146,32 @@ pub fn typed_between(
     states: &StateTable,
     count: u64,
     selection: &Selection,
-    left: &Option<Cell<StateId>>,
-    right: &Option<Cell<StateId>>,
+    gap: &Gap,
     pieces: &[Piece],
     rest: &str,
 ) -> Option<Typed>
-    requires left { IfSome left.now (λ cell. IsState states.now cell.state) }
+    requires left { IfSome gap.now.left (λ cell. IsState states.now cell.state) }
     ensures drafts { IfSome result (λ typed. (site : ℕ) (after : Stamp) (sel : List Stamp) (others : List (List Stamp)) (tags : List Word)
         → insertion_drafts MOST_CHARACTERS site after
-        (option_map (shown states.now) left.now) (option_map (shown states.now) right.now) pieces.now rest.now
+        (option_map (shown states.now) gap.now.left) (option_map (shown states.now) gap.now.right) pieces.now rest.now
         (record { cells = []; count = count; sel = sel; others = others; tags = tags })
         ≡ one_character after typed.character) }
     ensures comes { IfSome result (λ typed. (site : ℕ) (others : List (List Stamp)) (tags : List Word)
         → let start : Insertion = record { cells = []; count = count; sel = selected_stamps selection.now; others = others; tags = tags } in
-        insertion_of site (option_map (shown states.now) left.now) (option_map (shown states.now) right.now) pieces.now rest.now start
+        insertion_of site (option_map (shown states.now) gap.now.left) (option_map (shown states.now) gap.now.right) pieces.now rest.now start
         ≡ with_typed site typed start) }
     ensures only { IfSome result (λ typed. (pieces.now ≡ []) × (chars rest.now ≡ typed.character ∷ []) × (count < GREATEST_COUNT)) }
-    ensures sides { IfSome result (λ typed. IsSomeAnd left.now (λ l. IsSomeAnd right.now (λ r. (typed.left ≡ l.stamp) × (typed.right ≡ r.stamp)
+    ensures sides { IfSome result (λ typed. IsSomeAnd gap.now.left (λ l. IsSomeAnd gap.now.right (λ r. (typed.left ≡ l.stamp) × (typed.right ≡ r.stamp)
         × (names_on (state_at states.now l.state) ≡ [])
         × ((is_among (selected_stamps selection.now) l.stamp && is_among (selected_stamps selection.now) r.stamp) ≡ false)))) }
-    ensures told { IfNone result ((l r : Cell ℕ) → left.now ≡ Some l → right.now ≡ Some r
+    ensures told { IfNone result ((l r : Cell ℕ) → gap.now.left ≡ Some l → gap.now.right ≡ Some r
         → pieces.now ≡ [] → length (chars rest.now) ≡ 1 → count < GREATEST_COUNT
         → names_on (state_at states.now l.state) ≡ []
         → (is_among (selected_stamps selection.now) l.stamp && is_among (selected_stamps selection.now) r.stamp) ≡ false → ⊥) }
 {
     if pieces.is_empty() && count < GREATEST_COUNT {
         if let Some(character) = only_char(rest) {
-            if let Some((one, other)) = plain_sides(states, selection, left, right) {
+            if let Some((one, other)) = plain_sides(states, selection, &gap.left, &gap.right) {
                 return Some(Typed {
                     left: one,
                     right: other,

@@ -2,6 +2,7 @@
 //! selected characters of a widget.
 #![tactic(auto)]
 
+pub mod author;
 pub mod cells;
 mod changes;
 mod counts;
@@ -23,6 +24,7 @@ mod span;
 pub mod stamps;
 mod unlisted;
 
+pub use author::Author;
 pub use piece::Piece;
 pub use range::Range;
 pub use selection::Selection;

@@ -20,26 +20,26 @@ use crate::offsets::offsets_of;
 use crate::plan::Reversal;
 use crate::progress::Progress;
 use crate::reverting::revert_all;
-use rt_stamps::{Fault, Site};
+use rt_edits::Author;
+use rt_stamps::Fault;
 use rt_store::TextStore;
 use rt_tags::StateTable;
 use rt_undo::Action;
 use std::alloc::Global;
 
 /// Plans that a group is reverted, the last action first, and changes nothing of the document. The group
-/// is by the stamps of now, and `count` is the document's greatest count. The tags of removed characters
-/// are states of `kept`, a table of the undo stacks' own: it gets the states that the plan needs, also
-/// where that is refused. `ClockSpent`, or want of memory, as also where the text would grow past the
-/// most cells. The actions are reverted in a working copy of the cells that they name: `copy` is the
-/// empty store for it. The cost goes by the characters that the group names, in the calls of both
-/// stores, and by a sort; not by the cells of the text.
+/// is by the stamps of now, and the author has the document's site and greatest count. The tags of
+/// removed characters are states of `kept`, a table of the undo stacks' own: it gets the states that the
+/// plan needs, also where that is refused. `ClockSpent`, or want of memory, as also where the text would
+/// grow past the most cells. The actions are reverted in a working copy of the cells that they name:
+/// `copy` is the empty store for it. The cost goes by the characters that the group names, in the calls
+/// of both stores, and by a sort; not by the cells of the text.
 pub fn planned_reversion<S: TextStore, C: TextStore>(
     alloc: Global,
     store: &S,
     states: &StateTable,
     copy: C,
-    site: Site,
-    count: u64,
+    author: Author,
     group: &[Action],
     kept: &mut StateTable,
 ) -> Result<Reversal, Fault>
@@ -47,22 +47,23 @@ pub fn planned_reversion<S: TextStore, C: TextStore>(
     requires distinct { AreDistinct (S.list store.now) }
     requires few { length (S.list store.now) ≤ MOST_CELLS }
     requires states { AreStates states.now (S.list store.now) }
-    requires older { AreUpTo count (S.list store.now) }
-    requires count { count ≤ GREATEST_COUNT }
+    requires older { AreUpTo author.count (S.list store.now) }
+    requires count { author.count ≤ GREATEST_COUNT }
     requires given { AreGiven kept.old (group_of group.now) }
     requires sound { AreSound (named_group kept.old (group_of group.now)) }
-    ensures plan { IfOk result (λ plan. (flat : Flat) → IsOf states.now (S.list store.now) site.number count flat
+    ensures plan { IfOk result (λ plan. (flat : Flat) → IsOf states.now (S.list store.now) author.site.number author.count flat
         → IsPlanOf kept.new flat (named_group kept.old (group_of group.now)) plan) }
-    ensures fits { OnOk result ((flat : Flat) → IsOf states.now (S.list store.now) site.number count flat
+    ensures fits { OnOk result ((flat : Flat) → IsOf states.now (S.list store.now) author.site.number author.count flat
         → (reversion flat (named_group kept.old (group_of group.now))).doc.count ≤ GREATEST_COUNT) }
     ensures given { IfOk result (λ plan. AreGiven kept.new (group_of plan.actions.items)) }
     ensures changes { IfOk result (λ plan. AllByRecursion IsChange plan.changes.items) }
     ensures names { IfOk result (λ plan. list_all is_name (as_words plan.names.items) ≡ true) }
     ensures ids { KeepsIds kept.old kept.new }
     ensures err { IfErr result (λ fault. (fault ≡ Fault.NoMemory) ⊎ ((fault ≡ Fault.ClockSpent)
-        × ((flat : Flat) → IsOf states.now (S.list store.now) site.number count flat
+        × ((flat : Flat) → IsOf states.now (S.list store.now) author.site.number author.count flat
         → GREATEST_COUNT < (reversion flat (named_group kept.old (group_of group.now))).doc.count))) }
 {
+    let Author { site, count } = author;
     let mut work = copy;
     let positions = named_positions(alloc, store, site, count, group)?;
     let cells = kept_cells(alloc, store, states, &positions, kept)?;

@@ -8,6 +8,7 @@ ghost use Rattle.rt_revert.specs.Plans.{AreGiven, named_group};
 ghost use Rattle.rt_revert.specs.ReversionLaws.{AreSound};
 
 use crate::checks::same;
+use rt_edits::Author;
 use rt_revert::losses::planned_losses;
 use rt_revert::{Return, Reversal, planned_reversion};
 use rt_rga::Draft;
@@ -113,7 +114,8 @@ fn planned(alloc: Global, site: Site, gone: bool, group: &[Action]) -> Result<Re
     let store = text(alloc, &states, gone)?;
     let mut kept = StateTable::new(alloc)?;
     let copy = ListStore::new(alloc)?;
-    planned_reversion(alloc, &store, &states, copy, site, 3, group, &mut kept)
+    let author = Author { site, count: 3 };
+    planned_reversion(alloc, &store, &states, copy, author, group, &mut kept)
 }
 
 // Which operations there are.

@@ -29,19 +29,19 @@ use crate::others::{add_between, reserve_between};
 use crate::parts::Parts;
 use crate::preparing::{list_tags, make_planned};
 use rt_edits::drafting::planned_deletion;
-use rt_edits::inserting::{Plan, Typed, planned_between, typed_between};
-use rt_edits::{Piece, Range};
+use rt_edits::inserting::{Gap, Plan, Typed, planned_between, typed_between};
+use rt_edits::{Author, Piece, Range};
 use rt_rga::Few;
 use rt_stamps::{Fault, Stamp};
-use rt_store::{Cell, TextStore};
-use rt_tags::{StateId, StateTable};
+use rt_store::TextStore;
+use rt_tags::StateTable;
 use rt_views::Stretch;
 use std::mem::replace;
 use std::slice;
 
 impl<S: TextStore> Doc<S> {
-    // Where text goes that stands behind pieces, before the character at a place of the stretch that is shown: the states
-    // of characters, the element behind it, and its neighbours. Between these an insertion is what it is at the place.
+    // Where text goes that stands behind pieces, before the character at a place of the stretch that is shown, and the
+    // states of characters. In this gap an insertion is what it is at the place.
     #[inline(always)]
     fn neighbours(
         &self,
@@ -49,22 +49,18 @@ impl<S: TextStore> Doc<S> {
         stretch: Stretch,
         place: usize,
         pieces: &[Piece],
-    ) -> (
-        &StateTable,
-        Stamp,
-        Option<Cell<StateId>>,
-        Option<Cell<StateId>>,
-    )
+    ) -> (&StateTable, Gap)
         requires stretch { stretch ≡ stretch_of self.now.cells widget.now.limits }
         requires place { place < length (shown_part self.now.cells widget.now.limits) }
-        ensures left { IfSome result.2 (λ cell. IsState result.0.now cell.state) }
-        ensures right { IfSome result.3 (λ cell. IsState result.0.now cell.state) }
-        ensures after { IfSome result.2 (λ cell. result.1 ≡ cell.stamp) }
+        ensures left { IfSome result.1.left (λ cell. IsState result.0.now cell.state) }
+        ensures right { IfSome result.1.right (λ cell. IsState result.0.now cell.state) }
+        ensures after { IfSome result.1.left (λ cell. result.1.after ≡ cell.stamp) }
         ensures drafts { (others : List Own) (rest : Word) → let view : Viewed = record { doc = self.now; own = widget.now; others = others } in
-            insertion_drafts MOST_CHARACTERS self.now.site result.1 (option_map (shown result.0.now) result.2) (option_map (shown result.0.now) result.3)
+            insertion_drafts MOST_CHARACTERS self.now.site result.1.after
+            (option_map (shown result.0.now) result.1.left) (option_map (shown result.0.now) result.1.right)
             pieces.now rest (none_inserted view) ≡ drafts_at view place pieces.now rest }
         ensures comes { (others : List Own) (rest : Word) → let view : Viewed = record { doc = self.now; own = widget.now; others = others } in
-            insertion_of self.now.site (option_map (shown result.0.now) result.2) (option_map (shown result.0.now) result.3)
+            insertion_of self.now.site (option_map (shown result.0.now) result.1.left) (option_map (shown result.0.now) result.1.right)
             pieces.now rest (none_inserted view) ≡ insertion_at view place pieces.now rest }
     {
         let (store, states) = self.kept();
@@ -73,7 +69,7 @@ impl<S: TextStore> Doc<S> {
         let after = stamp_or_root(&behind);
         let left = shown_before(place, behind);
         let right = shown_at(store, widget.limits(), at, pieces);
-        (states, after, left, right)
+        (states, Gap { after, left, right })
     }
 
     // Plans pieces of text and characters without a list before the character at a place of the stretch that is
@@ -97,16 +93,13 @@ impl<S: TextStore> Doc<S> {
     {
         let site = self.replica.site();
         let count = self.replica.clock().seen();
-        let (states, after, left, right) = self.neighbours(widget, stretch, place, pieces);
+        let (states, gap) = self.neighbours(widget, stretch, place, pieces);
         planned_between(
             self.alloc,
             states,
-            site,
-            count,
+            Author { site, count },
             &widget.parts.selection,
-            after,
-            left,
-            right,
+            &gap,
             pieces,
             rest,
         )
@@ -134,16 +127,8 @@ impl<S: TextStore> Doc<S> {
             return None;
         }
         let count = self.replica.clock().seen();
-        let (states, _, left, right) = self.neighbours(widget, stretch, place, pieces);
-        typed_between(
-            states,
-            count,
-            &widget.parts.selection,
-            &left,
-            &right,
-            pieces,
-            rest,
-        )
+        let (states, gap) = self.neighbours(widget, stretch, place, pieces);
+        typed_between(states, count, &widget.parts.selection, &gap, pieces, rest)
     }
 
     // Puts in a typed character, to which pieces of text and characters without a list come, that only the clauses name, at a place

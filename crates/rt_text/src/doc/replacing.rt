@@ -21,8 +21,8 @@ use crate::parts::Parts;
 use crate::preparing::{list_tags, make_planned};
 use crate::staying::{left_after, place_after};
 use rt_edits::drafting::planned_deletion;
-use rt_edits::inserting::{Plan, planned_between};
-use rt_edits::{Piece, Range};
+use rt_edits::inserting::{Gap, Plan, planned_between};
+use rt_edits::{Author, Piece, Range};
 use rt_rga::{Draft, Few};
 use rt_stamps::Fault;
 use rt_stamps::limits::GREATEST_COUNT;
@@ -102,15 +102,13 @@ impl<S: TextStore> Doc<S> {
         let after = stamp_or_root(&behind);
         let left = shown_before(at - stretch.begin, behind);
         let right = shown_after(store, removed, deletion.held, widget.limits(), at, pieces);
+        let gap = Gap { after, left, right };
         let plan = planned_between(
             self.alloc,
             states,
-            site,
-            count,
+            Author { site, count },
             &widget.parts.selection,
-            after,
-            left,
-            right,
+            &gap,
             pieces,
             rest,
         )?;

@@ -16,6 +16,7 @@ use crate::changing::revert_all;
 use crate::parts::Parts;
 use crate::preparing::{list_tags, prepare_tags};
 use crate::{Reverted, Widget};
+use rt_edits::Author;
 use rt_revert::planned_reversion;
 use rt_stamps::Fault;
 use rt_store::TextStore;
@@ -57,7 +58,8 @@ impl<S: TextStore> Doc<S> {
         let site = self.replica.site();
         let count = self.replica.clock().seen();
         let (store, states) = self.kept();
-        let plan = planned_reversion(self.alloc, store, states, copy, site, count, group, kept)?;
+        let author = Author { site, count };
+        let plan = planned_reversion(self.alloc, store, states, copy, author, group, kept)?;
         prepare_tags(&mut self.tags, &plan.names)?;
         self.replica.commit(plan.drafts)?;
         revert_all(

@@ -24,25 +24,25 @@ pub returns-in_err-between-clause-err : goal.returns-in_err-between-clause-err
 returns-in_err-between-clause-err c =
     let r = err_from_is_err_and c.from_residual.result c.from_residual.ensures.1 in
     let t = c.args.states.now in
-    let site = c.args.site.number in
+    let site = c.args.author.site.number in
     rw (r.1, r.2) (spent
     (λ k sel others tags same.
-    let start : Insertion = record { cells = []; count = c.args.count; sel = sel; others = others; tags = tags } in
+    let start : Insertion = record { cells = []; count = c.args.author.count; sel = sel; others = others; tags = tags } in
     let so_far = with_pieces site c.args.pieces.now start in
-    let left = last_of (option_map (shown t) c.args.left) so_far.cells in
-    subst (λ (n : ℕ). GREATEST_COUNT < n) (sym (unlisted_count site left (option_map (shown t) c.args.right) (chars c.args.rest.now) so_far))
-    (k c.args.after sel tags so_far same (c.in-Ok.ensures.so_far sel others tags)))
+    let left = last_of (option_map (shown t) c.args.gap.now.left) so_far.cells in
+    subst (λ (n : ℕ). GREATEST_COUNT < n) (sym (unlisted_count site left (option_map (shown t) c.args.gap.now.right) (chars c.args.rest.now) so_far))
+    (k c.args.gap.now.after sel tags so_far same (c.in-Ok.ensures.so_far sel others tags)))
     c.in_err-between.ensures.err)
 
 pub returns-clause-drafts : goal.returns-clause-drafts
 returns-clause-drafts c = λ sel others tags same.
     let t = c.args.states.now in
-    let site = c.args.site.number in
-    let start : Insertion = record { cells = []; count = c.args.count; sel = sel; others = others; tags = tags } in
+    let site = c.args.author.site.number in
+    let start : Insertion = record { cells = []; count = c.args.author.count; sel = sel; others = others; tags = tags } in
     let so_far = with_pieces site c.args.pieces.now start in
-    let after = c.args.after in
-    let left = option_map (shown t) c.args.left in
-    let right = option_map (shown t) c.args.right in
+    let after = c.args.gap.now.after in
+    let left = option_map (shown t) c.args.gap.now.left in
+    let right = option_map (shown t) c.args.gap.now.right in
     c.in_ok-between.ensures.drafts after sel tags so_far same (c.in-Ok.ensures.so_far sel others tags)
     ∙ ap (λ l. l ++ text_drafts MOST_CHARACTERS site so_far.count (behind after so_far.cells) (tags_between (last_of left so_far.cells) right) (chars c.args.rest.now))
     (c.in-Ok.ensures.drafts sel others tags)
@@ -50,14 +50,14 @@ returns-clause-drafts c = λ sel others tags same.
 pub returns-clause-plans : goal.returns-clause-plans
 returns-clause-plans c = λ sel others tags same.
     let t = c.args.states.now in
-    let site = c.args.site.number in
-    let start : Insertion = record { cells = []; count = c.args.count; sel = sel; others = others; tags = tags } in
+    let site = c.args.author.site.number in
+    let start : Insertion = record { cells = []; count = c.args.author.count; sel = sel; others = others; tags = tags } in
     let so_far = with_pieces site c.args.pieces.now start in
     let new = c.add_unlisted.new.self in
     let plan : Plan = record { drafts = new.texts.drafts; characters = new.characters; selected = new.selected; names = new.names; between = c.in_ok-between.between } in
-    let all = with_unlisted site (last_of (option_map (shown t) c.args.left) so_far.cells) (option_map (shown t) c.args.right) (chars c.args.rest.now) so_far in
+    let all = with_unlisted site (last_of (option_map (shown t) c.args.gap.now.left) so_far.cells) (option_map (shown t) c.args.gap.now.right) (chars c.args.rest.now) so_far in
     subst (λ o. Plans plan sel o tags all) (pieces_others site c.args.pieces.now start)
-    (c.in_ok-between.ensures.plans plan c.args.after sel tags so_far same (c.in-Ok.ensures.so_far sel others tags) c.requires.after
+    (c.in_ok-between.ensures.plans plan c.args.gap.now.after sel tags so_far same (c.in-Ok.ensures.so_far sel others tags) c.requires.after
     (record { characters = refl; selected = refl; names = refl; others = refl }))
 
 pub returns-in_err-between-clause-drafts : goal.returns-in_err-between-clause-drafts
@@ -79,9 +79,9 @@ pub returns-in-Some-clause-plans : goal.returns-in-Some-clause-plans
 returns-in-Some-clause-plans c = λ sel others tags same.
     let t = c.args.states.now in
     let stamps = selected_stamps c.args.selection.now in
-    let its : sel ≡ stamps = its_selection c.args.left c.args.right _ sel stamps c.in-Some.ensures.sides same in
-    let start : List Stamp → Insertion = λ s. record { cells = []; count = c.args.count; sel = s; others = others; tags = tags } in
-    let left = option_map (shown t) c.args.left in
-    let right = option_map (shown t) c.args.right in
-    subst (λ s. Plans c.plain_plan.result s others tags (insertion_of c.args.site.number left right c.args.pieces.now c.args.rest.now (start s))) (sym its)
-    (subst (Plans c.plain_plan.result stamps others tags) (sym (c.in-Some.ensures.comes c.args.site.number others tags)) (c.plain_plan.ensures.plans stamps others tags))
+    let its : sel ≡ stamps = its_selection c.args.gap.now.left c.args.gap.now.right _ sel stamps c.in-Some.ensures.sides same in
+    let start : List Stamp → Insertion = λ s. record { cells = []; count = c.args.author.count; sel = s; others = others; tags = tags } in
+    let left = option_map (shown t) c.args.gap.now.left in
+    let right = option_map (shown t) c.args.gap.now.right in
+    subst (λ s. Plans c.plain_plan.result s others tags (insertion_of c.args.author.site.number left right c.args.pieces.now c.args.rest.now (start s))) (sym its)
+    (subst (Plans c.plain_plan.result stamps others tags) (sym (c.in-Some.ensures.comes c.args.author.site.number others tags)) (c.plain_plan.ensures.plans stamps others tags))

@@ -20,21 +20,21 @@ either f (inr b) = inr (f b)
 
 pub returns-clause-drafts : goal.returns-clause-drafts
 returns-clause-drafts g c =
-    let (states, after, left, right) = c.neighbours-left.result in
+    let (states, gap) = c.neighbours-gap.result in
     let stamps = selected_stamps c.widget.inside.parts.selection in
     let site = c.site-site.ensures ∙ ap (λ (f : Flat). f.site) c.self.view_is in
     let count = c.seen-count.ensures.value ∙ c.clock.ensures ∙ ap (λ (f : Flat). f.count) c.self.view_is in
     let sel = ap (λ (o : Own). o.sel) c.widget.view_is in
     IfOk-weaker c.planned_between.result _ _
-    (λ plan h others. h stamps (selections_of others) c.args.self.now.tags (any_some right (stamps ≡ stamps) refl)
-    ∙ begun (λ s start. insertion_drafts MOST_CHARACTERS s after (option_map (shown states.now) left) (option_map (shown states.now) right) c.args.pieces.now c.args.rest.now start)
+    (λ plan h others. h stamps (selections_of others) c.args.self.now.tags (any_some gap.right (stamps ≡ stamps) refl)
+    ∙ begun (λ s start. insertion_drafts MOST_CHARACTERS s gap.after (option_map (shown states.now) gap.left) (option_map (shown states.now) gap.right) c.args.pieces.now c.args.rest.now start)
     c.site-site.result.number c.seen-count.result stamps (viewed c.args.self.now c.args.widget.now others) site count sel
-    ∙ c.neighbours-left.ensures.drafts others c.args.rest.now)
+    ∙ c.neighbours-gap.ensures.drafts others c.args.rest.now)
     c.planned_between.ensures.drafts
 
 pub returns-clause-plans : goal.returns-clause-plans
 returns-clause-plans g c =
-    let (states, after, left, right) = c.neighbours-left.result in
+    let (states, gap) = c.neighbours-gap.result in
     let stamps = selected_stamps c.widget.inside.parts.selection in
     let site = c.site-site.ensures ∙ ap (λ (f : Flat). f.site) c.self.view_is in
     let count = c.seen-count.ensures.value ∙ c.clock.ensures ∙ ap (λ (f : Flat). f.count) c.self.view_is in
@@ -42,15 +42,15 @@ returns-clause-plans g c =
     let tags = c.args.self.now.tags in
     IfOk-weaker c.planned_between.result _ _
     (λ plan h others.
-    let same = begun (λ s start. insertion_of s (option_map (shown states.now) left) (option_map (shown states.now) right) c.args.pieces.now c.args.rest.now start)
+    let same = begun (λ s start. insertion_of s (option_map (shown states.now) gap.left) (option_map (shown states.now) gap.right) c.args.pieces.now c.args.rest.now start)
     c.site-site.result.number c.seen-count.result stamps (viewed c.args.self.now c.args.widget.now others) site count sel
-    ∙ c.neighbours-left.ensures.comes others c.args.rest.now in
-    subst (λ (p : _). p) (λ i. Plans plan (sel i) (selections_of others) tags (same i)) (h stamps (selections_of others) tags (any_some right (stamps ≡ stamps) refl)))
+    ∙ c.neighbours-gap.ensures.comes others c.args.rest.now in
+    subst (λ (p : _). p) (λ i. Plans plan (sel i) (selections_of others) tags (same i)) (h stamps (selections_of others) tags (any_some gap.right (stamps ≡ stamps) refl)))
     c.planned_between.ensures.plans
 
 pub returns-clause-err : goal.returns-clause-err
 returns-clause-err g c =
-    let (states, after, left, right) = c.neighbours-left.result in
+    let (states, gap) = c.neighbours-gap.result in
     let stamps = selected_stamps c.widget.inside.parts.selection in
     let site = c.site-site.ensures ∙ ap (λ (f : Flat). f.site) c.self.view_is in
     let count = c.seen-count.ensures.value ∙ c.clock.ensures ∙ ap (λ (f : Flat). f.count) c.self.view_is in
@@ -59,10 +59,10 @@ returns-clause-err g c =
     (λ fault h. either (λ q. (
       q.0,
       λ others.
-          let same = begun (λ s start. insertion_of s (option_map (shown states.now) left) (option_map (shown states.now) right) c.args.pieces.now c.args.rest.now start)
+          let same = begun (λ s start. insertion_of s (option_map (shown states.now) gap.left) (option_map (shown states.now) gap.right) c.args.pieces.now c.args.rest.now start)
           c.site-site.result.number c.seen-count.result stamps (viewed c.args.self.now c.args.widget.now others) site count sel
-          ∙ c.neighbours-left.ensures.comes others c.args.rest.now in
+          ∙ c.neighbours-gap.ensures.comes others c.args.rest.now in
           subst (λ (new : Insertion). GREATEST_COUNT < new.count) same
-          (q.1 stamps (selections_of others) c.args.self.now.tags (any_some right (stamps ≡ stamps) refl)),
+          (q.1 stamps (selections_of others) c.args.self.now.tags (any_some gap.right (stamps ≡ stamps) refl)),
     )) h)
     c.planned_between.ensures.err

@@ -13,7 +13,7 @@ use Rattle.rt_text.proofs.doc.Doc.typed.Goals as goal
 
 pub returns-clause-comes : goal.returns-clause-comes
 returns-clause-comes g c =
-    let (states, after, left, right) = c.neighbours-left.result in
+    let (states, gap) = c.neighbours-gap.result in
     let flat = c.args.self.now in
     let stamps = selected_stamps c.widget.inside.parts.selection in
     let seen = c.seen-count.result in
@@ -22,7 +22,7 @@ returns-clause-comes g c =
     IfSome_then c.typed_between.result c.typed_between.ensures.comes
     (λ typed h others.
     let view = viewed flat c.args.widget.now others in
-    sym (begun (λ s start. insertion_of s (option_map (shown states.now) left) (option_map (shown states.now) right) c.args.pieces.now c.args.rest.now start) flat.site seen stamps view refl count sel
-    ∙ c.neighbours-left.ensures.comes others c.args.rest.now)
+    sym (begun (λ s start. insertion_of s (option_map (shown states.now) gap.left) (option_map (shown states.now) gap.right) c.args.pieces.now c.args.rest.now start) flat.site seen stamps view refl count sel
+    ∙ c.neighbours-gap.ensures.comes others c.args.rest.now)
     ∙ h flat.site (selections_of others) flat.tags
     ∙ begun (λ s start. with_typed s typed start) flat.site seen stamps view refl count sel)
