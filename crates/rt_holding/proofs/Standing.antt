@@ -8,7 +8,7 @@ use Rattle.std.specs.List.Sorted.{IsStrictlySortedBy}
 use Rattle.std.specs.Map.{keys_of, lookup}
 use Rattle.std.specs.Set.{remove_key}
 use Rattle.std.specs.BTreeMap.{BTreeMap, Updates, get, is_at}
-use Rattle.std.specs.Ordering.{is_eq, nat_cmp, ordering_then}
+use Rattle.std.specs.Ordering.{is_eq, nat_cmp, ordering_reverse, ordering_then}
 use Rattle.std.specs.Prelude.{Err, Ok, OnOk, Result}
 use Rattle.std.specs.declared.cmp.Ordering.{Ordering}
 use Rattle.std.specs.declared.cmp.Ordering.TheVariants.{Equal, Greater, Less}
@@ -64,6 +64,14 @@ fewer_keys k [] = omega arith
 fewer_keys k (x ∷ keys) =
     let i = fewer_keys k keys in
     elim (is_at (by_key k) x) as (λ t. length (cond t keys (x ∷ remove_key (is_at (by_key k)) keys)) ≤ length (x ∷ keys)) [ true ↦ omega arith | false ↦ omega (arith, i) ]
+
+pub own_key : (k : Key) → is_at (by_key k) k ≡ true
+own_key k = ap is_eq (itself (by_key k k) (keys_total.antisymm k k))
+  where
+    itself : (o : Ordering) → o ≡ ordering_reverse o → o ≡ Equal
+    itself Less e = absurd (cc e)
+    itself Equal e = refl
+    itself Greater e = absurd (cc e)
 
 -- a key at another place is another key
 pub other_key : (a b : Key) → is_at (by_stamp_and_arrival a.place) b.place ≡ false → is_at (by_key a) b ≡ false

@@ -19,7 +19,6 @@ loop-key-preserved c =
     let room = c.push_due.ensures.capacity in
     let due = before.ready.due in
     let again = before.ready.again in
-    let all = before.all in
     record {
       ready = record {
         heap = c.push_due.ensures.heap before.ready.heap;
@@ -38,7 +37,6 @@ loop-key-preserved c =
       ];
       kept = λ q n. c.remove-was_there.ensures.updates.0 q ∙ other (is_at (by_key key) q) (contains by_key c.loop-key.waits.keys q) (λ t. let e = key_equal key q t in
           n (sym (ap (λ (x : Key). x.site) e) ∙ there.of_site) (let l = there.passed in let m = ap (λ (x : Key). x.count) e in omega (arith, l, m))) ∙ before.kept q n;
-      all = omega (arith, all, fewer, more);
     }
   where
     or_more : (a b : Bool) → b ≡ true → (a || b) ≡ true

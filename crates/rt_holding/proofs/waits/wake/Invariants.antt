@@ -2,7 +2,7 @@ use Rattle.std.proofs.Common.{◌≡◌, ◌≤◌, ◌⊎◌, length, true}
 use Rattle.std.specs.BTreeSet.{contains}
 use Rattle.rt_holding.specs.declared.waits.Key.{Key}
 use Rattle.rt_holding.specs.Kept.{Place}
-use Rattle.rt_holding.specs.Waits.{IsReady, all_listed, by_key, is_due}
+use Rattle.rt_holding.specs.Waits.{IsReady, by_key, is_due}
 use Rattle.rt_holding.proofs.waits.wake.Given as goal
 
 abbrev pub invariant-loop-key : goal.invariant-loop-key
@@ -12,7 +12,6 @@ invariant-loop-key l = record {
   passed : (key : Key) → contains by_key l.initial.waits.keys key ≡ true → key.site ≡ l.site → key.count ≤ l.known
       → (contains by_key l.waits.keys key ≡ true) ⊎ (is_due key.place l.waits.due ≡ true);
   kept : (key : Key) → (key.site ≡ l.site → key.count ≤ l.known → ⊥) → contains by_key l.waits.keys key ≡ contains by_key l.initial.waits.keys key;
-  all : all_listed l.waits ≤ all_listed l.initial.waits;
 }
 
 abbrev pub decreases-loop-key : goal.decreases-loop-key
