@@ -1,5 +1,5 @@
 -- How each try of a held operation goes on.
-use Rattle.std.proofs.Common.{◌≡◌, ℕ, suc, ◌+◌, ◌*◌, ◌<◌, ◌≤◌, Bool, true, false, ◌⊎◌, inl, inr, refl, sym, ap, subst, ◌∙◌, arith, List, [], ◌∷◌, Option, Some, None, ◌&&◌, ◌||◌, ◌==◌, length, nat_lt, suc-mul}
+use Rattle.std.proofs.Common.{◌≡◌, ℕ, suc, ◌+◌, ◌*◌, ◌<◌, ◌≤◌, Bool, true, false, ◌⊎◌, inl, inr, refl, sym, ap, subst, ◌∙◌, arith, List, [], ◌∷◌, ◌++◌, Option, Some, None, ◌&&◌, ◌||◌, ◌==◌, length, nat_lt, suc-mul}
 use Rattle.std.specs.BTreeMap.{BTreeMap, IsOrdered, get, is_at}
 use Rattle.std.specs.BTreeSet.{BTreeSet}
 use Rattle.std.specs.declared.alloc.Global.{Global}
@@ -11,6 +11,7 @@ use Rattle.std.specs.Map.{lookup, remove_entry}
 use Rattle.rt_stamps.specs.declared.fault.Fault.TheVariants.{NotYet, TextFull}
 use Rattle.rt_stamps.specs.declared.stamp.Stamp.{Stamp}
 use Rattle.rt_ops.specs.Operations.{Operation, has_bad_stamp}
+use Rattle.rt_ops.specs.Rules.{keeps_rules}
 use Rattle.rt_oplog.specs.Logs.{Has, holds, known_end, same_operation, with_operation}
 use Rattle.rt_oplog.proofs.Sets.{operation_refl, with_has}
 use Rattle.rt_rga.specs.Answers.{Answer, New, Repeat, Refused, answer_to, answer_within, refused_if_full}
@@ -21,49 +22,41 @@ use Rattle.rt_holding.specs.declared.trying.Outcome.{Outcome}
 use Rattle.rt_holding.specs.declared.trying.Outcome.TheVariants.{Taken, Waits, Early, Dropped, Absent}
 use Rattle.rt_holding.specs.declared.waits.Key.{Key}
 use Rattle.rt_holding.specs.declared.waits.Waits.{Waits as Table}
-use Rattle.rt_holding.specs.Due.{AreKept}
 use Rattle.rt_holding.specs.Grown.{HasGrownBy}
 use Rattle.rt_holding.specs.Holding.{Holding, is_early, is_left, is_new, stays}
-use Rattle.rt_holding.specs.Kept.{AreHeld, IsAt, IsNewAt, Place, by_stamp_and_arrival, ops_in, outcome_of}
+use Rattle.rt_holding.specs.Kept.{AreHeld, Entry, IsAt, IsNewAt, Place, by_stamp_and_arrival, ops_in, outcome_of}
 use Rattle.rt_holding.specs.Taken.{AreTried, holding}
-use Rattle.rt_holding.specs.Waiting.{WaitsAt, is_passed, keys_of}
-use Rattle.rt_holding.specs.Waits.{IfIsThere, IsFirstDue, IsSetAt, IsWoken, KeepsOthers, are_kept, are_tried_at, has_key, is_due, is_listed, key_at, outcome_there, sleeps}
-use Rattle.rt_holding.proofs.Going.{AreReady, IsLeftAt, all_at, all_from, both, early_left, either, next_due, none_due, or_left, or_right, tried_in, tried_now}
-use Rattle.rt_holding.proofs.Keys.{other_end, passed_by, unpassed_kept}
-use Rattle.rt_holding.proofs.Places.{get_at, taken_from}
+use Rattle.rt_holding.specs.Waiting.{keys_of}
+use Rattle.rt_holding.specs.Waits.{IfIsThere, IsFirstDue, IsSetAt, KeepsOthers, are_kept, are_tried_at, has_key, is_due, is_listed, key_at, outcome_there, sleeps}
+use Rattle.rt_holding.specs.Waking.{IsWoken}
+use Rattle.rt_holding.proofs.Going.{AreReady, IsLeftAt, early_left, either, next_due, none_due, or_left, or_right, tried_in, tried_now}
+use Rattle.rt_holding.proofs.Keys.{other_end}
+use Rattle.rt_holding.proofs.Places.{get_at, in_append, taken_from}
 use Rattle.rt_holding.proofs.Standing.{at_found, own_place, there_before, this_place}
 use Rattle.rt_holding.proofs.Tries.{IsSettling, begins, ends, one_dropped, one_lacking, one_taken}
-use Rattle.rt_holding.proofs.Waiting.{unpassed_stay, waiting_from}
-
--- A KEY IS PASSED, OR NONE IS
-
--- where a log has grown by one site's operations, one that slept is due, or sleeps on
-pub woken : (by known : ℕ) (older log : List Operation) (old new : Table) → HasGrownBy by older log → IsHistory log → known ≡ known_end log by → IsWoken by known old new
-    → (p : Place) (x : Operation) → sleeps old.keys older p x ≡ true → (is_due p new.due ≡ true) ⊎ (sleeps new.keys log p x ≡ true)
-woken by known older log old new g h i w p x s =
-    let (e, k) = both (is_early (answer_to x older)) (are_kept old.keys older p x) s in
-    let late : WaitsAt older x = or_left (is_early (answer_to x older)) (is_new (answer_to x older)) e in
-    let kept : ℕ → ℕ → Bool = λ site count. has_key old.keys p (record { count = count; site = site }) in
-    let left : ℕ → ℕ → Bool = λ site count. has_key new.keys p (record { count = count; site = site }) in
-    let all : AreKept kept older x = λ key j. all_at (has_key old.keys p) (keys_of older x) k key j in
-    split (list_any (is_passed log) (keys_of older x))
-    (λ t. let (count, l, m) = passed_by kept older log by x g.others late all t in
-    inl (w.passed (key_at (record { count = count; site = by }) p) m refl (omega (arith, l, i))))
-    (λ n. let same = unpassed_stay older log x g.history h g.among late n in
-    let early : is_early (answer_to x log) ≡ true = ap is_early same.0 ∙ e in
-    let on = unpassed_kept kept left older log x g.history h g.among late all n (λ site count l.
-    w.kept (key_at (record { count = count; site = site }) p) (λ a b. let c = ap (known_end log) a in omega (arith, l, b, c, i))) in
-    let now : are_kept new.keys log p x ≡ true = all_from (has_key new.keys p) (keys_of log x) on in
-    inr (rw early now))
+use Rattle.rt_holding.proofs.Waiting.{waiting_from}
 
 -- all that were tried before are ready now
-pub started : (limit by known : ℕ) (wanting older log : List Operation) (m : BTreeMap Place (Option Operation)) (old new : Table) → HasGrownBy by older log → IsHistory log → known ≡ known_end log by → IsWoken by known old new
+pub started : (limit by : ℕ) (wanting older log : List Operation) (m : BTreeMap Place (Option Operation)) (old new : Table) → HasGrownBy by older log → IsWoken by log m old new
+    → ((p : Place) (x : Operation) → get by_stamp_and_arrival m p ≡ Some (Some x) → keeps_rules x.body ≡ true)
     → are_tried_at older old.keys old.again.items m.entries ≡ true → AreReady limit wanting log m new
-started limit by known wanting older log m old new g h i w a p x f =
+started limit by wanting older log m old new g w rules a p x f =
     elim (either (is_listed p old.again.items) (sleeps old.keys older p x) (tried_in older old m.entries a p x f)) [
       | inl j ↦ inl (w.again p j)
-      | inr s ↦ elim (woken by known older log old new g h i w p x s) [ inl d ↦ inl d | inr k ↦ inr (inr k) ]
+      | inr s ↦ elim (either (is_due p new.due) (sleeps new.keys log p x) (w.asleep older g p x f (rules p x f) s)) [ inl d ↦ inl d | inr k ↦ inr (inr k) ]
     ]
+
+-- each keeps the rules
+pub each_keeps : (arrivals : ℕ) (m : BTreeMap Place (Option Operation)) → AreHeld arrivals m.entries → IsOrdered by_stamp_and_arrival m → (p : Place) (x : Operation)
+    → get by_stamp_and_arrival m p ≡ Some (Some x) → keeps_rules x.body ≡ true
+each_keeps arrivals m h s p x f = h.rules x (at_has p x m.entries (at_found m.entries p x s f))
+  where
+    in_middle : (front behind : List Operation) (x : Operation) → Has (front ++ x ∷ behind) x
+    in_middle [] behind x = inl refl
+    in_middle (y ∷ front) behind x = inr (in_middle front behind x)
+
+    at_has : (p : Place) (x : Operation) (entries : List Entry) → IsAt p x entries → Has (ops_in entries) x
+    at_has p x entries i = subst (λ ops. Has ops x) (sym (ap ops_in i.is ∙ in_append i.front i.behind p x)) (in_middle (ops_in i.front) (ops_in i.behind) x)
 
 -- a log grows by one operation
 pub grown_by : (older log : List Operation) (by : ℕ) (op : Operation) → IsHistory older → by ≡ op.site → log ≡ with_operation op older → HasGrownBy by older log
@@ -195,12 +188,13 @@ module _ {Site : Type 0} (log : Site → List Operation) (after : Operation → 
     pub ready : AreReady limit wanting (log now) m waits
     pub none : lacks ≡ false → wanting ≡ []
 
-  pub going : (limit by known : ℕ) (older : List Operation) (site : Site) (m : BTreeMap Place (Option Operation)) (old new : Table) → HasGrownBy by older (log site) → IsHistory (log site) → known ≡ known_end (log site) by
-      → IsWoken by known old new → are_tried_at older old.keys old.again.items m.entries ≡ true → IsGoing false limit (holding log site (ops_in m.entries)) site site m new 0
-  going limit by known older site m old new g h i w a = record {
+  pub going : (limit by arrivals : ℕ) (older : List Operation) (site : Site) (m : BTreeMap Place (Option Operation)) (old new : Table) → HasGrownBy by older (log site)
+      → IsWoken by (log site) m old new → AreHeld arrivals m.entries → IsOrdered by_stamp_and_arrival m
+      → are_tried_at older old.keys old.again.items m.entries ≡ true → IsGoing false limit (holding log site (ops_in m.entries)) site site m new 0
+  going limit by arrivals older site m old new g w h s a = record {
     wanting = [];
     far = begins log after limit site (ops_in m.entries);
-    ready = started limit by known [] older (log site) m old new g h i w a;
+    ready = started limit by [] older (log site) m old new g w (each_keeps arrivals m h s) a;
     none = λ e. refl;
   }
 
@@ -349,12 +343,12 @@ module _ {Site : Type 0} (log : Site → List Operation) (after : Operation → 
         (record { op = t.op; there = at_found m.entries p t.op s t.found; new = d.0 }, d.1)
 
     pub took : IsNewAt limit (log now) m.entries p → lacks ≡ false → IsOrdered by_stamp_and_arrival m → IsHistory (log now)
-        → (site : Site) (arrivals by known : ℕ) (less : BTreeMap Place (Option Operation)) (new : Table) → AreHeld arrivals m.entries → IsHistory (log site)
+        → (site : Site) (arrivals by : ℕ) (less : BTreeMap Place (Option Operation)) (new : Table) → AreHeld arrivals m.entries
         → ((op : Operation) → IsAt p op m.entries → site ≡ after op now) → ((op : Operation) → IsAt p op m.entries → log site ≡ with_operation op (log now))
-        → ((op : Operation) → IsAt p op m.entries → by ≡ op.site) → known ≡ known_end (log site) by
-        → IsWoken by known (record { keys = old.keys; due = due; again = old.again }) new
+        → ((op : Operation) → IsAt p op m.entries → by ≡ op.site)
+        → IsWoken by (log site) less (record { keys = old.keys; due = due; again = old.again }) new
         → IsSetAt p None m less → less.entries ≡ remove_entry (is_at (by_stamp_and_arrival p)) m.entries → IsGone lacks site less new arrivals (count + 1)
-    took t n s history site arrivals by known less new h later is_after is_log is_by is_known w set r =
+    took t n s history site arrivals by less new h is_after is_log is_by w set r =
         let op = t.op in
         let l = is_log op t.there in
         let b = is_by op t.there in
@@ -371,7 +365,7 @@ module _ {Site : Type 0} (log : Site → List Operation) (after : Operation → 
               | inl u ↦ elim (due_on q u) [ inl j ↦ inl (w.due q j) | inr j ↦ absurd (other_place q n j) ]
               | inr u ↦ elim u [
                 | inl j ↦ inl (w.again q j.0)
-                | inr j ↦ elim (woken by known (log now) (log site) (record { keys = old.keys; due = due; again = old.again }) new grown later is_known w q x j) [ inl k ↦ inl k | inr k ↦ inr (inr k) ]
+                | inr j ↦ elim (either (is_due q new.due) (sleeps new.keys (log site) q x) (w.asleep (log now) grown q x f (each_keeps arrivals m h s q x was) j)) [ inl k ↦ inl k | inr k ↦ inr (inr k) ]
               ]
             ];
             none = g.none;

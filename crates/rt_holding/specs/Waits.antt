@@ -72,13 +72,6 @@ pub record IsPassedIn (keys : BTreeSet Key) (site known : ℕ) (key : Key) : Typ
 abbrev pub LeavesNone : BTreeSet Key → ℕ → ℕ → Type 0
 LeavesNone keys site known = (key : Key) → key.site ≡ site → key.count ≤ known → contains by_key keys key ≡ false
 
--- The known end of a site came to a count: those are due that waited for that, or were looked at again. Other keys stay.
-pub record IsWoken (site known : ℕ) (old new : Waits) : Type 0 where
-  pub due : (p : Place) → is_due p old.due ≡ true → is_due p new.due ≡ true
-  pub again : (p : Place) → is_listed p old.again.items ≡ true → is_due p new.due ≡ true
-  pub passed : (key : Key) → contains by_key old.keys key ≡ true → key.site ≡ site → key.count ≤ known → is_due key.place new.due ≡ true
-  pub kept : (key : Key) → (key.site ≡ site → key.count ≤ known → ⊥) → contains by_key new.keys key ≡ contains by_key old.keys key
-
 -- keys of other places stay
 abbrev pub KeepsOthers : Place → BTreeSet Key → BTreeSet Key → Type 0
 KeepsOthers place old new = (key : Key) → is_at (by_stamp_and_arrival place) key.place ≡ false → contains by_key new key ≡ contains by_key old key

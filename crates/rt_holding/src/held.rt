@@ -6,7 +6,8 @@ ghost use Rattle.rt_oplog.specs.Logs.{holds};
 
 use crate::taking::Taking;
 use crate::trying::{Ops, Outcome, drop_at, outcome_at, place_of, sleep, take_at, take_away};
-use crate::waits::{Waits, forget, keep, pop_first, prepare, wake};
+use crate::waits::{Waits, forget, keep, pop_first, prepare};
+use crate::waking::wake;
 use rt_oplog::Op;
 use rt_rga::Offer;
 use rt_stamps::Fault;
@@ -141,7 +142,7 @@ impl Held {
         if self.ops.len() == 0 && self.waits.are_over() {
             return 0;
         }
-        wake(&mut self.waits, made_by, site.known(made_by));
+        wake(site, &self.ops, &mut self.waits, made_by);
         let mut taken = 0;
         let mut lacks = false;
         while let Some(place) = pop_first(&mut self.waits.due) {
@@ -150,7 +151,7 @@ impl Held {
                     match take_at(site, &mut self.ops, place) {
                         Ok(by) => {
                             taken += 1;
-                            wake(&mut self.waits, by, site.known(by));
+                            wake(site, &self.ops, &mut self.waits, by);
                         }
                         Err(AllocError) => {
                             lacks = true;

@@ -7,7 +7,7 @@ ghost use Rattle.std.specs.BTreeSet.{contains};
 ghost use Rattle.rt_ops.specs.Operations.{has_bad_stamp};
 ghost use Rattle.rt_holding.specs.Kept.{Place, by_stamp_and_arrival};
 ghost use Rattle.rt_holding.specs.Waiting.{key_in};
-ghost use Rattle.rt_holding.specs.Waits.{IsFirstDue, IsKeyedMore, IsPassedIn, IsReady, IsWoken, KeepsOthers, LeavesNone, are_kept, by_key, by_later, has_key, is_due, is_listed, least_key};
+ghost use Rattle.rt_holding.specs.Waits.{IsFirstDue, IsKeyedMore, IsPassedIn, IsReady, KeepsOthers, LeavesNone, are_kept, by_key, by_later, has_key, is_due, is_listed, least_key};
 
 use crate::taking::Taking;
 use crate::trying::Place;
@@ -61,7 +61,7 @@ impl Waits {
 // WHAT IS DUE
 
 /// One more is due.
-fn push_due(due: &mut Due, place: Place)
+pub(crate) fn push_due(due: &mut Due, place: Place)
     requires { heap_len due.old < heap_capacity due.old }
     ensures due { (p : Place) → is_due p due.new ≡ is_at (by_stamp_and_arrival p) place || is_due p due.old }
     ensures len { heap_len due.new ≡ heap_len due.old + 1 }
@@ -131,7 +131,7 @@ impl Key {
 }
 
 /// The first key of a site to which its known end has come.
-fn first_passed(keys: &Keys, site: u16, known: u64) -> Option<Key>
+pub(crate) fn first_passed(keys: &Keys, site: u16, known: u64) -> Option<Key>
     ensures some { IfSome result (IsPassedIn keys.now site known) }
     ensures none { IfNone result (LeavesNone keys.now site known) }
 {
@@ -145,7 +145,7 @@ fn first_passed(keys: &Keys, site: u16, known: u64) -> Option<Key>
 }
 
 /// All that are looked at again are due.
-fn look_again(waits: &mut Waits)
+pub(crate) fn look_again(waits: &mut Waits)
     requires { IsReady 0 waits.old }
     ensures ready { IsReady 0 waits.new }
     ensures keys { waits.new.keys ≡ waits.old.keys }
@@ -157,17 +157,15 @@ fn look_again(waits: &mut Waits)
     }
 }
 
-/// The known end of a site has come to a count: all are due that wait for that, or are looked at again.
-pub(crate) fn wake(waits: &mut Waits, site: u16, known: u64)
-    requires { IsReady 0 waits.old }
-    ensures ready { IsReady 0 waits.new }
-    ensures woken { IsWoken site known waits.old waits.new }
+/// Whether a key is kept.
+pub(crate) fn has_it(keys: &Keys, stamp: Stamp, place: Place) -> bool
+    ensures { result ≡ has_key keys.now place stamp }
 {
-    look_again(waits);
-    while let Some(key) = first_passed(&waits.keys, site, known) {
-        let _was_there = waits.keys.remove(&key);
-        push_due(&mut waits.due, key.place);
-    }
+    keys.contains(&Key {
+        site: stamp.site,
+        count: stamp.count,
+        place,
+    })
 }
 
 // WHAT AN OPERATION WAITS FOR

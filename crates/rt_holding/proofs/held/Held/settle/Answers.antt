@@ -35,12 +35,12 @@ returns-then-are_over-clause-tried g c =
 pub loop-place-init : goal.loop-place-init
 loop-place-init g c = record {
   limit = refl;
-  history = c.known.ensures.history;
+  history = c.wake.ensures.history;
   held = c.self.invariant.held;
   waits = c.wake.ensures.ready;
   ordered = c.len.ensures.ordered;
-  goes = going g.T.Taking.log g.T.Taking.after (g.T.Taking.limit c.args.site.now) c.args.made_by c.known.result c.requires.older c.args.site.now c.self.inside.ops c.self.inside.waits c.wake.new.waits
-      c.requires.grown c.known.ensures.history c.known.ensures.known c.wake.ensures.woken (subst (AreTriedAt c.requires.older) (sym c.self.view_is) c.requires.tried);
+  goes = going g.T.Taking.log g.T.Taking.after (g.T.Taking.limit c.args.site.now) c.args.made_by c.self.inside.arrivals c.requires.older c.args.site.now c.self.inside.ops c.self.inside.waits c.wake.new.waits
+      c.requires.grown c.wake.ensures.woken c.self.invariant.held c.len.ensures.ordered (subst (AreTriedAt c.requires.older) (sym c.self.view_is) c.requires.tried);
   few = omega arith;
 }
 
@@ -67,8 +67,8 @@ loop-place-smaller-in-Ok g c =
     let (n, f) = taken_new log g.T.Taking.after l.lacks limit state c.args.site.now l.site l.self-inside.ops l.self-inside.waits l.taken b.goes c.pop_first.new.due c.in-Some.place c.in-Some.ensures.some
     c.outcome_at.result c.in-Taken.is o b.ordered in
     let gone = took log g.T.Taking.after l.lacks limit state c.args.site.now l.site l.self-inside.ops l.self-inside.waits l.taken b.goes c.pop_first.new.due c.in-Some.place c.in-Some.ensures.some
-    n f b.ordered b.history c.take_at.new.site l.self-inside.arrivals c.in-Ok.by c.known-in-Ok.result c.take_at.new.ops c.wake-in-Ok.new.waits b.held c.known-in-Ok.ensures.history
-    c.in-Ok.ensures.site c.in-Ok.ensures.log c.in-Ok.ensures.by c.known-in-Ok.ensures.known c.wake-in-Ok.ensures.woken c.in-Ok.ensures.others c.in-Ok.ensures.out in
+    n f b.ordered b.history c.take_at.new.site l.self-inside.arrivals c.in-Ok.by c.take_at.new.ops c.wake-in-Ok.new.waits b.held
+    c.in-Ok.ensures.site c.in-Ok.ensures.log c.in-Ok.ensures.by c.wake-in-Ok.ensures.woken c.in-Ok.ensures.others c.in-Ok.ensures.out in
     fewer_ops (length c.take_at.new.ops.entries) (length l.self-inside.ops.entries) (heap_len c.wake-in-Ok.new.waits.due) (2 ^ 63) (heap_len l.self-inside.waits.due) gone.length (few_due c.wake-in-Ok.new.waits.due)
 
 pub loop-place-preserved-in-Ok : goal.loop-place-preserved-in-Ok
@@ -82,14 +82,14 @@ loop-place-preserved-in-Ok g c =
     let (n, f) = taken_new log g.T.Taking.after l.lacks limit state c.args.site.now l.site l.self-inside.ops l.self-inside.waits l.taken b.goes c.pop_first.new.due c.in-Some.place c.in-Some.ensures.some
     c.outcome_at.result c.in-Taken.is o b.ordered in
     let gone = took log g.T.Taking.after l.lacks limit state c.args.site.now l.site l.self-inside.ops l.self-inside.waits l.taken b.goes c.pop_first.new.due c.in-Some.place c.in-Some.ensures.some
-    n f b.ordered b.history c.take_at.new.site l.self-inside.arrivals c.in-Ok.by c.known-in-Ok.result c.take_at.new.ops c.wake-in-Ok.new.waits b.held c.known-in-Ok.ensures.history
-    c.in-Ok.ensures.site c.in-Ok.ensures.log c.in-Ok.ensures.by c.known-in-Ok.ensures.known c.wake-in-Ok.ensures.woken c.in-Ok.ensures.others c.in-Ok.ensures.out in
+    n f b.ordered b.history c.take_at.new.site l.self-inside.arrivals c.in-Ok.by c.take_at.new.ops c.wake-in-Ok.new.waits b.held
+    c.in-Ok.ensures.site c.in-Ok.ensures.log c.in-Ok.ensures.by c.wake-in-Ok.ensures.woken c.in-Ok.ensures.others c.in-Ok.ensures.out in
     let few = b.few in
     let less = gone.length in
     let popped = c.in-Some.ensures.len in
     record {
       limit = c.take_at.ensures.limit ∙ b.limit;
-      history = c.known-in-Ok.ensures.history;
+      history = c.wake-in-Ok.ensures.history;
       held = gone.held;
       waits = c.wake-in-Ok.ensures.ready;
       ordered = c.take_at.ensures.ordered;
