@@ -56,7 +56,7 @@ all_from p (x ∷ xs) f =
 
 -- WHAT IS LEFT
 
-early_left : (full : Bool) (a : Answer) (h : Bool) → is_early a ≡ true → (stays (refused_if_full full a) || (is_new (refused_if_full full a) && h)) ≡ true
+pub early_left : (full : Bool) (a : Answer) (h : Bool) → is_early a ≡ true → (stays (refused_if_full full a) || (is_new (refused_if_full full a) && h)) ≡ true
 early_left full New h e = absurd (cc e)
 early_left full Repeat h e = absurd (cc e)
 early_left full (Refused fault) h e = rw e refl

@@ -17,6 +17,7 @@ pub mod Putting
 pub mod Receptions
 pub mod Settling
 pub mod Sites
+pub mod Sleeping
 pub mod Standing
 pub mod Steps
 pub mod Tries

@@ -1,14 +1,15 @@
 -- Where operations stand in a map, and which keys are kept.
-use Rattle.std.proofs.Common.{◌≡◌, ℕ, ◌≤◌, true, false, refl, sym, ap, subst, ◌∙◌, arith, List, [], ◌∷◌, ◌++◌, append_assoc, Option, Some, None, cond, length}
+use Rattle.std.proofs.Common.{◌≡◌, ℕ, suc, ◌+◌, ◌≤◌, Bool, true, false, refl, sym, ap, subst, ◌∙◌, arith, List, [], ◌∷◌, ◌++◌, append_assoc, Option, Some, None, cond, length}
 use Rattle.std.proofs.lemmas.Bool.Decides.{nat_tests}
 use Rattle.std.proofs.lemmas.Cmp.{nat_cmp_total, on_total, then_total}
 use Rattle.std.specs.Cmp.{IsTotalOrder}
-use Rattle.std.specs.List.{AllByRecursion}
+use Rattle.std.specs.List.{AllByRecursion, filter, list_any}
 use Rattle.std.specs.List.Sorted.{IsStrictlySortedBy}
 use Rattle.std.specs.Map.{keys_of, lookup}
 use Rattle.std.specs.Set.{remove_key}
 use Rattle.std.specs.BTreeMap.{BTreeMap, Updates, get, is_at}
-use Rattle.std.specs.Ordering.{is_eq, nat_cmp, ordering_then}
+use Rattle.std.specs.BTreeSet.{insert_key}
+use Rattle.std.specs.Ordering.{is_eq, match_ordering, nat_cmp, ordering_reverse, ordering_then}
 use Rattle.std.specs.Prelude.{Err, Ok, OnOk, Result}
 use Rattle.std.specs.declared.cmp.Ordering.{Ordering}
 use Rattle.std.specs.declared.cmp.Ordering.TheVariants.{Equal, Greater, Less}
@@ -65,6 +66,14 @@ fewer_keys k (x ∷ keys) =
     let i = fewer_keys k keys in
     elim (is_at (by_key k) x) as (λ t. length (cond t keys (x ∷ remove_key (is_at (by_key k)) keys)) ≤ length (x ∷ keys)) [ true ↦ omega arith | false ↦ omega (arith, i) ]
 
+pub own_key : (k : Key) → is_at (by_key k) k ≡ true
+own_key k = ap is_eq (itself (by_key k k) (keys_total.antisymm k k))
+  where
+    itself : (o : Ordering) → o ≡ ordering_reverse o → o ≡ Equal
+    itself Less e = absurd (cc e)
+    itself Equal e = refl
+    itself Greater e = absurd (cc e)
+
 -- a key at another place is another key
 pub other_key : (a b : Key) → is_at (by_stamp_and_arrival a.place) b.place ≡ false → is_at (by_key a) b ≡ false
 other_key a b n = split (is_at (by_key a) b)
@@ -72,6 +81,27 @@ other_key a b n = split (is_at (by_key a) b)
     let o = own_place a.place in
     let w : is_at (by_stamp_and_arrival a.place) a.place ≡ false = subst (λ (q : Place). is_at (by_stamp_and_arrival a.place) q ≡ false) (sym s) n in cc (o, w)))
     (λ t. t)
+
+-- KEYS ARE COUNTED
+
+pub count_removed : (P : Key → Bool) (k : Key) (keys : List Key) → list_any (is_at (by_key k)) keys ≡ true → P k ≡ true
+    → length (filter P (remove_key (is_at (by_key k)) keys)) + 1 ≡ length (filter P keys)
+count_removed P k [] h e = absurd (cc h)
+count_removed P k (x ∷ keys) h e = split (is_at (by_key k) x)
+    (λ t. let y : P x ≡ true = ap P (sym (key_equal k x t)) ∙ e in rw (t, y) (omega arith))
+    (λ t. let i = count_removed P k keys (rw t at h) e in
+    rw t (elim (P x) as (λ b. length (cond b (x ∷ filter P (remove_key (is_at (by_key k)) keys)) (filter P (remove_key (is_at (by_key k)) keys))) + 1
+    ≡ length (cond b (x ∷ filter P keys) (filter P keys))) [ true ↦ omega (arith, i) | false ↦ i ]))
+
+pub count_inserted : (P : Key → Bool) (k : Key) (keys : List Key) → P k ≡ false → length (filter P (insert_key by_key keys k)) ≡ length (filter P keys)
+count_inserted P k [] e = rw e refl
+count_inserted P k (x ∷ keys) e = one (by_key k x) (count_inserted P k keys e)
+  where
+    one : (o : Ordering) → length (filter P (insert_key by_key keys k)) ≡ length (filter P keys)
+        → length (filter P (match_ordering o (k ∷ x ∷ keys) (x ∷ keys) (x ∷ insert_key by_key keys k))) ≡ length (filter P (x ∷ keys))
+    one Less i = rw e refl
+    one Equal i = refl
+    one Greater i = elim (P x) as (λ b. length (cond b (x ∷ filter P (insert_key by_key keys k)) (filter P (insert_key by_key keys k))) ≡ length (cond b (x ∷ filter P keys) (filter P keys))) [ true ↦ ap suc i | false ↦ i ]
 
 -- WHAT STANDS AT A PLACE
 

@@ -1,15 +1,17 @@
 -- How each try of a held operation goes on.
-use Rattle.std.proofs.Common.{◌≡◌, ℕ, suc, ◌+◌, ◌*◌, ◌<◌, ◌≤◌, Bool, true, false, ◌⊎◌, inl, inr, refl, sym, ap, subst, ◌∙◌, arith, List, [], ◌∷◌, Option, Some, None, ◌&&◌, ◌||◌, ◌==◌, length, nat_lt, suc-mul}
+use Rattle.std.proofs.Common.{◌≡◌, ℕ, suc, ◌+◌, ◌*◌, ◌<◌, ◌≤◌, Bool, true, false, ◌⊎◌, inl, inr, refl, sym, ap, subst, ◌∙◌, arith, List, [], ◌∷◌, ◌++◌, Option, Some, None, ◌&&◌, ◌||◌, ◌==◌, length, nat_lt, suc-mul}
 use Rattle.std.specs.BTreeMap.{BTreeMap, IsOrdered, get, is_at}
 use Rattle.std.specs.BTreeSet.{BTreeSet}
 use Rattle.std.specs.declared.alloc.Global.{Global}
 use Rattle.std.specs.declared.cmp.Reverse.{Reverse}
 use Rattle.std.specs.declared.collections.BinaryHeap.{BinaryHeap}
+use Rattle.std.specs.BinaryHeap.{heap_items}
 use Rattle.std.specs.List.{list_all, list_any}
 use Rattle.std.specs.Map.{lookup, remove_entry}
 use Rattle.rt_stamps.specs.declared.fault.Fault.TheVariants.{NotYet, TextFull}
 use Rattle.rt_stamps.specs.declared.stamp.Stamp.{Stamp}
-use Rattle.rt_ops.specs.Operations.{Operation}
+use Rattle.rt_ops.specs.Operations.{Operation, has_bad_stamp}
+use Rattle.rt_ops.specs.Rules.{keeps_rules}
 use Rattle.rt_oplog.specs.Logs.{Has, holds, known_end, same_operation, with_operation}
 use Rattle.rt_oplog.proofs.Sets.{operation_refl, with_has}
 use Rattle.rt_rga.specs.Answers.{Answer, New, Repeat, Refused, answer_to, answer_within, refused_if_full}
@@ -17,52 +19,44 @@ use Rattle.rt_rga.specs.Cells.{cells_of}
 use Rattle.rt_rga.specs.Histories.{IsHistory, inserted}
 use Rattle.rt_rga.proofs.Skipping.{split}
 use Rattle.rt_holding.specs.declared.trying.Outcome.{Outcome}
-use Rattle.rt_holding.specs.declared.trying.Outcome.TheVariants.{Taken, Waits, Sleeps, Dropped}
+use Rattle.rt_holding.specs.declared.trying.Outcome.TheVariants.{Taken, Waits, Early, Dropped, Absent}
 use Rattle.rt_holding.specs.declared.waits.Key.{Key}
 use Rattle.rt_holding.specs.declared.waits.Waits.{Waits as Table}
-use Rattle.rt_holding.specs.Due.{AreKept}
 use Rattle.rt_holding.specs.Grown.{HasGrownBy}
 use Rattle.rt_holding.specs.Holding.{Holding, is_early, is_left, is_new, stays}
-use Rattle.rt_holding.specs.Kept.{AreHeld, IsAt, IsNewAt, Place, by_stamp_and_arrival, ops_in, outcome_of}
+use Rattle.rt_holding.specs.Kept.{AreHeld, Entry, IsAt, IsNewAt, Place, by_stamp_and_arrival, ops_in, outcome_of}
 use Rattle.rt_holding.specs.Taken.{AreTried, holding}
-use Rattle.rt_holding.specs.Waiting.{WaitsAt, is_passed, keys_of}
-use Rattle.rt_holding.specs.Waits.{IsFirstDue, IsSetAt, IsWoken, KeepsOthers, are_kept, are_tried_at, has_key, is_due, is_listed, key_at, outcome_there, sleeps}
-use Rattle.rt_holding.proofs.Going.{AreReady, all_at, all_from, both, either, next_due, none_due, or_left, or_right, tried_in, tried_now}
-use Rattle.rt_holding.proofs.Keys.{other_end, passed_by, unpassed_kept}
-use Rattle.rt_holding.proofs.Places.{get_at, taken_from}
+use Rattle.rt_holding.specs.Waiting.{keys_of}
+use Rattle.rt_holding.specs.Waits.{IfIsThere, IsFirstDue, IsSetAt, KeepsOthers, are_kept, are_tried_at, has_key, is_due, is_listed, key_at, outcome_there, sleeps}
+use Rattle.rt_holding.specs.Waking.{IsWoken}
+use Rattle.rt_holding.proofs.Going.{AreReady, IsLeftAt, early_left, either, next_due, none_due, or_left, or_right, tried_in, tried_now}
+use Rattle.rt_holding.proofs.Keys.{other_end}
+use Rattle.rt_holding.proofs.Places.{get_at, in_append, taken_from}
 use Rattle.rt_holding.proofs.Standing.{at_found, own_place, there_before, this_place}
 use Rattle.rt_holding.proofs.Tries.{IsSettling, begins, ends, one_dropped, one_lacking, one_taken}
-use Rattle.rt_holding.proofs.Waiting.{unpassed_stay}
-
--- A KEY IS PASSED, OR NONE IS
-
--- where a log has grown by one site's operations, one that slept is due, or sleeps on
-pub woken : (by known : ℕ) (older log : List Operation) (old new : Table) → HasGrownBy by older log → IsHistory log → known ≡ known_end log by → IsWoken by known old new
-    → (p : Place) (x : Operation) → sleeps old.keys older p x ≡ true → (is_due p new.due ≡ true) ⊎ (sleeps new.keys log p x ≡ true)
-woken by known older log old new g h i w p x s =
-    let (e, k) = both (is_early (answer_to x older)) (are_kept old.keys older p x) s in
-    let late : WaitsAt older x = or_left (is_early (answer_to x older)) (is_new (answer_to x older)) e in
-    let kept : ℕ → ℕ → Bool = λ site count. has_key old.keys p (record { count = count; site = site }) in
-    let left : ℕ → ℕ → Bool = λ site count. has_key new.keys p (record { count = count; site = site }) in
-    let all : AreKept kept older x = λ key j. all_at (has_key old.keys p) (keys_of older x) k key j in
-    split (list_any (is_passed log) (keys_of older x))
-    (λ t. let (count, l, m) = passed_by kept older log by x g.others late all t in
-    inl (w.passed (key_at (record { count = count; site = by }) p) m refl (omega (arith, l, i))))
-    (λ n. let same = unpassed_stay older log x g.history h g.among late n in
-    let early : is_early (answer_to x log) ≡ true = ap is_early same.0 ∙ e in
-    let on = unpassed_kept kept left older log x g.history h g.among late all n (λ site count l.
-    w.kept (key_at (record { count = count; site = site }) p) (λ a b. let c = ap (known_end log) a in omega (arith, l, b, c, i))) in
-    let now : are_kept new.keys log p x ≡ true = all_from (has_key new.keys p) (keys_of log x) on in
-    inr (rw early now))
+use Rattle.rt_holding.proofs.Waiting.{waiting_from}
 
 -- all that were tried before are ready now
-pub started : (limit by known : ℕ) (wanting older log : List Operation) (m : BTreeMap Place (Option Operation)) (old new : Table) → HasGrownBy by older log → IsHistory log → known ≡ known_end log by → IsWoken by known old new
+pub started : (limit by : ℕ) (wanting older log : List Operation) (m : BTreeMap Place (Option Operation)) (old new : Table) → HasGrownBy by older log → IsWoken by log m old new
+    → ((p : Place) (x : Operation) → get by_stamp_and_arrival m p ≡ Some (Some x) → keeps_rules x.body ≡ true)
     → are_tried_at older old.keys old.again.items m.entries ≡ true → AreReady limit wanting log m new
-started limit by known wanting older log m old new g h i w a p x f =
+started limit by wanting older log m old new g w rules a p x f =
     elim (either (is_listed p old.again.items) (sleeps old.keys older p x) (tried_in older old m.entries a p x f)) [
       | inl j ↦ inl (w.again p j)
-      | inr s ↦ elim (woken by known older log old new g h i w p x s) [ inl d ↦ inl d | inr k ↦ inr (inr k) ]
+      | inr s ↦ elim (either (is_due p new.due) (sleeps new.keys log p x) (w.asleep older g p x f (rules p x f) s)) [ inl d ↦ inl d | inr k ↦ inr (inr k) ]
     ]
+
+-- each keeps the rules
+pub each_keeps : (arrivals : ℕ) (m : BTreeMap Place (Option Operation)) → AreHeld arrivals m.entries → IsOrdered by_stamp_and_arrival m → (p : Place) (x : Operation)
+    → get by_stamp_and_arrival m p ≡ Some (Some x) → keeps_rules x.body ≡ true
+each_keeps arrivals m h s p x f = h.rules x (at_has p x m.entries (at_found m.entries p x s f))
+  where
+    in_middle : (front behind : List Operation) (x : Operation) → Has (front ++ x ∷ behind) x
+    in_middle [] behind x = inl refl
+    in_middle (y ∷ front) behind x = inr (in_middle front behind x)
+
+    at_has : (p : Place) (x : Operation) (entries : List Entry) → IsAt p x entries → Has (ops_in entries) x
+    at_has p x entries i = subst (λ ops. Has ops x) (sym (ap ops_in i.is ∙ in_append i.front i.behind p x)) (in_middle (ops_in i.front) (ops_in i.behind) x)
 
 -- a log grows by one operation
 pub grown_by : (older log : List Operation) (by : ℕ) (op : Operation) → IsHistory older → by ≡ op.site → log ≡ with_operation op older → HasGrownBy by older log
@@ -80,54 +74,58 @@ not_yet false New e = absurd (cc e)
 not_yet full Repeat e = absurd (cc e)
 not_yet full (Refused fault) e = ap is_early e
 
-sleeps_if : (lacks : Bool) (a : Answer) (kept : Bool) → Sleeps ≡ outcome_of lacks a kept → (a ≡ Refused NotYet) × (kept ≡ true)
-sleeps_if true New kept e = absurd (cc e)
-sleeps_if false New kept e = absurd (cc e)
-sleeps_if lacks Repeat kept e = absurd (cc e)
-sleeps_if lacks (Refused NotYet) true e = (refl, refl)
-sleeps_if lacks (Refused NotYet) false e = absurd (cc e)
-sleeps_if lacks (Refused TextFull) kept e = absurd (cc e)
-sleeps_if lacks (Refused _) kept e = absurd (cc e)
+early_if : (lacks : Bool) (a : Answer) → Early ≡ outcome_of lacks a → a ≡ Refused NotYet
+early_if true New e = absurd (cc e)
+early_if false New e = absurd (cc e)
+early_if lacks Repeat e = absurd (cc e)
+early_if lacks (Refused NotYet) e = refl
+early_if lacks (Refused TextFull) e = absurd (cc e)
+early_if lacks (Refused _) e = absurd (cc e)
 
-waits_if : (lacks : Bool) (a : Answer) (kept : Bool) → Waits ≡ outcome_of lacks a kept → (stays a ≡ true) ⊎ ((is_new a ≡ true) × (lacks ≡ true))
-waits_if true New kept e = inr (refl, refl)
-waits_if false New kept e = absurd (cc e)
-waits_if lacks Repeat kept e = absurd (cc e)
-waits_if lacks (Refused NotYet) kept e = inl refl
-waits_if lacks (Refused TextFull) kept e = inl refl
-waits_if lacks (Refused _) kept e = absurd (cc e)
+never_absent : (lacks : Bool) (a : Answer) → Absent ≡ outcome_of lacks a → ⊥
+never_absent true New e = cc e
+never_absent false New e = cc e
+never_absent lacks Repeat e = cc e
+never_absent lacks (Refused NotYet) e = cc e
+never_absent lacks (Refused TextFull) e = cc e
+never_absent lacks (Refused _) e = cc e
 
-taken_if : (lacks : Bool) (a : Answer) (kept : Bool) → Taken ≡ outcome_of lacks a kept → (a ≡ New) × (lacks ≡ false)
-taken_if true New kept e = absurd (cc e)
-taken_if false New kept e = (refl, refl)
-taken_if lacks Repeat kept e = absurd (cc e)
-taken_if lacks (Refused NotYet) true e = absurd (cc e)
-taken_if lacks (Refused NotYet) false e = absurd (cc e)
-taken_if lacks (Refused TextFull) kept e = absurd (cc e)
-taken_if lacks (Refused _) kept e = absurd (cc e)
+waits_if : (lacks : Bool) (a : Answer) → Waits ≡ outcome_of lacks a → (stays a ≡ true) ⊎ ((is_new a ≡ true) × (lacks ≡ true))
+waits_if true New e = inr (refl, refl)
+waits_if false New e = absurd (cc e)
+waits_if lacks Repeat e = absurd (cc e)
+waits_if lacks (Refused NotYet) e = inl refl
+waits_if lacks (Refused TextFull) e = inl refl
+waits_if lacks (Refused _) e = absurd (cc e)
 
-dropped_if : (lacks : Bool) (a : Answer) (kept : Bool) → Dropped ≡ outcome_of lacks a kept → (is_new a ≡ false) × (stays a ≡ false)
-dropped_if true New kept e = absurd (cc e)
-dropped_if false New kept e = absurd (cc e)
-dropped_if lacks Repeat kept e = (refl, refl)
-dropped_if lacks (Refused NotYet) true e = absurd (cc e)
-dropped_if lacks (Refused NotYet) false e = absurd (cc e)
-dropped_if lacks (Refused TextFull) kept e = absurd (cc e)
-dropped_if lacks (Refused _) kept e = (refl, refl)
+taken_if : (lacks : Bool) (a : Answer) → Taken ≡ outcome_of lacks a → (a ≡ New) × (lacks ≡ false)
+taken_if true New e = absurd (cc e)
+taken_if false New e = (refl, refl)
+taken_if lacks Repeat e = absurd (cc e)
+taken_if lacks (Refused NotYet) e = absurd (cc e)
+taken_if lacks (Refused TextFull) e = absurd (cc e)
+taken_if lacks (Refused _) e = absurd (cc e)
+
+dropped_if : (lacks : Bool) (a : Answer) → Dropped ≡ outcome_of lacks a → (is_new a ≡ false) × (stays a ≡ false)
+dropped_if true New e = absurd (cc e)
+dropped_if false New e = absurd (cc e)
+dropped_if lacks Repeat e = (refl, refl)
+dropped_if lacks (Refused NotYet) e = absurd (cc e)
+dropped_if lacks (Refused TextFull) e = absurd (cc e)
+dropped_if lacks (Refused _) e = (refl, refl)
 
 -- an operation stands at a place
 pub record IsThere (m : BTreeMap Place (Option Operation)) (p : Place) : Type 0 where
   pub op : Operation
   pub found : get by_stamp_and_arrival m p ≡ Some (Some op)
 
--- nothing else than sleeping becomes of none
-pub there_if : (lacks : Bool) (limit : ℕ) (log : List Operation) (keys : BTreeSet Key) (m : BTreeMap Place (Option Operation)) (p : Place) (o : Outcome) → o ≡ outcome_there lacks limit log keys p (get by_stamp_and_arrival m p)
-    → (Sleeps ≡ o → ⊥) → IsThere m p
-there_if lacks limit log keys m p o e n = one (get by_stamp_and_arrival m p) refl
+pub there_if : (lacks : Bool) (limit : ℕ) (log : List Operation) (m : BTreeMap Place (Option Operation)) (p : Place) (o : Outcome) → o ≡ outcome_there lacks limit log (get by_stamp_and_arrival m p)
+    → (Absent ≡ o → ⊥) → IsThere m p
+there_if lacks limit log m p o e n = one (get by_stamp_and_arrival m p) refl
   where
     one : (v : Option (Option Operation)) → get by_stamp_and_arrival m p ≡ v → IsThere m p
-    one None f = absurd (n (sym (e ∙ ap (outcome_there lacks limit log keys p) f)))
-    one (Some None) f = absurd (n (sym (e ∙ ap (outcome_there lacks limit log keys p) f)))
+    one None f = absurd (n (sym (e ∙ ap (outcome_there lacks limit log) f)))
+    one (Some None) f = absurd (n (sym (e ∙ ap (outcome_there lacks limit log) f)))
     one (Some (Some op)) f = record { op = op; found = f }
 
 -- one that waits on stays, or could be taken but memory is wanting
@@ -135,15 +133,24 @@ pub record WaitsOn (lacks : Bool) (limit : ℕ) (log : List Operation) (m : BTre
   pub there : IsThere m p
   pub why : (stays (answer_within limit there.op log) ≡ true) ⊎ ((is_new (answer_within limit there.op log) ≡ true) × (lacks ≡ true))
 
-pub outcome_here : (lacks : Bool) (limit : ℕ) (log : List Operation) (keys : BTreeSet Key) (m : BTreeMap Place (Option Operation)) (p : Place) (o : Outcome) (x : Operation) → o ≡ outcome_there lacks limit log keys p (get by_stamp_and_arrival m p)
-    → get by_stamp_and_arrival m p ≡ Some (Some x) → o ≡ outcome_of lacks (answer_within limit x log) (are_kept keys log p x)
-outcome_here lacks limit log keys m p o x e f = e ∙ ap (outcome_there lacks limit log keys p) f
+pub outcome_here : (lacks : Bool) (limit : ℕ) (log : List Operation) (m : BTreeMap Place (Option Operation)) (p : Place) (o : Outcome) (x : Operation) → o ≡ outcome_there lacks limit log (get by_stamp_and_arrival m p)
+    → get by_stamp_and_arrival m p ≡ Some (Some x) → o ≡ outcome_of lacks (answer_within limit x log)
+outcome_here lacks limit log m p o x e f = e ∙ ap (outcome_there lacks limit log) f
 
-pub waits_there : (lacks : Bool) (limit : ℕ) (log : List Operation) (keys : BTreeSet Key) (m : BTreeMap Place (Option Operation)) (p : Place) (o : Outcome) → o ≡ Waits → o ≡ outcome_there lacks limit log keys p (get by_stamp_and_arrival m p)
+pub waits_there : (lacks : Bool) (limit : ℕ) (log : List Operation) (m : BTreeMap Place (Option Operation)) (p : Place) (o : Outcome) → o ≡ Waits → o ≡ outcome_there lacks limit log (get by_stamp_and_arrival m p)
     → WaitsOn lacks limit log m p
-waits_there lacks limit log keys m p o i e =
-    let t = there_if lacks limit log keys m p o e (λ j. let k : Sleeps ≡ Waits = j ∙ i in cc k) in
-    record { there = t; why = waits_if lacks (answer_within limit t.op log) (are_kept keys log p t.op) (sym i ∙ outcome_here lacks limit log keys m p o t.op e t.found) }
+waits_there lacks limit log m p o i e =
+    let t = there_if lacks limit log m p o e (λ j. let k : Absent ≡ Waits = j ∙ i in cc k) in
+    record { there = t; why = waits_if lacks (answer_within limit t.op log) (sym i ∙ outcome_here lacks limit log m p o t.op e t.found) }
+
+-- one that comes too early
+pub early_here : (lacks : Bool) (limit : ℕ) (log : List Operation) (o : Outcome) (x : Operation) → o ≡ Early → o ≡ outcome_of lacks (answer_within limit x log) → is_early (answer_to x log) ≡ true
+early_here lacks limit log o x i e = not_yet (nat_lt limit (length (cells_of log) + length (inserted x))) (answer_to x log) (early_if lacks (answer_within limit x log) (sym i ∙ e))
+
+pub early_sound : (lacks : Bool) (limit : ℕ) (log : List Operation) (o : Outcome) (v : Option (Option Operation)) → o ≡ Early → o ≡ outcome_there lacks limit log v → IfIsThere (λ x. has_bad_stamp x ≡ false) v
+early_sound lacks limit log o None i e = tt
+early_sound lacks limit log o (Some None) i e = tt
+early_sound lacks limit log o (Some (Some x)) i e = (waiting_from log x (or_left (is_early (answer_to x log)) (is_new (answer_to x log)) (early_here lacks limit log o x i e))).stamp
 
 not_left : (new stay found : Bool) → new ≡ false → stay ≡ false → (stay || (new && found)) ≡ false
 not_left true stay found n s = absurd (cc n)
@@ -181,12 +188,13 @@ module _ {Site : Type 0} (log : Site → List Operation) (after : Operation → 
     pub ready : AreReady limit wanting (log now) m waits
     pub none : lacks ≡ false → wanting ≡ []
 
-  pub going : (limit by known : ℕ) (older : List Operation) (site : Site) (m : BTreeMap Place (Option Operation)) (old new : Table) → HasGrownBy by older (log site) → IsHistory (log site) → known ≡ known_end (log site) by
-      → IsWoken by known old new → are_tried_at older old.keys old.again.items m.entries ≡ true → IsGoing false limit (holding log site (ops_in m.entries)) site site m new 0
-  going limit by known older site m old new g h i w a = record {
+  pub going : (limit by arrivals : ℕ) (older : List Operation) (site : Site) (m : BTreeMap Place (Option Operation)) (old new : Table) → HasGrownBy by older (log site)
+      → IsWoken by (log site) m old new → AreHeld arrivals m.entries → IsOrdered by_stamp_and_arrival m
+      → are_tried_at older old.keys old.again.items m.entries ≡ true → IsGoing false limit (holding log site (ops_in m.entries)) site site m new 0
+  going limit by arrivals older site m old new g w h s a = record {
     wanting = [];
     far = begins log after limit site (ops_in m.entries);
-    ready = started limit by known [] older (log site) m old new g h i w a;
+    ready = started limit by [] older (log site) m old new g w (each_keeps arrivals m h s) a;
     none = λ e. refl;
   }
 
@@ -196,25 +204,56 @@ module _ {Site : Type 0} (log : Site → List Operation) (after : Operation → 
     due_on : (q : Place) → is_due q old.due ≡ true → (is_due q due ≡ true) ⊎ (q ≡ p)
     due_on q d = elim (either (is_due q due) (is_at (by_stamp_and_arrival q) p) (first.others q d)) [ inl i ↦ inl i | inr i ↦ inr (this_place q p i) ]
 
-    -- it sleeps, or none stands there
-    pub slept : (o : Outcome) → o ≡ Sleeps → o ≡ outcome_there lacks limit (log now) old.keys p (get by_stamp_and_arrival m p)
+    -- none stands there
+    pub absent : (o : Outcome) → o ≡ Absent → o ≡ outcome_there lacks limit (log now) (get by_stamp_and_arrival m p)
         → IsGoing lacks limit state then_site now m (record { keys = old.keys; due = due; again = old.again }) count
-    slept o i e = record {
+    absent o i e = record {
       wanting = g.wanting;
       far = g.far;
       ready = λ q x f. elim (g.ready q x f) [
         | inl d ↦ elim (due_on q d) [
           | inl j ↦ inl j
-          | inr s ↦ (let h = outcome_here lacks limit (log now) old.keys m p o x e (subst (λ (r : Place). get by_stamp_and_arrival m r ≡ Some (Some x)) s f) in
-              let k = sleeps_if lacks (answer_within limit x (log now)) (are_kept old.keys (log now) p x) (sym i ∙ h) in
-              let early = not_yet (nat_lt limit (length (cells_of (log now)) + length (inserted x))) (answer_to x (log now)) k.0 in
-              let kept : are_kept old.keys (log now) q x ≡ true = subst (λ (r : Place). are_kept old.keys (log now) r x ≡ true) (sym s) k.1 in
-              inr (inr (rw early kept)))
+          | inr s ↦ (let h = outcome_here lacks limit (log now) m p o x e (subst (λ (r : Place). get by_stamp_and_arrival m r ≡ Some (Some x)) s f) in
+              absurd (never_absent lacks (answer_within limit x (log now)) (sym i ∙ h)))
         ]
         | inr j ↦ inr j
       ];
       none = g.none;
     }
+
+    -- it sleeps, or is looked at again
+    pub slept : (o : Outcome) → o ≡ Early → o ≡ outcome_there lacks limit (log now) (get by_stamp_and_arrival m p)
+        → (new : Table) → KeepsOthers p old.keys new.keys → heap_items new.due ≡ heap_items due → ((q : Place) → is_listed q old.again.items ≡ true → is_listed q new.again.items ≡ true)
+        → IfIsThere (λ x. (is_listed p new.again.items || are_kept new.keys (log now) p x) ≡ true) (get by_stamp_and_arrival m p)
+        → IsGoing lacks limit state then_site now m new count
+    slept o i e new others same more asleep = record {
+      wanting = g.wanting;
+      far = g.far;
+      ready = λ q x f. elim (g.ready q x f) [
+        | inl d ↦ elim (due_on q d) [
+          | inl j ↦ inl (ap (list_any (λ r. is_at (by_stamp_and_arrival q) r.0)) same ∙ j)
+          | inr s ↦ inr (here q x s f)
+        ]
+        | inr j ↦ inr (elim j [
+          | inl k ↦ inl (more q k.0, k.1)
+          | inr k ↦ split (is_at (by_stamp_and_arrival p) q)
+              (λ t. here q x (sym (this_place p q t)) f)
+              (λ t. inr (ap (λ b. is_early (answer_to x (log now)) && b) (kept_others p old.keys new.keys others q (keys_of (log now) x) t) ∙ k))
+        ])
+      ];
+      none = g.none;
+    }
+      where
+        here : (q : Place) (x : Operation) → q ≡ p → get by_stamp_and_arrival m q ≡ Some (Some x) → IsLeftAt limit g.wanting (log now) new q x
+        here q x s f =
+            let found : get by_stamp_and_arrival m p ≡ Some (Some x) = subst (λ (r : Place). get by_stamp_and_arrival m r ≡ Some (Some x)) s f in
+            let early = early_here lacks limit (log now) o x i (outcome_here lacks limit (log now) m p o x e found) in
+            let there : (is_listed p new.again.items || are_kept new.keys (log now) p x) ≡ true =
+            subst (IfIsThere (λ y. (is_listed p new.again.items || are_kept new.keys (log now) p y) ≡ true)) found asleep in
+            subst (λ (r : Place). IsLeftAt limit g.wanting (log now) new r x) (sym s) (elim (either (is_listed p new.again.items) (are_kept new.keys (log now) p x) there) [
+              | inl l ↦ inl (l, early_left (nat_lt limit (length (cells_of (log now)) + length (inserted x))) (answer_to x (log now)) (holds g.wanting x) early)
+              | inr k ↦ inr (rw early k)
+            ])
 
     -- one that was left, or is the one that is tried, is looked at again
     ready_again : (later : List Operation) (new : Table) (x : Operation) → get by_stamp_and_arrival m p ≡ Some (Some x) → new.keys ≡ old.keys → new.due ≡ due
@@ -269,12 +308,12 @@ module _ {Site : Type 0} (log : Site → List Operation) (after : Operation → 
       pub held : AreHeld arrivals less.entries
       pub length : suc (length less.entries) ≡ length m.entries
 
-    pub dropped : (o : Outcome) → o ≡ Dropped → o ≡ outcome_there lacks limit (log now) old.keys p (get by_stamp_and_arrival m p) → IsOrdered by_stamp_and_arrival m
+    pub dropped : (o : Outcome) → o ≡ Dropped → o ≡ outcome_there lacks limit (log now) (get by_stamp_and_arrival m p) → IsOrdered by_stamp_and_arrival m
         → (arrivals : ℕ) (less : BTreeMap Place (Option Operation)) (keys : BTreeSet Key) → AreHeld arrivals m.entries → IsSetAt p None m less → KeepsOthers p old.keys keys
         → less.entries ≡ remove_entry (is_at (by_stamp_and_arrival p)) m.entries → IsGone lacks now less (record { keys = keys; due = due; again = old.again }) arrivals count
     dropped o i e s arrivals less keys h set others r =
-        let t = there_if lacks limit (log now) old.keys m p o e (λ j. let k : Sleeps ≡ Dropped = j ∙ i in cc k) in
-        let d = dropped_if lacks (answer_within limit t.op (log now)) (are_kept old.keys (log now) p t.op) (sym i ∙ outcome_here lacks limit (log now) old.keys m p o t.op e t.found) in
+        let t = there_if lacks limit (log now) m p o e (λ j. let k : Absent ≡ Dropped = j ∙ i in cc k) in
+        let d = dropped_if lacks (answer_within limit t.op (log now)) (sym i ∙ outcome_here lacks limit (log now) m p o t.op e t.found) in
         let out = taken_from arrivals p t.op m.entries less.entries h (at_found m.entries p t.op s t.found) r in
         let l = not_left (is_new (answer_within limit t.op (log now))) (stays (answer_within limit t.op (log now))) (holds g.wanting t.op) d.0 d.1 in
         record {
@@ -296,20 +335,20 @@ module _ {Site : Type 0} (log : Site → List Operation) (after : Operation → 
         }
 
     -- what is to be taken is new
-    pub taken_new : (o : Outcome) → o ≡ Taken → o ≡ outcome_there lacks limit (log now) old.keys p (get by_stamp_and_arrival m p) → IsOrdered by_stamp_and_arrival m
+    pub taken_new : (o : Outcome) → o ≡ Taken → o ≡ outcome_there lacks limit (log now) (get by_stamp_and_arrival m p) → IsOrdered by_stamp_and_arrival m
         → IsNewAt limit (log now) m.entries p × (lacks ≡ false)
     taken_new o i e s =
-        let t = there_if lacks limit (log now) old.keys m p o e (λ j. let k : Sleeps ≡ Taken = j ∙ i in cc k) in
-        let d = taken_if lacks (answer_within limit t.op (log now)) (are_kept old.keys (log now) p t.op) (sym i ∙ outcome_here lacks limit (log now) old.keys m p o t.op e t.found) in
+        let t = there_if lacks limit (log now) m p o e (λ j. let k : Absent ≡ Taken = j ∙ i in cc k) in
+        let d = taken_if lacks (answer_within limit t.op (log now)) (sym i ∙ outcome_here lacks limit (log now) m p o t.op e t.found) in
         (record { op = t.op; there = at_found m.entries p t.op s t.found; new = d.0 }, d.1)
 
     pub took : IsNewAt limit (log now) m.entries p → lacks ≡ false → IsOrdered by_stamp_and_arrival m → IsHistory (log now)
-        → (site : Site) (arrivals by known : ℕ) (less : BTreeMap Place (Option Operation)) (new : Table) → AreHeld arrivals m.entries → IsHistory (log site)
+        → (site : Site) (arrivals by : ℕ) (less : BTreeMap Place (Option Operation)) (new : Table) → AreHeld arrivals m.entries
         → ((op : Operation) → IsAt p op m.entries → site ≡ after op now) → ((op : Operation) → IsAt p op m.entries → log site ≡ with_operation op (log now))
-        → ((op : Operation) → IsAt p op m.entries → by ≡ op.site) → known ≡ known_end (log site) by
-        → IsWoken by known (record { keys = old.keys; due = due; again = old.again }) new
+        → ((op : Operation) → IsAt p op m.entries → by ≡ op.site)
+        → IsWoken by (log site) less (record { keys = old.keys; due = due; again = old.again }) new
         → IsSetAt p None m less → less.entries ≡ remove_entry (is_at (by_stamp_and_arrival p)) m.entries → IsGone lacks site less new arrivals (count + 1)
-    took t n s history site arrivals by known less new h later is_after is_log is_by is_known w set r =
+    took t n s history site arrivals by less new h is_after is_log is_by w set r =
         let op = t.op in
         let l = is_log op t.there in
         let b = is_by op t.there in
@@ -326,7 +365,7 @@ module _ {Site : Type 0} (log : Site → List Operation) (after : Operation → 
               | inl u ↦ elim (due_on q u) [ inl j ↦ inl (w.due q j) | inr j ↦ absurd (other_place q n j) ]
               | inr u ↦ elim u [
                 | inl j ↦ inl (w.again q j.0)
-                | inr j ↦ elim (woken by known (log now) (log site) (record { keys = old.keys; due = due; again = old.again }) new grown later is_known w q x j) [ inl k ↦ inl k | inr k ↦ inr (inr k) ]
+                | inr j ↦ elim (either (is_due q new.due) (sleeps new.keys (log site) q x) (w.asleep (log now) grown q x f (each_keeps arrivals m h s q x was) j)) [ inl k ↦ inl k | inr k ↦ inr (inr k) ]
               ]
             ];
             none = g.none;

@@ -55,7 +55,7 @@ named_target (Tag on name spans) s = spans_name spans s
 pub character_stays : (older log : List Operation) → AreIn older log → (s : Stamp) → has_character older s ≡ true → has_character log s ≡ true
 character_stays older log sub s h = let (x, i, t) = insert_of older s h in character_of log x s (sub x i) t
 
-end_stays : (older log : List Operation) → AreIn older log → (site : ℕ) → known_end older site ≤ known_end log site
+pub end_stays : (older log : List Operation) → AreIn older log → (site : ℕ) → known_end older site ≤ known_end log site
 end_stays older log sub site = elim (cases_lt 0 (known_end older site)) [
   | inl l ↦ (let (x, i, s, t) = end_reached older site l in let a = end_of log x (sub x i) in let b = ap (known_end log) s in omega (arith, a, b, t))
   | inr l ↦ omega (arith, l)
@@ -186,7 +186,7 @@ unpassed_at older log (span ∷ spans) s n i z l =
     (λ e. unpassed_at older log spans s b.1 (grind (arith, i, e)) z l)
 
 -- a span's keys stay
-key_stays : (older log : List Operation) → AreIn older log → (span : Span) → list_any (is_passed log) (key_in older span) ≡ false → key_in log span ≡ key_in older span
+pub key_stays : (older log : List Operation) → AreIn older log → (span : Span) → list_any (is_passed log) (key_in older span) ≡ false → key_in log span ≡ key_in older span
 key_stays older log sub span n =
     let g = end_stays older log sub span.site in
     split (goes_on older span)

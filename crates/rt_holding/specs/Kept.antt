@@ -12,7 +12,7 @@ use Rattle.rt_ops.specs.Rules.{keeps_rules}
 use Rattle.rt_oplog.specs.Logs.{Has}
 use Rattle.rt_rga.specs.Answers.{Answer, New, Repeat, Refused, answer_within}
 use Rattle.rt_holding.specs.declared.trying.Outcome.{Outcome}
-use Rattle.rt_holding.specs.declared.trying.Outcome.TheVariants.{Taken, Waits, Sleeps, Dropped}
+use Rattle.rt_holding.specs.declared.trying.Outcome.TheVariants.{Taken, Waits, Early, Dropped}
 use Rattle.rt_holding.specs.Holding.{most_held}
 use Rattle.rt_holding.specs.Runs.{AreOnce, AreRising}
 
@@ -56,14 +56,13 @@ pub record IsAt (place : Place) (op : Operation) (entries : List Entry) : Type 0
   pub is : entries ≡ front ++ (place, Some op) ∷ behind
   pub before : AllByRecursion (λ e. by_stamp_and_arrival place e.0 ≡ Greater) front
 
--- what becomes of a held operation that is tried: by whether memory was wanting before, by what is answered, and by whether all its
--- keys are kept
-abbrev pub outcome_of : Bool → Answer → Bool → Outcome
-outcome_of lacks New kept = if lacks then Waits else Taken
-outcome_of lacks Repeat kept = Dropped
-outcome_of lacks (Refused NotYet) kept = if kept then Sleeps else Waits
-outcome_of lacks (Refused TextFull) kept = Waits
-outcome_of lacks (Refused _) kept = Dropped
+-- what becomes of a held operation that is tried: by whether memory was wanting before, and by what is answered
+abbrev pub outcome_of : Bool → Answer → Outcome
+outcome_of lacks New = if lacks then Waits else Taken
+outcome_of lacks Repeat = Dropped
+outcome_of lacks (Refused NotYet) = Early
+outcome_of lacks (Refused TextFull) = Waits
+outcome_of lacks (Refused _) = Dropped
 
 -- at a place stands one that is new
 pub record IsNewAt (limit : ℕ) (log : List Operation) (entries : List Entry) (place : Place) : Type 0 where

@@ -12,3 +12,4 @@ pub mod Runs
 pub mod Taken
 pub mod Waiting
 pub mod Waits
+pub mod Waking

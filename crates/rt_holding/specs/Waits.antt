@@ -14,7 +14,7 @@ use Rattle.rt_rga.specs.Answers.{answer_to, answer_within}
 use Rattle.rt_holding.specs.declared.waits.Key.{Key}
 use Rattle.rt_holding.specs.declared.waits.Waits.{Waits}
 use Rattle.rt_holding.specs.declared.trying.Outcome.{Outcome}
-use Rattle.rt_holding.specs.declared.trying.Outcome.TheVariants.{Sleeps}
+use Rattle.rt_holding.specs.declared.trying.Outcome.TheVariants.{Absent}
 use Rattle.rt_holding.specs.Holding.{is_early}
 use Rattle.rt_holding.specs.Kept.{Entry, Place, by_stamp_and_arrival, outcome_of}
 use Rattle.rt_holding.specs.Waiting.{keys_of}
@@ -72,14 +72,6 @@ pub record IsPassedIn (keys : BTreeSet Key) (site known : ℕ) (key : Key) : Typ
 abbrev pub LeavesNone : BTreeSet Key → ℕ → ℕ → Type 0
 LeavesNone keys site known = (key : Key) → key.site ≡ site → key.count ≤ known → contains by_key keys key ≡ false
 
--- The known end of a site came to a count: those are due that waited for that, or were looked at again. Other keys stay.
-pub record IsWoken (site known : ℕ) (old new : Waits) : Type 0 where
-  pub due : (p : Place) → is_due p old.due ≡ true → is_due p new.due ≡ true
-  pub again : (p : Place) → is_listed p old.again.items ≡ true → is_due p new.due ≡ true
-  pub passed : (key : Key) → contains by_key old.keys key ≡ true → key.site ≡ site → key.count ≤ known → is_due key.place new.due ≡ true
-  pub kept : (key : Key) → (key.site ≡ site → key.count ≤ known → ⊥) → contains by_key new.keys key ≡ contains by_key old.keys key
-  pub all : all_listed new ≤ all_listed old
-
 -- keys of other places stay
 abbrev pub KeepsOthers : Place → BTreeSet Key → BTreeSet Key → Type 0
 KeepsOthers place old new = (key : Key) → is_at (by_stamp_and_arrival place) key.place ≡ false → contains by_key new key ≡ contains by_key old key
@@ -87,6 +79,7 @@ KeepsOthers place old new = (key : Key) → is_at (by_stamp_and_arrival place) k
 -- keys of a place may have been put in, and nothing else changed
 pub record IsKeyedMore (place : Place) (old new : Waits) : Type 0 where
   pub keys : KeepsOthers place old.keys new.keys
+  pub more : (key : Key) → contains by_key old.keys key ≡ true → contains by_key new.keys key ≡ true
   pub due : heap_items new.due ≡ heap_items old.due
   pub again : new.again.items ≡ old.again.items
 
@@ -96,10 +89,16 @@ IsSetAt place kept old new =
     (at : Place) → get by_stamp_and_arrival new at ≡ cond (is_at (by_stamp_and_arrival place) at) kept (get by_stamp_and_arrival old at)
 
 -- what becomes of the operation at a place; nothing does where there is none
-abbrev pub outcome_there : Bool → ℕ → List Operation → BTreeSet Key → Place → Option (Option Operation) → Outcome
-outcome_there lacks limit log keys place None = Sleeps
-outcome_there lacks limit log keys place (Some None) = Sleeps
-outcome_there lacks limit log keys place (Some (Some op)) = outcome_of lacks (answer_within limit op log) (are_kept keys log place op)
+abbrev pub outcome_there : Bool → ℕ → List Operation → Option (Option Operation) → Outcome
+outcome_there lacks limit log None = Absent
+outcome_there lacks limit log (Some None) = Absent
+outcome_there lacks limit log (Some (Some op)) = outcome_of lacks (answer_within limit op log)
+
+-- what is said of the operation at a place, if there is one
+abbrev pub IfIsThere : (Operation → Type 0) → Option (Option Operation) → Type 0
+IfIsThere P None = Unit {0}
+IfIsThere P (Some None) = Unit {0}
+IfIsThere P (Some (Some op)) = P op
 
 -- an operation comes too early, and all its keys are kept
 abbrev pub sleeps : BTreeSet Key → List Operation → Place → Operation → Bool

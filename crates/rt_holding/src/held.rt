@@ -5,8 +5,9 @@ ghost use Rattle.rt_ops.specs.Operations.{Operation};
 ghost use Rattle.rt_oplog.specs.Logs.{holds};
 
 use crate::taking::Taking;
-use crate::trying::{Ops, Outcome, drop_at, outcome_at, place_of, take_at, take_away};
-use crate::waits::{Waits, forget, keep, pop_first, prepare, wake};
+use crate::trying::{Ops, Outcome, drop_at, outcome_at, place_of, sleep, take_at, take_away};
+use crate::waits::{Waits, forget, keep, pop_first, prepare};
+use crate::waking::wake;
 use rt_oplog::Op;
 use rt_rga::Offer;
 use rt_stamps::Fault;
@@ -122,7 +123,7 @@ impl Held {
             }
             Err(refused) => {
                 if let Some(op) = refused.value.1 {
-                    forget(&mut self.waits.keys, &op, place);
+                    forget(site, &mut self.waits.keys, &op, place);
                 }
                 Err(Fault::NoMemory)
             }
@@ -141,16 +142,16 @@ impl Held {
         if self.ops.len() == 0 && self.waits.are_over() {
             return 0;
         }
-        wake(&mut self.waits, made_by, site.known(made_by));
+        wake(site, &self.ops, &mut self.waits, made_by);
         let mut taken = 0;
         let mut lacks = false;
         while let Some(place) = pop_first(&mut self.waits.due) {
-            match outcome_at(site, &self.ops, &self.waits.keys, place, lacks) {
+            match outcome_at(site, &self.ops, place, lacks) {
                 Outcome::Taken => {
                     match take_at(site, &mut self.ops, place) {
                         Ok(by) => {
                             taken += 1;
-                            wake(&mut self.waits, by, site.known(by));
+                            wake(site, &self.ops, &mut self.waits, by);
                         }
                         Err(AllocError) => {
                             lacks = true;
@@ -159,8 +160,9 @@ impl Held {
                     }
                 }
                 Outcome::Waits => keep(&mut self.waits, place),
-                Outcome::Sleeps => {}
-                Outcome::Dropped => drop_at(&mut self.ops, &mut self.waits.keys, place),
+                Outcome::Early => sleep(site, &self.ops, &mut self.waits, place),
+                Outcome::Absent => {}
+                Outcome::Dropped => drop_at(site, &mut self.ops, &mut self.waits.keys, place),
             }
         }
         taken

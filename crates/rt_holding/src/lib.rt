@@ -8,6 +8,7 @@ pub mod receiving;
 mod taking;
 mod trying;
 mod waits;
+mod waking;
 
 pub use held::{Held, MOST_HELD, Offered};
 pub use receiving::{Received, receive};

@@ -1,16 +1,17 @@
 // Held operations are tried.
-ghost use Rattle.std.specs.Prelude.{◌≡◌, ◌≤◌, false, length, IfNone, IfOk, IfSome, None, OnErr, OnOk, Some};
+ghost use Rattle.std.specs.Prelude.{◌≡◌, ◌≤◌, ◌||◌, false, true, length, IfNone, IfOk, IfSome, None, OnErr, OnOk, Some};
 ghost use Rattle.std.specs.Map.{remove_entry};
+ghost use Rattle.std.specs.BinaryHeap.{heap_items};
 ghost use Rattle.std.specs.BTreeMap.{IsOrdered, get, insert_entry, is_at};
 ghost use Rattle.std.specs.List.{AllByRecursion};
-ghost use Rattle.rt_ops.specs.Operations.{Operation};
+ghost use Rattle.rt_ops.specs.Operations.{Operation, has_bad_stamp};
 ghost use Rattle.rt_oplog.specs.Logs.{holds, with_operation};
 ghost use Rattle.rt_rga.specs.Answers.{answer_within};
-ghost use Rattle.rt_holding.specs.Kept.{IsAt, IsInPlace, IsNewAt, by_stamp_and_arrival, ops_in, outcome_of};
-ghost use Rattle.rt_holding.specs.Waits.{IsSetAt, KeepsOthers, are_kept, outcome_there};
+ghost use Rattle.rt_holding.specs.Kept.{IsAt, IsInPlace, IsNewAt, Place, by_stamp_and_arrival, ops_in, outcome_of};
+ghost use Rattle.rt_holding.specs.Waits.{IfIsThere, IsReady, IsSetAt, KeepsOthers, are_kept, is_listed, outcome_there};
 
 use crate::taking::Taking;
-use crate::waits::{Keys, are_all_kept, forget};
+use crate::waits::{Keys, Waits, forget, keep, put_keys};
 use rt_oplog::{Op, is_same};
 use rt_rga::Offer;
 use rt_stamps::{Fault, Stamp};
@@ -30,15 +31,17 @@ pub(crate) enum Outcome {
     Taken,
     /// It stays, and is looked at again.
     Waits,
-    /// It stays, and isn't looked at until one of its keys is passed.
-    Sleeps,
+    /// It comes too early still.
+    Early,
     /// It is refused for good.
     Dropped,
+    /// None is there.
+    Absent,
 }
 
 /// What becomes of a held operation that is tried. Where memory was wanting before, none is taken.
-fn outcome_for<T: Taking>(site: &T, keys: &Keys, op: &Op, place: Place, lacks: bool) -> Outcome
-    ensures { result ≡ outcome_of lacks (answer_within (T.limit site.now) op.now (T.log site.now)) (are_kept keys.now (T.log site.now) place op.now) }
+fn outcome_for<T: Taking>(site: &T, op: &Op, lacks: bool) -> Outcome
+    ensures { result ≡ outcome_of lacks (answer_within (T.limit site.now) op.now (T.log site.now)) }
 {
     match site.answer(op) {
         Ok(Offer::New) => {
@@ -49,32 +52,39 @@ fn outcome_for<T: Taking>(site: &T, keys: &Keys, op: &Op, place: Place, lacks: b
             }
         }
         Ok(Offer::Repeat) => Outcome::Dropped,
-        Err(Fault::NotYet) => {
-            if are_all_kept(site, keys, op, place) {
-                Outcome::Sleeps
-            } else {
-                Outcome::Waits
-            }
-        }
+        Err(Fault::NotYet) => Outcome::Early,
         Err(Fault::TextFull) => Outcome::Waits,
         Err(_) => Outcome::Dropped,
     }
 }
 
 /// What becomes of the operation at a place that is tried.
-pub(crate) fn outcome_at<T: Taking>(
-    site: &T,
-    ops: &Ops,
-    keys: &Keys,
-    place: Place,
-    lacks: bool,
-) -> Outcome
-    ensures { result ≡ outcome_there lacks (T.limit site.now) (T.log site.now) keys.now place (get by_stamp_and_arrival ops.now place) }
+pub(crate) fn outcome_at<T: Taking>(site: &T, ops: &Ops, place: Place, lacks: bool) -> Outcome
+    ensures { result ≡ outcome_there lacks (T.limit site.now) (T.log site.now) (get by_stamp_and_arrival ops.now place) }
 {
     match ops.get(&place) {
-        Some(Some(op)) => outcome_for(site, keys, op, place, lacks),
-        _ => Outcome::Sleeps,
+        Some(Some(op)) => outcome_for(site, op, lacks),
+        _ => Outcome::Absent,
     }
+}
+
+/// The operation at a place comes too early: it sleeps, with all its keys kept. It is looked at again where they find no memory.
+pub(crate) fn sleep<T: Taking>(site: &T, ops: &Ops, waits: &mut Waits, place: Place)
+    requires ready { IsReady 1 waits.old }
+    requires sound { IfIsThere (λ op. has_bad_stamp op ≡ false) (get by_stamp_and_arrival ops.now place) }
+    ensures ready { IsReady 0 waits.new }
+    ensures keys { KeepsOthers place waits.old.keys waits.new.keys }
+    ensures due { heap_items waits.new.due ≡ heap_items waits.old.due }
+    ensures again { (p : Place) → is_listed p waits.old.again.items ≡ true → is_listed p waits.new.again.items ≡ true }
+    ensures asleep { IfIsThere (λ op. (is_listed place waits.new.again.items || are_kept waits.new.keys (T.log site.now) place op) ≡ true)
+        (get by_stamp_and_arrival ops.now place) }
+{
+    if let Some(Some(op)) = ops.get(&place) {
+        if put_keys(site, waits, op, place).is_ok() {
+            return;
+        }
+    }
+    keep(waits, place);
 }
 
 /// Where an operation is held, if it is: looks at those of its stamp.
@@ -106,7 +116,7 @@ fn take_out(ops: &mut Ops, place: Place) -> Op
 }
 
 /// Drops the place, with the operation at it and its keys, if there is one.
-pub(crate) fn drop_at(ops: &mut Ops, keys: &mut Keys, place: Place)
+pub(crate) fn drop_at<T: Taking>(site: &T, ops: &mut Ops, keys: &mut Keys, place: Place)
     ensures entries { ops.new.entries ≡ remove_entry (is_at (by_stamp_and_arrival place)) ops.old.entries }
     ensures others { IsSetAt place None ops.old ops.new }
     ensures ordered { IsOrdered by_stamp_and_arrival ops.new }
@@ -114,7 +124,7 @@ pub(crate) fn drop_at(ops: &mut Ops, keys: &mut Keys, place: Place)
     ensures fewer { length keys.new.keys ≤ length keys.old.keys }
 {
     if let Some(op) = ops.remove(&place).flatten() {
-        forget(keys, &op, place);
+        forget(site, keys, &op, place);
     }
 }
 

@@ -1,5 +1,5 @@
 // Which of the held operations may be tried, and at which counts others may be.
-ghost use Rattle.std.specs.Prelude.{◌≡◌, ℕ, ◌+◌, ◌<◌, ◌≤◌, ◌==◌, ◌&&◌, ◌||◌, vec_len, Bool, true, false, [], length, IfNone, IfSome, OnOk, OnSome};
+ghost use Rattle.std.specs.Prelude.{◌≡◌, ℕ, ◌+◌, ◌<◌, ◌≤◌, ◌==◌, ◌&&◌, ◌||◌, ◌∷◌, vec_len, Bool, true, false, [], length, IfNone, IfSome, OnOk, OnSome};
 ghost use Rattle.std.specs.List.{flat_map, list_all};
 ghost use Rattle.std.specs.BinaryHeap.{IsHeap, KeepsHeap, heap_capacity, heap_items, heap_len};
 ghost use Rattle.std.specs.BTreeMap.{is_at};
@@ -7,7 +7,7 @@ ghost use Rattle.std.specs.BTreeSet.{contains};
 ghost use Rattle.rt_ops.specs.Operations.{has_bad_stamp};
 ghost use Rattle.rt_holding.specs.Kept.{Place, by_stamp_and_arrival};
 ghost use Rattle.rt_holding.specs.Waiting.{key_in};
-ghost use Rattle.rt_holding.specs.Waits.{IsFirstDue, IsKeyedMore, IsPassedIn, IsReady, IsWoken, KeepsOthers, LeavesNone, all_listed, are_kept, by_key, by_later, has_key, is_due, is_listed, least_key};
+ghost use Rattle.rt_holding.specs.Waits.{IsFirstDue, IsKeyedMore, IsPassedIn, IsReady, KeepsOthers, LeavesNone, are_kept, by_key, by_later, has_key, is_due, is_listed, least_key};
 
 use crate::taking::Taking;
 use crate::trying::Place;
@@ -61,7 +61,7 @@ impl Waits {
 // WHAT IS DUE
 
 /// One more is due.
-fn push_due(due: &mut Due, place: Place)
+pub(crate) fn push_due(due: &mut Due, place: Place)
     requires { heap_len due.old < heap_capacity due.old }
     ensures due { (p : Place) → is_due p due.new ≡ is_at (by_stamp_and_arrival p) place || is_due p due.old }
     ensures len { heap_len due.new ≡ heap_len due.old + 1 }
@@ -110,7 +110,6 @@ pub(crate) fn keep(waits: &mut Waits, place: Place)
     ensures listed { (p : Place) → is_listed p waits.new.again.items ≡ is_listed p waits.old.again.items || is_at (by_stamp_and_arrival p) place }
     ensures keys { waits.new.keys ≡ waits.old.keys }
     ensures due { waits.new.due ≡ waits.old.due }
-    ensures all { all_listed waits.new ≡ all_listed waits.old + 1 }
 {
     let pushed: Result<_, _> = waits.again.push(place);
     pushed.unwrap();
@@ -132,7 +131,7 @@ impl Key {
 }
 
 /// The first key of a site to which its known end has come.
-fn first_passed(keys: &Keys, site: u16, known: u64) -> Option<Key>
+pub(crate) fn first_passed(keys: &Keys, site: u16, known: u64) -> Option<Key>
     ensures some { IfSome result (IsPassedIn keys.now site known) }
     ensures none { IfNone result (LeavesNone keys.now site known) }
 {
@@ -146,36 +145,20 @@ fn first_passed(keys: &Keys, site: u16, known: u64) -> Option<Key>
 }
 
 /// All that are looked at again are due.
-fn look_again(waits: &mut Waits)
+pub(crate) fn look_again(waits: &mut Waits)
     requires { IsReady 0 waits.old }
     ensures ready { IsReady 0 waits.new }
     ensures keys { waits.new.keys ≡ waits.old.keys }
     ensures due { (p : Place) → is_due p waits.old.due ≡ true → is_due p waits.new.due ≡ true }
     ensures again { (p : Place) → is_listed p waits.old.again.items ≡ true → is_due p waits.new.due ≡ true }
-    ensures all { all_listed waits.new ≤ all_listed waits.old }
 {
     while let Some(place) = waits.again.pop() {
         push_due(&mut waits.due, place);
     }
 }
 
-/// The known end of a site has come to a count: all are due that wait for that, or are looked at again.
-pub(crate) fn wake(waits: &mut Waits, site: u16, known: u64)
-    requires { IsReady 0 waits.old }
-    ensures ready { IsReady 0 waits.new }
-    ensures woken { IsWoken site known waits.old waits.new }
-{
-    look_again(waits);
-    while let Some(key) = first_passed(&waits.keys, site, known) {
-        let _was_there = waits.keys.remove(&key);
-        push_due(&mut waits.due, key.place);
-    }
-}
-
-// WHAT AN OPERATION WAITS FOR
-
 /// Whether a key is kept.
-fn has_it(keys: &Keys, stamp: Stamp, place: Place) -> bool
+pub(crate) fn has_it(keys: &Keys, stamp: Stamp, place: Place) -> bool
     ensures { result ≡ has_key keys.now place stamp }
 {
     keys.contains(&Key {
@@ -185,73 +168,7 @@ fn has_it(keys: &Keys, stamp: Stamp, place: Place) -> bool
     })
 }
 
-/// Whether the key is kept of what a span names past the known end of its site, if it does.
-fn is_span_kept<T: Taking>(site: &T, keys: &Keys, span: Span, place: Place) -> bool
-    ensures { result ≡ list_all (has_key keys.now place) (key_in (T.log site.now) span) }
-{
-    if span.site == 0 || span.last < span.first {
-        return true;
-    }
-    let known = site.known(span.site);
-    if span.last <= known {
-        return true;
-    }
-    let count = span.first.max(known + 1);
-    has_it(
-        keys,
-        Stamp {
-            count,
-            site: span.site,
-        },
-        place,
-    )
-}
-
-/// Whether they are of all spans.
-fn are_spans_kept<T: Taking>(site: &T, keys: &Keys, spans: &[Span], place: Place) -> bool
-    ensures { result ≡ list_all (has_key keys.now place) (flat_map (key_in (T.log site.now)) spans.now) }
-{
-    for span in spans {
-        if !is_span_kept(site, keys, *span, place) {
-            return false;
-        }
-    }
-    true
-}
-
-/// Whether all keys of an operation at a place are kept.
-pub(crate) fn are_all_kept<T: Taking>(site: &T, keys: &Keys, op: &Op, place: Place) -> bool
-    requires { has_bad_stamp op.now ≡ false }
-    ensures { result ≡ are_kept keys.now (T.log site.now) place op.now }
-{
-    let own = op.site();
-    let prev = op.prev();
-    if site.known(own) < prev {
-        return has_it(
-            keys,
-            Stamp {
-                count: prev,
-                site: own,
-            },
-            place,
-        );
-    }
-    if !has_it(
-        keys,
-        Stamp {
-            count: prev + 1,
-            site: own,
-        },
-        place,
-    ) {
-        return false;
-    }
-    match op.edit() {
-        Edit::Insert { after, .. } => is_span_kept(site, keys, only(*after), place),
-        Edit::Delete { spans } => are_spans_kept(site, keys, spans, place),
-        Edit::Tag { spans, .. } => are_spans_kept(site, keys, spans, place),
-    }
-}
+// WHAT AN OPERATION WAITS FOR
 
 /// A stamp alone.
 fn only(stamp: Stamp) -> Span
@@ -264,34 +181,46 @@ fn only(stamp: Stamp) -> Span
     }
 }
 
-/// Makes room for one more, among those that are due and those that are looked at again.
+/// The first stamp of a span past the known end of its site, if there is one.
+fn next_of<T: Taking>(site: &T, span: Span) -> Option<Stamp>
+    ensures some { IfSome result (λ stamp. key_in (T.log site.now) span ≡ stamp ∷ []) }
+    ensures none { IfNone result (key_in (T.log site.now) span ≡ []) }
+{
+    if span.site == 0 || span.last < span.first {
+        return None;
+    }
+    let known = site.known(span.site);
+    if span.last <= known {
+        return None;
+    }
+    let count = span.first.max(known + 1);
+    Some(Stamp {
+        count,
+        site: span.site,
+    })
+}
+
+/// Makes room for two more, among those that are due and those that are looked at again.
 fn make_room(waits: &mut Waits) -> Result<(), AllocError>
     requires { IsReady 0 waits.old }
-    ensures ready { IsReady 0 waits.new }
-    ensures room { OnOk result (IsReady 1 waits.new) }
+    ensures ready { (more : ℕ) → IsReady more waits.old → IsReady more waits.new }
+    ensures room { OnOk result (IsReady 2 waits.new) }
     ensures keys { waits.new.keys ≡ waits.old.keys }
     ensures due { heap_items waits.new.due ≡ heap_items waits.old.due }
     ensures again { waits.new.again.items ≡ waits.old.again.items }
 {
-    let keys = waits.keys.len() + 1;
+    let keys = waits.keys.len() + 2;
     waits.due.reserve(waits.again.len() + keys)?;
     waits.again.reserve(waits.due.len() + keys)
 }
 
-/// One more key, where the known end of its site hasn't come to it.
-fn put_key<T: Taking>(
-    site: &T,
-    waits: &mut Waits,
-    stamp: Stamp,
-    place: Place,
-) -> Result<(), AllocError>
-    requires { IsReady 0 waits.old }
-    ensures ready { IsReady 0 waits.new }
+/// One more key.
+fn put_key(waits: &mut Waits, stamp: Stamp, place: Place) -> Result<(), AllocError>
+    requires { IsReady 1 waits.old }
+    ensures ready { IsReady 1 waits.new }
     ensures keyed { IsKeyedMore place waits.old waits.new }
+    ensures kept { OnOk result (has_key waits.new.keys place stamp ≡ true) }
 {
-    if stamp.count <= site.known(stamp.site) {
-        return Ok(());
-    }
     make_room(waits)?;
     let key = Key {
         site: stamp.site,
@@ -304,59 +233,77 @@ fn put_key<T: Taking>(
     }
 }
 
-/// One for the first stamp of each span.
+/// That of a span, if it goes past the known end of its site.
+fn put_span<T: Taking>(
+    site: &T,
+    waits: &mut Waits,
+    span: Span,
+    place: Place,
+) -> Result<(), AllocError>
+    requires { IsReady 1 waits.old }
+    ensures ready { IsReady 1 waits.new }
+    ensures keyed { IsKeyedMore place waits.old waits.new }
+    ensures kept { OnOk result (list_all (has_key waits.new.keys place) (key_in (T.log site.now) span) ≡ true) }
+{
+    match next_of(site, span) {
+        Some(stamp) => put_key(waits, stamp, place),
+        None => Ok(()),
+    }
+}
+
+/// Those of all spans.
 fn put_spans<T: Taking>(
     site: &T,
     waits: &mut Waits,
     spans: &[Span],
     place: Place,
 ) -> Result<(), AllocError>
-    requires { IsReady 0 waits.old }
-    ensures ready { IsReady 0 waits.new }
+    requires { IsReady 1 waits.old }
+    ensures ready { IsReady 1 waits.new }
     ensures keyed { IsKeyedMore place waits.old waits.new }
+    ensures kept { OnOk result (list_all (has_key waits.new.keys place) (flat_map (key_in (T.log site.now)) spans.now) ≡ true) }
 {
     for span in spans {
-        put_key(
-            site,
-            waits,
-            Stamp {
-                count: span.first,
-                site: span.site,
-            },
-            place,
-        )?;
+        put_span(site, waits, *span, place)?;
     }
     Ok(())
 }
 
-/// Those of an operation: for the one before it, for one in its own place, and for what it names.
-fn put_keys<T: Taking>(site: &T, waits: &mut Waits, op: &Op, place: Place) -> Result<(), AllocError>
-    requires { IsReady 0 waits.old }
-    ensures ready { IsReady 0 waits.new }
+/// Those of an operation: for the one before it; or for one in its own place, and for what it names.
+pub(crate) fn put_keys<T: Taking>(
+    site: &T,
+    waits: &mut Waits,
+    op: &Op,
+    place: Place,
+) -> Result<(), AllocError>
+    requires sound { has_bad_stamp op.now ≡ false }
+    requires ready { IsReady 1 waits.old }
+    ensures ready { IsReady 1 waits.new }
     ensures keyed { IsKeyedMore place waits.old waits.new }
+    ensures kept { OnOk result (are_kept waits.new.keys (T.log site.now) place op.now ≡ true) }
 {
     let own = op.site();
     let prev = op.prev();
+    if site.known(own) < prev {
+        return put_key(
+            waits,
+            Stamp {
+                count: prev,
+                site: own,
+            },
+            place,
+        );
+    }
     put_key(
-        site,
         waits,
         Stamp {
-            count: prev,
-            site: own,
-        },
-        place,
-    )?;
-    put_key(
-        site,
-        waits,
-        Stamp {
-            count: prev.saturating_add(1),
+            count: prev + 1,
             site: own,
         },
         place,
     )?;
     match op.edit() {
-        Edit::Insert { after, .. } => put_key(site, waits, *after, place),
+        Edit::Insert { after, .. } => put_span(site, waits, only(*after), place),
         Edit::Delete { spans } => put_spans(site, waits, spans, place),
         Edit::Tag { spans, .. } => put_spans(site, waits, spans, place),
     }
@@ -369,15 +316,19 @@ pub(crate) fn prepare<T: Taking>(
     op: &Op,
     place: Place,
 ) -> Result<(), AllocError>
-    requires { IsReady 0 waits.old }
+    requires sound { has_bad_stamp op.now ≡ false }
+    requires ready { IsReady 0 waits.old }
     ensures ready { IsReady 0 waits.new }
     ensures room { OnOk result (IsReady 1 waits.new) }
-    ensures keyed { IsKeyedMore place waits.old waits.new }
+    ensures others { KeepsOthers place waits.old.keys waits.new.keys }
+    ensures due { heap_items waits.new.due ≡ heap_items waits.old.due }
+    ensures again { waits.new.again.items ≡ waits.old.again.items }
 {
-    if put_keys(site, waits, op, place).is_ok() && make_room(waits).is_ok() {
+    make_room(waits)?;
+    if put_keys(site, waits, op, place).is_ok() {
         return Ok(());
     }
-    forget(&mut waits.keys, op, place);
+    forget(site, &mut waits.keys, op, place);
     Err(AllocError)
 }
 
@@ -393,24 +344,27 @@ fn drop_key(keys: &mut Keys, stamp: Stamp, place: Place)
     });
 }
 
-fn drop_spans(keys: &mut Keys, spans: &[Span], place: Place)
+/// That of a span, as far as its site has come.
+fn drop_span<T: Taking>(site: &T, keys: &mut Keys, span: Span, place: Place)
+    ensures others { KeepsOthers place keys.old keys.new }
+    ensures fewer { length keys.new.keys ≤ length keys.old.keys }
+{
+    if let Some(stamp) = next_of(site, span) {
+        drop_key(keys, stamp, place);
+    }
+}
+
+fn drop_spans<T: Taking>(site: &T, keys: &mut Keys, spans: &[Span], place: Place)
     ensures others { KeepsOthers place keys.old keys.new }
     ensures fewer { length keys.new.keys ≤ length keys.old.keys }
 {
     for span in spans {
-        drop_key(
-            keys,
-            Stamp {
-                count: span.first,
-                site: span.site,
-            },
-            place,
-        );
+        drop_span(site, keys, *span, place);
     }
 }
 
 /// Takes out the keys of an operation at a place.
-pub(crate) fn forget(keys: &mut Keys, op: &Op, place: Place)
+pub(crate) fn forget<T: Taking>(site: &T, keys: &mut Keys, op: &Op, place: Place)
     ensures others { KeepsOthers place keys.old keys.new }
     ensures fewer { length keys.new.keys ≤ length keys.old.keys }
 {
@@ -433,8 +387,8 @@ pub(crate) fn forget(keys: &mut Keys, op: &Op, place: Place)
         place,
     );
     match op.edit() {
-        Edit::Insert { after, .. } => drop_key(keys, *after, place),
-        Edit::Delete { spans } => drop_spans(keys, spans, place),
-        Edit::Tag { spans, .. } => drop_spans(keys, spans, place),
+        Edit::Insert { after, .. } => drop_span(site, keys, only(*after), place),
+        Edit::Delete { spans } => drop_spans(site, keys, spans, place),
+        Edit::Tag { spans, .. } => drop_spans(site, keys, spans, place),
     }
 }

@@ -3,7 +3,7 @@ use Rattle.rt_holding.specs.Waits.{KeepsOthers}
 use Rattle.rt_holding.proofs.waits.drop_spans.Given as goal
 
 abbrev pub invariant-loop-span : goal.invariant-loop-span
-invariant-loop-span l = record {
+invariant-loop-span g l = record {
   others : KeepsOthers l.place l.initial.keys l.keys;
   fewer : length l.keys.keys ≤ length l.initial.keys.keys;
 }

@@ -1,6 +1,6 @@
-use Rattle.std.proofs.Common.{◌≡◌, ◌≤◌, ◌||◌, true, vec_len}
+use Rattle.std.proofs.Common.{◌≡◌, ◌||◌, true, vec_len}
 use Rattle.rt_holding.specs.Kept.{Place}
-use Rattle.rt_holding.specs.Waits.{IsReady, all_listed, is_due, is_listed}
+use Rattle.rt_holding.specs.Waits.{IsReady, is_due, is_listed}
 use Rattle.rt_holding.proofs.waits.look_again.Given as goal
 
 abbrev pub invariant-loop-place : goal.invariant-loop-place
@@ -9,7 +9,6 @@ invariant-loop-place l = record {
   keys : l.waits.keys ≡ l.initial.waits.keys;
   due : (p : Place) → is_due p l.initial.waits.due ≡ true → is_due p l.waits.due ≡ true;
   again : (p : Place) → is_listed p l.initial.waits.again.items ≡ true → (is_listed p l.waits.again.items || is_due p l.waits.due) ≡ true;
-  all : all_listed l.waits ≤ all_listed l.initial.waits;
 }
 
 abbrev pub decreases-loop-place : goal.decreases-loop-place

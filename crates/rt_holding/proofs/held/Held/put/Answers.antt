@@ -19,8 +19,8 @@ use Rattle.rt_holding.proofs.held.Held.put.Goals as goal
 pub returns-in_default-prepare-clause-tried : goal.returns-in_default-prepare-clause-tried
 returns-in_default-prepare-clause-tried g c log h =
     let old = c.self.inside in
-    let keyed = c.prepare.ensures.keyed in
-    tried_kept log old.arrivals _ old.waits.keys c.prepare.new.waits.keys old.waits.again.items c.prepare.new.waits.again.items refl keyed.keys
+    let keyed = c.prepare.ensures in
+    tried_kept log old.arrivals _ old.waits.keys c.prepare.new.waits.keys old.waits.again.items c.prepare.new.waits.again.items refl keyed.others
     (λ q i. ap (is_listed q) keyed.again ∙ i) old.ops.entries c.self.invariant.held.places (subst (AreTriedAt log) (sym c.self.view_is) h)
 
 pub invariant_of-self-in-Ok-insert : goal.invariant_of-self-in-Ok-insert
@@ -49,11 +49,11 @@ returns-in-Ok-insert-clause-put g c =
 pub returns-in-Ok-insert-clause-tried : goal.returns-in-Ok-insert-clause-tried
 returns-in-Ok-insert-clause-tried g c log h =
     let old = c.self.inside in
-    let keyed = c.prepare.ensures.keyed in
+    let keyed = c.prepare.ensures in
     let keys = c.keep.new.waits.keys in
     let again = c.keep.new.waits.again.items in
     let place : Place = (c.stamp.result, old.arrivals) in
-    let others = tried_kept log old.arrivals place old.waits.keys c.prepare.new.waits.keys old.waits.again.items again refl keyed.keys
+    let others = tried_kept log old.arrivals place old.waits.keys c.prepare.new.waits.keys old.waits.again.items again refl keyed.others
     (λ q i. c.keep.ensures.listed q ∙ or_left (is_listed q c.prepare.new.waits.again.items) (is_at (by_stamp_and_arrival q) place) (ap (is_listed q) keyed.again ∙ i))
     old.ops.entries c.self.invariant.held.places (subst (AreTriedAt log) (sym c.self.view_is) h) in
     let listed : is_listed place again ≡ true = c.keep.ensures.listed place ∙ or_right (is_listed place c.prepare.new.waits.again.items) (is_at (by_stamp_and_arrival place) place) (own_place place) in
@@ -65,9 +65,9 @@ returns-in-Ok-insert-clause-tried g c log h =
 pub returns-in-Some-1₀-clause-tried : goal.returns-in-Some-1₀-clause-tried
 returns-in-Some-1₀-clause-tried g c log h =
     let old = c.self.inside in
-    let keyed = c.prepare.ensures.keyed in
+    let keyed = c.prepare.ensures in
     let place : Place = (c.stamp.result, old.arrivals) in
     ap (list_all (is_tried_at log c.forget.new.keys c.prepare.new.waits.again.items)) c.in-Err.ensures.err
     ∙ tried_kept log old.arrivals place old.waits.keys c.forget.new.keys old.waits.again.items c.prepare.new.waits.again.items refl
-    (others_on place old.waits.keys c.prepare.new.waits.keys c.forget.new.keys keyed.keys c.forget.ensures.others) (λ q i. ap (is_listed q) keyed.again ∙ i)
+    (others_on place old.waits.keys c.prepare.new.waits.keys c.forget.new.keys keyed.others c.forget.ensures.others) (λ q i. ap (is_listed q) keyed.again ∙ i)
     old.ops.entries c.self.invariant.held.places (subst (AreTriedAt log) (sym c.self.view_is) h)

@@ -1,18 +1,25 @@
-use Rattle.std.proofs.Common.{◌∙◌, refl, ◌≤◌, List, [], inr, true, arith, ap, length, subst, sym}
+use Rattle.std.proofs.Common.{◌≡◌, ◌∙◌, ◌^◌, refl, ◌≤◌, List, [], inr, true, arith, ap, length, subst, sym}
 use Rattle.std.proofs.lemmas.List.{nil_from_length}
 use Rattle.std.specs.BTreeMap.{get}
-use Rattle.std.specs.BinaryHeap.{heap_len}
+use Rattle.std.specs.BinaryHeap.{heap_items, heap_len}
+use Rattle.std.specs.declared.collections.BinaryHeap.{BinaryHeap}
 use Rattle.rt_ops.specs.Operations.{Operation}
 use Rattle.rt_rga.specs.Histories.{IsHistory}
 use Rattle.rt_holding.specs.Grown.{AreTriedAt, HeldValue}
 use Rattle.rt_holding.specs.Holding.{is_new, next_of}
 use Rattle.rt_holding.specs.Kept.{AreHeld, IsNewAt, by_stamp_and_arrival, ops_in}
 use Rattle.rt_holding.specs.Taken.{AreTried, holding}
-use Rattle.rt_holding.specs.Waits.{all_listed, outcome_there}
-use Rattle.rt_holding.proofs.Steps.{IsGoing, IsThere, done_in, dropped, fewer_ops, going, same_entries, slept, stayed, taken_new, took, waits_there}
+use Rattle.rt_holding.specs.Waits.{outcome_there}
+use Rattle.rt_holding.proofs.Steps.{IsGoing, IsThere, absent, done_in, dropped, early_sound, fewer_ops, going, same_entries, slept, stayed, taken_new, took, waits_there}
 use Rattle.rt_holding.proofs.Places.{get_at}
 use Rattle.rt_holding.proofs.Tries.{begins, ends}
 use Rattle.rt_holding.proofs.held.Held.settle.Goals as goal
+
+few_due : {X Z : Type 0} (due : BinaryHeap X Z) → heap_len due ≤ 2 ^ 63
+few_due due = let a = due.data.ok.1 in let b = due.data.small in omega (arith, a, b)
+
+same_len : {X Z : Type 0} (a b : BinaryHeap X Z) → heap_items a ≡ heap_items b → heap_len a ≡ heap_len b
+same_len a b e = a.data.ok.0 ∙ ap length e ∙ sym b.data.ok.0
 
 pub returns-then-are_over-clause-tried : goal.returns-then-are_over-clause-tried
 returns-then-are_over-clause-tried g c =
@@ -28,14 +35,13 @@ returns-then-are_over-clause-tried g c =
 pub loop-place-init : goal.loop-place-init
 loop-place-init g c = record {
   limit = refl;
-  history = c.known.ensures.history;
+  history = c.wake.ensures.history;
   held = c.self.invariant.held;
   waits = c.wake.ensures.ready;
   ordered = c.len.ensures.ordered;
-  goes = going g.T.Taking.log g.T.Taking.after (g.T.Taking.limit c.args.site.now) c.args.made_by c.known.result c.requires.older c.args.site.now c.self.inside.ops c.self.inside.waits c.wake.new.waits
-      c.requires.grown c.known.ensures.history c.known.ensures.known c.wake.ensures.woken (subst (AreTriedAt c.requires.older) (sym c.self.view_is) c.requires.tried);
+  goes = going g.T.Taking.log g.T.Taking.after (g.T.Taking.limit c.args.site.now) c.args.made_by c.self.inside.arrivals c.requires.older c.args.site.now c.self.inside.ops c.self.inside.waits c.wake.new.waits
+      c.requires.grown c.wake.ensures.woken c.self.invariant.held c.len.ensures.ordered (subst (AreTriedAt c.requires.older) (sym c.self.view_is) c.requires.tried);
   few = omega arith;
-  all = omega arith;
 }
 
 pub take_at-requires : goal.take_at-requires
@@ -45,7 +51,7 @@ take_at-requires g c =
     let b = l.invariant in
     let limit = g.T.Taking.limit c.args.site.now in
     let state = holding log c.args.site.now (ops_in c.self.inside.ops.entries) in
-    let o = c.outcome_at.ensures ∙ ap (λ n. outcome_there l.lacks n (log l.site) l.self-inside.waits.keys c.in-Some.place (get by_stamp_and_arrival l.self-inside.ops c.in-Some.place)) b.limit in
+    let o = c.outcome_at.ensures ∙ ap (λ n. outcome_there l.lacks n (log l.site) (get by_stamp_and_arrival l.self-inside.ops c.in-Some.place)) b.limit in
     subst (λ n. IsNewAt n (log l.site) l.self-inside.ops.entries c.in-Some.place) (sym b.limit)
     (taken_new log g.T.Taking.after l.lacks limit state c.args.site.now l.site l.self-inside.ops l.self-inside.waits l.taken b.goes c.pop_first.new.due c.in-Some.place c.in-Some.ensures.some
     c.outcome_at.result c.in-Taken.is o b.ordered).0
@@ -57,17 +63,13 @@ loop-place-smaller-in-Ok g c =
     let b = l.invariant in
     let limit = g.T.Taking.limit c.args.site.now in
     let state = holding log c.args.site.now (ops_in c.self.inside.ops.entries) in
-    let o = c.outcome_at.ensures ∙ ap (λ n. outcome_there l.lacks n (log l.site) l.self-inside.waits.keys c.in-Some.place (get by_stamp_and_arrival l.self-inside.ops c.in-Some.place)) b.limit in
+    let o = c.outcome_at.ensures ∙ ap (λ n. outcome_there l.lacks n (log l.site) (get by_stamp_and_arrival l.self-inside.ops c.in-Some.place)) b.limit in
     let (n, f) = taken_new log g.T.Taking.after l.lacks limit state c.args.site.now l.site l.self-inside.ops l.self-inside.waits l.taken b.goes c.pop_first.new.due c.in-Some.place c.in-Some.ensures.some
     c.outcome_at.result c.in-Taken.is o b.ordered in
     let gone = took log g.T.Taking.after l.lacks limit state c.args.site.now l.site l.self-inside.ops l.self-inside.waits l.taken b.goes c.pop_first.new.due c.in-Some.place c.in-Some.ensures.some
-    n f b.ordered b.history c.take_at.new.site l.self-inside.arrivals c.in-Ok.by c.known-in-Ok.result c.take_at.new.ops c.wake-in-Ok.new.waits b.held c.known-in-Ok.ensures.history
-    c.in-Ok.ensures.site c.in-Ok.ensures.log c.in-Ok.ensures.by c.known-in-Ok.ensures.known c.wake-in-Ok.ensures.woken c.in-Ok.ensures.others c.in-Ok.ensures.out in
-    let all = b.all in
-    let on = c.wake-in-Ok.ensures.woken.all in
-    let popped = c.in-Some.ensures.len in
-    let due : heap_len c.wake-in-Ok.new.waits.due ≤ all_listed c.wake.new.waits = omega (arith, all, on, popped) in
-    fewer_ops (length c.take_at.new.ops.entries) (length l.self-inside.ops.entries) (heap_len c.wake-in-Ok.new.waits.due) (all_listed c.wake.new.waits) (heap_len l.self-inside.waits.due) gone.length due
+    n f b.ordered b.history c.take_at.new.site l.self-inside.arrivals c.in-Ok.by c.take_at.new.ops c.wake-in-Ok.new.waits b.held
+    c.in-Ok.ensures.site c.in-Ok.ensures.log c.in-Ok.ensures.by c.wake-in-Ok.ensures.woken c.in-Ok.ensures.others c.in-Ok.ensures.out in
+    fewer_ops (length c.take_at.new.ops.entries) (length l.self-inside.ops.entries) (heap_len c.wake-in-Ok.new.waits.due) (2 ^ 63) (heap_len l.self-inside.waits.due) gone.length (few_due c.wake-in-Ok.new.waits.due)
 
 pub loop-place-preserved-in-Ok : goal.loop-place-preserved-in-Ok
 loop-place-preserved-in-Ok g c =
@@ -76,26 +78,23 @@ loop-place-preserved-in-Ok g c =
     let b = l.invariant in
     let limit = g.T.Taking.limit c.args.site.now in
     let state = holding log c.args.site.now (ops_in c.self.inside.ops.entries) in
-    let o = c.outcome_at.ensures ∙ ap (λ n. outcome_there l.lacks n (log l.site) l.self-inside.waits.keys c.in-Some.place (get by_stamp_and_arrival l.self-inside.ops c.in-Some.place)) b.limit in
+    let o = c.outcome_at.ensures ∙ ap (λ n. outcome_there l.lacks n (log l.site) (get by_stamp_and_arrival l.self-inside.ops c.in-Some.place)) b.limit in
     let (n, f) = taken_new log g.T.Taking.after l.lacks limit state c.args.site.now l.site l.self-inside.ops l.self-inside.waits l.taken b.goes c.pop_first.new.due c.in-Some.place c.in-Some.ensures.some
     c.outcome_at.result c.in-Taken.is o b.ordered in
     let gone = took log g.T.Taking.after l.lacks limit state c.args.site.now l.site l.self-inside.ops l.self-inside.waits l.taken b.goes c.pop_first.new.due c.in-Some.place c.in-Some.ensures.some
-    n f b.ordered b.history c.take_at.new.site l.self-inside.arrivals c.in-Ok.by c.known-in-Ok.result c.take_at.new.ops c.wake-in-Ok.new.waits b.held c.known-in-Ok.ensures.history
-    c.in-Ok.ensures.site c.in-Ok.ensures.log c.in-Ok.ensures.by c.known-in-Ok.ensures.known c.wake-in-Ok.ensures.woken c.in-Ok.ensures.others c.in-Ok.ensures.out in
+    n f b.ordered b.history c.take_at.new.site l.self-inside.arrivals c.in-Ok.by c.take_at.new.ops c.wake-in-Ok.new.waits b.held
+    c.in-Ok.ensures.site c.in-Ok.ensures.log c.in-Ok.ensures.by c.wake-in-Ok.ensures.woken c.in-Ok.ensures.others c.in-Ok.ensures.out in
     let few = b.few in
     let less = gone.length in
-    let all = b.all in
-    let on = c.wake-in-Ok.ensures.woken.all in
     let popped = c.in-Some.ensures.len in
     record {
       limit = c.take_at.ensures.limit ∙ b.limit;
-      history = c.known-in-Ok.ensures.history;
+      history = c.wake-in-Ok.ensures.history;
       held = gone.held;
       waits = c.wake-in-Ok.ensures.ready;
       ordered = c.take_at.ensures.ordered;
       goes = gone.goes;
       few = omega (arith, few, less);
-      all = omega (arith, all, on, popped);
     }
 
 pub loop-place-preserved-in-Err : goal.loop-place-preserved-in-Err
@@ -105,7 +104,7 @@ loop-place-preserved-in-Err g c =
     let b = l.invariant in
     let limit = g.T.Taking.limit c.args.site.now in
     let state = holding log c.args.site.now (ops_in c.self.inside.ops.entries) in
-    let o = c.outcome_at.ensures ∙ ap (λ n. outcome_there l.lacks n (log l.site) l.self-inside.waits.keys c.in-Some.place (get by_stamp_and_arrival l.self-inside.ops c.in-Some.place)) b.limit in
+    let o = c.outcome_at.ensures ∙ ap (λ n. outcome_there l.lacks n (log l.site) (get by_stamp_and_arrival l.self-inside.ops c.in-Some.place)) b.limit in
     let (n, f) = taken_new log g.T.Taking.after l.lacks limit state c.args.site.now l.site l.self-inside.ops l.self-inside.waits l.taken b.goes c.pop_first.new.due c.in-Some.place c.in-Some.ensures.some
     c.outcome_at.result c.in-Taken.is o b.ordered in
     let there : IsThere l.self-inside.ops c.in-Some.place = record { op = n.op; found = get_at l.self-inside.ops c.in-Some.place n.op n.there } in
@@ -113,8 +112,6 @@ loop-place-preserved-in-Err g c =
     true c.keep.new.waits there b.ordered c.keep.ensures.keys c.keep.ensures.due c.keep.ensures.listed (λ e. f) (inr (ap is_new n.new, refl)) in
     let few = b.few in
     let shorter = ap length c.in-Err.ensures.same_ops in
-    let all = b.all in
-    let on = c.keep.ensures.all in
     let popped = c.in-Some.ensures.len in
     record {
       limit = c.take_at.ensures.limit ∙ b.limit;
@@ -125,7 +122,6 @@ loop-place-preserved-in-Err g c =
       goes = subst (λ s. IsGoing log g.T.Taking.after true limit state c.args.site.now s c.take_at.new.ops c.keep.new.waits l.taken) (sym c.in-Err.ensures.same_site)
           (same_entries log g.T.Taking.after true limit state c.args.site.now l.site l.self-inside.ops c.take_at.new.ops c.keep.new.waits l.taken goes c.in-Err.ensures.same_ops);
       few = omega (arith, few, shorter);
-      all = omega (arith, all, on, popped);
     }
 
 pub loop-place-preserved-in-Waits : goal.loop-place-preserved-in-Waits
@@ -135,11 +131,9 @@ loop-place-preserved-in-Waits g c =
     let b = l.invariant in
     let limit = g.T.Taking.limit c.args.site.now in
     let state = holding log c.args.site.now (ops_in c.self.inside.ops.entries) in
-    let o = c.outcome_at.ensures ∙ ap (λ n. outcome_there l.lacks n (log l.site) l.self-inside.waits.keys c.in-Some.place (get by_stamp_and_arrival l.self-inside.ops c.in-Some.place)) b.limit in
-    let w = waits_there l.lacks limit (log l.site) l.self-inside.waits.keys l.self-inside.ops c.in-Some.place c.outcome_at.result c.in-Waits.is o in
+    let o = c.outcome_at.ensures ∙ ap (λ n. outcome_there l.lacks n (log l.site) (get by_stamp_and_arrival l.self-inside.ops c.in-Some.place)) b.limit in
+    let w = waits_there l.lacks limit (log l.site) l.self-inside.ops c.in-Some.place c.outcome_at.result c.in-Waits.is o in
     let few = b.few in
-    let all = b.all in
-    let on = c.keep-in-Waits.ensures.all in
     let popped = c.in-Some.ensures.len in
     record {
       limit = b.limit;
@@ -150,18 +144,51 @@ loop-place-preserved-in-Waits g c =
       goes = stayed log g.T.Taking.after l.lacks limit state c.args.site.now l.site l.self-inside.ops l.self-inside.waits l.taken b.goes c.pop_first.new.due c.in-Some.place c.in-Some.ensures.some
           l.lacks c.keep-in-Waits.new.waits w.there b.ordered c.keep-in-Waits.ensures.keys c.keep-in-Waits.ensures.due c.keep-in-Waits.ensures.listed (λ e. e) w.why;
       few = few;
-      all = omega (arith, all, on, popped);
     }
 
-pub loop-place-preserved-in-Sleeps : goal.loop-place-preserved-in-Sleeps
-loop-place-preserved-in-Sleeps g c =
+pub sleep-requires-clause-sound : goal.sleep-requires-clause-sound
+sleep-requires-clause-sound g c =
     let log = g.T.Taking.log in
     let l = c.loop-place in
     let b = l.invariant in
     let limit = g.T.Taking.limit c.args.site.now in
     let state = holding log c.args.site.now (ops_in c.self.inside.ops.entries) in
-    let o = c.outcome_at.ensures ∙ ap (λ n. outcome_there l.lacks n (log l.site) l.self-inside.waits.keys c.in-Some.place (get by_stamp_and_arrival l.self-inside.ops c.in-Some.place)) b.limit in
-    let all = b.all in
+    let o = c.outcome_at.ensures ∙ ap (λ n. outcome_there l.lacks n (log l.site) (get by_stamp_and_arrival l.self-inside.ops c.in-Some.place)) b.limit in
+    early_sound l.lacks limit (log l.site) c.outcome_at.result (get by_stamp_and_arrival l.self-inside.ops c.in-Some.place) c.in-Early.is o
+
+pub loop-place-smaller-in-Early : goal.loop-place-smaller-in-Early
+loop-place-smaller-in-Early g c =
+    let popped = c.in-Some.ensures.len in
+    let same = same_len c.sleep.new.waits.due c.pop_first.new.due c.sleep.ensures.due in
+    omega (arith, popped, same)
+
+pub loop-place-preserved-in-Early : goal.loop-place-preserved-in-Early
+loop-place-preserved-in-Early g c =
+    let log = g.T.Taking.log in
+    let l = c.loop-place in
+    let b = l.invariant in
+    let limit = g.T.Taking.limit c.args.site.now in
+    let state = holding log c.args.site.now (ops_in c.self.inside.ops.entries) in
+    let o = c.outcome_at.ensures ∙ ap (λ n. outcome_there l.lacks n (log l.site) (get by_stamp_and_arrival l.self-inside.ops c.in-Some.place)) b.limit in
+    record {
+      limit = b.limit;
+      history = b.history;
+      held = b.held;
+      waits = c.sleep.ensures.ready;
+      ordered = b.ordered;
+      goes = slept log g.T.Taking.after l.lacks limit state c.args.site.now l.site l.self-inside.ops l.self-inside.waits l.taken b.goes c.pop_first.new.due c.in-Some.place c.in-Some.ensures.some
+          c.outcome_at.result c.in-Early.is o c.sleep.new.waits c.sleep.ensures.keys c.sleep.ensures.due c.sleep.ensures.again c.sleep.ensures.asleep;
+      few = b.few;
+    }
+
+pub loop-place-preserved-in-Absent : goal.loop-place-preserved-in-Absent
+loop-place-preserved-in-Absent g c =
+    let log = g.T.Taking.log in
+    let l = c.loop-place in
+    let b = l.invariant in
+    let limit = g.T.Taking.limit c.args.site.now in
+    let state = holding log c.args.site.now (ops_in c.self.inside.ops.entries) in
+    let o = c.outcome_at.ensures ∙ ap (λ n. outcome_there l.lacks n (log l.site) (get by_stamp_and_arrival l.self-inside.ops c.in-Some.place)) b.limit in
     let due = b.waits.due in
     let again = b.waits.again in
     let popped = c.in-Some.ensures.len in
@@ -172,10 +199,9 @@ loop-place-preserved-in-Sleeps g c =
       held = b.held;
       waits = record { heap = c.in-Some.ensures.heap; due = omega (arith, due, popped, room); again = omega (arith, again, popped) };
       ordered = b.ordered;
-      goes = slept log g.T.Taking.after l.lacks limit state c.args.site.now l.site l.self-inside.ops l.self-inside.waits l.taken b.goes c.pop_first.new.due c.in-Some.place c.in-Some.ensures.some
-          c.outcome_at.result c.in-Sleeps.is o;
+      goes = absent log g.T.Taking.after l.lacks limit state c.args.site.now l.site l.self-inside.ops l.self-inside.waits l.taken b.goes c.pop_first.new.due c.in-Some.place c.in-Some.ensures.some
+          c.outcome_at.result c.in-Absent.is o;
       few = b.few;
-      all = omega (arith, all, popped);
     }
 
 pub loop-place-smaller : goal.loop-place-smaller
@@ -185,13 +211,10 @@ loop-place-smaller g c =
     let b = l.invariant in
     let limit = g.T.Taking.limit c.args.site.now in
     let state = holding log c.args.site.now (ops_in c.self.inside.ops.entries) in
-    let o = c.outcome_at.ensures ∙ ap (λ n. outcome_there l.lacks n (log l.site) l.self-inside.waits.keys c.in-Some.place (get by_stamp_and_arrival l.self-inside.ops c.in-Some.place)) b.limit in
+    let o = c.outcome_at.ensures ∙ ap (λ n. outcome_there l.lacks n (log l.site) (get by_stamp_and_arrival l.self-inside.ops c.in-Some.place)) b.limit in
     let gone = dropped log g.T.Taking.after l.lacks limit state c.args.site.now l.site l.self-inside.ops l.self-inside.waits l.taken b.goes c.pop_first.new.due c.in-Some.place c.in-Some.ensures.some
     c.outcome_at.result c.in-Dropped.is o b.ordered l.self-inside.arrivals c.drop_at.new.ops c.drop_at.new.keys b.held c.drop_at.ensures.others c.drop_at.ensures.keys c.drop_at.ensures.entries in
-    let all = b.all in
-    let popped = c.in-Some.ensures.len in
-    let due : heap_len c.pop_first.new.due ≤ all_listed c.wake.new.waits = omega (arith, all, popped) in
-    fewer_ops (length c.drop_at.new.ops.entries) (length l.self-inside.ops.entries) (heap_len c.pop_first.new.due) (all_listed c.wake.new.waits) (heap_len l.self-inside.waits.due) gone.length due
+    fewer_ops (length c.drop_at.new.ops.entries) (length l.self-inside.ops.entries) (heap_len c.pop_first.new.due) (2 ^ 63) (heap_len l.self-inside.waits.due) gone.length (few_due c.pop_first.new.due)
 
 pub loop-place-preserved : goal.loop-place-preserved
 loop-place-preserved g c =
@@ -200,12 +223,11 @@ loop-place-preserved g c =
     let b = l.invariant in
     let limit = g.T.Taking.limit c.args.site.now in
     let state = holding log c.args.site.now (ops_in c.self.inside.ops.entries) in
-    let o = c.outcome_at.ensures ∙ ap (λ n. outcome_there l.lacks n (log l.site) l.self-inside.waits.keys c.in-Some.place (get by_stamp_and_arrival l.self-inside.ops c.in-Some.place)) b.limit in
+    let o = c.outcome_at.ensures ∙ ap (λ n. outcome_there l.lacks n (log l.site) (get by_stamp_and_arrival l.self-inside.ops c.in-Some.place)) b.limit in
     let gone = dropped log g.T.Taking.after l.lacks limit state c.args.site.now l.site l.self-inside.ops l.self-inside.waits l.taken b.goes c.pop_first.new.due c.in-Some.place c.in-Some.ensures.some
     c.outcome_at.result c.in-Dropped.is o b.ordered l.self-inside.arrivals c.drop_at.new.ops c.drop_at.new.keys b.held c.drop_at.ensures.others c.drop_at.ensures.keys c.drop_at.ensures.entries in
     let few = b.few in
     let less = gone.length in
-    let all = b.all in
     let due = b.waits.due in
     let again = b.waits.again in
     let fewer = c.drop_at.ensures.fewer in
@@ -219,7 +241,6 @@ loop-place-preserved g c =
       ordered = c.drop_at.ensures.ordered;
       goes = gone.goes;
       few = omega (arith, few, less);
-      all = omega (arith, all, popped, fewer);
     }
 
 pub invariant_of-self : goal.invariant_of-self

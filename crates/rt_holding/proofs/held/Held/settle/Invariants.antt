@@ -1,10 +1,10 @@
-use Rattle.std.proofs.Common.{◌≡◌, ◌+◌, ◌*◌, ◌≤◌, length}
+use Rattle.std.proofs.Common.{◌≡◌, ◌+◌, ◌*◌, ◌^◌, ◌≤◌, length}
 use Rattle.std.specs.BTreeMap.{IsOrdered}
 use Rattle.std.specs.BinaryHeap.{heap_len}
 use Rattle.rt_rga.specs.Histories.{IsHistory}
 use Rattle.rt_holding.specs.Kept.{AreHeld, by_stamp_and_arrival, ops_in}
 use Rattle.rt_holding.specs.Taken.{holding}
-use Rattle.rt_holding.specs.Waits.{IsReady, all_listed}
+use Rattle.rt_holding.specs.Waits.{IsReady}
 use Rattle.rt_holding.proofs.Steps.{IsGoing}
 use Rattle.rt_holding.proofs.held.Held.settle.Given as goal
 
@@ -19,8 +19,7 @@ invariant-loop-place g l = record {
       (holding g.T.Taking.log l.initial.site (ops_in l.initial.self-inside.ops.entries))
       l.initial.site l.site l.self-inside.ops l.self-inside.waits l.taken;
   few : l.taken + length l.self-inside.ops.entries ≤ length l.initial.self-inside.ops.entries;
-  all : all_listed l.self-inside.waits ≤ all_listed l.initial.self-inside.waits;
 }
 
 abbrev pub decreases-loop-place : goal.decreases-loop-place
-decreases-loop-place g l = length l.self-inside.ops.entries * (all_listed l.initial.self-inside.waits + 1) + heap_len l.self-inside.waits.due
+decreases-loop-place g l = length l.self-inside.ops.entries * (2 ^ 63 + 1) + heap_len l.self-inside.waits.due

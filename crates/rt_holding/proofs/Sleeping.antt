@@ -1,0 +1,505 @@
+-- Held operations sleep on while what they wait for comes, span by span.
+use Rattle.std.proofs.Common.{◌≡◌, ℕ, zero, suc, length, slice_index_or, ◌+◌, ◌-◌, ◌<◌, ◌≤◌, Bool, true, false, cond, not, ◌⊎◌, inl, inr, refl, sym, ap, subst, ◌∙◌, arith, List, [], ◌∷◌, ◌++◌, ◌&&◌, ◌||◌, ◌==◌, max, min, nat_le, nat_lt}
+use Rattle.std.proofs.lemmas.Bool.{cases_lt}
+use Rattle.std.proofs.lemmas.Bool.Decides.{nat_tests}
+use Rattle.std.specs.BTreeSet.{BTreeSet}
+use Rattle.std.specs.List.{flat_map, list_all, list_any}
+use Rattle.rt_stamps.specs.declared.fault.Fault.TheVariants.{BadTarget, NotYet}
+use Rattle.rt_stamps.specs.declared.stamp.Span.{Span}
+use Rattle.rt_stamps.specs.declared.stamp.Stamp.{Stamp}
+use Rattle.rt_stamps.specs.Spans.{each_next, is_clear_of, is_in_span, is_span}
+use Rattle.rt_ops.specs.Operations.{Body, Insert, Delete, Tag, Operation}
+use Rattle.rt_ops.specs.Rules.{keeps_rules}
+use Rattle.rt_oplog.specs.Logs.{known_end}
+use Rattle.rt_rga.specs.Answers.{New, Refused, answer_to, has_gap, passes_end}
+use Rattle.rt_rga.specs.Histories.{IsHistory}
+use Rattle.rt_rga.proofs.Skipping.{split}
+use Rattle.rt_holding.specs.declared.waits.Key.{Key}
+use Rattle.rt_holding.specs.Grown.{HasGrownBy}
+use Rattle.rt_holding.specs.Holding.{is_early, is_new}
+use Rattle.rt_holding.specs.Kept.{Place}
+use Rattle.rt_holding.specs.Waiting.{WaitsAt, came_in, goes_on, has_new_gap, is_passed, key_in, keys_of, targets}
+use Rattle.rt_holding.specs.Waits.{are_kept, has_key, sleeps}
+use Rattle.rt_holding.specs.Waking.{HasComeIn, IsAmong, IsSeenTo, first_of, stamp_of_key}
+use Rattle.rt_holding.proofs.Going.{both, or_left, or_right}
+use Rattle.rt_holding.proofs.Looking.{looks_are_enough}
+use Rattle.rt_holding.proofs.Waiting.{end_stays, key_stays, unpassed_stay, waiting_from}
+
+-- SPANS THAT ARE NAMED
+
+any_of : (p : Span → Bool) (spans : List Span) (span : Span) → IsAmong spans span → p span ≡ true → list_any p spans ≡ true
+any_of p [] span i h = absurd i
+any_of p (x ∷ spans) span i h = elim i [
+  | inl e ↦ or_left (p x) (list_any p spans) (ap p e ∙ h)
+  | inr j ↦ or_right (p x) (list_any p spans) (any_of p spans span j h)
+]
+
+record IsOneOf (p : Span → Bool) (spans : List Span) : Type 0 where
+  span : Span
+  among : IsAmong spans span
+  is : p span ≡ true
+
+one_of : (p : Span → Bool) (spans : List Span) → list_any p spans ≡ true → IsOneOf p spans
+one_of p [] h = absurd (cc h)
+one_of p (x ∷ spans) h = split (p x)
+    (λ e. record { span = x; among = inl refl; is = e })
+    (λ e. let o = one_of p spans (rw e at h) in record { span = o.span; among = inr o.among; is = o.is })
+
+none_of : (p : Span → Bool) (spans : List Span) → ((span : Span) → IsAmong spans span → p span ≡ false) → list_any p spans ≡ false
+none_of p [] f = refl
+none_of p (x ∷ spans) f = let e = f x (inl refl) in rw e (none_of p spans (λ s i. f s (inr i)))
+
+all_both : (p : Stamp → Bool) (xs ys : List Stamp) → list_all p (xs ++ ys) ≡ true → (list_all p xs ≡ true) × (list_all p ys ≡ true)
+all_both p [] ys h = (refl, h)
+all_both p (x ∷ xs) ys h =
+    let (i, j) = both (p x) (list_all p (xs ++ ys)) h in
+    let (k, l) = all_both p xs ys j in (rw i k, l)
+
+all_join : (p : Stamp → Bool) (xs ys : List Stamp) → list_all p xs ≡ true → list_all p ys ≡ true → list_all p (xs ++ ys) ≡ true
+all_join p [] ys h k = k
+all_join p (x ∷ xs) ys h k = let (i, j) = both (p x) (list_all p xs) h in rw i (all_join p xs ys j k)
+
+each_all : (p : Stamp → Bool) (f : Span → List Stamp) (spans : List Span) → list_all p (flat_map f spans) ≡ true → (span : Span) → IsAmong spans span → list_all p (f span) ≡ true
+each_all p f [] h span i = absurd i
+each_all p f (x ∷ spans) h span i =
+    let (a, b) = all_both p (f x) (flat_map f spans) h in
+    elim i [ inl e ↦ ap (λ s. list_all p (f s)) (sym e) ∙ a | inr j ↦ each_all p f spans b span j ]
+
+all_each : (p : Stamp → Bool) (f : Span → List Stamp) (spans : List Span) → ((span : Span) → IsAmong spans span → list_all p (f span) ≡ true) → list_all p (flat_map f spans) ≡ true
+all_each p f [] g = refl
+all_each p f (x ∷ spans) g = all_join p (f x) (flat_map f spans) (g x (inl refl)) (all_each p f spans (λ s i. g s (inr i)))
+
+-- ONE SPAN HAS A STAMP
+
+abbrev IsBehind : Span → Span → Type 0
+IsBehind a b = (a.site < b.site) ⊎ ((a.site ≡ b.site) × (a.last < b.first))
+
+clear_behind : (a b : Span) → is_clear_of a b ≡ true → IsBehind a b
+clear_behind a b h = split (nat_lt a.site b.site)
+    (λ e. inl (grind (arith, nat_tests, e)))
+    (λ e. let k : ((a.site == b.site) && nat_lt (a.last + 1) b.first) ≡ true = rw e at h in
+    let (i, j) = both (a.site == b.site) (nat_lt (a.last + 1) b.first) k in inr (grind (arith, nat_tests, i), grind (arith, nat_tests, j)))
+
+behind_all : (x : Span) (spans : List Span) → list_all is_span spans ≡ true → each_next is_clear_of (x ∷ spans) ≡ true → (y : Span) → IsAmong spans y → IsBehind x y
+behind_all x [] a h y i = absurd i
+behind_all x (z ∷ spans) a h y i =
+    let (c, n) = both (is_clear_of x z) (each_next is_clear_of (z ∷ spans)) h in
+    let b = clear_behind x z c in
+    let (w, v) = both (is_span z) (list_all is_span spans) a in
+    elim i [
+      | inl e ↦ subst (IsBehind x) e b
+      | inr j ↦ on b (behind_all z spans v n y j) (grind (arith, nat_tests, w))
+    ]
+  where
+    on : IsBehind x z → IsBehind z y → z.first ≤ z.last → IsBehind x y
+    on b c w = elim b [
+      | inl l ↦ elim c [ inl m ↦ inl (omega (arith, l, m)) | inr m ↦ inl (let s = m.0 in omega (arith, l, s)) ]
+      | inr l ↦ elim c [
+        | inl m ↦ inl (let s = l.0 in omega (arith, s, m))
+        | inr m ↦ inr (l.0 ∙ m.0, let s = l.1 in let t = m.1 in omega (arith, s, t, w))
+      ]
+    ]
+
+not_both : (a b : Span) (s : Stamp) → IsBehind a b → is_in_span a s ≡ true → is_in_span b s ≡ true → ⊥
+not_both a b s h i j =
+    let p : s.site ≡ a.site = grind (arith, nat_tests, i) in
+    let q : s.site ≡ b.site = grind (arith, nat_tests, j) in
+    let l : s.count ≤ a.last = grind (arith, nat_tests, i) in
+    let m : b.first ≤ s.count = grind (arith, nat_tests, j) in
+    elim h [ inl k ↦ omega (arith, p, q, k) | inr k ↦ (let n = k.1 in omega (arith, l, m, n)) ]
+
+-- spans that keep the rules have a stamp but once
+one_has : (spans : List Span) (a b : Span) (s : Stamp) → list_all is_span spans ≡ true → each_next is_clear_of spans ≡ true → IsAmong spans a → IsAmong spans b
+    → is_in_span a s ≡ true → is_in_span b s ≡ true → a ≡ b
+one_has [] a b s w n i j k l = absurd i
+one_has (x ∷ spans) a b s w n i j k l =
+    let v = both (is_span x) (list_all is_span spans) w in
+    elim i [
+      | inl e ↦ elim j [
+        | inl f ↦ sym e ∙ f
+        | inr g ↦ absurd (not_both a b s (subst (λ z. IsBehind z b) e (behind_all x spans v.1 n b g)) k l)
+      ]
+      | inr f ↦ elim j [
+        | inl g ↦ absurd (not_both b a s (subst (λ z. IsBehind z a) g (behind_all x spans v.1 n a f)) l k)
+        | inr g ↦ one_has spans a b s v.1 (later x spans n) f g k l
+      ]
+    ]
+  where
+    later : (x : Span) (spans : List Span) → each_next is_clear_of (x ∷ spans) ≡ true → each_next is_clear_of spans ≡ true
+    later x [] n = refl
+    later x (z ∷ spans) n = (both (is_clear_of x z) (each_next is_clear_of (z ∷ spans)) n).1
+
+target_has : (body : Body) (a b : Span) (s : Stamp) → keeps_rules body ≡ true → IsAmong (targets body) a → IsAmong (targets body) b → is_in_span a s ≡ true → is_in_span b s ≡ true → a ≡ b
+target_has (Insert after tags text) a b s r i j k l = elim i [ inl e ↦ elim j [ inl f ↦ sym e ∙ f | inr f ↦ absurd f ] | inr e ↦ absurd e ]
+target_has (Delete spans) a b s r i j k l = let c = rules spans r in one_has spans a b s c.0 c.1 i j k l
+  where
+    rules : (spans : List Span) → keeps_rules (Delete spans) ≡ true → (list_all is_span spans ≡ true) × (each_next is_clear_of spans ≡ true)
+    rules spans r = both (list_all is_span spans) (each_next is_clear_of spans) (both _ (list_all is_span spans && each_next is_clear_of spans) r).1
+target_has (Tag on name spans) a b s r i j k l = let c = rules on name spans r in one_has spans a b s c.0 c.1 i j k l
+  where
+    rules : (on : Bool) (name : List ℕ) (spans : List Span) → keeps_rules (Tag on name spans) ≡ true → (list_all is_span spans ≡ true) × (each_next is_clear_of spans ≡ true)
+    rules on name spans r = both (list_all is_span spans) (each_next is_clear_of spans) (both _ (list_all is_span spans && each_next is_clear_of spans) (both _ (keeps_rules (Delete spans)) r).1).1
+
+-- WHAT A SLEEPER WAITS FOR
+
+-- a span's key is kept; or what became known of it has no gap, and the key of what is left is kept
+abbrev pub IsFine : BTreeSet Key → List Operation → List Operation → Place → Span → Type 0
+IsFine keys older log p span =
+    (list_all (has_key keys p) (key_in older span) ≡ true) ⊎ ((has_new_gap older log span ≡ false) × (list_all (has_key keys p) (key_in log span) ≡ true))
+
+-- a span's key is passed, and kept still
+abbrev pub pends : BTreeSet Key → List Operation → List Operation → Place → Span → Bool
+pends keys older log p span = list_any (λ s. is_passed log s && has_key keys p s) (key_in older span)
+
+pub record SleepsOn (keys : BTreeSet Key) (older log : List Operation) (p : Place) (x : Operation) : Type 0 where
+  pub prev : nat_lt (known_end older x.site) x.prev ≡ false
+  pub own : has_key keys p (record { count = x.prev + 1; site = x.site }) ≡ true
+  pub fine : (span : Span) → IsAmong (targets x.body) span → IsFine keys older log p span
+  pub waits : (list_any (goes_on log) (targets x.body) ≡ true) ⊎ (list_any (pends keys older log p) (targets x.body) ≡ true)
+
+-- it waits for the operation before it, or for what it names
+abbrev pub IsAsleep : BTreeSet Key → List Operation → List Operation → Place → Operation → Type 0
+IsAsleep keys older log p x =
+    ((nat_lt (known_end older x.site) x.prev ≡ true) × (has_key keys p (record { count = x.prev; site = x.site }) ≡ true)) ⊎ SleepsOn keys older log p x
+
+-- the key of a span that goes on
+abbrev key_of : List Operation → Span → Stamp
+key_of log span = record { count = max span.first (known_end log span.site + 1); site = span.site }
+
+kept_key : (keys : BTreeSet Key) (log : List Operation) (p : Place) (span : Span) → goes_on log span ≡ true → list_all (has_key keys p) (key_in log span) ≡ true → has_key keys p (key_of log span) ≡ true
+kept_key keys log p span g k = let m : list_all (has_key keys p) (key_of log span ∷ []) ≡ true = rw g at k in (both (has_key keys p (key_of log span)) true m).0
+
+key_kept : (keys : BTreeSet Key) (log : List Operation) (p : Place) (span : Span) → (goes_on log span ≡ true → has_key keys p (key_of log span) ≡ true) → list_all (has_key keys p) (key_in log span) ≡ true
+key_kept keys log p span f = split (goes_on log span) (λ g. let k = f g in rw (g, k) refl) (λ g. rw g refl)
+
+abbrev stamp : ℕ → ℕ → Stamp
+stamp count site = record { count = count; site = site }
+
+-- what became known of a span from a key on
+abbrev since : List Operation → Key → Span → Span
+since log k span = record { site = k.site; first = k.count; last = min span.last (known_end log k.site) }
+
+-- the numbers of a span that goes on
+record GoesOn (log : List Operation) (span : Span) : Type 0 where
+  site : (span.site == 0) ≡ false
+  is : span.first ≤ span.last
+  end : known_end log span.site < span.last
+
+goes_from : (log : List Operation) (span : Span) → goes_on log span ≡ true → GoesOn log span
+goes_from log span g =
+    let (z, p) = both (not (span.site == 0)) (passes_end log span) g in
+    let (i, e) = both (nat_le span.first span.last) (nat_lt (known_end log span.site) span.last) p in
+    record { site = turned (span.site == 0) z; is = grind (arith, nat_tests, i); end = grind (arith, nat_tests, e) }
+  where
+    turned : (a : Bool) → not a ≡ true → a ≡ false
+    turned true h = absurd (cc h)
+    turned false h = refl
+
+goes_to : (log : List Operation) (span : Span) → GoesOn log span → goes_on log span ≡ true
+goes_to log span g = tests (span.site == 0) span.first span.last (known_end log span.site) g.site g.is g.end
+  where
+    tests : (z : Bool) (first last end : ℕ) → z ≡ false → first ≤ last → end < last → (not z && (nat_le first last && nat_lt end last)) ≡ true
+    tests z first last end e f g = grind (arith, nat_tests)
+
+pends_from : (keys : BTreeSet Key) (older log : List Operation) (p : Place) (span : Span) → pends keys older log p span ≡ true
+    → (goes_on older span ≡ true) × (is_passed log (key_of older span) ≡ true) × (has_key keys p (key_of older span) ≡ true)
+pends_from keys older log p span h = split (goes_on older span)
+    (λ g. let m : ((is_passed log (key_of older span) && has_key keys p (key_of older span)) || false) ≡ true = rw g at h in
+    let (a, b) = both (is_passed log (key_of older span)) (has_key keys p (key_of older span)) (first _ m) in (g, a, b))
+    (λ g. absurd (let m : false ≡ true = rw g at h in cc m))
+  where
+    first : (a : Bool) → (a || false) ≡ true → a ≡ true
+    first true m = refl
+    first false m = absurd (cc m)
+
+pends_to : (keys : BTreeSet Key) (older log : List Operation) (p : Place) (span : Span) → goes_on older span ≡ true → is_passed log (key_of older span) ≡ true
+    → has_key keys p (key_of older span) ≡ true → pends keys older log p span ≡ true
+pends_to keys older log p span g a b = rw g (rw (a, b) refl)
+
+-- FROM THE START
+
+early_goes_on : (log : List Operation) (x : Operation) → IsHistory log → is_early (answer_to x log) ≡ true → nat_lt (known_end log x.site) x.prev ≡ false
+    → list_any (goes_on log) (targets x.body) ≡ true
+early_goes_on log x h e d =
+    let w : WaitsAt log x = or_left (is_early (answer_to x log)) (is_new (answer_to x log)) e in
+    let c = (waiting_from log x w).prev in
+    let p : x.prev ≡ known_end log x.site = same x.prev (known_end log x.site) c d in
+    let l = looks_are_enough log log x h h (λ y i. i) w p p in
+    not_yet (list_any (has_new_gap log log) (targets x.body)) (list_any (goes_on log) (targets x.body)) (ap is_early (sym l) ∙ e)
+  where
+    same : (a b : ℕ) → nat_lt a b ≡ false → nat_lt b a ≡ false → a ≡ b
+    same a b c d = grind (arith, nat_tests)
+
+    not_yet : (a b : Bool) → is_early (cond a (Refused BadTarget) (cond b (Refused NotYet) New)) ≡ true → b ≡ true
+    not_yet true b e = absurd (cc e)
+    not_yet false true e = refl
+    not_yet false false e = absurd (cc e)
+
+pub falls_asleep : (keys : BTreeSet Key) (older log : List Operation) (p : Place) (x : Operation) → IsHistory older → sleeps keys older p x ≡ true → IsAsleep keys older log p x
+falls_asleep keys older log p x h s =
+    let (e, k) = both (is_early (answer_to x older)) (are_kept keys older p x) s in
+    split (nat_lt (known_end older x.site) x.prev)
+    (λ d. let m : list_all (has_key keys p) (record { count = x.prev; site = x.site } ∷ []) ≡ true = rw d at k in
+    inl (d, (both (has_key keys p (record { count = x.prev; site = x.site })) true m).0))
+    (λ d. let m : (has_key keys p (record { count = x.prev + 1; site = x.site }) && list_all (has_key keys p) (flat_map (key_in older) (targets x.body))) ≡ true = rw d at k in
+    let (own, all) = both (has_key keys p (record { count = x.prev + 1; site = x.site })) (list_all (has_key keys p) (flat_map (key_in older) (targets x.body))) m in
+    let each = each_all (has_key keys p) (key_in older) (targets x.body) all in
+    let o = one_of (goes_on older) (targets x.body) (early_goes_on older x h e d) in
+    inr (record {
+      prev = d;
+      own = own;
+      fine = λ span i. inl (each span i);
+      waits = split (goes_on log o.span)
+          (λ g. inl (any_of (goes_on log) (targets x.body) o.span o.among g))
+          (λ g. let f = goes_from older o.span o.is in
+          let l : known_end log o.span.site < o.span.last → ⊥ = λ m. let t = goes_to log o.span (record { site = f.site; is = f.is; end = m }) in cc (t, g) in
+          inr (any_of (pends keys older log p) (targets x.body) o.span o.among
+          (pends_to keys older log p o.span o.is (passed o.span.first o.span.last (known_end older o.span.site) (known_end log o.span.site) f.is f.end l) (kept_key keys older p o.span o.is (each o.span o.among)))));
+    }))
+  where
+    passed : (first last old new : ℕ) → first ≤ last → old < last → (new < last → ⊥) → nat_le (max first (old + 1)) new ≡ true
+    passed first last old new a b c = elim (cases_lt new last) [ inl m ↦ absurd (c m) | inr m ↦ grind (arith, nat_tests, a, b, m) ]
+
+-- MORE KEYS
+
+all_more : (p q : Stamp → Bool) (xs : List Stamp) → ((s : Stamp) → p s ≡ true → q s ≡ true) → list_all p xs ≡ true → list_all q xs ≡ true
+all_more p q [] f h = refl
+all_more p q (x ∷ xs) f h = let (i, j) = both (p x) (list_all p xs) h in let k = f x i in rw k (all_more p q xs f j)
+
+any_more : (p q : Span → Bool) (xs : List Span) → ((s : Span) → p s ≡ true → q s ≡ true) → list_any p xs ≡ true → list_any q xs ≡ true
+any_more p q xs f h = let o = one_of p xs h in any_of q xs o.span o.among (f o.span o.is)
+
+pub more_asleep : (keys new : BTreeSet Key) (older log : List Operation) (p : Place) (x : Operation) → ((s : Stamp) → has_key keys p s ≡ true → has_key new p s ≡ true)
+    → IsAsleep keys older log p x → IsAsleep new older log p x
+more_asleep keys new older log p x f a = elim a [
+  | inl b ↦ inl (b.0, f (record { count = x.prev; site = x.site }) b.1)
+  | inr s ↦ inr (record {
+    prev = s.prev;
+    own = f (record { count = x.prev + 1; site = x.site }) s.own;
+    fine = λ span i. elim (s.fine span i) [
+      | inl k ↦ inl (all_more (has_key keys p) (has_key new p) (key_in older span) f k)
+      | inr k ↦ inr (k.0, all_more (has_key keys p) (has_key new p) (key_in log span) f k.1)
+    ];
+    waits = elim s.waits [
+      | inl g ↦ inl g
+      | inr g ↦ inr (any_more (pends keys older log p) (pends new older log p) (targets x.body)
+          (λ span h. let (a, b, c) = pends_from keys older log p span h in pends_to new older log p span a b (f (key_of older span) c)) g)
+    ];
+  })
+]
+
+-- A KEY IS SEEN TO
+
+in_span : (span : Span) (s : Stamp) → s.site ≡ span.site → span.first ≤ s.count → s.count ≤ span.last → is_in_span span s ≡ true
+in_span span s e f g = tests s.site span.site span.first s.count span.last e f g
+  where
+    tests : (a b first count last : ℕ) → a ≡ b → first ≤ count → count ≤ last → ((a == b) && (nat_le first count && nat_le count last)) ≡ true
+    tests a b first count last e f g = grind (arith, nat_tests)
+
+module _ (keys new : BTreeSet Key) (older log : List Operation) (k : Key) (x : Operation) (rules : keeps_rules x.body ≡ true) (passed : k.count ≤ known_end log k.site)
+    (rest : (s : Stamp) → has_key keys k.place s ≡ true → (s ≡ stamp_of_key k) ⊎ (has_key new k.place s ≡ true)) (seen : IsSeenTo log new k x) where
+  -- a key of the operation's own site is another
+  own_kept : (count : ℕ) → has_key keys k.place (record { count = count; site = x.site }) ≡ true → has_key new k.place (record { count = count; site = x.site }) ≡ true
+  own_kept count h = elim (rest (record { count = count; site = x.site }) h) [
+    | inl e ↦ absurd (let i = ap (λ (s : Stamp). s.site) e in other i seen.other)
+    | inr j ↦ j
+  ]
+    where
+      other : x.site ≡ k.site → (k.site == x.site) ≡ false → ⊥
+      other i n = grind (arith, nat_tests, i, n)
+
+  -- the span of the key
+  this_span : (span : Span) → IsAmong (targets x.body) span → goes_on older span ≡ true → key_of older span ≡ stamp_of_key k → IsFine new older log k.place span
+  this_span span i g e =
+      let f = goes_from older span g in
+      let is = f.is in
+      let end = f.end in
+      let site : span.site ≡ k.site = ap (λ (s : Stamp). s.site) e in
+      let count : max span.first (known_end older span.site + 1) ≡ k.count = ap (λ (s : Stamp). s.count) e in
+      let same : span ≡ seen.span = target_has x.body span seen.span (stamp_of_key k) rules i seen.came.among
+      (in_span span (stamp_of_key k) (sym site) (omega (arith, count)) (omega (arith, count, is, end))) seen.came.has in
+      let last : span.last ≡ seen.span.last = ap (λ (s : Span). s.last) same in
+      let known : known_end log span.site ≡ known_end log k.site = ap (known_end log) site in
+      let came : came_in older log span ≡ since log k seen.span = cc (site, count, last, known) in
+      let whole : has_gap log (came_in older log span) ≡ false = ap (has_gap log) came ∙ seen.came.whole in
+      inr (
+        and_false (not (span.site == 0)) (has_gap log (came_in older log span)) whole,
+        key_kept new log k.place span (λ on. let m = (goes_from log span on).end in
+            let at : key_of log span ≡ stamp (known_end log k.site + 1) k.site = next site known (omega (arith, count, known, passed)) in
+            ap (has_key new k.place) at ∙ seen.next (omega (arith, m, last, known))),
+      )
+    where
+      and_false : (a b : Bool) → b ≡ false → (a && b) ≡ false
+      and_false true b e = e
+      and_false false b e = refl
+
+      next : span.site ≡ k.site → known_end log span.site ≡ known_end log k.site → span.first ≤ known_end log span.site → key_of log span ≡ stamp (known_end log k.site + 1) k.site
+      next site known l = let c : max span.first (known_end log span.site + 1) ≡ known_end log k.site + 1 = omega (arith, known, l) in cc (c, site)
+
+  still_fine : (span : Span) → IsAmong (targets x.body) span → IsFine keys older log k.place span → IsFine new older log k.place span
+  still_fine span i fine = elim fine [
+    | inl a ↦ split (goes_on older span)
+        (λ g. elim (rest (key_of older span) (kept_key keys older k.place span g a)) [
+          | inl e ↦ this_span span i g e
+          | inr j ↦ inl (key_kept new older k.place span (λ h. j))
+        ])
+        (λ g. inl (key_kept new older k.place span (λ h. absurd (cc (g, h)))))
+    | inr a ↦ inr (
+      a.0,
+      key_kept new log k.place span (λ g. elim (rest (key_of log span) (kept_key keys log k.place span g a.1)) [
+        | inl e ↦ absurd (let site : span.site ≡ k.site = ap (λ (s : Stamp). s.site) e in
+            let count : max span.first (known_end log span.site + 1) ≡ k.count = ap (λ (s : Stamp). s.count) e in
+            let known = ap (known_end log) site in omega (arith, count, known, passed))
+        | inr j ↦ j
+      ]),
+    )
+  ]
+
+  still_waits : (list_any (goes_on log) (targets x.body) ≡ true) ⊎ (list_any (pends keys older log k.place) (targets x.body) ≡ true)
+      → (list_any (goes_on log) (targets x.body) ≡ true) ⊎ (list_any (pends new older log k.place) (targets x.body) ≡ true)
+  still_waits (inl g) = inl g
+  still_waits (inr h) =
+      let o = one_of (pends keys older log k.place) (targets x.body) h in
+      let (g, a, b) = pends_from keys older log k.place o.span o.is in
+      elim (rest (key_of older o.span) b) [
+        | inr j ↦ inr (any_of (pends new older log k.place) (targets x.body) o.span o.among (pends_to new older log k.place o.span g a j))
+        | inl e ↦ elim seen.waits [
+          | inl w ↦ inl w
+          | inr w ↦ (let site : o.span.site ≡ k.site = ap (λ (s : Stamp). s.site) e in
+              let count : max o.span.first (known_end older o.span.site + 1) ≡ k.count = ap (λ (s : Stamp). s.count) e in
+              let z = (goes_from older o.span g).site in
+              let s = w.site in
+              let known : known_end older o.span.site ≡ known_end older w.later.site = ap (known_end older) (site ∙ sym s) in
+              let ends : known_end log w.later.site ≡ known_end log k.site = ap (known_end log) s in
+              let is = w.is in
+              let behind = w.behind in
+              let in_time = w.passed in
+              let on = goes_to older w.later (record { site = ap (λ n. n == 0) (s ∙ sym site) ∙ z; is = is; end = omega (arith, count, known, is, behind) }) in
+              let first : key_of older w.later ≡ first_of w.later = ap (λ n. stamp n w.later.site) (least (omega (arith, count, known, behind))) in
+              inr (any_of (pends new older log k.place) (targets x.body) w.later w.among (pends_to new older log k.place w.later on
+              (ap (is_passed log) first ∙ to_true (omega (arith, in_time, ends))) (ap (has_key new k.place) first ∙ w.kept))))
+        ]
+      ]
+    where
+      least : {first end : ℕ} → end < first → max first (end + 1) ≡ first
+      least l = omega (arith, l)
+
+      to_true : {a b : ℕ} → a ≤ b → nat_le a b ≡ true
+      to_true l = grind (arith, nat_tests, l)
+
+  pub seen_asleep : IsAsleep keys older log k.place x → IsAsleep new older log k.place x
+  seen_asleep (inl b) = inl (b.0, own_kept x.prev b.1)
+  seen_asleep (inr s) = inr (record {
+    prev = s.prev;
+    own = own_kept (x.prev + 1) s.own;
+    fine = λ span i. still_fine span i (s.fine span i);
+    waits = still_waits s.waits;
+  })
+
+-- what has come in of a span, and doesn't reach its end, goes on
+pub came_goes_on : (log : List Operation) (key : Key) (spans : List Span) (span : Span) → HasComeIn log key spans span → known_end log key.site < span.last
+    → list_any (goes_on log) spans ≡ true
+came_goes_on log key spans span came l =
+    let h = came.has in
+    let e : key.site ≡ span.site = grind (arith, nat_tests, h) in
+    let f : span.first ≤ key.count = grind (arith, nat_tests, h) in
+    let m : key.count ≤ span.last = grind (arith, nat_tests, h) in
+    let known = ap (known_end log) e in
+    any_of (goes_on log) spans span came.among (goes_to log span (record { site = ap (λ n. n == 0) (sym e) ∙ came.site; is = omega (arith, f, m); end = omega (arith, l, known) }))
+
+-- IN THE END
+
+none_came : (log : List Operation) (span : Span) → span.last < span.first → has_gap log span ≡ false
+none_came log span l = let e : span.last + 1 - span.first ≡ 0 = omega (arith, l) in rw e refl
+
+module _ (keys : BTreeSet Key) (by : ℕ) (older log : List Operation) (p : Place) (x : Operation) (grown : HasGrownBy by older log) (history : IsHistory log)
+    (none : (s : Stamp) → has_key keys p s ≡ true → s.site ≡ by → known_end log by < s.count) where
+  -- what is kept and wasn't passed before isn't passed
+  unpassed : (s : Stamp) → has_key keys p s ≡ true → known_end older s.site < s.count → known_end log s.site < s.count
+  unpassed s h l = split (by == s.site)
+      (λ e. let i : s.site ≡ by = grind (arith, nat_tests, e) in let m = none s h i in let n = ap (known_end log) i in omega (arith, m, n))
+      (λ e. let m = grown.others s.site e in omega (arith, l, m))
+
+  key_unpassed : (span : Span) → goes_on older span ≡ true → has_key keys p (key_of older span) ≡ true → known_end log span.site < max span.first (known_end older span.site + 1)
+  key_unpassed span g h = unpassed (key_of older span) h (omega arith)
+
+  no_gap : (span : Span) → IsFine keys older log p span → has_new_gap older log span ≡ false
+  no_gap span (inr f) = f.0
+  no_gap span (inl f) = split (span.site == 0)
+      (λ z. rw z refl)
+      (λ z. rw z (none_came log (came_in older log span) (split (goes_on older span)
+      (λ g. let m = key_unpassed span g (kept_key keys older p span g f) in omega (arith, m))
+      (λ g. elim (cases_lt span.last span.first) [
+        | inl l ↦ omega (arith, l)
+        | inr l ↦ elim (cases_lt (known_end older span.site) span.last) [
+          | inl m ↦ absurd (let t = goes_to older span (record { site = z; is = l; end = m }) in cc (t, g))
+          | inr m ↦ omega (arith, l, m)
+        ]
+      ]))))
+
+  kept_now : (span : Span) → IsFine keys older log p span → list_all (has_key keys p) (key_in log span) ≡ true
+  kept_now span (inr f) = f.1
+  kept_now span (inl f) = ap (list_all (has_key keys p)) (key_stays older log grown.among span (split (goes_on older span)
+      (λ g. rw g (late _ _ (key_unpassed span g (kept_key keys older p span g f))))
+      (λ g. rw g refl))) ∙ f
+    where
+      late : (a b : ℕ) → b < a → (nat_le a b || false) ≡ false
+      late a b l = grind (arith, nat_tests)
+
+  waits_now : (list_any (goes_on log) (targets x.body) ≡ true) ⊎ (list_any (pends keys older log p) (targets x.body) ≡ true) → list_any (goes_on log) (targets x.body) ≡ true
+  waits_now (inl g) = g
+  waits_now (inr h) = absurd (
+      let o = one_of (pends keys older log p) (targets x.body) h in
+      let (g, a, b) = pends_from keys older log p o.span o.is in
+      let m = key_unpassed o.span g b in
+      early _ _ a m)
+    where
+      early : (a b : ℕ) → nat_le a b ≡ true → b < a → ⊥
+      early a b h l = grind (arith, nat_tests, h, l)
+
+  pub sleeps_on : is_early (answer_to x older) ≡ true → IsAsleep keys older log p x → sleeps keys log p x ≡ true
+  sleeps_on e (inl b) =
+      let d = b.0 in
+      let k = b.1 in
+      let w : WaitsAt older x = or_left (is_early (answer_to x older)) (is_new (answer_to x older)) e in
+      let l = unpassed (record { count = x.prev; site = x.site }) k (before x.prev (known_end older x.site) d) in
+      let n : list_any (is_passed log) (keys_of older x) ≡ false = rw d (late x.prev (known_end log x.site) l) in
+      let same = unpassed_stay older log x grown.history history grown.among w n in
+      let early : is_early (answer_to x log) ≡ true = ap is_early same.0 ∙ e in
+      let kept : are_kept keys log p x ≡ true = ap (list_all (has_key keys p)) same.1 ∙ (rw d (rw k refl)) in
+      rw early kept
+    where
+      before : (a b : ℕ) → nat_lt b a ≡ true → b < a
+      before a b d = grind (arith, nat_tests, d)
+
+      late : (a b : ℕ) → b < a → (nat_le a b || false) ≡ false
+      late a b l = grind (arith, nat_tests)
+  sleeps_on e (inr s) =
+      let w : WaitsAt older x = or_left (is_early (answer_to x older)) (is_new (answer_to x older)) e in
+      let c = (waiting_from older x w).prev in
+      let d = s.prev in
+      let was : x.prev ≡ known_end older x.site = same x.prev (known_end older x.site) c d in
+      let l = unpassed (record { count = x.prev + 1; site = x.site }) s.own (omega (arith, was)) in
+      let g = end_stays older log grown.among x.site in
+      let is : x.prev ≡ known_end log x.site = omega (arith, l, g, was) in
+      let gaps = none_of (has_new_gap older log) (targets x.body) (λ span i. no_gap span (s.fine span i)) in
+      let on = waits_now s.waits in
+      let answer = looks_are_enough older log x grown.history history grown.among w was is in
+      let early : is_early (answer_to x log) ≡ true = ap is_early answer ∙ (rw (gaps, on) refl) in
+      let now : nat_lt (known_end log x.site) x.prev ≡ false = not_lt (known_end log x.site) x.prev is in
+      let own = s.own in
+      let kept : are_kept keys log p x ≡ true = rw now (rw own (all_each (has_key keys p) (key_in log) (targets x.body) (λ span i. kept_now span (s.fine span i)))) in
+      rw early kept
+    where
+      same : (a b : ℕ) → nat_lt a b ≡ false → nat_lt b a ≡ false → a ≡ b
+      same a b c d = grind (arith, nat_tests)
+
+      not_lt : (a b : ℕ) → b ≡ a → nat_lt a b ≡ false
+      not_lt a b e = grind (arith, nat_tests, e)
+
+-- WHAT STANDS IN A LIST
+
+pub among_at : (spans : List Span) (i : ℕ) (span : Span) → i < length spans → span ≡ slice_index_or spans i span → IsAmong spans span
+among_at [] i span l e = absurd (omega (arith, l))
+among_at (x ∷ spans) zero span l e = inl (sym e)
+among_at (x ∷ spans) (suc i) span l e = inr (among_at spans i span (omega (arith, l)) e)

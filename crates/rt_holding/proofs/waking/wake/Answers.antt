@@ -1,0 +1,102 @@
+use Rattle.std.proofs.Common.{◌≡◌, ◌∙◌, ◌⊎◌, ◌<◌, ◌≤◌, ℕ, ap, arith, cond, false, inl, inr, length, subst, sym, true}
+use Rattle.std.proofs.lemmas.Bool.{cases_lt}
+use Rattle.std.proofs.lemmas.Bool.Decides.{nat_tests}
+use Rattle.std.specs.List.{filter}
+use Rattle.std.specs.BTreeMap.{get, is_at}
+use Rattle.std.specs.BTreeSet.{BTreeSet, contains}
+use Rattle.rt_stamps.specs.declared.stamp.Stamp.{Stamp}
+use Rattle.rt_oplog.specs.Logs.{known_end}
+use Rattle.rt_rga.specs.Answers.{answer_to}
+use Rattle.rt_rga.proofs.Skipping.{split}
+use Rattle.rt_holding.specs.declared.waits.Key.{Key}
+use Rattle.rt_holding.specs.Holding.{is_early}
+use Rattle.rt_holding.specs.Kept.{Place, by_stamp_and_arrival}
+use Rattle.rt_holding.specs.Waits.{IfIsThere, are_kept, by_key, has_key, is_due, key_at, sleeps}
+use Rattle.rt_holding.specs.Waking.{IsSeenTo, is_passed_by, passed_keys, stamp_of_key}
+use Rattle.rt_holding.proofs.Going.{both, or_left, or_right}
+use Rattle.rt_holding.proofs.Sleeping.{IsAsleep, falls_asleep, more_asleep, seen_asleep, sleeps_on}
+use Rattle.rt_holding.proofs.Standing.{count_removed, key_equal, other_key, this_place}
+use Rattle.rt_holding.proofs.waking.wake.Goals as goal
+
+pub loop-key-init : goal.loop-key-init
+loop-key-init g c =
+    let log = g.T.Taking.log c.args.site.now in
+    record {
+      ready = c.look_again.ensures.ready;
+      due = λ p h. h;
+      asleep = λ older grown p x f r s. inr (falls_asleep c.look_again.new.waits.keys older log p x grown.history s);
+    }
+
+pub loop-key-preserved : goal.loop-key-preserved
+loop-key-preserved g c =
+    let log = g.T.Taking.log c.args.site.now in
+    let before = c.loop-key.invariant in
+    let key = c.in-Some.key in
+    let there = c.in-Some.ensures.some in
+    let old = c.loop-key.waits.keys in
+    let less = c.remove-was_there.new.self in
+    let new = c.pass.new.waits.keys in
+    let passed = there.passed in
+    let known = c.known-known.ensures.known ∙ ap (known_end log) (sym there.of_site) in
+    record {
+      ready = c.pass.ensures.ready;
+      due = λ p h. c.pass.ensures.due p (before.due p h);
+      asleep = λ older grown p x f r s. elim (before.asleep older grown p x f r s) [
+        | inl d ↦ inl (c.pass.ensures.due p d)
+        | inr a ↦ split (is_at (by_stamp_and_arrival key.place) p)
+            (λ t. let at = this_place key.place p t in
+            let here : (is_due key.place c.pass.new.waits.due ≡ true) ⊎ IsSeenTo log new key x =
+            subst (IfIsThere (λ y. (is_due key.place c.pass.new.waits.due ≡ true) ⊎ IsSeenTo log new key y)) (ap (get by_stamp_and_arrival c.args.ops.now) at ∙ f) c.pass.ensures.here in
+            subst (λ (q : Place). (is_due q c.pass.new.waits.due ≡ true) ⊎ IsAsleep new older log q x) at (elim here [
+              | inl d ↦ inl d
+              | inr seen ↦ inr (seen_asleep old new older log key x r (omega (arith, passed, known)) (rest key old less new c.remove-was_there.ensures.updates.0 c.pass.ensures.more) seen
+                  (subst (λ (q : Place). IsAsleep old older log q x) (sym at) a))
+            ]))
+            (λ t. inr (more_asleep old new older log p x (λ st h. c.pass.ensures.others (key_at st p) t ∙ c.remove-was_there.ensures.updates.0 (key_at st p) ∙ other key (key_at st p) old t h) a))
+      ];
+    }
+  where
+    rest : (key : Key) (old less new : BTreeSet Key) → ((k : Key) → contains by_key less k ≡ cond (is_at (by_key key) k) false (contains by_key old k))
+        → ((k : Key) → contains by_key less k ≡ true → contains by_key new k ≡ true) → (st : Stamp) → has_key old key.place st ≡ true
+        → (st ≡ stamp_of_key key) ⊎ (has_key new key.place st ≡ true)
+    rest key old less new less_is more st h = split (is_at (by_key key) (key_at st key.place))
+        (λ t. inl (sym (ap stamp_of_key (key_equal key (key_at st key.place) t))))
+        (λ t. inr (more (key_at st key.place) (less_is (key_at st key.place) ∙ (rw t h))))
+
+    other : (key k : Key) (old : BTreeSet Key) → is_at (by_stamp_and_arrival key.place) k.place ≡ false → contains by_key old k ≡ true → cond (is_at (by_key key) k) false (contains by_key old k) ≡ true
+    other key k old n h = let t = other_key key k n in rw t h
+
+pub loop-key-smaller : goal.loop-key-smaller
+loop-key-smaller g c =
+    let log = g.T.Taking.log c.args.site.now in
+    let key = c.in-Some.key in
+    let there = c.in-Some.ensures.some in
+    let known = c.known-known.ensures.known ∙ ap (known_end log) (sym there.of_site) in
+    let same = c.pass.ensures.count c.known-known.result known in
+    let less = count_removed (is_passed_by c.args.made_by c.known-known.result) key c.loop-key.waits.keys.keys there.there (is_so key c.args.made_by c.known-known.result there.of_site there.passed) in
+    let removed = ap (λ ks. length (filter (is_passed_by c.args.made_by c.known-known.result) ks)) c.remove-was_there.ensures.keys in
+    let moved = ap (λ n. passed_keys n c.known-known.result c.pass.new.waits.keys) there.of_site in
+    let before = ap (λ n. passed_keys n c.known-known.result c.remove-was_there.new.self) there.of_site in
+    omega (arith, same, less, removed, moved, before)
+  where
+    is_so : (key : Key) (site known : ℕ) → key.site ≡ site → key.count ≤ known → is_passed_by site known key ≡ true
+    is_so key site known e l = grind (arith, nat_tests, e, l)
+
+pub returns-clause-woken : goal.returns-clause-woken
+returns-clause-woken g c =
+    let log = g.T.Taking.log c.args.site.now in
+    let last = c.loop-key.invariant in
+    let known = c.known-known.ensures.known in
+    record {
+      due = λ p h. last.due p (c.look_again.ensures.due p h);
+      again = λ p h. last.due p (c.look_again.ensures.again p h);
+      asleep = λ older grown p x f r s. elim (last.asleep older grown p x f r (subst (λ (keys : BTreeSet Key). sleeps keys older p x ≡ true) (sym c.look_again.ensures.keys) s)) [
+        | inl d ↦ or_left (is_due p c.loop-key.waits.due) (sleeps c.loop-key.waits.keys log p x) d
+        | inr a ↦ or_right (is_due p c.loop-key.waits.due) (sleeps c.loop-key.waits.keys log p x)
+            (sleeps_on c.loop-key.waits.keys c.args.made_by older log p x grown c.known-known.ensures.history (λ st h e. late (key_at st p) (known_end log c.args.made_by) h
+            (λ l. c.in_default.ensures.none (key_at st p) e (omega (arith, l, known)))) (both (is_early (answer_to x older)) (are_kept c.args.waits.now.keys older p x) s).0 a)
+      ];
+    }
+  where
+    late : (k : Key) (end : ℕ) → contains by_key c.loop-key.waits.keys k ≡ true → (k.count ≤ end → contains by_key c.loop-key.waits.keys k ≡ false) → end < k.count
+    late k end h f = elim (cases_lt end k.count) [ inl l ↦ l | inr l ↦ absurd (let n = f l in cc (h, n)) ]

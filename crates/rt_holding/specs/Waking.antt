@@ -1,0 +1,83 @@
+-- What becomes of held operations that wait when a log has grown. Public clauses cite none of this.
+use Rattle.std.specs.Prelude.{◌≡◌, ◌+◌, ◌<◌, ◌≤◌, ◌⊎◌, ◌==◌, ◌&&◌, ◌||◌, ℕ, Bool, true, false, min, nat_le, List, [], ◌∷◌, Option, Some, length}
+use Rattle.std.specs.BTreeMap.{BTreeMap, get}
+use Rattle.std.specs.BTreeSet.{BTreeSet}
+use Rattle.std.specs.List.{filter, list_any}
+use Rattle.rt_stamps.specs.declared.stamp.Span.{Span}
+use Rattle.rt_stamps.specs.declared.stamp.Stamp.{Stamp}
+use Rattle.rt_stamps.specs.Spans.{is_in_span}
+use Rattle.rt_ops.specs.Operations.{Operation}
+use Rattle.rt_ops.specs.Rules.{keeps_rules}
+use Rattle.rt_oplog.specs.Logs.{known_end}
+use Rattle.rt_rga.specs.Answers.{has_gap}
+use Rattle.rt_holding.specs.declared.waits.Key.{Key}
+use Rattle.rt_holding.specs.declared.waits.Waits.{Waits}
+use Rattle.rt_holding.specs.declared.waking.Passed.{Passed}
+use Rattle.rt_holding.specs.declared.waking.Passed.TheVariants.{Due, GoesOn, Sleeps}
+use Rattle.rt_holding.specs.Grown.{HasGrownBy}
+use Rattle.rt_holding.specs.Kept.{Place, by_stamp_and_arrival}
+use Rattle.rt_holding.specs.Waiting.{goes_on, targets}
+use Rattle.rt_holding.specs.Waits.{has_key, is_due, is_listed, sleeps}
+
+-- a span is one of others
+abbrev pub IsAmong : List Span → Span → Type 0
+IsAmong [] span = ⊥
+IsAmong (x ∷ spans) span = (x ≡ span) ⊎ IsAmong spans span
+
+abbrev pub stamp_of_key : Key → Stamp
+stamp_of_key key = record { count = key.count; site = key.site }
+
+-- the first stamp of a span
+abbrev pub first_of : Span → Stamp
+first_of span = record { count = span.first; site = span.site }
+
+-- What became known of a span from a key on has no gap.
+pub record HasComeIn (log : List Operation) (key : Key) (spans : List Span) (span : Span) : Type 0 where
+  pub site : (key.site == 0) ≡ false
+  pub among : IsAmong spans span
+  pub has : is_in_span span (stamp_of_key key) ≡ true
+  pub whole : has_gap log (record { site = key.site; first = key.count; last = min span.last (known_end log key.site) }) ≡ false
+
+-- A later span, whose key is passed too, is still to be seen to.
+pub record IsToCome (known : ℕ) (keys : BTreeSet Key) (key : Key) (spans : List Span) : Type 0 where
+  pub later : Span
+  pub among : IsAmong spans later
+  pub site : later.site ≡ key.site
+  pub is : later.first ≤ later.last
+  pub behind : key.count ≤ later.first
+  pub passed : later.first ≤ known
+  pub kept : has_key keys key.place (first_of later) ≡ true
+
+-- Without a look at the whole operation that names them: a span goes on from a count; or some other span is waited for.
+abbrev pub IsPassedOn : List Operation → BTreeSet Key → Key → List Span → Passed → Type 0
+IsPassedOn log keys key spans Due = Unit {0}
+IsPassedOn log keys key spans (GoesOn count) =
+    (span : Span) × HasComeIn log key spans span × (known_end log key.site < span.last) × (count ≡ known_end log key.site + 1)
+IsPassedOn log keys key spans Sleeps =
+    (span : Span) × HasComeIn log key spans span × (span.last ≤ known_end log key.site)
+    × ((list_any (goes_on log) spans ≡ true) ⊎ IsToCome (known_end log key.site) keys key spans)
+
+-- what the operation at a key's place waits for after that
+pub record IsSeenTo (log : List Operation) (keys : BTreeSet Key) (key : Key) (op : Operation) : Type 0 where
+  pub other : (key.site == op.site) ≡ false
+  pub span : Span
+  pub came : HasComeIn log key (targets op.body) span
+  pub next : known_end log key.site < span.last → has_key keys key.place (record { count = known_end log key.site + 1; site = key.site }) ≡ true
+  pub waits : (list_any (goes_on log) (targets op.body) ≡ true) ⊎ IsToCome (known_end log key.site) keys key (targets op.body)
+
+-- a key of a site to which its known end has come
+abbrev pub is_passed_by : ℕ → ℕ → Key → Bool
+is_passed_by site known key = (key.site == site) && nat_le key.count known
+
+-- how many there are
+abbrev pub passed_keys : ℕ → ℕ → BTreeSet Key → ℕ
+passed_keys site known keys = length (filter (is_passed_by site known) keys.keys)
+
+-- Since the log has grown: those that were due stay so, and those are due that were looked at again; of those that slept each is due,
+-- or sleeps on.
+pub record IsWoken (made_by : ℕ) (log : List Operation) (ops : BTreeMap Place (Option Operation)) (old new : Waits) : Type 0 where
+  pub due : (place : Place) → is_due place old.due ≡ true → is_due place new.due ≡ true
+  pub again : (place : Place) → is_listed place old.again.items ≡ true → is_due place new.due ≡ true
+  pub asleep : (older : List Operation) → HasGrownBy made_by older log → (place : Place) (op : Operation)
+      → get by_stamp_and_arrival ops place ≡ Some (Some op) → keeps_rules op.body ≡ true → sleeps old.keys older place op ≡ true
+      → (is_due place new.due || sleeps new.keys log place op) ≡ true
