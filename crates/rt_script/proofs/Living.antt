@@ -97,7 +97,7 @@ GoesOn files old new = (old.files ≡ files) → LivesOn (IsOfNamed files) old.s
 
 line_on : (files : List NamedFile) (old new : Session) (line : List ℕ) (answer : Answer) → LineGives SiteGives old line answer new → GoesOn files old new
 line_on files old new line answer (inl h) e =
-    let gives = h.1.2.1 in
+    let gives = h.1.2 in
     (words_on files h.1.0 old.site new.site answer (subst (λ (f : List NamedFile). WordsGive f h.1.0 old.site answer new.site) e gives.1), gives.0 ∙ e)
 line_on files old new line answer (inr (inl h)) e = (stays_on (IsOfNamed files) old.site new.site (λ i. (h.2 i).site), (λ i. (h.2 i).files) ∙ e)
 line_on files old new line answer (inr (inr h)) e = (stays_on (IsOfNamed files) old.site new.site (λ i. (h.2 i).site), (λ i. (h.2 i).files) ∙ e)
