@@ -57,6 +57,14 @@ never_room op log = by_tests _ _ _ _ _ _
     by_tests false false false false false true = refl
     by_tests false false false false false false = refl
 
+-- what would stay waits
+pub stays_waits : (limit : ℕ) (log : List Operation) (x : Operation) → stays (answer_within limit x log) ≡ true → WaitsAt log x
+stays_waits limit log x e = waits_by (nat_lt limit (length (cells_of log) + length (inserted x))) (answer_to x log) false (one (stays (answer_within limit x log)) (is_new (answer_within limit x log) && false) e) (never_room x log)
+  where
+    one : (a b : Bool) → a ≡ true → (a || b) ≡ true
+    one true b e = refl
+    one false b e = absurd (cc e)
+
 pub left_ones_stay : (limit : ℕ) (wanting older log : List Operation) (op : Operation) → IsHistory older → IsHistory log → AreIn older log → length (cells_of older) ≤ length (cells_of log)
     → is_left limit wanting older op ≡ true → NoneIsPassed older log op → is_left limit wanting log op ≡ true
 left_ones_stay limit wanting older log op h m sub l e n =

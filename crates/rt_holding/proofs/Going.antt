@@ -11,12 +11,10 @@ use Rattle.rt_stamps.specs.Stamps.{is_same}
 use Rattle.rt_stamps.proofs.Order.{same_refl, same_from_true}
 use Rattle.rt_ops.specs.Operations.{Operation}
 use Rattle.rt_oplog.specs.Logs.{holds}
-use Rattle.rt_rga.specs.Answers.{Answer, New, Repeat, Refused, answer_to, refused_if_full}
-use Rattle.rt_rga.specs.Cells.{cells_of}
-use Rattle.rt_rga.specs.Histories.{inserted}
+use Rattle.rt_rga.specs.Answers.{answer_within}
 use Rattle.rt_rga.proofs.Skipping.{split}
 use Rattle.rt_holding.specs.declared.waits.Waits.{Waits as Table}
-use Rattle.rt_holding.specs.Holding.{is_early, is_left, is_new, next_of, stays}
+use Rattle.rt_holding.specs.Holding.{is_left, is_new, next_of, stays}
 use Rattle.rt_holding.specs.Kept.{Entry, Place, by_stamp_and_arrival, ops_in, put_in_front}
 use Rattle.rt_holding.specs.Waits.{are_kept, are_tried_at, is_due, is_listed, is_tried_at, sleeps}
 use Rattle.rt_holding.proofs.Places.{places_total}
@@ -56,14 +54,12 @@ all_from p (x ∷ xs) f =
 
 -- WHAT IS LEFT
 
-pub early_left : (full : Bool) (a : Answer) (h : Bool) → is_early a ≡ true → (stays (refused_if_full full a) || (is_new (refused_if_full full a) && h)) ≡ true
-early_left full New h e = absurd (cc e)
-early_left full Repeat h e = absurd (cc e)
-early_left full (Refused fault) h e = rw e refl
+pub left_if_stays : (limit : ℕ) (wanting log : List Operation) (x : Operation) → stays (answer_within limit x log) ≡ true → is_left limit wanting log x ≡ true
+left_if_stays limit wanting log x e = or_left (stays (answer_within limit x log)) (is_new (answer_within limit x log) && holds wanting x) e
 
 -- it is looked at again, or sleeps
 abbrev pub IsLeftAt : ℕ → List Operation → List Operation → Table → Place → Operation → Type 0
-IsLeftAt limit wanting log waits p x = ((is_listed p waits.again.items ≡ true) × (is_left limit wanting log x ≡ true)) ⊎ (sleeps waits.keys log p x ≡ true)
+IsLeftAt limit wanting log waits p x = ((is_listed p waits.again.items ≡ true) × (is_left limit wanting log x ≡ true)) ⊎ (sleeps limit waits.keys log p x ≡ true)
 
 -- all that isn't due is left
 abbrev pub AreReady : ℕ → List Operation → List Operation → BTreeMap Place (Option Operation) → Table → Type 0
@@ -73,8 +69,7 @@ AreReady limit wanting log m waits =
 left_at : (limit : ℕ) (wanting log : List Operation) (waits : Table) (p : Place) (x : Operation) → IsLeftAt limit wanting log waits p x → is_left limit wanting log x ≡ true
 left_at limit wanting log waits p x i = elim i [
   | inl j ↦ j.1
-  | inr s ↦ early_left (nat_lt limit (length (cells_of log) + length (inserted x))) (answer_to x log) (holds wanting x)
-      (both (is_early (answer_to x log)) (are_kept waits.keys log p x) s).0
+  | inr s ↦ left_if_stays limit wanting log x (both (stays (answer_within limit x log)) (are_kept waits.keys log p x) s).0
 ]
 
 -- WHICH IS NEXT
@@ -138,33 +133,33 @@ all_tried P (e ∷ entries) a = let h = a.0 in rw h (all_tried P entries a.1)
 
 -- all were tried at the log at which none is due
 pub tried_now : (limit : ℕ) (wanting log : List Operation) (m : BTreeMap Place (Option Operation)) (waits : Table) → AreReady limit wanting log m waits
-    → ((q : Place) → is_due q waits.due ≡ false) → IsOrdered by_stamp_and_arrival m → are_tried_at log waits.keys waits.again.items m.entries ≡ true
+    → ((q : Place) → is_due q waits.due ≡ false) → IsOrdered by_stamp_and_arrival m → are_tried_at limit log waits.keys waits.again.items m.entries ≡ true
 tried_now limit wanting log m waits r f s =
-    all_tried (is_tried_at log waits.keys waits.again.items) m.entries
-    (all_weaker (λ e. lookup (is_at (by_stamp_and_arrival e.0)) m.entries ≡ Some e.1) (λ e. is_tried_at log waits.keys waits.again.items e ≡ true) (λ e h. one e.0 e.1 (r e.0) h (f e.0)) m.entries (each_found m.entries s))
+    all_tried (is_tried_at limit log waits.keys waits.again.items) m.entries
+    (all_weaker (λ e. lookup (is_at (by_stamp_and_arrival e.0)) m.entries ≡ Some e.1) (λ e. is_tried_at limit log waits.keys waits.again.items e ≡ true) (λ e h. one e.0 e.1 (r e.0) h (f e.0)) m.entries (each_found m.entries s))
   where
     one : (p : Place) (v : Option Operation) → ((x : Operation) → get by_stamp_and_arrival m p ≡ Some (Some x) → (is_due p waits.due ≡ true) ⊎ IsLeftAt limit wanting log waits p x)
-        → lookup (is_at (by_stamp_and_arrival p)) m.entries ≡ Some v → is_due p waits.due ≡ false → is_tried_at log waits.keys waits.again.items (p, v) ≡ true
+        → lookup (is_at (by_stamp_and_arrival p)) m.entries ≡ Some v → is_due p waits.due ≡ false → is_tried_at limit log waits.keys waits.again.items (p, v) ≡ true
     one p None k h n = refl
     one p (Some x) k h n = elim (k x h) [
       | inl d ↦ absurd (cc (n, d))
       | inr j ↦ elim j [
-        | inl i ↦ or_left (is_listed p waits.again.items) (sleeps waits.keys log p x) i.0
-        | inr i ↦ or_right (is_listed p waits.again.items) (sleeps waits.keys log p x) i
+        | inl i ↦ or_left (is_listed p waits.again.items) (sleeps limit waits.keys log p x) i.0
+        | inr i ↦ or_right (is_listed p waits.again.items) (sleeps limit waits.keys log p x) i
       ]
     ]
 
-pub tried_in : (log : List Operation) (waits : Table) (entries : List Entry) → are_tried_at log waits.keys waits.again.items entries ≡ true
-    → (p : Place) (x : Operation) → lookup (is_at (by_stamp_and_arrival p)) entries ≡ Some (Some x) → is_tried_at log waits.keys waits.again.items (p, Some x) ≡ true
-tried_in log waits [] a p x g = absurd (cc g)
-tried_in log waits (e ∷ entries) a p x g =
-    let (i, j) = both (is_tried_at log waits.keys waits.again.items e) (are_tried_at log waits.keys waits.again.items entries) a in
+pub tried_in : (limit : ℕ) (log : List Operation) (waits : Table) (entries : List Entry) → are_tried_at limit log waits.keys waits.again.items entries ≡ true
+    → (p : Place) (x : Operation) → lookup (is_at (by_stamp_and_arrival p)) entries ≡ Some (Some x) → is_tried_at limit log waits.keys waits.again.items (p, Some x) ≡ true
+tried_in limit log waits [] a p x g = absurd (cc g)
+tried_in limit log waits (e ∷ entries) a p x g =
+    let (i, j) = both (is_tried_at limit log waits.keys waits.again.items e) (are_tried_at limit log waits.keys waits.again.items entries) a in
     split (is_at (by_stamp_and_arrival p) e.0)
     (λ t. let h : Some e.1 ≡ Some (Some x) = rw t at g in
     let is : e.1 ≡ Some x = cc in
     let s = this_place p e.0 t in
-    subst (λ (q : Place). is_tried_at log waits.keys waits.again.items (q, Some x) ≡ true) (sym s) (subst (λ (v : Option Operation). is_tried_at log waits.keys waits.again.items (e.0, v) ≡ true) is i))
-    (λ t. tried_in log waits entries j p x (rw t at g))
+    subst (λ (q : Place). is_tried_at limit log waits.keys waits.again.items (q, Some x) ≡ true) (sym s) (subst (λ (v : Option Operation). is_tried_at limit log waits.keys waits.again.items (e.0, v) ≡ true) is i))
+    (λ t. tried_in limit log waits entries j p x (rw t at g))
 
 -- fewer were tried too
 pub tried_less : (P : Entry → Bool) (t : Place → Bool) (entries : List Entry) → list_all P entries ≡ true → list_all P (remove_entry t entries) ≡ true

@@ -10,6 +10,7 @@ pub mod Going
 pub mod Greatest
 pub mod Keeping
 pub mod Keys
+pub mod Larger
 pub mod Looking
 pub mod Passing
 pub mod Places

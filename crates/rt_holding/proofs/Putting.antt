@@ -6,10 +6,10 @@ use Rattle.std.specs.List.{AllByRecursion, list_all}
 use Rattle.std.specs.Map.{remove_entry}
 use Rattle.std.specs.Option.{IfNone, IfSome}
 use Rattle.rt_ops.specs.Operations.{Operation}
-use Rattle.rt_rga.specs.Answers.{answer_to}
+use Rattle.rt_rga.specs.Answers.{answer_within}
 use Rattle.rt_rga.proofs.Skipping.{split}
 use Rattle.rt_holding.specs.declared.waits.Key.{Key}
-use Rattle.rt_holding.specs.Holding.{is_early}
+use Rattle.rt_holding.specs.Holding.{stays}
 use Rattle.rt_holding.specs.Kept.{Entry, IsInPlace, Place, by_stamp_and_arrival}
 use Rattle.rt_holding.specs.Waiting.{keys_of}
 use Rattle.rt_holding.specs.Waits.{KeepsOthers, are_tried_at, is_listed, is_tried_at, sleeps}
@@ -23,22 +23,22 @@ earlier n p e i a = split (is_at (by_stamp_and_arrival p) e.0)
     (λ t. absurd (let s = ap (λ (q : Place). q.1) (this_place p e.0 t) in let l = a.came in omega (arith, s, l, i)))
     (λ t. t)
 
-entry_kept : (log : List Operation) (p : Place) (old new : BTreeSet Key) (again more : List Place) → KeepsOthers p old new → ((q : Place) → is_listed q again ≡ true → is_listed q more ≡ true)
-    → (q : Place) (v : Option Operation) → is_at (by_stamp_and_arrival p) q ≡ false → is_tried_at log old again (q, v) ≡ true → is_tried_at log new more (q, v) ≡ true
-entry_kept log p old new again more k a q None n h = refl
-entry_kept log p old new again more k a q (Some x) n h = elim (either (is_listed q again) (sleeps old log q x) h) [
-  | inl i ↦ or_left (is_listed q more) (sleeps new log q x) (a q i)
-  | inr i ↦ or_right (is_listed q more) (sleeps new log q x) (ap (λ b. is_early (answer_to x log) && b) (kept_others p old new k q (keys_of log x) n) ∙ i)
+entry_kept : (limit : ℕ) (log : List Operation) (p : Place) (old new : BTreeSet Key) (again more : List Place) → KeepsOthers p old new → ((q : Place) → is_listed q again ≡ true → is_listed q more ≡ true)
+    → (q : Place) (v : Option Operation) → is_at (by_stamp_and_arrival p) q ≡ false → is_tried_at limit log old again (q, v) ≡ true → is_tried_at limit log new more (q, v) ≡ true
+entry_kept limit log p old new again more k a q None n h = refl
+entry_kept limit log p old new again more k a q (Some x) n h = elim (either (is_listed q again) (sleeps limit old log q x) h) [
+  | inl i ↦ or_left (is_listed q more) (sleeps limit new log q x) (a q i)
+  | inr i ↦ or_right (is_listed q more) (sleeps limit new log q x) (ap (λ b. stays (answer_within limit x log) && b) (kept_others p old new k q (keys_of log x) n) ∙ i)
 ]
 
 -- where keys of a later place alone have changed, and more are looked at again
-pub tried_kept : (log : List Operation) (n : ℕ) (p : Place) (old new : BTreeSet Key) (again more : List Place) → p.1 ≡ n → KeepsOthers p old new → ((q : Place) → is_listed q again ≡ true → is_listed q more ≡ true)
-    → (entries : List Entry) → AllByRecursion (IsInPlace n) entries → are_tried_at log old again entries ≡ true → are_tried_at log new more entries ≡ true
-tried_kept log n p old new again more i k a [] c h = refl
-tried_kept log n p old new again more i k a (e ∷ entries) c h =
-    let (f, r) = both (is_tried_at log old again e) (are_tried_at log old again entries) h in
-    let g : is_tried_at log new more e ≡ true = entry_kept log p old new again more k a e.0 e.1 (earlier n p e i c.0) f in
-    rw g (tried_kept log n p old new again more i k a entries c.1 r)
+pub tried_kept : (limit : ℕ) (log : List Operation) (n : ℕ) (p : Place) (old new : BTreeSet Key) (again more : List Place) → p.1 ≡ n → KeepsOthers p old new → ((q : Place) → is_listed q again ≡ true → is_listed q more ≡ true)
+    → (entries : List Entry) → AllByRecursion (IsInPlace n) entries → are_tried_at limit log old again entries ≡ true → are_tried_at limit log new more entries ≡ true
+tried_kept limit log n p old new again more i k a [] c h = refl
+tried_kept limit log n p old new again more i k a (e ∷ entries) c h =
+    let (f, r) = both (is_tried_at limit log old again e) (are_tried_at limit log old again entries) h in
+    let g : is_tried_at limit log new more e ≡ true = entry_kept limit log p old new again more k a e.0 e.1 (earlier n p e i c.0) f in
+    rw g (tried_kept limit log n p old new again more i k a entries c.1 r)
 
 pub tried_away : (P : Entry → Bool) (place : Option Place) (entries less : List Entry) → IfSome place (λ p. less ≡ remove_entry (is_at (by_stamp_and_arrival p)) entries) → IfNone place (less ≡ entries)
     → list_all P entries ≡ true → list_all P less ≡ true

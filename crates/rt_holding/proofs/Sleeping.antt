@@ -11,17 +11,22 @@ use Rattle.rt_stamps.specs.Spans.{each_next, is_clear_of, is_in_span, is_span}
 use Rattle.rt_ops.specs.Operations.{Body, Insert, Delete, Tag, Operation}
 use Rattle.rt_ops.specs.Rules.{keeps_rules}
 use Rattle.rt_oplog.specs.Logs.{known_end}
-use Rattle.rt_rga.specs.Answers.{New, Refused, answer_to, has_gap, passes_end}
-use Rattle.rt_rga.specs.Histories.{IsHistory}
+use Rattle.rt_rga.specs.Answers.{Answer, New, Repeat, Refused, answer_to, answer_within, has_gap, passes_end, refused_if_full}
+use Rattle.rt_rga.specs.Cells.{cells_of}
+use Rattle.rt_rga.specs.Histories.{IsHistory, inserted}
+use Rattle.rt_rga.proofs.Accepting.{continues_if_new}
 use Rattle.rt_rga.proofs.Skipping.{split}
 use Rattle.rt_holding.specs.declared.waits.Key.{Key}
 use Rattle.rt_holding.specs.Grown.{HasGrownBy}
-use Rattle.rt_holding.specs.Holding.{is_early, is_new}
+use Rattle.rt_holding.specs.Holding.{is_early, is_new, stays}
 use Rattle.rt_holding.specs.Kept.{Place}
 use Rattle.rt_holding.specs.Waiting.{WaitsAt, came_in, goes_on, has_new_gap, is_passed, key_in, keys_of, targets}
 use Rattle.rt_holding.specs.Waits.{are_kept, has_key, sleeps}
 use Rattle.rt_holding.specs.Waking.{HasComeIn, IsAmong, IsSeenTo, first_of, stamp_of_key}
-use Rattle.rt_holding.proofs.Going.{both, or_left, or_right}
+use Rattle.rt_holding.proofs.Going.{both, left_if_stays, or_left, or_right}
+use Rattle.rt_holding.proofs.Keeping.{is_new_true}
+use Rattle.rt_holding.proofs.Larger.{no_fewer_cells}
+use Rattle.rt_holding.proofs.Due.{left_ones_stay, stays_waits}
 use Rattle.rt_holding.proofs.Looking.{looks_are_enough}
 use Rattle.rt_holding.proofs.Waiting.{end_stays, key_stays, unpassed_stay, waiting_from}
 
@@ -162,6 +167,17 @@ abbrev pub IsAsleep : BTreeSet Key → List Operation → List Operation → Pla
 IsAsleep keys older log p x =
     ((nat_lt (known_end older x.site) x.prev ≡ true) × (has_key keys p (record { count = x.prev; site = x.site }) ≡ true)) ⊎ SleepsOn keys older log p x
 
+-- It could be taken if there were room, and waits for one in its own place alone.
+pub record LacksRoom (limit : ℕ) (keys : BTreeSet Key) (older : List Operation) (p : Place) (x : Operation) : Type 0 where
+  pub full : stays (answer_within limit x older) ≡ true
+  pub waits : WaitsAt older x
+  pub alone : keys_of older x ≡ record { count = x.prev + 1; site = x.site } ∷ []
+  pub own : has_key keys p (record { count = x.prev + 1; site = x.site }) ≡ true
+
+-- it came too early, or finds no room
+abbrev pub IsResting : ℕ → BTreeSet Key → List Operation → List Operation → Place → Operation → Type 0
+IsResting limit keys older log p x = ((is_early (answer_to x older) ≡ true) × IsAsleep keys older log p x) ⊎ LacksRoom limit keys older p x
+
 -- the key of a span that goes on
 abbrev key_of : List Operation → Span → Stamp
 key_of log span = record { count = max span.first (known_end log span.site + 1); site = span.site }
@@ -235,9 +251,8 @@ early_goes_on log x h e d =
     not_yet false true e = refl
     not_yet false false e = absurd (cc e)
 
-pub falls_asleep : (keys : BTreeSet Key) (older log : List Operation) (p : Place) (x : Operation) → IsHistory older → sleeps keys older p x ≡ true → IsAsleep keys older log p x
-falls_asleep keys older log p x h s =
-    let (e, k) = both (is_early (answer_to x older)) (are_kept keys older p x) s in
+falls_asleep : (keys : BTreeSet Key) (older log : List Operation) (p : Place) (x : Operation) → IsHistory older → is_early (answer_to x older) ≡ true → are_kept keys older p x ≡ true → IsAsleep keys older log p x
+falls_asleep keys older log p x h e k =
     split (nat_lt (known_end older x.site) x.prev)
     (λ d. let m : list_all (has_key keys p) (record { count = x.prev; site = x.site } ∷ []) ≡ true = rw d at k in
     inl (d, (both (has_key keys p (record { count = x.prev; site = x.site })) true m).0))
@@ -260,6 +275,47 @@ falls_asleep keys older log p x h s =
     passed : (first last old new : ℕ) → first ≤ last → old < last → (new < last → ⊥) → nat_le (max first (old + 1)) new ≡ true
     passed first last old new a b c = elim (cases_lt new last) [ inl m ↦ absurd (c m) | inr m ↦ grind (arith, nat_tests, a, b, m) ]
 
+-- nothing goes on
+no_keys : (log : List Operation) (spans : List Span) → list_any (goes_on log) spans ≡ false → flat_map (key_in log) spans ≡ []
+no_keys log [] n = refl
+no_keys log (span ∷ spans) n = split (goes_on log span)
+    (λ e. absurd (let m : true ≡ false = rw e at n in cc m))
+    (λ e. rw e (no_keys log spans (rw e at n)))
+
+lacks_room : (limit : ℕ) (keys : BTreeSet Key) (older : List Operation) (p : Place) (x : Operation) → IsHistory older → keeps_rules x.body ≡ true
+    → stays (answer_within limit x older) ≡ true → is_early (answer_to x older) ≡ false → are_kept keys older p x ≡ true → LacksRoom limit keys older p x
+lacks_room limit keys older p x h r s i k =
+    let w = stays_waits limit older x s in
+    let n : is_new (answer_to x older) ≡ true = rw i at w in
+    let prev = (continues_if_new older x r (is_new_true (answer_to x older) n)).prev in
+    let at : x.prev ≡ known_end older x.site = omega (arith, prev) in
+    let d : nat_lt (known_end older x.site) x.prev ≡ false = not_lt (known_end older x.site) x.prev at in
+    let l = looks_are_enough older older x h h (λ y j. j) w at at in
+    let g = none_on (list_any (has_new_gap older older) (targets x.body)) (list_any (goes_on older) (targets x.body)) (ap is_new (sym l) ∙ n) in
+    let alone : keys_of older x ≡ record { count = x.prev + 1; site = x.site } ∷ [] = rw d (ap (λ r. stamp (x.prev + 1) x.site ∷ r) (no_keys older (targets x.body) g)) in
+    record {
+      full = s;
+      waits = w;
+      alone = alone;
+      own = (both (has_key keys p (record { count = x.prev + 1; site = x.site })) true (ap (list_all (has_key keys p)) (sym alone) ∙ k)).0;
+    }
+  where
+    not_lt : (a b : ℕ) → b ≡ a → nat_lt a b ≡ false
+    not_lt a b e = grind (arith, nat_tests, e)
+
+    none_on : (a b : Bool) → is_new (cond a (Refused BadTarget) (cond b (Refused NotYet) New)) ≡ true → b ≡ false
+    none_on true b e = absurd (cc e)
+    none_on false true e = absurd (cc e)
+    none_on false false e = refl
+
+pub falls_to_rest : (limit : ℕ) (keys : BTreeSet Key) (older log : List Operation) (p : Place) (x : Operation) → IsHistory older → keeps_rules x.body ≡ true
+    → sleeps limit keys older p x ≡ true → IsResting limit keys older log p x
+falls_to_rest limit keys older log p x h r s =
+    let (e, k) = both (stays (answer_within limit x older)) (are_kept keys older p x) s in
+    split (is_early (answer_to x older))
+    (λ i. inl (i, falls_asleep keys older log p x h i k))
+    (λ i. inr (lacks_room limit keys older p x h r e i k))
+
 -- MORE KEYS
 
 all_more : (p q : Stamp → Bool) (xs : List Stamp) → ((s : Stamp) → p s ≡ true → q s ≡ true) → list_all p xs ≡ true → list_all q xs ≡ true
@@ -269,7 +325,7 @@ all_more p q (x ∷ xs) f h = let (i, j) = both (p x) (list_all p xs) h in let k
 any_more : (p q : Span → Bool) (xs : List Span) → ((s : Span) → p s ≡ true → q s ≡ true) → list_any p xs ≡ true → list_any q xs ≡ true
 any_more p q xs f h = let o = one_of p xs h in any_of q xs o.span o.among (f o.span o.is)
 
-pub more_asleep : (keys new : BTreeSet Key) (older log : List Operation) (p : Place) (x : Operation) → ((s : Stamp) → has_key keys p s ≡ true → has_key new p s ≡ true)
+more_asleep : (keys new : BTreeSet Key) (older log : List Operation) (p : Place) (x : Operation) → ((s : Stamp) → has_key keys p s ≡ true → has_key new p s ≡ true)
     → IsAsleep keys older log p x → IsAsleep new older log p x
 more_asleep keys new older log p x f a = elim a [
   | inl b ↦ inl (b.0, f (record { count = x.prev; site = x.site }) b.1)
@@ -286,6 +342,13 @@ more_asleep keys new older log p x f a = elim a [
           (λ span h. let (a, b, c) = pends_from keys older log p span h in pends_to new older log p span a b (f (key_of older span) c)) g)
     ];
   })
+]
+
+pub more_at_rest : (limit : ℕ) (keys new : BTreeSet Key) (older log : List Operation) (p : Place) (x : Operation) → ((s : Stamp) → has_key keys p s ≡ true → has_key new p s ≡ true)
+    → IsResting limit keys older log p x → IsResting limit new older log p x
+more_at_rest limit keys new older log p x f a = elim a [
+  | inl b ↦ inl (b.0, more_asleep keys new older log p x f b.1)
+  | inr l ↦ inr (record { full = l.full; waits = l.waits; alone = l.alone; own = f (record { count = x.prev + 1; site = x.site }) l.own })
 ]
 
 -- A KEY IS SEEN TO
@@ -387,7 +450,7 @@ module _ (keys new : BTreeSet Key) (older log : List Operation) (k : Key) (x : O
       to_true : {a b : ℕ} → a ≤ b → nat_le a b ≡ true
       to_true l = grind (arith, nat_tests, l)
 
-  pub seen_asleep : IsAsleep keys older log k.place x → IsAsleep new older log k.place x
+  seen_asleep : IsAsleep keys older log k.place x → IsAsleep new older log k.place x
   seen_asleep (inl b) = inl (b.0, own_kept x.prev b.1)
   seen_asleep (inr s) = inr (record {
     prev = s.prev;
@@ -395,6 +458,10 @@ module _ (keys new : BTreeSet Key) (older log : List Operation) (k : Key) (x : O
     fine = λ span i. still_fine span i (s.fine span i);
     waits = still_waits s.waits;
   })
+
+  pub seen_at_rest : (limit : ℕ) → IsResting limit keys older log k.place x → IsResting limit new older log k.place x
+  seen_at_rest limit (inl a) = inl (a.0, seen_asleep a.1)
+  seen_at_rest limit (inr l) = inr (record { full = l.full; waits = l.waits; alone = l.alone; own = own_kept (x.prev + 1) l.own })
 
 -- what has come in of a span, and doesn't reach its end, goes on
 pub came_goes_on : (log : List Operation) (key : Key) (spans : List Span) (span : Span) → HasComeIn log key spans span → known_end log key.site < span.last
@@ -457,7 +524,7 @@ module _ (keys : BTreeSet Key) (by : ℕ) (older log : List Operation) (p : Plac
       early : (a b : ℕ) → nat_le a b ≡ true → b < a → ⊥
       early a b h l = grind (arith, nat_tests, h, l)
 
-  pub sleeps_on : is_early (answer_to x older) ≡ true → IsAsleep keys older log p x → sleeps keys log p x ≡ true
+  sleeps_on : is_early (answer_to x older) ≡ true → IsAsleep keys older log p x → (is_early (answer_to x log) && are_kept keys log p x) ≡ true
   sleeps_on e (inl b) =
       let d = b.0 in
       let k = b.1 in
@@ -496,6 +563,38 @@ module _ (keys : BTreeSet Key) (by : ℕ) (older log : List Operation) (p : Plac
 
       not_lt : (a b : ℕ) → b ≡ a → nat_lt a b ≡ false
       not_lt a b e = grind (arith, nat_tests, e)
+
+  pub rests_on : (limit : ℕ) → IsResting limit keys older log p x → sleeps limit keys log p x ≡ true
+  rests_on limit (inl a) =
+      let (e, k) = both (is_early (answer_to x log)) (are_kept keys log p x) (sleeps_on a.0 a.1) in
+      let s : stays (answer_within limit x log) ≡ true = early_stays (nat_lt limit (length (cells_of log) + length (inserted x))) (answer_to x log) e in
+      rw s k
+    where
+      early_stays : (full : Bool) (a : Answer) → is_early a ≡ true → stays (refused_if_full full a) ≡ true
+      early_stays full New e = absurd (cc e)
+      early_stays full Repeat e = absurd (cc e)
+      early_stays full (Refused fault) e = rw e refl
+  rests_on limit (inr l) =
+      let c = (waiting_from older x l.waits).prev in
+      let own = l.own in
+      let u = unpassed (record { count = x.prev + 1; site = x.site }) own (within x.prev (known_end older x.site) c) in
+      let n : list_any (is_passed log) (keys_of older x) ≡ false = ap (list_any (is_passed log)) l.alone ∙ late (x.prev + 1) (known_end log x.site) u in
+      let same = unpassed_stay older log x grown.history history grown.among l.waits n in
+      let left = left_ones_stay limit [] older log x grown.history history grown.among (no_fewer_cells older log grown.history history grown.among) (left_if_stays limit [] older x l.full) n in
+      let s : stays (answer_within limit x log) ≡ true = stays_if_left (stays (answer_within limit x log)) (is_new (answer_within limit x log)) left in
+      let kept : are_kept keys log p x ≡ true = ap (list_all (has_key keys p)) (same.1 ∙ l.alone) ∙ (rw own refl) in
+      rw s kept
+    where
+      within : (a b : ℕ) → nat_lt a b ≡ false → b < a + 1
+      within a b c = grind (arith, nat_tests, c)
+
+      late : (a b : ℕ) → b < a → (nat_le a b || false) ≡ false
+      late a b l = grind (arith, nat_tests)
+
+      stays_if_left : (a n : Bool) → (a || (n && false)) ≡ true → a ≡ true
+      stays_if_left true n e = refl
+      stays_if_left false true e = absurd (cc e)
+      stays_if_left false false e = absurd (cc e)
 
 -- WHAT STANDS IN A LIST
 

@@ -14,22 +14,22 @@ use Rattle.rt_ops.specs.Operations.{Operation, has_bad_stamp}
 use Rattle.rt_ops.specs.Rules.{keeps_rules}
 use Rattle.rt_oplog.specs.Logs.{Has, holds, known_end, same_operation, with_operation}
 use Rattle.rt_oplog.proofs.Sets.{operation_refl, with_has}
-use Rattle.rt_rga.specs.Answers.{Answer, New, Repeat, Refused, answer_to, answer_within, refused_if_full}
-use Rattle.rt_rga.specs.Cells.{cells_of}
-use Rattle.rt_rga.specs.Histories.{IsHistory, inserted}
+use Rattle.rt_rga.specs.Answers.{Answer, New, Repeat, Refused, answer_within}
+use Rattle.rt_rga.specs.Histories.{IsHistory}
 use Rattle.rt_rga.proofs.Skipping.{split}
 use Rattle.rt_holding.specs.declared.trying.Outcome.{Outcome}
-use Rattle.rt_holding.specs.declared.trying.Outcome.TheVariants.{Taken, Waits, Early, Dropped, Absent}
+use Rattle.rt_holding.specs.declared.trying.Outcome.TheVariants.{Taken, Waits, Stays, Dropped, Absent}
 use Rattle.rt_holding.specs.declared.waits.Key.{Key}
 use Rattle.rt_holding.specs.declared.waits.Waits.{Waits as Table}
 use Rattle.rt_holding.specs.Grown.{HasGrownBy}
-use Rattle.rt_holding.specs.Holding.{Holding, is_early, is_left, is_new, stays}
+use Rattle.rt_holding.specs.Holding.{Holding, is_left, is_new, stays}
 use Rattle.rt_holding.specs.Kept.{AreHeld, Entry, IsAt, IsNewAt, Place, by_stamp_and_arrival, ops_in, outcome_of}
 use Rattle.rt_holding.specs.Taken.{AreTried, holding}
 use Rattle.rt_holding.specs.Waiting.{keys_of}
 use Rattle.rt_holding.specs.Waits.{IfIsThere, IsFirstDue, IsSetAt, KeepsOthers, are_kept, are_tried_at, has_key, is_due, is_listed, key_at, outcome_there, sleeps}
 use Rattle.rt_holding.specs.Waking.{IsWoken}
-use Rattle.rt_holding.proofs.Going.{AreReady, IsLeftAt, early_left, either, next_due, none_due, or_left, or_right, tried_in, tried_now}
+use Rattle.rt_holding.proofs.Due.{stays_waits}
+use Rattle.rt_holding.proofs.Going.{AreReady, IsLeftAt, either, left_if_stays, next_due, none_due, or_left, or_right, tried_in, tried_now}
 use Rattle.rt_holding.proofs.Keys.{other_end}
 use Rattle.rt_holding.proofs.Places.{get_at, in_append, taken_from}
 use Rattle.rt_holding.proofs.Standing.{at_found, own_place, there_before, this_place}
@@ -39,11 +39,11 @@ use Rattle.rt_holding.proofs.Waiting.{waiting_from}
 -- all that were tried before are ready now
 pub started : (limit by : ℕ) (wanting older log : List Operation) (m : BTreeMap Place (Option Operation)) (old new : Table) → HasGrownBy by older log → IsWoken by log m old new
     → ((p : Place) (x : Operation) → get by_stamp_and_arrival m p ≡ Some (Some x) → keeps_rules x.body ≡ true)
-    → are_tried_at older old.keys old.again.items m.entries ≡ true → AreReady limit wanting log m new
+    → are_tried_at limit older old.keys old.again.items m.entries ≡ true → AreReady limit wanting log m new
 started limit by wanting older log m old new g w rules a p x f =
-    elim (either (is_listed p old.again.items) (sleeps old.keys older p x) (tried_in older old m.entries a p x f)) [
+    elim (either (is_listed p old.again.items) (sleeps limit old.keys older p x) (tried_in limit older old m.entries a p x f)) [
       | inl j ↦ inl (w.again p j)
-      | inr s ↦ elim (either (is_due p new.due) (sleeps new.keys log p x) (w.asleep older g p x f (rules p x f) s)) [ inl d ↦ inl d | inr k ↦ inr (inr k) ]
+      | inr s ↦ elim (either (is_due p new.due) (sleeps limit new.keys log p x) (w.asleep limit older g p x f (rules p x f) s)) [ inl d ↦ inl d | inr k ↦ inr (inr k) ]
     ]
 
 -- each keeps the rules
@@ -68,19 +68,13 @@ grown_by older log by op h b l = record {
 
 -- OUTCOMES
 
-not_yet : (full : Bool) (a : Answer) → refused_if_full full a ≡ Refused NotYet → is_early a ≡ true
-not_yet true New e = absurd (cc e)
-not_yet false New e = absurd (cc e)
-not_yet full Repeat e = absurd (cc e)
-not_yet full (Refused fault) e = ap is_early e
-
-early_if : (lacks : Bool) (a : Answer) → Early ≡ outcome_of lacks a → a ≡ Refused NotYet
-early_if true New e = absurd (cc e)
-early_if false New e = absurd (cc e)
-early_if lacks Repeat e = absurd (cc e)
-early_if lacks (Refused NotYet) e = refl
-early_if lacks (Refused TextFull) e = absurd (cc e)
-early_if lacks (Refused _) e = absurd (cc e)
+stays_if : (lacks : Bool) (a : Answer) → Stays ≡ outcome_of lacks a → stays a ≡ true
+stays_if true New e = absurd (cc e)
+stays_if false New e = absurd (cc e)
+stays_if lacks Repeat e = absurd (cc e)
+stays_if lacks (Refused NotYet) e = refl
+stays_if lacks (Refused TextFull) e = refl
+stays_if lacks (Refused _) e = absurd (cc e)
 
 never_absent : (lacks : Bool) (a : Answer) → Absent ≡ outcome_of lacks a → ⊥
 never_absent true New e = cc e
@@ -90,12 +84,12 @@ never_absent lacks (Refused NotYet) e = cc e
 never_absent lacks (Refused TextFull) e = cc e
 never_absent lacks (Refused _) e = cc e
 
-waits_if : (lacks : Bool) (a : Answer) → Waits ≡ outcome_of lacks a → (stays a ≡ true) ⊎ ((is_new a ≡ true) × (lacks ≡ true))
-waits_if true New e = inr (refl, refl)
+waits_if : (lacks : Bool) (a : Answer) → Waits ≡ outcome_of lacks a → (is_new a ≡ true) × (lacks ≡ true)
+waits_if true New e = (refl, refl)
 waits_if false New e = absurd (cc e)
 waits_if lacks Repeat e = absurd (cc e)
-waits_if lacks (Refused NotYet) e = inl refl
-waits_if lacks (Refused TextFull) e = inl refl
+waits_if lacks (Refused NotYet) e = absurd (cc e)
+waits_if lacks (Refused TextFull) e = absurd (cc e)
 waits_if lacks (Refused _) e = absurd (cc e)
 
 taken_if : (lacks : Bool) (a : Answer) → Taken ≡ outcome_of lacks a → (a ≡ New) × (lacks ≡ false)
@@ -128,10 +122,10 @@ there_if lacks limit log m p o e n = one (get by_stamp_and_arrival m p) refl
     one (Some None) f = absurd (n (sym (e ∙ ap (outcome_there lacks limit log) f)))
     one (Some (Some op)) f = record { op = op; found = f }
 
--- one that waits on stays, or could be taken but memory is wanting
+-- one that waits on could be taken, but memory is wanting
 pub record WaitsOn (lacks : Bool) (limit : ℕ) (log : List Operation) (m : BTreeMap Place (Option Operation)) (p : Place) : Type 0 where
   pub there : IsThere m p
-  pub why : (stays (answer_within limit there.op log) ≡ true) ⊎ ((is_new (answer_within limit there.op log) ≡ true) × (lacks ≡ true))
+  pub why : (is_new (answer_within limit there.op log) ≡ true) × (lacks ≡ true)
 
 pub outcome_here : (lacks : Bool) (limit : ℕ) (log : List Operation) (m : BTreeMap Place (Option Operation)) (p : Place) (o : Outcome) (x : Operation) → o ≡ outcome_there lacks limit log (get by_stamp_and_arrival m p)
     → get by_stamp_and_arrival m p ≡ Some (Some x) → o ≡ outcome_of lacks (answer_within limit x log)
@@ -143,14 +137,14 @@ waits_there lacks limit log m p o i e =
     let t = there_if lacks limit log m p o e (λ j. let k : Absent ≡ Waits = j ∙ i in cc k) in
     record { there = t; why = waits_if lacks (answer_within limit t.op log) (sym i ∙ outcome_here lacks limit log m p o t.op e t.found) }
 
--- one that comes too early
-pub early_here : (lacks : Bool) (limit : ℕ) (log : List Operation) (o : Outcome) (x : Operation) → o ≡ Early → o ≡ outcome_of lacks (answer_within limit x log) → is_early (answer_to x log) ≡ true
-early_here lacks limit log o x i e = not_yet (nat_lt limit (length (cells_of log) + length (inserted x))) (answer_to x log) (early_if lacks (answer_within limit x log) (sym i ∙ e))
+-- one that would stay
+pub stays_here : (lacks : Bool) (limit : ℕ) (log : List Operation) (o : Outcome) (x : Operation) → o ≡ Stays → o ≡ outcome_of lacks (answer_within limit x log) → stays (answer_within limit x log) ≡ true
+stays_here lacks limit log o x i e = stays_if lacks (answer_within limit x log) (sym i ∙ e)
 
-pub early_sound : (lacks : Bool) (limit : ℕ) (log : List Operation) (o : Outcome) (v : Option (Option Operation)) → o ≡ Early → o ≡ outcome_there lacks limit log v → IfIsThere (λ x. has_bad_stamp x ≡ false) v
-early_sound lacks limit log o None i e = tt
-early_sound lacks limit log o (Some None) i e = tt
-early_sound lacks limit log o (Some (Some x)) i e = (waiting_from log x (or_left (is_early (answer_to x log)) (is_new (answer_to x log)) (early_here lacks limit log o x i e))).stamp
+pub stays_sound : (lacks : Bool) (limit : ℕ) (log : List Operation) (o : Outcome) (v : Option (Option Operation)) → o ≡ Stays → o ≡ outcome_there lacks limit log v → IfIsThere (λ x. has_bad_stamp x ≡ false) v
+stays_sound lacks limit log o None i e = tt
+stays_sound lacks limit log o (Some None) i e = tt
+stays_sound lacks limit log o (Some (Some x)) i e = (waiting_from log x (stays_waits limit log x (stays_here lacks limit log o x i e))).stamp
 
 not_left : (new stay found : Bool) → new ≡ false → stay ≡ false → (stay || (new && found)) ≡ false
 not_left true stay found n s = absurd (cc n)
@@ -190,7 +184,7 @@ module _ {Site : Type 0} (log : Site → List Operation) (after : Operation → 
 
   pub going : (limit by arrivals : ℕ) (older : List Operation) (site : Site) (m : BTreeMap Place (Option Operation)) (old new : Table) → HasGrownBy by older (log site)
       → IsWoken by (log site) m old new → AreHeld arrivals m.entries → IsOrdered by_stamp_and_arrival m
-      → are_tried_at older old.keys old.again.items m.entries ≡ true → IsGoing false limit (holding log site (ops_in m.entries)) site site m new 0
+      → are_tried_at limit older old.keys old.again.items m.entries ≡ true → IsGoing false limit (holding log site (ops_in m.entries)) site site m new 0
   going limit by arrivals older site m old new g w h s a = record {
     wanting = [];
     far = begins log after limit site (ops_in m.entries);
@@ -222,7 +216,7 @@ module _ {Site : Type 0} (log : Site → List Operation) (after : Operation → 
     }
 
     -- it sleeps, or is looked at again
-    pub slept : (o : Outcome) → o ≡ Early → o ≡ outcome_there lacks limit (log now) (get by_stamp_and_arrival m p)
+    pub slept : (o : Outcome) → o ≡ Stays → o ≡ outcome_there lacks limit (log now) (get by_stamp_and_arrival m p)
         → (new : Table) → KeepsOthers p old.keys new.keys → heap_items new.due ≡ heap_items due → ((q : Place) → is_listed q old.again.items ≡ true → is_listed q new.again.items ≡ true)
         → IfIsThere (λ x. (is_listed p new.again.items || are_kept new.keys (log now) p x) ≡ true) (get by_stamp_and_arrival m p)
         → IsGoing lacks limit state then_site now m new count
@@ -238,7 +232,7 @@ module _ {Site : Type 0} (log : Site → List Operation) (after : Operation → 
           | inl k ↦ inl (more q k.0, k.1)
           | inr k ↦ split (is_at (by_stamp_and_arrival p) q)
               (λ t. here q x (sym (this_place p q t)) f)
-              (λ t. inr (ap (λ b. is_early (answer_to x (log now)) && b) (kept_others p old.keys new.keys others q (keys_of (log now) x) t) ∙ k))
+              (λ t. inr (ap (λ b. stays (answer_within limit x (log now)) && b) (kept_others p old.keys new.keys others q (keys_of (log now) x) t) ∙ k))
         ])
       ];
       none = g.none;
@@ -247,12 +241,12 @@ module _ {Site : Type 0} (log : Site → List Operation) (after : Operation → 
         here : (q : Place) (x : Operation) → q ≡ p → get by_stamp_and_arrival m q ≡ Some (Some x) → IsLeftAt limit g.wanting (log now) new q x
         here q x s f =
             let found : get by_stamp_and_arrival m p ≡ Some (Some x) = subst (λ (r : Place). get by_stamp_and_arrival m r ≡ Some (Some x)) s f in
-            let early = early_here lacks limit (log now) o x i (outcome_here lacks limit (log now) m p o x e found) in
+            let stay = stays_here lacks limit (log now) o x i (outcome_here lacks limit (log now) m p o x e found) in
             let there : (is_listed p new.again.items || are_kept new.keys (log now) p x) ≡ true =
             subst (IfIsThere (λ y. (is_listed p new.again.items || are_kept new.keys (log now) p y) ≡ true)) found asleep in
             subst (λ (r : Place). IsLeftAt limit g.wanting (log now) new r x) (sym s) (elim (either (is_listed p new.again.items) (are_kept new.keys (log now) p x) there) [
-              | inl l ↦ inl (l, early_left (nat_lt limit (length (cells_of (log now)) + length (inserted x))) (answer_to x (log now)) (holds g.wanting x) early)
-              | inr k ↦ inr (rw early k)
+              | inl l ↦ inl (l, left_if_stays limit g.wanting (log now) x stay)
+              | inr k ↦ inr (rw stay k)
             ])
 
     -- one that was left, or is the one that is tried, is looked at again
@@ -270,15 +264,15 @@ module _ {Site : Type 0} (log : Site → List Operation) (after : Operation → 
       ]
       | inr j ↦ elim j [
         | inl i ↦ inr (inl (a q ∙ or_left (is_listed q old.again.items) (is_at (by_stamp_and_arrival q) p) i.0, on y i.1))
-        | inr s ↦ inr (inr (subst (λ (t : BTreeSet Key). sleeps t (log now) q y ≡ true) (sym k) s))
+        | inr s ↦ inr (inr (subst (λ (t : BTreeSet Key). sleeps limit t (log now) q y ≡ true) (sym k) s))
       ]
     ]
 
-    -- it stays, or could be taken but memory is wanting
+    -- it could be taken, but memory is wanting
     pub stayed : (lacking : Bool) (new : Table) (t : IsThere m p) → IsOrdered by_stamp_and_arrival m → new.keys ≡ old.keys → new.due ≡ due
         → ((q : Place) → is_listed q new.again.items ≡ (is_listed q old.again.items || is_at (by_stamp_and_arrival q) p))
         → (lacking ≡ false → lacks ≡ false)
-        → (stays (answer_within limit t.op (log now)) ≡ true) ⊎ ((is_new (answer_within limit t.op (log now)) ≡ true) × (lacking ≡ true))
+        → (is_new (answer_within limit t.op (log now)) ≡ true) × (lacking ≡ true)
         → IsGoing lacking limit state then_site now m new count
     stayed lacking new t s k d a n c = split (is_left limit g.wanting (log now) t.op)
         (λ l. record {
@@ -287,16 +281,13 @@ module _ {Site : Type 0} (log : Site → List Operation) (after : Operation → 
           ready = ready_again g.wanting new t.op t.found k d a (λ y i. i) l;
           none = λ e. g.none (n e);
         })
-        (λ l. elim c [
-          | inl i ↦ absurd (let j = or_left (stays (answer_within limit t.op (log now))) (is_new (answer_within limit t.op (log now)) && holds g.wanting t.op) i in cc (j, l))
-          | inr i ↦ record {
-            wanting = t.op ∷ g.wanting;
-            far = one_lacking log after limit g.wanting state then_site now (ops_in m.entries) count t.op g.far
-                (next_due limit g.wanting (log now) m old p t.op g.ready first.first s t.found l) i.0;
-            ready = ready_again (t.op ∷ g.wanting) new t.op t.found k d a (left_on limit g.wanting (log now) t.op) (left_now limit g.wanting (log now) t.op i.0);
-            none = λ e. absurd (let w = i.1 in cc (e, w));
-          }
-        ])
+        (λ l. record {
+          wanting = t.op ∷ g.wanting;
+          far = one_lacking log after limit g.wanting state then_site now (ops_in m.entries) count t.op g.far
+              (next_due limit g.wanting (log now) m old p t.op g.ready first.first s t.found l) c.0;
+          ready = ready_again (t.op ∷ g.wanting) new t.op t.found k d a (left_on limit g.wanting (log now) t.op) (left_now limit g.wanting (log now) t.op c.0);
+          none = λ e. absurd (let w = c.1 in cc (e, w));
+        })
 
     -- what stays where another was taken out
     other_place : (q : Place) → is_at (by_stamp_and_arrival p) q ≡ false → q ≡ p → ⊥
@@ -325,7 +316,7 @@ module _ {Site : Type 0} (log : Site → List Operation) (after : Operation → 
               | inl u ↦ elim (due_on q u) [ inl j ↦ inl j | inr j ↦ absurd (other_place q n j) ]
               | inr u ↦ elim u [
                 | inl j ↦ inr (inl j)
-                | inr j ↦ inr (inr (ap (λ b. is_early (answer_to x (log now)) && b) (kept_others p old.keys keys others q (keys_of (log now) x) n) ∙ j))
+                | inr j ↦ inr (inr (ap (λ b. stays (answer_within limit x (log now)) && b) (kept_others p old.keys keys others q (keys_of (log now) x) n) ∙ j))
               ]
             ];
             none = g.none;
@@ -365,7 +356,7 @@ module _ {Site : Type 0} (log : Site → List Operation) (after : Operation → 
               | inl u ↦ elim (due_on q u) [ inl j ↦ inl (w.due q j) | inr j ↦ absurd (other_place q n j) ]
               | inr u ↦ elim u [
                 | inl j ↦ inl (w.again q j.0)
-                | inr j ↦ elim (either (is_due q new.due) (sleeps new.keys (log site) q x) (w.asleep (log now) grown q x f (each_keeps arrivals m h s q x was) j)) [ inl k ↦ inl k | inr k ↦ inr (inr k) ]
+                | inr j ↦ elim (either (is_due q new.due) (sleeps limit new.keys (log site) q x) (w.asleep limit (log now) grown q x f (each_keeps arrivals m h s q x was) j)) [ inl k ↦ inl k | inr k ↦ inr (inr k) ]
               ]
             ];
             none = g.none;
@@ -387,7 +378,7 @@ module _ {Site : Type 0} (log : Site → List Operation) (after : Operation → 
   -- none is due
   pub done_in : (lacks : Bool) (limit : ℕ) (state : Holding) (then_site now : Site) (m : BTreeMap Place (Option Operation)) (waits : Table) (count : ℕ) → IsGoing lacks limit state then_site now m waits count
       → ((q : Place) → is_due q waits.due ≡ false) → IsOrdered by_stamp_and_arrival m
-      → AreTried log after limit state then_site now (ops_in m.entries) count × (are_tried_at (log now) waits.keys waits.again.items m.entries ≡ true)
+      → AreTried log after limit state then_site now (ops_in m.entries) count × (are_tried_at limit (log now) waits.keys waits.again.items m.entries ≡ true)
   done_in lacks limit state then_site now m waits count g f s = (
     ends log after limit g.wanting state then_site now (ops_in m.entries) count g.far (none_due limit g.wanting (log now) m waits g.ready f s),
     tried_now limit g.wanting (log now) m waits g.ready f s,

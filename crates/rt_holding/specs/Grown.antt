@@ -20,9 +20,9 @@ pub record HeldValue : Type 0 where
   pub held : List Operation
   pub table : Table
 
--- they were last tried at a log
-abbrev pub AreTriedAt : List Operation → HeldValue → Type 0
-AreTriedAt log value = are_tried_at log value.table.keys value.table.again value.table.entries ≡ true
+-- they were last tried at a log, within a limit of cells
+abbrev pub AreTriedAt : ℕ → List Operation → HeldValue → Type 0
+AreTriedAt limit log value = are_tried_at limit log value.table.keys value.table.again value.table.entries ≡ true
 
 -- A history has grown by operations of one site.
 pub record HasGrownBy (site : ℕ) (older log : List Operation) : Type 0 where
@@ -31,7 +31,7 @@ pub record HasGrownBy (site : ℕ) (older log : List Operation) : Type 0 where
   pub others : (other : ℕ) → (site == other) ≡ false → known_end log other ≡ known_end older other
 
 -- Held operations were last tried at a log, and since then it has grown by operations of one site.
-pub record AreTriedBefore (site : ℕ) (value : HeldValue) (log : List Operation) : Type 0 where
+pub record AreTriedBefore (limit site : ℕ) (value : HeldValue) (log : List Operation) : Type 0 where
   pub older : List Operation
-  pub tried : AreTriedAt older value
+  pub tried : AreTriedAt limit older value
   pub grown : HasGrownBy site older log

@@ -12,7 +12,7 @@ use Rattle.rt_ops.specs.Rules.{keeps_rules}
 use Rattle.rt_oplog.specs.Logs.{Has}
 use Rattle.rt_rga.specs.Answers.{Answer, New, Repeat, Refused, answer_within}
 use Rattle.rt_holding.specs.declared.trying.Outcome.{Outcome}
-use Rattle.rt_holding.specs.declared.trying.Outcome.TheVariants.{Taken, Waits, Early, Dropped}
+use Rattle.rt_holding.specs.declared.trying.Outcome.TheVariants.{Taken, Waits, Stays, Dropped}
 use Rattle.rt_holding.specs.Holding.{most_held}
 use Rattle.rt_holding.specs.Runs.{AreOnce, AreRising}
 
@@ -60,8 +60,8 @@ pub record IsAt (place : Place) (op : Operation) (entries : List Entry) : Type 0
 abbrev pub outcome_of : Bool → Answer → Outcome
 outcome_of lacks New = if lacks then Waits else Taken
 outcome_of lacks Repeat = Dropped
-outcome_of lacks (Refused NotYet) = Early
-outcome_of lacks (Refused TextFull) = Waits
+outcome_of lacks (Refused NotYet) = Stays
+outcome_of lacks (Refused TextFull) = Stays
 outcome_of lacks (Refused _) = Dropped
 
 -- at a place stands one that is new

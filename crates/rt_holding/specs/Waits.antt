@@ -10,12 +10,12 @@ use Rattle.std.specs.BTreeSet.{BTreeSet, contains}
 use Rattle.std.specs.List.{list_all, list_any}
 use Rattle.rt_stamps.specs.declared.stamp.Stamp.{Stamp}
 use Rattle.rt_ops.specs.Operations.{Operation}
-use Rattle.rt_rga.specs.Answers.{answer_to, answer_within}
+use Rattle.rt_rga.specs.Answers.{answer_within}
 use Rattle.rt_holding.specs.declared.waits.Key.{Key}
 use Rattle.rt_holding.specs.declared.waits.Waits.{Waits}
 use Rattle.rt_holding.specs.declared.trying.Outcome.{Outcome}
 use Rattle.rt_holding.specs.declared.trying.Outcome.TheVariants.{Absent}
-use Rattle.rt_holding.specs.Holding.{is_early}
+use Rattle.rt_holding.specs.Holding.{stays}
 use Rattle.rt_holding.specs.Kept.{Entry, Place, by_stamp_and_arrival, outcome_of}
 use Rattle.rt_holding.specs.Waiting.{keys_of}
 
@@ -100,15 +100,15 @@ IfIsThere P None = Unit {0}
 IfIsThere P (Some None) = Unit {0}
 IfIsThere P (Some (Some op)) = P op
 
--- an operation comes too early, and all its keys are kept
-abbrev pub sleeps : BTreeSet Key → List Operation → Place → Operation → Bool
-sleeps keys log place op = is_early (answer_to op log) && are_kept keys log place op
+-- an operation would stay, and all its keys are kept
+abbrev pub sleeps : ℕ → BTreeSet Key → List Operation → Place → Operation → Bool
+sleeps limit keys log place op = stays (answer_within limit op log) && are_kept keys log place op
 
 -- it sleeps, or is looked at again
-abbrev pub is_tried_at : List Operation → BTreeSet Key → List Place → Entry → Bool
-is_tried_at log keys again (place, None) = true
-is_tried_at log keys again (place, Some op) = is_listed place again || sleeps keys log place op
+abbrev pub is_tried_at : ℕ → List Operation → BTreeSet Key → List Place → Entry → Bool
+is_tried_at limit log keys again (place, None) = true
+is_tried_at limit log keys again (place, Some op) = is_listed place again || sleeps limit keys log place op
 
--- all were last tried at a log
-abbrev pub are_tried_at : List Operation → BTreeSet Key → List Place → List Entry → Bool
-are_tried_at log keys again entries = list_all (is_tried_at log keys again) entries
+-- all were last tried at a log, within a limit
+abbrev pub are_tried_at : ℕ → List Operation → BTreeSet Key → List Place → List Entry → Bool
+are_tried_at limit log keys again entries = list_all (is_tried_at limit log keys again) entries

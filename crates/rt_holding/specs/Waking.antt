@@ -78,6 +78,6 @@ passed_keys site known keys = length (filter (is_passed_by site known) keys.keys
 pub record IsWoken (made_by : ℕ) (log : List Operation) (ops : BTreeMap Place (Option Operation)) (old new : Waits) : Type 0 where
   pub due : (place : Place) → is_due place old.due ≡ true → is_due place new.due ≡ true
   pub again : (place : Place) → is_listed place old.again.items ≡ true → is_due place new.due ≡ true
-  pub asleep : (older : List Operation) → HasGrownBy made_by older log → (place : Place) (op : Operation)
-      → get by_stamp_and_arrival ops place ≡ Some (Some op) → keeps_rules op.body ≡ true → sleeps old.keys older place op ≡ true
-      → (is_due place new.due || sleeps new.keys log place op) ≡ true
+  pub asleep : (limit : ℕ) (older : List Operation) → HasGrownBy made_by older log → (place : Place) (op : Operation)
+      → get by_stamp_and_arrival ops place ≡ Some (Some op) → keeps_rules op.body ≡ true → sleeps limit old.keys older place op ≡ true
+      → (is_due place new.due || sleeps limit new.keys log place op) ≡ true

@@ -1,5 +1,5 @@
 // Held operations.
-ghost use Rattle.std.specs.Prelude.{◌≡◌, ◌⊎◌, ◌<◌, ◌≤◌, ◌↔◌, [], IfErr, IfOk, IsOkUnless, IsTrue, List, OnErr, OnOk, false, length, true};
+ghost use Rattle.std.specs.Prelude.{◌≡◌, ℕ, ◌⊎◌, ◌<◌, ◌≤◌, ◌↔◌, [], IfErr, IfOk, IsOkUnless, IsTrue, List, OnErr, OnOk, false, length, true};
 ghost use Rattle.rt_stamps.specs.declared.fault.Fault.TheVariants.{NoMemory, NotYet};
 ghost use Rattle.rt_ops.specs.Operations.{Operation};
 ghost use Rattle.rt_oplog.specs.Logs.{holds};
@@ -63,7 +63,7 @@ impl Held {
 
     pub fn new(alloc: Global) -> Held
         ensures none { result.held ≡ [] }
-        ensures tried { (log : List Operation) → AreTriedAt log result }
+        ensures tried { (limit : ℕ) (log : List Operation) → AreTriedAt limit log result }
     {
         Held {
             ops: BTreeMap::new(alloc),
@@ -104,7 +104,7 @@ impl Held {
         ensures put { OnOk result (self.new.held ≡ put_held op self.old.held) }
         ensures fault { IsOkUnless result NoMemory }
         ensures same { OnErr result (self.new.held ≡ self.old.held) }
-        ensures tried { (log : List Operation) → AreTriedAt log self.old → AreTriedAt log self.new }
+        ensures tried { (limit : ℕ) (log : List Operation) → AreTriedAt limit log self.old → AreTriedAt limit log self.new }
     {
         let _ = op.edit();
         let arrival = self.arrivals;
@@ -133,11 +133,11 @@ impl Held {
     /// The log has grown by operations of a site: drops held operations that are refused for good, and takes others in
     /// their order, until none is left that could be taken or one finds no memory; answers how many were taken.
     pub fn settle<T: Taking>(&mut self, site: &mut T, made_by: u16) -> usize
-        requires { AreTriedBefore made_by self.old (T.log site.old) }
+        requires { AreTriedBefore (T.limit site.old) made_by self.old (T.log site.old) }
         ensures tried { AreTried T.log T.after (T.limit site.old) (holding T.log site.old self.old.held) site.old
             site.new self.new.held result }
         ensures limit { T.limit site.new ≡ T.limit site.old }
-        ensures log { AreTriedAt (T.log site.new) self.new }
+        ensures log { AreTriedAt (T.limit site.new) (T.log site.new) self.new }
     {
         if self.ops.len() == 0 && self.waits.are_over() {
             return 0;
@@ -160,7 +160,7 @@ impl Held {
                     }
                 }
                 Outcome::Waits => keep(&mut self.waits, place),
-                Outcome::Early => sleep(site, &self.ops, &mut self.waits, place),
+                Outcome::Stays => sleep(site, &self.ops, &mut self.waits, place),
                 Outcome::Absent => {}
                 Outcome::Dropped => drop_at(site, &mut self.ops, &mut self.waits.keys, place),
             }
@@ -172,7 +172,7 @@ impl Held {
     /// is held. Refused as the site answers it, with `WaitingFull` where too many others are held, or with
     /// `NoMemory`.
     pub fn offer<T: Taking>(&mut self, site: &mut T, op: Op) -> Result<Offered, Fault>
-        requires { AreTriedAt (T.log site.old) self.old }
+        requires { AreTriedAt (T.limit site.old) (T.log site.old) self.old }
         ensures reply { IfOk result (λ offered. reply_to (T.limit site.old) op (holding T.log site.old self.old.held) ≡ replied (Ok offered)) }
         ensures refused { IfErr result (IsRefused (reply_to (T.limit site.old) op (holding T.log site.old self.old.held))) }
         ensures offered { IfOk result (λ offered. IsOffered T.log T.after (T.limit site.old) op offered site.old self.old.held
@@ -180,7 +180,7 @@ impl Held {
         ensures same_site { OnErr result (site.new ≡ site.old) }
         ensures same { OnErr result (self.new.held ≡ self.old.held) }
         ensures limit { T.limit site.new ≡ T.limit site.old }
-        ensures log { AreTriedAt (T.log site.new) self.new }
+        ensures log { AreTriedAt (T.limit site.new) (T.log site.new) self.new }
     {
         match site.answer(&op) {
             Ok(Offer::New) => self.take(site, op),
@@ -194,7 +194,7 @@ impl Held {
     fn take<T: Taking>(&mut self, site: &mut T, op: Op) -> Result<Offered, Fault>
         requires new { answer_within (T.limit site.old) op (T.log site.old) ≡ New }
         requires history { IsHistory (T.log site.old) }
-        requires tried { AreTriedAt (T.log site.old) self.old }
+        requires tried { AreTriedAt (T.limit site.old) (T.log site.old) self.old }
         ensures new { IfOk result (λ offered. replied (Ok offered) ≡ replies.New) }
         ensures offered { IfOk result (λ offered. IsOffered T.log T.after (T.limit site.old) op offered site.old self.old.held
             site.new self.new.held) }
@@ -202,7 +202,7 @@ impl Held {
         ensures same_site { OnErr result (site.new ≡ site.old) }
         ensures same { OnErr result (self.new ≡ self.old) }
         ensures limit { T.limit site.new ≡ T.limit site.old }
-        ensures log { OnOk result (AreTriedAt (T.log site.new) self.new) }
+        ensures log { OnOk result (AreTriedAt (T.limit site.new) (T.log site.new) self.new) }
     {
         let held = place_of(&self.ops, self.arrivals, &op);
         let made_by = op.site();
@@ -223,7 +223,7 @@ impl Held {
         ensures refused { IfErr result (IsRefused (reply_for (Refused NotYet) op self.old.held)) }
         ensures held { IfOk result (λ offered. self.new.held ≡ held_after offered op self.old.held) }
         ensures same { OnErr result (self.new.held ≡ self.old.held) }
-        ensures tried { (log : List Operation) → AreTriedAt log self.old → AreTriedAt log self.new }
+        ensures tried { (limit : ℕ) (log : List Operation) → AreTriedAt limit log self.old → AreTriedAt limit log self.new }
     {
         if self.contains(&op) {
             return Ok(Offered::Repeat);

@@ -65,10 +65,10 @@ fn offer_all<T: Taking>(
     ending: Option<(Fault, u64)>,
 ) -> Received
     requires offsets { length offsets.now ≡ length ops.items }
-    requires tried { AreTriedAt (T.log site.old) held.old }
+    requires tried { AreTriedAt (T.limit site.old) (T.log site.old) held.old }
     ensures offers { Offers T.log T.limit T.after ops.items offsets.now ending (record { site = site.old; held = held.old.held })
         result (record { site = site.new; held = held.new.held }) }
-    ensures tried { AreTriedAt (T.log site.new) held.new }
+    ensures tried { AreTriedAt (T.limit site.new) (T.log site.new) held.new }
 {
     let mut received = Received::nothing(ending, held.len());
     let mut i = 0;
@@ -95,10 +95,10 @@ fn offer_all<T: Taking>(
 /// where the file found no memory.
 pub fn receive<T: Taking>(alloc: Global, site: &mut T, held: &mut Held, bytes: &[u8]) -> Received
     requires bytes { length bytes.now ≤ MOST_BYTES }
-    requires tried { AreTriedAt (T.log site.old) held.old }
+    requires tried { AreTriedAt (T.limit site.old) (T.log site.old) held.old }
     ensures receives { Receives T.log T.limit T.after bytes.now (record { site = site.old; held = held.old.held })
         result (record { site = site.new; held = held.new.held }) }
-    ensures tried { AreTriedAt (T.log site.new) held.new }
+    ensures tried { AreTriedAt (T.limit site.new) (T.log site.new) held.new }
 {
     match read_bytes(alloc, bytes) {
         Ok(reading) => offer_all(site, held, reading.ops, &reading.offsets, reading.fault),

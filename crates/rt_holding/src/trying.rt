@@ -29,10 +29,10 @@ pub(crate) type Ops = BTreeMap<Place, Option<Op>>;
 pub(crate) enum Outcome {
     /// It is taken.
     Taken,
-    /// It stays, and is looked at again.
+    /// It could be taken, but memory was wanting: it is looked at again.
     Waits,
-    /// It comes too early still.
-    Early,
+    /// It comes too early still, or finds no room.
+    Stays,
     /// It is refused for good.
     Dropped,
     /// None is there.
@@ -52,8 +52,8 @@ fn outcome_for<T: Taking>(site: &T, op: &Op, lacks: bool) -> Outcome
             }
         }
         Ok(Offer::Repeat) => Outcome::Dropped,
-        Err(Fault::NotYet) => Outcome::Early,
-        Err(Fault::TextFull) => Outcome::Waits,
+        Err(Fault::NotYet) => Outcome::Stays,
+        Err(Fault::TextFull) => Outcome::Stays,
         Err(_) => Outcome::Dropped,
     }
 }
@@ -68,7 +68,7 @@ pub(crate) fn outcome_at<T: Taking>(site: &T, ops: &Ops, place: Place, lacks: bo
     }
 }
 
-/// The operation at a place comes too early: it sleeps, with all its keys kept. It is looked at again where they find no memory.
+/// The operation at a place would stay: it sleeps, with all its keys kept. It is looked at again where they find no memory.
 pub(crate) fn sleep<T: Taking>(site: &T, ops: &Ops, waits: &mut Waits, place: Place)
     requires ready { IsReady 1 waits.old }
     requires sound { IfIsThere (λ op. has_bad_stamp op ≡ false) (get by_stamp_and_arrival ops.now place) }

@@ -12,7 +12,7 @@ invariant-loop-op g l = record {
   left : l.i + length (into_iter_items l.op-iterator) ≡ length l.fn.offsets;
   few : l.received.new + l.received.repeats + length l.held.held ≤ l.i + length l.initial.held.held;
   most : length l.initial.held.held ≤ most_held;
-  tried : AreTriedAt (g.T.Taking.log l.site) l.held;
+  tried : AreTriedAt (g.T.Taking.limit l.site) (g.T.Taking.log l.site) l.held;
   none : l.received.fault ≡ l.fn.ending;
   goes_on : (received : Received) (new : State g.row.T.Denot)
       → Offers g.T.Taking.log g.T.Taking.limit g.T.Taking.after (into_iter_items l.op-iterator) (drop l.i l.fn.offsets) l.fn.ending (record { site = l.site; held = l.held.held }) received new

@@ -6,15 +6,13 @@ use Rattle.std.specs.BTreeMap.{get, is_at}
 use Rattle.std.specs.BTreeSet.{BTreeSet, contains}
 use Rattle.rt_stamps.specs.declared.stamp.Stamp.{Stamp}
 use Rattle.rt_oplog.specs.Logs.{known_end}
-use Rattle.rt_rga.specs.Answers.{answer_to}
 use Rattle.rt_rga.proofs.Skipping.{split}
 use Rattle.rt_holding.specs.declared.waits.Key.{Key}
-use Rattle.rt_holding.specs.Holding.{is_early}
 use Rattle.rt_holding.specs.Kept.{Place, by_stamp_and_arrival}
-use Rattle.rt_holding.specs.Waits.{IfIsThere, are_kept, by_key, has_key, is_due, key_at, sleeps}
+use Rattle.rt_holding.specs.Waits.{IfIsThere, by_key, has_key, is_due, key_at, sleeps}
 use Rattle.rt_holding.specs.Waking.{IsSeenTo, is_passed_by, passed_keys, stamp_of_key}
-use Rattle.rt_holding.proofs.Going.{both, or_left, or_right}
-use Rattle.rt_holding.proofs.Sleeping.{IsAsleep, falls_asleep, more_asleep, seen_asleep, sleeps_on}
+use Rattle.rt_holding.proofs.Going.{or_left, or_right}
+use Rattle.rt_holding.proofs.Sleeping.{IsResting, falls_to_rest, more_at_rest, rests_on, seen_at_rest}
 use Rattle.rt_holding.proofs.Standing.{count_removed, key_equal, other_key, this_place}
 use Rattle.rt_holding.proofs.waking.wake.Goals as goal
 
@@ -24,7 +22,7 @@ loop-key-init g c =
     record {
       ready = c.look_again.ensures.ready;
       due = λ p h. h;
-      asleep = λ older grown p x f r s. inr (falls_asleep c.look_again.new.waits.keys older log p x grown.history s);
+      asleep = λ limit older grown p x f r s. inr (falls_to_rest limit c.look_again.new.waits.keys older log p x grown.history r s);
     }
 
 pub loop-key-preserved : goal.loop-key-preserved
@@ -41,18 +39,18 @@ loop-key-preserved g c =
     record {
       ready = c.pass.ensures.ready;
       due = λ p h. c.pass.ensures.due p (before.due p h);
-      asleep = λ older grown p x f r s. elim (before.asleep older grown p x f r s) [
+      asleep = λ limit older grown p x f r s. elim (before.asleep limit older grown p x f r s) [
         | inl d ↦ inl (c.pass.ensures.due p d)
         | inr a ↦ split (is_at (by_stamp_and_arrival key.place) p)
             (λ t. let at = this_place key.place p t in
             let here : (is_due key.place c.pass.new.waits.due ≡ true) ⊎ IsSeenTo log new key x =
             subst (IfIsThere (λ y. (is_due key.place c.pass.new.waits.due ≡ true) ⊎ IsSeenTo log new key y)) (ap (get by_stamp_and_arrival c.args.ops.now) at ∙ f) c.pass.ensures.here in
-            subst (λ (q : Place). (is_due q c.pass.new.waits.due ≡ true) ⊎ IsAsleep new older log q x) at (elim here [
+            subst (λ (q : Place). (is_due q c.pass.new.waits.due ≡ true) ⊎ IsResting limit new older log q x) at (elim here [
               | inl d ↦ inl d
-              | inr seen ↦ inr (seen_asleep old new older log key x r (omega (arith, passed, known)) (rest key old less new c.remove-was_there.ensures.updates.0 c.pass.ensures.more) seen
-                  (subst (λ (q : Place). IsAsleep old older log q x) (sym at) a))
+              | inr seen ↦ inr (seen_at_rest old new older log key x r (omega (arith, passed, known)) (rest key old less new c.remove-was_there.ensures.updates.0 c.pass.ensures.more) seen limit
+                  (subst (λ (q : Place). IsResting limit old older log q x) (sym at) a))
             ]))
-            (λ t. inr (more_asleep old new older log p x (λ st h. c.pass.ensures.others (key_at st p) t ∙ c.remove-was_there.ensures.updates.0 (key_at st p) ∙ other key (key_at st p) old t h) a))
+            (λ t. inr (more_at_rest limit old new older log p x (λ st h. c.pass.ensures.others (key_at st p) t ∙ c.remove-was_there.ensures.updates.0 (key_at st p) ∙ other key (key_at st p) old t h) a))
       ];
     }
   where
@@ -90,11 +88,11 @@ returns-clause-woken g c =
     record {
       due = λ p h. last.due p (c.look_again.ensures.due p h);
       again = λ p h. last.due p (c.look_again.ensures.again p h);
-      asleep = λ older grown p x f r s. elim (last.asleep older grown p x f r (subst (λ (keys : BTreeSet Key). sleeps keys older p x ≡ true) (sym c.look_again.ensures.keys) s)) [
-        | inl d ↦ or_left (is_due p c.loop-key.waits.due) (sleeps c.loop-key.waits.keys log p x) d
-        | inr a ↦ or_right (is_due p c.loop-key.waits.due) (sleeps c.loop-key.waits.keys log p x)
-            (sleeps_on c.loop-key.waits.keys c.args.made_by older log p x grown c.known-known.ensures.history (λ st h e. late (key_at st p) (known_end log c.args.made_by) h
-            (λ l. c.in_default.ensures.none (key_at st p) e (omega (arith, l, known)))) (both (is_early (answer_to x older)) (are_kept c.args.waits.now.keys older p x) s).0 a)
+      asleep = λ limit older grown p x f r s. elim (last.asleep limit older grown p x f r (subst (λ (keys : BTreeSet Key). sleeps limit keys older p x ≡ true) (sym c.look_again.ensures.keys) s)) [
+        | inl d ↦ or_left (is_due p c.loop-key.waits.due) (sleeps limit c.loop-key.waits.keys log p x) d
+        | inr a ↦ or_right (is_due p c.loop-key.waits.due) (sleeps limit c.loop-key.waits.keys log p x)
+            (rests_on c.loop-key.waits.keys c.args.made_by older log p x grown c.known-known.ensures.history (λ st h e. late (key_at st p) (known_end log c.args.made_by) h
+            (λ l. c.in_default.ensures.none (key_at st p) e (omega (arith, l, known)))) limit a)
       ];
     }
   where

@@ -17,11 +17,11 @@ use Rattle.rt_holding.proofs.Putting.{tried_kept}
 use Rattle.rt_holding.proofs.held.Held.put.Goals as goal
 
 pub returns-in_default-prepare-clause-tried : goal.returns-in_default-prepare-clause-tried
-returns-in_default-prepare-clause-tried g c log h =
+returns-in_default-prepare-clause-tried g c limit log h =
     let old = c.self.inside in
     let keyed = c.prepare.ensures in
-    tried_kept log old.arrivals _ old.waits.keys c.prepare.new.waits.keys old.waits.again.items c.prepare.new.waits.again.items refl keyed.others
-    (λ q i. ap (is_listed q) keyed.again ∙ i) old.ops.entries c.self.invariant.held.places (subst (AreTriedAt log) (sym c.self.view_is) h)
+    tried_kept limit log old.arrivals _ old.waits.keys c.prepare.new.waits.keys old.waits.again.items c.prepare.new.waits.again.items refl keyed.others
+    (λ q i. ap (is_listed q) keyed.again ∙ i) old.ops.entries c.self.invariant.held.places (subst (AreTriedAt limit log) (sym c.self.view_is) h)
 
 pub invariant_of-self-in-Ok-insert : goal.invariant_of-self-in-Ok-insert
 invariant_of-self-in-Ok-insert g c =
@@ -47,27 +47,27 @@ returns-in-Ok-insert-clause-put g c =
     ∙ put_in n c.args.op entries c.self.invariant.held.places ∙ ap (λ (v : HeldValue). put_held c.args.op v.held) c.self.view_is
 
 pub returns-in-Ok-insert-clause-tried : goal.returns-in-Ok-insert-clause-tried
-returns-in-Ok-insert-clause-tried g c log h =
+returns-in-Ok-insert-clause-tried g c limit log h =
     let old = c.self.inside in
     let keyed = c.prepare.ensures in
     let keys = c.keep.new.waits.keys in
     let again = c.keep.new.waits.again.items in
     let place : Place = (c.stamp.result, old.arrivals) in
-    let others = tried_kept log old.arrivals place old.waits.keys c.prepare.new.waits.keys old.waits.again.items again refl keyed.others
+    let others = tried_kept limit log old.arrivals place old.waits.keys c.prepare.new.waits.keys old.waits.again.items again refl keyed.others
     (λ q i. c.keep.ensures.listed q ∙ or_left (is_listed q c.prepare.new.waits.again.items) (is_at (by_stamp_and_arrival q) place) (ap (is_listed q) keyed.again ∙ i))
-    old.ops.entries c.self.invariant.held.places (subst (AreTriedAt log) (sym c.self.view_is) h) in
+    old.ops.entries c.self.invariant.held.places (subst (AreTriedAt limit log) (sym c.self.view_is) h) in
     let listed : is_listed place again ≡ true = c.keep.ensures.listed place ∙ or_right (is_listed place c.prepare.new.waits.again.items) (is_at (by_stamp_and_arrival place) place) (own_place place) in
-    let here : is_tried_at log keys again (place, Some c.args.op) ≡ true = or_left (is_listed place again) (sleeps keys log place c.args.op) listed in
-    ap (list_all (is_tried_at log keys again)) c.in-Ok-insert.ensures.entries
-    ∙ tried_more (is_tried_at log keys again) old.ops.entries place (Some c.args.op) here
-    (subst (λ (k : BTreeSet Key). are_tried_at log k again old.ops.entries ≡ true) (sym c.keep.ensures.keys) others)
+    let here : is_tried_at limit log keys again (place, Some c.args.op) ≡ true = or_left (is_listed place again) (sleeps limit keys log place c.args.op) listed in
+    ap (list_all (is_tried_at limit log keys again)) c.in-Ok-insert.ensures.entries
+    ∙ tried_more (is_tried_at limit log keys again) old.ops.entries place (Some c.args.op) here
+    (subst (λ (k : BTreeSet Key). are_tried_at limit log k again old.ops.entries ≡ true) (sym c.keep.ensures.keys) others)
 
 pub returns-in-Some-1₀-clause-tried : goal.returns-in-Some-1₀-clause-tried
-returns-in-Some-1₀-clause-tried g c log h =
+returns-in-Some-1₀-clause-tried g c limit log h =
     let old = c.self.inside in
     let keyed = c.prepare.ensures in
     let place : Place = (c.stamp.result, old.arrivals) in
-    ap (list_all (is_tried_at log c.forget.new.keys c.prepare.new.waits.again.items)) c.in-Err.ensures.err
-    ∙ tried_kept log old.arrivals place old.waits.keys c.forget.new.keys old.waits.again.items c.prepare.new.waits.again.items refl
+    ap (list_all (is_tried_at limit log c.forget.new.keys c.prepare.new.waits.again.items)) c.in-Err.ensures.err
+    ∙ tried_kept limit log old.arrivals place old.waits.keys c.forget.new.keys old.waits.again.items c.prepare.new.waits.again.items refl
     (others_on place old.waits.keys c.prepare.new.waits.keys c.forget.new.keys keyed.others c.forget.ensures.others) (λ q i. ap (is_listed q) keyed.again ∙ i)
-    old.ops.entries c.self.invariant.held.places (subst (AreTriedAt log) (sym c.self.view_is) h)
+    old.ops.entries c.self.invariant.held.places (subst (AreTriedAt limit log) (sym c.self.view_is) h)

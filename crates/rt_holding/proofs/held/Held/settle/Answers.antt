@@ -1,4 +1,4 @@
-use Rattle.std.proofs.Common.{◌≡◌, ◌∙◌, ◌^◌, refl, ◌≤◌, List, [], inr, true, arith, ap, length, subst, sym}
+use Rattle.std.proofs.Common.{◌≡◌, ◌∙◌, ◌^◌, refl, ◌≤◌, List, [], true, arith, ap, length, subst, sym}
 use Rattle.std.proofs.lemmas.List.{nil_from_length}
 use Rattle.std.specs.BTreeMap.{get}
 use Rattle.std.specs.BinaryHeap.{heap_items, heap_len}
@@ -9,8 +9,8 @@ use Rattle.rt_holding.specs.Grown.{AreTriedAt, HeldValue}
 use Rattle.rt_holding.specs.Holding.{is_new, next_of}
 use Rattle.rt_holding.specs.Kept.{AreHeld, IsNewAt, by_stamp_and_arrival, ops_in}
 use Rattle.rt_holding.specs.Taken.{AreTried, holding}
-use Rattle.rt_holding.specs.Waits.{outcome_there}
-use Rattle.rt_holding.proofs.Steps.{IsGoing, IsThere, absent, done_in, dropped, early_sound, fewer_ops, going, same_entries, slept, stayed, taken_new, took, waits_there}
+use Rattle.rt_holding.specs.Waits.{are_tried_at, outcome_there}
+use Rattle.rt_holding.proofs.Steps.{IsGoing, IsThere, absent, done_in, dropped, stays_sound, fewer_ops, going, same_entries, slept, stayed, taken_new, took, waits_there}
 use Rattle.rt_holding.proofs.Places.{get_at}
 use Rattle.rt_holding.proofs.Tries.{begins, ends}
 use Rattle.rt_holding.proofs.held.Held.settle.Goals as goal
@@ -40,7 +40,7 @@ loop-place-init g c = record {
   waits = c.wake.ensures.ready;
   ordered = c.len.ensures.ordered;
   goes = going g.T.Taking.log g.T.Taking.after (g.T.Taking.limit c.args.site.now) c.args.made_by c.self.inside.arrivals c.requires.older c.args.site.now c.self.inside.ops c.self.inside.waits c.wake.new.waits
-      c.requires.grown c.wake.ensures.woken c.self.invariant.held c.len.ensures.ordered (subst (AreTriedAt c.requires.older) (sym c.self.view_is) c.requires.tried);
+      c.requires.grown c.wake.ensures.woken c.self.invariant.held c.len.ensures.ordered (subst (AreTriedAt (g.T.Taking.limit c.args.site.now) c.requires.older) (sym c.self.view_is) c.requires.tried);
   few = omega arith;
 }
 
@@ -109,7 +109,7 @@ loop-place-preserved-in-Err g c =
     c.outcome_at.result c.in-Taken.is o b.ordered in
     let there : IsThere l.self-inside.ops c.in-Some.place = record { op = n.op; found = get_at l.self-inside.ops c.in-Some.place n.op n.there } in
     let goes = stayed log g.T.Taking.after l.lacks limit state c.args.site.now l.site l.self-inside.ops l.self-inside.waits l.taken b.goes c.pop_first.new.due c.in-Some.place c.in-Some.ensures.some
-    true c.keep.new.waits there b.ordered c.keep.ensures.keys c.keep.ensures.due c.keep.ensures.listed (λ e. f) (inr (ap is_new n.new, refl)) in
+    true c.keep.new.waits there b.ordered c.keep.ensures.keys c.keep.ensures.due c.keep.ensures.listed (λ e. f) (ap is_new n.new, refl) in
     let few = b.few in
     let shorter = ap length c.in-Err.ensures.same_ops in
     let popped = c.in-Some.ensures.len in
@@ -154,16 +154,16 @@ sleep-requires-clause-sound g c =
     let limit = g.T.Taking.limit c.args.site.now in
     let state = holding log c.args.site.now (ops_in c.self.inside.ops.entries) in
     let o = c.outcome_at.ensures ∙ ap (λ n. outcome_there l.lacks n (log l.site) (get by_stamp_and_arrival l.self-inside.ops c.in-Some.place)) b.limit in
-    early_sound l.lacks limit (log l.site) c.outcome_at.result (get by_stamp_and_arrival l.self-inside.ops c.in-Some.place) c.in-Early.is o
+    stays_sound l.lacks limit (log l.site) c.outcome_at.result (get by_stamp_and_arrival l.self-inside.ops c.in-Some.place) c.in-Stays.is o
 
-pub loop-place-smaller-in-Early : goal.loop-place-smaller-in-Early
-loop-place-smaller-in-Early g c =
+pub loop-place-smaller-in-Stays : goal.loop-place-smaller-in-Stays
+loop-place-smaller-in-Stays g c =
     let popped = c.in-Some.ensures.len in
     let same = same_len c.sleep.new.waits.due c.pop_first.new.due c.sleep.ensures.due in
     omega (arith, popped, same)
 
-pub loop-place-preserved-in-Early : goal.loop-place-preserved-in-Early
-loop-place-preserved-in-Early g c =
+pub loop-place-preserved-in-Stays : goal.loop-place-preserved-in-Stays
+loop-place-preserved-in-Stays g c =
     let log = g.T.Taking.log in
     let l = c.loop-place in
     let b = l.invariant in
@@ -177,7 +177,7 @@ loop-place-preserved-in-Early g c =
       waits = c.sleep.ensures.ready;
       ordered = b.ordered;
       goes = slept log g.T.Taking.after l.lacks limit state c.args.site.now l.site l.self-inside.ops l.self-inside.waits l.taken b.goes c.pop_first.new.due c.in-Some.place c.in-Some.ensures.some
-          c.outcome_at.result c.in-Early.is o c.sleep.new.waits c.sleep.ensures.keys c.sleep.ensures.due c.sleep.ensures.again c.sleep.ensures.asleep;
+          c.outcome_at.result c.in-Stays.is o c.sleep.new.waits c.sleep.ensures.keys c.sleep.ensures.due c.sleep.ensures.again c.sleep.ensures.asleep;
       few = b.few;
     }
 
@@ -273,4 +273,5 @@ returns-clause-log g c =
     let b = l.invariant in
     let limit = g.T.Taking.limit c.args.site.now in
     let state = holding log c.args.site.now (ops_in c.self.inside.ops.entries) in
+    subst (λ n. are_tried_at n (log l.site) l.self-inside.waits.keys l.self-inside.waits.again.items l.self-inside.ops.entries ≡ true) (sym b.limit)
     (done_in log g.T.Taking.after l.lacks limit state c.args.site.now l.site l.self-inside.ops l.self-inside.waits l.taken b.goes c.in_default.ensures.none b.ordered).1

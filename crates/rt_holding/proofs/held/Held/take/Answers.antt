@@ -1,8 +1,8 @@
-use Rattle.std.proofs.Common.{◌∙◌, ap, subst, sym}
+use Rattle.std.proofs.Common.{◌≡◌, ◌∙◌, ap, subst, sym, true}
 use Rattle.rt_holding.specs.Grown.{AreTriedAt, HeldValue}
 use Rattle.rt_holding.specs.Holding.{without}
 use Rattle.rt_holding.specs.Kept.{ops_in}
-use Rattle.rt_holding.specs.Waits.{is_tried_at}
+use Rattle.rt_holding.specs.Waits.{are_tried_at, is_tried_at}
 use Rattle.rt_holding.proofs.Places.{forgotten}
 use Rattle.rt_holding.proofs.Putting.{tried_away}
 use Rattle.rt_holding.proofs.Steps.{grown_by}
@@ -20,11 +20,13 @@ pub settle-requires : goal.settle-requires
 settle-requires g c =
     let log = g.T.Taking.log in
     let older = log c.args.site.now in
+    let limit = g.T.Taking.limit in
     let old = c.self.inside in
     record {
       older = older;
-      tried = tried_away (is_tried_at older old.waits.keys old.waits.again.items) c.place_of-held.result old.ops.entries c.take_away.new.ops.entries c.take_away.ensures.some c.take_away.ensures.none
-          (subst (AreTriedAt older) (sym c.self.view_is) c.requires.tried);
+      tried = tried_away (is_tried_at (limit c.take.new.self) older old.waits.keys old.waits.again.items) c.place_of-held.result old.ops.entries c.take_away.new.ops.entries c.take_away.ensures.some c.take_away.ensures.none
+          (subst (λ n. are_tried_at n older old.waits.keys old.waits.again.items old.ops.entries ≡ true) (sym c.take.ensures.limit)
+          (subst (AreTriedAt (limit c.args.site.now) older) (sym c.self.view_is) c.requires.tried));
       grown = grown_by older (log c.take.new.self) c.site-made_by.result c.args.op c.requires.history c.site-made_by.ensures c.in-Ok.ensures.log;
     }
 
