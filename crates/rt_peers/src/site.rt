@@ -52,7 +52,10 @@ impl Model for SiteState {
 
     ghost view = { λ s. record { paths = as_words s.paths.items; text = s.text; held = s.held.held } };
 
-    ghost invariant = { λ s. record { paths : HavePaths (as_words s.paths.items) s.text.view; tried : AreTriedAt s.text.view.doc.log s.held } };
+    ghost invariant = { λ s. record {
+      paths : HavePaths (as_words s.paths.items) s.text.view;
+      tried : AreTriedAt s.text.view.doc.limit s.text.view.doc.log s.held;
+    } };
 }
 
 impl SiteState {

@@ -54,5 +54,5 @@ BecomesOf op old new takings.Held = new ≡ record old { held = put_held op old.
 
 -- the held ones were last tried at the log, and all is told
 pub record HasSettled (telling : TellingValue) (held : HeldValue) : Type 0 where
-  pub tried : AreTriedAt telling.log held
+  pub tried : AreTriedAt telling.limit telling.log held
   pub told : telling.changes ≡ []

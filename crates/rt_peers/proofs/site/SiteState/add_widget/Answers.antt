@@ -22,5 +22,5 @@ invariant_of-self-2 c =
     let docs = made_doc c.args.place c.self.inside.text c.add_peer.new.self c.args.settings.now c.in_ok-add_peer.ensures.ok in
     record {
       paths = subst (λ l. HavePaths l c.add_peer.new.self.view) (sym items) (one_more_path (map f old) view c.add_peer.new.self.view new c.self.invariant.paths none more);
-      tried = subst (λ (d : Flat). AreTriedAt d.log c.self.inside.held) docs c.self.invariant.tried;
+      tried = subst (λ (d : Flat). AreTriedAt d.limit d.log c.self.inside.held) docs c.self.invariant.tried;
     }

@@ -36,7 +36,7 @@ invariant_of-self c =
     record {
       paths = subst (λ (l : List Word). HavePaths l c.remove_widget.new.self.view) (sym items)
           (subst (λ (v : Viewed). HavePaths (remove (paths_in c) place) v) (sym (ap (λ t. t.view) c.remove_widget.ensures)) (path_gone (paths_in c) view place c.self.invariant.paths there (several c)));
-      tried = subst (λ (t : Edited). AreTriedAt t.view.doc.log c.self.inside.held) (sym c.remove_widget.ensures) c.self.invariant.tried;
+      tried = subst (λ (t : Edited). AreTriedAt t.view.doc.limit t.view.doc.log c.self.inside.held) (sym c.remove_widget.ensures) c.self.invariant.tried;
     }
 
 pub returns-clause-ok : goal.returns-clause-ok

@@ -42,9 +42,11 @@ invariant_of-self-else-before-len c =
     let gains = request_gains c.args.place c.args.request.now state c.lead.new.self c.request-reply.new.self c.lead-2.new.self c.request-reply.result c.lead.ensures c.request-reply.ensures c.lead-2.ensures in
     let none : length (log_of mid) ≤ length (log_of state) =
     omega (arith, c.if-before-len.false, c.len-before.ensures, c.len.ensures, ap length c.log.ensures.operations, ap length c.log-2.ensures.operations) in
+    let kept = site_keeps state mid gains refl none in
     record {
       paths = record { each = omega (arith, stays.number, led, back, c.self.invariant.paths.each); differ = c.self.invariant.paths.differ };
-      tried = subst (λ (log : List Operation). AreTriedAt log c.self.inside.held) (sym (site_keeps state mid gains refl none).log) c.self.invariant.tried;
+      tried = subst (λ n. AreTriedAt n (log_of mid) c.self.inside.held) (sym kept.limit)
+          (subst (λ (log : List Operation). AreTriedAt (limit_of state) log c.self.inside.held) (sym kept.log) c.self.invariant.tried);
     }
 
 -- held ones were last tried before the site made operations
@@ -53,9 +55,9 @@ settle-requires c =
     let state : State = record { paths = as_words c.self.inside.paths.items; text = c.self.inside.text; held = c.self.inside.held.held } in
     let gains = request_gains c.args.place c.args.request.now state c.lead.new.self c.request-reply.new.self c.lead-2.new.self c.request-reply.result c.lead.ensures c.request-reply.ensures c.lead-2.ensures in
     let own : c.number-site.result ≡ site_of state = c.number-site.ensures.value ∙ c.site.ensures ∙ gains.same.site in
-    subst (λ n. AreTriedBefore n c.self.inside.held (text_log c.lead-2.new.self)) (sym own) (record {
+    subst (λ n. AreTriedBefore (text_limit c.lead-2.new.self) n c.self.inside.held (text_log c.lead-2.new.self)) (sym own) (record {
       older = log_of state;
-      tried = c.self.invariant.tried;
+      tried = subst (λ n. AreTriedAt n (log_of state) c.self.inside.held) (sym gains.same.limit) c.self.invariant.tried;
       grown = gains_grow_by state.text.view.doc c.lead-2.new.self.view.doc gains c.log.ensures.history;
     })
 

@@ -1,4 +1,4 @@
-use Rattle.std.proofs.Common.{◌∙◌, List, ap, arith, length, subst, sym}
+use Rattle.std.proofs.Common.{◌∙◌, ap, arith, length, subst, sym}
 use Rattle.rt_stamps.specs.Outcomes.{Answers}
 use Rattle.rt_stamps.specs.Words.{as_words}
 use Rattle.rt_editing.specs.Edited.{Edited}
@@ -6,7 +6,7 @@ use Rattle.rt_peers.specs.Peers.{text_led, widgets_of}
 use Rattle.rt_peers.specs.State.{State}
 use Rattle.rt_peers.specs.SiteStep.{by_widget}
 use Rattle.rt_peers.specs.Options.{option_step}
-use Rattle.rt_ops.specs.Operations.{Operation}
+use Rattle.rt_edits.specs.Flat.{Flat}
 use Rattle.rt_holding.specs.Grown.{AreTriedAt}
 use Rattle.rt_peers.proofs.PeerLaws.{by_led, led_number}
 use Rattle.rt_peers.proofs.site.SiteState.tell.Goals as goal
@@ -21,10 +21,10 @@ pub invariant_of-self : goal.invariant_of-self
 invariant_of-self c =
     let led = ap (λ t. length (widgets_of t.view)) c.lead.ensures ∙ led_number c.self.inside.text.view c.args.place in
     let back = ap (λ t. length (widgets_of t.view)) c.lead-2.ensures ∙ led_number c.lead.new.self.view c.args.place in
-    let docs = ap (λ t. t.view.doc.log) (sym c.lead.ensures) ∙ ap (λ t. t.view.doc.log) (sym c.lead-2.ensures) in
+    let docs = ap (λ t. t.view.doc) (sym c.lead.ensures) ∙ ap (λ t. t.view.doc) (sym c.lead-2.ensures) in
     record {
       paths = record { each = omega (arith, led, back, c.self.invariant.paths.each); differ = c.self.invariant.paths.differ };
-      tried = subst (λ (log : List Operation). AreTriedAt log c.self.inside.held) docs c.self.invariant.tried;
+      tried = subst (λ (d : Flat). AreTriedAt d.limit d.log c.self.inside.held) docs c.self.invariant.tried;
     }
 
 pub returns : goal.returns
