@@ -18,7 +18,7 @@ settle-requires g c =
     let own = c.number-site.ensures.value ∙ c.site.ensures ∙ c.replica-own.ensures.site ∙ c.make.ensures.site in
     record {
       older = t.log;
-      tried = c.self.invariant.tried;
+      tried = subst (λ n. AreTriedAt n t.log c.self.inside.held) (sym c.make.ensures.limit) c.self.invariant.tried;
       grown = subst (λ n. HasGrownBy n t.log c.make.new.self.log) (sym own)
           (subst (λ (log : List Operation). HasGrownBy t.site t.log log) (sym c.in_ok-ops.ensures.log) (drafts_grow_by t.site (map body_of c.args.drafts.items) t.log before));
     }
