@@ -3,7 +3,7 @@ use Rattle.rt_ops.specs.Edits.{body_of}
 use Rattle.rt_ops.specs.Operations.{Operation}
 use Rattle.rt_rga.specs.Drafts.{with_drafts}
 use Rattle.rt_rga.specs.Histories.{IsHistory}
-use Rattle.rt_holding.specs.Grown.{HasGrownBy}
+use Rattle.rt_holding.specs.Grown.{AreTriedAt, HasGrownBy}
 use Rattle.rt_holding.proofs.Drafts.{drafts_grow_by}
 use Rattle.rt_replica.specs.Replicas.{HoldingValue, TakesAndTells}
 use Rattle.rt_replica.specs.Told.{TellingValue}
