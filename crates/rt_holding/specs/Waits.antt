@@ -76,6 +76,10 @@ LeavesNone keys site known = (key : Key) → key.site ≡ site → key.count ≤
 abbrev pub KeepsOthers : Place → BTreeSet Key → BTreeSet Key → Type 0
 KeepsOthers place old new = (key : Key) → is_at (by_stamp_and_arrival place) key.place ≡ false → contains by_key new key ≡ contains by_key old key
 
+-- keys may have been taken out
+abbrev pub IsLess : BTreeSet Key → BTreeSet Key → Type 0
+IsLess old new = (key : Key) → contains by_key new key ≡ true → contains by_key old key ≡ true
+
 -- keys of a place may have been put in, and nothing else changed
 pub record IsKeyedMore (place : Place) (old new : Waits) : Type 0 where
   pub keys : KeepsOthers place old.keys new.keys

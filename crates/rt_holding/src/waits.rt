@@ -1,13 +1,13 @@
 // Which of the held operations may be tried, and at which counts others may be.
 ghost use Rattle.std.specs.Prelude.{◌≡◌, ℕ, ◌+◌, ◌<◌, ◌≤◌, ◌==◌, ◌&&◌, ◌||◌, ◌∷◌, vec_len, Bool, true, false, [], length, IfNone, IfSome, OnOk, OnSome};
-ghost use Rattle.std.specs.List.{flat_map, list_all};
+ghost use Rattle.std.specs.List.{flat_map, list_all, list_any};
 ghost use Rattle.std.specs.BinaryHeap.{IsHeap, KeepsHeap, heap_capacity, heap_items, heap_len};
 ghost use Rattle.std.specs.BTreeMap.{is_at};
 ghost use Rattle.std.specs.BTreeSet.{contains};
 ghost use Rattle.rt_ops.specs.Operations.{has_bad_stamp};
 ghost use Rattle.rt_holding.specs.Kept.{Place, by_stamp_and_arrival};
-ghost use Rattle.rt_holding.specs.Waiting.{key_in};
-ghost use Rattle.rt_holding.specs.Waits.{IsFirstDue, IsKeyedMore, IsPassedIn, IsReady, KeepsOthers, LeavesNone, are_kept, by_key, by_later, has_key, is_due, is_listed, least_key};
+ghost use Rattle.rt_holding.specs.Waiting.{key_in, keys_of};
+ghost use Rattle.rt_holding.specs.Waits.{IsFirstDue, IsKeyedMore, IsPassedIn, IsLess, IsReady, KeepsOthers, LeavesNone, are_kept, by_key, by_later, has_key, is_due, is_listed, least_key};
 
 use crate::taking::Taking;
 use crate::trying::Place;
@@ -334,6 +334,8 @@ pub(crate) fn prepare<T: Taking>(
 
 /// Takes a key out, if it is there.
 fn drop_key(keys: &mut Keys, stamp: Stamp, place: Place)
+    ensures gone { has_key keys.new place stamp ≡ false }
+    ensures less { IsLess keys.old keys.new }
     ensures others { KeepsOthers place keys.old keys.new }
     ensures fewer { length keys.new.keys ≤ length keys.old.keys }
 {
@@ -346,6 +348,8 @@ fn drop_key(keys: &mut Keys, stamp: Stamp, place: Place)
 
 /// That of a span, as far as its site has come.
 fn drop_span<T: Taking>(site: &T, keys: &mut Keys, span: Span, place: Place)
+    ensures gone { list_any (has_key keys.new place) (key_in (T.log site.now) span) ≡ false }
+    ensures less { IsLess keys.old keys.new }
     ensures others { KeepsOthers place keys.old keys.new }
     ensures fewer { length keys.new.keys ≤ length keys.old.keys }
 {
@@ -355,6 +359,8 @@ fn drop_span<T: Taking>(site: &T, keys: &mut Keys, span: Span, place: Place)
 }
 
 fn drop_spans<T: Taking>(site: &T, keys: &mut Keys, spans: &[Span], place: Place)
+    ensures gone { list_any (has_key keys.new place) (flat_map (key_in (T.log site.now)) spans.now) ≡ false }
+    ensures less { IsLess keys.old keys.new }
     ensures others { KeepsOthers place keys.old keys.new }
     ensures fewer { length keys.new.keys ≤ length keys.old.keys }
 {
@@ -365,6 +371,8 @@ fn drop_spans<T: Taking>(site: &T, keys: &mut Keys, spans: &[Span], place: Place
 
 /// Takes out the keys of an operation at a place.
 pub(crate) fn forget<T: Taking>(site: &T, keys: &mut Keys, op: &Op, place: Place)
+    ensures gone { has_bad_stamp op.now ≡ false → list_any (has_key keys.new place) (keys_of (T.log site.now) op.now) ≡ false }
+    ensures less { IsLess keys.old keys.new }
     ensures others { KeepsOthers place keys.old keys.new }
     ensures fewer { length keys.new.keys ≤ length keys.old.keys }
 {
