@@ -11,6 +11,7 @@ pub mod Greatest
 pub mod Keeping
 pub mod Keys
 pub mod Looking
+pub mod Named
 pub mod Passing
 pub mod Places
 pub mod Putting
