@@ -12,6 +12,7 @@ pub mod Keeping
 pub mod Keys
 pub mod Larger
 pub mod Looking
+pub mod Named
 pub mod Passing
 pub mod Places
 pub mod Putting

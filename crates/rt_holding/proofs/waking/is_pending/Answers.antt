@@ -1,5 +1,5 @@
 use Rattle.std.proofs.Common.{◌∙◌, sym}
-use Rattle.rt_holding.proofs.Sleeping.{among_at}
+use Rattle.rt_holding.proofs.Named.{among_at}
 use Rattle.rt_holding.proofs.waking.is_pending.Goals as goal
 
 pub returns : goal.returns

@@ -8,7 +8,7 @@ use Rattle.rt_rga.specs.Answers.{has_gap}
 use Rattle.rt_rga.proofs.Skipping.{split}
 use Rattle.rt_holding.specs.declared.waits.Key.{Key}
 use Rattle.rt_holding.specs.Waking.{HasComeIn, IsAmong, IsToCome, stamp_of_key}
-use Rattle.rt_holding.proofs.Sleeping.{among_at}
+use Rattle.rt_holding.proofs.Named.{among_at}
 use Rattle.rt_holding.proofs.waking.passed_among.Goals as goal
 
 abbrev part : Key → ℕ → Span
