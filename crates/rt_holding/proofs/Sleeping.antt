@@ -1,5 +1,5 @@
 -- Held operations sleep on while what they wait for comes, span by span.
-use Rattle.std.proofs.Common.{◌≡◌, ℕ, ◌+◌, ◌-◌, ◌<◌, ◌≤◌, Bool, true, false, cond, not, ◌⊎◌, inl, inr, refl, sym, ap, ◌∙◌, arith, List, [], ◌∷◌, ◌&&◌, ◌||◌, ◌==◌, max, min, nat_le, nat_lt}
+use Rattle.std.proofs.Common.{length, ◌≡◌, ℕ, ◌+◌, ◌-◌, ◌<◌, ◌≤◌, Bool, true, false, cond, not, ◌⊎◌, inl, inr, refl, sym, ap, ◌∙◌, arith, List, [], ◌∷◌, ◌&&◌, ◌||◌, ◌==◌, max, min, nat_le, nat_lt}
 use Rattle.std.proofs.lemmas.Bool.{cases_lt}
 use Rattle.std.proofs.lemmas.Bool.Decides.{nat_tests}
 use Rattle.std.specs.BTreeSet.{BTreeSet}
@@ -23,7 +23,7 @@ use Rattle.rt_holding.specs.Kept.{Place}
 use Rattle.rt_holding.specs.Waiting.{WaitsAt, came_in, goes_on, has_new_gap, is_passed, key_in, keys_of, targets}
 use Rattle.rt_holding.specs.Waits.{are_kept, has_key, sleeps}
 use Rattle.rt_holding.specs.Waking.{HasComeIn, IsAmong, IsSeenTo, first_of, stamp_of_key}
-use Rattle.rt_holding.proofs.Going.{both, left_if_stays, or_left, or_right}
+use Rattle.rt_holding.proofs.Going.{both, left_if_stays, or_left}
 use Rattle.rt_holding.proofs.Keeping.{is_new_true}
 use Rattle.rt_holding.proofs.Larger.{no_fewer_cells}
 use Rattle.rt_holding.proofs.Due.{left_ones_stay, stays_waits}
