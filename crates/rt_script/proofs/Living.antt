@@ -42,9 +42,11 @@ stays_on IsOther old new e site limit came l =
 goes_on : (IsOther : Operation → Type 0) (old mid new : State) → LivesOn IsOther old mid → LivesOn IsOther mid new → LivesOn IsOther old new
 goes_on IsOther old mid new f g site limit came l =
     let one = f site limit came l in
-    let two = g site limit (came ++ one.0) one.1 in
-    (one.0 ++ two.0, subst (Lives site limit new) (append_assoc came one.0 two.0) two.1,
-    either_of (λ op. (op.site ≡ site) ⊎ IsOther op) one.0 two.0 one.2 two.2)
+    let two = g site limit (came ++ one.0) one.1 in (
+      one.0 ++ two.0,
+      subst (Lives site limit new) (append_assoc came one.0 two.0) two.1,
+      either_of (λ op. (op.site ≡ site) ⊎ IsOther op) one.0 two.0 one.2 two.2,
+    )
 
 -- more is known of the others
 known_on : (P Q : Operation → Type 0) (old new : State) → ((op : Operation) → P op → Q op) → LivesOn P old new → LivesOn Q old new
@@ -153,6 +155,8 @@ pub run_lives : RunsLive
 run_lives number end p r =
     let start = begun number r.log r.start p r.begins in
     let on = script_on r.files r.start r.wants_log r.script r.left r.before r.after r.outcome r.runs number MOST_CELLS start.0 start.1 in
-    let P : Operation → Type 0 = λ op. (op.site ≡ number) ⊎ (IsOfLog r.log op ⊎ IsOfNamed r.files op) in
-    (start.0 ++ on.0, subst (λ (s : State). Lives number MOST_CELLS s (start.0 ++ on.0)) r.is_end on.1,
-    either_of P start.0 on.0 (λ op i. elim (start.2 op i) [ inl e ↦ inl e | inr l ↦ inr (inl l) ]) (λ op i. elim (on.2 op i) [ inl e ↦ inl e | inr n ↦ inr (inr n) ]))
+    let P : Operation → Type 0 = λ op. (op.site ≡ number) ⊎ (IsOfLog r.log op ⊎ IsOfNamed r.files op) in (
+      start.0 ++ on.0,
+      subst (λ (s : State). Lives number MOST_CELLS s (start.0 ++ on.0)) r.is_end on.1,
+      either_of P start.0 on.0 (λ op i. elim (start.2 op i) [ inl e ↦ inl e | inr l ↦ inr (inl l) ]) (λ op i. elim (on.2 op i) [ inl e ↦ inl e | inr n ↦ inr (inr n) ]),
+    )

@@ -42,11 +42,16 @@ impl Own {
         Ok(Own { alloc, replica })
     }
 
-    /// Makes an insertion of one character in front of the text.
-    pub(crate) fn type_in_front(&mut self) -> Result<(), Fault> {
+    // What becomes of an insertion of one character in front of the text.
+    fn made_in_front(&mut self) -> Result<Made, Fault> {
         let mut drafts = Vec::new(self.alloc);
         drafts.push(insert(self.alloc, ROOT, &['a'])?)?;
-        self.replica.make(drafts)?;
+        self.replica.make(drafts)
+    }
+
+    /// Makes an insertion of one character in front of the text.
+    pub(crate) fn type_in_front(&mut self) -> Result<(), Fault> {
+        self.made_in_front()?;
         Ok(())
     }
 
@@ -106,21 +111,13 @@ fn two(alloc: Global) -> Result<Vec<Draft>, Fault>
     Ok(drafts)
 }
 
-// Both drafts on a replica without operations.
-fn make_both(own: &mut Own) -> Result<Made, Fault>
-    requires log { own.old.replica.log ≡ [] }
-    requires site { own.old.replica.site ≡ 1 }
-{
-    let drafts = two(own.alloc)?;
-    own.replica.make(drafts)
-}
-
-// The operations of both.
+// Both drafts on a new replica.
 fn make_two(own: &mut Own) -> Result<Vec<Op>, Fault>
     requires log { own.old.replica.log ≡ [] }
     requires site { own.old.replica.site ≡ 1 }
 {
-    Ok(make_both(own)?.ops)
+    let drafts = two(own.alloc)?;
+    Ok(own.replica.make(drafts)?.ops)
 }
 
 #[test]
@@ -180,9 +177,13 @@ fn a_held_one_is_told(rt: HostRuntime) -> Result<(), Fail> {
     let text = Vec::from_slice(rt.alloc(), &['Y', 'Z'])?;
     let op = Op::insert(stamp, 0, after, Vec::new(rt.alloc()), text)?;
     assert!(&rt; matches!(own.replica.accept(op)?, Taken::Held));
-    let made = make_both(&mut own)?;
+    let made = own.made_in_front()?;
     same_len(&rt, made.changes.len(), 1);
-    same(&rt, (made.changes[0].place, made.changes[0].inserted), (1, 2));
-    same(&rt, own.state(), (3, 4, ['a', 'Y', 'Z', '\n']));
+    same(
+        &rt,
+        (made.changes[0].place, made.changes[0].inserted),
+        (1, 2),
+    );
+    same(&rt, own.state(), (2, 4, ['a', 'Y', 'Z', '\n']));
     Ok(())
 }

@@ -319,10 +319,7 @@ const REFUSALS: &[(Made, Said)] = &[
         (3, 1, 2, Does::Inserts((3, 2), &['c'])),
         Said::Refused(Fault::BadStamp),
     ),
-    (
-        (9, 1, 5, Does::Inserts((0, 0), &['b'])),
-        Said::Held,
-    ),
+    ((9, 1, 5, Does::Inserts((0, 0), &['b'])), Said::Held),
     (
         (9, 1, 2, Does::Inserts((4, 1), &['b'])),
         Said::Refused(Fault::BadTarget),
@@ -346,14 +343,8 @@ const MOST: u64 = (1 << 48) - 1;
 // The stamps of a span are looked up as far as its site's known end.
 const LONG_SPANS: &[(Made, Said)] = &[
     (AB, Said::New(0, 2, 0)),
-    (
-        (MOST, 2, 0, Does::Deletes((1, 1, MOST - 1))),
-        Said::Held,
-    ),
-    (
-        (MOST, 2, 0, Does::Deletes((7, 1, MOST - 1))),
-        Said::Held,
-    ),
+    ((MOST, 2, 0, Does::Deletes((1, 1, MOST - 1))), Said::Held),
+    ((MOST, 2, 0, Does::Deletes((7, 1, MOST - 1))), Said::Held),
     (
         (MOST, 1, 2, Does::Deletes((1, 1, MOST - 1))),
         Said::Refused(Fault::BadTarget),
