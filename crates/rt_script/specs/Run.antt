@@ -13,8 +13,8 @@ use Rattle.rt_script.specs.declared.answer.Answer.{Answer}
 use Rattle.rt_script.specs.declared.answer.Answer.TheVariants.{Refused}
 use Rattle.rt_script.specs.Replies.{reply_line}
 
--- A line is answered what its words are. One that can't be read, or spells no words, is badly quoted and passed over,
--- and so is one whose words found no memory.
+-- A line is answered what its words are. One that can't be read, or spells no words, is answered that it is badly quoted, and one
+-- whose words found no memory that memory was wanting; then the state stays.
 abbrev pub LineGives : {S : Type 0} → (S → List Word → Answer → S → Type 0) → S → List ℕ → Answer → S → Type 0
 LineGives gives old line answer new =
     ((is_readable line ≡ true) × ((words : List Word) × Spells line words × gives old words answer new))

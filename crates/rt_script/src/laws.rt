@@ -14,8 +14,8 @@ pub fn reply_is_read_back()
 {}
 
 /// A run of a script by a site is so many calls of it, however it ends: to a site that was begun, with a log or
-/// without, and that ran a script, some operations came, and `sites_agree_in_any_order` and `accepted` of rt_peers
-/// speak of it.
+/// without, and that ran a script, operations came that are of its own number, of the log or of files that its lines
+/// may name, and `sites_agree_in_any_order` and `accepted` of rt_peers speak of it.
 pub fn runs()
     ensures lives { RunsLive }
     ensures scripts { ScriptsLiveOn }
