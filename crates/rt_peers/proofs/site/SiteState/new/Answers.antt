@@ -10,7 +10,7 @@ invariant_of-result c =
     ap (map f) (c.in_ok-push.ensures.items ∙ ap (λ l. l ++ c.in_ok-from_str.field-0 ∷ []) c.in_ok-paths.ensures.items) ∙ ap (λ x. x ∷ []) c.in_ok-from_str.ensures.ok in
     record {
       paths = first_path (map f c.push.new.self.items) c.in_ok-text.text.view (codes ".t") c.args.site.number c.args.limit items (ap (λ t. t.view) c.in_ok-text.ensures.ok);
-      tried = c.new-2.ensures.tried c.in_ok-text.text.view.doc.log;
+      tried = c.new-2.ensures.tried c.in_ok-text.text.view.doc.limit c.in_ok-text.text.view.doc.log;
     }
 
 pub returns-in_err-text : goal.returns-in_err-text
