@@ -189,13 +189,10 @@ impl Peer {
 
     // The first place from one up with the tag `t`.
     fn tagged_from(&self, place: usize) -> Option<usize> {
-        let states = self.replica.replica().states();
+        let replica = self.replica.replica();
+        let states = replica.states();
         match states.known("t") {
-            Some(tag) => self
-                .replica
-                .replica()
-                .store()
-                .next_tagged(states, tag, place),
+            Some(tag) => replica.store().next_tagged(states, tag, place),
             None => None,
         }
     }
