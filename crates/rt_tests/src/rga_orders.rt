@@ -1,4 +1,4 @@
-// Operations of a few sites, offered in every order, each twice.
+// Operations of a few sites, offered in each order that is allowed, each twice; and some that come early.
 use crate::checks::same;
 use rt_oplog::Op;
 use rt_replica::{HoldingReplica, Taken};
