@@ -13,6 +13,7 @@ pub mod Keys
 pub mod Larger
 pub mod Looking
 pub mod Named
+pub mod OneWay
 pub mod Passing
 pub mod Places
 pub mod Putting

@@ -15,6 +15,7 @@ use Rattle.rt_rga.proofs.Counts.{length_with}
 use Rattle.rt_rga.proofs.Merging.{cells_with}
 use Rattle.rt_rga.proofs.Room.{full_exactly, new_within, taken_within}
 use Rattle.rt_holding.specs.Holding.{Holding, Settles, after_answer, all_tried, has_no_room, is_early, is_new, next_held, next_of, no_more_held, rest, takes, drops, lacks, settled, stays, taken_then, tried, with_taken, without}
+use Rattle.rt_holding.specs.Memory.{FoundMemory}
 use Rattle.rt_holding.specs.Runs.{AreTakenInTurn}
 use Rattle.rt_holding.proofs.Keeping.{is_new_true, left_not, next_is}
 
@@ -92,6 +93,31 @@ settled_settles limit s = (tried_settles limit (length s.held) s (omega arith)).
 
 pub none_left : (limit : ℕ) (s : Holding) → next_held limit [] (settled limit s) ≡ None
 none_left limit s = (tried_settles limit (length s.held) s (omega arith)).1
+
+ample_tried : (limit n : ℕ) (s t : Holding) (more : List Operation) (h : Settles limit [] s t more) → FoundMemory h → length s.held ≤ n
+    → (t ≡ tried limit n s) × (more ≡ all_tried limit n s)
+ample_tried limit zero s t more (rest e) f l = (refl, refl)
+ample_tried limit (suc n) s t more (rest e) f l = (rw (e, tried) refl, rw (e, all_tried) refl)
+ample_tried limit zero s t more (takes {op = op} e m r) f l = absurd (let k = nothing_next limit s.log s.held l in cc (e, k))
+ample_tried limit (suc n) s t more (takes {more = later} {op = op} e m r) f l =
+    let i = next_is limit [] s op e in
+    let k = without_lt op s.held i.0 in
+    let q = after_new (answer_within limit op s.log) op s m in
+    let j = ample_tried limit n (with_taken op s) t later r f (omega (arith, k, l)) in
+    (rw (e, tried, q) j.0, rw (e, all_tried, q, m) (ap (λ ops. op ∷ ops) j.1))
+ample_tried limit zero s t more (drops {op = op} e m r) f l = absurd (let k = nothing_next limit s.log s.held l in cc (e, k))
+ample_tried limit (suc n) s t more (drops {op = op} e m r) f l =
+    let i = next_is limit [] s op e in
+    let k = without_lt op s.held i.0 in
+    let a = answer_within limit op s.log in
+    let q = after_drop a op s m (left_not (is_new a) (stays a) (holds [] op) i.1) in
+    let j = ample_tried limit n (no_more_held op s) t more r f (omega (arith, k, l)) in
+    (rw (e, tried, q) j.0, rw (e, all_tried, q, m) j.1)
+ample_tried limit n s t more (lacks e m r) f l = absurd f
+
+pub ample_settled : (limit : ℕ) (s t : Holding) (more : List Operation) (h : Settles limit [] s t more) → FoundMemory h
+    → (t ≡ settled limit s) × (more ≡ taken_then limit s)
+ample_settled limit s t more h f = ample_tried limit (length s.held) s t more h f (omega arith)
 
 -- WHAT IS TAKEN
 

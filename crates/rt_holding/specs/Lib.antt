@@ -6,6 +6,7 @@ pub mod Grown
 pub mod Holding
 pub mod Kept
 pub mod Laws
+pub mod Memory
 pub mod Receiving
 pub mod Replies
 pub mod Runs

@@ -29,7 +29,7 @@ pub enum Offered {
     Held,
 }
 
-/// The operations that a site holds since they came too early.
+/// The operations that a site holds because they came too early.
 #[derive(Drop)]
 pub struct Held {
     ops: Ops,
@@ -61,6 +61,7 @@ impl Held {
     ghost use Rattle.rt_holding.specs.Runs.{AreOnce, AreRising};
     ghost use Rattle.rt_holding.specs.Taken.{AreTried, IsOffered, IsRefused, held_after, holding, replied};
 
+    /// Nothing is held. It takes no memory.
     pub fn new(alloc: Global) -> Held
         ensures none { result.held ≡ [] }
         ensures tried { (limit : ℕ) (log : List Operation) → AreTriedAt limit log result }
@@ -130,8 +131,8 @@ impl Held {
         }
     }
 
-    /// The log has grown by operations of a site: drops held operations that are refused for good, and takes others in
-    /// their order, until none is left that could be taken or one finds no memory; answers how many were taken.
+    /// The log has grown by operations of a site: tries held ones, the least stamp first, until none is left that can be
+    /// taken. One that is refused for good is dropped; any may find no memory, and stays. Answers how many were taken.
     pub fn settle<T: Taking>(&mut self, site: &mut T, made_by: u16) -> usize
         requires { AreTriedBefore (T.limit site.old) made_by self.old (T.log site.old) }
         ensures tried { AreTried T.log T.after (T.limit site.old) (holding T.log site.old self.old.held) site.old
@@ -169,8 +170,9 @@ impl Held {
     }
 
     /// Offers an operation. A new one is taken, and then held ones that can be; one that comes too early
-    /// is held. Refused as the site answers it, with `WaitingFull` where too many others are held, or with
-    /// `NoMemory`.
+    /// is held. Refused as the site answers it, with `BadStamp`, `Conflict`, `BadTarget` or `TextFull`; with
+    /// `WaitingFull` where it is early and 65,536 others are held; or with `NoMemory` where it is new or to be held.
+    /// Then site and held ones are as before.
     pub fn offer<T: Taking>(&mut self, site: &mut T, op: Op) -> Result<Offered, Fault>
         requires { AreTriedAt (T.limit site.old) (T.log site.old) self.old }
         ensures reply { IfOk result (λ offered. reply_to (T.limit site.old) op (holding T.log site.old self.old.held) ≡ replied (Ok offered)) }

@@ -1,34 +1,41 @@
 // Laws of the definitions, each the contract of a function that does nothing.
-ghost use Rattle.std.specs.Prelude.{List};
+ghost use Rattle.std.specs.Prelude.{ℕ, List};
 ghost use Rattle.rt_ops.specs.Operations.{Operation};
 ghost use Rattle.rt_holding.specs.Arrivals.{ComesToTheSame, by_stamp};
+ghost use Rattle.rt_holding.specs.Memory.{FilesGoOneWay, SettlesAlone};
 ghost use Rattle.rt_holding.specs.Runs.{AreRising};
 ghost use Rattle.rt_holding.specs.Waiting.{LooksAreEnough, UnpassedStay};
 ghost use Rattle.rt_holding.specs.Due.{UnpassedAreKept, LeftOnesStay, TryingDueSettles, PassedAreFound};
 ghost use Rattle.rt_holding.specs.Laws.{AmpleIsGreatest, AmpleRuns, AmpleStay, CellsChangeInTurn, FullStays, GreatestIsAccepted, HistoriesAreAccepted, NothingIsTried, RefusedChangesNothing, RepeatChangesNothing, RequestsKeep, SettledLeavesNone, SettledSettles, SitesAgree, TakenInTurn};
 
-/// In whatever order operations come.
+/// In whatever order operations come, if no two clash and in the end none is held that could be taken, the greatest
+/// history within them is accepted. So two sites to which the same came have equal cells, and of a history nothing
+/// stays held.
 pub fn orders()
     ensures greatest { GreatestIsAccepted }
     ensures agree { SitesAgree }
     ensures history { HistoriesAreAccepted }
 {}
 
-/// Where each try finds memory, none stays held that could be taken.
+/// Where each try finds memory, none stays held that could be taken; and if then none finds no room, the greatest
+/// history is accepted.
 pub fn ample_memory()
     ensures runs { AmpleRuns }
     ensures stay { AmpleStay }
     ensures greatest { AmpleIsGreatest }
 {}
 
-/// What a site keeps to.
+/// Whatever is asked, a site keeps to what it keeps to (`IsHolding`); what is refused, or there already, changes
+/// nothing, also of those that are held.
 pub fn requests()
     ensures keep { RequestsKeep }
     ensures refused { RefusedChangesNothing }
     ensures again { RepeatChangesNothing }
 {}
 
-/// Held operations are tried.
+/// Held operations that are tried: with ample memory `settled` says what becomes of them, and none is left that could be
+/// taken; those that are taken continue the log, and change the cells, one after the other; one without room stays
+/// without; where nothing is held, nothing is tried.
 pub fn settling()
     ensures settles { SettledSettles }
     ensures none_left { SettledLeavesNone }
@@ -38,7 +45,8 @@ pub fn settling()
     ensures nothing { NothingIsTried }
 {}
 
-/// What a held operation waits for.
+/// What a held operation waits for: until a key of it is passed its answer stays, so only those need be tried of which one
+/// was.
 pub fn waiting()
     ensures unpassed { UnpassedStay }
     ensures looks { LooksAreEnough }
@@ -53,4 +61,12 @@ pub fn waiting()
 pub fn arrivals()
     ensures same { (arrived : List Operation) → ComesToTheSame arrived }
     ensures order { (arrived : List Operation) → AreRising (by_stamp arrived) }
+{}
+
+/// Where no memory was wanting, held operations settle in one way, and a received file has one answer and leaves one
+/// state.
+pub fn one_way<Site>()
+    ensures settles { SettlesAlone }
+    ensures files { (log : Site → List Operation) (limit : Site → ℕ) (after : Operation → Site → Site)
+        → FilesGoOneWay log limit after }
 {}

@@ -91,8 +91,8 @@ fn offer_all<T: Taking>(
 /// other, each in the place of its record. What comes too early is held, and taken when it can be. The
 /// first that is refused ends it, with its fault: `BadStamp`, `Conflict`, `BadTarget`, `TextFull`,
 /// `WaitingFull`; those before it stay accepted or held. Else the reading's own fault is told, if it has
-/// one: `BadMagic`, `BadVersion`, `Truncated`, `BadRecord`. `NoMemory` in place of any, at the offset 0
-/// where the file found no memory.
+/// one: `BadMagic`, `BadVersion`, `Truncated`, `BadRecord`. `NoMemory` at the offset 0, before any operation is
+/// offered, where the file found no memory; at an operation's, where that is new or to be held.
 pub fn receive<T: Taking>(alloc: Global, site: &mut T, held: &mut Held, bytes: &[u8]) -> Received
     requires bytes { length bytes.now ≤ MOST_BYTES }
     requires tried { AreTriedAt (T.limit site.old) (T.log site.old) held.old }

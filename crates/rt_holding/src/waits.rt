@@ -72,7 +72,7 @@ pub(crate) fn push_due(due: &mut Due, place: Place)
     pushed.unwrap();
 }
 
-/// Takes a place out that stands on top, as often as it does.
+/// Takes a place out for as long as it stands on top.
 fn drop_same(due: &mut Due, place: Place)
     requires { IsHeap by_later (heap_items due.old) }
     ensures heap { IsHeap by_later (heap_items due.new) }

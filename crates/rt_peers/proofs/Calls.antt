@@ -4,7 +4,7 @@ use Rattle.std.specs.Prelude.{MatchBool, codes}
 use Rattle.std.specs.Str.{bytes_eq}
 use Rattle.std.proofs.lemmas.List.{append-nil}
 use Rattle.rt_stamps.specs.declared.fault.Fault.{Fault}
-use Rattle.rt_stamps.specs.declared.fault.Fault.TheVariants.{NoMemory, NoWidget}
+use Rattle.rt_stamps.specs.declared.fault.Fault.TheVariants.{NoWidget}
 use Rattle.rt_stamps.specs.Outcomes.{Answers}
 use Rattle.rt_stamps.specs.Words.{Word}
 use Rattle.rt_peer_requests.specs.declared.options.NamedOption.{NamedOption}
@@ -172,8 +172,7 @@ destroyed_kept path old new h = destroyed_keeps (place_of path old.paths) old ne
 -- COMMANDS
 
 widget_gives : (place : ℕ) (words : List Word) (old new : State) (result : Result (List Word) Fault) → WidgetGives place words old result new → KeepsOrMakes old new
-widget_gives place words old new result (inl h) = answered _ old new result h.2
-widget_gives place words old new result (inr h) = inl (refused_keeps old new NoMemory result h)
+widget_gives place words old new result h = answered _ old new result h.2
 
 one_of : (b : Bool) (P Q : Type 0) (old new : State) → (P → KeepsOrMakes old new) → (Q → KeepsOrMakes old new) → MatchBool b P Q → KeepsOrMakes old new
 one_of true P Q old new f g h = f h

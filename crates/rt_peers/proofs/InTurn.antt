@@ -4,6 +4,7 @@ use Rattle.std.specs.Prelude.{MatchBool, nat_lt}
 use Rattle.std.proofs.lemmas.Bool.Decides.{nat_tests}
 use Rattle.rt_requests.specs.declared.request.Request.{Request}
 use Rattle.rt_requests.specs.Asking.{Asked, Asks}
+use Rattle.rt_requests.proofs.AskedSome.{asked_some}
 use Rattle.rt_stamps.specs.declared.fault.Fault.{Fault}
 use Rattle.rt_stamps.specs.declared.fault.Fault.TheVariants.{NoMemory}
 use Rattle.rt_stamps.specs.Outcomes.{Answers}
@@ -63,15 +64,18 @@ request_gains place request state led after back result l a b =
     let steps = answer_stays led request result after a in
     subst (λ (t : Edited). Gains state.text.view.doc t.view.doc) (sym b) (subst (λ (t : Edited). Gains t.view.doc after.view.doc) l steps.gains)
 
--- words that are refused, and words that ask for something
+-- words that are refused, and words that ask for something; where memory was wanting before that was known, they ask for something too
 pub refused_words : (place : ℕ) (words : List Word) (old : State) (asked : Asked) (fault : Fault) → Asks words asked ⊎ (asked ≡ Err NoMemory) → asked ≡ Err fault
     → WidgetGives place words old (Err fault) old
 refused_words place words old asked fault (inl asks) is =
-    inl (Err fault, subst (Asks words) is asks, at_once (by_widget place old (λ text. outcome text (Err fault))) old (Err fault) (refl, inr refl))
-refused_words place words old asked fault (inr none) is = let same : fault ≡ NoMemory = cc (is, none) in inr (refl, inl same)
+    (Err fault, subst (Asks words) is asks, at_once (by_widget place old (λ text. outcome text (Err fault))) old (Err fault) (refl, inr refl))
+refused_words place words old asked fault (inr none) is =
+    let same : fault ≡ NoMemory = cc (is, none) in
+    let reading = asked_some words in
+    (reading.0, reading.1, at_once (by_widget place old (λ text. outcome text reading.0)) old (Err fault) (refl, inl same))
 
 pub asked_words : (place : ℕ) (words : List Word) (old new : State) (asked : Asked) (request : Request) (result : Result (List Word) Fault)
     → Asks words asked ⊎ (asked ≡ Err NoMemory) → asked ≡ Ok request → AnswersInTurn (by_widget place old (λ text. step text request)) old result new
     → WidgetGives place words old result new
-asked_words place words old new asked request result (inl asks) is answers = inl (Ok request, subst (Asks words) is asks, answers)
+asked_words place words old new asked request result (inl asks) is answers = (Ok request, subst (Asks words) is asks, answers)
 asked_words place words old new asked request result (inr none) is answers = let no : ⊥ = cc (is, none) in absurd no

@@ -1,5 +1,6 @@
 pub mod Exchange
 pub mod Lives
+pub mod Memory
 pub mod Options
 pub mod PeerStep
 pub mod Peers

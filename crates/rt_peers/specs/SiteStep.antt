@@ -1,8 +1,8 @@
 -- What the commands of a site's widgets do: the reply and the site after it, or why it is refused.
-use Rattle.std.specs.Prelude.{◌≡◌, ◌⊎◌, ℕ, Bool, true, nat_lt, List, [], ◌∷◌, length, Option, Some, None, Result, Err, MatchBool, codes}
+use Rattle.std.specs.Prelude.{◌≡◌, ℕ, Bool, true, nat_lt, List, [], ◌∷◌, length, Option, Some, None, Result, Err, MatchBool, codes}
 use Rattle.std.specs.Str.{bytes_eq}
 use Rattle.rt_stamps.specs.declared.fault.Fault.{Fault}
-use Rattle.rt_stamps.specs.declared.fault.Fault.TheVariants.{NoMemory, NoWidget}
+use Rattle.rt_stamps.specs.declared.fault.Fault.TheVariants.{NoWidget}
 use Rattle.rt_stamps.specs.Outcomes.{Answers}
 use Rattle.rt_stamps.specs.Words.{Word}
 use Rattle.rt_requests.specs.declared.request.Request.{Request}
@@ -113,11 +113,10 @@ AnswersInTurn outcome old result new =
 
 -- COMMANDS
 
--- a widget's command answers what its words ask for; memory may be wanting before that is known
+-- a widget's command answers what its words ask for
 abbrev pub WidgetGives : ℕ → List Word → State → Result (List Word) Fault → State → Type 0
 WidgetGives place words old result new =
-    ((asked : Asked) × Asks words asked × AnswersInTurn (by_widget place old (λ text. outcome text asked)) old result new)
-    ⊎ Answers (Err NoMemory) old result new
+    (asked : Asked) × Asks words asked × AnswersInTurn (by_widget place old (λ text. outcome text asked)) old result new
 
 -- COMMAND WORDS of a widget that is neither about widgets nor sets options: `cget` tells an option of this widget, and every other
 -- command is about what it shows

@@ -10,6 +10,7 @@ ghost use Rattle.rt_peer_requests.specs.declared.peers.PeerRequest.{PeerRequest}
 ghost use Rattle.rt_peer_requests.specs.declared.settings.WidgetSettings.{WidgetSettings};
 ghost use Rattle.rt_peers.specs.Exchange.{ExchangeAgrees, ReceivesWhole};
 ghost use Rattle.rt_peers.specs.Lives.{AcceptsGreatest, AcceptsHistory, AgreeInAnyOrder, KeepsOrMakes, SitesHold};
+ghost use Rattle.rt_peers.specs.Memory.{CommandsGoOneWay, OthersGoOneWay, ReceivingGoesOneWay, RequestsGoOneWay};
 ghost use Rattle.rt_peers.specs.Peers.{text_led};
 ghost use Rattle.rt_peers.specs.PeerStep.{destroyed};
 ghost use Rattle.rt_peers.specs.SiteStep.{AnswersInTurn, Gives, KeepsOperations, by_widget, log_of, option_at, peer_step_at, settings_at};
@@ -18,8 +19,8 @@ ghost use Rattle.rt_peers.specs.ViewStep.{Outcome};
 
 use crate::SiteState;
 
-/// A widget that commands changes places with the first one, and then back again: so a command that only
-/// tells something leaves the site as it was.
+/// A widget that commands changes places with the first one, and then back again: so a step that leaves the text as it
+/// was leaves the site as it was.
 pub fn telling()
     ensures back { (place : ℕ) (text : Edited) → text_led place (text_led place text) ≡ text }
     ensures told { (place : ℕ) (state : State) (reply : List Word)
@@ -82,4 +83,13 @@ pub fn calls()
     ensures peers { (path : Word) (request : PeerRequest) (old new : State) (result : Result (List Word) Fault)
         → Answers (peer_step_at path old request) old result new → KeepsOperations old new }
     ensures destroyed { (path : Word) (old new : State) → destroyed path old ≡ Ok new → KeepsOperations old new }
+{}
+
+/// Where no memory was wanting, a call has one answer and leaves one state: two sites in the same state that are asked the
+/// same go on as one.
+pub fn one_way()
+    ensures requests { RequestsGoOneWay }
+    ensures others { OthersGoOneWay }
+    ensures commands { CommandsGoOneWay }
+    ensures receiving { ReceivingGoesOneWay }
 {}

@@ -97,18 +97,19 @@ impl<S: TextStore> HoldingReplica<S> {
         self.telling.replica()
     }
 
-    /// How many operations are held, 65,536 at most.
+    /// How many operations are held.
     pub fn held(&self) -> usize
         ensures { result ≡ length self.now.held }
     {
         self.held.len()
     }
 
-    /// Accepts an operation of any site. A new one is taken, and then held ones that can be, the least stamp first, until
-    /// none is left or one finds no memory. One that comes before what it was made upon is held. Refused by the first of
-    /// `BadStamp`; `Conflict`, where its `prev` is below the known end of its site; `BadTarget`, where it names what can
-    /// never be known; `WaitingFull`, where it is early and 65,536 others are held; `TextFull`, where the cells would pass
-    /// the limit. `NoMemory` where it is new or to be held. Then all is as before.
+    /// Accepts an operation of any site. A new one is taken, and then held ones that can be, the least stamp first; any of
+    /// these may find no memory, and stays. One that comes before what it was made upon is held. The first of these
+    /// decides: `BadStamp`; a repeat; `Conflict`, where its `prev` is below the known end of its site; early, where `prev` is
+    /// above it; `BadTarget`, where it names what can never be known; early, where it names what isn't known; `TextFull`,
+    /// where the cells would pass the limit. An early one that is held already is a repeat, and `WaitingFull` where 65,536
+    /// others are held. `NoMemory` where it is new or to be held. What is refused leaves all as before.
     pub fn accept(&mut self, op: Op) -> Result<Taken, Fault>
         ensures reply { IfOk result (λ taken. reply_to self.old.limit op (holding_of self.old) ≡ reply_of taken) }
         ensures refused { IfErr result (IsRefused (reply_to self.old.limit op (holding_of self.old))) }
@@ -130,7 +131,8 @@ impl<S: TextStore> HoldingReplica<S> {
     }
 
     /// Makes operations of the site's own, one of each draft, in order, as `Replica::make` of rt_rga does: all of them or
-    /// none, with its faults. Then held ones are tried, as after one that is accepted; that refuses nothing.
+    /// none. `ClockSpent` where their counts don't fit, `TextFull` where the cells would pass the limit, `NoMemory` where
+    /// both fit; then all is as before. Behind them held ones are tried, as after one that is accepted.
     pub fn make(&mut self, drafts: Vec<Draft>) -> Result<Made, Fault>
         requires { MayBeMade self.old.site self.old.log (map body_of drafts.items) }
         ensures made { IfOk result (λ made. made.ops.items ≡ operations_of self.old.site (map body_of drafts.items) self.old.log) }

@@ -5,8 +5,9 @@ use rt_rga::Change;
 /// What became of an operation that was offered and not refused.
 #[derive(Drop)]
 pub enum Taken {
-    /// It was new: what it changed, and behind that what each held one changed that was taken after it. Each speaks of the
-    /// text that those before it left.
+    /// It was new: what it changed, and behind that what each held one changed that was taken after it, the least stamp
+    /// first. Each speaks of the text that those before it left. The text of an insertion and the name of a tag are the
+    /// operation's, which the log has.
     New(Vec<Change>),
     /// It is in the log already, or it comes too early and is held already. Nothing changed.
     Repeat,

@@ -3,6 +3,7 @@ use Rattle.std.proofs.Common.{◌≡◌, ◌∙◌, inl, inr, ℕ, Ok, List, [],
 use Rattle.std.specs.Prelude.{MatchBool}
 use Rattle.rt_stamps.specs.Words.{Word}
 use Rattle.rt_words.specs.Spelling.{SpellsList}
+use Rattle.rt_words.proofs.Spelling.{list_spells_one}
 use Rattle.rt_requests.specs.declared.request.Request.{Request}
 use Rattle.rt_requests.specs.declared.request.Request.TheVariants.{Insert, Replace}
 use Rattle.rt_requests.specs.Parts.{PieceValue, TextsValue}
@@ -51,3 +52,6 @@ pub asked_once : Unique → (words : List Word) (one other : Asked) → Asks wor
 asked_once unique [] one other h k = h ∙ sym k
 asked_once unique (name ∷ words) one other h k =
     one_of unique (bytes_eq name (codes "insert")) (bytes_eq name (codes "replace")) words (asked_of name words) one other h k
+
+pub one_asked : (words : List Word) (one other : Asked) → Asks words one → Asks words other → one ≡ other
+one_asked = asked_once list_spells_one

@@ -4,6 +4,7 @@ ghost use Rattle.rt_stamps.specs.Words.{Word};
 ghost use Rattle.rt_words.specs.Spelling.{Spells};
 ghost use Rattle.rt_script.specs.declared.answer.Answer.TheVariants.{Replied};
 ghost use Rattle.rt_script.specs.Headline.{RunsLive, ScriptsLiveOn};
+ghost use Rattle.rt_script.specs.Output.{LinesGoOneWay, RunsHaveOneOutput};
 ghost use Rattle.rt_script.specs.Replies.{text_of_answer};
 
 /// The text of a reply spells `=` and the reply's words, whatever characters they have, and
@@ -19,4 +20,12 @@ pub fn reply_is_read_back()
 pub fn runs()
     ensures lives { RunsLive }
     ensures scripts { ScriptsLiveOn }
+{}
+
+/// A whole run has one output: what a site of a number writes, and the site that is left, are decided by the log that it
+/// begins with, the files that its lines may name and the bytes of its script, where the run ends with no fault and no
+/// memory was wanting. So are the answers of lines that are run one after the other.
+pub fn one_output()
+    ensures lines { LinesGoOneWay }
+    ensures runs { RunsHaveOneOutput }
 {}

@@ -20,7 +20,7 @@ impl SiteState {
     /// what it was made upon is held, 65,536 at most, and tried after each one that is accepted. The first that is refused
     /// ends it, with its fault, and those before it stay accepted or held: `BadStamp`, `Conflict`, `BadTarget`, `TextFull`,
     /// `WaitingFull`. Else the reading's own fault is told, if it has one: `BadMagic`, `BadVersion`, `Truncated`,
-    /// `BadRecord`. `NoMemory` in place of any.
+    /// `BadRecord`. `NoMemory` before any operation is offered, or at one that is new or to be held.
     pub fn receive(&mut self, bytes: &[u8]) -> Received
         requires { length bytes.now ≤ MOST_BYTES }
         ensures { SiteReceives bytes.now self.old result self.new }

@@ -1,0 +1,121 @@
+-- A file that is received where no memory is wanting has one answer, and leaves one state.
+use Rattle.std.proofs.Common.{◌≡◌, ◌≢◌, ◌∙◌, ℕ, ◌+◌, List, [], ◌∷◌, length, Option, Ok, Some, Result, ap, inl, inr, refl, subst, sym}
+use Rattle.rt_stamps.specs.declared.fault.Fault.{Fault}
+use Rattle.rt_stamps.specs.declared.fault.Fault.TheVariants.{NoMemory}
+use Rattle.rt_ops.specs.Operations.{Operation}
+use Rattle.rt_ops.specs.Reading.{Reads}
+use Rattle.rt_ops.proofs.Unique.{one_reading}
+use Rattle.rt_holding.specs.declared.held.Offered.{Offered}
+use Rattle.rt_holding.specs.declared.held.Offered.TheVariants as offered
+use Rattle.rt_holding.specs.declared.receiving.Received.{Received}
+use Rattle.rt_holding.specs.Holding.{Holding, with_taken, taken_then, settled}
+use Rattle.rt_holding.specs.Memory.{FileFoundMemory, FilesGoOneWay, FoundMemory, OfferFoundMemory, OffersFoundMemory}
+use Rattle.rt_holding.specs.Receiving.{Offers, Receives, State, none_accepted, one_more, reply_at}
+use Rattle.rt_holding.specs.Replies.{Reply}
+use Rattle.rt_holding.specs.Replies as replies
+use Rattle.rt_holding.specs.Taken.{AreTried, IsOffered, IsRefused, all_after, holding, replied}
+use Rattle.rt_holding.proofs.Settling.{ample_settled}
+
+-- what was refused, though not for want of memory, was refused by its reply
+refused_by : (reply : Reply) (fault : Fault) → IsRefused reply fault → fault ≢ NoMemory → reply ≡ replies.Refused fault
+refused_by reply fault (inl e) n = e
+refused_by reply fault (inr h) n = absurd (n h.0)
+
+abbrev fault_of : Fault → Reply → Fault
+fault_of other (replies.Refused fault) = fault
+fault_of other replies.New = other
+fault_of other replies.Repeat = other
+fault_of other replies.Held = other
+
+one_fault : (reply : Reply) (fault other : Fault) → reply ≡ replies.Refused fault → reply ≡ replies.Refused other → fault ≡ other
+one_fault reply fault other e f = ap (fault_of fault) (sym e ∙ f)
+
+-- and what wasn't refused was not
+not_refused : (o : Offered) (fault : Fault) (reply : Reply) → reply ≡ replied (Ok o) → reply ≡ replies.Refused fault → ⊥
+not_refused (offered.New more) fault reply e f = let q : ◌≡◌ {A = Reply} replies.New (replies.Refused fault) = sym e ∙ f in cc q
+not_refused offered.Repeat fault reply e f = let q : ◌≡◌ {A = Reply} replies.Repeat (replies.Refused fault) = sym e ∙ f in cc q
+not_refused offered.Held fault reply e f = let q : ◌≡◌ {A = Reply} replies.Held (replies.Refused fault) = sym e ∙ f in cc q
+
+module _ {Site : Type 0} (log : Site → List Operation) (limit : Site → ℕ) (after : Operation → Site → Site) where
+  -- tries from one state on
+  pub one_try : (most : ℕ) (s : Holding) (first new other : Site) (left kept : List Operation) (count number : ℕ)
+      (h : AreTried log after most s first new left count) (k : AreTried log after most s first other kept number)
+      → FoundMemory h.settles → FoundMemory k.settles → (new ≡ other) × (left ≡ kept) × (count ≡ number)
+  one_try most s first new other left kept count number h k f g =
+      let a = ample_settled most s (holding log new left) h.more h.settles f in
+      let b = ample_settled most s (holding log other kept) k.more k.settles g in
+      let same : h.more ≡ k.more = a.1 ∙ sym b.1 in (
+        h.each ∙ ap (λ more. all_after after more first) same ∙ sym k.each,
+        ap (λ (t : Holding). t.held) (a.0 ∙ sym b.0),
+        sym h.counted ∙ ap length same ∙ k.counted,
+      )
+
+  state_of : Site → List Operation → State Site
+  state_of site held = record { site = site; held = held }
+
+  same_state : (s t : State Site) → s.site ≡ t.site → s.held ≡ t.held → s ≡ t
+  same_state s t e f = λ i. record { site = e i; held = f i }
+
+  -- one operation
+  one_offer : (op : Operation) (o p : Offered) (old next mid : State Site) → replied (Ok o) ≡ replied (Ok p)
+      → (h : IsOffered log after (limit old.site) op o old.site old.held next.site next.held)
+      → (k : IsOffered log after (limit old.site) op p old.site old.held mid.site mid.held)
+      → OfferFoundMemory log limit after (limit old.site) op o old.site old.held next.site next.held h
+      → OfferFoundMemory log limit after (limit old.site) op p old.site old.held mid.site mid.held k
+      → (o ≡ p) × (next ≡ mid)
+  one_offer op (offered.New more) (offered.New other) old next mid e h k f g =
+      let one = one_try (limit old.site) (with_taken op (holding log old.site old.held)) (after op old.site) next.site mid.site next.held mid.held more other h k f g in
+      (ap offered.New one.2, same_state next mid one.0 one.1)
+  one_offer op (offered.New more) offered.Repeat old next mid e h k f g = absurd (cc e)
+  one_offer op (offered.New more) offered.Held old next mid e h k f g = absurd (cc e)
+  one_offer op offered.Repeat (offered.New other) old next mid e h k f g = absurd (cc e)
+  one_offer op offered.Repeat offered.Repeat old next mid e h k f g = (refl, same_state next mid (h.0 ∙ sym k.0) (h.1 ∙ sym k.1))
+  one_offer op offered.Repeat offered.Held old next mid e h k f g = absurd (cc e)
+  one_offer op offered.Held (offered.New other) old next mid e h k f g = absurd (cc e)
+  one_offer op offered.Held offered.Repeat old next mid e h k f g = absurd (cc e)
+  one_offer op offered.Held offered.Held old next mid e h k f g = (refl, same_state next mid (h.0 ∙ sym k.0) (h.1 ∙ sym k.1))
+
+  -- operations one after the other
+  one_run : (ops : List Operation) (offsets : List ℕ) (ending : Option (Fault × ℕ)) (old : State Site) (received other : Received) (new left : State Site)
+      (h : Offers log limit after ops offsets ending old received new) (k : Offers log limit after ops offsets ending old other left)
+      → OffersFoundMemory log limit after ops offsets ending old received new h → OffersFoundMemory log limit after ops offsets ending old other left k
+      → (received ≡ other) × (new ≡ left)
+  one_run [] offsets ending old received other new left h k f g = (h.0 ∙ sym k.0, h.1 ∙ sym k.1)
+  one_run (op ∷ ops) [] ending old received other new left h k f g = absurd h
+  one_run (op ∷ ops) (offset ∷ offsets) ending old received other new left (inl h) (inl k) f g =
+      let same = one_fault (reply_at log limit after op old) h.0 k.0 (refused_by (reply_at log limit after op old) h.0 h.1 f) (refused_by (reply_at log limit after op old) k.0 k.1 g) in
+      (h.2 ∙ ap (λ fault. none_accepted (Some (fault, offset)) old.held) same ∙ sym k.2, h.3 ∙ sym k.3)
+  one_run (op ∷ ops) (offset ∷ offsets) ending old received other new left (inl h) (inr k) f g =
+      absurd (not_refused k.0 h.0 (reply_at log limit after op old) k.3 (refused_by (reply_at log limit after op old) h.0 h.1 f))
+  one_run (op ∷ ops) (offset ∷ offsets) ending old received other new left (inr h) (inl k) f g =
+      absurd (not_refused h.0 k.0 (reply_at log limit after op old) h.3 (refused_by (reply_at log limit after op old) k.0 k.1 g))
+  one_run (op ∷ ops) (offset ∷ offsets) ending old received other new left (inr h) (inr k) f g =
+      let here = one_offer op h.0 k.0 old h.1 k.1 (sym h.3 ∙ k.3) h.4 k.4 f.0 g.0 in
+      let behind : (h.2 ≡ k.2) × (new ≡ left) = subst (λ (s : State Site). (l : Offers log limit after ops offsets ending s k.2 left)
+      → OffersFoundMemory log limit after ops offsets ending s k.2 left l → (h.2 ≡ k.2) × (new ≡ left)) here.1
+      (λ l e. one_run ops offsets ending h.1 h.2 k.2 new left h.6 l f.1 e) k.6 g.1 in
+      (h.5 ∙ (λ i. one_more (here.0 i) (behind.0 i)) ∙ sym k.5, behind.1)
+
+  one_read : (ops more : List Operation) (offsets places : List ℕ) (ending end : Option (Fault × ℕ)) (old : State Site) (received other : Received) (new left : State Site)
+      → ops ≡ more → offsets ≡ places → ending ≡ end
+      → (h : Offers log limit after ops offsets ending old received new) (k : Offers log limit after more places end old other left)
+      → OffersFoundMemory log limit after ops offsets ending old received new h → OffersFoundMemory log limit after more places end old other left k
+      → (received ≡ other) × (new ≡ left)
+  one_read ops more offsets places ending end old received other new left d e f =
+      subst (λ (more : List Operation). (h : Offers log limit after ops offsets ending old received new) (k : Offers log limit after more places end old other left)
+      → OffersFoundMemory log limit after ops offsets ending old received new h → OffersFoundMemory log limit after more places end old other left k
+      → (received ≡ other) × (new ≡ left)) d
+      (subst (λ (places : List ℕ). (h : Offers log limit after ops offsets ending old received new) (k : Offers log limit after ops places end old other left)
+      → OffersFoundMemory log limit after ops offsets ending old received new h → OffersFoundMemory log limit after ops places end old other left k
+      → (received ≡ other) × (new ≡ left)) e
+      (subst (λ (end : Option (Fault × ℕ)). (h : Offers log limit after ops offsets ending old received new) (k : Offers log limit after ops offsets end old other left)
+      → OffersFoundMemory log limit after ops offsets ending old received new h → OffersFoundMemory log limit after ops offsets end old other left k
+      → (received ≡ other) × (new ≡ left)) f (one_run ops offsets ending old received other new left)))
+
+  -- a file, whose operations are read in one way
+  pub files_go : FilesGoOneWay log limit after
+  files_go bytes old received other new left (inl h) (inl k) f g =
+      let read = one_reading bytes h.0 k.0 h.1 k.1 h.2 k.2 h.3 k.3 in
+      one_read h.0 k.0 h.1 k.1 h.2 k.2 old received other new left read.0 read.1 read.2 h.4 k.4 f g
+  files_go bytes old received other new left (inr h) k f g = absurd f
+  files_go bytes old received other new left (inl h) (inr k) f g = absurd g
