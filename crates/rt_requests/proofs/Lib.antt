@@ -3,6 +3,7 @@ pub mod Measuring
 pub mod Counting
 pub mod Inserting
 pub mod AskedOnce
+pub mod AskedAlways
 pub mod SpelledSearches
 pub mod SettingOptions
 pub mod SpelledOptions

@@ -4,13 +4,20 @@ ghost use Rattle.rt_stamps.specs.Words.{Word};
 ghost use Rattle.rt_requests.specs.declared.request.Request.{Request};
 ghost use Rattle.rt_requests.specs.Asking.{Asked, Asks, CanBeAsked};
 
-use rt_words::laws::spelling_is_unique;
+use rt_words::laws::{spelling_is_total, spelling_is_unique};
 
 /// Words ask for one thing alone, or are refused with one fault.
 pub fn reading_is_unique()
     ensures { (words : List Word) (one other : Asked) → Asks words one → Asks words other → one ≡ other }
 {
     spelling_is_unique();
+}
+
+/// Words ask for something, or are refused with a fault.
+pub fn reading_is_total()
+    ensures { (words : List Word) → (asked : Asked) × Asks words asked }
+{
+    spelling_is_total();
 }
 
 /// There are words for each request, whatever bytes its parts are, but for a count and a dump from an index that begins

@@ -1,5 +1,6 @@
 -- Fronts of texts.
-use Rattle.std.proofs.Common.{◌≡◌, ℕ, ◌+◌, ◌<◌, suc, Bool, true, List, [], ◌∷◌, ◌++◌, take, drop, length, get_or, refl, sym, ◌∙◌, ap, arith, take-append-drop}
+use Rattle.std.proofs.Common.{◌≡◌, ℕ, ◌+◌, ◌<◌, ◌≤◌, suc, Bool, true, List, [], ◌∷◌, ◌++◌, take, drop, length, get_or, refl, sym, ◌∙◌, ap, arith, take-append-drop}
+use Rattle.std.proofs.lemmas.List.{take_at, length-append}
 use Rattle.std.specs.List.{prefix_len}
 use Rattle.rt_words.specs.FirstWord.{BeginsWith}
 
@@ -20,3 +21,10 @@ whole_twice text m n = take-append-drop m text ∙ sym (take-append-drop n text)
 pub past_first : (p : ℕ → Bool) (text : List ℕ) → 0 < length text → p (get_or text 0 0) ≡ true → 1 + prefix_len p (drop 1 text) ≡ prefix_len p text
 past_first p [] l h = absurd (omega arith)
 past_first p (c ∷ text) l h = rw h refl
+
+-- a piece at the front of a text is so much of it
+pub front_within : (text piece rest : List ℕ) → text ≡ piece ++ rest → length piece ≤ length text
+front_within text piece rest e = let n : length text ≡ length piece + length rest = ap length e ∙ length-append piece rest in omega arith
+
+pub front_is : (text piece rest : List ℕ) → text ≡ piece ++ rest → take (length piece) text ≡ piece
+front_is text piece rest e = ap (take (length piece)) e ∙ take_at piece rest (length piece) refl

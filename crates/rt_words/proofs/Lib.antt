@@ -1,5 +1,8 @@
 pub mod BareWords
 pub mod Braces
+pub mod ClosingBraces
+pub mod ClosingQuotes
+pub mod Deciding
 pub mod Fronts
 pub mod Quotes
 pub mod Separating
