@@ -4,6 +4,7 @@ use Rattle.std.specs.Prelude.{MatchBool}
 use Rattle.rt_stamps.specs.declared.fault.Fault.TheVariants.{BadCommand, BadQuoting}
 use Rattle.rt_stamps.specs.Words.{Word}
 use Rattle.rt_words.specs.Spelling.{IsBadlyQuotedList, SpellsList}
+use Rattle.rt_words.proofs.Deciding.{list_spells}
 use Rattle.rt_requests.specs.declared.request.Request.{Request}
 use Rattle.rt_requests.specs.declared.request.Request.TheVariants.{Insert, Replace}
 use Rattle.rt_requests.specs.Parts.{PieceValue, TextsValue}
@@ -62,3 +63,6 @@ ask_of total false false words other = (other, refl)
 pub asked_always : Total → (words : List Word) → (asked : Asked) × Asks words asked
 asked_always total [] = (Err BadCommand, refl)
 asked_always total (name ∷ words) = ask_of total (bytes_eq name (codes "insert")) (bytes_eq name (codes "replace")) words (asked_of name words)
+
+pub asked_some : (words : List Word) → (asked : Asked) × Asks words asked
+asked_some = asked_always list_spells

@@ -76,10 +76,11 @@ fn op(alloc: Global, made: Made) -> Result<Op, Fault> {
 }
 
 /// What is answered to an operation: of a new one the place, how many characters it inserted and how
-/// many tags it lists.
+/// many tags it lists; or that none of its changes is told.
 #[derive(Clone, Copy, Debug, PartialEq, Eq)]
 pub(crate) enum Said {
     New(usize, usize, usize),
+    Untold,
     Repeat,
     Held,
     Refused(Fault),
@@ -103,7 +104,7 @@ impl Said {
 fn first_told(changes: &[Change]) -> Said {
     match changes.first() {
         Some(change) => Said::New(change.place, change.inserted, change.lists.len()),
-        None => Said::New(0, 0, 0),
+        None => Said::Untold,
     }
 }
 
