@@ -177,7 +177,7 @@ impl Recorder {
         self.stacks.force();
     }
 
-    /// Places a separator: the next action begins a group ("edit separator"). Nothing is prepared then.
+    /// Places a separator: the next action begins a group (Tk text manual, "edit separator"). Nothing is prepared then.
     /// It takes no memory.
     pub fn separate(&mut self)
         ensures history { self.new.history ≡ separated self.old.history }
@@ -189,7 +189,7 @@ impl Recorder {
         self.stacks.separate();
     }
 
-    /// Empties both stacks ("edit reset"). The modified flag stays as it is, and nothing is prepared. It
+    /// Empties both stacks (Tk text manual, "edit reset"). The modified flag stays as it is, and nothing is prepared. It
     /// takes no memory.
     pub fn reset(&mut self)
         ensures history { self.new.history ≡ emptied self.old.history }
@@ -202,14 +202,14 @@ impl Recorder {
         self.stacks.reset();
     }
 
-    /// Whether the text is modified ("edit modified").
+    /// Whether the text is modified (Tk text manual, "edit modified").
     pub fn modified(&self) -> bool
         ensures { result ≡ is_modified self.now.history }
     {
         self.stacks.modified()
     }
 
-    /// Sets the modified flag ("edit modified"). Taking it away alone takes memory. After `NoMemory`
+    /// Sets the modified flag (Tk text manual, "edit modified"). Taking it away alone takes memory. After `NoMemory`
     /// all is as it was.
     pub fn set_modified(&mut self, on: bool) -> Result<(), Fault>
         ensures ok { OnOk result (self.new ≡ record self.old {
@@ -221,14 +221,14 @@ impl Recorder {
         self.stacks.set_modified(on)
     }
 
-    /// Whether there is a group to undo ("edit canundo").
+    /// Whether there is a group to undo (Tk text manual, "edit canundo").
     pub fn can_undo(&self) -> bool
         ensures { result ≡ is_some (next_undo self.now.history) }
     {
         self.stacks.can_undo()
     }
 
-    /// Whether there is a group to redo ("edit canredo").
+    /// Whether there is a group to redo (Tk text manual, "edit canredo").
     pub fn can_redo(&self) -> bool
         ensures { result ≡ is_some (next_redo self.now.history) }
     {

@@ -96,10 +96,15 @@ pub enum Wanted {
 /// indices where to begin and perhaps to stop.
 #[derive(Drop)]
 pub struct SearchRequest<'a> {
+    /// Which way, and what counts as a match.
     pub search: Search,
+    /// One match or each.
     pub wanted: Wanted,
+    /// The characters that are sought.
     pub pattern: Word<'a>,
+    /// The index where the search begins.
     pub start: Word<'a>,
+    /// The index where it ends; without one it goes through the whole text, on from its other end.
     pub stop: Option<Word<'a>>,
 }
 

@@ -31,8 +31,8 @@ fn unless_refused(site: SiteState, found: Option<(Fault, u64)>) -> Result<SiteSt
     Ok(site)
 }
 
-/// A new site, with all that it receives of a log's file. The log's first fault, with its offset, or
-/// want of memory.
+/// A new site, with all that it receives of a log's file. Refused by the log's first fault with its offset, or
+/// by `NoMemory` at 0 where there is no memory for a site.
 pub fn begun(alloc: Global, site: Site, log: Option<&[u8]>) -> Result<SiteState, (Fault, u64)>
     requires { WithinBytes log }
     ensures { Begins site.number log.entry result }
@@ -58,7 +58,7 @@ fn log_of(site: &SiteState, is_wanted: bool) -> Option<Result<Vec<u8>, Fault>>
 }
 
 /// Runs a script by a site, and then makes the file of its log if that is wanted, however the run
-/// ended.
+/// ended. The outcome has the fault of `run`, and the log or `NoMemory`.
 pub fn run_site<R: Source, W: Sink>(
     alloc: Global,
     site: SiteState,

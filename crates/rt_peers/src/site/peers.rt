@@ -93,7 +93,7 @@ impl SiteState {
         self.peers(path, place, &request)
     }
 
-    /// What is asked of the peers of the widget of a path. Refused by the first of `NoWidget`, `WidgetExists` and
+    /// What is asked of the peers of the widget of a path (Tk text manual, "Peer widgets"). Refused by the first of `NoWidget`, `WidgetExists` and
     /// `BadView`, or for want of memory; then the site is as it was.
     pub fn answer_peers(&mut self, path: &str, request: &PeerRequest<'_>) -> Result<Reply, Fault>
         ensures answers { Answers (peer_step_at path.now self.old request.now) self.old result self.new }

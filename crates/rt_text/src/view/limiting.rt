@@ -11,9 +11,10 @@ use rt_store::TextStore;
 use rt_views::Choice;
 
 impl<S: TextStore> View<S> {
-    /// Sets which lines the widget shows, by lines of the whole text (`configure` with `-startline` and
-    /// `-endline`): from the first one named up to before the other. A limit that isn't named keeps its
-    /// newline. `BadView` where there are no such lines, and then nothing changes. It takes no memory.
+    /// Sets which lines the widget shows, by lines of the whole text (Tk text manual, "Peer widgets":
+    /// `configure` with `-startline` and `-endline`): from the first one named up to before the other. A limit
+    /// that isn't named keeps its newline. `BadView` where there are no such lines, and then nothing changes. It
+    /// takes no memory.
     pub fn set_lines(&mut self, start: Choice, end: Choice) -> Result<(), Fault>
         ensures ok { OnOk result (limited self.old start end ≡ Ok self.new) }
         ensures err { IfErr result (λ fault. limited self.old start end ≡ Err fault) }
@@ -24,7 +25,7 @@ impl<S: TextStore> View<S> {
         Ok(())
     }
 
-    /// Adds a new widget behind the others (`peer create`), which shows the lines that are asked for, and
+    /// Adds a new widget behind the others (Tk text manual, "Peer widgets"), which shows the lines that are asked for, and
     /// else those that this widget shows. Its marks stand at the first place that it shows. `BadView` where
     /// there are no such lines, or want of memory, and then nothing changes.
     pub fn add_peer(&mut self, start: Choice, end: Choice) -> Result<(), Fault>
