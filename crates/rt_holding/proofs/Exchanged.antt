@@ -1,5 +1,5 @@
 -- A site that holds nothing receives a whole history: it takes each operation of it that it hasn't, in turn.
-use Rattle.std.proofs.Common.{◌≡◌, ◌⊎◌, ◌∙◌, ◌++◌, ℕ, Bool, true, false, inl, inr, refl, sym, ap, subst, List, [], ◌∷◌, None, Ok, reverse}
+use Rattle.std.proofs.Common.{◌≡◌, ◌↔◌, ◌⊎◌, ◌∙◌, ◌++◌, ℕ, Bool, true, false, inl, inr, refl, sym, ap, subst, List, [], ◌∷◌, None, Ok, reverse}
 use mathlib.Core.List.{reverse-cons}
 use Rattle.std.specs.Option.{IfSome}
 use Rattle.rt_stamps.specs.declared.fault.Fault.{Fault}
@@ -7,16 +7,14 @@ use Rattle.rt_stamps.specs.declared.fault.Fault.TheVariants.{NoMemory, TextFull}
 use Rattle.rt_ops.specs.Operations.{Operation}
 use Rattle.rt_ops.specs.Reading.{Reads}
 use Rattle.rt_ops.proofs.Unique.{one_reading}
-use Rattle.rt_oplog.specs.Logs.{Has, clash, holds, union, with_operation}
+use Rattle.rt_oplog.specs.Logs.{Has, holds, with_operation}
 use Rattle.rt_rga.specs.Answers.{Answer, New, Repeat, Refused, all_taken, answer_to, answer_within, refused_if_full, taken}
 use Rattle.rt_rga.specs.Histories.{IsHistory}
 use Rattle.rt_rga.specs.Orders.{AreIn, ComeInTime, HasBasesIn, is_made_upon}
-use Rattle.rt_oplog.proofs.Sets.{has_held, union_has}
+use Rattle.rt_oplog.proofs.Sets.{has_held}
 use Rattle.rt_rga.proofs.Accepting.{new_if_continues, repeat_is}
 use Rattle.rt_rga.proofs.Bases.{bases_there}
-use Rattle.rt_rga.proofs.Files.{all_taken_by_stamp}
-use Rattle.rt_rga.proofs.Joining.{all_free, union_history}
-use Rattle.rt_rga.proofs.Orders.{in_time, one_taken, repeat_after}
+use Rattle.rt_rga.proofs.Orders.{in_time, one_taken, repeat_after, whole}
 use Rattle.rt_rga.proofs.Skipping.{split}
 use Rattle.rt_holding.specs.declared.held.Offered.{Offered}
 use Rattle.rt_holding.specs.declared.held.Offered.TheVariants as offerings
@@ -47,12 +45,12 @@ before [] ys x i = absurd i
 before (z ∷ xs) ys x (inl e) = inl e
 before (z ∷ xs) ys x (inr i) = inr (before xs ys x i)
 
-in_reverse : (xs : List Operation) (x : Operation) → Has xs x → Has (reverse xs) x
+pub in_reverse : (xs : List Operation) (x : Operation) → Has xs x → Has (reverse xs) x
 in_reverse [] x i = i
 in_reverse (z ∷ xs) x (inl e) = subst (λ l. Has l x) (sym (reverse-cons z xs)) (behind (reverse xs) (z ∷ []) x (inl e))
 in_reverse (z ∷ xs) x (inr i) = subst (λ l. Has l x) (sym (reverse-cons z xs)) (before (reverse xs) (z ∷ []) x (in_reverse xs x i))
 
-of_reverse : (xs : List Operation) (x : Operation) → Has (reverse xs) x → Has xs x
+pub of_reverse : (xs : List Operation) (x : Operation) → Has (reverse xs) x → Has xs x
 of_reverse [] x i = i
 of_reverse (z ∷ xs) x i = elim (apart (reverse xs) x (subst (λ l. Has l x) (reverse-cons z xs) i)) [ inl j ↦ inr (of_reverse xs x j) | inr e ↦ inl e ]
   where
@@ -63,7 +61,7 @@ of_reverse (z ∷ xs) x i = elim (apart (reverse xs) x (subst (λ l. Has l x) (r
     apart (y ∷ ys) x (inr i) = elim (apart ys x i) [ inl j ↦ inl (inr j) | inr e ↦ inr e ]
 
 -- the operations of a history come in time by rising stamp, also for a larger one
-by_stamp : (set other first : List Operation) → IsHistory set → IsHistory other → AreIn other set → ComeInTime set first (reverse other)
+pub by_stamp : (set other first : List Operation) → IsHistory set → IsHistory other → AreIn other set → ComeInTime set first (reverse other)
 by_stamp set [] first h k sub = tt
 by_stamp set (op ∷ older) first h k sub =
     subst (ComeInTime set first) (sym (reverse-cons op older))
@@ -183,32 +181,25 @@ module _ {Site : Type 0} (log : Site → List Operation) (limit : Site → ℕ) 
       (λ x i. elim ((one.members x).0 i) [ inl j ↦ sub x j | inr q ↦ subst (Has all) q (o op (inl refl)) ])
       (λ x i. o x (inr i)) t.1)
 
-  -- the file of a history without clashes: where no fault is told, the site has the join of both
-  pub file_joins : (bytes : List ℕ) (offsets : List ℕ) (set other : List Operation) (old : State Site) (received : Received) (new : State Site)
-      → Reads bytes (reverse other) offsets None → Receives log limit after bytes old received new → received.fault ≡ None → HasLog set old → IsHistory set → IsHistory other
-      → ((p q : Operation) → Has set p → Has other q → clash p q ≡ false) → HasLog (union set other) new
-  file_joins bytes offsets set other old received new reads (inr f) e l h k free = absurd (let q = ap (λ (r : Received). r.fault) f.0 in let n : ⊥ = cc (q, e) in n)
-  file_joins bytes offsets set other old received new reads (inl f) e l h k free =
-      let same = one_reading bytes f.0 (reverse other) f.1 offsets f.2 None f.3 reads in
-      let all = union set other in
-      let whole = union_history set other h k (all_free set other h k free) in
-      let offers : Offers log limit after (reverse other) f.1 None old received new =
-      subst (λ ending. Offers log limit after (reverse other) f.1 ending old received new) same.2 (subst (λ ops. Offers log limit after ops f.1 f.2 old received new) same.0 f.4) in
-      subst (λ s. HasLog s new) (all_taken_by_stamp set other h k free)
-      (offers_go all whole (reverse other) f.1 old received new set set offers e l h (λ x i. i) (λ x i. i)
-      (λ x i. union_has set other x (inl i)) (λ x i. union_has set other x (inr (of_reverse other x i)))
-      (by_stamp all other set whole k (λ x i. union_has set other x (inr i))))
+  -- a file of operations that come in time behind those of a set, with which they are a history: where no fault is told, the site has that
+  pub part_joins : (bytes : List ℕ) (offsets : List ℕ) (all set ops : List Operation) (old : State Site) (received : Received) (new : State Site)
+      → Reads bytes ops offsets None → Receives log limit after bytes old received new → received.fault ≡ None → HasLog set old → IsHistory all → IsHistory set
+      → ((x : Operation) → Has all x ↔ (Has set x ⊎ Has ops x)) → ComeInTime all set ops → HasLog all new
+  part_joins bytes offsets all set ops old received new reads (inr f) e l h k same t = absurd (let q = ap (λ (r : Received). r.fault) f.0 in let n : ⊥ = cc (q, e) in n)
+  part_joins bytes offsets all set ops old received new reads (inl f) e l h k same t =
+      let read = one_reading bytes f.0 ops f.1 offsets f.2 None f.3 reads in
+      let offers : Offers log limit after ops f.1 None old received new =
+      subst (λ ending. Offers log limit after ops f.1 ending old received new) read.2 (subst (λ ops. Offers log limit after ops f.1 f.2 old received new) read.0 f.4) in
+      subst (λ s. HasLog s new) (whole all set ops h k same t)
+      (offers_go all h ops f.1 old received new set set offers e l k (λ x i. i) (λ x i. i) (λ x i. (same x).1 (inl i)) (λ x i. (same x).1 (inr i)) t)
 
-  pub file_ends : (bytes : List ℕ) (offsets : List ℕ) (set other : List Operation) (old : State Site) (received : Received) (new : State Site)
-      → Reads bytes (reverse other) offsets None → Receives log limit after bytes old received new → HasLog set old → IsHistory set → IsHistory other
-      → ((p q : Operation) → Has set p → Has other q → clash p q ≡ false) → IfSome received.fault (λ found. (found.0 ≡ NoMemory) ⊎ (found.0 ≡ TextFull))
-  file_ends bytes offsets set other old received new reads (inr f) l h k free = subst (λ (r : Received). IfSome r.fault (λ found. (found.0 ≡ NoMemory) ⊎ (found.0 ≡ TextFull))) (sym f.0) (inl refl)
-  file_ends bytes offsets set other old received new reads (inl f) l h k free =
-      let same = one_reading bytes f.0 (reverse other) f.1 offsets f.2 None f.3 reads in
-      let all = union set other in
-      let whole = union_history set other h k (all_free set other h k free) in
-      let offers : Offers log limit after (reverse other) f.1 None old received new =
-      subst (λ ending. Offers log limit after (reverse other) f.1 ending old received new) same.2 (subst (λ ops. Offers log limit after ops f.1 f.2 old received new) same.0 f.4) in
-      offers_end all whole (reverse other) f.1 old received new set set offers l h (λ x i. i) (λ x i. i)
-      (λ x i. union_has set other x (inl i)) (λ x i. union_has set other x (inr (of_reverse other x i)))
-      (by_stamp all other set whole k (λ x i. union_has set other x (inr i)))
+  pub part_ends : (bytes : List ℕ) (offsets : List ℕ) (all set ops : List Operation) (old : State Site) (received : Received) (new : State Site)
+      → Reads bytes ops offsets None → Receives log limit after bytes old received new → HasLog set old → IsHistory all → IsHistory set
+      → ((x : Operation) → Has all x ↔ (Has set x ⊎ Has ops x)) → ComeInTime all set ops → IfSome received.fault (λ found. (found.0 ≡ NoMemory) ⊎ (found.0 ≡ TextFull))
+  part_ends bytes offsets all set ops old received new reads (inr f) l h k same t =
+      subst (λ (r : Received). IfSome r.fault (λ found. (found.0 ≡ NoMemory) ⊎ (found.0 ≡ TextFull))) (sym f.0) (inl refl)
+  part_ends bytes offsets all set ops old received new reads (inl f) l h k same t =
+      let read = one_reading bytes f.0 ops f.1 offsets f.2 None f.3 reads in
+      let offers : Offers log limit after ops f.1 None old received new =
+      subst (λ ending. Offers log limit after ops f.1 ending old received new) read.2 (subst (λ ops. Offers log limit after ops f.1 f.2 old received new) read.0 f.4) in
+      offers_end all h ops f.1 old received new set set offers l k (λ x i. i) (λ x i. i) (λ x i. (same x).1 (inl i)) (λ x i. (same x).1 (inr i)) t

@@ -1,10 +1,11 @@
--- Sites that receive each other's logs.
-use Rattle.std.specs.Prelude.{◌≡◌, ◌⊎◌, ℕ, false, List, [], reverse, None, Ok, IfSome}
+-- Sites that receive each other's logs, or of these what they lack.
+use Rattle.std.specs.Prelude.{◌≡◌, ◌≤◌, ◌⊎◌, ℕ, false, List, [], reverse, None, Ok, IfSome}
 use Rattle.rt_stamps.specs.declared.fault.Fault.TheVariants.{NoMemory, TextFull}
 use Rattle.rt_ops.specs.Operations.{Operation}
 use Rattle.rt_ops.specs.Reading.{Reads}
-use Rattle.rt_oplog.specs.Logs.{Has, clash, joined}
+use Rattle.rt_oplog.specs.Logs.{Has, clash, joined, known_end}
 use Rattle.rt_holding.specs.declared.receiving.Received.{Received}
+use Rattle.rt_peers.specs.Lacking.{since}
 use Rattle.rt_peers.specs.SiteStep.{SiteReceives, log_of}
 use Rattle.rt_peers.specs.State.{State}
 
@@ -16,14 +17,25 @@ IsFileOf bytes log = (offsets : List ℕ) × Reads bytes (reverse log) offsets N
 abbrev pub AreApart : List Operation → List Operation → Type 0
 AreApart one other = (p q : Operation) → Has one p → Has other q → clash p q ≡ false
 
--- A site that holds nothing receives the whole log of another, from which it is apart: then it has accepted the join of both logs, and
--- holds nothing, or a fault was told; and no other than want of memory or of room is.
+-- what is told of a file comes to the join of two logs, with nothing held, or a fault was told; and no other than want of memory or of
+-- room is
+abbrev pub ComesToJoin : State → List Operation → Received → State → Type 0
+ComesToJoin one log received new =
+    (received.fault ≡ None → (joined (log_of one) log ≡ Ok (log_of new)) × (new.held ≡ []))
+    × IfSome received.fault (λ found. (found.0 ≡ NoMemory) ⊎ (found.0 ≡ TextFull))
+
+-- A site that holds nothing receives the whole log of another, from which it is apart.
 abbrev pub ReceivesWhole : State → List Operation → Type 0
 ReceivesWhole one log =
     (bytes : List ℕ) (received : Received) (new : State) → IsFileOf bytes log → AreApart (log_of one) log → one.held ≡ []
-    → SiteReceives bytes one received new
-    → (received.fault ≡ None → (joined (log_of one) log ≡ Ok (log_of new)) × (new.held ≡ []))
-    × IfSome received.fault (λ found. (found.0 ≡ NoMemory) ⊎ (found.0 ≡ TextFull))
+    → SiteReceives bytes one received new → ComesToJoin one log received new
+
+-- It receives of that log only what is past some counts, up to which it knows the operations of each site.
+abbrev pub ReceivesLacking : State → List Operation → Type 0
+ReceivesLacking one log =
+    (known : ℕ → ℕ) (bytes : List ℕ) (received : Received) (new : State) → ((site : ℕ) → known site ≤ known_end (log_of one) site)
+    → IsFileOf bytes (since known log) → AreApart (log_of one) log → one.held ≡ []
+    → SiteReceives bytes one received new → ComesToJoin one log received new
 
 -- Two such sites receive each other's logs, and no fault is told: then both have one log.
 abbrev pub ExchangeAgrees : State → State → Type 0

@@ -1,4 +1,5 @@
 pub mod Exchange
+pub mod Lacking
 pub mod Lives
 pub mod Memory
 pub mod Options

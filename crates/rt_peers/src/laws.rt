@@ -8,7 +8,7 @@ ghost use Rattle.rt_editing.specs.Edited.{Edited};
 ghost use Rattle.rt_peer_requests.specs.declared.options.NamedOption.{NamedOption};
 ghost use Rattle.rt_peer_requests.specs.declared.peers.PeerRequest.{PeerRequest};
 ghost use Rattle.rt_peer_requests.specs.declared.settings.WidgetSettings.{WidgetSettings};
-ghost use Rattle.rt_peers.specs.Exchange.{ExchangeAgrees, ReceivesWhole};
+ghost use Rattle.rt_peers.specs.Exchange.{ExchangeAgrees, ReceivesLacking, ReceivesWhole};
 ghost use Rattle.rt_peers.specs.Lives.{AcceptsGreatest, AcceptsHistory, AgreeInAnyOrder, KeepsOrMakes, SitesHold};
 ghost use Rattle.rt_peers.specs.Memory.{CommandsGoOneWay, OthersGoOneWay, ReceivingGoesOneWay, RequestsGoOneWay};
 ghost use Rattle.rt_peers.specs.Peers.{text_led};
@@ -51,10 +51,12 @@ pub fn sites_agree_in_any_order(one: &SiteState, other: &SiteState)
 }
 
 /// A site that holds nothing receives the whole log of another, as `SiteState::export` gives it, of which no operation
-/// clashes with one of its own: it comes to the join of both logs, and so do both sites that receive each other's. Only
-/// want of memory or of room ends it early.
+/// clashes with one of its own: it comes to the join of both logs, and so do both sites that receive each other's. It
+/// comes to the same where it receives only what is past counts up to which it knows each site's operations, as
+/// `SiteState::export_since` gives it. Only want of memory or of room ends it early.
 pub fn exchange(one: &SiteState, other: &SiteState)
     ensures whole { ReceivesWhole one.now (log_of other.now) }
+    ensures lacking { ReceivesLacking one.now (log_of other.now) }
     ensures agree { ExchangeAgrees one.now other.now }
 {
     let _ = one.log();

@@ -7,6 +7,7 @@ mod paths;
 mod pieces;
 mod replies;
 pub mod reply;
+mod sending;
 pub mod site;
 mod text;
 mod viewer;

@@ -1,17 +1,22 @@
 // Operations of other sites, and those of the site itself for them.
-ghost use Rattle.std.specs.Prelude.{◌≡◌, ◌<◌, ◌≤◌, IfOk, IsOkUnless, None, OnOk, length, reverse};
+ghost use Rattle.std.specs.Prelude.{◌≡◌, ℕ, ◌<◌, ◌≤◌, IfOk, IsOkUnless, None, OnOk, length, reverse};
 ghost use Rattle.rt_stamps.specs.declared.limits.TheConstants.{MOST_BYTES};
 ghost use Rattle.rt_ops.specs.File.{spelling};
 ghost use Rattle.rt_ops.specs.Reading.{Reads, offsets_from};
 ghost use Rattle.rt_rga.specs.Cells.{cells_of};
 ghost use Rattle.rt_rga.specs.Histories.{IsHistory, greatest_last_count};
+ghost use Rattle.rt_oplog.specs.Logs.{known_end};
+ghost use Rattle.rt_peers.specs.Exchange.{IsFileOf};
+ghost use Rattle.rt_peers.specs.Lacking.{known_in, since};
 ghost use Rattle.rt_peers.specs.SiteStep.{SiteReceives};
 
 use super::SiteState;
+use crate::sending::{ends_of, lacking};
 use rt_editing::export;
 use rt_holding::{Received, receive};
 use rt_oplog::OpLog;
 use rt_stamps::Fault;
+use std::collections::BTreeMap;
 
 impl SiteState {
     /// Receives the bytes of a file of operations, at most `MOST_BYTES`: its operations are offered one after the
@@ -56,5 +61,27 @@ impl SiteState {
         ensures err { IsOkUnless result Fault.NoMemory }
     {
         export(self.alloc, self.log())
+    }
+
+    /// The last count that the site knows of each site of which it has operations; it knows all of that site up to
+    /// there. Want of memory.
+    pub fn ends(&self) -> Result<BTreeMap<u16, u64>, Fault>
+        ensures ok { IfOk result (λ ends. (site : ℕ) → known_in ends site ≡ known_end self.now.text.view.doc.log site) }
+        ensures err { IsOkUnless result Fault.NoMemory }
+    {
+        ends_of(self.alloc, self.log())
+    }
+
+    /// The file of those operations whose last count is past what another site knows of their site: what that site's
+    /// `ends` told, or an earlier answer of it. A site that isn't named there is one of which nothing is known. Want of
+    /// memory.
+    pub fn export_since(&self, ends: &BTreeMap<u16, u64>) -> Result<Vec<u8>, Fault>
+        ensures ok { IfOk result (λ bytes. bytes.items ≡ spelling (reverse (since (known_in ends.now) self.now.text.view.doc.log))) }
+        ensures read_back { OnOk result (IsFileOf (spelling (reverse (since (known_in ends.now) self.now.text.view.doc.log)))
+            (since (known_in ends.now) self.now.text.view.doc.log)) }
+        ensures err { IsOkUnless result Fault.NoMemory }
+    {
+        let lacking = lacking(self.alloc, self.log(), ends)?;
+        export(self.alloc, &lacking)
     }
 }

@@ -1,0 +1,165 @@
+-- What another site lacks of a log.
+use Rattle.std.proofs.Common.{◌≡◌, ◌⊎◌, ◌∙◌, ◌↔◌, inl, inr, refl, sym, ap, subst, arith, zero, suc, ℕ, ◌+◌, ◌<◌, ◌≤◌, ◌==◌, nat_lt, max, not, Bool, true, false, cond, ◌&&◌, ◌||◌, List, [], ◌∷◌, ◌++◌, take, map, reverse, length, get_or, Some, None, unwrap_or, append-nil, Bor}
+use mathlib.Core.List.{reverse-cons}
+use Rattle.std.specs.declared.alloc.Global.{Global}
+use Rattle.std.specs.declared.collections.BTreeMap.{BTreeMap}
+use Rattle.std.specs.BTreeMap.{Updates, is_at}
+use Rattle.std.specs.List.{AllByRecursion, filter, list_any}
+use Rattle.std.specs.Ordering.{nat_cmp}
+use Rattle.std.proofs.lemmas.Bool.{cases_eq}
+use Rattle.std.proofs.lemmas.Bool.Decides.{nat_tests}
+use Rattle.std.proofs.lemmas.List.{map-append, take_more}
+use Rattle.std.proofs.lemmas.List.Folds.{list_any-append}
+use Rattle.std.proofs.lemmas.List.Elements.{filter-append}
+use Rattle.rt_stamps.specs.Stamps.{is_before}
+use Rattle.rt_stamps.specs.declared.limits.TheConstants.{GREATEST_COUNT}
+use Rattle.rt_ops.specs.declared.op.Op.{Op}
+use Rattle.rt_ops.specs.Operations.{Operation, last_count, stamp_of}
+use Rattle.rt_oplog.specs.Logs.{Has, IsFalling, IsLog, known_end}
+use Rattle.rt_oplog.specs.Outcomes.{IsLogOf}
+use Rattle.rt_oplog.proofs.Pushes.{sound_last}
+use Rattle.rt_oplog.proofs.Sets.{none_at, same_set, split}
+use Rattle.rt_rga.specs.Histories.{IsHistory}
+use Rattle.rt_rga.proofs.Accepting.{falling, sound_in}
+use Rattle.rt_rga.proofs.Rising.{in_reverse}
+use Rattle.rt_peers.specs.Lacking.{known_in, is_past, since}
+
+-- WHAT IS KNOWN
+
+abbrev is_of : ℕ → Operation → Bool
+is_of site op = op.site == site
+
+-- the count that is known of a site, once an operation of it was seen
+abbrev pub reached : List Operation → (ℕ → ℕ) → ℕ → ℕ
+reached ops known site = cond (list_any (is_of site) ops) (known site) 0
+
+reached_more : (ops : List Operation) (op : Operation) (known : ℕ → ℕ) (site : ℕ) → reached (ops ++ op ∷ []) known site ≡ cond (op.site == site) (known site) (reached ops known site)
+reached_more ops op known site =
+    let e = list_any-append (is_of site) ops (op ∷ []) in
+    rw e (both (list_any (is_of site) ops) (op.site == site))
+  where
+    both : (a b : Bool) → cond (a || (b || false)) (known site) 0 ≡ cond b (known site) (cond a (known site) 0)
+    both true true = refl
+    both true false = refl
+    both false true = refl
+    both false false = refl
+
+at_apart : (k q : ℕ) → (k ≡ q → ⊥) → is_at (nat_cmp k) q ≡ false
+at_apart k q n = grind (arith, nat_tests)
+
+eq_true : (k q : ℕ) → k ≡ q → (k == q) ≡ true
+eq_true k q e = grind (arith, nat_tests)
+
+eq_false : (k q : ℕ) → (k ≡ q → ⊥) → (k == q) ≡ false
+eq_false k q n = grind (arith, nat_tests)
+
+-- one more operation was seen
+pub known_more : (m n : BTreeMap ℕ ℕ Global) (k v : ℕ) (known : ℕ → ℕ) → Updates nat_cmp m n k (Some v) → v ≡ known k → (ops : List Operation) (op : Operation) → op.site ≡ k
+    → (q : ℕ) → known_in m q ≡ reached ops known q → known_in n q ≡ reached (ops ++ op ∷ []) known q
+known_more m n k v known u w ops op s q i = elim (cases_eq k q) [
+  | inl e ↦ (let here : known_in n k ≡ known k = ap (λ o. unwrap_or o 0) u.1 ∙ w in
+      let more = reached_more ops op known k ∙ ap (λ b. cond b (known k) (reached ops known k)) (eq_true op.site k s) in
+      subst (λ r. known_in n r ≡ reached (ops ++ op ∷ []) known r) e (here ∙ sym more))
+  | inr a ↦ (let kept : known_in n q ≡ known_in m q = ap (λ o. unwrap_or o 0) (u.2 q (at_apart k q a)) in
+      let more = reached_more ops op known q ∙ ap (λ b. cond b (known q) (reached ops known q)) (eq_false op.site q (λ e. a (sym s ∙ e))) in
+      kept ∙ i ∙ sym more)
+]
+
+-- items of a list that are read one after the other
+pub items_more : {A : Type 0} (items : List (Bor A)) (i : ℕ) (item : Bor A) → i < length items → item ≡ get_or items i item
+    → map (λ x. x.now) (take (i + 1) items) ≡ map (λ x. x.now) (take i items) ++ item.now ∷ []
+items_more {A} items i item h e =
+    ap (map (λ (x : Bor A). x.now)) (take_more items i item h)
+    ∙ map-append (λ (x : Bor A). x.now) (take i items) (get_or items i item ∷ [])
+    ∙ ap (λ (x : Bor A). map (λ (y : Bor A). y.now) (take i items) ++ x.now ∷ []) (sym e)
+
+none_known : (log : List Operation) (site : ℕ) → ((op : Operation) → Has log op → (op.site == site) ≡ false) → known_end log site ≡ 0
+none_known [] site h = refl
+none_known (op ∷ older) site h = let e = h op (inl refl) in rw e (none_known older site (λ x i. h x (inr i)))
+
+-- all operations were seen
+pub all_known : (log : List Operation) (site : ℕ) → reached (reverse log) (known_end log) site ≡ known_end log site
+all_known log site = split (list_any (is_of site) (reverse log))
+    (λ e. rw e refl)
+    (λ e. rw e (sym (none_known log site (λ op i. none_at (is_of site) (reverse log) op e (in_reverse log op i)))))
+
+-- WHAT IS LACKING
+
+apart_last : (ys : List Operation) (z x : Operation) → Has (ys ++ z ∷ []) x → Has ys x ⊎ (z ≡ x)
+apart_last [] z x (inl e) = inr e
+apart_last [] z x (inr i) = absurd i
+apart_last (y ∷ ys) z x (inl e) = inl (inl e)
+apart_last (y ∷ ys) z x (inr i) = elim (apart_last ys z x i) [ inl j ↦ inl (inr j) | inr e ↦ inr e ]
+
+of_reverse : (xs : List Operation) (x : Operation) → Has (reverse xs) x → Has xs x
+of_reverse [] x i = i
+of_reverse (z ∷ xs) x i = elim (apart_last (reverse xs) z x (subst (λ l. Has l x) (reverse-cons z xs) i)) [ inl j ↦ inr (of_reverse xs x j) | inr e ↦ inl e ]
+
+filter_by : (p : Operation → Bool) (op x : Operation) (ops rest : List Operation) (b : Bool) → p op ≡ b → (Has rest x → Has ops x × (p x ≡ true)) → Has (cond b (op ∷ rest) rest) x
+    → Has (op ∷ ops) x × (p x ≡ true)
+filter_by p op x ops rest true e f (inl s) = (inl s, ap p (sym s) ∙ e)
+filter_by p op x ops rest true e f (inr i) = let r = f i in (inr r.0, r.1)
+filter_by p op x ops rest false e f i = let r = f i in (inr r.0, r.1)
+
+pub filter_has : (p : Operation → Bool) (ops : List Operation) (x : Operation) → Has (filter p ops) x → Has ops x × (p x ≡ true)
+filter_has p [] x h = absurd h
+filter_has p (op ∷ ops) x h = filter_by p op x ops (filter p ops) (p op) refl (filter_has p ops x) h
+
+has_by : (p : Operation → Bool) (op x : Operation) (ops rest : List Operation) (b : Bool) → p op ≡ b → p x ≡ true → (Has ops x → Has rest x) → Has (op ∷ ops) x → Has (cond b (op ∷ rest) rest) x
+has_by p op x ops rest true e f g (inl s) = inl s
+has_by p op x ops rest true e f g (inr i) = inr (g i)
+has_by p op x ops rest false e f g (inl s) = let same = ap p s in let no : ⊥ = cc (e, same, f) in absurd no
+has_by p op x ops rest false e f g (inr i) = g i
+
+pub has_filter : (p : Operation → Bool) (ops : List Operation) (x : Operation) → Has ops x → p x ≡ true → Has (filter p ops) x
+has_filter p [] x h e = absurd h
+has_filter p (op ∷ ops) x h e = has_by p op x ops (filter p ops) (p op) refl e (λ i. has_filter p ops x i e) h
+
+abbrev AreBefore : Operation → List Operation → Type 0
+AreBefore op ops = AllByRecursion (λ q. is_before (stamp_of q) (stamp_of op) ≡ true) ops
+
+before_by : (op x : Operation) (rest : List Operation) (b : Bool) → is_before (stamp_of x) (stamp_of op) ≡ true → AreBefore op rest → AreBefore op (cond b (x ∷ rest) rest)
+before_by op x rest true h k = (h, k)
+before_by op x rest false h k = k
+
+before_filter : (p : Operation → Bool) (op : Operation) (ops : List Operation) → AreBefore op ops → AreBefore op (filter p ops)
+before_filter p op [] h = tt
+before_filter p op (x ∷ ops) h = before_by op x (filter p ops) (p x) h.0 (before_filter p op ops h.1)
+
+falling_by : (op : Operation) (rest : List Operation) (b : Bool) → AreBefore op rest → IsFalling rest → IsFalling (cond b (op ∷ rest) rest)
+falling_by op rest true h k = (h, k)
+falling_by op rest false h k = k
+
+falling_filter : (p : Operation → Bool) (ops : List Operation) → IsFalling ops → IsFalling (filter p ops)
+falling_filter p [] h = tt
+falling_filter p (op ∷ ops) h = falling_by op (filter p ops) (p op) (before_filter p op ops h.0) (falling_filter p ops h.1)
+
+-- the log of what was kept of a log is that part of it
+pub lacking_is : (known : ℕ → ℕ) (log ops made : List Operation) → IsHistory log → ops ≡ filter (is_past known) (reverse log) → IsLogOf ops made → made ≡ since known log
+lacking_is known log ops made h e m = same_set made (since known log) m.is_log.falling (falling_filter (is_past known) log (falling log h)) (λ x. (to x, from x))
+  where
+    to : (x : Operation) → Has made x → Has (since known log) x
+    to x i = let r = filter_has (is_past known) (reverse log) x (subst (λ l. Has l x) e ((m.members x).0 i)) in has_filter (is_past known) log x (of_reverse log x r.0) r.1
+
+    from : (x : Operation) → Has (since known log) x → Has made x
+    from x i =
+        let r = filter_has (is_past known) log x i in
+        (m.members x).1 (subst (λ l. Has l x) (sym e) (has_filter (is_past known) (reverse log) x (in_reverse log x r.0) r.1))
+
+-- each operation has counts that there are
+has_at : (ops : List Operation) (i : ℕ) (op : Operation) → i < length ops → op ≡ get_or ops i op → Has ops op
+has_at [] i op h e = absurd (omega (arith, h))
+has_at (x ∷ ops) zero op h e = inl (sym e)
+has_at (x ∷ ops) (suc i) op h e = inr (has_at ops i op (omega (arith, h)) e)
+
+now_at : {A : Type 0} (items : List (Bor A)) (i : ℕ) (item : Bor A) → item ≡ get_or items i item → i < length items → (i < length (map (λ (x : Bor A). x.now) items)) × (item.now ≡ get_or (map (λ (x : Bor A). x.now) items) i item.now)
+now_at [] i item e h = absurd (omega (arith, h))
+now_at {A} (x ∷ items) zero item e h = (omega arith, ap (λ (y : Bor A). y.now) e)
+now_at (x ∷ items) (suc i) item e h = let r = now_at items i item e (omega (arith, h)) in (omega (arith, r.0), r.1)
+
+pub within_counts : (log : List Operation) (items : List (Bor Op)) (i : ℕ) (item : Bor Op) → IsHistory log → map (λ x. x.now) items ≡ reverse log → i < length items → item ≡ get_or items i item
+    → last_count item.now ≤ GREATEST_COUNT
+within_counts log items i item h same l e =
+    let at = now_at items i item e l in
+    let there : Has (reverse log) item.now = subst (λ ops. Has ops item.now) same (has_at (map (λ x. x.now) items) i item.now at.0 at.1) in
+    sound_last item.now (sound_in log h item.now (of_reverse log item.now there))

@@ -1,0 +1,55 @@
+// What another site lacks of a log.
+ghost use Rattle.std.specs.Prelude.{◌≡◌, ◌≤◌, ℕ, IfOk, IsOkUnless};
+ghost use Rattle.rt_stamps.specs.declared.limits.TheConstants.{GREATEST_COUNT};
+ghost use Rattle.rt_stamps.specs.declared.fault.Fault.TheVariants.{NoMemory};
+ghost use Rattle.rt_ops.specs.Operations.{last_count};
+ghost use Rattle.rt_oplog.specs.Logs.{known_end};
+ghost use Rattle.rt_rga.specs.Histories.{IsHistory};
+ghost use Rattle.rt_peers.specs.Lacking.{is_past, known_in, since};
+
+use rt_oplog::{Op, OpLog};
+use rt_stamps::Fault;
+use std::alloc::Global;
+use std::collections::BTreeMap;
+
+/// The last count that is known of each site that has operations in a log.
+pub(crate) fn ends_of(alloc: Global, log: &OpLog) -> Result<BTreeMap<u16, u64>, Fault>
+    ensures ok { IfOk result (λ ends. (site : ℕ) → known_in ends site ≡ known_end log.now.operations site) }
+    ensures fault { IsOkUnless result NoMemory }
+{
+    let mut ends = BTreeMap::new(alloc);
+    let ops = log.in_order()?;
+    for op in &ops {
+        let site = op.site();
+        ends.insert(site, log.known(site))?;
+    }
+    Ok(ends)
+}
+
+/// Whether an operation is past what is known of its site.
+fn is_new(op: &Op, ends: &BTreeMap<u16, u64>) -> bool
+    requires { last_count op.now ≤ GREATEST_COUNT }
+    ensures { result ≡ is_past (known_in ends.now) op.now }
+{
+    let known = ends.get(&op.site()).copied().unwrap_or(0);
+    known < op.last_count()
+}
+
+/// The operations of a log that are past what is known of their sites.
+pub(crate) fn lacking(alloc: Global, log: &OpLog, ends: &BTreeMap<u16, u64>) -> Result<OpLog, Fault>
+    requires { IsHistory log.now.operations }
+    ensures ok { IfOk result (λ lacking. lacking.operations ≡ since (known_in ends.now) log.now.operations) }
+    ensures fault { IsOkUnless result NoMemory }
+{
+    let all = log.in_order()?;
+    let mut ops = Vec::new(alloc);
+    for op in &all {
+        if is_new(op, ends) {
+            ops.push(op.copied(alloc)?)?;
+        }
+    }
+    match OpLog::from_ops(alloc, ops) {
+        Ok(lacking) => Ok(lacking),
+        Err(_) => Err(Fault::NoMemory),
+    }
+}
