@@ -27,7 +27,7 @@ pub(crate) fn ends_of(alloc: Global, log: &OpLog) -> Result<BTreeMap<u16, u64>, 
 }
 
 /// Whether an operation is past what is known of its site.
-fn is_new(op: &Op, ends: &BTreeMap<u16, u64>) -> bool
+fn is_past(op: &Op, ends: &BTreeMap<u16, u64>) -> bool
     requires { last_count op.now ≤ GREATEST_COUNT }
     ensures { result ≡ is_past (known_in ends.now) op.now }
 {
@@ -44,7 +44,7 @@ pub(crate) fn lacking(alloc: Global, log: &OpLog, ends: &BTreeMap<u16, u64>) -> 
     let all = log.in_order()?;
     let mut ops = Vec::new(alloc);
     for op in &all {
-        if is_new(op, ends) {
+        if is_past(op, ends) {
             ops.push(op.copied(alloc)?)?;
         }
     }

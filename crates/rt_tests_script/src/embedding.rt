@@ -43,15 +43,16 @@ fn line(alloc: Global, site: &mut SiteState) -> Result<String, Fault> {
     Ok(reply.words.concat(alloc)?)
 }
 
-// Gives all operations of a site to another, which takes those that are new to it.
-fn send(from: &SiteState, to: &mut SiteState) -> Result<(), Fault> {
-    let bytes = from.export()?;
+// Gives another site what it lacks, and answers how many of these operations it had already.
+fn send(from: &SiteState, to: &mut SiteState) -> Result<u64, Fault> {
+    let bytes = from.export_since(&to.ends()?)?;
     if bytes.len() > MOST_BYTES {
         return Err(Fault::ReadFault);
     }
-    match to.receive(&bytes).fault {
+    let received = to.receive(&bytes);
+    match received.fault {
         Some((fault, _)) => Err(fault),
-        None => Ok(()),
+        None => Ok(received.repeats),
     }
 }
 
@@ -67,6 +68,11 @@ fn edited(alloc: Global) -> Result<[SiteState; 2], Fault> {
     Ok([anna, ben])
 }
 
+// Stops a test where a site is sent an operation that it has.
+fn sends(rt: &impl Abort, from: &SiteState, to: &mut SiteState) {
+    same(rt, send(from, to).expect(rt, "memory"), 0);
+}
+
 // Stops a test where a site's first line isn't what is wanted.
 fn has_line(rt: &impl Abort, alloc: Global, site: &mut SiteState, wanted: &str) {
     let line = line(alloc, site).expect(rt, "memory");
@@ -79,8 +85,8 @@ fn two_sites_within_a_program(rt: HostRuntime) {
     let [mut anna, mut ben] = edited(alloc).expect(&rt, "memory");
     has_line(&rt, alloc, &mut anna, "buy milk, bread");
     has_line(&rt, alloc, &mut ben, "milk, butter");
-    send(&anna, &mut ben).expect(&rt, "memory");
-    send(&ben, &mut anna).expect(&rt, "memory");
+    sends(&rt, &anna, &mut ben);
+    sends(&rt, &ben, &mut anna);
     has_line(&rt, alloc, &mut anna, "buy milk, butter");
     has_line(&rt, alloc, &mut ben, "buy milk, butter");
 }

@@ -5,8 +5,8 @@ use Rattle.rt_peers.specs.Lacking.{is_past, known_in}
 use Rattle.rt_peers.proofs.Lacking.{lacking_is, within_counts}
 use Rattle.rt_peers.proofs.sending.lacking.Goals as goal
 
-pub is_new-requires : goal.is_new-requires
-is_new-requires c =
+pub is_past-requires : goal.is_past-requires
+is_past-requires c =
     within_counts c.args.log.now.operations c.deref-op-items.result.now c.loop-op.op-index c.op-item.result c.requires
     (ap (map (λ op. op.now)) c.deref-op-items.ensures.value ∙ c.in_ok-all.ensures.operations) c.loop-op-test.true c.op-item.is
 
