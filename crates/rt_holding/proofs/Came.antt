@@ -178,10 +178,10 @@ module _ {Site : Type 0} (log : Site → List Operation) (limit : Site → ℕ) 
         | inr r ↦ absurd (let q = ap is_want r.0 in let n : ⊥ = cc (q, e) in n)
       ]))
 
-  goes_on : (site : ℕ) (op : Operation) (more came : List Operation) (o : Offered) (old mid new : State Site) → keeps_rules op.body ≡ true
+  goes_past : (site : ℕ) (op : Operation) (more came : List Operation) (o : Offered) (old mid new : State Site) → keeps_rules op.body ≡ true
       → reply_to (limit old.site) op (state_of old) ≡ replied (Ok o) → Leads site (limit old.site) (Offer op) (state_of old) (state_of mid) more
       → limit mid.site ≡ limit old.site → Goes site mid new came → Goes site old new (op ∷ came)
-  goes_on site op more came o old mid new rules r leads stays rest = record {
+  goes_past site op more came o old mid new rules r leads stays rest = record {
     requests = Offer op ∷ rest.requests;
     runs = subst (Runs site (limit old.site) (Offer op ∷ rest.requests) (state_of old) (state_of new))
         (ap (λ ops. ops ++ came) (brings site (limit old.site) op (state_of old) (replied (Ok o)) r (has_room o)))
@@ -201,7 +201,7 @@ module _ {Site : Type 0} (log : Site → List Operation) (limit : Site → ℕ) 
       let (more, leads) = offered_leads site op h.0 old mid k h.3 h.4 in
       let stays = offered_limit op h.0 old mid h.4 in
       let kept = requests_keep site (limit old.site) (Offer op) (state_of old) (state_of mid) more p k (rules op (inl refl)) leads in
-      goes_on site op more (offered_in log limit after ops offsets ending mid h.2 new h.6) h.0 old mid new (rules op (inl refl)) h.3 leads stays
+      goes_past site op more (offered_in log limit after ops offsets ending mid h.2 new h.6) h.0 old mid new (rules op (inl refl)) h.3 leads stays
       (offers_go site ops offsets ending mid h.2 new h.6 p (λ x i. rules x (inr i)) (subst (λ l. IsHolding l (state_of mid)) (sym stays) kept))
 
   pub file_goes : (site : ℕ) (bytes : List ℕ) (old : State Site) (received : Received) (new : State Site) → (h : Receives log limit after bytes old received new) → 0 < site

@@ -12,7 +12,8 @@ use Rattle.rt_rga.specs.Orders.{AreIn}
 use Rattle.rt_rga.proofs.Skipping.{split}
 use Rattle.rt_rga.proofs.Later.{some_named}
 use Rattle.rt_rga.proofs.Continuing.{none_at}
-use Rattle.rt_holding.specs.Waiting.{NoneIsPassed, WaitsAt, goes_on, is_passed, key_in, keys_of, targets}
+use Rattle.rt_rga.specs.Kept.{goes_past}
+use Rattle.rt_holding.specs.Waiting.{NoneIsPassed, WaitsAt, is_passed, key_in, keys_of, targets}
 use Rattle.rt_holding.specs.Due.{AreKept}
 use Rattle.rt_holding.proofs.Waiting.{unpassed_stay, waiting_from}
 
@@ -25,7 +26,7 @@ any_none p (x ∷ xs) ys h k =
     let e : p x ≡ false = grind (arith, h) in grind (arith, e, i)
 
 span_unpassed : (log : List Operation) (span : Span) → list_any (is_passed log) (key_in log span) ≡ false
-span_unpassed log span = elim (goes_on log span) as (λ t. list_any (is_passed log) (cond t (record { count = max span.first (known_end log span.site + 1); site = span.site } ∷ []) []) ≡ false) [
+span_unpassed log span = elim (goes_past log span) as (λ t. list_any (is_passed log) (cond t (record { count = max span.first (known_end log span.site + 1); site = span.site } ∷ []) []) ≡ false) [
   | true ↦ past span.first (known_end log span.site)
   | false ↦ refl
 ]

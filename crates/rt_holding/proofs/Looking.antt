@@ -18,7 +18,8 @@ use Rattle.rt_rga.proofs.Continuing.{all_at, all_from, names, none_at}
 use Rattle.rt_rga.proofs.Later.{some_named}
 use Rattle.rt_rga.proofs.Orders.{any_named}
 use Rattle.rt_rga.proofs.Writes.{spans_name}
-use Rattle.rt_holding.specs.Waiting.{WaitsAt, came_in, goes_on, has_new_gap, looked_again, targets}
+use Rattle.rt_rga.specs.Kept.{goes_past}
+use Rattle.rt_holding.specs.Waiting.{WaitsAt, came_in, has_new_gap, looked_again, targets}
 use Rattle.rt_holding.proofs.Waiting.{character_stays, named_target, no_character, not_yet_there, past_of, waiting_from}
 
 -- ONE SPAN
@@ -119,9 +120,9 @@ gaps_to older log (span ∷ spans) s i z a l m = split (is_in_span span s)
 
 -- WHAT GOES ON
 
-going_from : (log : List Operation) (spans : List Span) → list_any (goes_on log) spans ≡ true → (s : Stamp) × ((is_in_spans spans s ≡ true) × ((s.site == 0) ≡ false) × (known_end log s.site < s.count))
+going_from : (log : List Operation) (spans : List Span) → list_any (goes_past log) spans ≡ true → (s : Stamp) × ((is_in_spans spans s ≡ true) × ((s.site == 0) ≡ false) × (known_end log s.site < s.count))
 going_from log [] h = absurd (cc h)
-going_from log (span ∷ spans) h = split (goes_on log span)
+going_from log (span ∷ spans) h = split (goes_past log span)
     (λ e. let b = both_true (not (span.site == 0)) (passes_end log span) e in
     let c = both_true (nat_le span.first span.last) (nat_lt (known_end log span.site) span.last) b.1 in
     let p = c.0 in
@@ -131,7 +132,7 @@ going_from log (span ∷ spans) h = split (goes_on log span)
     (s, (grind (arith, i), not_true (span.site == 0) b.0, grind (arith, nat_tests, q))))
     (λ e. let (s, r) = going_from log spans (grind (arith, h, e)) in let w = r.0 in (s, (grind (arith, w), r.1, r.2)))
 
-going_to : (log : List Operation) (spans : List Span) (s : Stamp) → is_in_spans spans s ≡ true → (s.site == 0) ≡ false → known_end log s.site < s.count → list_any (goes_on log) spans ≡ true
+going_to : (log : List Operation) (spans : List Span) (s : Stamp) → is_in_spans spans s ≡ true → (s.site == 0) ≡ false → known_end log s.site < s.count → list_any (goes_past log) spans ≡ true
 going_to log [] s i z l = absurd (cc i)
 going_to log (span ∷ spans) s i z l = split (is_in_span span s)
     (λ e. let k = in_from span s e in
@@ -141,7 +142,7 @@ going_to log (span ∷ spans) s i z l = split (is_in_span span s)
     let y : (span.site == 0) ≡ false = grind (arith, nat_tests, f, z) in
     let u = ap (known_end log) f in
     let p : passes_end log span ≡ true = passes span.first span.last s.count (known_end log span.site) g m (omega (arith, l, u)) in
-    let t : goes_on log span ≡ true = rw (y, p) refl in grind (arith, t))
+    let t : goes_past log span ≡ true = rw (y, p) refl in grind (arith, t))
     (λ e. let t = going_to log spans s (grind (arith, i, e)) z l in grind (arith, t))
   where
     passes : (first last count end : ℕ) → first ≤ count → count ≤ last → end < count → (nat_le first last && nat_lt end last) ≡ true
@@ -198,8 +199,8 @@ module _ (older log : List Operation) (op : Operation) (sub : AreIn older log) (
       or_true true = refl
       or_true false = refl
 
-  unknown_goes_on : list_any (can_never_be_known log op) (named op.body) ≡ false → not (list_all (is_known log op.body) (named op.body)) ≡ list_any (goes_on log) (targets op.body)
-  unknown_goes_on none = split (list_any (goes_on log) (targets op.body))
+  unknown_goes_on : list_any (can_never_be_known log op) (named op.body) ≡ false → not (list_all (is_known log op.body) (named op.body)) ≡ list_any (goes_past log) (targets op.body)
+  unknown_goes_on none = split (list_any (goes_past log) (targets op.body))
       (λ e. let (s, r) = going_from log (targets op.body) e in
       let a = no_character log s r.2 in
       let m = may_zero op.body s r.1 in
@@ -213,7 +214,7 @@ module _ (older log : List Operation) (op : Operation) (sub : AreIn older log) (
       right true = refl
       right false = refl
 
-      known : (s : Stamp) → names op.body s ≡ true → list_any (goes_on log) (targets op.body) ≡ false → is_known log op.body s ≡ true
+      known : (s : Stamp) → names op.body s ≡ true → list_any (goes_past log) (targets op.body) ≡ false → is_known log op.body s ≡ true
       known s n e =
           let o = none_at (can_never_be_known log op) (named op.body) none s n in
           split (s.site == 0)

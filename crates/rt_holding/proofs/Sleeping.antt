@@ -20,7 +20,8 @@ use Rattle.rt_holding.specs.declared.waits.Key.{Key}
 use Rattle.rt_holding.specs.Grown.{HasGrownBy}
 use Rattle.rt_holding.specs.Holding.{is_early, is_new, stays}
 use Rattle.rt_holding.specs.Kept.{Place}
-use Rattle.rt_holding.specs.Waiting.{WaitsAt, came_in, goes_on, has_new_gap, is_passed, key_in, keys_of, targets}
+use Rattle.rt_rga.specs.Kept.{goes_past}
+use Rattle.rt_holding.specs.Waiting.{WaitsAt, came_in, has_new_gap, is_passed, key_in, keys_of, targets}
 use Rattle.rt_holding.specs.Waits.{are_kept, has_key, sleeps}
 use Rattle.rt_holding.specs.Waking.{HasComeIn, IsAmong, IsSeenTo, first_of, stamp_of_key}
 use Rattle.rt_holding.proofs.Going.{both, left_if_stays, or_left}
@@ -46,7 +47,7 @@ pub record SleepsOn (keys : BTreeSet Key) (older log : List Operation) (p : Plac
   pub prev : nat_lt (known_end older x.site) x.prev ≡ false
   pub own : has_key keys p (record { count = x.prev + 1; site = x.site }) ≡ true
   pub fine : (span : Span) → IsAmong (targets x.body) span → IsFine keys older log p span
-  pub waits : (list_any (goes_on log) (targets x.body) ≡ true) ⊎ (list_any (pends keys older log p) (targets x.body) ≡ true)
+  pub waits : (list_any (goes_past log) (targets x.body) ≡ true) ⊎ (list_any (pends keys older log p) (targets x.body) ≡ true)
 
 -- it waits for the operation before it, or for what it names
 abbrev pub IsAsleep : BTreeSet Key → List Operation → List Operation → Place → Operation → Type 0
@@ -68,11 +69,11 @@ IsResting limit keys older log p x = ((is_early (answer_to x older) ≡ true) ×
 abbrev key_of : List Operation → Span → Stamp
 key_of log span = record { count = max span.first (known_end log span.site + 1); site = span.site }
 
-kept_key : (keys : BTreeSet Key) (log : List Operation) (p : Place) (span : Span) → goes_on log span ≡ true → list_all (has_key keys p) (key_in log span) ≡ true → has_key keys p (key_of log span) ≡ true
+kept_key : (keys : BTreeSet Key) (log : List Operation) (p : Place) (span : Span) → goes_past log span ≡ true → list_all (has_key keys p) (key_in log span) ≡ true → has_key keys p (key_of log span) ≡ true
 kept_key keys log p span g k = let m : list_all (has_key keys p) (key_of log span ∷ []) ≡ true = rw g at k in (both (has_key keys p (key_of log span)) true m).0
 
-key_kept : (keys : BTreeSet Key) (log : List Operation) (p : Place) (span : Span) → (goes_on log span ≡ true → has_key keys p (key_of log span) ≡ true) → list_all (has_key keys p) (key_in log span) ≡ true
-key_kept keys log p span f = split (goes_on log span) (λ g. let k = f g in rw (g, k) refl) (λ g. rw g refl)
+key_kept : (keys : BTreeSet Key) (log : List Operation) (p : Place) (span : Span) → (goes_past log span ≡ true → has_key keys p (key_of log span) ≡ true) → list_all (has_key keys p) (key_in log span) ≡ true
+key_kept keys log p span f = split (goes_past log span) (λ g. let k = f g in rw (g, k) refl) (λ g. rw g refl)
 
 abbrev stamp : ℕ → ℕ → Stamp
 stamp count site = record { count = count; site = site }
@@ -87,7 +88,7 @@ record GoesOn (log : List Operation) (span : Span) : Type 0 where
   is : span.first ≤ span.last
   end : known_end log span.site < span.last
 
-goes_from : (log : List Operation) (span : Span) → goes_on log span ≡ true → GoesOn log span
+goes_from : (log : List Operation) (span : Span) → goes_past log span ≡ true → GoesOn log span
 goes_from log span g =
     let (z, p) = both (not (span.site == 0)) (passes_end log span) g in
     let (i, e) = both (nat_le span.first span.last) (nat_lt (known_end log span.site) span.last) p in
@@ -97,15 +98,15 @@ goes_from log span g =
     turned true h = absurd (cc h)
     turned false h = refl
 
-goes_to : (log : List Operation) (span : Span) → GoesOn log span → goes_on log span ≡ true
+goes_to : (log : List Operation) (span : Span) → GoesOn log span → goes_past log span ≡ true
 goes_to log span g = tests (span.site == 0) span.first span.last (known_end log span.site) g.site g.is g.end
   where
     tests : (z : Bool) (first last end : ℕ) → z ≡ false → first ≤ last → end < last → (not z && (nat_le first last && nat_lt end last)) ≡ true
     tests z first last end e f g = grind (arith, nat_tests)
 
 pends_from : (keys : BTreeSet Key) (older log : List Operation) (p : Place) (span : Span) → pends keys older log p span ≡ true
-    → (goes_on older span ≡ true) × (is_passed log (key_of older span) ≡ true) × (has_key keys p (key_of older span) ≡ true)
-pends_from keys older log p span h = split (goes_on older span)
+    → (goes_past older span ≡ true) × (is_passed log (key_of older span) ≡ true) × (has_key keys p (key_of older span) ≡ true)
+pends_from keys older log p span h = split (goes_past older span)
     (λ g. let m : ((is_passed log (key_of older span) && has_key keys p (key_of older span)) || false) ≡ true = rw g at h in
     let (a, b) = both (is_passed log (key_of older span)) (has_key keys p (key_of older span)) (first _ m) in (g, a, b))
     (λ g. absurd (let m : false ≡ true = rw g at h in cc m))
@@ -114,20 +115,20 @@ pends_from keys older log p span h = split (goes_on older span)
     first true m = refl
     first false m = absurd (cc m)
 
-pends_to : (keys : BTreeSet Key) (older log : List Operation) (p : Place) (span : Span) → goes_on older span ≡ true → is_passed log (key_of older span) ≡ true
+pends_to : (keys : BTreeSet Key) (older log : List Operation) (p : Place) (span : Span) → goes_past older span ≡ true → is_passed log (key_of older span) ≡ true
     → has_key keys p (key_of older span) ≡ true → pends keys older log p span ≡ true
 pends_to keys older log p span g a b = rw g (rw (a, b) refl)
 
 -- FROM THE START
 
 early_goes_on : (log : List Operation) (x : Operation) → IsHistory log → is_early (answer_to x log) ≡ true → nat_lt (known_end log x.site) x.prev ≡ false
-    → list_any (goes_on log) (targets x.body) ≡ true
+    → list_any (goes_past log) (targets x.body) ≡ true
 early_goes_on log x h e d =
     let w : WaitsAt log x = or_left (is_early (answer_to x log)) (is_new (answer_to x log)) e in
     let c = (waiting_from log x w).prev in
     let p : x.prev ≡ known_end log x.site = same x.prev (known_end log x.site) c d in
     let l = looks_are_enough log log x h h (λ y i. i) w p p in
-    not_yet (list_any (has_new_gap log log) (targets x.body)) (list_any (goes_on log) (targets x.body)) (ap is_early (sym l) ∙ e)
+    not_yet (list_any (has_new_gap log log) (targets x.body)) (list_any (goes_past log) (targets x.body)) (ap is_early (sym l) ∙ e)
   where
     same : (a b : ℕ) → nat_lt a b ≡ false → nat_lt b a ≡ false → a ≡ b
     same a b c d = grind (arith, nat_tests)
@@ -145,13 +146,13 @@ falls_asleep keys older log p x h e k =
     (λ d. let m : (has_key keys p (record { count = x.prev + 1; site = x.site }) && list_all (has_key keys p) (flat_map (key_in older) (targets x.body))) ≡ true = rw d at k in
     let (own, all) = both (has_key keys p (record { count = x.prev + 1; site = x.site })) (list_all (has_key keys p) (flat_map (key_in older) (targets x.body))) m in
     let each = each_all (has_key keys p) (key_in older) (targets x.body) all in
-    let o = one_of (goes_on older) (targets x.body) (early_goes_on older x h e d) in
+    let o = one_of (goes_past older) (targets x.body) (early_goes_on older x h e d) in
     inr (record {
       prev = d;
       own = own;
       fine = λ span i. inl (each span i);
-      waits = split (goes_on log o.span)
-          (λ g. inl (any_of (goes_on log) (targets x.body) o.span o.among g))
+      waits = split (goes_past log o.span)
+          (λ g. inl (any_of (goes_past log) (targets x.body) o.span o.among g))
           (λ g. let f = goes_from older o.span o.is in
           let l : known_end log o.span.site < o.span.last → ⊥ = λ m. let t = goes_to log o.span (record { site = f.site; is = f.is; end = m }) in cc (t, g) in
           inr (any_of (pends keys older log p) (targets x.body) o.span o.among
@@ -162,9 +163,9 @@ falls_asleep keys older log p x h e k =
     passed first last old new a b c = elim (cases_lt new last) [ inl m ↦ absurd (c m) | inr m ↦ grind (arith, nat_tests, a, b, m) ]
 
 -- nothing goes on
-no_keys : (log : List Operation) (spans : List Span) → list_any (goes_on log) spans ≡ false → flat_map (key_in log) spans ≡ []
+no_keys : (log : List Operation) (spans : List Span) → list_any (goes_past log) spans ≡ false → flat_map (key_in log) spans ≡ []
 no_keys log [] n = refl
-no_keys log (span ∷ spans) n = split (goes_on log span)
+no_keys log (span ∷ spans) n = split (goes_past log span)
     (λ e. absurd (let m : true ≡ false = rw e at n in cc m))
     (λ e. rw e (no_keys log spans (rw e at n)))
 
@@ -177,7 +178,7 @@ lacks_room limit keys older p x h r s i k =
     let at : x.prev ≡ known_end older x.site = omega (arith, prev) in
     let d : nat_lt (known_end older x.site) x.prev ≡ false = not_lt (known_end older x.site) x.prev at in
     let l = looks_are_enough older older x h h (λ y j. j) w at at in
-    let g = none_on (list_any (has_new_gap older older) (targets x.body)) (list_any (goes_on older) (targets x.body)) (ap is_new (sym l) ∙ n) in
+    let g = none_on (list_any (has_new_gap older older) (targets x.body)) (list_any (goes_past older) (targets x.body)) (ap is_new (sym l) ∙ n) in
     let alone : keys_of older x ≡ record { count = x.prev + 1; site = x.site } ∷ [] = rw d (ap (λ r. stamp (x.prev + 1) x.site ∷ r) (no_keys older (targets x.body) g)) in
     record {
       full = s;
@@ -258,7 +259,7 @@ module _ (keys new : BTreeSet Key) (older log : List Operation) (k : Key) (x : O
       other i n = grind (arith, nat_tests, i, n)
 
   -- the span of the key
-  this_span : (span : Span) → IsAmong (targets x.body) span → goes_on older span ≡ true → key_of older span ≡ stamp_of_key k → IsFine new older log k.place span
+  this_span : (span : Span) → IsAmong (targets x.body) span → goes_past older span ≡ true → key_of older span ≡ stamp_of_key k → IsFine new older log k.place span
   this_span span i g e =
       let f = goes_from older span g in
       let is = f.is in
@@ -287,7 +288,7 @@ module _ (keys new : BTreeSet Key) (older log : List Operation) (k : Key) (x : O
 
   still_fine : (span : Span) → IsAmong (targets x.body) span → IsFine keys older log k.place span → IsFine new older log k.place span
   still_fine span i fine = elim fine [
-    | inl a ↦ split (goes_on older span)
+    | inl a ↦ split (goes_past older span)
         (λ g. elim (rest (key_of older span) (kept_key keys older k.place span g a)) [
           | inl e ↦ this_span span i g e
           | inr j ↦ inl (key_kept new older k.place span (λ h. j))
@@ -304,8 +305,8 @@ module _ (keys new : BTreeSet Key) (older log : List Operation) (k : Key) (x : O
     )
   ]
 
-  still_waits : (list_any (goes_on log) (targets x.body) ≡ true) ⊎ (list_any (pends keys older log k.place) (targets x.body) ≡ true)
-      → (list_any (goes_on log) (targets x.body) ≡ true) ⊎ (list_any (pends new older log k.place) (targets x.body) ≡ true)
+  still_waits : (list_any (goes_past log) (targets x.body) ≡ true) ⊎ (list_any (pends keys older log k.place) (targets x.body) ≡ true)
+      → (list_any (goes_past log) (targets x.body) ≡ true) ⊎ (list_any (pends new older log k.place) (targets x.body) ≡ true)
   still_waits (inl g) = inl g
   still_waits (inr h) =
       let o = one_of (pends keys older log k.place) (targets x.body) h in
@@ -351,14 +352,14 @@ module _ (keys new : BTreeSet Key) (older log : List Operation) (k : Key) (x : O
 
 -- what has come in of a span, and doesn't reach its end, goes on
 pub came_goes_on : (log : List Operation) (key : Key) (spans : List Span) (span : Span) → HasComeIn log key spans span → known_end log key.site < span.last
-    → list_any (goes_on log) spans ≡ true
+    → list_any (goes_past log) spans ≡ true
 came_goes_on log key spans span came l =
     let h = came.has in
     let e : key.site ≡ span.site = grind (arith, nat_tests, h) in
     let f : span.first ≤ key.count = grind (arith, nat_tests, h) in
     let m : key.count ≤ span.last = grind (arith, nat_tests, h) in
     let known = ap (known_end log) e in
-    any_of (goes_on log) spans span came.among (goes_to log span (record { site = ap (λ n. n == 0) (sym e) ∙ came.site; is = omega (arith, f, m); end = omega (arith, l, known) }))
+    any_of (goes_past log) spans span came.among (goes_to log span (record { site = ap (λ n. n == 0) (sym e) ∙ came.site; is = omega (arith, f, m); end = omega (arith, l, known) }))
 
 -- IN THE END
 
@@ -373,14 +374,14 @@ module _ (keys : BTreeSet Key) (by : ℕ) (older log : List Operation) (p : Plac
       (λ e. let i : s.site ≡ by = grind (arith, nat_tests, e) in let m = none s h i in let n = ap (known_end log) i in omega (arith, m, n))
       (λ e. let m = grown.others s.site e in omega (arith, l, m))
 
-  key_unpassed : (span : Span) → goes_on older span ≡ true → has_key keys p (key_of older span) ≡ true → known_end log span.site < max span.first (known_end older span.site + 1)
+  key_unpassed : (span : Span) → goes_past older span ≡ true → has_key keys p (key_of older span) ≡ true → known_end log span.site < max span.first (known_end older span.site + 1)
   key_unpassed span g h = unpassed (key_of older span) h (omega arith)
 
   no_gap : (span : Span) → IsFine keys older log p span → has_new_gap older log span ≡ false
   no_gap span (inr f) = f.0
   no_gap span (inl f) = split (span.site == 0)
       (λ z. rw z refl)
-      (λ z. rw z (none_came log (came_in older log span) (split (goes_on older span)
+      (λ z. rw z (none_came log (came_in older log span) (split (goes_past older span)
       (λ g. let m = key_unpassed span g (kept_key keys older p span g f) in omega (arith, m))
       (λ g. elim (cases_lt span.last span.first) [
         | inl l ↦ omega (arith, l)
@@ -392,14 +393,14 @@ module _ (keys : BTreeSet Key) (by : ℕ) (older log : List Operation) (p : Plac
 
   kept_now : (span : Span) → IsFine keys older log p span → list_all (has_key keys p) (key_in log span) ≡ true
   kept_now span (inr f) = f.1
-  kept_now span (inl f) = ap (list_all (has_key keys p)) (key_stays older log grown.among span (split (goes_on older span)
+  kept_now span (inl f) = ap (list_all (has_key keys p)) (key_stays older log grown.among span (split (goes_past older span)
       (λ g. rw g (late _ _ (key_unpassed span g (kept_key keys older p span g f))))
       (λ g. rw g refl))) ∙ f
     where
       late : (a b : ℕ) → b < a → (nat_le a b || false) ≡ false
       late a b l = grind (arith, nat_tests)
 
-  waits_now : (list_any (goes_on log) (targets x.body) ≡ true) ⊎ (list_any (pends keys older log p) (targets x.body) ≡ true) → list_any (goes_on log) (targets x.body) ≡ true
+  waits_now : (list_any (goes_past log) (targets x.body) ≡ true) ⊎ (list_any (pends keys older log p) (targets x.body) ≡ true) → list_any (goes_past log) (targets x.body) ≡ true
   waits_now (inl g) = g
   waits_now (inr h) = absurd (
       let o = one_of (pends keys older log p) (targets x.body) h in

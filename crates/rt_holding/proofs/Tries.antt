@@ -20,12 +20,12 @@ module _ {Site : Type 0} (log : Site → List Operation) (after : Operation → 
   -- how far the tries have come: what settles from here settles from where they began
   pub record IsSettling (limit : ℕ) (wanting : List Operation) (state : Holding) (then_site now : Site) (left : List Operation) (count : ℕ) : Type 0 where
     pub done : List Operation
-    pub goes_on : (t : Holding) (more : List Operation) → Settles limit wanting (holding log now left) t more → Settles limit [] state t (done ++ more)
+    pub goes_past : (t : Holding) (more : List Operation) → Settles limit wanting (holding log now left) t more → Settles limit [] state t (done ++ more)
     pub each : now ≡ all_after after done then_site
     pub counted : length done ≡ count
 
   pub begins : (limit : ℕ) (site : Site) (held : List Operation) → IsSettling limit [] (holding log site held) site site held 0
-  begins limit site held = record { done = []; goes_on = λ t more s. s; each = refl; counted = refl }
+  begins limit site held = record { done = []; goes_past = λ t more s. s; each = refl; counted = refl }
 
   after_one : (ops : List Operation) (op : Operation) (site : Site) → all_after after (ops ++ op ∷ []) site ≡ after op (all_after after ops site)
   after_one [] op site = refl
@@ -36,9 +36,9 @@ module _ {Site : Type 0} (log : Site → List Operation) (after : Operation → 
       → new ≡ after op now → log new ≡ with_operation op (log now) → less ≡ without op left → IsSettling limit wanting state then_site new less (count + 1)
   one_taken limit wanting state then_site now new left less count op k e n a l w = record {
     done = k.done ++ op ∷ [];
-    goes_on = λ t more s.
+    goes_past = λ t more s.
         subst (λ ops. Settles limit [] state t ops) (sym (append_assoc k.done (op ∷ []) more))
-        (k.goes_on t (op ∷ more) (takes e (ap is_new n) (subst (λ (h : Holding). Settles limit wanting h t more) (same new less l w) s)));
+        (k.goes_past t (op ∷ more) (takes e (ap is_new n) (subst (λ (h : Holding). Settles limit wanting h t more) (same new less l w) s)));
     each = a ∙ ap (after op) k.each ∙ sym (after_one k.done op then_site);
     counted = length_one k.done op ∙ ap (λ m. m + 1) k.counted;
   }
@@ -52,7 +52,7 @@ module _ {Site : Type 0} (log : Site → List Operation) (after : Operation → 
       → less ≡ without op left → IsSettling limit wanting state then_site now less count
   one_dropped limit wanting state then_site now left less count op k e n w = record {
     done = k.done;
-    goes_on = λ t more s. k.goes_on t more (drops e n (subst (λ held. Settles limit wanting (holding log now held) t more) w s));
+    goes_past = λ t more s. k.goes_past t more (drops e n (subst (λ held. Settles limit wanting (holding log now held) t more) w s));
     each = k.each;
     counted = k.counted;
   }
@@ -62,14 +62,14 @@ module _ {Site : Type 0} (log : Site → List Operation) (after : Operation → 
       → IsSettling limit wanting state then_site now left count → next_of limit wanting (log now) left ≡ Some op → is_new (answer_within limit op (log now)) ≡ true
       → IsSettling limit (op ∷ wanting) state then_site now left count
   one_lacking limit wanting state then_site now left count op k e n =
-      record { done = k.done; goes_on = λ t more s. k.goes_on t more (lacks e n s); each = k.each; counted = k.counted }
+      record { done = k.done; goes_past = λ t more s. k.goes_past t more (lacks e n s); each = k.each; counted = k.counted }
 
   -- none is left that could be taken
   pub ends : (limit : ℕ) (wanting : List Operation) (state : Holding) (then_site now : Site) (left : List Operation) (count : ℕ)
       → IsSettling limit wanting state then_site now left count → next_of limit wanting (log now) left ≡ None → AreTried log after limit state then_site now left count
   ends limit wanting state then_site now left count k e = record {
     more = k.done;
-    settles = subst (λ ops. Settles limit [] state (holding log now left) ops) (append_none k.done) (k.goes_on (holding log now left) [] (rest e));
+    settles = subst (λ ops. Settles limit [] state (holding log now left) ops) (append_none k.done) (k.goes_past (holding log now left) [] (rest e));
     each = k.each;
     counted = k.counted;
   }

@@ -23,7 +23,8 @@ use Rattle.rt_rga.proofs.Later.{bad_prev}
 use Rattle.rt_rga.proofs.Orders.{character_of, end_reached, insert_of}
 use Rattle.rt_rga.proofs.Writes.{spans_name}
 use Rattle.rt_holding.specs.Holding.{is_early, is_new}
-use Rattle.rt_holding.specs.Waiting.{NoneIsPassed, WaitsAt, goes_on, is_passed, key_in, keys_of, targets}
+use Rattle.rt_rga.specs.Kept.{goes_past}
+use Rattle.rt_holding.specs.Waiting.{NoneIsPassed, WaitsAt, is_passed, key_in, keys_of, targets}
 
 -- LISTS
 
@@ -147,7 +148,7 @@ stays_so older log op sub s e f = split (s.site == 0)
 -- KEYS
 
 -- a span's key that isn't passed
-key_first : (older log : List Operation) (span : Span) → goes_on older span ≡ true → list_any (is_passed log) (key_in older span) ≡ false
+key_first : (older log : List Operation) (span : Span) → goes_past older span ≡ true → list_any (is_passed log) (key_in older span) ≡ false
     → known_end log span.site < max span.first (known_end older span.site + 1)
 key_first older log span g n =
     let m : list_any (is_passed log) (record { count = max span.first (known_end older span.site + 1); site = span.site } ∷ []) ≡ false = rw g at n in
@@ -157,7 +158,7 @@ key_first older log span g n =
     below a b m = grind (arith, nat_tests)
 
 past_in : (older : List Operation) (span : Span) (s : Stamp) → is_in_span span s ≡ true → (s.site == 0) ≡ false → known_end older s.site < s.count
-    → (goes_on older span ≡ true) × (s.site ≡ span.site) × (max span.first (known_end older span.site + 1) ≤ s.count)
+    → (goes_past older span ≡ true) × (s.site ≡ span.site) × (max span.first (known_end older span.site + 1) ≤ s.count)
 past_in older span s i z l =
     let e : s.site ≡ span.site = grind (arith, nat_tests, i) in
     let k = ap (known_end older) e in
@@ -189,12 +190,12 @@ unpassed_at older log (span ∷ spans) s n i z l =
 pub key_stays : (older log : List Operation) → AreIn older log → (span : Span) → list_any (is_passed log) (key_in older span) ≡ false → key_in log span ≡ key_in older span
 key_stays older log sub span n =
     let g = end_stays older log sub span.site in
-    split (goes_on older span)
+    split (goes_past older span)
     (λ e. let k = key_first older log span e n in
-    let t : goes_on log span ≡ true = still (span.site == 0) span.first span.last (known_end older span.site) (known_end log span.site) g k e in
+    let t : goes_past log span ≡ true = still (span.site == 0) span.first span.last (known_end older span.site) (known_end log span.site) g k e in
     let m : max span.first (known_end log span.site + 1) ≡ max span.first (known_end older span.site + 1) = omega (arith, g, k) in
     rw (e, t) (ap (λ c. record { count = c; site = span.site } ∷ []) m))
-    (λ e. let t : goes_on log span ≡ false = none (span.site == 0) span.first span.last (known_end older span.site) (known_end log span.site) g e in rw (e, t) refl)
+    (λ e. let t : goes_past log span ≡ false = none (span.site == 0) span.first span.last (known_end older span.site) (known_end log span.site) g e in rw (e, t) refl)
   where
     still : (zero : Bool) (first last old new : ℕ) → old ≤ new → new < max first (old + 1) → (not zero && (nat_le first last && nat_lt old last)) ≡ true → (not zero && (nat_le first last && nat_lt new last)) ≡ true
     still zero first last old new g k e = grind (arith, nat_tests)

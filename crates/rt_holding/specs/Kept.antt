@@ -5,15 +5,14 @@ use Rattle.std.specs.List.{AllByRecursion}
 use Rattle.std.specs.Ordering.{nat_cmp, ordering_then}
 use Rattle.std.specs.declared.cmp.Ordering.{Ordering}
 use Rattle.std.specs.declared.cmp.Ordering.TheVariants.{Greater}
-use Rattle.rt_stamps.specs.declared.fault.Fault.TheVariants.{NotYet, TextFull}
 use Rattle.rt_stamps.specs.declared.stamp.Stamp.{Stamp}
 use Rattle.rt_ops.specs.Operations.{Operation, has_bad_stamp, stamp_of}
 use Rattle.rt_ops.specs.Rules.{keeps_rules}
 use Rattle.rt_oplog.specs.Logs.{Has}
-use Rattle.rt_rga.specs.Answers.{Answer, New, Repeat, Refused, answer_within}
+use Rattle.rt_rga.specs.Answers.{Answer, New, answer_within}
 use Rattle.rt_holding.specs.declared.trying.Outcome.{Outcome}
 use Rattle.rt_holding.specs.declared.trying.Outcome.TheVariants.{Taken, Waits, Stays, Dropped}
-use Rattle.rt_holding.specs.Holding.{most_held}
+use Rattle.rt_holding.specs.Holding.{is_new, most_held, stays}
 use Rattle.rt_holding.specs.Runs.{AreOnce, AreRising}
 
 -- where a held operation stands: by its stamp, and of equal stamps by when it came
@@ -58,11 +57,10 @@ pub record IsAt (place : Place) (op : Operation) (entries : List Entry) : Type 0
 
 -- what becomes of a held operation that is tried: by whether memory was wanting before, and by what is answered
 abbrev pub outcome_of : Bool → Answer → Outcome
-outcome_of lacks New = if lacks then Waits else Taken
-outcome_of lacks Repeat = Dropped
-outcome_of lacks (Refused NotYet) = Stays
-outcome_of lacks (Refused TextFull) = Stays
-outcome_of lacks (Refused _) = Dropped
+outcome_of lacks answer =
+    if is_new answer then if lacks then Waits else Taken
+    else if stays answer then Stays
+    else Dropped
 
 -- at a place stands one that is new
 pub record IsNewAt (limit : ℕ) (log : List Operation) (entries : List Entry) (place : Place) : Type 0 where

@@ -22,10 +22,10 @@ one_more offered.Repeat received = record received { repeats = 1 + received.repe
 one_more offered.Held received = received
 
 -- how many it counts
-abbrev pub most_counted : Offered → ℕ
-most_counted (offered.New more) = 1 + more
-most_counted offered.Repeat = 1
-most_counted offered.Held = 0
+abbrev pub count_of : Offered → ℕ
+count_of (offered.New more) = 1 + more
+count_of offered.Repeat = 1
+count_of offered.Held = 0
 
 -- a site, and the operations that are held for it
 pub record State (Site : Type 0) : Type 0 where

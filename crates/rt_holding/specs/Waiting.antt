@@ -8,6 +8,7 @@ use Rattle.rt_ops.specs.Operations.{Body, Insert, Delete, Tag, Operation}
 use Rattle.rt_oplog.specs.Logs.{known_end}
 use Rattle.rt_rga.specs.Answers.{Answer, New, Refused, answer_to, has_gap, passes_end}
 use Rattle.rt_rga.specs.Histories.{IsHistory}
+use Rattle.rt_rga.specs.Kept.{goes_past}
 use Rattle.rt_rga.specs.Orders.{AreIn}
 use Rattle.rt_holding.specs.Holding.{is_early, is_new}
 
@@ -17,13 +18,9 @@ targets (Insert after tags text) = record { site = after.site; first = after.cou
 targets (Delete spans) = spans
 targets (Tag on name spans) = spans
 
--- a span of a real site goes past the site's known end
-abbrev pub goes_on : List Operation → Span → Bool
-goes_on log span = not (span.site == 0) && passes_end log span
-
 -- the first stamp of a span past its site's known end, if there is one
 abbrev pub key_in : List Operation → Span → List Stamp
-key_in log span = if goes_on log span then record { count = max span.first (known_end log span.site + 1); site = span.site } ∷ [] else []
+key_in log span = if goes_past log span then record { count = max span.first (known_end log span.site + 1); site = span.site } ∷ [] else []
 
 -- One whose previous operation isn't there waits for that alone. Another waits for what it names, and for one that is taken in
 -- its own place.
@@ -61,7 +58,7 @@ has_new_gap older log span = not (span.site == 0) && has_gap log (came_in older 
 abbrev pub looked_again : List Operation → List Operation → Operation → Answer
 looked_again older log op =
     if list_any (has_new_gap older log) (targets op.body) then Refused BadTarget
-    else if list_any (goes_on log) (targets op.body) then Refused NotYet
+    else if list_any (goes_past log) (targets op.body) then Refused NotYet
     else New
 
 -- While its own place is free, one that waits for what it names needs no look at what was known before.

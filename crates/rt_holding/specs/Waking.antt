@@ -16,7 +16,8 @@ use Rattle.rt_holding.specs.declared.waking.Passed.{Passed}
 use Rattle.rt_holding.specs.declared.waking.Passed.TheVariants.{Due, GoesOn, Sleeps}
 use Rattle.rt_holding.specs.Grown.{HasGrownBy}
 use Rattle.rt_holding.specs.Kept.{Place, by_stamp_and_arrival}
-use Rattle.rt_holding.specs.Waiting.{goes_on, targets}
+use Rattle.rt_rga.specs.Kept.{goes_past}
+use Rattle.rt_holding.specs.Waiting.{targets}
 use Rattle.rt_holding.specs.Waits.{has_key, is_due, is_listed, sleeps}
 
 -- a span is one of others
@@ -55,7 +56,7 @@ IsPassedOn log keys key spans (GoesOn count) =
     (span : Span) × HasComeIn log key spans span × (known_end log key.site < span.last) × (count ≡ known_end log key.site + 1)
 IsPassedOn log keys key spans Sleeps =
     (span : Span) × HasComeIn log key spans span × (span.last ≤ known_end log key.site)
-    × ((list_any (goes_on log) spans ≡ true) ⊎ IsToCome (known_end log key.site) keys key spans)
+    × ((list_any (goes_past log) spans ≡ true) ⊎ IsToCome (known_end log key.site) keys key spans)
 
 -- what the operation at a key's place waits for after that
 pub record IsSeenTo (log : List Operation) (keys : BTreeSet Key) (key : Key) (op : Operation) : Type 0 where
@@ -63,7 +64,7 @@ pub record IsSeenTo (log : List Operation) (keys : BTreeSet Key) (key : Key) (op
   pub span : Span
   pub came : HasComeIn log key (targets op.body) span
   pub next : known_end log key.site < span.last → has_key keys key.place (record { count = known_end log key.site + 1; site = key.site }) ≡ true
-  pub waits : (list_any (goes_on log) (targets op.body) ≡ true) ⊎ IsToCome (known_end log key.site) keys key (targets op.body)
+  pub waits : (list_any (goes_past log) (targets op.body) ≡ true) ⊎ IsToCome (known_end log key.site) keys key (targets op.body)
 
 -- a key of a site to which its known end has come
 abbrev pub is_passed_by : ℕ → ℕ → Key → Bool

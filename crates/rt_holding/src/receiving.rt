@@ -2,7 +2,7 @@
 ghost use Rattle.std.specs.Prelude.{◌≡◌, ◌+◌, ◌<◌, ◌≤◌, length};
 ghost use Rattle.rt_stamps.specs.declared.limits.TheConstants.{MOST_BYTES};
 ghost use Rattle.rt_holding.specs.Grown.{AreTriedAt};
-ghost use Rattle.rt_holding.specs.Receiving.{Offers, Receives, most_counted, one_more};
+ghost use Rattle.rt_holding.specs.Receiving.{Offers, Receives, count_of, one_more};
 
 use crate::held::{Held, Offered};
 use crate::taking::Taking;
@@ -39,7 +39,7 @@ impl Received {
 
     // With one more that was offered.
     fn with(self, offered: Offered) -> Received
-        requires { self.new + self.repeats + most_counted offered < u64.MAX }
+        requires { self.new + self.repeats + count_of offered < u64.MAX }
         ensures counted { result ≡ one_more offered self }
     {
         match offered {

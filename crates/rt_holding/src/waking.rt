@@ -8,7 +8,8 @@ ghost use Rattle.rt_holding.specs.declared.waking.Passed.TheVariants.{Due};
 ghost use Rattle.rt_oplog.specs.Logs.{known_end};
 ghost use Rattle.rt_rga.specs.Histories.{IsHistory};
 ghost use Rattle.rt_holding.specs.Kept.{Place, by_stamp_and_arrival};
-ghost use Rattle.rt_holding.specs.Waiting.{goes_on, targets};
+ghost use Rattle.rt_rga.specs.Kept.{goes_past};
+ghost use Rattle.rt_holding.specs.Waiting.{targets};
 ghost use Rattle.rt_holding.specs.Waits.{IfIsThere, IsReady, KeepsOthers, by_key, is_due};
 ghost use Rattle.rt_holding.specs.Waking.{IsPassedOn, IsSeenTo, IsToCome, IsWoken, passed_keys, stamp_of_key};
 
@@ -38,14 +39,14 @@ fn has_stamp(span: Span, key: Key) -> bool
 
 /// Whether a span goes past the known end of its site.
 fn is_open<T: Taking>(site: &T, span: Span) -> bool
-    ensures { result ≡ goes_on (T.log site.now) span }
+    ensures { result ≡ goes_past (T.log site.now) span }
 {
     span.site != 0 && span.first <= span.last && site.known(span.site) < span.last
 }
 
 /// Whether the span at an index, if there is one, goes past the known end of its site.
 fn is_open_at<T: Taking>(site: &T, spans: &[Span], index: usize) -> bool
-    ensures { IsTrue result → list_any (goes_on (T.log site.now)) spans.now ≡ true }
+    ensures { IsTrue result → list_any (goes_past (T.log site.now)) spans.now ≡ true }
 {
     match spans.get(index) {
         Some(span) => is_open(site, *span),
@@ -56,7 +57,7 @@ fn is_open_at<T: Taking>(site: &T, spans: &[Span], index: usize) -> bool
 /// Whether some span goes past the known end of its site: those near an index are looked at first.
 fn is_any_open<T: Taking>(site: &T, spans: &[Span], index: usize) -> bool
     requires { index < length spans.now }
-    ensures { IsTrue result → list_any (goes_on (T.log site.now)) spans.now ≡ true }
+    ensures { IsTrue result → list_any (goes_past (T.log site.now)) spans.now ≡ true }
 {
     for distance in 0..spans.len() {
         if distance <= index && is_open_at(site, spans, index - distance) {

@@ -1,9 +1,8 @@
 -- The state of a site.
-use Rattle.std.specs.Prelude.{◌↔◌, ℕ, Bool, true, false, List, [], ◌∷◌, Option, is_some, codes}
+use Rattle.std.specs.Prelude.{ℕ, Bool, true, false, List, [], ◌∷◌, Option, is_some, codes}
 use Rattle.std.specs.List.{position}
 use Rattle.std.specs.Str.{bytes_eq}
 use Rattle.rt_stamps.specs.Words.{Word}
-use Rattle.rt_oplog.specs.Logs.{Has}
 use Rattle.rt_ops.specs.Operations.{Operation}
 use Rattle.rt_edits.specs.Flat.{new_flat}
 use Rattle.rt_editing.specs.Edited.{Edited}
@@ -35,10 +34,6 @@ place_of path paths = position (λ other. bytes_eq other path) paths
 
 abbrev pub is_widget : Word → List Word → Bool
 is_widget path paths = is_some (place_of path paths)
-
--- logs have the same operations
-abbrev pub HaveSame : List Operation → List Operation → Type 0
-HaveSame one other = (op : Operation) → Has one op ↔ Has other op
 
 -- the operations that it accepted, and those that it holds
 abbrev pub holding_of : State → Holding

@@ -5,6 +5,7 @@ ghost use Rattle.rt_stamps.specs.Outcomes.{Answers};
 ghost use Rattle.rt_stamps.specs.Words.{Word};
 ghost use Rattle.rt_rga.specs.Texts.{tagged_text};
 ghost use Rattle.rt_editing.specs.Edited.{Edited};
+ghost use Rattle.rt_holding.specs.Runs.{AreOf};
 ghost use Rattle.rt_peer_requests.specs.declared.options.NamedOption.{NamedOption};
 ghost use Rattle.rt_peer_requests.specs.declared.peers.PeerRequest.{PeerRequest};
 ghost use Rattle.rt_peer_requests.specs.declared.settings.WidgetSettings.{WidgetSettings};
@@ -14,7 +15,7 @@ ghost use Rattle.rt_peers.specs.Memory.{CommandsGoOneWay, OthersGoOneWay, Receiv
 ghost use Rattle.rt_peers.specs.Peers.{text_led};
 ghost use Rattle.rt_peers.specs.PeerStep.{destroyed};
 ghost use Rattle.rt_peers.specs.SiteStep.{AnswersInTurn, Gives, KeepsOperations, by_widget, log_of, option_at, peer_step_at, settings_at};
-ghost use Rattle.rt_peers.specs.State.{HaveSame, State};
+ghost use Rattle.rt_peers.specs.State.{State};
 ghost use Rattle.rt_peers.specs.ViewStep.{Outcome};
 
 use crate::SiteState;
@@ -30,8 +31,8 @@ pub fn telling()
 /// Sites that accepted the same operations hold equal cells, and so equal text with equal tags: whatever
 /// their calls were, in whatever order, with repeats and refusals between.
 pub fn sites_agree(one: &SiteState, other: &SiteState)
-    ensures cells { HaveSame one.now.text.view.doc.log other.now.text.view.doc.log → one.now.text.view.doc.cells ≡ other.now.text.view.doc.cells }
-    ensures text { HaveSame one.now.text.view.doc.log other.now.text.view.doc.log
+    ensures cells { AreOf one.now.text.view.doc.log other.now.text.view.doc.log → one.now.text.view.doc.cells ≡ other.now.text.view.doc.cells }
+    ensures text { AreOf one.now.text.view.doc.log other.now.text.view.doc.log
         → tagged_text one.now.text.view.doc.cells ≡ tagged_text other.now.text.view.doc.cells }
 {
     let _ = one.log();

@@ -39,7 +39,7 @@ returns-in-Err g c =
     let same : new ≡ old = λ k. record { site = site k; held = held k } in
     let ending : Option (Fault × ℕ) = Some (c.in-Err.fault, slice_index_or offsets i 0) in
     let last = stopped log limit after op rest offsets i c.args.ending old new c.in-Err.fault there c.in-Err.ensures.refused same in
-    let whole = before.goes_on (none_accepted ending c.loop-op.held.held) new
+    let whole = before.goes_past (none_accepted ending c.loop-op.held.held) new
     (subst (λ (ops : List Operation). Offers log limit after ops (drop i offsets) c.args.ending old (none_accepted ending c.loop-op.held.held) new) (sym first) last) in
     let length_same : length c.loop-op.held.held ≡ c.len-in-Err.result = ap length (sym held) ∙ sym c.len-in-Err.ensures.len in
     record {
@@ -77,10 +77,10 @@ loop-op-preserved g c =
       most = before.most;
       tried = c.offer.ensures.log;
       none = ap (λ (r : Received). r.fault) counted ∙ same_fault log limit after o c.loop-op.received ∙ before.none;
-      goes_on = λ received new k.
+      goes_past = λ received new k.
           subst (λ (r : Received). Offers log limit after c.args.ops.items offsets c.args.ending start r new)
           (sym (added_more o c.loop-op.received received) ∙ ap (λ (r : Received). added r received) (sym counted))
-          (before.goes_on (one_more o received) new
+          (before.goes_past (one_more o received) new
           (subst (λ (ops : List Operation). Offers log limit after ops (drop i offsets) c.args.ending old (one_more o received) new) (sym first)
           (goes_before log limit after op rest offsets i c.args.ending old mid new o received there c.in-Ok.ensures.reply c.in-Ok.ensures.offered k)));
     }
@@ -96,7 +96,7 @@ returns g c =
     let end : State g.row.T.Denot = record { site = c.loop-op.site; held = c.loop-op.held.held } in
     let start : State g.row.T.Denot = record { site = c.args.site.now; held = c.args.held.now.held } in
     let none : length ops ≡ 0 = sym c.loop-op.op-iterator.rest.ok.0 ∙ c.in-None.ensures.steps.0 in
-    let whole = before.goes_on (none_accepted c.args.ending c.loop-op.held.held) end (none_left log limit after ops (drop c.loop-op.i offsets) c.args.ending end none) in
+    let whole = before.goes_past (none_accepted c.args.ending c.loop-op.held.held) end (none_left log limit after ops (drop c.loop-op.i offsets) c.args.ending end none) in
     record {
       offers = subst (λ (r : Received). Offers log limit after c.args.ops.items offsets c.args.ending start r end)
           (added_nothing c.loop-op.received c.args.ending c.loop-op.held.held

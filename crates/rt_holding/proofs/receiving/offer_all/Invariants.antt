@@ -14,7 +14,7 @@ invariant-loop-op g l = record {
   most : length l.initial.held.held ≤ most_held;
   tried : AreTriedAt (g.T.Taking.limit l.site) (g.T.Taking.log l.site) l.held;
   none : l.received.fault ≡ l.fn.ending;
-  goes_on : (received : Received) (new : State g.row.T.Denot)
+  goes_past : (received : Received) (new : State g.row.T.Denot)
       → Offers g.T.Taking.log g.T.Taking.limit g.T.Taking.after (into_iter_items l.op-iterator) (drop l.i l.fn.offsets) l.fn.ending (record { site = l.site; held = l.held.held }) received new
       → Offers g.T.Taking.log g.T.Taking.limit g.T.Taking.after l.fn.ops.items l.fn.offsets l.fn.ending (record { site = l.initial.site; held = l.initial.held.held }) (added l.received received) new;
 }
