@@ -1,19 +1,19 @@
 -- How a run goes on, and how it ends.
-use Rattle.std.proofs.Common.{◌≡◌, ◌≢◌, ◌⊎◌, inl, inr, ℕ, ◌+◌, ◌-◌, ◌<◌, ◌≤◌, length, take, List, [], ◌++◌, refl, sym, ◌∙◌, ap, Option, Some, None, Result, Ok, Err, IfErr, append_assoc, append-nil, add-zero, arith}
+use Rattle.std.proofs.Common.{◌≡◌, ◌≢◌, ◌⊎◌, inl, inr, ℕ, ◌+◌, ◌-◌, ◌<◌, ◌≤◌, length, take, List, [], ◌∷◌, ◌++◌, refl, sym, ◌∙◌, ap, Option, Some, None, Result, Ok, Err, IfErr, append_assoc, append-nil, add-zero, arith}
 use Rattle.std.specs.Result.{result_err}
 use Rattle.std.specs.Io.KnownBytes.{Consumes, Keeps, IsAtEnd}
 use Rattle.std.proofs.lemmas.List.{length-take, length-append}
 use Rattle.rt_stamps.specs.declared.fault.Fault.{Fault}
 use Rattle.rt_stamps.specs.declared.fault.Fault.TheVariants.{NoMemory, ReadFault, WriteFault}
-use Rattle.rt_stamps.specs.declared.limits.TheConstants.{MOST_BYTES, MOST_READS}
+use Rattle.rt_stamps.specs.declared.limits.TheConstants.{MOST_BYTES, MOST_READS, PIECE_BYTES}
 use Rattle.rt_script.specs.Lines.{cut, complete_of, rest_of, last_of, lines_of}
 use Rattle.rt_stamps.specs.Words.{Word}
 use Rattle.rt_stamps.specs.Streams.{Stream}
 use Rattle.rt_script.specs.declared.answer.Answer.{Answer}
-use Rattle.rt_script.specs.Run.{Ran, RanFront, RanUnwritten, Ends}
+use Rattle.rt_script.specs.Run.{Ran, RanPast, RanUnwritten, Ends}
 use Rattle.rt_script.specs.Pieces.{kept, RanLines}
 use Rattle.rt_script.proofs.LinesLaws.{complete_append, rest_append, cut_rest}
-use Rattle.rt_script.proofs.RunLaws.{ran_then, front_then, unwritten_then, lines_append}
+use Rattle.rt_script.proofs.RunLaws.{ran_then, unwritten_then, lines_append}
 
 -- a run goes on: what was read of the script, and that its complete lines were run
 pub record Goes {S : Type 0} (gives : S → List Word → Answer → S → Type 0) (old new : S) (script left before after : Stream) (pending : List ℕ) (room turns : ℕ) : Type 0 where
@@ -165,7 +165,7 @@ ends_unwritten gives old new script left before after read eaten few reads ran w
 
 -- a line could not be stored
 ends_unstored : {S : Type 0} (gives : S → List Word → Answer → S → Type 0) (old new : S) (script left before after : Stream) (read : List ℕ)
-    → Consumes script.bytes left.bytes read → length read ≤ MOST_BYTES → left.calls ≤ script.calls + MOST_READS → RanFront gives old new before.bytes after.bytes (lines_of read)
+    → Consumes script.bytes left.bytes read → length read ≤ MOST_BYTES → left.calls ≤ script.calls + MOST_READS → RanPast gives old new before.bytes after.bytes read
     → after.failures ≡ before.failures → left.failures ≡ script.failures → Ends gives old new script left before after (Some NoMemory)
 ends_unstored gives old new script left before after read eaten few reads ran same same_read = record {
   read = read;
@@ -231,10 +231,10 @@ ends_whole gives old mid new script middle left before between after pending n b
 -- the run ends in a piece
 pub ends_stopped : {S : Type 0} (gives : S → List Word → Answer → S → Type 0) (old mid new : S) (script middle left before between after : Stream) (pending : List ℕ) (n : ℕ) (buf : List ℕ) (room turns : ℕ) (fault : Fault)
     → Goes gives old mid script middle before between pending room turns → turns < MOST_READS
-    → Consumes middle.bytes left.bytes (take n buf) → n ≤ length buf → n ≤ room → left.calls ≡ middle.calls + 1 → left.failures ≡ middle.failures + 0
+    → Consumes middle.bytes left.bytes (take n buf) → n ≤ length buf → n ≤ PIECE_BYTES → n ≤ room → left.calls ≡ middle.calls + 1 → left.failures ≡ middle.failures + 0
     → ((rest : List ℕ) → cut rest ≡ ([], rest) → pending ≡ kept rest → RanLines gives mid new between.bytes after.bytes between.failures after.failures (complete_of (rest ++ take n buf)) (lines_of (rest ++ take n buf)) (Err fault))
     → Ends gives old new script left before after (Some fault)
-ends_stopped gives old mid new script middle left before between after pending n buf room turns fault g few eaten within fits calls failures ran =
+ends_stopped gives old mid new script middle left before between after pending n buf room turns fault g few eaten within small fits calls failures ran =
     let piece = take n buf in
     let bounded = g.bounded in
     let called = g.calls in
@@ -244,7 +244,17 @@ ends_stopped gives old mid new script middle left before between after pending n
     let same = failures ∙ add-zero _ ∙ g.reads in
     elim (ran (rest_of g.read) (cut_rest g.read) g.rest) [
       | inl h ↦ rw h.0 (ends_unstored gives old new script left before after (g.read ++ piece) read short reads
-          (rw (lines_append g.read piece) (front_then gives old mid new _ _ _ _ _ g.ran h.1)) (h.2 ∙ g.writes) same)
+          (record {
+            front = g.read;
+            piece = piece;
+            is = refl;
+            short = omega (arith, length_front n buf within, small);
+            run = h.1.run;
+            line = h.1.line;
+            more = h.1.more;
+            split = lines_append g.read piece ∙ ap (λ lines. complete_of g.read ++ lines) h.1.split ∙ sym (append_assoc (complete_of g.read) h.1.run (h.1.line ∷ h.1.more));
+            ran = ran_then gives old mid new _ _ _ _ _ g.ran h.1.ran;
+          }) (h.2 ∙ g.writes) same)
       | inr h ↦ rw h.0 (ends_unwritten gives old new script left before after (g.read ++ piece) read short reads
           (inl (rw (complete_append g.read piece) (unwritten_then gives old mid new _ _ _ _ _ g.ran h.1)))
           (h.2 ∙ ap (λ k. k + 1) g.writes) same)

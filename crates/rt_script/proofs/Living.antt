@@ -24,7 +24,7 @@ use Rattle.rt_script.specs.declared.answer.Answer.TheVariants as answers
 use Rattle.rt_script.specs.declared.site_run.Outcome.{Outcome}
 use Rattle.rt_script.specs.Headline.{IsOfLog, IsOfNamed, IsRun, RunsLive}
 use Rattle.rt_script.specs.Lines.{answered, complete_of, lines_of}
-use Rattle.rt_script.specs.Run.{Ends, LineGives, Ran, RanFront, RanUnwritten, Runs}
+use Rattle.rt_script.specs.Run.{Ends, LineGives, Ran, RanPast, RanUnwritten, Runs}
 use Rattle.rt_script.specs.Site.{DestroyGives, IsDone, IsRefused, NamedFile, PathGives, ReceiveGives, Session, SiteGives, WordsGive, file_named}
 use Rattle.rt_script.specs.SiteRun.{Begins, BeginsWith, RunsScript}
 
@@ -117,8 +117,8 @@ module _ (files : List NamedFile) (old new : Session) (e : old.files ≡ files) 
   ran_on : (before after : Option (List ℕ)) (lines : List (List ℕ)) → Ran SiteGives old new before after lines → LivesOn (IsOfNamed files) old.site new.site
   ran_on before after lines r = (lines_on files (answered lines) r.answers old new r.runs e).0
 
-  front_on : (before after : Option (List ℕ)) (lines : List (List ℕ)) → RanFront SiteGives old new before after lines → LivesOn (IsOfNamed files) old.site new.site
-  front_on before after lines r = ran_on before after r.run r.ran
+  past_on : (before after : Option (List ℕ)) (read : List ℕ) → RanPast SiteGives old new before after read → LivesOn (IsOfNamed files) old.site new.site
+  past_on before after read r = ran_on before after (complete_of r.front ++ r.run) r.ran
 
   unwritten_on : (before after : Option (List ℕ)) (lines : List (List ℕ)) → RanUnwritten SiteGives old new before after lines → LivesOn (IsOfNamed files) old.site new.site
   unwritten_on before after lines r = (lines_on files (answered r.run) (r.answers ++ r.last ∷ []) old new r.runs e).0
@@ -128,7 +128,7 @@ module _ (files : List NamedFile) (old new : Session) (e : old.files ≡ files) 
   ends_on : (fault : Option Fault) (script left before after : Stream) → Ends SiteGives old new script left before after fault → LivesOn (IsOfNamed files) old.site new.site
   ends_on None script left before after h = ran_on before.bytes after.bytes (lines_of h.read) (h.whole refl).2
   ends_on (Some why) script left before after h = elim h.only [
-    | inl m ↦ front_on before.bytes after.bytes (lines_of h.read) (h.unstored (λ i. Some (m i)))
+    | inl m ↦ past_on before.bytes after.bytes h.read (h.unstored (λ i. Some (m i)))
     | inr other ↦ elim other [
       | inl r ↦ ran_on before.bytes after.bytes (complete_of h.read) (h.unread (λ i. Some (r i)))
       | inr w ↦ elim (h.unwritten (λ i. Some (w i))) [

@@ -1,7 +1,7 @@
 -- Runs of a script, over any relation that says what the words of a line may be answered in a state, and the state after it.
 use Rattle.std.specs.Prelude.{◌≡◌, ◌≢◌, ◌⊎◌, ℕ, ◌+◌, ◌≤◌, true, false, List, [], ◌∷◌, ◌++◌, length, flat_map, Option, Some, None, IfSome}
 use Rattle.std.specs.Io.KnownBytes.{Appends, Consumes, IsAtEnd}
-use Rattle.rt_stamps.specs.declared.limits.TheConstants.{MOST_BYTES, MOST_READS}
+use Rattle.rt_stamps.specs.declared.limits.TheConstants.{MOST_BYTES, MOST_READS, PIECE_BYTES}
 use Rattle.rt_stamps.specs.declared.fault.Fault.{Fault}
 use Rattle.rt_stamps.specs.declared.fault.Fault.TheVariants.{NoMemory, BadQuoting, ReadFault, WriteFault}
 use Rattle.rt_script.specs.Lines.{is_readable, answered, complete_of, lines_of}
@@ -42,6 +42,19 @@ pub record RanFront {S : Type 0} (gives : S → List Word → Answer → S → T
   pub split : lines ≡ run ++ line ∷ more
   pub ran : Ran gives old new before after run
 
+-- Of what was read the last piece goes on with a line, or has one, that could not be stored. All lines that were complete before that
+-- piece were run, and of the lines behind them those before one; the line of each answer was written.
+pub record RanPast {S : Type 0} (gives : S → List Word → Answer → S → Type 0) (old new : S) (before after : Option (List ℕ)) (read : List ℕ) : Type 0 where
+  pub front : List ℕ
+  pub piece : List ℕ
+  pub is : read ≡ front ++ piece
+  pub short : length piece ≤ PIECE_BYTES
+  pub run : List (List ℕ)
+  pub line : List ℕ
+  pub more : List (List ℕ)
+  pub split : lines_of read ≡ (complete_of front ++ run) ++ line ∷ more
+  pub ran : Ran gives old new before after (complete_of front ++ run)
+
 -- A front of these lines was run, up to one whose answer could not be written: the lines of the answers before it were
 -- written, up to here, and then a front of the line of its answer.
 pub record RanUnwritten {S : Type 0} (gives : S → List Word → Answer → S → Type 0) (old new : S) (before after : Option (List ℕ)) (lines : List (List ℕ)) : Type 0 where
@@ -70,8 +83,8 @@ pub record Ends {S : Type 0} (gives : S → List Word → Answer → S → Type 
   -- passed first, since each read but the last gives a byte
   pub unread : fault ≡ Some ReadFault → Ran gives old new before.bytes after.bytes (complete_of read)
   pub why_unread : fault ≡ Some ReadFault → (left.failures ≡ script.failures + 1) ⊎ (over ≢ [])
-  -- where a line couldn't be stored, those before it
-  pub unstored : fault ≡ Some NoMemory → RanFront gives old new before.bytes after.bytes (lines_of read)
+  -- where a line couldn't be stored, those that were complete before the last piece, and some more
+  pub unstored : fault ≡ Some NoMemory → RanPast gives old new before.bytes after.bytes read
   -- after a failed write, a front of what the complete lines are answered, or of all at the script's end
   pub unwritten : fault ≡ Some WriteFault → RanUnwritten gives old new before.bytes after.bytes (complete_of read)
       ⊎ (IsAtEnd left.bytes × RanUnwritten gives old new before.bytes after.bytes (lines_of read))

@@ -327,7 +327,8 @@ fn finish<C: Commands, W: Sink>(
 /// is memory for it. At a failed read, and past `MOST_BYTES` bytes, the run ends with
 /// `ReadFault` (it takes at most `MOST_READS` reads, which suffice for so many bytes), and what follows
 /// the last newline isn't run. After a failed write nothing more is run or written, and the run ends
-/// with `WriteFault`. Where a line can't be stored, it ends with `NoMemory`.
+/// with `WriteFault`. Where a line can't be stored, it ends with `NoMemory`; then all lines were run that were complete
+/// before the last piece, of at most `PIECE_BYTES` bytes, and perhaps some of that.
 pub fn run_lines<C: Commands + Drop, R: Source, W: Sink>(
     alloc: Global,
     mut site: C,

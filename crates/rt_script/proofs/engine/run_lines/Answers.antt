@@ -1,4 +1,5 @@
-use Rattle.std.proofs.Common.{◌<◌, length, ◌∙◌, arith}
+use Rattle.std.proofs.Common.{◌<◌, ◌≤◌, length, ◌∙◌, arith}
+use Rattle.rt_stamps.specs.declared.limits.TheConstants.{PIECE_BYTES}
 use Rattle.rt_script.proofs.EndsLaws.{goes_more, ends_failed, ends_over, ends_turns, ends_whole, ends_stopped}
 use Rattle.rt_script.proofs.RunLaws.{kept_short}
 use Rattle.rt_script.proofs.engine.run_lines.Goals as goal
@@ -29,8 +30,12 @@ feed-requires g c = rw c.loop.invariant.goes.rest (kept_short _)
 pub returns-in-Err-feed : goal.returns-in-Err-feed
 returns-in-Err-feed g c =
     let e = c.in-Ok.ensures in
+    let same = c.read_piece.auto.buf in
+    let filled = c.loop.invariant.buffer in
+    let within = e.within in
+    let small : c.in-Ok.n ≤ PIECE_BYTES = omega (arith, same, filled, within) in
     rw (c.stopped-in-Err-feed.ensures.site, c.stopped-in-Err-feed.ensures.fault)
-    (ends_stopped _ _ _ _ _ _ _ _ _ _ _ c.in-Ok.n c.read_piece.new.buf _ _ c.in-Err-feed.fault c.loop.invariant.goes c.loop-test.true e.bytes.0 e.within (omega (arith, e.bounded)) e.calls e.failures c.in-Err-feed.ensures.ran)
+    (ends_stopped _ _ _ _ _ _ _ _ _ _ _ c.in-Ok.n c.read_piece.new.buf _ _ c.in-Err-feed.fault c.loop.invariant.goes c.loop-test.true e.bytes.0 e.within small (omega (arith, e.bounded)) e.calls e.failures c.in-Err-feed.ensures.ran)
 
 pub loop-preserved : goal.loop-preserved
 loop-preserved g c =
