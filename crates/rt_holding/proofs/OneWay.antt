@@ -1,16 +1,15 @@
 -- A file that is received where no memory is wanting has one answer, and leaves one state.
-use Rattle.std.proofs.Common.{◌≡◌, ◌≢◌, ◌∙◌, ℕ, ◌+◌, List, [], ◌∷◌, length, Option, Ok, Some, Result, ap, inl, inr, refl, subst, sym}
+use Rattle.std.proofs.Common.{◌≡◌, ◌≢◌, ◌∙◌, ℕ, List, [], ◌∷◌, length, Option, Ok, Some, ap, inl, inr, refl, subst, sym}
 use Rattle.rt_stamps.specs.declared.fault.Fault.{Fault}
 use Rattle.rt_stamps.specs.declared.fault.Fault.TheVariants.{NoMemory}
 use Rattle.rt_ops.specs.Operations.{Operation}
-use Rattle.rt_ops.specs.Reading.{Reads}
 use Rattle.rt_ops.proofs.Unique.{one_reading}
 use Rattle.rt_holding.specs.declared.held.Offered.{Offered}
 use Rattle.rt_holding.specs.declared.held.Offered.TheVariants as offered
 use Rattle.rt_holding.specs.declared.receiving.Received.{Received}
-use Rattle.rt_holding.specs.Holding.{Holding, with_taken, taken_then, settled}
-use Rattle.rt_holding.specs.Memory.{FileFoundMemory, FilesGoOneWay, FoundMemory, OfferFoundMemory, OffersFoundMemory}
-use Rattle.rt_holding.specs.Receiving.{Offers, Receives, State, none_accepted, one_more, reply_at}
+use Rattle.rt_holding.specs.Holding.{Holding, with_taken}
+use Rattle.rt_holding.specs.Memory.{FilesGoOneWay, FoundMemory, OfferFoundMemory, OffersFoundMemory}
+use Rattle.rt_holding.specs.Receiving.{Offers, State, none_accepted, one_more, reply_at}
 use Rattle.rt_holding.specs.Replies.{Reply}
 use Rattle.rt_holding.specs.Replies as replies
 use Rattle.rt_holding.specs.Taken.{AreTried, IsOffered, IsRefused, all_after, holding, replied}

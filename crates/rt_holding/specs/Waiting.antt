@@ -6,7 +6,7 @@ use Rattle.rt_stamps.specs.declared.stamp.Span.{Span}
 use Rattle.rt_stamps.specs.declared.stamp.Stamp.{Stamp}
 use Rattle.rt_ops.specs.Operations.{Body, Insert, Delete, Tag, Operation}
 use Rattle.rt_oplog.specs.Logs.{known_end}
-use Rattle.rt_rga.specs.Answers.{Answer, New, Refused, answer_to, has_gap, passes_end}
+use Rattle.rt_rga.specs.Answers.{Answer, New, Refused, answer_to, has_gap}
 use Rattle.rt_rga.specs.Histories.{IsHistory}
 use Rattle.rt_rga.specs.Kept.{goes_past}
 use Rattle.rt_rga.specs.Orders.{AreIn}

@@ -1,5 +1,5 @@
 -- What another site lacks of a log.
-use Rattle.std.proofs.Common.{◌≡◌, ◌⊎◌, ◌∙◌, ◌↔◌, inl, inr, refl, sym, ap, subst, arith, zero, suc, ℕ, ◌+◌, ◌<◌, ◌≤◌, ◌==◌, nat_lt, max, not, Bool, true, false, cond, ◌&&◌, ◌||◌, List, [], ◌∷◌, ◌++◌, take, map, reverse, length, get_or, Some, None, unwrap_or, append-nil, Bor}
+use Rattle.std.proofs.Common.{◌≡◌, ◌⊎◌, ◌∙◌, inl, inr, refl, sym, ap, subst, arith, zero, suc, ℕ, ◌+◌, ◌<◌, ◌≤◌, ◌==◌, Bool, true, false, cond, ◌||◌, List, [], ◌∷◌, ◌++◌, take, map, reverse, length, get_or, Some, unwrap_or, Bor}
 use mathlib.Core.List.{reverse-cons}
 use Rattle.std.specs.declared.alloc.Global.{Global}
 use Rattle.std.specs.declared.collections.BTreeMap.{BTreeMap}
@@ -10,12 +10,11 @@ use Rattle.std.proofs.lemmas.Bool.{cases_eq}
 use Rattle.std.proofs.lemmas.Bool.Decides.{nat_tests}
 use Rattle.std.proofs.lemmas.List.{map-append, take_more}
 use Rattle.std.proofs.lemmas.List.Folds.{list_any-append}
-use Rattle.std.proofs.lemmas.List.Elements.{filter-append}
 use Rattle.rt_stamps.specs.Stamps.{is_before}
 use Rattle.rt_stamps.specs.declared.limits.TheConstants.{GREATEST_COUNT}
 use Rattle.rt_ops.specs.declared.op.Op.{Op}
 use Rattle.rt_ops.specs.Operations.{Operation, last_count, stamp_of}
-use Rattle.rt_oplog.specs.Logs.{Has, IsFalling, IsLog, known_end}
+use Rattle.rt_oplog.specs.Logs.{Has, IsFalling, known_end}
 use Rattle.rt_oplog.specs.Outcomes.{IsLogOf}
 use Rattle.rt_oplog.proofs.Pushes.{sound_last}
 use Rattle.rt_oplog.proofs.Sets.{none_at, same_set, split}

@@ -1,13 +1,13 @@
 -- Operations that a site made of drafts: what is so of these where the log is a history afterwards.
-use Rattle.std.proofs.Common.{◌≡◌, ◌∙◌, ℕ, suc, ◌+◌, ◌≤◌, true, false, ◌&&◌, ◌==◌, inl, List, [], ◌∷◌, ap, arith, length, nat_le, refl, subst, sym}
+use Rattle.std.proofs.Common.{◌≡◌, ◌∙◌, ℕ, suc, ◌+◌, ◌≤◌, true, ◌&&◌, List, [], ◌∷◌, ap, arith, length, nat_le, refl, subst, sym}
 use Rattle.std.proofs.lemmas.Bool.Decides.{nat_tests}
 use Rattle.rt_stamps.specs.declared.limits.TheConstants.{GREATEST_COUNT}
 use Rattle.rt_stamps.specs.Stamps.{is_before}
 use Rattle.rt_ops.specs.Operations.{Body, Operation, stamp_of}
 use Rattle.rt_edits.specs.Flat.{Flat}
-use Rattle.rt_oplog.specs.Logs.{Has, known_end, with_operation}
+use Rattle.rt_oplog.specs.Logs.{with_operation}
 use Rattle.rt_rga.specs.Cells.{cells_of}
-use Rattle.rt_rga.specs.Drafts.{next_operation, operations_of, with_drafts}
+use Rattle.rt_rga.specs.Drafts.{next_operation, with_drafts}
 use Rattle.rt_rga.specs.Histories.{IsHistory, greatest_last_count}
 use Rattle.rt_rga.specs.Requests.{MayBeMade, fit, last_count_after}
 use Rattle.rt_rga.proofs.Drafting.{newest}

@@ -20,11 +20,11 @@ use Rattle.rt_peers.specs.ViewStep.{Outcome}
 
 -- ANSWERS
 
-got : {T : Type 0} → T → Result T Fault → T
+abbrev got : {T : Type 0} → T → Result T Fault → T
 got t (Ok value) = value
 got t (Err fault) = t
 
-fault_in : {T : Type 0} → Fault → Result T Fault → Fault
+abbrev fault_in : {T : Type 0} → Fault → Result T Fault → Fault
 fault_in other (Ok value) = other
 fault_in other (Err fault) = fault
 
@@ -78,7 +78,7 @@ module _ (old : State) (one two : Result (List Word) Fault) (new left : State) w
       (λ l e. requests_once (at h.0) old one two new left h.2 l f e) k.2 g
 
   either_once : (b : Bool) (A B C D : Type 0) (P : B → Type 0) (Q : D → Type 0) → (A → C → Same) → ((h : B) (k : D) → P h → Q k → Same)
-      → (h : MatchBool b A B) (k : MatchBool b C D) → OnFalse P b h → OnFalse Q b k → Same
+      → (h : MatchBool b A B) (k : MatchBool b C D) → OnFalse A B P b h → OnFalse C D Q b k → Same
   either_once true A B C D P Q f g h k p q = f h k
   either_once false A B C D P Q f g h k p q = g h k p q
 

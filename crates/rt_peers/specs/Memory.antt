@@ -28,9 +28,9 @@ RequestFoundMemory outcome old result new h = (result ≢ Err NoMemory) × Tries
 -- A COMMAND
 
 -- something holds of the second of two cases
-abbrev pub OnFalse : {A B : Type 0} → (B → Type 0) → (b : Bool) → MatchBool b A B → Type 0
-OnFalse P true h = Unit {0}
-OnFalse P false h = P h
+abbrev pub OnFalse : (A B : Type 0) → (B → Type 0) → (b : Bool) → MatchBool b A B → Type 0
+OnFalse A B P true h = Unit {0}
+OnFalse A B P false h = P h
 
 abbrev pub WidgetFoundMemory : (place : ℕ) (words : List Word) (old : State) (result : Result (List Word) Fault) (new : State)
     → WidgetGives place words old result new → Type 0
@@ -38,16 +38,16 @@ WidgetFoundMemory place words old result new h = RequestFoundMemory (by_widget p
 
 abbrev pub AskingFoundMemory : (place : ℕ) (name : Word) (words : List Word) (old : State) (result : Result (List Word) Fault) (new : State)
     → AskingGives place name words old result new → Type 0
-AskingFoundMemory place name words old result new h = OnFalse (WidgetFoundMemory place (name ∷ words) old result new) (bytes_eq name (codes "cget")) h
+AskingFoundMemory place name words old result new h = OnFalse _ _ (WidgetFoundMemory place (name ∷ words) old result new) (bytes_eq name (codes "cget")) h
 
 abbrev pub OwnFoundMemory : (place : ℕ) (name : Word) (words : List Word) (old : State) (result : Result (List Word) Fault) (new : State)
     → OwnGives place name words old result new → Type 0
-OwnFoundMemory place name words old result new h = OnFalse (AskingFoundMemory place name words old result new) (bytes_eq name (codes "configure")) h
+OwnFoundMemory place name words old result new h = OnFalse _ _ (AskingFoundMemory place name words old result new) (bytes_eq name (codes "configure")) h
 
 abbrev pub CommandFoundMemory : (path : Word) (place : ℕ) (words : List Word) (old : State) (result : Result (List Word) Fault) (new : State)
     → CommandGives path place words old result new → Type 0
 CommandFoundMemory path place [] old result new h = WidgetFoundMemory place [] old result new h
-CommandFoundMemory path place (name ∷ words) old result new h = OnFalse (OwnFoundMemory place name words old result new) (bytes_eq name (codes "peer")) h
+CommandFoundMemory path place (name ∷ words) old result new h = OnFalse _ _ (OwnFoundMemory place name words old result new) (bytes_eq name (codes "peer")) h
 
 -- PATH COMMAND WORDS
 abbrev pub GivesFoundMemory : (path : Word) (words : List Word) (old : State) (result : Result (List Word) Fault) (new : State)

@@ -1,6 +1,6 @@
 use Rattle.rt_peers.specs.SiteStep.{log_of}
 use Rattle.rt_peers.proofs.Exchanging.{exchange_agrees, receives_whole}
-use Rattle.rt_peers.proofs.Sending.{receives_lacking}
+use Rattle.rt_peers.proofs.Sent.{receives_lacking}
 use Rattle.rt_peers.proofs.laws.exchange.Goals as goal
 
 pub returns : goal.returns

@@ -1,4 +1,4 @@
-use Rattle.std.proofs.Common.{◌≡◌, ◌∙◌, ap, map, reverse, take}
+use Rattle.std.proofs.Common.{◌∙◌, ap, map}
 use Rattle.std.specs.List.{filter}
 use Rattle.std.proofs.lemmas.List.{take_all}
 use Rattle.rt_peers.specs.Lacking.{is_past, known_in}

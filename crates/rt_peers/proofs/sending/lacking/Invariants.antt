@@ -1,4 +1,4 @@
-use Rattle.std.proofs.Common.{◌≡◌, ℕ, take, map}
+use Rattle.std.proofs.Common.{◌≡◌, take, map}
 use Rattle.std.specs.List.{filter}
 use Rattle.rt_peers.specs.Lacking.{is_past, known_in}
 use Rattle.rt_peers.proofs.sending.lacking.Given as goal

@@ -1,5 +1,5 @@
 -- A site that holds nothing receives of the log of another what it lacks.
-use Rattle.std.proofs.Common.{◌≡◌, ◌∙◌, ◌⊎◌, ◌↔◌, ◌<◌, ◌≤◌, ℕ, Bool, true, false, cond, nat_lt, List, [], ◌∷◌, ◌++◌, None, Ok, ap, append-nil, arith, inl, inr, refl, reverse, subst, sym}
+use Rattle.std.proofs.Common.{◌≡◌, ◌∙◌, ◌⊎◌, ◌↔◌, ◌<◌, ◌≤◌, ℕ, Bool, true, false, cond, List, [], ◌∷◌, ◌++◌, Ok, ap, append-nil, arith, inl, inr, refl, reverse, subst, sym}
 use mathlib.Core.List.{reverse-cons}
 use Rattle.std.specs.List.{filter}
 use Rattle.std.proofs.lemmas.Bool.Decides.{nat_tests}
@@ -12,13 +12,11 @@ use Rattle.rt_rga.specs.Orders.{ComeInTime, HasBasesIn}
 use Rattle.rt_rga.proofs.Accepting.{clash_from_end, sound_in}
 use Rattle.rt_rga.proofs.Joining.{all_free, joined_free_histories, union_history}
 use Rattle.rt_rga.proofs.Later.{bad_prev}
-use Rattle.rt_editing.specs.Edited.{Edited}
 use Rattle.rt_editing.specs.Edits.{text_with_new}
-use Rattle.rt_holding.specs.declared.receiving.Received.{Received}
 use Rattle.rt_holding.proofs.Exchanged.{HasLog, by_stamp, in_reverse, of_reverse, part_ends, part_joins}
-use Rattle.rt_peers.specs.Exchange.{AreApart, IsFileOf, ReceivesLacking}
+use Rattle.rt_peers.specs.Exchange.{AreApart, ReceivesLacking}
 use Rattle.rt_peers.specs.Lacking.{is_past, since}
-use Rattle.rt_peers.specs.SiteStep.{SiteReceives, log_of, text_limit, text_log}
+use Rattle.rt_peers.specs.SiteStep.{log_of, text_limit, text_log}
 use Rattle.rt_peers.specs.State.{State}
 use Rattle.rt_peers.proofs.Exchanging.{holder}
 use Rattle.rt_peers.proofs.Lacking.{filter_has, has_filter}
