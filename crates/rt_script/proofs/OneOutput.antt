@@ -1,5 +1,5 @@
 -- Lines for which no memory was wanting have one answer each, and so a whole run has one output.
-use Rattle.std.proofs.Common.{◌≡◌, ◌≢◌, ◌∙◌, ℕ, Bool, true, false, List, [], ◌∷◌, ◌++◌, Option, None, Some, Ok, Err, Result, ap, append-nil, flat_map, inl, inr, refl, subst, sym, codes}
+use Rattle.std.proofs.Common.{◌≡◌, ◌≢◌, ◌∙◌, ◌⊎◌, ℕ, Bool, true, false, List, [], ◌∷◌, ◌++◌, Option, None, Some, Ok, Err, Result, ap, append-nil, flat_map, inl, inr, refl, subst, sym, codes}
 use Rattle.std.specs.Borrow.{Bor}
 use Rattle.std.specs.Io.KnownBytes.{Appends, Consumes, IsAtEnd}
 use Rattle.std.specs.Prelude.{MatchOption, MatchResult, option_map}
@@ -84,7 +84,7 @@ module _ (old : State) (one two : Answer) (new left : State) where
 -- a line that is read and spells words isn't one that isn't read or spells none
 both_ways : (line : List ℕ) (words : List Word) → is_readable line ≡ true → Spells line words → (is_readable line ≡ false) ⊎ IsBadlyQuoted line → ⊥
 both_ways line words e s (inl f) = cc (e, f)
-both_ways line words e s (inr no) = no words s
+both_ways line words e s (inr bad) = bad words s
 
 line_once : (line : List ℕ) (old : Session) (one two : Answer) (new left : Session) (h : LineGives SiteGives old line one new) (k : LineGives SiteGives old line two left)
     → LineFoundMemory old line one new h → LineFoundMemory old line two left k → (one ≡ two) × (new ≡ left)
@@ -179,7 +179,7 @@ one_output number given end other run again written rewritten v w =
     let same = subst (λ (s : State). (l : Runs SiteGives (record { site = s; files = given.files }) (answered (lines_of given.script)) two.given
     (record { site = other; files = given.files }))
     → LinesFoundMemory (record { site = s; files = given.files }) (answered (lines_of given.script)) two.given (record { site = other; files = given.files }) l
-    → (one.given ≡ two.given) × ◌≡◌ {A = Session} (record { site = end; files = given.files }) (record { site = other; files = given.files })) (sym start)
+    → (one.given ≡ two.given) × ◌≡◌ {A = Session} (record { site = end; files = given.files }) (record { site = other; files = given.files })) start
     (λ l m. lines_once (answered (lines_of given.script)) one.given two.given (record { site = run.start; files = given.files })
     (record { site = end; files = given.files }) (record { site = other; files = given.files }) one.runs l one.found m) two.runs two.found in
     (one.wrote ∙ ap (flat_map reply_line) same.0 ∙ sym two.wrote, ap (λ (s : Session). s.site) same.1)

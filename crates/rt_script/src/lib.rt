@@ -4,6 +4,7 @@
 pub mod answer;
 pub mod commands;
 pub mod engine;
+pub mod examples;
 pub mod laws;
 pub mod reply;
 pub mod scripts;
