@@ -12,6 +12,8 @@ Insert = collections.namedtuple("Insert", "count site prev after text tags")
 Delete = collections.namedtuple("Delete", "count site prev stamps")
 Tag = collections.namedtuple("Tag", "count site prev stamps on name")
 ROOT_STAMP, FINAL_STAMP = (0, 0), (1, 0)
+# of an Insert
+MOST_TAGS = 64
 # what is answered to an operation that is offered
 NEW, REPEAT, EARLY, CONFLICT, BAD_TARGET = "new", "repeat", "early", "! 35 Conflict", "! 37 BadTarget"
 TRUTHS = {"1": True, "true": True, "yes": True, "on": True, "0": False, "false": False, "no": False, "off": False}
@@ -92,6 +94,12 @@ def cells(ops):
     return [(here, chars[here], here not in gone, frozenset(t for t, on in said[here].items() if on)) for here in order if here in chars]
 
 
+def listed_tags(tags):
+    """The shared tags that an Insert takes along, and those for which a Tag follows."""
+    names = sorted(shared(tags), key=str.encode)
+    return frozenset(names[:MOST_TAGS]), names[MOST_TAGS:]
+
+
 def reading(ops):
     """The visible characters of a history, with their stamps and shared tags."""
     return [(here, char, tags) for here, char, is_visible, tags in cells(ops) if is_visible]
@@ -127,9 +135,12 @@ class Site(Widget):
     # own edits
 
     def has_inserted(self, p, new, tags):
-        op = self.make(Insert, self.stamps[p - 1] if p else ROOT_STAMP, new, shared(tags))
+        first, rest = listed_tags(tags)
+        op = self.make(Insert, self.stamps[p - 1] if p else ROOT_STAMP, new, first)
         self.stamps[p:p] = made(op)
         self.put_in += made(op)
+        for name in rest:
+            self.make(Tag, made(op), True, name)
 
     def shown_at(self, places):
         """What is visible at places: stamps, characters and shared tags."""
@@ -158,8 +169,11 @@ class Site(Widget):
             self.take(self.own(Delete, [here for here, *_ in taken]))
         renamed = []
         for old, char, tags in sorted(action.taken, key=lambda t: order.index(t[0])):
-            op = self.own(Insert, old, char, tags)
+            first, rest = listed_tags(tags)
+            op = self.own(Insert, old, char, first)
             self.take(op)
+            for name in rest:
+                self.take(self.own(Tag, made(op), True, name))
             renamed.append((old, stamp(op)))
         return Action(action.number, action.kind, [new for _, new in renamed], taken), renamed
 
@@ -297,7 +311,7 @@ class Site(Widget):
         for op in ops:
             if at + len(record(op)) > size:
                 break
-            again = op in self.ops or op in self.held
+            again = op in self.ops or op in self.held and self.answer_to(op) == EARLY
             more, fault = self.accept(op)
             if fault:
                 break

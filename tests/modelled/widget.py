@@ -257,10 +257,9 @@ class Widget:
 
     def ranges(self, name):
         """The longest runs of characters that have a tag."""
-        places = [p for p in range(len(self.text)) if name in self.tags[p]]
-        firsts = [p for p in places if p - 1 not in places]
-        lasts = [p for p in places if p + 1 not in places]
-        return list(zip(firsts, [p + 1 for p in lasts]))
+        has = [False, *(name in tags for tags in self.tags), False]
+        borders = [p for p in range(len(has) - 1) if has[p] != has[p + 1]]
+        return list(zip(borders[::2], borders[1::2]))
 
     def positions(self, ranges):
         return [self.position(p) for r in ranges for p in r]
@@ -401,10 +400,11 @@ class Widget:
         shown = [kind for kind in ("-tag", "-mark", "-text") if not switches or "-all" in switches or kind in switches]
         # the elements at each place
         found = {p: [] for p in [*range(a, b), *([n] if b == n else [])]}
+        ranges = [(name, *r) for name in self.names for r in self.ranges(name)]
         for p, elements in found.items():
             if "-tag" in shown:
-                elements += [("tagoff", name) for name in self.names for r in self.ranges(name) if r[1] == p]
-                elements += [("tagon", name) for name in self.names for r in self.ranges(name) if r[0] == p]
+                elements += [("tagoff", name) for name, _, last in ranges if last == p]
+                elements += [("tagon", name) for name, first, _ in ranges if first == p]
             if "-mark" in shown:
                 elements += [("mark", m[3]) for m in self.ordered() if m[0] == p]
         if "-text" in shown:

@@ -1,0 +1,94 @@
+"""The plain model of a site that finds no memory once, and the ways that a line may go for it."""
+import collections
+import copy
+
+from modelled.peers import Peers
+from modelled.sites import EARLY, NEW, Insert, record, stamp
+from modelled.words import BAD_COMMAND, NO_FILE, Refused, words_of
+from refusing.runs import NO_MEMORY
+
+# a file of operations, of which so many bytes are there, and its fault, if it has one behind them
+File = collections.namedtuple("File", "ops size fault", defaults=(None,))
+
+
+class Wanting(Peers):
+    """A site with the files that it may receive. Of the operations that are offered to it one may find no memory, or of the held ones
+    that it takes; then others stay too, or are taken."""
+
+    def __init__(self, site, files):
+        super().__init__(site)
+        self.files = files
+        self.offers = self.tries = 0
+        self.refused_offer = self.refused_try = None
+        self.stays = False
+
+    def accept(self, op):
+        self.offers += 1
+        if isinstance(op, Insert) and op.after >= stamp(op):
+            return 0, "! 34 BadStamp"
+        answer = self.answer_to(op)
+        takes_memory = answer == NEW or answer == EARLY and op not in self.held
+        return (0, NO_MEMORY) if takes_memory and self.offers == self.refused_offer else super().accept(op)
+
+    def settle(self):
+        count, waiting, has_failed = 0, [], False
+        while ready := [op for op in self.held if op not in waiting and self.answer_to(op) != EARLY]:
+            op = min(ready, key=stamp)
+            if self.answer_to(op) == NEW:
+                self.tries += 1
+                if self.tries == self.refused_try or has_failed and self.stays:
+                    has_failed = True
+                    waiting.append(op)
+                    continue
+                self.take_and_note(op)
+                count += 1
+            self.held.remove(op)
+        return count
+
+    def receive(self, file):
+        line = super().receive((file.ops, file.size))
+        if not file.fault or line[0] != "=":
+            return line
+        new, repeats, *held = line.split()[1:]
+        return " ".join([file.fault, f"new {new} repeat {repeats}", *(f"held {number}" for number in held)])
+
+    def answered(self, line):
+        """The reply line to a line of a script."""
+        try:
+            words = words_of(line)
+        except Refused as fault:
+            return str(fault)
+        if words[0] != "receive":
+            # a path by itself names no command
+            return self.reply_to(words if words[1:] or words[0] == "destroy" else [*words, ""])
+        if len(words) != 2:
+            return BAD_COMMAND
+        return self.receive(self.files[words[1]]) if words[1] in self.files else NO_FILE
+
+
+def wants(site, line, offer=None, held=None, stays=False):
+    """What a line is answered by a site of which an operation that is offered, or a held one, finds no memory; and the site after it."""
+    site = copy.deepcopy(site)
+    site.offers = site.tries = 0
+    site.refused_offer, site.refused_try, site.stays = offer, held, stays
+    reply = site.answered(line)
+    tried = site.tries
+    site.refused_offer = site.refused_try = None
+    return reply, site, tried
+
+
+def ways(site, line):
+    """What a line may be answered while one allocation is refused, with the site after it: first as if none were; `NoMemory` with the site
+    as it was; of a file some operations are taken, and others aren't."""
+    reply, after, tried = wants(site, line)
+    found = [(reply, after), (NO_MEMORY, copy.deepcopy(site))]
+    file = site.files.get(line.split()[1]) if line.startswith("receive ") else None
+    if file:
+        nothing = f"{NO_MEMORY} at 0 new 0 repeat 0" + (f" held {len(site.held)}" if site.held else "")
+        found.append((nothing, copy.deepcopy(site)))
+        found += [wants(site, line, offer=number)[:2] for number in range(1, len(file.ops) + 1)]
+    return found + [wants(site, line, held=number, stays=stays)[:2] for number in range(1, tried + 1) for stays in (True, False)]
+
+
+def size_of(ops):
+    return 8 + sum(len(record(op)) for op in ops)
