@@ -1,5 +1,6 @@
 pub mod Adjacent
 pub mod Lengths
+pub mod Offsets
 pub mod Parts
 pub mod Readings
 pub mod Spans

@@ -1,5 +1,5 @@
 // Laws of files of operations, each the contract of a function that does nothing.
-ghost use Rattle.std.specs.Prelude.{◌≡◌, ℕ, ◌+◌, ◌≤◌, List, Option, Some, None};
+ghost use Rattle.std.specs.Prelude.{◌≡◌, ℕ, ◌+◌, ◌<◌, ◌≤◌, List, length, take, Option, Some, None, slice_get};
 ghost use Rattle.std.specs.List.{AllByRecursion};
 ghost use Rattle.rt_stamps.specs.declared.fault.Fault.{Fault};
 ghost use Rattle.rt_stamps.specs.declared.fault.Fault.TheVariants.{ReadFault};
@@ -20,6 +20,14 @@ pub fn files()
         × (bytes ≡ spelling ops) }
     ensures once { (bytes : List ℕ) (one other : List Operation) (offsets places : List ℕ) (a b : Option (Fault × ℕ))
         → Reads bytes one offsets a → Reads bytes other places b → (one ≡ other) × (offsets ≡ places) × (a ≡ b) }
+{}
+
+/// Each operation has one offset, which is where its record begins: as many bytes as the file of the
+/// operations before it has.
+pub fn offsets()
+    ensures begins { (ops : List Operation) (place : ℕ) → place < length ops
+        → slice_get (offsets_from 8 ops) place ≡ Some (length (spelling (take place ops))) }
+    ensures count { (ops : List Operation) → length (offsets_from 8 ops) ≡ length ops }
 {}
 
 /// What is told of a reader, whose bytes may be known or not, are operations that a file can have, each
