@@ -24,16 +24,22 @@ SettlesAlone =
     (limit : ℕ) (s t : Holding) (more : List Operation) (h : Settles limit [] s t more) → FoundMemory h
     → (t ≡ settled limit s) × (more ≡ taken_then limit s)
 
+-- and from each state such tries lead there
+abbrev pub SettledFindsMemory : Type 0
+SettledFindsMemory = (limit : ℕ) (s : Holding) → (h : Settles limit [] s (settled limit s) (taken_then limit s)) × FoundMemory h
+
 module _ {Site : Type 0} (log : Site → List Operation) (limit : Site → ℕ) (after : Operation → Site → Site) where
   -- behind an operation that was offered
-  abbrev pub OfferFoundMemory : (most : ℕ) (op : Operation) (answer : Offered) (old : Site) (held : List Operation) (new : Site) (left : List Operation)
+  abbrev pub OfferFoundMemory : (most : ℕ) (op : Operation) (answer : Offered)
+      (old : Site) (held : List Operation) (new : Site) (left : List Operation)
       → IsOffered log after most op answer old held new left → Type 0
   OfferFoundMemory most op (offered.New more) old held new left h = FoundMemory h.settles
   OfferFoundMemory most op offered.Repeat old held new left h = Unit {0}
   OfferFoundMemory most op offered.Held old held new left h = Unit {0}
 
   -- no operation of a file was refused for want of memory, and each try behind them found some
-  abbrev pub OffersFoundMemory : (ops : List Operation) (offsets : List ℕ) (ending : Option (Fault × ℕ)) (old : State Site) (received : Received) (new : State Site)
+  abbrev pub OffersFoundMemory : (ops : List Operation) (offsets : List ℕ) (ending : Option (Fault × ℕ))
+      (old : State Site) (received : Received) (new : State Site)
       → Offers log limit after ops offsets ending old received new → Type 0
   OffersFoundMemory [] offsets ending old received new h = Unit {0}
   OffersFoundMemory (op ∷ ops) [] ending old received new h = ⊥

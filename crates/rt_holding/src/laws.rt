@@ -2,7 +2,7 @@
 ghost use Rattle.std.specs.Prelude.{ℕ, List};
 ghost use Rattle.rt_ops.specs.Operations.{Operation};
 ghost use Rattle.rt_holding.specs.Arrivals.{ComesToTheSame, by_stamp};
-ghost use Rattle.rt_holding.specs.Memory.{FilesGoOneWay, SettlesAlone};
+ghost use Rattle.rt_holding.specs.Memory.{FilesGoOneWay, SettledFindsMemory, SettlesAlone};
 ghost use Rattle.rt_holding.specs.Runs.{AreRising};
 ghost use Rattle.rt_holding.specs.Waiting.{LooksAreEnough, UnpassedStay};
 ghost use Rattle.rt_holding.specs.Due.{UnpassedAreKept, LeftOnesStay, TryingDueSettles, PassedAreFound};
@@ -67,6 +67,7 @@ pub fn arrivals()
 /// state.
 pub fn one_way<Site>()
     ensures settles { SettlesAlone }
+    ensures found { SettledFindsMemory }
     ensures files { (log : Site → List Operation) (limit : Site → ℕ) (after : Operation → Site → Site)
         → FilesGoOneWay log limit after }
 {}
