@@ -36,7 +36,7 @@ runs_on site limit requests more s t u ops later (next {request = request} {requ
 -- ANSWERS BY REPLIES
 
 -- a reply, by whether the answer is that it comes too early, whether it is held, and whether too many are
-abbrev told : Bool → Bool → Bool → Answer → Reply
+abbrev pub told : Bool → Bool → Bool → Answer → Reply
 told early held full a = cond (not early) (as_reply a) (cond held replies.Repeat (cond full (replies.Refused WaitingFull) replies.Held))
 
 early_not_new : (a : Answer) → is_early a ≡ true → is_new a ≡ false
@@ -44,7 +44,7 @@ early_not_new New e = absurd (cc e)
 early_not_new Repeat e = refl
 early_not_new (Refused fault) e = refl
 
-new_if : (early held full : Bool) (a : Answer) → told early held full a ≡ replies.New → is_new a ≡ true
+pub new_if : (early held full : Bool) (a : Answer) → told early held full a ≡ replies.New → is_new a ≡ true
 new_if false held full New k = refl
 new_if false held full Repeat k = absurd (cc k)
 new_if false held full (Refused fault) k = absurd (cc k)

@@ -6,6 +6,7 @@ pub mod Came
 pub mod Drafts
 pub mod Due
 pub mod Exchanged
+pub mod Finding
 pub mod Going
 pub mod Greatest
 pub mod Keeping

@@ -53,11 +53,15 @@ after_drop a op s e f = let (g, h) = either_false (is_early a) (has_no_room a) f
 
 -- WITH AMPLE MEMORY
 
+-- tries lead from a state to another, each of which found memory
+abbrev pub Finds : ℕ → Holding → Holding → List Operation → Type 0
+Finds limit s t more = (h : Settles limit [] s t more) × FoundMemory h
+
 abbrev Settled : ℕ → Holding → Holding → List Operation → Type 0
-Settled limit s t more = Settles limit [] s t more × (next_held limit [] t ≡ None)
+Settled limit s t more = Finds limit s t more × (next_held limit [] t ≡ None)
 
 tried_settles : (limit n : ℕ) (s : Holding) → length s.held ≤ n → Settled limit s (tried limit n s) (all_tried limit n s)
-tried_settles limit zero s l = let e = nothing_next limit s.log s.held l in (rest e, e)
+tried_settles limit zero s l = let e = nothing_next limit s.log s.held l in ((rest e, tt), e)
 tried_settles limit (suc n) s l = by (next_held limit [] s) refl (λ op u m. tried_settles limit n u m)
   where
     one : (op : Operation) (a : Answer) → a ≡ answer_within limit op s.log → next_held limit [] s ≡ Some op
@@ -69,27 +73,32 @@ tried_settles limit (suc n) s l = by (next_held limit [] s) refl (λ op u m. tri
         let u = after_answer a op s in
         split (is_new a)
         (λ g. let q = after_new a op s g in
-        let r = f u (subst (λ v. length v.held ≤ n) (sym q) (omega (arith, m, l))) in (
-          subst (λ b. Settles limit [] s (tried limit n u) (cond b (op ∷ all_tried limit n u) (all_tried limit n u))) (sym g)
-              (takes e (subst (λ x. is_new x ≡ true) w g) (subst (λ v. Settles limit [] v (tried limit n u) (all_tried limit n u)) q r.0)),
+        let r = f u (subst (λ v. length v.held ≤ n) (sym q) (omega (arith, m, l))) in
+        let later = subst (λ v. Finds limit v (tried limit n u) (all_tried limit n u)) q r.0 in (
+          subst (λ b. Finds limit s (tried limit n u) (cond b (op ∷ all_tried limit n u) (all_tried limit n u))) (sym g)
+              (takes e (subst (λ x. is_new x ≡ true) w g) later.0, later.1),
           r.1,
         ))
         (λ g. let k = left_not (is_new (answer_within limit op s.log)) (stays (answer_within limit op s.log)) (holds [] op) i.1 in
         let q = after_drop a op s g (subst (λ x. stays x ≡ false) (sym w) k) in
-        let r = f u (subst (λ v. length v.held ≤ n) (sym q) (omega (arith, m, l))) in (
-          subst (λ b. Settles limit [] s (tried limit n u) (cond b (op ∷ all_tried limit n u) (all_tried limit n u))) (sym g)
-              (drops e (subst (λ x. is_new x ≡ false) w g) (subst (λ v. Settles limit [] v (tried limit n u) (all_tried limit n u)) q r.0)),
+        let r = f u (subst (λ v. length v.held ≤ n) (sym q) (omega (arith, m, l))) in
+        let later = subst (λ v. Finds limit v (tried limit n u) (all_tried limit n u)) q r.0 in (
+          subst (λ b. Finds limit s (tried limit n u) (cond b (op ∷ all_tried limit n u) (all_tried limit n u))) (sym g)
+              (drops e (subst (λ x. is_new x ≡ false) w g) later.0, later.1),
           r.1,
         ))
 
     by : (r : Option Operation) → next_held limit [] s ≡ r → ((op : Operation) (u : Holding) → length u.held ≤ n → Settled limit u (tried limit n u) (all_tried limit n u))
         → Settled limit s (elim r [ None ↦ s | Some op ↦ tried limit n (after_answer (answer_within limit op s.log) op s) ])
         (elim r [ None ↦ [] | Some op ↦ cond (is_new (answer_within limit op s.log)) (op ∷ all_tried limit n (after_answer (answer_within limit op s.log) op s)) (all_tried limit n (after_answer (answer_within limit op s.log) op s)) ])
-    by None e f = (rest e, e)
+    by None e f = ((rest e, tt), e)
     by (Some op) e f = one op (answer_within limit op s.log) refl e (f op)
 
+pub settled_finds : (limit : ℕ) (s : Holding) → Finds limit s (settled limit s) (taken_then limit s)
+settled_finds limit s = (tried_settles limit (length s.held) s (omega arith)).0
+
 pub settled_settles : (limit : ℕ) (s : Holding) → Settles limit [] s (settled limit s) (taken_then limit s)
-settled_settles limit s = (tried_settles limit (length s.held) s (omega arith)).0
+settled_settles limit s = (settled_finds limit s).0
 
 pub none_left : (limit : ℕ) (s : Holding) → next_held limit [] (settled limit s) ≡ None
 none_left limit s = (tried_settles limit (length s.held) s (omega arith)).1

@@ -2,7 +2,7 @@
 ghost use Rattle.std.specs.Prelude.{ℕ, List};
 ghost use Rattle.rt_ops.specs.Operations.{Operation};
 ghost use Rattle.rt_holding.specs.Arrivals.{ComesToTheSame, by_stamp};
-ghost use Rattle.rt_holding.specs.Memory.{FilesGoOneWay, SettlesAlone};
+ghost use Rattle.rt_holding.specs.Memory.{FilesFindMemory, FilesGoOneWay, OffersFindMemory, SettledFindsMemory, SettlesAlone};
 ghost use Rattle.rt_holding.specs.Runs.{AreRising};
 ghost use Rattle.rt_holding.specs.Waiting.{LooksAreEnough, UnpassedStay};
 ghost use Rattle.rt_holding.specs.Due.{UnpassedAreKept, LeftOnesStay, TryingDueSettles, PassedAreFound};
@@ -64,9 +64,15 @@ pub fn arrivals()
 {}
 
 /// Where no memory was wanting, held operations settle in one way, and a received file has one answer and leaves one
-/// state.
+/// state. Such calls are there: from each state held operations settle so, and an operation is offered so that isn't
+/// refused, and a file is received so that is read.
 pub fn one_way<Site>()
     ensures settles { SettlesAlone }
+    ensures found { SettledFindsMemory }
     ensures files { (log : Site → List Operation) (limit : Site → ℕ) (after : Operation → Site → Site)
         → FilesGoOneWay log limit after }
+    ensures offers_found { (log : Site → List Operation) (limit : Site → ℕ) (after : Operation → Site → Site)
+        → OffersFindMemory log limit after }
+    ensures files_found { (log : Site → List Operation) (limit : Site → ℕ) (after : Operation → Site → Site)
+        → FilesFindMemory log limit after }
 {}

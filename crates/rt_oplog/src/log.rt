@@ -237,8 +237,9 @@ impl OpLog {
         (&self.ops, self.order.blocks())
     }
 
-    /// The operations by rising stamp, or want of memory.
+    /// The operations by rising stamp, or want of memory. In any log they are sound, and no two of them clash.
     pub fn in_order(&self) -> Result<Vec<&Op>, Fault>
+        ensures log { IsLog self.now.operations }
         ensures operations { IfOk result (λ ops. map (λ op. op.now) ops.items ≡ reverse self.now.operations) }
         ensures fault { IsOkUnless result NoMemory }
     {

@@ -1,5 +1,7 @@
 pub mod Adjacent
 pub mod Lengths
+pub mod Offsets
+pub mod OneForm
 pub mod Parts
 pub mod Readings
 pub mod Spans

@@ -1,5 +1,6 @@
 pub mod Decoding
 pub mod Edits
+pub mod Examples
 pub mod File
 pub mod Intake
 pub mod Operations

@@ -3,6 +3,7 @@
 
 pub mod bytes;
 mod decode;
+pub mod examples;
 mod fields;
 pub mod file;
 mod intake;

@@ -1,4 +1,4 @@
-// Laws of the definitions, each the contract of a function that does nothing.
+// Laws of the definitions, and of replicas, each the contract of a function that changes nothing.
 ghost use Rattle.std.specs.Prelude.{◌≡◌, ◌↔◌, ◌≤◌, ℕ, false, true, List, [], map, reverse, All, Ok, max};
 ghost use Rattle.std.specs.List.{AllByRecursion};
 ghost use Rattle.rt_stamps.specs.declared.limits.TheConstants.{GREATEST_COUNT};
@@ -25,6 +25,9 @@ ghost use Rattle.rt_store.specs.Shown.{TaggedCell};
 ghost use Rattle.rt_store.specs.Written.{IsBelowNext, IsWritten};
 ghost use Rattle.rt_rga.specs.Names.{HasNames};
 ghost use Rattle.rt_rga.specs.Laws.{AllDraftsCountOn, BadSpansAreWithinEnd, BadTargetsStay, BothMayBeMade, CellsAreChanged, CellsAreCharacters, CellsAreCounted, ChangesAppend, CharactersAppend, ClashFreeAreJoined, ClashFreeAreTaken, ConflictsAreClashes, ConflictsStay, CountsAppend, DeleteIsKept, DeletesOfZeroAreBad, DraftsAreCounted, DraftsChangeInTurn, DraftsCountOn, DraftsFit, DraftsLeaveHistory, EitherOrderWillDo, EqualLogsShowEqualCells, EqualLogsShowEqualText, FinalIsKnown, FinalIsSpared, FullHasNone, GapsAreWithinEnd, GreatestDecide, InTimeIsTaken, InTimeIsTakenWithin, InsertFindsPlace, InsertIsKept, InsertsArePlaced, InsertsSkipGreater, MadeIsNew, NewHasItsBases, NewHasRoom, NewMakesLarger, NewestIsFirst, NewestSkipsNothing, OffersAddNew, OperationsAppend, RequestsKeepLimit, RequestsLeaveHistory, RequestsMakeUnlessRefused, SelIsInNoState, SetsAppend, SharedAreListed, SitesAgree, SpansAreKnown, SpansNameTheirStamps, TagIsKept, TagsOfZeroAreFinal};
+
+use crate::Replica;
+use rt_store::TextStore;
 
 /// The reading of a history goes over its tree depth first, and no other list does. It can be had in
 /// one pass over the characters by rising stamp (Replicated Growable Array, JPDC 2011).
@@ -184,6 +187,19 @@ pub fn agreement()
     ensures stamps { (log : List Operation) (table : TagStates) (kept : List (Cell ℕ)) → IsReplica log table kept
         → stamps_of kept ≡ stamps_of (cells_of log) }
 {}
+
+/// Replicas whose logs have the same operations have equal cells, and so equal text with equal tags, over
+/// whichever stores.
+pub fn replicas_agree<S: TextStore, T: TextStore>(one: &Replica<S>, other: &Replica<T>)
+    ensures cells { ((op : Operation) → Has one.now.log op ↔ Has other.now.log op) → one.now.cells ≡ other.now.cells }
+    ensures text { ((op : Operation) → Has one.now.log op ↔ Has other.now.log op) → tagged_text one.now.cells
+        ≡ tagged_text other.now.cells }
+{
+    let _ = one.log();
+    let _ = one.store();
+    let _ = other.log();
+    let _ = other.store();
+}
 
 /// What is kept of a history stays that when an operation that continues it changes what is kept: an
 /// Insert puts cells in where the store finds their place, a Delete makes cells gone, and after a Tag

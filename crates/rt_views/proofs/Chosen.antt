@@ -3,6 +3,7 @@ use Rattle.std.proofs.Common.{◌≡◌, ℕ, zero, suc, ◌+◌, ◌-◌, ◌<�
 use Rattle.std.specs.Prelude.{Option, Some, None, Ok, Err, is_some, nat_le, nat_lt, option_map, option_and_then, slice_get, unwrap_or}
 use Rattle.std.specs.List.{position_or_len}
 use Rattle.std.proofs.lemmas.Bool.{lt-ltb}
+use Rattle.std.proofs.lemmas.Bool.Decides.{nat_tests}
 use Rattle.std.proofs.lemmas.Option.{slice_get-map}
 use Rattle.rt_stamps.specs.declared.fault.Fault.TheVariants.{BadView}
 use Rattle.rt_stamps.specs.declared.stamp.Stamp.{Stamp}
@@ -10,7 +11,7 @@ use Rattle.rt_stamps.specs.Stamps.{is_same}
 use Rattle.rt_stamps.specs.Places.{is_newline, newlines, after_newlines, line_of, line_end}
 use Rattle.rt_stamps.proofs.Order.{same_refl}
 use Rattle.rt_store.specs.declared.cell.Cell.{Cell}
-use Rattle.rt_store.specs.Cells.{AreDistinct, cell_of, position_of, stamps_of, text_of, visible_before, visible_of}
+use Rattle.rt_store.specs.Cells.{AreDistinct, EndsFinal, cell_of, position_of, stamps_of, text_of, visible_before, visible_of}
 use Rattle.rt_store.specs.Spans.{is_among}
 use Rattle.rt_store.proofs.Distinct.{differs, first_apart, others_distinct, split}
 use Rattle.rt_store.proofs.Finding.{stamp_held}
@@ -18,8 +19,13 @@ use Rattle.rt_views.specs.declared.choice.Choice.{Choice}
 use Rattle.rt_views.specs.declared.choice.Choice.TheVariants.{Kept, Away, Line}
 use Rattle.rt_views.specs.declared.limits.Limits.{Limits}
 use Rattle.rt_views.specs.Choices.{are_lines, end_asked, end_chosen, limits_chosen, newline_of, start_asked, start_chosen}
-use Rattle.rt_views.specs.Limits.{first_line, is_gone, last_line, line_at, line_behind, place_of}
-use Rattle.rt_views.proofs.Lines.{after_some, ends_with}
+use Rattle.rt_views.specs.Limits.{first_line, is_gone, last_line, line_at, line_behind, no_limits, place_of}
+use Rattle.rt_views.specs.Ordered.{IsStart}
+use Rattle.rt_views.specs.Stretches.{stretch_of}
+use Rattle.rt_views.proofs.Lines.{after_some, ends_with, lines_some}
+use Rattle.rt_views.proofs.Ordered.{first_is_behind}
+use Rattle.rt_views.proofs.Places.{ends_text}
+use Rattle.rt_views.proofs.Whole.{stretch_whole}
 
 -- THE CELL OF A CHARACTER
 
@@ -106,12 +112,12 @@ line_of_end (suc (suc k)) (c ∷ t) (suc n) low high e = split (is_newline c)
     rw b (line_of_end (suc (suc k)) t n low few (omega arith)))
 
 -- what its stamp tells as a limit
-record IsNewlineOf {T : Type 0} (cells : List (Cell T)) (line : ℕ) (stamp : Stamp) : Type 0 where
-  is : newline_of cells line ≡ Some stamp
-  at : line_at cells stamp ≡ Some line
-  behind : line_behind cells stamp ≡ Some (line + 1)
+pub record IsNewlineOf {T : Type 0} (cells : List (Cell T)) (line : ℕ) (stamp : Stamp) : Type 0 where
+  pub is : newline_of cells line ≡ Some stamp
+  pub at : line_at cells stamp ≡ Some line
+  pub behind : line_behind cells stamp ≡ Some (line + 1)
 
-newline_is : {T : Type 0} (cells : List (Cell T)) (line : ℕ) → AreDistinct cells → 1 ≤ line → line ≤ newlines (text_of cells) → (stamp : Stamp) × IsNewlineOf cells line stamp
+pub newline_is : {T : Type 0} (cells : List (Cell T)) (line : ℕ) → AreDistinct cells → 1 ≤ line → line ≤ newlines (text_of cells) → (stamp : Stamp) × IsNewlineOf cells line stamp
 newline_is {T} cells line d low high =
     let ends = ends_with line (text_of cells) low high in
     by (slice_get (visible_of cells) (line_end (text_of cells) line)) refl (sym (slice_get-map (λ (cell : Cell T). cell.ch) (visible_of cells) (line_end (text_of cells) line)) ∙ ends)
@@ -135,7 +141,7 @@ newline_is {T} cells line d low high =
 
 -- THE LIMITS
 
-chosen_by : (b : Bool) (limits chosen : Limits) → cond b (Ok limits) (Err BadView) ≡ Ok chosen → (b ≡ true) × (limits ≡ chosen)
+pub chosen_by : (b : Bool) (limits chosen : Limits) → cond b (Ok limits) (Err BadView) ≡ Ok chosen → (b ≡ true) × (limits ≡ chosen)
 chosen_by true limits chosen e = (refl, cc)
 chosen_by false limits chosen e = let bad : ⊥ = cc in absurd bad
 
@@ -188,3 +194,49 @@ first_chosen cells line end limits chosen d h =
     let by = chosen_by (are_lines (newlines (text_of cells)) line (end_asked cells limits end)) _ chosen h in
     first_asked cells chosen.start limits.start line (end_asked cells limits end) (last_line cells chosen) d (ap (λ (l : Limits). l.start) (sym by.1)) by.0
     (last_chosen cells (Line line) end limits chosen d h)
+
+-- A LIMIT THAT IS KEPT
+
+before_end : (lines start end : ℕ) → are_lines lines start end ≡ true → start < end
+before_end lines start end h = grind (arith, h)
+
+shorter : (first last end : ℕ) → first < end → last + 1 ≡ end → min first last ≡ first
+shorter first last end h e = omega arith
+
+-- the first line stays where the one at the start stands before the one at the end
+pub first_stays : {T : Type 0} (cells : List (Cell T)) (end : Choice) (limits chosen : Limits) (stamp : Stamp) (position : ℕ) → AreDistinct cells → EndsFinal cells
+    → IsStart cells limits stamp position → limits_chosen cells Kept end limits ≡ Ok chosen → first_line cells chosen ≡ first_line cells limits
+first_stays {T} cells end limits chosen stamp position d f s h =
+    let by = chosen_by (are_lines (newlines (text_of cells)) (first_line cells limits) (end_asked cells limits end)) _ chosen h in
+    let start : chosen.start ≡ Some stamp = ap (λ (l : Limits). l.start) (sym by.1) ∙ s.limit in
+    let less = before_end (newlines (text_of cells)) (first_line cells limits) (end_asked cells limits end) by.0 in
+    ap (λ o. min (unwrap_or (option_and_then (line_behind cells) o) 1) (last_line cells chosen)) start
+    ∙ ap (λ o. min (unwrap_or o 1) (last_line cells chosen)) (first_is_behind cells limits stamp position f s)
+    ∙ shorter (first_line cells limits) (last_line cells chosen) (end_asked cells limits end) less (last_chosen cells Kept end limits chosen d h)
+
+-- LIMITS THAT ARE TAKEN AWAY
+
+-- without the one at the start the first line is shown
+pub first_whole : {T : Type 0} (cells : List (Cell T)) (end : Choice) (limits chosen : Limits) → AreDistinct cells → limits_chosen cells Away end limits ≡ Ok chosen
+    → first_line cells chosen ≡ 1
+first_whole {T} cells end limits chosen d h =
+    let by = chosen_by (are_lines (newlines (text_of cells)) 1 (end_asked cells limits end)) _ chosen h in
+    let none : chosen.start ≡ None = ap (λ (l : Limits). l.start) (sym by.1) in
+    let more : 1 < end_asked cells limits end = grind (arith, by.0) in
+    let some : min 1 (last_line cells chosen) ≡ 1 = omega (arith, more, last_chosen cells Away end limits chosen d h) in
+    ap (λ o. min (unwrap_or (option_and_then (line_behind cells) o) 1) (last_line cells chosen)) none ∙ some
+
+-- a text of one line at least can be shown whole
+are_all : (lines : ℕ) → 1 ≤ lines → are_lines lines 1 (lines + 1) ≡ true
+are_all lines h = grind (arith, nat_tests, h)
+
+-- to take both away is never refused
+pub none_chosen : {T : Type 0} (cells : List (Cell T)) (limits : Limits) → EndsFinal cells → limits_chosen cells Away Away limits ≡ Ok no_limits
+none_chosen cells limits h = ap (λ b. cond b (Ok no_limits) (Err BadView)) (are_all (newlines (text_of cells)) (lines_some (text_of cells) (ends_text cells h)))
+
+-- and then all of the text is shown
+pub whole_chosen : {T : Type 0} (cells : List (Cell T)) (limits chosen : Limits) → EndsFinal cells → limits_chosen cells Away Away limits ≡ Ok chosen
+    → stretch_of cells chosen ≡ record { begin = 0; end = length (visible_of cells) }
+whole_chosen cells limits chosen h e =
+    let by = chosen_by (are_lines (newlines (text_of cells)) 1 (newlines (text_of cells) + 1)) no_limits chosen e in
+    ap (stretch_of cells) (sym by.1) ∙ stretch_whole cells h

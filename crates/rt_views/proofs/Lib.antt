@@ -4,4 +4,5 @@ pub mod Ordered
 pub mod Parts
 pub mod Places
 pub mod Shown
+pub mod Told
 pub mod Whole

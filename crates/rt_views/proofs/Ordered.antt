@@ -1,12 +1,12 @@
 -- Where the limit at the start stands before the one at the end, no line is cut off.
-use Rattle.std.proofs.Common.{◌≡◌, ℕ, zero, suc, ◌+◌, ◌-◌, ◌<◌, ◌≤◌, min, List, [], ◌∷◌, ◌++◌, Bool, true, false, not, cond, length, take, map, refl, sym, ap, subst, ◌∙◌, arith, length-append}
+use Rattle.std.proofs.Common.{◌≡◌, ℕ, zero, suc, ◌+◌, ◌-◌, ◌<◌, ◌≤◌, min, List, [], ◌∷◌, Bool, true, false, not, cond, length, take, refl, sym, ap, ◌∙◌, arith, length-append}
 use Rattle.std.specs.Prelude.{Option, Some, None, option_map, option_and_then, unwrap_or, slice_get}
 use Rattle.std.proofs.lemmas.Option.{slice_get-map}
 use Rattle.rt_stamps.specs.declared.stamp.Stamp.{Stamp}
 use Rattle.rt_stamps.specs.Places.{is_newline, newlines, line_of}
 use Rattle.rt_store.specs.declared.cell.Cell.{Cell}
 use Rattle.rt_store.specs.Cells.{EndsFinal, cell_of, position_of, text_of, visible_before, visible_of}
-use Rattle.rt_store.proofs.Finding.{found_there, position_within, visible_there}
+use Rattle.rt_store.proofs.Finding.{found_there, visible_there}
 use Rattle.rt_store.proofs.Places.{final_last}
 use Rattle.rt_views.specs.declared.limits.Limits.{Limits}
 use Rattle.rt_views.specs.Limits.{first_line, is_gone, last_line, line_at, line_behind}

@@ -1,14 +1,13 @@
 -- What is shown is whole lines.
-use Rattle.std.proofs.Common.{◌≡◌, ℕ, zero, suc, ◌+◌, ◌-◌, ◌<◌, ◌≤◌, List, [], ◌∷◌, ◌++◌, length, take, drop, map, refl, sym, ap, subst, ◌∙◌, arith}
+use Rattle.std.proofs.Common.{◌≡◌, ℕ, zero, suc, ◌+◌, ◌-◌, ◌<◌, ◌≤◌, List, [], ◌∷◌, ◌++◌, length, take, drop, map, sym, ap, subst, ◌∙◌, arith}
 use Rattle.std.specs.Prelude.{Some, slice_get}
 use Rattle.std.proofs.lemmas.List.{length-map}
-use Rattle.rt_stamps.specs.Places.{EndsWithNewline, after_newlines, line_end, line_start, newlines}
+use Rattle.rt_stamps.specs.Places.{EndsWithNewline, line_end, line_start, newlines}
 use Rattle.rt_store.specs.declared.cell.Cell.{Cell}
 use Rattle.rt_store.specs.Cells.{EndsFinal, text_of, visible_of}
 use Rattle.rt_views.specs.declared.limits.Limits.{Limits}
-use Rattle.rt_views.specs.declared.stretch.Stretch.{Stretch}
 use Rattle.rt_views.specs.Limits.{first_line, last_line, no_limits}
-use Rattle.rt_views.specs.Stretches.{part, shown_part, stretch_of}
+use Rattle.rt_views.specs.Stretches.{shown_part, stretch_of}
 use Rattle.rt_views.proofs.Parts.{get_drop, part_map}
 use Rattle.rt_views.proofs.Lines.{after_all, after_within, end_is, ends_with, lines_some, starts_below}
 use Rattle.rt_views.proofs.Places.{ends_text, first_line_within, last_line_within}

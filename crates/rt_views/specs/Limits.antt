@@ -1,8 +1,7 @@
 -- The lines of a text that a widget shows (Tk text manual, "Peer widgets"). A limit is the stamp of a newline, so it stays where
 -- it is while lines come and go before it.
-use Rattle.std.specs.Prelude.{◌≡◌, ℕ, ◌+◌, ◌-◌, ◌<◌, min, Bool, false, List, length, map, Option, Some, None, option_map, option_and_then, unwrap_or, if◌then◌else◌}
+use Rattle.std.specs.Prelude.{ℕ, ◌+◌, min, Bool, false, List, Option, None, option_map, option_and_then, unwrap_or, if◌then◌else◌}
 use Rattle.rt_stamps.specs.declared.stamp.Stamp.{Stamp}
-use Rattle.rt_stamps.specs.declared.stamp.TheConstants.{FINAL}
 use Rattle.rt_stamps.specs.Places.{newlines, line_of}
 use Rattle.rt_stamps.specs.Stamps.{replaced}
 use Rattle.rt_store.specs.declared.cell.Cell.{Cell}

@@ -1,5 +1,5 @@
 -- The stretch of a text that a widget shows, and places of the whole text as the widget sees them.
-use Rattle.std.specs.Prelude.{ℕ, ◌+◌, ◌-◌, min, max, List, length, take, drop}
+use Rattle.std.specs.Prelude.{ℕ, ◌+◌, ◌-◌, min, max, List, take, drop}
 use Rattle.rt_stamps.specs.Places.{line_start, line_end}
 use Rattle.rt_store.specs.declared.cell.Cell.{Cell}
 use Rattle.rt_store.specs.Cells.{text_of, visible_of}

@@ -1,14 +1,14 @@
 // Laws of the definitions, each the contract of a function that does nothing.
-ghost use Rattle.std.specs.Prelude.{◌≡◌, ℕ, ◌+◌, ◌<◌, ◌≤◌, List, Ok, Some, length, map};
-ghost use Rattle.rt_stamps.specs.Places.{EndsWithNewline};
+ghost use Rattle.std.specs.Prelude.{◌≡◌, ℕ, ◌+◌, ◌<◌, ◌≤◌, List, None, Ok, Some, length, map};
+ghost use Rattle.rt_stamps.specs.Places.{EndsWithNewline, newlines};
 ghost use Rattle.rt_stamps.specs.declared.stamp.Stamp.{Stamp};
 ghost use Rattle.rt_store.specs.declared.cell.Cell.{Cell};
-ghost use Rattle.rt_store.specs.Cells.{AreDistinct, EndsFinal, map_state, visible_of};
+ghost use Rattle.rt_store.specs.Cells.{AreDistinct, EndsFinal, map_state, text_of, visible_of};
 ghost use Rattle.rt_views.specs.declared.choice.Choice.{Choice};
 ghost use Rattle.rt_views.specs.declared.limits.Limits.{Limits};
-ghost use Rattle.rt_views.specs.declared.choice.Choice.TheVariants.{Line};
+ghost use Rattle.rt_views.specs.declared.choice.Choice.TheVariants.{Away, Kept, Line};
 ghost use Rattle.rt_views.specs.Choices.{end_asked, limits_chosen};
-ghost use Rattle.rt_views.specs.Limits.{first_line, last_line, line_behind, no_limits};
+ghost use Rattle.rt_views.specs.Limits.{end_number, first_line, last_line, line_behind, no_limits, start_number};
 ghost use Rattle.rt_views.specs.Ordered.{IsStart};
 ghost use Rattle.rt_views.specs.Stretches.{shown_part, stretch_of};
 
@@ -40,10 +40,43 @@ pub fn ordered_limits<T>()
 {}
 
 /// The lines that a command asks for are those that its limits show: up to the last one asked for, from the first one
-/// where it is named.
+/// where it is named, from line 1 where the limit there is taken away, and from the line that was first before where
+/// that limit is kept and stands before the one at the end. Where both limits are taken away all of the text is shown,
+/// and this is never refused.
 pub fn chosen_lines<T>()
     ensures first { (cells : List (Cell T)) (line : ℕ) (end : Choice) (limits chosen : Limits) → AreDistinct cells
         → limits_chosen cells (Line line) end limits ≡ Ok chosen → first_line cells chosen ≡ line }
+    ensures whole_start { (cells : List (Cell T)) (end : Choice) (limits chosen : Limits) → AreDistinct cells
+        → limits_chosen cells Away end limits ≡ Ok chosen → first_line cells chosen ≡ 1 }
+    ensures kept_start { (cells : List (Cell T)) (end : Choice) (limits chosen : Limits) (stamp : Stamp) (position : ℕ) → AreDistinct cells
+        → EndsFinal cells → IsStart cells limits stamp position
+        → limits_chosen cells Kept end limits ≡ Ok chosen → first_line cells chosen ≡ first_line cells limits }
     ensures last { (cells : List (Cell T)) (start end : Choice) (limits chosen : Limits) → AreDistinct cells
         → limits_chosen cells start end limits ≡ Ok chosen → last_line cells chosen + 1 ≡ end_asked cells limits end }
+    ensures whole { (cells : List (Cell T)) (limits chosen : Limits) → EndsFinal cells
+        → limits_chosen cells Away Away limits ≡ Ok chosen → stretch_of cells chosen ≡ record { begin = 0; end = length (visible_of cells) } }
+    ensures never_refused { (cells : List (Cell T)) (limits : Limits) → EndsFinal cells → limits_chosen cells Away Away limits ≡ Ok no_limits }
+{}
+
+/// What the options tell is what a command asked for. A line that is named is told, but for line 1 at the start and for
+/// the line behind all at the end, where there is no limit. Nor is there one where it is taken away. One that is kept
+/// tells what it told before: at the end always, at the start where it stands before the one at the end.
+pub fn told_lines<T>()
+    ensures start_named { (cells : List (Cell T)) (line : ℕ) (end : Choice) (limits chosen : Limits) → AreDistinct cells → 1 < line
+        → limits_chosen cells (Line line) end limits ≡ Ok chosen → start_number cells chosen ≡ Some line }
+    ensures start_first { (cells : List (Cell T)) (end : Choice) (limits chosen : Limits)
+        → limits_chosen cells (Line 1) end limits ≡ Ok chosen → start_number cells chosen ≡ None }
+    ensures start_away { (cells : List (Cell T)) (end : Choice) (limits chosen : Limits)
+        → limits_chosen cells Away end limits ≡ Ok chosen → start_number cells chosen ≡ None }
+    ensures start_kept { (cells : List (Cell T)) (end : Choice) (limits chosen : Limits) (stamp : Stamp) (position : ℕ) → AreDistinct cells
+        → EndsFinal cells → IsStart cells limits stamp position
+        → limits_chosen cells Kept end limits ≡ Ok chosen → start_number cells chosen ≡ start_number cells limits }
+    ensures end_named { (cells : List (Cell T)) (start : Choice) (line : ℕ) (limits chosen : Limits) → AreDistinct cells → line ≤ newlines (text_of cells)
+        → limits_chosen cells start (Line line) limits ≡ Ok chosen → end_number cells chosen ≡ Some line }
+    ensures end_behind { (cells : List (Cell T)) (start : Choice) (limits chosen : Limits)
+        → limits_chosen cells start (Line (newlines (text_of cells) + 1)) limits ≡ Ok chosen → end_number cells chosen ≡ None }
+    ensures end_away { (cells : List (Cell T)) (start : Choice) (limits chosen : Limits)
+        → limits_chosen cells start Away limits ≡ Ok chosen → end_number cells chosen ≡ None }
+    ensures end_kept { (cells : List (Cell T)) (start : Choice) (limits chosen : Limits)
+        → limits_chosen cells start Kept limits ≡ Ok chosen → end_number cells chosen ≡ end_number cells limits }
 {}

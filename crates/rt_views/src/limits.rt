@@ -12,12 +12,14 @@ use crate::{Choice, Stretch};
 use rt_stamps::{Fault, Stamp};
 use rt_store::TextStore;
 
-/// The limits of the lines that a widget shows, by the stamps of newlines.
+/// The limits of the lines that a widget shows, by the stamps of newlines: what the options `-startline` and `-endline`
+/// set (Tk text manual, "Peer widgets"). Any stamps may stand here: one that no cell of a text has counts as no limit
+/// in what is shown of that text.
 #[derive(Clone, Copy, Debug, PartialEq, Eq)]
 pub struct Limits {
-    /// The newline before the first line that is shown.
+    /// The newline before the first line that is shown; none where lines are shown from the first one of the text.
     pub start: Option<Stamp>,
-    /// The newline of the last line that is shown.
+    /// The newline of the last line that is shown; none where lines are shown up to the last one of the text.
     pub end: Option<Stamp>,
 }
 
@@ -105,8 +107,8 @@ impl Limits {
         self.line_behind_start(store).unwrap_or(1).min(last)
     }
 
-    /// The stretch of a text that is shown. It has a character at least, and its last one is a newline. It takes no
-    /// memory.
+    /// The stretch of a text that is shown, by places of the whole text. It has a character at least, and its last one
+    /// is a newline. It takes no memory.
     #[inline(always)]
     pub fn stretch<S: TextStore>(self, store: &S) -> Stretch
         requires few { length (S.list store.now) ≤ MOST_CELLS }
@@ -129,7 +131,8 @@ impl Limits {
         }
     }
 
-    /// The number of the first line that is shown; none without a limit there. It takes no memory.
+    /// The number of the first line that is shown, which is what `cget -startline` tells; none without a limit there.
+    /// Lines are those of the whole text and count from 1. It takes no memory.
     pub fn start_number<S: TextStore>(self, store: &S) -> Option<usize>
         requires few { length (S.list store.now) ≤ MOST_CELLS }
         ensures { result ≡ start_number (S.list store.now) self }
@@ -140,7 +143,9 @@ impl Limits {
         Some(self.first_line(store, self.last_line(store)))
     }
 
-    /// The number of the line behind the last one that is shown; none without a limit there. It takes no memory.
+    /// The number of the line behind the last one that is shown, which is what `cget -endline` tells; none without a
+    /// limit there. Lines are those of the whole text and count from 1, so it is from 2 up to one more than there are
+    /// lines. It takes no memory.
     pub fn end_number<S: TextStore>(self, store: &S) -> Option<usize>
         requires few { length (S.list store.now) ≤ MOST_CELLS }
         ensures { result ≡ end_number (S.list store.now) self }
@@ -175,9 +180,10 @@ impl Limits {
         }
     }
 
-    /// The limits with those that a command asks for, by lines of the whole text; a limit that is kept counts with the
-    /// line that it has now, and keeps its newline. `BadView` where the first line isn't one of the text's, or not
-    /// before the one behind the last, or this is past the one behind all lines. It takes no memory.
+    /// The limits with those that a command asks for, by lines of the whole text, which count from 1; a limit that is
+    /// kept counts with the line that it has now, and keeps its newline. `BadView` where the first line isn't one of
+    /// the text's, or not before the one behind the last, or this is past the one behind all lines. (Tk takes numbers
+    /// out of range for no limit, and equal ones for a view of no line.) It takes no memory.
     pub fn with_lines<S: TextStore>(
         self,
         store: &S,
@@ -198,7 +204,8 @@ impl Limits {
         })
     }
 
-    /// The limits after a character came back under a newer stamp. It takes no memory.
+    /// The limits after a character came back under a newer stamp: each one that was the former stamp is the newer one.
+    /// It takes no memory.
     pub fn renamed(self, former: Stamp, newer: Stamp) -> Limits
         ensures { result ≡ limits_renamed former newer self }
     {

@@ -1,8 +1,20 @@
-use Rattle.rt_views.proofs.Chosen.{first_chosen, last_chosen}
+use Rattle.rt_views.proofs.Chosen.{first_chosen, first_stays, first_whole, last_chosen, none_chosen, whole_chosen}
 use Rattle.rt_views.proofs.laws.chosen_lines.Goals as goal
 
 pub returns-clause-first : goal.returns-clause-first
 returns-clause-first g c cells line end limits chosen d e = first_chosen cells line end limits chosen d e
 
+pub returns-clause-whole_start : goal.returns-clause-whole_start
+returns-clause-whole_start g c cells end limits chosen d e = first_whole cells end limits chosen d e
+
+pub returns-clause-kept_start : goal.returns-clause-kept_start
+returns-clause-kept_start g c cells end limits chosen stamp position d f s e = first_stays cells end limits chosen stamp position d f s e
+
 pub returns-clause-last : goal.returns-clause-last
 returns-clause-last g c cells start end limits chosen d e = last_chosen cells start end limits chosen d e
+
+pub returns-clause-whole : goal.returns-clause-whole
+returns-clause-whole g c cells limits chosen h e = whole_chosen cells limits chosen h e
+
+pub returns-clause-never_refused : goal.returns-clause-never_refused
+returns-clause-never_refused g c cells limits h = none_chosen cells limits h

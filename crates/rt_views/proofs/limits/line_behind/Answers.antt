@@ -1,6 +1,4 @@
 use Rattle.std.proofs.Common.{sym, arith}
-use Rattle.rt_stamps.specs.Places.{newlines}
-use Rattle.rt_store.specs.Cells.{text_of}
 use Rattle.rt_views.proofs.Places.{line_at_within, lines_few}
 use Rattle.rt_views.proofs.limits.line_behind.Goals as goal
 

@@ -1,4 +1,4 @@
-use Rattle.std.proofs.Common.{◌≡◌, ◌-◌, ◌∙◌, ap, sym, arith}
+use Rattle.std.proofs.Common.{arith}
 use Rattle.std.proofs.lemmas.List.{length-map}
 use Rattle.rt_store.specs.Cells.{text_of, visible_of}
 use Rattle.rt_views.proofs.Lines.{after_within, end_is}

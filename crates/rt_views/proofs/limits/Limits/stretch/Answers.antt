@@ -1,7 +1,7 @@
-use Rattle.std.proofs.Common.{◌≡◌, ℕ, ◌<◌, ◌≤◌, ◌-◌, ◌+◌, ◌&&◌, true, ◌∙◌, ap, arith, length, refl, sym}
+use Rattle.std.proofs.Common.{◌≡◌, ◌-◌, ◌&&◌, true, ◌∙◌, ap, arith, refl, sym}
 use Rattle.std.specs.Prelude.{None, Option, Some, is_none, slice_get}
 use Rattle.std.proofs.lemmas.List.{length-map}
-use Rattle.rt_stamps.specs.Places.{newlines, after_newlines, line_end, line_start}
+use Rattle.rt_stamps.specs.Places.{newlines, line_end}
 use Rattle.rt_store.specs.Cells.{text_of, visible_of}
 use Rattle.rt_views.proofs.Lines.{after_all, after_within, end_is, ends_with, lines_some, starts_below}
 use Rattle.rt_views.specs.declared.limits.Limits.{Limits}
