@@ -18,12 +18,12 @@ use Rattle.rt_editing.specs.Settled.{AreGoneOnce, all_taken, is_gone, taken_by, 
 -- HOW OFTEN A STAMP STANDS AMONG SOME
 
 pub times_append : (s : Stamp) (xs ys : List Stamp) → times s (xs ++ ys) ≡ times s xs + times s ys
-times_append s [] ys = refl
+times_append s [] ys = omega arith
 times_append s (x ∷ xs) ys = by (is_same x s) (times_append s xs ys)
   where
     by : (b : Bool) → times s (xs ++ ys) ≡ times s xs + times s ys
         → length (cond b (x ∷ filter (λ t. is_same t s) (xs ++ ys)) (filter (λ t. is_same t s) (xs ++ ys))) ≡ length (cond b (x ∷ filter (λ t. is_same t s) xs) (filter (λ t. is_same t s) xs)) + times s ys
-    by true e = ap suc e
+    by true e = omega (arith, e)
     by false e = e
 
 -- under other stamps

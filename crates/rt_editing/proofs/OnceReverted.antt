@@ -1,17 +1,17 @@
 -- Who was taken away is gone, and was so once, also while a group is reverted, and after it.
-use Rattle.std.proofs.Common.{◌≡◌, ◌∙◌, ℕ, zero, suc, ◌+◌, ◌-◌, ◌<◌, ◌≤◌, Bool, true, false, List, [], ◌∷◌, ◌++◌, Option, Some, None, cond, filter, length, map, take, ap, arith, refl, subst, sym}
-use Rattle.std.specs.Prelude.{reverse, unwrap_or, option_map}
+use Rattle.std.proofs.Common.{◌≡◌, ◌∙◌, ℕ, zero, suc, ◌+◌, ◌-◌, ◌<◌, ◌≤◌, Bool, true, false, List, [], ◌∷◌, ◌++◌, Option, Some, cond, filter, length, map, take, ap, arith, refl, subst, sym}
+use Rattle.std.specs.Prelude.{None, option_and_then, option_map, reverse, unwrap_or}
 use Rattle.std.specs.List.{AllByRecursion, flat_map}
 use Rattle.std.proofs.lemmas.Bool.{both_ways, false_from_ne_true}
 use mathlib.Core.List.{reverse-cons}
-use Rattle.std.proofs.lemmas.List.{map-append, map-id, take-map, length-map}
+use Rattle.std.proofs.lemmas.List.{length-append, length-map, map-append, map-id, take-map}
 use Rattle.rt_stamps.specs.declared.limits.TheConstants.{GREATEST_COUNT}
 use Rattle.rt_stamps.specs.declared.stamp.Stamp.{Stamp}
 use Rattle.rt_stamps.specs.Stamps.{is_same, replaced}
 use Rattle.rt_stamps.specs.Words.{Word}
 use Rattle.rt_stamps.proofs.Order.{same_refl}
 use Rattle.rt_ops.specs.Operations.{Operation}
-use Rattle.rt_store.specs.Cells.{AreDistinct, stamps_of, visible_of}
+use Rattle.rt_store.specs.Cells.{AreDistinct, cell_of, stamps_of}
 use Rattle.rt_store.specs.Shown.{TaggedCell}
 use Rattle.rt_store.specs.Spans.{is_among}
 use Rattle.rt_store.proofs.Distinct.{differs, first_apart, others_distinct, split}
@@ -27,8 +27,9 @@ use Rattle.rt_revert.proofs.Stamps.{all_apart}
 use Rattle.rt_revert.proofs.Steps.{IsOnWay, action_step, all_grow, all_reversed, gone_step, return_step, returns_grow}
 use Rattle.rt_revert.proofs.TakenBack.{stamp_after_more, still_is}
 use Rattle.rt_editing.specs.Recordings.{HasStayed, HaveStayed}
-use Rattle.rt_editing.specs.Returns.{Return, back_after, stamp_after}
+use Rattle.rt_editing.specs.Returns.{Return, back_after, removed_count, stamp_after}
 use Rattle.rt_editing.specs.Settled.{AreGoneOnce, all_taken, is_gone, taken_by, times}
+use Rattle.rt_editing.proofs.Counted.{count_reverse}
 use Rattle.rt_editing.proofs.Gone.{found_gone, gone_cons, gone_known, gone_still, visible_stays}
 use Rattle.rt_editing.proofs.Once.{HaveGone, by_append, in_append, in_groups, in_groups_append, in_history, in_one, in_to_undo, none_replaced, once_fewer, once_grown, once_more, one_if, taken_append, times_append, times_by}
 use Rattle.rt_editing.proofs.OnceTaken.{places_gone, removed_stamps}
@@ -45,25 +46,45 @@ StandOnce r stamps = AreGoneOnce r.doc.cells (map (stamp_after r.returns) stamps
 
 -- WHO COMES BACK
 
--- one comes back: the others are gone as before
-return_once : (removed : Removed (List Word)) (others : List Stamp) (r : Reversion) → AreKept r → StandOnce r (removed.stamp ∷ others) → StandOnce (with_return removed r) others
-return_once removed others r k h = by (gone_cell_of r.doc.cells stamp)
+-- so many come back, and others are gone once
+record Back (r next : Reversion) (others : List Stamp) (many : ℕ) : Type 0 where
+  pub once : StandOnce next others
+  pub number : length next.returns ≡ length r.returns + many
+
+none_gone : (cells : List TaggedCell) (s : Stamp) → gone_cell_of cells s ≡ None → is_gone cells s ≡ false
+none_gone cells s h = by (cell_of cells s) h
+  where
+    this : (c : TaggedCell) (g : Bool) → c.gone ≡ g → cond g (Some c) None ≡ None → c.gone ≡ false
+    this c true e k = absurd (cc k)
+    this c false e k = e
+
+    by : (o : Option TaggedCell) → option_and_then (λ (c : TaggedCell). cond c.gone (Some c) None) o ≡ None → unwrap_or (option_map (λ (c : TaggedCell). c.gone) o) false ≡ false
+    by None k = refl
+    by (Some c) k = this c c.gone refl k
+
+-- one comes back, as it is gone: the others are gone as before
+return_once : (removed : Removed (List Word)) (others : List Stamp) (r : Reversion) → AreKept r → StandOnce r (removed.stamp ∷ others) → Back r (with_return removed r) others 1
+return_once removed others r k h = by (gone_cell_of r.doc.cells stamp) refl
   where
     stamp : Stamp
     stamp = stamp_after r.returns removed.stamp
 
-    less : (s : Stamp) → times s (map (stamp_after r.returns) others) ≤ times s (map (stamp_after r.returns) (removed.stamp ∷ others))
-    less s = let both = times_append s (stamp ∷ []) (map (stamp_after r.returns) others) in omega (arith, both)
+    rest : List Stamp
+    rest = map (stamp_after r.returns) others
+
+    both : (s : Stamp) → times s (stamp ∷ rest) ≡ times s (stamp ∷ []) + times s rest
+    both s = times_append s (stamp ∷ []) rest
 
     itself : times stamp (stamp ∷ []) ≡ 1
     itself = ap (λ b. length (cond b (stamp ∷ []) [])) (same_refl stamp)
 
-    not_again : times stamp (map (stamp_after r.returns) others) ≡ 0
-    not_again = at (is_gone r.doc.cells stamp) (h stamp)
-      where
-        at : (b : Bool) → times stamp (stamp ∷ map (stamp_after r.returns) others) ≤ one_if b → times stamp (map (stamp_after r.returns) others) ≡ 0
-        at true e = let both = times_append stamp (stamp ∷ []) (map (stamp_after r.returns) others) in let one = itself in omega (arith, both, one, e)
-        at false e = let both = times_append stamp (stamp ∷ []) (map (stamp_after r.returns) others) in omega (arith, both, e)
+    is_gone_now : (b : Bool) → is_gone r.doc.cells stamp ≡ b → times stamp (stamp ∷ rest) ≤ one_if b → is_gone r.doc.cells stamp ≡ true
+    is_gone_now true e f = e
+    is_gone_now false e f = absurd (let all = both stamp in let one = itself in omega (arith, all, one, f))
+
+    not_again : (b : Bool) → times stamp (stamp ∷ rest) ≤ one_if b → times stamp rest ≡ 0
+    not_again true f = let all = both stamp in let one = itself in omega (arith, all, one, f)
+    not_again false f = let all = both stamp in omega (arith, all, f)
 
     came : Return
     came = record { former = stamp; newer = next_in r.doc }
@@ -72,24 +93,29 @@ return_once removed others r k h = by (gone_cell_of r.doc.cells stamp)
     names [] = refl
     names (x ∷ xs) = (λ i. stamp_after_more r.returns came x i ∷ names xs i)
 
-    by : (o : Option TaggedCell) → StandOnce (unwrap_or (option_map (λ (cell : TaggedCell). with_character stamp removed.tags cell.ch r) o) r) others
-    by None = once_fewer r.doc.cells (map (stamp_after r.returns) others) (map (stamp_after r.returns) (removed.stamp ∷ others)) less h
-    by (Some cell) =
+    by : (o : Option TaggedCell) → gone_cell_of r.doc.cells stamp ≡ o
+        → Back r (unwrap_or (option_map (λ (cell : TaggedCell). with_character stamp removed.tags cell.ch r) o) r) others 1
+    by None e = let gone = is_gone_now (is_gone r.doc.cells stamp) refl (h stamp) in let not_gone = none_gone r.doc.cells stamp e in absurd (cc (gone, not_gone))
+    by (Some cell) e =
         let next = with_character stamp removed.tags cell.ch r in
-        let same = names others ∙ none_replaced stamp (next_in r.doc) (map (stamp_after r.returns) others) not_again in
-        subst (AreGoneOnce next.doc.cells) (sym same)
-        (once_grown r.doc.cells next.doc.cells (map (stamp_after r.returns) others) (gone_next none stamp removed.tags cell.ch r k)
-        (once_fewer r.doc.cells (map (stamp_after r.returns) others) (map (stamp_after r.returns) (removed.stamp ∷ others)) less h))
+        let same = names others ∙ none_replaced stamp (next_in r.doc) rest (not_again (is_gone r.doc.cells stamp) (h stamp)) in
+        record {
+          once = subst (AreGoneOnce next.doc.cells) (sym same)
+              (once_grown r.doc.cells next.doc.cells rest (gone_next none stamp removed.tags cell.ch r k)
+              (once_fewer r.doc.cells rest (stamp ∷ rest) (λ s. let all = both s in omega (arith, all)) h));
+          number = length-append r.returns (came ∷ []);
+        }
 
 returns_once : (site : ℕ) (log : List Operation) (removed : List (Removed (List Word))) (others : List Stamp) (r : Reversion) → 0 < site → IsOnWay site log r
     → AllByRecursion MayReturn removed → (with_returns removed r).doc.count ≤ GREATEST_COUNT → StandOnce r (map (λ (x : Removed (List Word)). x.stamp) removed ++ others)
-    → StandOnce (with_returns removed r) others
-returns_once site log [] others r p h m l s = s
+    → Back r (with_returns removed r) others (length removed)
+returns_once site log [] others r p h m l s = record { once = s; number = omega arith }
 returns_once site log (x ∷ more) others r p h m l s =
     let next = with_return x r in
     let few : next.doc.count ≤ GREATEST_COUNT = omega (arith, returns_grow more next, l) in
-    returns_once site log more others next p (return_step site log x r p h m.0 few) m.1 l
-    (return_once x (map (λ (y : Removed (List Word)). y.stamp) more ++ others) r (kept_on_way site log r p h) s)
+    let one = return_once x (map (λ (y : Removed (List Word)). y.stamp) more ++ others) r (kept_on_way site log r p h) s in
+    let rest = returns_once site log more others next p (return_step site log x r p h m.0 few) m.1 l one.once in
+    record { once = rest.once; number = omega (arith, one.number, rest.number) }
 
 -- WHO GOES
 
@@ -122,7 +148,7 @@ in_turn r actions others = taken_by actions ++ (others ++ taken_by r.actions)
 
 action_once : (site : ℕ) (log : List Operation) (action : Action (List Word)) (more : List (Action (List Word))) (others : List Stamp) (r : Reversion) → 0 < site
     → IsOnWay site log r → IsSound action → (with_reverted action r).doc.count ≤ GREATEST_COUNT → IsTold none r → StandOnce r (in_turn r (action ∷ more) others)
-    → StandOnce (with_reverted action r) (in_turn (with_reverted action r) more others)
+    → Back r (with_reverted action r) (in_turn (with_reverted action r) more others) (length action.removed)
 action_once site log action more others r p h c l t once =
     let stamps = map (stamp_after r.returns) action.inserted in
     let left = with_gone stamps r in
@@ -152,20 +178,24 @@ action_once site log action more others r p h c l t once =
     let q : times_by s f gone ≡ times s gone = ap (times s) (visible_kept stamps r d t) in
     omega (arith, a, b, e, i, j, k, m, n, o, q)) joined in
     let done = returns_once site log action.removed rest left p way c.removed l ready in
-    subst (λ (xs : List Stamp). StandOnce all (taken_by more ++ (others ++ xs)))
-    (sym (taken_append r.actions (record { number = action.number; kind = action.kind; inserted = since r all; removed = still_visible stamps r.doc.cells } ∷ []))) done
+    record {
+      once = subst (λ (xs : List Stamp). StandOnce all (taken_by more ++ (others ++ xs)))
+          (sym (taken_append r.actions (record { number = action.number; kind = action.kind; inserted = since r all; removed = still_visible stamps r.doc.cells } ∷ []))) done.once;
+      number = done.number;
+    }
 
 all_once : (site : ℕ) (log : List Operation) (actions : List (Action (List Word))) (others : List Stamp) (r : Reversion) → 0 < site → IsOnWay site log r → AreSound actions
     → (with_each_reverted actions r).doc.count ≤ GREATEST_COUNT → IsTold none r → HaveStayed (λ s. back_after r.returns none (stamp_after r.returns s)) r.actions
     → AllByRecursion (λ (a : Action (List Word)). AllByRecursion (λ (x : Removed (List Word)). Stays none r.returns x.stamp) a.removed) actions
-    → StandOnce r (in_turn r actions others) → StandOnce (with_each_reverted actions r) (in_turn (with_each_reverted actions r) [] others)
-all_once site log [] others r p h c l t st s once = once
+    → StandOnce r (in_turn r actions others) → Back r (with_each_reverted actions r) (in_turn (with_each_reverted actions r) [] others) (removed_count actions)
+all_once site log [] others r p h c l t st s once = record { once = once; number = omega arith }
 all_once site log (action ∷ actions) others r p h c l t st s once =
     let next = with_reverted action r in
     let few : next.doc.count ≤ GREATEST_COUNT = omega (arith, all_grow actions next, l) in
     let on = action_told none site log action r p h c.0 few t s.0 st in
-    all_once site log actions others next p (action_step site log action r p h c.0 few) c.1 l on.leads.told on.stay (removed_on none r next actions on.leads s.1)
-    (action_once site log action actions others r p h c.0 few t once)
+    let one = action_once site log action actions others r p h c.0 few t once in
+    let rest = all_once site log actions others next p (action_step site log action r p h c.0 few) c.1 l on.leads.told on.stay (removed_on none r next actions on.leads s.1) one.once in
+    record { once = rest.once; number = omega (arith, one.number, rest.number) }
 
 -- GROUPS
 
@@ -194,11 +224,15 @@ taken_now f (action ∷ group) =
     own [] = refl
     own (x ∷ xs) = ap (λ l. f x.stamp ∷ l) (own xs)
 
--- After a group was reverted those are gone once that the group for the other stack takes away, and others that were, by the stamps
--- that they have then.
+-- after a group was reverted those are gone once that the group for the other stack takes away, and others that were, by the stamps
+-- that they have then; and as many came back as the group took away
+pub record IsOnce (flat : Flat) (group : List (Action (List Word))) (others : List Stamp) : Type 0 where
+  pub once : AreGoneOnce (reversion flat group).doc.cells (map (stamp_after (reversion flat group).returns) others ++ taken_by (reverted_group flat group))
+  pub number : length (reversion flat group).returns ≡ removed_count group
+
 pub reversion_once : (site : ℕ) (log : List Operation) (flat : Flat) (group : List (Action (List Word))) (others : List Stamp) → 0 < site → IsHistory log
     → IsDocument site log flat → AreSound group → (reversion flat group).doc.count ≤ GREATEST_COUNT → AreGoneOnce flat.cells (taken_by group ++ others)
-    → AreGoneOnce (reversion flat group).doc.cells (map (stamp_after (reversion flat group).returns) others ++ taken_by (reverted_group flat group))
+    → IsOnce flat group others
 reversion_once site log flat group others p h doc c l once =
     let r = reversion flat group in
     let f = stamp_after r.returns in
@@ -215,12 +249,15 @@ reversion_once site log flat group others p h doc c l once =
     (record { gone = λ s e. absurd (cc e); returns = tt; newer = tt }) tt
     (trivial (λ (a : Action (List Word)). AllByRecursion (λ (x : Removed (List Word)). Stays none [] x.stamp) a.removed)
     (λ a. trivial (λ (x : Removed (List Word)). Stays none [] x.stamp) (λ x. refl) a.removed) (reverse group)) start in
-    once_fewer r.doc.cells (map f others ++ taken_by (reverted_group flat group)) (map f (in_turn r [] others))
-    (λ s.
-    let a = times_append s (map f others) (taken_by (reverted_group flat group)) in
-    let b = ap (times s) (taken_now f r.actions) in
-    let e = by_append s f others (taken_by r.actions) in
-    omega (arith, a, b, e)) all
+    record {
+      once = once_fewer r.doc.cells (map f others ++ taken_by (reverted_group flat group)) (map f (in_turn r [] others))
+          (λ s.
+          let a = times_append s (map f others) (taken_by (reverted_group flat group)) in
+          let b = ap (times s) (taken_now f r.actions) in
+          let e = by_append s f others (taken_by r.actions) in
+          omega (arith, a, b, e)) all.once;
+      number = omega (arith, all.number, count_reverse group);
+    }
 
 -- HISTORIES
 
@@ -232,7 +269,7 @@ groups_now f (group ∷ groups) = (λ i. taken_now f group i ++ groups_now f gro
 last_parts : (s : Stamp) (groups : List (List (Action (List Word)))) (group : List (Action (List Word))) → last groups ≡ Some group
     → in_groups s (but_last groups) + times s (taken_by group) ≡ in_groups s groups
 last_parts s [] group e = absurd (cc e)
-last_parts s (g ∷ []) group e = let same : g ≡ group = cc e in let one = in_one s g in subst (λ (x : List (Action (List Word))). times s (taken_by x) ≡ in_groups s (g ∷ [])) same (omega (arith, one))
+last_parts s (g ∷ []) group e = let same : g ≡ group = cc e in let one = in_one s g in subst (λ (x : List (Action (List Word))). in_groups s (but_last (g ∷ [])) + times s (taken_by x) ≡ in_groups s (g ∷ [])) same (omega (arith, one))
 last_parts s (g ∷ h ∷ groups) group e =
     let rest = last_parts s (h ∷ groups) group e in
     let a = times_append s (taken_by g) (flat_map taken_by (but_last (h ∷ groups))) in

@@ -19,9 +19,9 @@ use Rattle.rt_edits.specs.Deletions.{Loss, loss_in, newline_of, without_places, 
 use Rattle.rt_edits.specs.Flat.{Flat, left_of, put_after}
 use Rattle.rt_edits.specs.Insertions.{Piece, insertion_of, left_neighbour}
 use Rattle.rt_edits.specs.Removals.{cells_at, gone_at}
-use Rattle.rt_edits.specs.TagWrites.{bared, tagged, with_tag}
+use Rattle.rt_edits.specs.TagWrites.{bared, tag_write, tagged, with_tag}
 use Rattle.rt_store.specs.Cells.{after_element}
-use Rattle.rt_tags.specs.States.{names_on}
+use Rattle.rt_tags.specs.States.{names_on, written}
 use Rattle.rt_text.specs.Commands.{deleted, insertion_place, lost_in, none_inserted, replaced, right_behind, with_pieces_at, with_range_replaced, without_ranges}
 use Rattle.rt_text.specs.Index.{place_at_index}
 use Rattle.rt_text.specs.Ranges.{ranges_of}
@@ -152,7 +152,10 @@ tagged_gone site count name on stamps (c ∷ cs) s =
     rest : Bool
     rest = is_gone (map (tagged site count name on stamps) cs) s
 
-    by : (b : Bool) → cond (is_same (cond b (record c { state = _ }) c).stamp s) (cond b (record c { state = _ }) c).gone rest ≡ cond (is_same c.stamp s) c.gone rest
+    with_tag_on : TaggedCell
+    with_tag_on = record c { state = written (tag_write site count name on stamps c.stamp) c.state }
+
+    by : (b : Bool) → cond (is_same (cond b with_tag_on c).stamp s) (cond b with_tag_on c).gone rest ≡ cond (is_same c.stamp s) c.gone rest
     by true = refl
     by false = refl
 
@@ -217,7 +220,7 @@ some_is (c ∷ cs) s d h = gone_cons c cs s ∙ by (is_same c.stamp s) refl c.go
         absurd (cc (apart, known))
     by false e g k rest = rest k
 
-split_or : (a b c : Bool) → (a || b) ≡ true → (a || (c || b)) ≡ true
+split_or : (a b c : Bool) → (a || b) ≡ true → ((a || c) || b) ≡ true
 split_or true b c h = refl
 split_or false b true h = refl
 split_or false b false h = h
@@ -229,8 +232,8 @@ some_put cells left new s h =
     let front = take at cells in
     let back = drop at cells in
     let parts : (list_any test front || list_any test back) ≡ true = sym (list_any-append test front back) ∙ ap (list_any test) (take-append-drop at cells) ∙ h in
-    list_any-append test front (new ++ back)
-    ∙ ap (λ b. list_any test front || b) (list_any-append test new back)
+    list_any-append test (front ++ new) back
+    ∙ ap (λ b. b || list_any test back) (list_any-append test front new)
     ∙ split_or (list_any test front) (list_any test back) (list_any test new) parts
 
 -- EDITS

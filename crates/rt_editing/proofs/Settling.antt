@@ -52,7 +52,7 @@ pub once_told : (flat : Flat) (group : List (Action (List Word))) (others : List
     → AreGoneOnce (reversion flat group).doc.cells (map (stamp_after (reversion flat group).returns) others ++ taken_by (reverted_group flat group))
 once_told flat group others number p site history cells count sound checked once =
     let positive : 0 < flat.site = omega (arith, p, site) in
-    reversion_once flat.site flat.log flat group others positive history (record { cells = cells; site = refl; count = count }) sound (fits flat group checked) once
+    (reversion_once flat.site flat.log flat group others positive history (record { cells = cells; site = refl; count = count }) sound (fits flat group checked) once).once
 
 -- RESULTS
 

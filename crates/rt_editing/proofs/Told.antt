@@ -94,7 +94,7 @@ pub record IsTold (back : Stamp → Bool) (r : Reversion) : Type 0 where
   pub newer : AllByRecursion (λ (x : Return). Stays back r.returns x.newer) r.returns
 
 -- from one reversion on to another, who stayed stays
-record Leads (back : Stamp → Bool) (r next : Reversion) : Type 0 where
+pub record Leads (back : Stamp → Bool) (r next : Reversion) : Type 0 where
   pub told : IsTold back next
   pub stays : (s : Stamp) → Stays back r.returns s → Stays back next.returns s
 
@@ -137,7 +137,7 @@ module _ (back : Stamp → Bool) (stamp : Stamp) (tags : List Word) (ch : ℕ) (
         (stays_more r.returns came back (next_in r.doc) is (stays_here r.returns back (next_in r.doc) (fresh k t)), tt);
   }
 
-abbrev brought : Stamp → List Word → Option TaggedCell → Reversion → Reversion
+abbrev pub brought : Stamp → List Word → Option TaggedCell → Reversion → Reversion
 brought stamp tags o r = unwrap_or (option_map (λ (cell : TaggedCell). with_character stamp tags cell.ch r) o) r
 
 pub return_told : (back : Stamp → Bool) (removed : Removed (List Word)) (r : Reversion) → AreKept r → IsTold back r → AllByRecursion IsApart r.returns → MayReturn removed
@@ -196,7 +196,7 @@ went_stay back stamps r d t =
     every_weaker (λ (x : Removed (List Word)). back_after r.returns back x.stamp ≡ false) (λ (x : Removed (List Word)). Stays back r.returns x.stamp)
     (λ x h. stays_here r.returns back x.stamp h) (still_visible stamps r.doc.cells) (went_here back stamps r d t)
 
-record Comes (back : Stamp → Bool) (r next : Reversion) : Type 0 where
+pub record Comes (back : Stamp → Bool) (r next : Reversion) : Type 0 where
   pub leads : Leads back r next
   pub stay : HaveStayed (now_back back next.returns) next.actions
 
