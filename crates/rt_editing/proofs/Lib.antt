@@ -4,6 +4,9 @@ pub mod Gone
 pub mod Growing
 pub mod Named
 pub mod Noted
+pub mod Once
+pub mod OnceReverted
+pub mod OnceTaken
 pub mod Outcomes
 pub mod PutBack
 pub mod PutBackInTurn

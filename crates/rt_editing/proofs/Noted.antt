@@ -10,7 +10,7 @@ use Rattle.rt_store.specs.Shown.{TaggedCell}
 use Rattle.rt_revert.specs.Reverting.{as_removed}
 use Rattle.rt_revert.specs.ReversionLaws.{AreSound, IsSound}
 use Rattle.rt_editing.specs.Recordings.{HasStayed, Recording, came_back, made}
-use Rattle.rt_editing.specs.Settled.{IsSettled, is_gone}
+use Rattle.rt_editing.specs.Settled.{AreGoneOnce, IsSettled, all_taken, is_gone}
 use Rattle.rt_edits.specs.declared.range.Range.{Range}
 use Rattle.rt_edits.specs.Deletions.{loss_in}
 use Rattle.rt_text.specs.Commands.{lost_in}
@@ -23,6 +23,7 @@ use Rattle.rt_editing.specs.Edits.{action_of, counts_between, has_changed, noted
 use Rattle.rt_editing.specs.Noting.{IsOfLog, Keeps}
 use Rattle.rt_editing.proofs.Actions.{action_stays, places_stay}
 use Rattle.rt_editing.proofs.Growing.{Grows, cells_stay_gone}
+use Rattle.rt_editing.proofs.Once.{HaveGone, in_noted, once_fewer, once_grown, once_more}
 
 -- SOUND HISTORIES
 
@@ -69,12 +70,17 @@ history_of view recording settled = record { closed = settled.closed; current = 
 
 -- SETTLED SITES
 
--- who came back stays gone while the log grows
+-- who is gone stays so while the log grows
+pub stay_gone : (view new : Viewed) → IsOfLog view.doc → IsOfLog new.doc → Grows view.doc.log new.doc.log → (s : Stamp) → is_gone view.doc.cells s ≡ true → is_gone new.doc.cells s ≡ true
+stay_gone view new kept same grows s h =
+    ap (λ (cells : List TaggedCell). is_gone cells s) same.cells
+    ∙ cells_stay_gone view.doc.log new.doc.log same.history grows s (sym (ap (λ (cells : List TaggedCell). is_gone cells s) kept.cells) ∙ h)
+
 pub settled_after : (view new : Viewed) (old next : Recording) → IsSettled view old → IsOfLog view.doc → IsOfLog new.doc → Grows view.doc.log new.doc.log
-    → ((s : Stamp) → came_back next s ≡ came_back old s) → IsSoundHistory next.history → IsSettled new next
-settled_after view new old next settled kept same grows back sound = record {
-  gone = λ s h. ap (λ (cells : List TaggedCell). is_gone cells s) same.cells
-      ∙ cells_stay_gone view.doc.log new.doc.log same.history grows s (sym (ap (λ (cells : List TaggedCell). is_gone cells s) kept.cells) ∙ settled.gone s (sym (back s) ∙ h));
+    → ((s : Stamp) → came_back next s ≡ came_back old s) → IsSoundHistory next.history → AreGoneOnce new.doc.cells (all_taken next.history) → IsSettled new next
+settled_after view new old next settled kept same grows back sound once = record {
+  gone = λ s h. stay_gone view new kept same grows s (settled.gone s (sym (back s) ∙ h));
+  taken = once;
   closed = sound.closed;
   current = sound.current;
   undone = sound.undone;
@@ -100,11 +106,17 @@ module _ (kind : Kind) (lost : List TaggedCell) (view new : Viewed) (old mid nex
       ∙ (λ i. Ok (record { view = new; history = sym noted_history i; undo = sym (settings.0 ∙ keeps.undo) i; auto = sym (settings.1 ∙ keeps.auto) i }))
 
   pub edit_settled : IsSettled view old → IsOfLog view.doc → IsOfLog new.doc → Grows view.doc.log new.doc.log → next.moves ≡ mid.moves
-      → IsSound (action_of kind view.doc new.doc lost) → IsSettled new next
-  edit_settled settled kept same grows moves sound =
+      → IsSound (action_of kind view.doc new.doc lost) → HaveGone view.doc.cells new.doc.cells (map (λ (r : Removed (List Word)). r.stamp) (map as_removed lost)) → IsSettled new next
+  edit_settled settled kept same grows moves sound went =
+      let changed = has_changed (length view.doc.cells) (length (text_of view.doc.cells)) new.doc in
+      let action = action_of kind view.doc new.doc lost in
       settled_after view new old next settled kept same grows (λ s. ap (λ m. came_back (record next { moves = m }) s) moves ∙ keeps.back s)
       (subst IsSoundHistory (sym noted_history)
-      (noted_sound (has_changed (length view.doc.cells) (length (text_of view.doc.cells)) new.doc) old.undo old.auto (action_of kind view.doc new.doc lost) old.history sound (history_of view old settled)))
+      (noted_sound changed old.undo old.auto action old.history sound (history_of view old settled)))
+      (subst (λ (h : History (List Word)). AreGoneOnce new.doc.cells (all_taken h)) (sym noted_history)
+      (once_fewer new.doc.cells (all_taken (noted_by changed old.undo old.auto action old.history)) (all_taken old.history ++ map (λ (r : Removed (List Word)). r.stamp) (map as_removed lost))
+      (λ s. in_noted s changed old.undo old.auto action old.history)
+      (once_more view.doc.cells new.doc.cells (all_taken old.history) (map (λ (r : Removed (List Word)). r.stamp) (map as_removed lost)) (stay_gone view new kept same grows) settled.taken went)))
 
 -- who came back under another stamp is none of the edit's characters
 pub edit_stays : (kind : Kind) (view : Viewed) (old mid : Recording) (count site after : ℕ) (removed : List (Removed (List Word)))
@@ -127,8 +139,10 @@ pub settled_forced : (view new : Viewed) (old next : Recording) → next ≡ rec
     → Grows view.doc.log new.doc.log → IsSettled new next
 settled_forced view new old next e settled kept same grows =
     subst (IsSettled new) (sym e)
-    (settled_after view new old (record old { history = forced_on old.history }) settled kept same grows (λ s. refl) (forced_sound old.history (history_of view old settled)))
+    (settled_after view new old (record old { history = forced_on old.history }) settled kept same grows (λ s. refl) (forced_sound old.history (history_of view old settled))
+    (once_grown view.doc.cells new.doc.cells (all_taken old.history) (stay_gone view new kept same grows) settled.taken))
 
 pub settled_same : (view new : Viewed) (old next : Recording) → next ≡ old → IsSettled view old → IsOfLog view.doc → IsOfLog new.doc → Grows view.doc.log new.doc.log → IsSettled new next
 settled_same view new old next e settled kept same grows =
-    subst (IsSettled new) (sym e) (settled_after view new old old settled kept same grows (λ s. refl) (history_of view old settled))
+    subst (IsSettled new) (sym e) (settled_after view new old old settled kept same grows (λ s. refl) (history_of view old settled)
+    (once_grown view.doc.cells new.doc.cells (all_taken old.history) (stay_gone view new kept same grows) settled.taken))

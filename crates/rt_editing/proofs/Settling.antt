@@ -1,5 +1,5 @@
 -- What is so between commands holds again after a group was reverted.
-use Rattle.std.proofs.Common.{◌≡◌, ℕ, zero, suc, ◌-◌, ◌<◌, ◌≤◌, Bool, true, false, List, [], ◌∷◌, Some, None, Result, Ok, Err, length, map, take, arith, refl, subst, sym, if◌then◌else◌}
+use Rattle.std.proofs.Common.{◌≡◌, ℕ, zero, suc, ◌-◌, ◌<◌, ◌≤◌, ◌++◌, Bool, true, false, List, [], ◌∷◌, Some, None, Result, Ok, Err, length, map, take, arith, refl, subst, sym, if◌then◌else◌}
 use Rattle.std.specs.Prelude.{IfOk, OnOk, nat_lt}
 use Rattle.std.specs.List.{AllByRecursion}
 use Rattle.std.proofs.lemmas.Bool.{ltb-false}
@@ -14,14 +14,15 @@ use Rattle.rt_rga.specs.Histories.{IsHistory, greatest_last_count}
 use Rattle.rt_edits.specs.Flat.{Flat}
 use Rattle.rt_undo.specs.Actions.{Action}
 use Rattle.rt_undo.specs.Undo.{History, as_group, redo_done, renamed_by, to_undo, undo_done, with_stamps_in}
-use Rattle.rt_revert.specs.Reverting.{reversion, reverted}
+use Rattle.rt_revert.specs.Reverting.{reversion, reverted, reverted_group}
 use Rattle.rt_revert.specs.ReversionLaws.{AreSound}
 use Rattle.rt_revert.proofs.Soundness.{group_renamed}
 use Rattle.rt_text.specs.Commands.{cell_check}
 use Rattle.rt_text.specs.Reversions.{reversion_check}
 use Rattle.rt_editing.specs.Recordings.{HaveStayed}
 use Rattle.rt_editing.specs.Returns.{IsOther, Return, stamp_after}
-use Rattle.rt_editing.specs.Settled.{is_gone}
+use Rattle.rt_editing.specs.Settled.{AreGoneOnce, is_gone, taken_by}
+use Rattle.rt_editing.proofs.OnceReverted.{reversion_once}
 use Rattle.rt_editing.proofs.Told.{IsReturned, reversion_told}
 
 -- WHERE THE COUNTS FIT
@@ -44,6 +45,14 @@ pub told : (flat : Flat) (group : List (Action (List Word))) (back : Stamp → B
 told flat group back number p site history cells count sound gone stay checked =
     let positive : 0 < flat.site = omega (arith, p, site) in
     reversion_told flat.site flat.log flat group back positive history (record { cells = cells; site = refl; count = count }) sound (fits flat group checked) gone stay
+
+-- and who was taken away is gone once, by the stamps of then
+pub once_told : (flat : Flat) (group : List (Action (List Word))) (others : List Stamp) (number : ℕ) → 0 < number → number ≡ flat.site → IsHistory flat.log
+    → flat.cells ≡ cells_of flat.log → flat.count ≡ greatest_last_count flat.log → AreSound group → reversion_check flat group ≡ None → AreGoneOnce flat.cells (taken_by group ++ others)
+    → AreGoneOnce (reversion flat group).doc.cells (map (stamp_after (reversion flat group).returns) others ++ taken_by (reverted_group flat group))
+once_told flat group others number p site history cells count sound checked once =
+    let positive : 0 < flat.site = omega (arith, p, site) in
+    (reversion_once flat.site flat.log flat group others positive history (record { cells = cells; site = refl; count = count }) sound (fits flat group checked) once).once
 
 -- RESULTS
 

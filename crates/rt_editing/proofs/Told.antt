@@ -37,7 +37,7 @@ use Rattle.rt_editing.proofs.Stayed.{Stays, back_one, returns_more, stays_here, 
 
 -- EACH OF SOME
 
-every_weaker : {X : Type 0} (P Q : X → Type 0) → ((x : X) → P x → Q x) → (xs : List X) → AllByRecursion P xs → AllByRecursion Q xs
+pub every_weaker : {X : Type 0} (P Q : X → Type 0) → ((x : X) → P x → Q x) → (xs : List X) → AllByRecursion P xs → AllByRecursion Q xs
 every_weaker P Q f [] h = tt
 every_weaker P Q f (x ∷ xs) h = (f x h.0, every_weaker P Q f xs h.1)
 
@@ -54,13 +54,13 @@ every_filter {X} P test (x ∷ xs) h = by (test x) (every_filter P test xs h.1)
     by true rest = (h.0, rest)
     by false rest = rest
 
-mapped : {X Y : Type 0} (P : Y → Type 0) (f : X → Y) (xs : List X) → AllByRecursion (λ x. P (f x)) xs → AllByRecursion P (map f xs)
+pub mapped : {X Y : Type 0} (P : Y → Type 0) (f : X → Y) (xs : List X) → AllByRecursion (λ x. P (f x)) xs → AllByRecursion P (map f xs)
 mapped P f [] h = tt
 mapped P f (x ∷ xs) h = (h.0, mapped P f xs h.1)
 
 -- THE CELLS OF A HISTORY
 
-record AreKept (r : Reversion) : Type 0 where
+pub record AreKept (r : Reversion) : Type 0 where
   pub site : 0 < r.doc.site
   pub below : AreBelowNext r.doc.count r.doc.cells
   pub distinct : AreDistinct r.doc.cells
@@ -70,7 +70,7 @@ first_holds : (a b : Bool) → b ≡ false → (a || b) ≡ true → a ≡ true
 first_holds true b e f = refl
 first_holds false b e f = absurd (both_ways b e f)
 
-kept_on_way : (site : ℕ) (log : List Operation) (r : Reversion) → 0 < site → IsOnWay site log r → AreKept r
+pub kept_on_way : (site : ℕ) (log : List Operation) (r : Reversion) → 0 < site → IsOnWay site log r → AreKept r
 kept_on_way site log r p h =
     let more = with_drafts site r.drafts log in
     let doc = h.document in
@@ -94,7 +94,7 @@ pub record IsTold (back : Stamp → Bool) (r : Reversion) : Type 0 where
   pub newer : AllByRecursion (λ (x : Return). Stays back r.returns x.newer) r.returns
 
 -- from one reversion on to another, who stayed stays
-record Leads (back : Stamp → Bool) (r next : Reversion) : Type 0 where
+pub record Leads (back : Stamp → Bool) (r next : Reversion) : Type 0 where
   pub told : IsTold back next
   pub stays : (s : Stamp) → Stays back r.returns s → Stays back next.returns s
 
@@ -121,7 +121,7 @@ module _ (back : Stamp → Bool) (stamp : Stamp) (tags : List Word) (ch : ℕ) (
       let older : stamp.count ≤ r.doc.count = k.older stamp (gone_known r.doc.cells stamp g) n in
       record { later = omega (arith, older); bounded = omega (arith, l); first_time = f; fresh = fresh k t }
 
-  gone_next : AreKept r → (s : Stamp) → is_gone r.doc.cells s ≡ true → is_gone next.doc.cells s ≡ true
+  pub gone_next : AreKept r → (s : Stamp) → is_gone r.doc.cells s ≡ true → is_gone next.doc.cells s ≡ true
   gone_next k s g =
       gone_put r.doc.cells stamp this s (differs (next_in r.doc) s (stamps_of r.doc.cells) (fresh_cell k) (gone_known r.doc.cells s g)) ∙ g
 
@@ -137,10 +137,10 @@ module _ (back : Stamp → Bool) (stamp : Stamp) (tags : List Word) (ch : ℕ) (
         (stays_more r.returns came back (next_in r.doc) is (stays_here r.returns back (next_in r.doc) (fresh k t)), tt);
   }
 
-abbrev brought : Stamp → List Word → Option TaggedCell → Reversion → Reversion
+abbrev pub brought : Stamp → List Word → Option TaggedCell → Reversion → Reversion
 brought stamp tags o r = unwrap_or (option_map (λ (cell : TaggedCell). with_character stamp tags cell.ch r) o) r
 
-return_told : (back : Stamp → Bool) (removed : Removed (List Word)) (r : Reversion) → AreKept r → IsTold back r → AllByRecursion IsApart r.returns → MayReturn removed
+pub return_told : (back : Stamp → Bool) (removed : Removed (List Word)) (r : Reversion) → AreKept r → IsTold back r → AllByRecursion IsApart r.returns → MayReturn removed
     → (with_return removed r).doc.count ≤ GREATEST_COUNT → Stays back r.returns removed.stamp → Leads back r (with_return removed r)
 return_told back removed r k t a m l s = by (gone_cell_of r.doc.cells stamp) refl l
   where
@@ -154,7 +154,7 @@ return_told back removed r k t a m l s = by (gone_cell_of r.doc.cells stamp) ref
         let is = is_return back stamp removed.tags cell.ch r k t g (after_apart r.returns removed.stamp a m.stamp) s f in
         record { told = told_next back stamp removed.tags cell.ch r k t g is; stays = λ u h. stays_more r.returns (record { former = stamp; newer = next_in r.doc }) back u is h }
 
-returns_told : (back : Stamp → Bool) (site : ℕ) (log : List Operation) (removed : List (Removed (List Word))) (r : Reversion) → 0 < site → IsOnWay site log r → IsTold back r
+pub returns_told : (back : Stamp → Bool) (site : ℕ) (log : List Operation) (removed : List (Removed (List Word))) (r : Reversion) → 0 < site → IsOnWay site log r → IsTold back r
     → AllByRecursion MayReturn removed → (with_returns removed r).doc.count ≤ GREATEST_COUNT → AllByRecursion (λ (x : Removed (List Word)). Stays back r.returns x.stamp) removed
     → Leads back r (with_returns removed r)
 returns_told back site log [] r p h t m l s = record { told = t; stays = λ u k. k }
@@ -180,21 +180,27 @@ stayed_on back r next action on h = record {
 }
 
 -- those that go were visible, so they didn't come back under other stamps
+pub went_here : (back : Stamp → Bool) (stamps : List Stamp) (r : Reversion) → AreDistinct r.doc.cells → IsTold back r
+    → AllByRecursion (λ (x : Removed (List Word)). back_after r.returns back x.stamp ≡ false) (still_visible stamps r.doc.cells)
+went_here back stamps r d t =
+    let P : Stamp → Type 0 = λ s. back_after r.returns back s ≡ false in
+    let cells = r.doc.cells in
+    let test : TaggedCell → Bool = λ cell. is_among stamps cell.stamp in
+    let each = each_among P (visible_of cells) (λ s m. false_from_ne_true (back_after r.returns back s)
+    (λ e. both_ways (is_gone cells s) (visible_stays cells s d m) (t.gone s e))) in
+    mapped (λ (x : Removed (List Word)). P x.stamp) as_removed (filter test (visible_of cells)) (every_filter (λ (c : TaggedCell). P c.stamp) test (visible_of cells) each)
+
 went_stay : (back : Stamp → Bool) (stamps : List Stamp) (r : Reversion) → AreDistinct r.doc.cells → IsTold back r
     → AllByRecursion (λ (x : Removed (List Word)). Stays back r.returns x.stamp) (still_visible stamps r.doc.cells)
 went_stay back stamps r d t =
-    let P : Stamp → Type 0 = Stays back r.returns in
-    let cells = r.doc.cells in
-    let test : TaggedCell → Bool = λ cell. is_among stamps cell.stamp in
-    let each = each_among P (visible_of cells) (λ s m. stays_here r.returns back s (false_from_ne_true (back_after r.returns back s)
-    (λ e. both_ways (is_gone cells s) (visible_stays cells s d m) (t.gone s e)))) in
-    mapped (λ (x : Removed (List Word)). P x.stamp) as_removed (filter test (visible_of cells)) (every_filter (λ (c : TaggedCell). P c.stamp) test (visible_of cells) each)
+    every_weaker (λ (x : Removed (List Word)). back_after r.returns back x.stamp ≡ false) (λ (x : Removed (List Word)). Stays back r.returns x.stamp)
+    (λ x h. stays_here r.returns back x.stamp h) (still_visible stamps r.doc.cells) (went_here back stamps r d t)
 
-record Comes (back : Stamp → Bool) (r next : Reversion) : Type 0 where
+pub record Comes (back : Stamp → Bool) (r next : Reversion) : Type 0 where
   pub leads : Leads back r next
   pub stay : HaveStayed (now_back back next.returns) next.actions
 
-action_told : (back : Stamp → Bool) (site : ℕ) (log : List Operation) (action : Action (List Word)) (r : Reversion) → 0 < site → IsOnWay site log r → IsSound action
+pub action_told : (back : Stamp → Bool) (site : ℕ) (log : List Operation) (action : Action (List Word)) (r : Reversion) → 0 < site → IsOnWay site log r → IsSound action
     → (with_reverted action r).doc.count ≤ GREATEST_COUNT → IsTold back r → AllByRecursion (λ (x : Removed (List Word)). Stays back r.returns x.stamp) action.removed
     → HaveStayed (now_back back r.returns) r.actions → Comes back r (with_reverted action r)
 action_told back site log action r p h c l t s st =
@@ -220,10 +226,10 @@ action_told back site log action r p h c l t s st =
     }
 
 -- none of those that actions took away came back under another stamp than it has now
-abbrev RemovedStay : (Stamp → Bool) → List Return → List (Action (List Word)) → Type 0
+abbrev pub RemovedStay : (Stamp → Bool) → List Return → List (Action (List Word)) → Type 0
 RemovedStay back returns group = AllByRecursion (λ (a : Action (List Word)). AllByRecursion (λ (x : Removed (List Word)). Stays back returns x.stamp) a.removed) group
 
-removed_on : (back : Stamp → Bool) (r next : Reversion) (group : List (Action (List Word))) → Leads back r next → RemovedStay back r.returns group → RemovedStay back next.returns group
+pub removed_on : (back : Stamp → Bool) (r next : Reversion) (group : List (Action (List Word))) → Leads back r next → RemovedStay back r.returns group → RemovedStay back next.returns group
 removed_on back r next group on h =
     every_weaker (λ (a : Action (List Word)). AllByRecursion (λ (x : Removed (List Word)). Stays back r.returns x.stamp) a.removed)
     (λ (a : Action (List Word)). AllByRecursion (λ (x : Removed (List Word)). Stays back next.returns x.stamp) a.removed)

@@ -1,5 +1,6 @@
 -- What the text is after a recorded edit was undone.
-use Rattle.std.specs.Prelude.{◌≡◌, ℕ, ◌<◌, Bool, List, [], ◌∷◌, option_map, unwrap_or}
+use Rattle.std.specs.Prelude.{◌≡◌, ℕ, ◌<◌, ◌≤◌, Bool, List, [], ◌∷◌, length, option_map, unwrap_or}
+use Rattle.rt_stamps.specs.declared.limits.TheConstants.{GREATEST_COUNT}
 use Rattle.rt_stamps.specs.Words.{Word}
 use Rattle.rt_ops.specs.Operations.{Operation}
 use Rattle.rt_tags.specs.States.{names_on}
@@ -13,10 +14,13 @@ use Rattle.rt_edits.specs.Insertions.{Piece}
 use Rattle.rt_edits.specs.Removals.{cells_at}
 use Rattle.rt_undo.specs.Actions.{Action}
 use Rattle.rt_undo.specs.declared.action.Kind.TheVariants.{Delete, Insert, Replace}
-use Rattle.rt_revert.specs.Reverting.{reverted}
+use Rattle.rt_revert.specs.Reverting.{reversion, reverted}
+use Rattle.rt_revert.specs.ReversionLaws.{AreSound}
 use Rattle.rt_text.specs.Commands.{lost_in, with_pieces_at, with_range_replaced}
 use Rattle.rt_text.specs.Widgets.{Viewed, begin_of, text_shown}
 use Rattle.rt_editing.specs.Edits.{action_of}
+use Rattle.rt_editing.specs.Returns.{removed_count}
+use Rattle.rt_editing.specs.Settled.{AreGoneOnce, taken_by}
 
 -- Characters are removed, with the action that `delete` records of it, and this is undone at once: the text is again what it was,
 -- each character with its tags. It is said of deletions that take no tags off the last newline.
@@ -75,3 +79,10 @@ ReplacementIsTakenBack =
     → IsDocument site log view.doc → tags_lost view (range ∷ []) ≡ []
     → let new = (with_range_replaced view range pieces rest).doc in
     tagged_text (reverted new (action_of Replace view.doc new (lost_in view (range ∷ [])) ∷ [])).cells ≡ tagged_text view.doc.cells
+
+-- Those whom a group took away, each once, who are gone, all come back when it is reverted: each has the cell that it had.
+abbrev pub AllComeBack : Type 0
+AllComeBack =
+    (site : ℕ) (log : List Operation) (flat : Flat) (group : List (Action (List Word))) → 0 < site → IsHistory log → IsDocument site log flat
+    → AreSound group → (reversion flat group).doc.count ≤ GREATEST_COUNT → AreGoneOnce flat.cells (taken_by group)
+    → length (reversion flat group).returns ≡ removed_count group

@@ -1,5 +1,5 @@
 // Laws of the definitions, each the contract of a function that does nothing.
-ghost use Rattle.rt_editing.specs.EditLaws.{DeletionIsTakenBack, InsertedTextIsTakenBack, InsertedTextsAreTakenBack, ReplacementIsTakenBack};
+ghost use Rattle.rt_editing.specs.EditLaws.{AllComeBack, DeletionIsTakenBack, InsertedTextIsTakenBack, InsertedTextsAreTakenBack, ReplacementIsTakenBack};
 
 /// The text after a removal of characters was undone at once, by the action that a deletion records which
 /// takes no tags off the last newline: it is again what it was, each character with its tags.
@@ -23,4 +23,10 @@ pub fn recorded_insertions()
 /// off the last newline: it is again what it was, each character with its tags.
 pub fn recorded_replacement()
     ensures { ReplacementIsTakenBack }
+{}
+
+/// Who was taken away comes back: of a group all of whose removed characters are gone, and each was removed by one of its
+/// actions, as many come back as it removed. Between calls the groups of both stacks are such (`IsSettled`).
+pub fn removed_characters()
+    ensures { AllComeBack }
 {}

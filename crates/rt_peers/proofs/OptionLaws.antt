@@ -11,7 +11,7 @@ use Rattle.rt_requests.specs.declared.options.Settings.{Settings}
 use Rattle.rt_peer_requests.specs.declared.settings.WidgetSettings.{WidgetSettings}
 use Rattle.rt_editing.specs.Edited.{Edited}
 use Rattle.rt_editing.specs.Recordings.{Recording}
-use Rattle.rt_editing.specs.Settled.{IsSettled, is_gone}
+use Rattle.rt_editing.specs.Settled.{AreGoneOnce, IsSettled, all_taken, is_gone}
 use Rattle.rt_text.specs.Limited.{limited, new_peer, with_limits, with_new_peer, with_peer}
 use Rattle.rt_text.specs.Widgets.{Viewed}
 use Rattle.rt_views.specs.declared.choice.Choice.{Choice}
@@ -53,6 +53,7 @@ one_more view new start end h = peer_leaves view new (limits_chosen view.doc.cel
 pub settled_still : (view new : Viewed) (recording : Recording) → view.doc ≡ new.doc → IsSettled view recording → IsSettled new recording
 settled_still view new recording same h = record {
   gone = λ stamp back. subst (λ (d : Flat). is_gone d.cells stamp ≡ true) same (h.gone stamp back);
+  taken = subst (λ (d : Flat). AreGoneOnce d.cells (all_taken recording.history)) same h.taken;
   closed = h.closed;
   current = h.current;
   undone = h.undone;

@@ -1,5 +1,5 @@
 // Undo and redo.
-ghost use Rattle.std.specs.Prelude.{◌≡◌, ◌⊎◌, ◌≤◌, ◌∷◌, [], true, None, Some, Ok, length, IfErr, IfOk, OnErr, OnOk};
+ghost use Rattle.std.specs.Prelude.{◌≡◌, ◌⊎◌, ◌≤◌, ◌∷◌, ◌++◌, [], true, List, None, Some, Ok, length, map, IfErr, IfOk, OnErr, OnOk};
 ghost use Rattle.std.specs.List.{AllByRecursion};
 ghost use Rattle.rt_stamps.specs.declared.stamp.Stamp.{Stamp};
 ghost use Rattle.rt_stamps.specs.Outcomes.{Refuses};
@@ -10,9 +10,9 @@ ghost use Rattle.rt_revert.specs.ReversionLaws.{AreSound};
 ghost use Rattle.rt_text.specs.Reversions.{reversion_check, view_reverted};
 ghost use Rattle.rt_editing.specs.Naming.{AreGiven, named_group};
 ghost use Rattle.rt_editing.specs.Recordings.{HaveStayed, came_back};
-ghost use Rattle.rt_editing.specs.Returns.{AreReturns, IsOther, back_after};
+ghost use Rattle.rt_editing.specs.Returns.{AreReturns, IsOther, back_after, stamp_after};
 ghost use Rattle.rt_editing.specs.Reversals.{redone, undone};
-ghost use Rattle.rt_editing.specs.Settled.{IsSettled, is_gone};
+ghost use Rattle.rt_editing.specs.Settled.{AreGoneOnce, IsSettled, is_gone, taken_by};
 
 use super::Recorder;
 use crate::counting::most_returns;
@@ -49,6 +49,10 @@ impl Recorder {
             (named_group self.new.table (group_of r.actions.items))) }
         ensures gone { IfOk result (λ r. (stamp : Stamp) → back_after r.returns.items (came_back self.new) stamp ≡ true
             → is_gone view.new.doc.cells stamp ≡ true) }
+        ensures taken { IfOk result (λ r. (others : List Stamp)
+            → AreGoneOnce view.old.doc.cells (taken_by (named_group self.old.table (group_of group.now)) ++ others)
+            → AreGoneOnce view.new.doc.cells (map (stamp_after r.returns.items) others
+            ++ taken_by (named_group self.new.table (group_of r.actions.items)))) }
         ensures ready { OnOk result (self.new.ready ≡ true) }
         ensures room { IfOk result (λ r. length r.returns.items ≤ self.new.moves.room) }
         ensures history { self.new.history ≡ self.old.history }

@@ -10,6 +10,7 @@ use Rattle.rt_undo.specs.Actions.{Removed}
 use Rattle.rt_editing.specs.Edits.{counts_between, lost_between}
 use Rattle.rt_editing.proofs.Actions.{edit_sound, lost_sound}
 use Rattle.rt_editing.proofs.Noted.{edit_settled, edit_stays, lost_stay}
+use Rattle.rt_editing.proofs.OnceTaken.{deleted_gone}
 use Rattle.rt_editing.proofs.Outcomes.{grows_deleted}
 use Rattle.rt_editing.proofs.editing.delete.Goals as goal
 
@@ -42,3 +43,4 @@ returns-clause-settled g c =
     (c.note.ensures.history (map as_removed (lost_between view words)) (λ on. c.in_ok-prepare_deletion.ensures.pending (sym keeps.undo ∙ on))) c.note.ensures.settings
     c.requires c.of-before.ensures.kept c.note.ensures.kept (grows_deleted view new words c.in_ok-delete.ensures.ok) c.note.ensures.moves
     (edit_sound Delete before.site.number view.doc new.doc (lost_between view words) c.of-before.ensures.site before.site.positive (lost_sound view ranges c.of-before.ensures.kept))
+    (deleted_gone view new words c.of-before.ensures.kept c.in_ok-delete.ensures.ok)

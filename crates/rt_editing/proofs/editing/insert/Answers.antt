@@ -6,6 +6,7 @@ use Rattle.rt_undo.specs.Actions.{Removed}
 use Rattle.rt_editing.specs.Edits.{counts_between}
 use Rattle.rt_editing.proofs.Actions.{edit_sound}
 use Rattle.rt_editing.proofs.Noted.{edit_settled, edit_stays}
+use Rattle.rt_editing.proofs.OnceTaken.{none_lost}
 use Rattle.rt_editing.proofs.Outcomes.{grows_inserted}
 use Rattle.rt_editing.proofs.editing.insert.Goals as goal
 
@@ -32,3 +33,4 @@ returns-clause-settled g c =
     (c.note.ensures.history [] (λ on. c.in_ok-prepare_insertion.ensures.pending (sym keeps.undo ∙ on))) c.note.ensures.settings
     c.requires c.of-before.ensures.kept c.note.ensures.kept (grows_inserted view new c.args.index.now c.args.pieces.now c.args.rest.now c.in_ok-insert.ensures.ok) c.note.ensures.moves
     (edit_sound Insert before.site.number view.doc new.doc [] c.of-before.ensures.site before.site.positive tt)
+    (none_lost view.doc.cells new.doc.cells)

@@ -11,6 +11,7 @@ use Rattle.rt_undo.specs.Actions.{Removed}
 use Rattle.rt_editing.specs.Edits.{counts_between, lost_from}
 use Rattle.rt_editing.proofs.Actions.{edit_sound, lost_sound}
 use Rattle.rt_editing.proofs.Noted.{edit_done, edit_settled, edit_stays, lost_stay}
+use Rattle.rt_editing.proofs.OnceTaken.{replaced_gone}
 use Rattle.rt_editing.proofs.Outcomes.{both_indices, grows_replaced}
 use Rattle.rt_editing.proofs.editing.replace.Goals as goal
 
@@ -69,3 +70,4 @@ returns-clause-settled g c =
     (c.note.ensures.history (map as_removed (lost_from view from to)) (λ on. c.in_ok-prepare_replacement.ensures.pending (sym keeps.undo ∙ on) indices.0 indices.1)) c.note.ensures.settings
     c.requires c.of-before.ensures.kept c.note.ensures.kept (grows_replaced view new from to c.args.pieces.now c.args.rest.now c.in_ok-replace.ensures.ok) c.note.ensures.moves
     (edit_sound Replace before.site.number view.doc new.doc (lost_from view from to) c.of-before.ensures.site before.site.positive (lost_sound view (range ∷ []) c.of-before.ensures.kept))
+    (replaced_gone view new from to c.args.pieces.now c.args.rest.now c.of-before.ensures.kept c.note.ensures.kept c.in_ok-replace.ensures.ok)

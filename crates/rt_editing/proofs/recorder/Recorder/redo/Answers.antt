@@ -1,9 +1,13 @@
 use Rattle.std.proofs.Common.{◌∙◌, List, ap, subst, sym}
 use Rattle.std.specs.List.{AllByRecursion}
+use Rattle.rt_stamps.specs.Words.{Word}
 use Rattle.rt_undo.specs.Actions.{group_of}
+use Rattle.rt_undo.specs.Undo.{History, redo_done, renamed_by}
 use Rattle.rt_editing.specs.Naming.{named_group}
 use Rattle.rt_editing.specs.Recordings.{came_back}
-use Rattle.rt_editing.specs.Returns.{IsOther, Return, back_after}
+use Rattle.rt_editing.specs.Returns.{IsOther, Return, back_after, stamp_after}
+use Rattle.rt_editing.specs.Settled.{AreGoneOnce, all_taken}
+use Rattle.rt_editing.proofs.OnceReverted.{after_redo, before_redo, beside_redone}
 use Rattle.rt_editing.proofs.Settling.{HistoryIsSound, sound_redone}
 use Rattle.rt_editing.proofs.recorder.Recorder.redo.Goals as goal
 
@@ -13,11 +17,16 @@ returns-clause-settled g c =
     let between = c.revert.new.self in
     let settled = c.requires.settled in
     let before : HistoryIsSound c.args.self.now.history = record { closed = settled.closed; current = settled.current; undone = settled.undone } in
+    let group = named_group c.args.self.now.table (group_of c.in_ok-group.group.items) in
+    let once = before_redo c.args.view.now.doc.cells c.args.self.now.history group c.in_ok-group.ensures.ok settled.taken in
+    let taken = c.in_ok-returns.ensures.taken (beside_redone c.args.self.now.history) once in
     let after = sound_redone c.deref-2.result.now (named_group between.table (group_of r.actions.items)) c.args.self.now.history between.history c.redone.new.self.history
     (subst (AllByRecursion IsOther) (sym c.deref-2.ensures.value) c.in_ok-returns.ensures.others) c.in_ok-returns.ensures.sound before c.revert.ensures.history c.redone.ensures.history in
     record {
       gone = λ stamp e. c.in_ok-returns.ensures.gone stamp
           (ap (λ (l : List Return). back_after l (came_back between) stamp) (sym c.deref-2.ensures.value) ∙ sym (c.redone.ensures.came_back stamp) ∙ e);
+      taken = subst (λ (h : History (List Word)). AreGoneOnce c.revert.new.view.doc.cells (all_taken h)) (sym (c.redone.ensures.history ∙ (λ i. redo_done (named_group between.table (group_of r.actions.items)) (renamed_by (stamp_after (c.deref-2.ensures.value i)) (c.revert.ensures.history i)))))
+          (after_redo c.revert.new.view.doc.cells (stamp_after r.returns.items) c.args.self.now.history (named_group between.table (group_of r.actions.items)) taken);
       closed = after.closed;
       current = after.current;
       undone = after.undone;

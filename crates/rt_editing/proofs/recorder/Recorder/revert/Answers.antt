@@ -1,4 +1,4 @@
-use Rattle.std.proofs.Common.{◌≡◌, ◌∙◌, ◌≤◌, Bool, true, List, None, length, ap, arith, subst, sym}
+use Rattle.std.proofs.Common.{◌≡◌, ◌∙◌, ◌≤◌, ◌++◌, Bool, true, List, None, length, map, ap, arith, subst, sym}
 use Rattle.std.specs.List.{AllByRecursion}
 use Rattle.rt_stamps.specs.declared.stamp.Stamp.{Stamp}
 use Rattle.rt_rga.specs.Cells.{cells_of}
@@ -14,11 +14,11 @@ use Rattle.rt_text.specs.Reversions.{reversion_check, view_reverted}
 use Rattle.rt_text.specs.Widgets.{Viewed}
 use Rattle.rt_editing.specs.Naming.{HistoryIsGiven, named_group, named_history}
 use Rattle.rt_editing.specs.Recordings.{HaveStayed, Recording, came_back}
-use Rattle.rt_editing.specs.Returns.{AreReturns, IsOther, Return, back_after}
-use Rattle.rt_editing.specs.Settled.{is_gone}
+use Rattle.rt_editing.specs.Returns.{AreReturns, IsOther, Return, back_after, stamp_after}
+use Rattle.rt_editing.specs.Settled.{AreGoneOnce, is_gone, taken_by}
 use Rattle.rt_editing.proofs.Counted.{count_named, reversion_few}
 use Rattle.rt_editing.proofs.Named.{history_kept, history_stays}
-use Rattle.rt_editing.proofs.Settling.{if_both, if_checked, on_both, told}
+use Rattle.rt_editing.proofs.Settling.{if_both, if_checked, on_both, once_told, told}
 use Rattle.rt_editing.proofs.Told.{IsReturned}
 use Rattle.rt_editing.proofs.recorder.Recorder.revert.Given.{Over}
 use Rattle.rt_editing.proofs.recorder.Recorder.revert.Goals as goal
@@ -39,6 +39,24 @@ told_here g c checked =
     (subst (λ (v : Recording). (stamp : Stamp) → came_back v stamp ≡ true → is_gone flat.cells stamp ≡ true) (sym c.self.view_is) c.requires.gone)
     (subst (λ (v : Recording). HaveStayed (came_back v) (named_group v.table group)) (sym c.self.view_is) c.requires.stay)
     checked
+
+-- and that who was taken away is gone once
+once_here : (g : Over) (c : goal.After-revert g) → reversion_check c.args.view.now.doc (named_group c.self.inside.table (group_of c.args.group.now)) ≡ None → (others : List Stamp)
+    → AreGoneOnce c.args.view.now.doc.cells (taken_by (named_group c.self.inside.table (group_of c.args.group.now)) ++ others)
+    → AreGoneOnce (reversion c.args.view.now.doc (named_group c.self.inside.table (group_of c.args.group.now))).doc.cells
+    (map (stamp_after (reversion c.args.view.now.doc (named_group c.self.inside.table (group_of c.args.group.now))).returns) others
+    ++ taken_by (reverted_group c.args.view.now.doc (named_group c.self.inside.table (group_of c.args.group.now))))
+once_here g c checked others once =
+    let s = c.self.inside in
+    let flat = c.args.view.now.doc in
+    let group = group_of c.args.group.now in
+    once_told flat (named_group s.table group) others c.site.result.number c.site.result.positive
+    (c.site.ensures ∙ ap (λ (d : Flat). d.site) c.doc-2.ensures)
+    (subst (λ (d : Flat). IsHistory d.log) c.doc.ensures c.log.ensures.history)
+    (subst (λ (d : Flat). d.cells ≡ cells_of d.log) c.doc.ensures c.log.ensures.cells)
+    (subst (λ (d : Flat). d.count ≡ greatest_last_count d.log) c.doc.ensures c.log.ensures.count)
+    (subst (λ (v : Recording). AreSound (named_group v.table group)) (sym c.self.view_is) c.requires.sound)
+    checked once
 
 pub invariant_of-self-2 : goal.invariant_of-self-2
 invariant_of-self-2 g c =
@@ -115,3 +133,23 @@ returns-clause-history g c =
     ap (named_history table) c.reserve.ensures.history
     ∙ history_kept s.table table c.revert.ensures.ids s.stacks.history c.self.invariant.given
     ∙ ap (λ (v : Recording). v.history) c.self.view_is
+
+pub returns-clause-taken : goal.returns-clause-taken
+returns-clause-taken g c =
+    let s = c.self.inside in
+    let flat = c.args.view.now.doc in
+    let group = named_group s.table (group_of c.args.group.now) in
+    let returns = (reversion flat group).returns in
+    let table = c.revert.new.kept in
+    let R : Reverted → Type 0 = λ r. r.returns.items ≡ returns in
+    let A : Reverted → Type 0 = λ r. named_group table (group_of r.actions.items) ≡ reverted_group flat group in
+    if_checked (λ (r : Reverted). R r × A r)
+    (λ (r : Reverted). (others : List Stamp) → AreGoneOnce flat.cells (taken_by group ++ others)
+    → AreGoneOnce c.revert.new.self.doc.cells (map (stamp_after r.returns.items) others ++ taken_by (named_group table (group_of r.actions.items)))) c.revert.result
+    (on_both (reversion_check flat group ≡ None) (c.revert.new.self ≡ view_reverted c.args.view.now group) c.revert.result c.revert.ensures.checked c.revert.ensures.ok)
+    (if_both R A c.revert.result c.revert.ensures.returns c.revert.ensures.actions)
+    (λ both r same others once.
+    subst (λ (l : List (Action (List Word))). AreGoneOnce c.revert.new.self.doc.cells (map (stamp_after r.returns.items) others ++ taken_by l)) (sym same.1)
+    (subst (λ (l : List Return). AreGoneOnce c.revert.new.self.doc.cells (map (stamp_after l) others ++ taken_by (reverted_group flat group))) (sym same.0)
+    (subst (λ (v : Viewed). AreGoneOnce v.doc.cells (map (stamp_after returns) others ++ taken_by (reverted_group flat group))) (sym both.1)
+    (once_here g c both.0 others once))))

@@ -1,0 +1,11 @@
+use Rattle.std.proofs.Common.{◌≡◌, ◌++◌, ◌+◌, ℕ, List, [], arith}
+use Rattle.std.proofs.lemmas.List.{append-nil}
+use Rattle.rt_editing.specs.Settled.{taken_by}
+use Rattle.rt_editing.proofs.Once.{once_fewer, times_append}
+use Rattle.rt_editing.proofs.OnceReverted.{reversion_once}
+use Rattle.rt_editing.proofs.laws.removed_characters.Goals as goal
+
+pub returns : goal.returns
+returns c site log flat group p h doc sound fits once =
+    (reversion_once site log flat group [] p h doc sound fits
+    (once_fewer flat.cells (taken_by group ++ []) (taken_by group) (λ s. let all = times_append s (taken_by group) [] in omega (arith, all)) once)).number
