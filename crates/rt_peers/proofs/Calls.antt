@@ -31,15 +31,15 @@ use Rattle.rt_peers.proofs.InTurn.{all_kept}
 
 -- CALLS THAT ACCEPT NOTHING
 
-kept_on : (IsOther : Operation → Type 0) (old new : State) → KeepsOperations old new → LivesOn IsOther old new
+pub kept_on : (IsOther : Operation → Type 0) (old new : State) → KeepsOperations old new → LivesOn IsOther old new
 kept_on IsOther old new k site limit came l = ([], subst (Lives site limit new) (sym (append-nil came)) (keeps l k), λ op i. absurd i)
 
 -- so it goes on where nothing is accepted, and where operations are made
-goes_on : (IsOther : Operation → Type 0) (old new : State) → KeepsOrMakes old new → LivesOn IsOther old new
+pub goes_on : (IsOther : Operation → Type 0) (old new : State) → KeepsOrMakes old new → LivesOn IsOther old new
 goes_on IsOther old new (inl k) site limit came l = kept_on IsOther old new k site limit came l
 goes_on IsOther old new (inr m) site limit came l = (made_by m.1, makes l m.1, λ op i. inl (made_of site limit old m.0 new came m.1 l op i))
 
-same_keeps : (old new : State) → new ≡ old → KeepsOperations old new
+pub same_keeps : (old new : State) → new ≡ old → KeepsOperations old new
 same_keeps old new e = subst (KeepsOperations old) (sym e) (all_kept old)
 
 doc_keeps : (old new : State) → new.text.view.doc ≡ old.text.view.doc → new.held ≡ old.held → KeepsOperations old new

@@ -9,6 +9,7 @@ ghost use Rattle.rt_holding.specs.Runs.{AreOf};
 ghost use Rattle.rt_peer_requests.specs.declared.options.NamedOption.{NamedOption};
 ghost use Rattle.rt_peer_requests.specs.declared.peers.PeerRequest.{PeerRequest};
 ghost use Rattle.rt_peer_requests.specs.declared.settings.WidgetSettings.{WidgetSettings};
+ghost use Rattle.rt_peers.specs.Events.{EventsGoOneWay, EventsLive};
 ghost use Rattle.rt_peers.specs.Exchange.{ExchangeAgrees, ReceivesLacking, ReceivesWhole};
 ghost use Rattle.rt_peers.specs.Lives.{AcceptsGreatest, AcceptsHistory, AgreeInAnyOrder, KeepsOrMakes, SitesHold};
 ghost use Rattle.rt_peers.specs.Memory.{CommandsGoOneWay, OthersGoOneWay, ReceivingGoesOneWay, RequestsGoOneWay};
@@ -88,11 +89,18 @@ pub fn calls()
     ensures destroyed { (path : Word) (old new : State) → destroyed path old ≡ Ok new → KeepsOperations old new }
 {}
 
+/// Any calls, one after the other, lead a site that lives to one that lives, of which `sites_agree_in_any_order` and
+/// `accepted` speak. What came to it with them are operations of its own number, and of the files that it received.
+pub fn lives_on()
+    ensures events { EventsLive }
+{}
+
 /// Where no memory was wanting, a call has one answer and leaves one state: two sites in the same state that are asked the
-/// same go on as one.
+/// same go on as one. So it is of any calls, one after the other.
 pub fn one_way()
     ensures requests { RequestsGoOneWay }
     ensures others { OthersGoOneWay }
     ensures commands { CommandsGoOneWay }
     ensures receiving { ReceivingGoesOneWay }
+    ensures events { EventsGoOneWay }
 {}

@@ -1,3 +1,4 @@
+use Rattle.rt_peers.proofs.Events.{events_once}
 use Rattle.rt_peers.proofs.OneWay.{answers_once, commands_once, receiving_once, requests_once}
 use Rattle.rt_peers.proofs.laws.one_way.Goals as goal
 
@@ -12,3 +13,6 @@ returns-clause-commands c = commands_once
 
 pub returns-clause-receiving : goal.returns-clause-receiving
 returns-clause-receiving c = receiving_once
+
+pub returns-clause-events : goal.returns-clause-events
+returns-clause-events c = events_once

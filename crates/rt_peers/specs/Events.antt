@@ -1,0 +1,107 @@
+-- Calls of a site, one after the other, and what they are answered. Where no memory was wanting, the first state and the calls decide all
+-- answers and the state in the end.
+use Rattle.std.specs.Prelude.{◌≡◌, ◌≢◌, ℕ, List, [], ◌∷◌, Result, Ok, Err, IfErr, IfOk, OnErr, OnOk}
+use Rattle.std.specs.List.{Contains}
+use Rattle.rt_stamps.specs.declared.fault.Fault.{Fault}
+use Rattle.rt_stamps.specs.declared.fault.Fault.TheVariants.{NoMemory}
+use Rattle.rt_stamps.specs.Outcomes.{Answers}
+use Rattle.rt_stamps.specs.Words.{Word}
+use Rattle.rt_requests.specs.declared.request.Request.{Request}
+use Rattle.rt_peer_requests.specs.declared.options.NamedOption.{NamedOption}
+use Rattle.rt_peer_requests.specs.declared.peers.PeerRequest.{PeerRequest}
+use Rattle.rt_peer_requests.specs.declared.settings.WidgetSettings.{WidgetSettings}
+use Rattle.rt_ops.specs.Operations.{Operation}
+use Rattle.rt_holding.specs.declared.receiving.Received.{Received}
+use Rattle.rt_peers.specs.Lives.{IsOfFile, LivesOn}
+use Rattle.rt_peers.specs.Memory.{GivesFoundMemory, ReceivingFoundMemory, RequestFoundMemory}
+use Rattle.rt_peers.specs.PeerStep.{destroyed}
+use Rattle.rt_peers.specs.SiteStep.{AnswersInTurn, Gives, SiteReceives, option_at, peer_step_at, settings_at, step_at}
+use Rattle.rt_peers.specs.State.{State}
+
+-- CALLS
+
+-- What a site is asked by a call that may change it, with what the call is given: `SiteState` has one of each name.
+pub data Event : Type 0 where
+  -- command words of the widget of a path
+  Command : (path : Word) (words : List Word) → Event
+  -- a request to it
+  Answer : (path : Word) (request : Request) → Event
+  -- its options are set
+  Configure : (path : Word) (settings : WidgetSettings) → Event
+  -- one of its options is told
+  Cget : (path : Word) (option : NamedOption) → Event
+  -- a request about its peers
+  AnswerPeers : (path : Word) (request : PeerRequest) → Event
+  -- it goes
+  Destroy : (path : Word) → Event
+  -- the bytes of a file
+  Receive : (bytes : List ℕ) → Event
+
+-- what a call tells: a reply or a fault; or what became of a file
+pub data Told : Type 0 where
+  Replied : (result : Result (List Word) Fault) → Told
+  OfFile : (received : Received) → Told
+
+-- what `SiteState::destroy` promises: the widget goes and the reply has no words, or it is refused and the site is as it was
+pub record Destroys (path : Word) (old : State) (result : Result (List Word) Fault) (new : State) : Type 0 where
+  pub reply : IfOk result (λ reply. reply ≡ [])
+  pub ok : OnOk result (destroyed path old ≡ Ok new)
+  pub err : IfErr result (λ fault. destroyed path old ≡ Err fault)
+  pub unchanged : OnErr result (new ≡ old)
+
+-- What an event tells in a state, and the state after it: by the clauses of the call's own contract. Of a file `OfFile`
+-- tells, and of all else `Replied`.
+abbrev pub EventGives : Event → State → Told → State → Type 0
+EventGives (Command path words) old (Replied result) new = Gives path words old result new
+EventGives (Answer path request) old (Replied result) new = AnswersInTurn (step_at path old request) old result new
+EventGives (Configure path settings) old (Replied result) new = Answers (settings_at path old settings) old result new
+EventGives (Cget path option) old (Replied result) new = Answers (option_at path old option) old result new
+EventGives (AnswerPeers path request) old (Replied result) new = Answers (peer_step_at path old request) old result new
+EventGives (Destroy path) old (Replied result) new = Destroys path old result new
+EventGives (Receive bytes) old (OfFile received) new = SiteReceives bytes old received new
+EventGives event old told new = ⊥
+
+-- this is told of some events, one after the other
+abbrev pub EventsGive : List Event → State → List Told → State → Type 0
+EventsGive [] old [] new = new ≡ old
+EventsGive (event ∷ events) old (told ∷ more) new = (mid : State) × EventGives event old told mid × EventsGive events mid more new
+EventsGive [] old (told ∷ more) new = ⊥
+EventsGive (event ∷ events) old [] new = ⊥
+
+-- WHERE NO MEMORY WAS WANTING
+
+-- an event found memory; `destroy` takes none
+abbrev pub EventFoundMemory : (event : Event) (old : State) (told : Told) (new : State) → EventGives event old told new → Type 0
+EventFoundMemory (Command path words) old (Replied result) new h = GivesFoundMemory path words old result new h
+EventFoundMemory (Answer path request) old (Replied result) new h = RequestFoundMemory (step_at path old request) old result new h
+EventFoundMemory (Configure path settings) old (Replied result) new h = result ≢ Err NoMemory
+EventFoundMemory (Cget path option) old (Replied result) new h = result ≢ Err NoMemory
+EventFoundMemory (AnswerPeers path request) old (Replied result) new h = result ≢ Err NoMemory
+EventFoundMemory (Destroy path) old (Replied result) new h = Unit {0}
+EventFoundMemory (Receive bytes) old (OfFile received) new h = ReceivingFoundMemory bytes old received new h
+EventFoundMemory event old told new h = Unit {0}
+
+-- each of some events found memory
+abbrev pub EventsFoundMemory : (events : List Event) (old : State) (told : List Told) (new : State) → EventsGive events old told new → Type 0
+EventsFoundMemory (event ∷ events) old (told ∷ more) new h = EventFoundMemory event old told h.0 h.1 × EventsFoundMemory events h.0 more new h.2
+EventsFoundMemory events old told new h = Unit {0}
+
+-- ONE WAY
+
+-- The same events from the same state on, where they found memory, tell the same and leave the same state.
+abbrev pub EventsGoOneWay : Type 0
+EventsGoOneWay =
+    (events : List Event) (one two : List Told) (old new left : State)
+    (h : EventsGive events old one new) (k : EventsGive events old two left)
+    → EventsFoundMemory events old one new h → EventsFoundMemory events old two left k → (one ≡ two) × (new ≡ left)
+
+-- WHAT CAME
+
+-- an operation of a file that one of some events receives
+abbrev pub IsOfReceived : List Event → Operation → Type 0
+IsOfReceived events op = (bytes : List ℕ) × Contains events (Receive bytes) × IsOfFile bytes op
+
+-- Whatever is asked of a site that lives, it lives on: what came to it with the events are operations of its own number, and of files that
+-- they receive.
+abbrev pub EventsLive : Type 0
+EventsLive = (events : List Event) (told : List Told) (old new : State) → EventsGive events old told new → LivesOn (IsOfReceived events) old new
