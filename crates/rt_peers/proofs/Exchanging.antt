@@ -1,61 +1,70 @@
 -- A site that holds nothing receives the whole log of another.
-use Rattle.std.proofs.Common.{◌≡◌, ◌∙◌, ◌⊎◌, ◌↔◌, reverse, ℕ, List, [], None, Ok, ap, inl, inr, refl, sym}
+use Rattle.std.proofs.Common.{◌≡◌, ◌∙◌, List, Ok, Result, ap, inl, inr, refl, sym}
+use Rattle.std.proofs.lemmas.Option.{IfSome_then}
+use Rattle.rt_stamps.specs.declared.fault.Fault.{Fault}
 use Rattle.rt_ops.specs.Operations.{Operation}
-use Rattle.rt_oplog.specs.Logs.{Has, union}
-use Rattle.rt_oplog.proofs.Sets.{clash_sym, has_union, union_has}
-use Rattle.rt_rga.specs.Orders.{ComeInTime}
+use Rattle.rt_oplog.specs.Logs.{joined}
+use Rattle.rt_oplog.proofs.Joins.{commutative, joined_err, joined_ok}
 use Rattle.rt_rga.specs.Histories.{IsHistory}
-use Rattle.rt_rga.proofs.Accepting.{one_list}
-use Rattle.rt_rga.proofs.Joining.{all_free, joined_free_histories, union_history}
+use Rattle.rt_rga.proofs.Accepting.{log_of as is_log}
+use Rattle.rt_rga.proofs.Joining.{joined_free_histories}
 use Rattle.rt_editing.specs.Edited.{Edited}
 use Rattle.rt_editing.specs.Edits.{text_with_new}
-use Rattle.rt_holding.specs.declared.receiving.Received.{Received}
 use Rattle.rt_holding.specs.Receiving.{State as Holder}
-use Rattle.rt_holding.proofs.Exchanged.{HasLog, by_stamp, in_reverse, of_reverse, part_ends, part_joins}
-use Rattle.rt_peers.specs.Exchange.{AreApart, ExchangeAgrees, IsFileOf, ReceivesWhole}
-use Rattle.rt_peers.specs.SiteStep.{SiteReceives, log_of, text_limit, text_log}
+use Rattle.rt_holding.proofs.Exchanged.{in_reverse}
+use Rattle.rt_peers.specs.Exchange.{AgreeOnceExchanged, ExchangeAgrees, ReceivesAny, ReceivesWhole, TellsClash}
+use Rattle.rt_peers.specs.SiteStep.{log_of, text_limit, text_log}
 use Rattle.rt_peers.specs.State.{State}
+use Rattle.rt_peers.proofs.Clashing.{file_ends}
 
 abbrev pub holder : State → Holder Edited
 holder state = record { site = state.text; held = state.held }
 
--- the whole of another history comes in time
-module _ (set log : List Operation) (h : IsHistory set) (k : IsHistory log) (apart : AreApart set log) where
-  whole_history : IsHistory (union set log)
-  whole_history = union_history set log h k (all_free set log h k apart)
+pub receives_any : (one : State) (log : List Operation) → IsHistory (log_of one) → IsHistory log → ReceivesAny one log
+receives_any one log p q bytes received new file none h =
+    let set = log_of one in
+    let ends = file_ends text_log text_limit text_with_new bytes file.0 set log (holder one) received (holder new) file.1 h.text (record { log_is = refl; none = none }) p q in (
+      λ e. let all = ends.0 e in (
+        joined_ok set log all.result (is_log set p) (is_log log q) (record {
+          log = is_log all.result all.history;
+          members = λ x. (all.some x, λ i. all.all x (elim i [ inl j ↦ inl j | inr j ↦ inr (in_reverse log x j) ]));
+        })
+            ∙ ap (λ l. Ok l) (sym all.has.log_is),
+        all.has.none,
+      ),
+      ends.1,
+    )
 
-  members : (x : Operation) → Has (union set log) x ↔ (Has set x ⊎ Has (reverse log) x)
-  members x = (
-    λ i. elim (has_union set log x i) [ inl j ↦ inl j | inr j ↦ inr (in_reverse log x j) ],
-    λ i. union_has set log x (elim i [ inl j ↦ inl j | inr j ↦ inr (of_reverse log x j) ]),
-  )
-
-  come : ComeInTime (union set log) set (reverse log)
-  come = by_stamp (union set log) log set whole_history k (λ x i. union_has set log x (inr i))
-
-joins : (bytes : List ℕ) (one new : State) (log : List Operation) (received : Received) → IsFileOf bytes log → AreApart (log_of one) log → one.held ≡ [] → SiteReceives bytes one received new
-    → IsHistory (log_of one) → IsHistory log → received.fault ≡ None → HasLog text_log text_limit text_with_new (union (log_of one) log) (holder new)
-joins bytes one new log received file apart none h p q e =
-    part_joins text_log text_limit text_with_new bytes file.0 (union (log_of one) log) (log_of one) (reverse log) (holder one) received (holder new) file.1 h.text e
-    (record { log_is = refl; none = none }) (whole_history (log_of one) log p q apart) p (members (log_of one) log p q apart) (come (log_of one) log p q apart)
+pub tells_clash : (one : State) (log : List Operation) → IsHistory (log_of one) → IsHistory log → TellsClash one log
+tells_clash one log p q bytes received new file none c h e =
+    let no = joined_err (log_of one) log c.0 c.1 c.2 c.3 c.4 in
+    let yes = ((receives_any one log p q bytes received new file none h).0 e).0 in
+    cc (no, yes)
 
 pub receives_whole : (one : State) (log : List Operation) → IsHistory (log_of one) → IsHistory log → ReceivesWhole one log
-receives_whole one log p q bytes received new file apart none h = (
-  λ e. (let all = joins bytes one new log received file apart none h p q e in (joined_free_histories (log_of one) log p q apart ∙ ap (λ l. Ok l) (sym all.log_is), all.none)),
-  part_ends text_log text_limit text_with_new bytes file.0 (union (log_of one) log) (log_of one) (reverse log) (holder one) received (holder new) file.1 h.text
-      (record { log_is = refl; none = none }) (whole_history (log_of one) log p q apart) p (members (log_of one) log p q apart) (come (log_of one) log p q apart),
-)
+receives_whole one log p q bytes received new file apart none h =
+    let any = receives_any one log p q bytes received new file none h in
+    let yes = joined_free_histories (log_of one) log p q apart in (
+      any.0,
+      IfSome_then received.fault any.1 (λ found end. elim end [ inl m ↦ inl m | inr f ↦ elim f [ inl t ↦ inr t | inr c ↦ (let no = c.1 in absurd (cc (no, yes))) ] ]),
+    )
 
-turned : (one other : List Operation) (x : Operation) → Has (union one other) x → Has (union other one) x
-turned one other x i = union_has other one x (elim (has_union one other x i) [ inl j ↦ inr j | inr j ↦ inl j ])
+-- the join is one, whichever log comes first
+pub one_join : (a b l m : List Operation) → IsHistory a → IsHistory b → joined a b ≡ Ok l → joined b a ≡ Ok m → l ≡ m
+one_join a b l m h k e f =
+    let same : ◌≡◌ {A = Result (List Operation) Fault} (Ok l) (Ok m) = sym e ∙ commutative a b (is_log a h) (is_log b k) ∙ f in
+    cc same
 
 pub exchange_agrees : (one other : State) → IsHistory (log_of one) → IsHistory (log_of other) → ExchangeAgrees one other
 exchange_agrees one other p q file_one file_other received_one received_other new_one new_other back file apart none empty h k e f =
-    let a = log_of one in
-    let b = log_of other in
-    let other_way : AreApart b a = λ x y i j. clash_sym x y ∙ apart y x j i in
-    let first = joins file_other one new_one b received_one file apart none h p q e in
-    let second = joins file_one other new_other a received_other back other_way empty k q p f in
-    first.log_is
-    ∙ one_list (union a b) (union b a) (union_history a b p q (all_free a b p q apart)) (union_history b a q p (all_free b a q p other_way)) (λ x. (turned a b x, turned b a x))
-    ∙ sym second.log_is
+    one_join (log_of one) (log_of other) (log_of new_one) (log_of new_other) p q
+    ((receives_any one (log_of other) p q file_other received_one new_one file none h).0 e).0
+    ((receives_any other (log_of one) q p file_one received_other new_other back empty k).0 f).0
+
+-- two sites that receive each other's logs with no fault told have one log
+pub one_log_exchanged : (one other left_one left_other : State) → IsHistory (log_of one) → IsHistory (log_of other)
+    → AgreeOnceExchanged log_of one other left_one left_other
+one_log_exchanged one other left_one left_other p q file_one file_other back file h k =
+    one_join (log_of one) (log_of other) (log_of left_one) (log_of left_other) p q
+    ((receives_any one (log_of other) p q file_other h.1 left_one file h.0 h.2).0 h.3).0
+    ((receives_any other (log_of one) q p file_one k.1 left_other back k.0 k.2).0 k.3).0

@@ -14,11 +14,11 @@ use Rattle.rt_rga.proofs.Joining.{all_free, joined_free_histories, union_history
 use Rattle.rt_rga.proofs.Later.{bad_prev}
 use Rattle.rt_editing.specs.Edits.{text_with_new}
 use Rattle.rt_holding.proofs.Exchanged.{HasLog, by_stamp, in_reverse, of_reverse, part_ends, part_joins}
-use Rattle.rt_peers.specs.Exchange.{AreApart, ReceivesLacking}
+use Rattle.rt_peers.specs.Exchange.{AgreeOnceCaughtUp, AreApart, ReceivesLacking}
 use Rattle.rt_peers.specs.Lacking.{is_past, since}
 use Rattle.rt_peers.specs.SiteStep.{log_of, text_limit, text_log}
 use Rattle.rt_peers.specs.State.{State}
-use Rattle.rt_peers.proofs.Exchanging.{holder}
+use Rattle.rt_peers.proofs.Exchanging.{holder, one_join}
 use Rattle.rt_peers.proofs.Lacking.{filter_has, has_filter}
 
 -- what isn't past the counts that are known is known
@@ -100,3 +100,12 @@ receives_lacking one log p q known bytes received new up file apart none h =
           (joined_free_histories set log p q apart ∙ ap (λ l. Ok l) (sym all.log_is), all.none)),
       part_ends text_log text_limit text_with_new bytes file.0 (union set log) set ops (holder one) received (holder new) file.1 h.text begins whole p same time,
     )
+
+-- two sites that receive so of each other's logs, with no fault told, have one log
+pub one_log_caught_up : (one other left_one left_other : State) → IsHistory (log_of one) → IsHistory (log_of other)
+    → AgreeOnceCaughtUp log_of one other left_one left_other
+one_log_caught_up one other left_one left_other p q known_one known_other file_one file_other up_one up_other apart back file h k =
+    let other_way : AreApart (log_of other) (log_of one) = λ x y i j. clash_sym x y ∙ apart y x j i in
+    one_join (log_of one) (log_of other) (log_of left_one) (log_of left_other) p q
+    ((receives_lacking one (log_of other) p q known_one file_other h.1 left_one up_one file apart h.0 h.2).0 h.3).0
+    ((receives_lacking other (log_of one) q p known_other file_one k.1 left_other up_other back other_way k.0 k.2).0 k.3).0

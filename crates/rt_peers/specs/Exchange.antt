@@ -1,9 +1,10 @@
 -- Sites that receive each other's logs, or of these what they lack.
-use Rattle.std.specs.Prelude.{◌≡◌, ◌≤◌, ◌⊎◌, ℕ, false, List, [], reverse, None, Ok, IfSome}
-use Rattle.rt_stamps.specs.declared.fault.Fault.TheVariants.{NoMemory, TextFull}
+use Rattle.std.specs.Prelude.{◌≡◌, ◌≢◌, ◌≤◌, ◌⊎◌, ℕ, false, List, [], reverse, None, Ok, Err, IfSome}
+use Rattle.rt_stamps.specs.declared.fault.Fault.{Fault}
+use Rattle.rt_stamps.specs.declared.fault.Fault.TheVariants.{Conflict, NoMemory, TextFull}
 use Rattle.rt_ops.specs.Operations.{Operation}
 use Rattle.rt_ops.specs.Reading.{Reads}
-use Rattle.rt_oplog.specs.Logs.{Has, clash, joined, known_end}
+use Rattle.rt_oplog.specs.Logs.{Has, HasClashOf, clash, joined, known_end}
 use Rattle.rt_holding.specs.declared.receiving.Received.{Received}
 use Rattle.rt_peers.specs.Lacking.{since}
 use Rattle.rt_peers.specs.SiteStep.{SiteReceives, log_of}
@@ -44,3 +45,46 @@ ExchangeAgrees one other =
     → IsFileOf file_one (log_of one) → IsFileOf file_other (log_of other) → AreApart (log_of one) (log_of other) → one.held ≡ [] → other.held ≡ []
     → SiteReceives file_other one received_one new_one → SiteReceives file_one other received_other new_other
     → received_one.fault ≡ None → received_other.fault ≡ None → log_of new_one ≡ log_of new_other
+
+-- WHETHER OR NOT OPERATIONS CLASH
+
+-- a fault is want of memory or of room, or it is a Conflict, and so is the join of two logs
+abbrev pub IsWantOrConflict : List Operation → List Operation → Fault → Type 0
+IsWantOrConflict one log fault = (fault ≡ NoMemory) ⊎ ((fault ≡ TextFull) ⊎ ((fault ≡ Conflict) × (joined one log ≡ Err Conflict)))
+
+-- A site that holds nothing receives the whole log of another, whatever clashes. Where no fault is told it comes to the join of both
+-- logs, with nothing held; and where one is told, it is want of memory or of room, or a Conflict of the join.
+abbrev pub ReceivesAny : State → List Operation → Type 0
+ReceivesAny one log =
+    (bytes : List ℕ) (received : Received) (new : State) → IsFileOf bytes log → one.held ≡ [] → SiteReceives bytes one received new
+    → (received.fault ≡ None → (joined (log_of one) log ≡ Ok (log_of new)) × (new.held ≡ []))
+    × IfSome received.fault (λ found. IsWantOrConflict (log_of one) log found.0)
+
+-- where two operations of both logs clash, a fault is told
+abbrev pub TellsClash : State → List Operation → Type 0
+TellsClash one log =
+    (bytes : List ℕ) (received : Received) (new : State) → IsFileOf bytes log → one.held ≡ [] → HasClashOf (log_of one) log
+    → SiteReceives bytes one received new → received.fault ≢ None
+
+-- TWO SITES AFTERWARDS
+
+-- a site that holds nothing receives a file, is told no fault, and is left as another state
+abbrev pub ReceivesAll : List ℕ → State → State → Type 0
+ReceivesAll bytes old new = (old.held ≡ []) × (received : Received) × SiteReceives bytes old received new × (received.fault ≡ None)
+
+-- two sites that receive each other's whole logs, with no fault told, show the same
+abbrev pub AgreeOnceExchanged : {Shown : Type 0} → (State → Shown) → State → State → State → State → Type 0
+AgreeOnceExchanged shown one other left_one left_other =
+    (file_one file_other : List ℕ) → IsFileOf file_one (log_of one) → IsFileOf file_other (log_of other)
+    → ReceivesAll file_other one left_one → ReceivesAll file_one other left_other → shown left_one ≡ shown left_other
+
+-- the counts of a log reach those that are known
+abbrev pub Reaches : List Operation → (ℕ → ℕ) → Type 0
+Reaches log known = (site : ℕ) → known site ≤ known_end log site
+
+-- so do two that are apart and receive of each other's log what is past counts up to which they know the operations of each site
+abbrev pub AgreeOnceCaughtUp : {Shown : Type 0} → (State → Shown) → State → State → State → State → Type 0
+AgreeOnceCaughtUp shown one other left_one left_other =
+    (known_one known_other : ℕ → ℕ) (file_one file_other : List ℕ) → Reaches (log_of one) known_one → Reaches (log_of other) known_other
+    → AreApart (log_of one) (log_of other) → IsFileOf file_one (since known_other (log_of one)) → IsFileOf file_other (since known_one (log_of other))
+    → ReceivesAll file_other one left_one → ReceivesAll file_one other left_other → shown left_one ≡ shown left_other

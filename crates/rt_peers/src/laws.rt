@@ -10,7 +10,7 @@ ghost use Rattle.rt_peer_requests.specs.declared.options.NamedOption.{NamedOptio
 ghost use Rattle.rt_peer_requests.specs.declared.peers.PeerRequest.{PeerRequest};
 ghost use Rattle.rt_peer_requests.specs.declared.settings.WidgetSettings.{WidgetSettings};
 ghost use Rattle.rt_peers.specs.Events.{EventsGoOneWay, EventsLive};
-ghost use Rattle.rt_peers.specs.Exchange.{ExchangeAgrees, ReceivesLacking, ReceivesWhole};
+ghost use Rattle.rt_peers.specs.Exchange.{AgreeOnceCaughtUp, AgreeOnceExchanged, ExchangeAgrees, ReceivesAny, ReceivesLacking, ReceivesWhole, TellsClash};
 ghost use Rattle.rt_peers.specs.Lives.{AcceptsGreatest, AcceptsHistory, AgreeInAnyOrder, KeepsOrMakes, SitesHold};
 ghost use Rattle.rt_peers.specs.Memory.{CommandsGoOneWay, OthersGoOneWay, ReceivingGoesOneWay, RequestsGoOneWay};
 ghost use Rattle.rt_peers.specs.Peers.{text_led};
@@ -55,14 +55,35 @@ pub fn sites_agree_in_any_order(one: &SiteState, other: &SiteState)
 /// A site that holds nothing receives the whole log of another, as `SiteState::export` gives it, of which no operation
 /// clashes with one of its own: it comes to the join of both logs, and so do both sites that receive each other's. It
 /// comes to the same where it receives only what is past counts up to which it knows each site's operations, as
-/// `SiteState::export_since` gives it. Only want of memory or of room ends it early.
+/// `SiteState::export_since` gives it. Only want of memory or of room ends it early. Whether or not operations clash,
+/// one that receives the whole log has the join where no fault is told; where the join is a Conflict, a fault is told,
+/// which is Conflict, or want of memory or of room before.
 pub fn exchange(one: &SiteState, other: &SiteState)
     ensures whole { ReceivesWhole one.now (log_of other.now) }
+    ensures any { ReceivesAny one.now (log_of other.now) }
+    ensures clash { TellsClash one.now (log_of other.now) }
     ensures lacking { ReceivesLacking one.now (log_of other.now) }
     ensures agree { ExchangeAgrees one.now other.now }
 {
     let _ = one.log();
     let _ = other.log();
+}
+
+/// Two sites that hold nothing receive each other's whole logs, and neither is told a fault: then both have one log and
+/// equal cells, and so equal text with equal tags. So it is where each receives only what it lacks of the other's
+/// log, if no operation of one clashes with one of the other.
+pub fn exchanged(one: &SiteState, other: &SiteState, left_one: &SiteState, left_other: &SiteState)
+    ensures logs { AgreeOnceExchanged log_of one.now other.now left_one.now left_other.now }
+    ensures cells { AgreeOnceExchanged (λ state. state.text.view.doc.cells) one.now other.now left_one.now left_other.now }
+    ensures text { AgreeOnceExchanged (λ state. tagged_text state.text.view.doc.cells) one.now other.now left_one.now left_other.now }
+    ensures lacking_logs { AgreeOnceCaughtUp log_of one.now other.now left_one.now left_other.now }
+    ensures lacking_cells { AgreeOnceCaughtUp (λ state. state.text.view.doc.cells) one.now other.now left_one.now left_other.now }
+    ensures lacking_text { AgreeOnceCaughtUp (λ state. tagged_text state.text.view.doc.cells) one.now other.now left_one.now left_other.now }
+{
+    let _ = one.log();
+    let _ = other.log();
+    let _ = left_one.log();
+    let _ = left_other.log();
 }
 
 /// What a site has accepted of what came to it, where no two of these clash and none could be taken any more, or where they
