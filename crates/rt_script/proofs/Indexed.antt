@@ -6,16 +6,17 @@ use Rattle.std.specs.Option.{option_copied}
 use Rattle.std.specs.Str.{bytes_eq}
 use Rattle.std.proofs.lemmas.List.Elements.{All-head, All-tail}
 use Rattle.indexmap.specs.IndexMap.{IndexMap, get_by}
-use Rattle.rt_script.specs.Indexed.{Finds}
 use Rattle.rt_stamps.specs.declared.limits.TheConstants.{MOST_BYTES}
 use Rattle.rt_stamps.specs.Words.{Word}
+use Rattle.rt_script.specs.Indexed.{Finds}
 use Rattle.rt_script.specs.Site.{AreWithin, GivenFile, file_named, named_files}
 
--- the first of two files or the second
-either : (b : Bool) (bytes found : List ℕ) (more : Option (List ℕ)) → (if b then Some found else more) ≡ Some bytes → length found ≤ MOST_BYTES → (more ≡ Some bytes → length bytes ≤ MOST_BYTES)
-    → length bytes ≤ MOST_BYTES
-either true bytes found more e here there = grind (arith, here, e)
-either false bytes found more e here there = there e
+-- what was found is one file or among more, and within either way
+either :
+    (b : Bool) (bytes one : List ℕ) (more : Option (List ℕ)) → (if b then Some one else more) ≡ Some bytes
+    → length one ≤ MOST_BYTES → (more ≡ Some bytes → length bytes ≤ MOST_BYTES) → length bytes ≤ MOST_BYTES
+either true bytes one more e here there = grind (arith, here, e)
+either false bytes one more e here there = there e
 
 named_within : (name : Word) (files : List GivenFile) (bytes : List ℕ) → AreWithin files → file_named name (named_files files) ≡ Some bytes → length bytes ≤ MOST_BYTES
 named_within name [] bytes within e = grind (arith, e)
@@ -30,11 +31,13 @@ pub found_file : (name : Word) (files : List GivenFile) (found : Option (Bor (Li
 found_file name files None within e = sym e
 found_file name files (Some bytes) within e = (sym e, named_within name files bytes.now within (sym e))
 
-put_at : (b : Bool) (bytes : Bor (List ℕ)) (more : Option (Bor (List ℕ))) (rest : Option (List ℕ)) → option_copied more ≡ rest → option_copied (if b then Some bytes else more) ≡ (if b then Some bytes.now else rest)
+put_at :
+    (b : Bool) (bytes : Bor (List ℕ)) (more : Option (Bor (List ℕ))) (rest : Option (List ℕ)) → option_copied more ≡ rest
+    → option_copied (if b then Some bytes else more) ≡ (if b then Some bytes.now else rest)
 put_at true bytes more rest e = refl
 put_at false bytes more rest e = e
 
--- the bytes of a file are put at its name, and it stands before the others
+-- an index has one more file, before the others, where its bytes are put at its name
 pub finds-put :
     {S : Type 0} (old new : IndexMap (Bor (List ℕ)) (Bor (List ℕ)) S) (file : GivenFile) (files : List GivenFile) (key : List ℕ) (bytes : Bor (List ℕ))
     → key ≡ string_bytes file.0 → bytes.now ≡ file.1.items

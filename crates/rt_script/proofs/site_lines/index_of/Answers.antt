@@ -14,11 +14,13 @@ of_ok (Err y) P e p = grind (arith, e)
 pub loop-file-preserved : goal.loop-file-preserved
 loop-file-preserved c =
     let file = c.in-Some.file.now in
-    let behind = c.loop-file.invariant.0 in
-    let updates = of_ok c.insert.result _ (sym c.is_err.ensures.value ∙ c.if-is_err.false) c.insert.ensures.updates in (
-      file ∷ behind,
-      c.loop-file.invariant.1 ∙ ap (λ (l : List GivenFile). l ++ behind) c.in-Some.ensures.cases.0 ∙ append_assoc c.in-Some.rest.now (file ∷ []) behind,
-      finds-put c.loop-file.index c.insert.new.self file behind c.as_str.result.now c.as_slice.result c.as_str.ensures.value c.as_slice.ensures.value
-          (hash_map_updates_str c.as_str.result.now c.loop-file.index c.insert.new.self (Some c.as_slice.result) updates)
-          c.loop-file.invariant.2,
-    )
+    let behind = c.loop-file.invariant.behind in
+    let key = c.as_str.result.now in
+    let bytes = c.as_slice.result in
+    let put = of_ok c.insert.result _ (sym c.is_err.ensures.value ∙ c.if-is_err.false) c.insert.ensures.updates in
+    let updates = hash_map_updates_str key c.loop-file.index c.insert.new.self (Some bytes) put in
+    record {
+      behind = file ∷ behind;
+      whole = c.loop-file.invariant.whole ∙ ap (λ (l : List GivenFile). l ++ behind) c.in-Some.ensures.cases.0 ∙ append_assoc c.in-Some.rest.now (file ∷ []) behind;
+      finds = finds-put c.loop-file.index c.insert.new.self file behind key bytes c.as_str.ensures.value c.as_slice.ensures.value updates c.loop-file.invariant.finds;
+    }

@@ -8,4 +8,8 @@ decreases-loop-file l = length l.left
 
 -- the index has the files behind those that are left
 abbrev pub invariant-loop-file : goal.invariant-loop-file
-invariant-loop-file l = (behind : List GivenFile) × (l.fn.files ≡ l.left ++ behind) × Finds l.index behind
+invariant-loop-file l = record {
+  behind : List GivenFile;
+  whole : l.fn.files ≡ l.left ++ behind;
+  finds : Finds l.index behind;
+}
