@@ -1,5 +1,6 @@
 pub mod EndsLaws
 pub mod FilesStay
+pub mod Indexed
 pub mod LinesLaws
 pub mod Living
 pub mod OneOutput

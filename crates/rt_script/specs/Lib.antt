@@ -1,4 +1,5 @@
 pub mod Headline
+pub mod Indexed
 pub mod Lines
 pub mod Output
 pub mod Pieces

@@ -31,7 +31,7 @@ pub fn run<R: Source, W: Sink>(
         (record { calls = W.calls out.new; failures = W.failures out.new; bytes = W.contents out.new })
         result.fault }
 {
-    let Ended { site, fault } = run_lines(alloc, Session::new(site, files), script, out);
+    let Ended { site, fault } = run_lines(alloc, Session::new(alloc, site, files), script, out);
     Ended {
         site: site.into_site(),
         fault,

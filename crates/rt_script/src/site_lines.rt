@@ -1,16 +1,19 @@
 // A site that runs the lines of a script, which may name files.
-ghost use Rattle.std.specs.Prelude.{◌≡◌, All, Some, None, codes, length, ◌≤◌, MatchOption};
+ghost use Rattle.std.specs.Prelude.{◌≡◌, All, Some, None, codes, length, ◌≤◌, MatchOption, IfSome};
 ghost use Rattle.std.specs.Str.{bytes_eq};
 ghost use Rattle.rt_stamps.specs.declared.limits.TheConstants.{MOST_BYTES};
 ghost use Rattle.rt_stamps.specs.Words.{as_words};
 ghost use Rattle.rt_peers.specs.PeerStep.{destroyed};
+ghost use Rattle.rt_script.specs.Indexed.{Finds};
 ghost use Rattle.rt_script.specs.Site.{AreWithin, DestroyGives, IsDone, ReceiveGives, PathGives, SiteGives, file_named, named_files};
 
 use crate::answer::Answer;
 use crate::commands::Commands;
+use indexmap::IndexMap;
 use rt_peer_requests::Destroy;
 use rt_peers::SiteState;
 use rt_stamps::Fault;
+use std::alloc::Global;
 use std::marker::Model;
 
 /// A site, and the files that the lines of its script may name.
@@ -18,16 +21,20 @@ use std::marker::Model;
 pub struct Session<'a> {
     site: SiteState,
     files: &'a [(String, Vec<u8>)],
+    // the bytes of the files by their names, where there was memory for that
+    index: Option<IndexMap<&'a str, &'a [u8]>>,
 }
 
 impl<'a> Model for Session<'a> {
+    ghost use Rattle.std.specs.Prelude.{IfSome};
+    ghost use Rattle.rt_script.specs.Indexed.{Finds};
     ghost use Rattle.rt_script.specs.Site.{AreWithin, Session, named_files};
 
     ghost Value = { Session };
 
     ghost view = { λ s. record { site = s.site; files = named_files s.files.now } };
 
-    ghost invariant = { λ s. AreWithin s.files.now };
+    ghost invariant = { λ s. AreWithin s.files.now × IfSome s.index (λ index. Finds index s.files.now) };
 }
 
 // Whether a line's first word is that of `receive NAME`.
@@ -61,13 +68,52 @@ fn file_named<'a>(files: &'a [(String, Vec<u8>)], name: &str) -> Option<&'a [u8]
     None
 }
 
+// An index of the files: by each name the bytes of the first that has it. None where there is no memory for one.
+fn index_of<'a>(
+    alloc: Global,
+    files: &'a [(String, Vec<u8>)],
+) -> Option<IndexMap<&'a str, &'a [u8]>>
+    ensures { IfSome result (λ index. Finds index files.now) }
+{
+    let mut index = match IndexMap::with_capacity(alloc, files.len()) {
+        Ok(index) => index,
+        Err(_) => return None,
+    };
+    // From the last file on, so that of one name the first is what stays.
+    let mut left = files;
+    while let Some((file, rest)) = left.split_last() {
+        if index.insert(file.0.as_str(), file.1.as_slice()).is_err() {
+            return None;
+        }
+        left = rest;
+    }
+    Some(index)
+}
+
+// What `file_named` answers, found by an index of the files.
+fn file_found<'a>(
+    index: &IndexMap<&'a str, &'a [u8]>,
+    files: &'a [(String, Vec<u8>)],
+    name: &str,
+) -> Option<&'a [u8]>
+    requires within { AreWithin files.now }
+    requires index { Finds index.now files.now }
+    ensures { MatchOption result
+        (file_named name.now (named_files files.now) ≡ None)
+        (λ bytes. (file_named name.now (named_files files.now) ≡ Some bytes.now) × (length bytes.now ≤ MOST_BYTES)) }
+{
+    index.get(name).copied()
+}
+
 impl<'a> Session<'a> {
-    /// A site with the files that lines may name, of at most `MOST_BYTES` bytes each.
-    pub fn new(site: SiteState, files: &'a [(String, Vec<u8>)]) -> Session<'a>
+    /// A site with the files that lines may name, of at most `MOST_BYTES` bytes each. Where there is no memory for an
+    /// index of their names, each `receive` looks through the files.
+    pub fn new(alloc: Global, site: SiteState, files: &'a [(String, Vec<u8>)]) -> Session<'a>
         requires { AreWithin files.now }
         ensures { result ≡ record { site = site; files = named_files files.now } }
     {
-        Session { site, files }
+        let index = index_of(alloc, files);
+        Session { site, files, index }
     }
 
     /// The site.
@@ -78,6 +124,18 @@ impl<'a> Session<'a> {
         site
     }
 
+    // The bytes of the file of a name: the first, where there are several.
+    fn find(&self, name: &str) -> Option<&'a [u8]>
+        ensures { MatchOption result
+            (file_named name.now self.now.files ≡ None)
+            (λ bytes. (file_named name.now self.now.files ≡ Some bytes.now) × (length bytes.now ≤ MOST_BYTES)) }
+    {
+        match &self.index {
+            Some(index) => file_found(index, self.files, name),
+            None => file_named(self.files, name),
+        }
+    }
+
     // `receive NAME`.
     fn receive(&mut self, words: &[String]) -> Answer
         ensures files { self.new.files ≡ self.old.files }
@@ -86,7 +144,7 @@ impl<'a> Session<'a> {
         let [name] = words else {
             return Answer::Refused(Fault::BadCommand);
         };
-        match file_named(self.files, name) {
+        match self.find(name) {
             Some(bytes) => Answer::Received(self.site.receive(bytes)),
             None => Answer::Refused(Fault::NoFile),
         }
