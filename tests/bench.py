@@ -21,6 +21,10 @@ where they differ by more than a tenth.
 tests/bench.py tags [PROGRAM [COUNT]]: times so many look-ups and writes of tags from random places, at a text of 40,000 characters with
 10,000 ranges of twenty tags and at four times that, in microseconds each (tests/bench/tagged.py); 20,000 of them if no number is given. It is
 wrong where they take more than 1.5 times as long at four times the size.
+tests/bench.py early [PROGRAM]: times a site to which as many operations of another one come early as it holds, and then the one that they
+wait for: in one file; each in a file of its own, the last one first; and fewer of them while the site types as many. Of each the seconds of
+the processor, those without the time in which its files are read, and how many lines told of held operations. It is wrong where a reply is,
+or where a case takes more than two seconds without its files.
 tests/bench.py instructions [PROGRAM [LINES]]: counts the instructions that a line takes, by valgrind's callgrind: those of 4,000
 lines less those of 2,000, if no number is given, which are the same each time.
 """
@@ -38,7 +42,7 @@ ROOT = os.path.dirname(os.path.dirname(os.path.abspath(__file__)))
 sys.path.insert(0, os.path.join(ROOT, "tests", "bench"))
 import growth as cases
 import tagged
-MODES = ("lists", "spans", "nodes", "replica", "tree", "instructions", "growth", "steps", "tags")
+MODES = ("early", "lists", "spans", "nodes", "replica", "tree", "instructions", "growth", "steps", "tags")
 MODE = sys.argv[1] if sys.argv[1:2] and sys.argv[1] in MODES else ""
 WORDS = sys.argv[2:] if MODE else sys.argv[1:]
 PROGRAM = WORDS[0] if WORDS else os.path.join(ROOT, "crates", "peertext", "out", "peertext")
@@ -234,26 +238,28 @@ def instructions():
     return 1 if wrong else 0
 
 
-def spent(lines, *words, site=1):
-    """Runs a script in the current folder: seconds of the processor, and the greatest memory before the input ends, in bytes."""
+def spent(lines, *words, site=1, faults=0):
+    """Runs a script in the current folder, which so many lines of are refused: seconds of the processor, and the greatest memory before
+    the input ends, in bytes."""
     with open("script", "w", encoding="ascii") as file:
         file.writelines(line + "\n" for line in lines)
         file.write(".t frob\n")
-    with open("script", "rb") as script, open("replies", "wb+") as out:
+    # The replies are read by a file of its own, since a seek in the program's would move its next write.
+    with open("script", "rb") as script, open("replies", "wb") as out, open("replies", "rb") as replies:
         child = subprocess.Popen([PROGRAM, "run", "--site", str(site), *words], stdin=subprocess.PIPE, stdout=out)
         shutil.copyfileobj(script, child.stdin)
         child.stdin.flush()
         # The last line is answered: then its memory is that of this program alone, and not of the one that started it.
-        while child.poll() is None and (out.seek(0, 2) < 14 or not ended(out)):
+        while child.poll() is None and (replies.seek(0, 2) < 14 or not ended(replies)):
             time.sleep(0.01)
         with open(f"/proc/{child.pid}/status", encoding="ascii") as status:
             memory = next((int(line.split()[1]) * 1024 for line in status if line.startswith("VmHWM")), 0)
         child.stdin.close()
         _, status, usage = os.wait4(child.pid, 0)
         child.returncode = os.waitstatus_to_exitcode(status)
-        out.seek(0)
-        refused = sum(line.startswith(b"!") for line in out)
-    expect(f"a run of {words}", child.returncode == 0 and refused == 1)
+        replies.seek(0)
+        refused = sum(line.startswith(b"!") for line in replies)
+    expect(f"a run of {words[:9]}", child.returncode == 0 and refused == 1 + faults)
     return usage.ru_utime + usage.ru_stime, memory
 
 
@@ -291,6 +297,46 @@ def grown():
     return 1 if wrong else 0
 
 
+# The most operations that a site holds, how many of them come while it types, and the seconds that a case of these may take.
+MOST_HELD, BESIDE, MOST_SECONDS = 65_536, 30_000, 2
+
+
+def typed(path, counts):
+    """Writes a file of an Insert of `x` by site 2 for each count, behind that of the count before it, after the root."""
+    with open(path, "wb") as file:
+        file.write(b"RGATEXT1")
+        file.writelines(record(count, 2, count - 1, (0, 0)) for count in counts)
+
+
+def early():
+    """Operations that come before the first of their site, and then that one."""
+    n, some = MOST_HELD, BESIDE
+    with tempfile.TemporaryDirectory() as folder:
+        os.chdir(folder)
+        # One more than may be held, which is refused.
+        typed("late", range(2, n + 3))
+        typed("some", range(2, some + 2))
+        names = [str(count) for count in range(n + 1, 0, -1)]
+        for name in names:
+            typed(name, [int(name)])
+        full = f"! 38 WaitingFull at {8 + 35 * n} new 0 repeat 0 held {n}"
+        beside = [".t insert end y"] * some
+        for name, words, lines, wanted in [
+            (f"{n + 1:,} in one file, then the first", ["late", "1"], ["receive late", "receive 1"], [full, f"= {n + 1} 0"]),
+            (f"{n:,} in falling order, then the first", names, [f"receive {name}" for name in names], [*(f"= 0 0 {i + 1}" for i in range(n)), f"= {n + 1} 0"]),
+            (f"{some:,} while {some:,} are typed, then the first", ["some", "1"], ["receive some", *beside, "receive 1"], [f"= 0 0 {some}", *["="] * some, f"= {some + 1} 0"]),
+            (f"{some:,} typed without them", [], beside, ["="] * some),
+        ]:
+            faults = sum(line.startswith("!") for line in wanted)
+            read, took = (min(spent(script, *words, faults=refused)[0] for _ in range(3)) for script, refused in (([], 0), (lines, faults)))
+            with open("replies", encoding="ascii") as file:
+                replies = file.read().splitlines()[:-1]
+            told = sum(line.startswith("= 0 0 ") or " held " in line for line in replies)
+            expect(name, replies == wanted and took - read <= MOST_SECONDS)
+            print(f"{name:44} {took:6.2f} seconds, {took - read:6.2f} without its files, {told:6,} lines told of held ones", flush=True)
+    return 1 if wrong else 0
+
+
 def steps():
     """The instructions of a command in a script of 4,000 and in one of 8,000, and of one between them."""
     n = int(WORDS[1]) if len(WORDS) > 1 else 4_000
@@ -318,5 +364,5 @@ def tags():
 
 
 if __name__ == "__main__":
-    parts = {"instructions": instructions, "lists": lists, "spans": spans, "nodes": nodes, "replica": replica, "tree": tree}
+    parts = {"early": early, "instructions": instructions, "lists": lists, "spans": spans, "nodes": nodes, "replica": replica, "tree": tree}
     sys.exit({**parts, "growth": grown, "steps": steps, "tags": tags, "": main}[MODE]())

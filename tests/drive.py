@@ -14,7 +14,7 @@ from driving.joins import joins, many_operations, outs_that_fail, outs_with_mode
 from driving.lists import long_lists
 from driving.memory import failing_allocations, failing_allocations_of_files, failing_allocations_of_held, failing_allocations_of_receive, failing_allocations_of_undo
 from driving.program import CHECKED, PROGRAM, called, check, run
-from driving.runs import exchanges, faults_before_the_script, logs_of_runs, outs_after_faults, outs_of_runs, received
+from driving.runs import early_logs, exchanges, faults_before_the_script, logs_of_runs, outs_after_faults, outs_of_runs, received
 from driving.samples import with_files
 
 
@@ -105,8 +105,8 @@ def many_marks():
 
 
 PARTS = (whole_scripts, hostile_bytes, asks_and_waits, statuses, failing_allocations, many_marks, long_lists)
-IN_FILES = (joins, outs_that_fail, outs_with_modes, shows, many_operations, outs_of_runs, logs_of_runs, received, exchanges,
-            faults_before_the_script, outs_after_faults, failing_allocations_of_files, failing_allocations_of_receive, failing_allocations_of_held,
+IN_FILES = (joins, outs_that_fail, outs_with_modes, shows, many_operations, outs_of_runs, logs_of_runs, early_logs, received,
+            exchanges, faults_before_the_script, outs_after_faults, failing_allocations_of_files, failing_allocations_of_receive, failing_allocations_of_held,
             failing_allocations_of_undo)
 
 for part in PARTS:

@@ -5,7 +5,7 @@ import signal
 import subprocess
 
 from driving.program import PROGRAM, SITE, called, check, ran, refused
-from driving.samples import AB, FILES, HEAD, OLD, contents, insert, operation, put, remove, spans
+from driving.samples import AB, FILES, HEAD, OLD, Y, contents, insert, operation, put, remove, spans
 
 
 def outs_of_runs():
@@ -51,6 +51,31 @@ def logs_of_runs():
     remove("out")
 
 
+def early_logs():
+    """Operations of the log that come early are held, which is no fault; the file of --out knows nothing of them."""
+    get = ".t get 1.0 end"
+    behind = insert(20, 3, 5, (1, 1), b"z")
+    before = insert(5, 3, 0, (0, 0), b"q")
+    names = ("late", "cut_behind", "before")
+    for name, data in zip(names, (HEAD + AB + behind, HEAD + Y + b"\0\0", HEAD + before)):
+        put(name, data)
+    for name, words, script, want, log in [
+        ("nothing else", ("--site", "3", "--log", "y"), [get, ".t edit modified"], ['= "\\n"', "= 0"], HEAD),
+        ("what it waits for", ("--site", "3", "--log", "y", "ab", "y"), ["receive y", "receive ab", "receive y", get, ".t edit modified"],
+         ["= 0 1 1", "= 2 0", "= 0 1", '= "aYb\\n"', "= 1"], HEAD + AB + Y),
+        ("a command that makes that", (*SITE, "--log", "y"), [".t insert 1.0 ab", get, ".t index insert"], ["=", '= "aYb\\n"', "= 1.3"], HEAD + AB + Y),
+        ("a command that doesn't", ("--site", "3", "--log", "y", "y"), [".t insert 1.0 c", "receive y", get], ["=", "= 0 1 1", '= "c\\n"'],
+         HEAD + insert(1, 3, 0, (0, 0), b"c")),
+        ("an operation before it", ("--site", "9", "--log", "late", "ab"), [get, "receive ab"], ['= "ab\\n"', "= 0 1 1"], FILES["ab"]),
+        ("the operation between", ("--site", "9", "--log", "late", "before"), ["receive before", get], ["= 2 0", '= "qazb\\n"'], HEAD + AB + before + behind),
+    ]:
+        check(f"--log of what comes early, and {name}", (ran(script, "--out", "out", *words), contents("out")), ((want, "", 0), log))
+    remove("out")
+    check("--log of what comes early, cut behind it", (ran([get], *SITE, "--log", "cut_behind", "--out", "out"), contents("out")),
+          (refused("cut_behind", "32 Truncated at 43"), None))
+    remove(*names)
+
+
 def received():
     """Lines that receive files, and their replies."""
     get = ".t get 1.0 end"
@@ -60,6 +85,8 @@ def received():
         ("a file that is cut", ("cut",), ["receive cut", get], ["! 32 Truncated at 44 new 1 repeat 0", '= "ab\\n"']),
         ("one that is cut after it was received", ("cut", "ab"), ["receive ab", "receive cut"], ["= 1 0", "! 32 Truncated at 44 new 0 repeat 1"]),
         ("what comes too early", ("y", "ab"), ["receive y", "receive y", "receive ab", "receive y", get], ["= 0 0 1", "= 0 1 1", "= 2 0", "= 0 1", '= "aYb\\n"']),
+        ("what comes too early with tags", ("y_tagged", "ab"), [".t mark set m end-1c", "receive y_tagged", ".t tag names", ".t index m", "receive ab", ".t tag names", ".t tag ranges t", ".t index m", get],
+         ["=", "= 0 0 1", "= sel", "= 1.0", "= 2 0", "= sel t", "= 1.1 1.2", "= 1.3", '= "aYb\\n"']),
         ("the greatest count", ("last",), ["receive last", ".t insert end a", get], ["= 1 0", "! 17 ClockSpent", '= "z\\n"']),
         ("no file", (), ["receive none"], ["! 20 NoFile"]),
         ("a file that wasn't given", ("ab",), ["receive deleted", "receive ./ab"], ["! 20 NoFile", "! 20 NoFile"]),
@@ -72,8 +99,9 @@ def received():
         ("marks", ("ab", "y"), ["receive ab", ".t mark set m 1.1", ".t mark set l 1.1", ".t mark gravity l left", "receive y", ".t index m", ".t index l"], ["= 1 0", "=", "=", "=", "= 1 0", "= 1.2", "= 1.1"]),
     ]:
         put("last", HEAD + insert(2**48 - 1, 9, 0, (0, 0), b"z"))
+        put("y_tagged", HEAD + operation(1, 3, 2, 0, (1).to_bytes(8, "big") + (1).to_bytes(2, "big") + b"\1\1tY"))
         check(f"receive: {name}", ran(script, *SITE, *words), (want, "", 0))
-        remove("last")
+        remove("last", "y_tagged")
     # a pipe gives its bytes to the first of two readings alone: of one name the first counts
     first, last = os.pipe()
     os.write(last, FILES["ab"])

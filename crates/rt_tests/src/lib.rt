@@ -27,6 +27,8 @@ mod requests;
 #[cfg(test)]
 mod rga_make;
 #[cfg(test)]
+mod rga_many;
+#[cfg(test)]
 mod rga_orders;
 #[cfg(test)]
 mod rga_sites;

@@ -31,8 +31,8 @@ fn settings(start: Limit, end: Limit, undo: Option<bool>) -> WidgetSettings {
     }
 }
 
-// Stops a test where a call is refused, or replies with another word.
-fn replies(rt: &impl Abort, alloc: Global, reply: Result<Reply, Fault>, wanted: &str) {
+/// Stops a test where a call is refused, or replies with another word.
+pub(crate) fn replies(rt: &impl Abort, alloc: Global, reply: Result<Reply, Fault>, wanted: &str) {
     let reply = reply.expect(rt, wanted);
     let word = reply.words.concat(alloc).expect(rt, "memory");
     same(rt, word.as_str(), wanted);

@@ -1,6 +1,7 @@
 // Operations that come early: many of them.
 ghost use Rattle.std.specs.Prelude.{◌≡◌, ◌≤◌};
 
+use crate::calls::replies;
 use crate::checks::same;
 use crate::sites::new_site;
 use rt_script::{Received, SiteState};
@@ -9,8 +10,8 @@ use rt_stamps::limits::{MOST_BYTES, MOST_CELLS};
 use std::alloc::Global;
 use std::process::Abort;
 
-// The bytes of a record: of an Insert of one character by a site at a count, behind the one of the count before it in its site's
-// chain, after the root.
+// The bytes of a record: of an Insert of one character by a site at a count, behind the one of the count before it in
+// its site's chain, after the root.
 fn add_typed(rt: &impl Abort, file: &mut Vec<u8>, site: u16, count: u64) {
     let before = count.saturating_sub(1);
     file.extend_from_slice(&[0, 0, 0, 0x1f, 1])
@@ -49,6 +50,22 @@ fn tells(rt: &impl Abort, received: Received, new: u64, repeats: u64, held: u64)
     );
 }
 
+// The words of a command.
+fn words_of(rt: &impl Abort, alloc: Global, line: &str) -> Vec<String> {
+    let mut words = Vec::new(alloc);
+    for word in line.split(' ') {
+        let word = String::from_str(alloc, word).expect(rt, "memory");
+        words.push(word).expect(rt, "memory");
+    }
+    words
+}
+
+// Stops a test where the text has another number of characters, the final newline among them.
+fn has_characters(rt: &impl Abort, alloc: Global, site: &mut SiteState, wanted: &str) {
+    let words = words_of(rt, alloc, "count -chars 1.0 end");
+    replies(rt, alloc, site.command(".t", &words), wanted);
+}
+
 #[test]
 fn as_many_are_held_as_may_be(rt: HostRuntime) {
     let alloc = rt.alloc();
@@ -62,22 +79,14 @@ fn as_many_are_held_as_may_be(rt: HostRuntime) {
         received.fault,
         Some((Fault::WaitingFull, 8 + 65_536 * 35)),
     );
+    has_characters(&rt, alloc, &mut site, "1");
     // It comes, and all that are held are taken.
     let first = typed(&rt, alloc, 2, 1, 1);
     let received = receive(&rt, &mut site, &first);
     tells(&rt, received, 65_537, 0, 0);
     same(&rt, received.fault, None);
     same(&rt, site.log().len(), 65_537);
-}
-
-// The words of a command.
-fn words_of(rt: &impl Abort, alloc: Global, line: &str) -> Vec<String> {
-    let mut words = Vec::new(alloc);
-    for word in line.split(' ') {
-        let word = String::from_str(alloc, word).expect(rt, "memory");
-        words.push(word).expect(rt, "memory");
-    }
-    words
+    has_characters(&rt, alloc, &mut site, "65538");
 }
 
 // Operations of a site come one by one, the last one first, and none is taken before the first.

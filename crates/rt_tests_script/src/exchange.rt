@@ -3,7 +3,9 @@ ghost use Rattle.std.specs.Prelude.{◌≡◌, ◌≤◌, IfOk, OnOk};
 ghost use Rattle.rt_script.specs.Site.{AreWithin};
 
 use crate::checks::same;
-use crate::samples::{FRONT, INSERT_BEFORE_LAST, LEAVES_SEVEN, LEAVES_SIX};
+use crate::samples::{
+    FRONT, INSERT_BEFORE_LAST, INSERT_Y_TAGGED, LEAVES_SEVEN, LEAVES_SIX, Q_BEFORE_Z, TAG_Y,
+};
 use crate::sites::{Script, answered, new_site};
 use crate::spent::SPENT;
 use rt_samples::files::{
@@ -50,8 +52,21 @@ fn given(alloc: Global, files: Files) -> Result<Vec<(String, Vec<u8>)>, Fault>
     Ok(given)
 }
 
-/// Runs scripts, one behind the other, on a new site of a number that has at most so many cells and may receive
-/// files, looks at the replies, and gives the site back.
+/// Runs scripts, one behind the other, on a site that may receive files, looks at the replies, and gives the site back.
+pub(crate) fn on_site(
+    rt: &impl Abort,
+    alloc: Global,
+    state: SiteState,
+    files: Files,
+    scripts: &[&str],
+) -> SiteState {
+    match given(alloc, files) {
+        Ok(files) => answered(rt, alloc, state, &files, scripts, 4096),
+        Err(fault) => panic!(rt; "{fault}"),
+    }
+}
+
+/// Does that on a new site of a number that has at most so many cells.
 pub(crate) fn at_site(
     rt: &impl Abort,
     alloc: Global,
@@ -63,10 +78,7 @@ pub(crate) fn at_site(
     requires { (1 ≤ limit) × (limit ≤ MOST_CELLS) }
 {
     let state = new_site(rt, alloc, number, limit);
-    match given(alloc, files) {
-        Ok(files) => answered(rt, alloc, state, &files, scripts, 4096),
-        Err(fault) => panic!(rt; "{fault}"),
-    }
+    on_site(rt, alloc, state, files, scripts)
 }
 
 /// The file of the log that such a site has then.
@@ -94,8 +106,8 @@ pub(crate) fn ends_with(
     same(rt, found.as_slice(), log);
 }
 
-// The samples, by the names that scripts know them by.
-const SAMPLES: Files<'static> = &[
+/// The samples, by the names that scripts know them by.
+pub(crate) const SAMPLES: Files<'static> = &[
     ("ab", INSERT_AB),
     ("ab", INSERT_B),
     ("second_gone", DELETE_SECOND),
@@ -116,6 +128,9 @@ const SAMPLES: Files<'static> = &[
     ("before_last", INSERT_BEFORE_LAST),
     ("leaves_six", LEAVES_SIX),
     ("leaves_seven", LEAVES_SEVEN),
+    ("y_tagged", INSERT_Y_TAGGED),
+    ("tag_y", TAG_Y),
+    ("q", Q_BEFORE_Z),
 ];
 
 /// Runs each script of a table on a new site of a number that may receive each of the samples.
@@ -346,6 +361,67 @@ receive second_gone -> = 0 2
     ),
 ];
 
+// What comes early: it isn't there before it is taken, and then it moves marks and lists its tags.
+const EARLY: &[(u16, Script)] = &[
+    (
+        3,
+        r#"
+receive y -> = 0 0 1
+receive y -> = 0 1 1
+receive ab -> = 2 0
+receive y -> = 0 1
+.t get 1.0 end -> = "aYb\n"
+"#,
+    ),
+    (
+        3,
+        r#"
+receive y -> = 0 0 1
+receive z -> = 0 0 2
+receive ab -> = 2 0
+.t get 1.0 end -> = "aYb\n"
+"#,
+    ),
+    (
+        3,
+        r#"
+.t insert 1.0 cd -> =
+.t mark set left 1.2 -> =
+.t mark gravity left left -> =
+.t mark set right 1.2 -> =
+receive y_tagged -> = 0 0 1
+receive tag_y -> = 0 0 2
+.t tag names -> = sel
+.t get 1.0 end -> = "cd\n"
+.t index right -> = 1.2
+.t index insert -> = 1.2
+receive ab -> = 3 0
+.t tag names -> = sel t u
+.t tag ranges t -> = 1.3 1.4
+.t tag ranges u -> = 1.3 1.4
+.t get 1.0 end -> = "cdaYb\n"
+.t index left -> = 1.2
+.t index right -> = 1.5
+.t index insert -> = 1.5
+"#,
+    ),
+    (
+        1,
+        r#"
+receive tag_y -> = 0 0 1
+receive y_tagged -> = 0 0 2
+.t tag names -> = sel
+.t insert 1.0 ab -> =
+.t tag names -> = sel t u
+.t tag ranges t -> = 1.1 1.2
+.t tag ranges u -> = 1.1 1.2
+.t index insert -> = 1.3
+receive tag_y -> = 0 1
+receive y_tagged -> = 0 1
+"#,
+    ),
+];
+
 const REFUSED: &[(u16, Script)] = &[
     (
         1,
@@ -434,6 +510,7 @@ const LOGS: &[(&[Script], &[u8])] = &[
 fn files_are_received(rt: HostRuntime) {
     let alloc = rt.alloc();
     receive_all(&rt, alloc, RECEIVED);
+    receive_all(&rt, alloc, EARLY);
     receive_all(&rt, alloc, REFUSED);
     receive_all(&rt, alloc, MOVED);
     receive_all(&rt, alloc, SPENT);
