@@ -1,5 +1,5 @@
 -- Characters that are gone, each of which stands once among some.
-use Rattle.std.proofs.Common.{◌≡◌, ◌∙◌, ℕ, zero, suc, ◌+◌, ◌-◌, ◌≤◌, Bool, true, false, List, [], ◌∷◌, ◌++◌, Option, Some, cond, filter, length, map, take, ap, arith, refl, subst, sym}
+use Rattle.std.proofs.Common.{◌≡◌, ◌∙◌, ℕ, ◌+◌, ◌≤◌, Bool, true, false, List, [], ◌∷◌, ◌++◌, cond, filter, length, map, ap, arith, refl, subst, sym}
 use Rattle.std.specs.Prelude.{◌&&◌}
 use Rattle.std.specs.List.{flat_map}
 use Rattle.std.proofs.lemmas.Grind.{flat_map-append}
@@ -7,11 +7,9 @@ use Rattle.std.proofs.lemmas.List.{map-append}
 use Rattle.rt_stamps.specs.declared.stamp.Stamp.{Stamp}
 use Rattle.rt_stamps.specs.Stamps.{is_same, replaced}
 use Rattle.rt_stamps.specs.Words.{Word}
-use Rattle.rt_stamps.proofs.Order.{same_from_true, same_refl}
 use Rattle.rt_store.specs.Shown.{TaggedCell}
-use Rattle.rt_store.proofs.Distinct.{split}
 use Rattle.rt_undo.specs.Actions.{Action}
-use Rattle.rt_undo.specs.Undo.{History, added, as_group, asks_separator, emptied, forced_on, last, recorded, separated, to_undo}
+use Rattle.rt_undo.specs.Undo.{History, added, as_group, asks_separator, forced_on, recorded, separated, to_undo}
 use Rattle.rt_editing.specs.Edits.{noted_by}
 use Rattle.rt_editing.specs.Settled.{AreGoneOnce, all_taken, is_gone, taken_by, times}
 

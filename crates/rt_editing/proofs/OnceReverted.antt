@@ -1,40 +1,37 @@
 -- Who was taken away is gone, and was so once, also while a group is reverted, and after it.
-use Rattle.std.proofs.Common.{◌≡◌, ◌∙◌, ℕ, zero, suc, ◌+◌, ◌-◌, ◌<◌, ◌≤◌, Bool, true, false, List, [], ◌∷◌, ◌++◌, Option, Some, cond, filter, length, map, take, ap, arith, refl, subst, sym}
-use Rattle.std.specs.Prelude.{None, option_and_then, option_map, reverse, unwrap_or}
+use Rattle.std.proofs.Common.{◌≡◌, ◌∙◌, ℕ, suc, ◌+◌, ◌-◌, ◌<◌, ◌≤◌, Bool, true, false, List, [], ◌∷◌, ◌++◌, Option, Some, cond, length, map, take, ap, arith, refl, subst, sym}
+use Rattle.std.specs.Prelude.{None, option_and_then, option_map, reverse, slice_get, unwrap_or}
 use Rattle.std.specs.List.{AllByRecursion, flat_map}
-use Rattle.std.proofs.lemmas.Bool.{both_ways, false_from_ne_true}
 use mathlib.Core.List.{reverse-cons}
 use Rattle.std.proofs.lemmas.List.{length-append, length-map, map-append, map-id, take-map}
 use Rattle.rt_stamps.specs.declared.limits.TheConstants.{GREATEST_COUNT}
 use Rattle.rt_stamps.specs.declared.stamp.Stamp.{Stamp}
-use Rattle.rt_stamps.specs.Stamps.{is_same, replaced}
+use Rattle.rt_stamps.specs.Stamps.{replaced}
 use Rattle.rt_stamps.specs.Words.{Word}
 use Rattle.rt_stamps.proofs.Order.{same_refl}
 use Rattle.rt_ops.specs.Operations.{Operation}
 use Rattle.rt_store.specs.Cells.{AreDistinct, cell_of, stamps_of}
 use Rattle.rt_store.specs.Shown.{TaggedCell}
-use Rattle.rt_store.specs.Spans.{is_among}
-use Rattle.rt_store.proofs.Distinct.{differs, first_apart, others_distinct, split}
 use Rattle.rt_rga.specs.Histories.{IsHistory}
 use Rattle.rt_edits.specs.DraftLaws.{IsDocument}
 use Rattle.rt_edits.specs.Flat.{Flat}
-use Rattle.rt_edits.specs.Removals.{cells_at, gone_at}
-use Rattle.rt_undo.specs.Actions.{Action, Removed, with_stamp, with_stamps}
+use Rattle.rt_edits.specs.Removals.{cells_at}
+use Rattle.rt_undo.specs.Actions.{Action, Removed, with_stamp}
 use Rattle.rt_undo.specs.Undo.{History, as_group, but_last, last, redo_done, renamed_by, to_undo, undo_done, with_stamps_in}
-use Rattle.rt_revert.specs.Reverting.{Reversion, are_at, as_it_is, as_removed, gone_cell_of, next_in, reversion, reverted_group, since, still_visible, with_character, with_each_reverted, with_gone, with_return, with_returns, with_reverted}
+use Rattle.rt_revert.specs.Reverting.{Reversion, are_at, as_it_is, gone_cell_of, next_in, reversion, reverted_group, since, still_visible, with_character, with_each_reverted, with_gone, with_return, with_returns, with_reverted}
 use Rattle.rt_revert.specs.ReversionLaws.{AreSound, IsSound, MayReturn}
 use Rattle.rt_revert.proofs.Stamps.{all_apart}
 use Rattle.rt_revert.proofs.Steps.{IsOnWay, action_step, all_grow, all_reversed, gone_step, return_step, returns_grow}
 use Rattle.rt_revert.proofs.TakenBack.{stamp_after_more, still_is}
-use Rattle.rt_editing.specs.Recordings.{HasStayed, HaveStayed}
+use Rattle.rt_editing.specs.Recordings.{HaveStayed}
 use Rattle.rt_editing.specs.Returns.{Return, back_after, removed_count, stamp_after}
 use Rattle.rt_editing.specs.Settled.{AreGoneOnce, all_taken, is_gone, taken_by, times}
 use Rattle.rt_editing.proofs.Counted.{count_reverse}
-use Rattle.rt_editing.proofs.Gone.{found_gone, gone_cons, gone_known, gone_still, visible_stays}
+use Rattle.rt_editing.proofs.Gone.{gone_still}
 use Rattle.rt_editing.proofs.Once.{HaveGone, by_append, in_append, in_groups, in_groups_append, in_history, in_one, in_to_undo, none_replaced, once_fewer, once_grown, once_more, one_if, taken_append, times_append, times_by}
 use Rattle.rt_editing.proofs.OnceTaken.{places_gone, removed_stamps}
 use Rattle.rt_editing.proofs.Stayed.{Stays, stamp_stays}
-use Rattle.rt_editing.proofs.Told.{AreKept, IsTold, Leads, action_told, gone_next, kept_on_way, mapped, removed_on, went_here}
+use Rattle.rt_editing.proofs.Told.{AreKept, IsTold, action_told, gone_next, kept_on_way, mapped, removed_on, went_here}
 
 -- nobody came back before
 abbrev none : Stamp → Bool
@@ -271,10 +268,13 @@ last_parts : (s : Stamp) (groups : List (List (Action (List Word)))) (group : Li
 last_parts s [] group e = absurd (cc e)
 last_parts s (g ∷ []) group e = let same : g ≡ group = cc e in let one = in_one s g in subst (λ (x : List (Action (List Word))). in_groups s (but_last (g ∷ [])) + times s (taken_by x) ≡ in_groups s (g ∷ [])) same (omega (arith, one))
 last_parts s (g ∷ h ∷ groups) group e =
-    let rest = last_parts s (h ∷ groups) group e in
+    let at : length (g ∷ h ∷ groups) - 1 ≡ suc (length (h ∷ groups) - 1) = omega arith in
+    let still : last (h ∷ groups) ≡ Some group = sym (ap (slice_get (g ∷ h ∷ groups)) at) ∙ e in
+    let front : in_groups s (but_last (g ∷ h ∷ groups)) ≡ in_groups s (g ∷ but_last (h ∷ groups)) = ap (λ n. in_groups s (take n (g ∷ h ∷ groups))) at in
+    let rest = last_parts s (h ∷ groups) group still in
     let a = times_append s (taken_by g) (flat_map taken_by (but_last (h ∷ groups))) in
     let b = times_append s (taken_by g) (flat_map taken_by (h ∷ groups)) in
-    omega (arith, rest, a, b)
+    omega (arith, front, rest, a, b)
 
 to_undo_now : (f : Stamp → Stamp) (h : History (List Word)) → to_undo (renamed_by f h) ≡ map (with_stamps_in f) (to_undo h)
 to_undo_now f h = ap (λ l. map (with_stamps_in f) h.closed ++ l) (by h.current) ∙ sym (map-append (with_stamps_in f) h.closed (as_group h.current))

@@ -2,7 +2,7 @@
 use Rattle.std.proofs.Common.{◌≡◌, ◌∙◌, ℕ, ◌+◌, ◌≤◌, ◌||◌, Bool, true, false, List, [], ◌∷◌, ◌++◌, cond, filter, length, map, ap, arith, refl, subst, sym}
 use Rattle.std.specs.Prelude.{◌-◌, ◌&&◌, Option, None, Some, Ok, drop, min, option_map, take, unwrap_or}
 use Rattle.std.specs.List.{list_any}
-use Rattle.std.proofs.lemmas.Bool.{cond-false, cond-true, or_left, or_right}
+use Rattle.std.proofs.lemmas.Bool.{cond-false, cond-true}
 use Rattle.std.proofs.lemmas.List.{take-append-drop}
 use Rattle.std.proofs.lemmas.List.Folds.{list_any-append}
 use Rattle.rt_stamps.specs.declared.stamp.Stamp.{Stamp}
@@ -22,7 +22,7 @@ use Rattle.rt_edits.specs.Removals.{cells_at, gone_at}
 use Rattle.rt_edits.specs.TagWrites.{bared, tag_write, tagged, with_tag}
 use Rattle.rt_store.specs.Cells.{after_element}
 use Rattle.rt_tags.specs.States.{names_on, written}
-use Rattle.rt_text.specs.Commands.{deleted, insertion_place, lost_in, none_inserted, replaced, right_behind, with_pieces_at, with_range_replaced, without_ranges}
+use Rattle.rt_text.specs.Commands.{deleted, lost_in, none_inserted, replaced, right_behind, with_range_replaced, without_ranges}
 use Rattle.rt_text.specs.Index.{place_at_index}
 use Rattle.rt_text.specs.Ranges.{ranges_of}
 use Rattle.rt_text.specs.Widgets.{Viewed, begin_of, in_text, length_shown, shown_by, text_shown, widget_of}

@@ -6,7 +6,6 @@ use Rattle.rt_stamps.specs.Names.{name_check}
 use Rattle.rt_stamps.specs.Outcomes.{first_of, unless}
 use Rattle.rt_stamps.specs.Words.{Word}
 use Rattle.rt_ops.specs.Operations.{Operation}
-use Rattle.rt_rga.specs.Answers.{Answer, New, Repeat, Refused}
 use Rattle.rt_edits.specs.declared.range.Range.{Range}
 use Rattle.rt_edits.specs.Deletions.{delete_drafts, loss_in}
 use Rattle.rt_edits.specs.Flat.{left_of}
@@ -17,7 +16,7 @@ use Rattle.rt_text.specs.Commands.{deleted, inserted, insertion_place, names_in,
 use Rattle.rt_text.specs.Index.{index_check, place_at_index}
 use Rattle.rt_text.specs.Ranges.{ranges_of}
 use Rattle.rt_text.specs.Widgets.{Viewed, begin_of, in_text, length_shown, shown_by, text_shown, widget_of}
-use Rattle.rt_editing.proofs.Growing.{Grows, grows_by, grows_drafts, grows_same, grows_with}
+use Rattle.rt_editing.proofs.Growing.{Grows, grows_by, grows_drafts, grows_with}
 
 -- CHECKS
 

@@ -1,5 +1,4 @@
-use Rattle.std.proofs.Common.{◌≡◌, ◌++◌, ◌+◌, ℕ, List, [], arith}
-use Rattle.std.proofs.lemmas.List.{append-nil}
+use Rattle.std.proofs.Common.{◌++◌, [], arith}
 use Rattle.rt_editing.specs.Settled.{taken_by}
 use Rattle.rt_editing.proofs.Once.{once_fewer, times_append}
 use Rattle.rt_editing.proofs.OnceReverted.{reversion_once}

@@ -1,8 +1,8 @@
-use Rattle.std.proofs.Common.{◌∙◌, List, ap, subst, sym}
+use Rattle.std.proofs.Common.{◌≡◌, ◌∙◌, List, Some, ap, subst, sym}
 use Rattle.std.specs.List.{AllByRecursion}
 use Rattle.rt_stamps.specs.Words.{Word}
 use Rattle.rt_undo.specs.Actions.{group_of}
-use Rattle.rt_undo.specs.Undo.{History, redo_done, renamed_by}
+use Rattle.rt_undo.specs.Undo.{History, next_redo, redo_done, renamed_by}
 use Rattle.rt_editing.specs.Naming.{named_group}
 use Rattle.rt_editing.specs.Recordings.{came_back}
 use Rattle.rt_editing.specs.Returns.{IsOther, Return, back_after, stamp_after}
@@ -17,8 +17,9 @@ returns-clause-settled g c =
     let between = c.revert.new.self in
     let settled = c.requires.settled in
     let before : HistoryIsSound c.args.self.now.history = record { closed = settled.closed; current = settled.current; undone = settled.undone } in
-    let group = named_group c.args.self.now.table (group_of c.in_ok-group.group.items) in
-    let once = before_redo c.args.view.now.doc.cells c.args.self.now.history group c.in_ok-group.ensures.ok settled.taken in
+    let group = named_group c.args.self.now.table (group_of c.deref.result.now) in
+    let is : next_redo c.args.self.now.history ≡ Some group = c.in_ok-group.ensures.ok ∙ ap (λ l. Some (named_group c.args.self.now.table (group_of l))) (sym c.deref.ensures.value) in
+    let once = before_redo c.args.view.now.doc.cells c.args.self.now.history group is settled.taken in
     let taken = c.in_ok-returns.ensures.taken (beside_redone c.args.self.now.history) once in
     let after = sound_redone c.deref-2.result.now (named_group between.table (group_of r.actions.items)) c.args.self.now.history between.history c.redone.new.self.history
     (subst (AllByRecursion IsOther) (sym c.deref-2.ensures.value) c.in_ok-returns.ensures.others) c.in_ok-returns.ensures.sound before c.revert.ensures.history c.redone.ensures.history in

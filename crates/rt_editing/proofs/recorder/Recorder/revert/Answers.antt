@@ -144,7 +144,7 @@ returns-clause-taken g c =
     let R : Reverted → Type 0 = λ r. r.returns.items ≡ returns in
     let A : Reverted → Type 0 = λ r. named_group table (group_of r.actions.items) ≡ reverted_group flat group in
     if_checked (λ (r : Reverted). R r × A r)
-    (λ (r : Reverted). (others : List Stamp) → AreGoneOnce flat.cells (taken_by group ++ others)
+    (λ (r : Reverted). (others : List Stamp) → AreGoneOnce flat.cells (taken_by (named_group c.args.self.now.table (group_of c.args.group.now)) ++ others)
     → AreGoneOnce c.revert.new.self.doc.cells (map (stamp_after r.returns.items) others ++ taken_by (named_group table (group_of r.actions.items)))) c.revert.result
     (on_both (reversion_check flat group ≡ None) (c.revert.new.self ≡ view_reverted c.args.view.now group) c.revert.result c.revert.ensures.checked c.revert.ensures.ok)
     (if_both R A c.revert.result c.revert.ensures.returns c.revert.ensures.actions)
@@ -152,4 +152,5 @@ returns-clause-taken g c =
     subst (λ (l : List (Action (List Word))). AreGoneOnce c.revert.new.self.doc.cells (map (stamp_after r.returns.items) others ++ taken_by l)) (sym same.1)
     (subst (λ (l : List Return). AreGoneOnce c.revert.new.self.doc.cells (map (stamp_after l) others ++ taken_by (reverted_group flat group))) (sym same.0)
     (subst (λ (v : Viewed). AreGoneOnce v.doc.cells (map (stamp_after returns) others ++ taken_by (reverted_group flat group))) (sym both.1)
-    (once_here g c both.0 others once))))
+    (once_here g c both.0 others
+    (subst (λ (v : Recording). AreGoneOnce flat.cells (taken_by (named_group v.table (group_of c.args.group.now)) ++ others)) (sym c.self.view_is) once)))))
