@@ -1,5 +1,6 @@
 pub mod Headline
 pub mod Lines
+pub mod Lived
 pub mod Output
 pub mod Pieces
 pub mod Replies
