@@ -22,7 +22,7 @@ use Rattle.rt_peers.proofs.Calls.{destroyed_on, gives_on, received_on}
 use Rattle.rt_script.specs.declared.answer.Answer.{Answer}
 use Rattle.rt_script.specs.declared.answer.Answer.TheVariants as answers
 use Rattle.rt_script.specs.declared.site_run.Outcome.{Outcome}
-use Rattle.rt_script.specs.Headline.{IsOfLog, IsOfNamed, IsRun, RunsLive}
+use Rattle.rt_script.specs.Lived.{IsOfLog, IsOfNamed, IsRun, RunsLive}
 use Rattle.rt_script.specs.Lines.{answered, complete_of, lines_of}
 use Rattle.rt_script.specs.Run.{Ends, LineGives, Ran, RanPast, RanUnwritten, Runs}
 use Rattle.rt_script.specs.Site.{DestroyGives, IsDone, IsRefused, NamedFile, PathGives, ReceiveGives, Session, SiteGives, WordsGive, file_named}

@@ -20,7 +20,7 @@ use Rattle.rt_peers.specs.State.{State, new_state}
 use Rattle.rt_peers.proofs.OneWay.{commands_once, receiving_once}
 use Rattle.rt_script.specs.declared.answer.Answer.{Answer}
 use Rattle.rt_script.specs.declared.answer.Answer.TheVariants as answers
-use Rattle.rt_script.specs.Headline.{IsRun}
+use Rattle.rt_script.specs.Lived.{IsRun}
 use Rattle.rt_script.specs.Lines.{answered, is_readable, lines_of}
 use Rattle.rt_script.specs.Output.{BeginFoundMemory, FileFoundMemory, Given, IsWhole, LineFoundMemory, LinesFoundMemory, ReceiveFoundMemory, RunsHaveOneOutput, WordsFoundMemory}
 use Rattle.rt_script.specs.Replies.{reply_line}

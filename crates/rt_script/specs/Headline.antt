@@ -1,52 +1,58 @@
--- Whole runs: what becomes of the operations of a site that runs a script, from its beginning on.
-use Rattle.std.specs.Prelude.{◌≡◌, ◌⊎◌, ℕ, ◌<◌, Bool, List, Option, None, Some, Ok}
-use Rattle.std.specs.Borrow.{Bor}
-use Rattle.rt_stamps.specs.declared.limits.TheConstants.{MOST_CELLS}
-use Rattle.rt_stamps.specs.Streams.{Stream}
+-- The headline: what is proved of peertext as a whole, of any two sites (`laws::headline`). Each word leads on to its definition.
+use Rattle.std.specs.Prelude.{◌≡◌, ◌⊎◌, ◌↔◌, List, Result, Ok, Err, MatchResult}
+use Rattle.rt_stamps.specs.declared.fault.Fault.{Fault}
+use Rattle.rt_stamps.specs.declared.fault.Fault.TheVariants.{Conflict, NoMemory}
 use Rattle.rt_stamps.specs.Words.{Word}
+use Rattle.rt_requests.specs.declared.request.Request.{Request}
+use Rattle.rt_requests.specs.Asking.{Asked, Asks}
 use Rattle.rt_ops.specs.Operations.{Operation}
-use Rattle.rt_oplog.specs.Logs.{Has}
-use Rattle.rt_peers.specs.Lives.{IsOfFile, Lives, LivesOn}
+use Rattle.rt_oplog.specs.Logs.{HasClashOf, IsUnion, joined}
+use Rattle.rt_rga.specs.Texts.{TaggedCharacter, tagged_text}
+use Rattle.rt_holding.specs.Runs.{AreOf}
+use Rattle.rt_peers.specs.Events.{EventsGoOneWay, EventsLive}
+use Rattle.rt_peers.specs.Exchange.{ReceivesAny}
+use Rattle.rt_peers.specs.Lives.{AcceptsGreatest, AgreeInAnyOrder}
+use Rattle.rt_peers.specs.SiteStep.{AnswersInTurn, log_of, step_at}
 use Rattle.rt_peers.specs.State.{State}
-use Rattle.rt_script.specs.declared.site_run.Outcome.{Outcome}
-use Rattle.rt_script.specs.Site.{NamedFile, file_named}
-use Rattle.rt_script.specs.SiteRun.{Begins, RunsScript}
+use Rattle.rt_script.specs.Lived.{RunsLive}
+use Rattle.rt_script.specs.Output.{RunsHaveOneOutput}
 
--- A site of a number begins, perhaps with a log, and runs a script; it is left so.
-pub record IsRun (number : ℕ) (end : State) : Type 0 where
-  pub log : Option (Bor (List ℕ))
-  pub start : State
-  pub begins : Begins number log (Ok start)
-  pub files : List NamedFile
-  pub wants_log : Bool
-  pub script : Stream
-  pub left : Stream
-  pub before : Stream
-  pub after : Stream
-  pub outcome : Outcome
-  pub runs : RunsScript files start wants_log script left before after outcome
-  pub is_end : outcome.site ≡ end
+-- what a site shows: its visible characters, each with the tags that are on
+abbrev pub shown : State → List TaggedCharacter
+shown state = tagged_text state.text.view.doc.cells
 
--- an operation is of the log that a site begins with
-abbrev pub IsOfLog : Option (Bor (List ℕ)) → Operation → Type 0
-IsOfLog None op = ⊥
-IsOfLog (Some log) op = IsOfFile log.now op
+-- A request that is answered has the reply of the definition of its step. One that is refused is so by that definition, or for want
+-- of memory.
+abbrev pub RepliesByStep : Type 0
+RepliesByStep =
+    (path : Word) (request : Request) (old new : State) (result : Result (List Word) Fault) → AnswersInTurn (step_at path old request) old result new
+    → MatchResult result
+    (λ reply. (mid : State) × (step_at path old request ≡ Ok (reply, mid)))
+    (λ fault. (fault ≡ NoMemory) ⊎ (step_at path old request ≡ Err fault))
 
--- it is of a file that a line of a script may name
-abbrev pub IsOfNamed : List NamedFile → Operation → Type 0
-IsOfNamed files op = (name : Word) × (bytes : List ℕ) × (file_named name files ≡ Some bytes) × IsOfFile bytes op
+-- Words ask for one thing, or are refused with one fault.
+abbrev pub WordsAskOnce : Type 0
+WordsAskOnce = (words : List Word) → (asked : Asked) × Asks words asked × ((other : Asked) → Asks words other → other ≡ asked)
 
--- However the run ends, some operations came to the site: of its own number, of the log that it began with, and of files that its
--- lines may name.
-abbrev pub RunsLive : Type 0
-RunsLive =
-    (number : ℕ) (end : State) → 0 < number → (run : IsRun number end)
-    → (came : List Operation) × Lives number MOST_CELLS end came
-    × ((op : Operation) → Has came op → (op.site ≡ number) ⊎ (IsOfLog run.log op ⊎ IsOfNamed run.files op))
-
--- A site that goes on to run a script lives on, however the run ends: to it came operations of its own number, and of files that the
--- lines may name.
-abbrev pub ScriptsLiveOn : Type 0
-ScriptsLiveOn =
-    (files : List NamedFile) (site : State) (wants_log : Bool) (script left before after : Stream) (outcome : Outcome)
-    → RunsScript files site wants_log script left before after outcome → LivesOn (IsOfNamed files) site outcome.site
+pub record Headline (one other : State) : Type 0 where
+  -- Sites that accepted the same operations show the same text with the same tags.
+  pub agree : AreOf (log_of one) (log_of other) → shown one ≡ shown other
+  -- So do those to which the same operations came, no two of which clash, in any orders, as soon as none is held that could be taken.
+  pub in_any_order : AgreeInAnyOrder shown one other
+  -- Each of these has accepted the greatest history within what came to it.
+  pub accepted : AcceptsGreatest
+  -- The join of their logs is the log of just the operations of both, and Conflict just where two of these clash.
+  pub union : (log : List Operation) → (joined (log_of one) (log_of other) ≡ Ok log) ↔ IsUnion (log_of one) (log_of other) log
+  pub conflict : (joined (log_of one) (log_of other) ≡ Err Conflict) ↔ HasClashOf (log_of one) (log_of other)
+  -- A site that holds nothing comes to that join by the file of the other's log, or is told a fault: a want, or Conflict as the join.
+  pub exchange : ReceivesAny one (log_of other)
+  -- A line's words ask for one thing, and its reply is that of the definition.
+  pub words : WordsAskOnce
+  pub replies : RepliesByStep
+  -- Calls of a site, in whatever order, have one list of answers and leave one state, where no memory was wanting.
+  pub one_way : EventsGoOneWay
+  -- What came to a site by calls, or by a whole run, are operations of its own and of the files that it was given.
+  pub calls : EventsLive
+  pub runs : RunsLive
+  -- A run that ends with no fault, and for which no memory was wanting, writes one text, which its number, script, log and files decide.
+  pub output : RunsHaveOneOutput

@@ -1,6 +1,7 @@
 pub mod Headline
 pub mod Indexed
 pub mod Lines
+pub mod Lived
 pub mod Output
 pub mod Pieces
 pub mod Replies

@@ -11,7 +11,7 @@ use Rattle.rt_peers.specs.SiteStep.{SiteReceives}
 use Rattle.rt_peers.specs.State.{State, new_state}
 use Rattle.rt_script.specs.declared.answer.Answer.{Answer}
 use Rattle.rt_script.specs.declared.answer.Answer.TheVariants as answers
-use Rattle.rt_script.specs.Headline.{IsRun}
+use Rattle.rt_script.specs.Lived.{IsRun}
 use Rattle.rt_script.specs.Lines.{answered, lines_of}
 use Rattle.rt_script.specs.Run.{LineGives, Runs}
 use Rattle.rt_script.specs.Site.{IsRefused, NamedFile, ReceiveGives, Session, SiteGives, WordsGive, file_named}

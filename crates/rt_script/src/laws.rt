@@ -3,9 +3,16 @@ ghost use Rattle.std.specs.Prelude.{◌≡◌, ◌∷◌, List, codes};
 ghost use Rattle.rt_stamps.specs.Words.{Word};
 ghost use Rattle.rt_words.specs.Spelling.{Spells};
 ghost use Rattle.rt_script.specs.declared.answer.Answer.TheVariants.{Replied};
-ghost use Rattle.rt_script.specs.Headline.{RunsLive, ScriptsLiveOn};
+ghost use Rattle.rt_script.specs.Headline.{Headline};
+ghost use Rattle.rt_script.specs.Lived.{RunsLive, ScriptsLiveOn};
 ghost use Rattle.rt_script.specs.Output.{LinesGoOneWay, RunsHaveOneOutput};
 ghost use Rattle.rt_script.specs.Replies.{text_of_answer};
+
+use rt_oplog::laws::joining;
+use rt_peers::SiteState;
+use rt_peers::laws::{accepted, exchange, lives_on, one_way, sites_agree, sites_agree_in_any_order};
+use rt_requests::laws::{reading_is_total, reading_is_unique};
+use rt_rga::laws::histories;
 
 /// The text of a reply spells `=` and the reply's words, whatever characters they have, and
 /// nothing else.
@@ -29,3 +36,23 @@ pub fn one_output()
     ensures lines { LinesGoOneWay }
     ensures runs { RunsHaveOneOutput }
 {}
+
+/// The headline, of any two sites: what is proved of them together, each sentence with the law that has it.
+pub fn headline(one: &SiteState, other: &SiteState)
+    ensures { Headline one.now other.now }
+{
+    sites_agree(one, other);
+    sites_agree_in_any_order(one, other);
+    exchange(one, other);
+    accepted();
+    one_way();
+    lives_on();
+    histories();
+    joining();
+    reading_is_total();
+    reading_is_unique();
+    runs();
+    one_output();
+    let _ = one.log();
+    let _ = other.log();
+}
