@@ -62,13 +62,13 @@ events_once (event ∷ events) (a ∷ one) (b ∷ two) old new left h k f g =
 -- LIVES
 
 -- one of some operations, or of others
-either_of : (P : Operation → Type 0) (ops more : List Operation) → ((op : Operation) → Has ops op → P op) → ((op : Operation) → Has more op → P op)
+pub either_of : (P : Operation → Type 0) (ops more : List Operation) → ((op : Operation) → Has ops op → P op) → ((op : Operation) → Has more op → P op)
     → (op : Operation) → Has (ops ++ more) op → P op
 either_of P [] more f g op h = g op h
 either_of P (q ∷ ops) more f g op (inl e) = f op (inl e)
 either_of P (q ∷ ops) more f g op (inr i) = either_of P ops more (λ x j. f x (inr j)) g op i
 
-then_on : (IsOther : Operation → Type 0) (old mid new : State) → LivesOn IsOther old mid → LivesOn IsOther mid new → LivesOn IsOther old new
+pub then_on : (IsOther : Operation → Type 0) (old mid new : State) → LivesOn IsOther old mid → LivesOn IsOther mid new → LivesOn IsOther old new
 then_on IsOther old mid new f g site limit came l =
     let one = f site limit came l in
     let two = g site limit (came ++ one.0) one.1 in (
@@ -78,7 +78,7 @@ then_on IsOther old mid new f g site limit came l =
     )
 
 -- more is known of the others
-known_on : (P Q : Operation → Type 0) (old new : State) → ((op : Operation) → P op → Q op) → LivesOn P old new → LivesOn Q old new
+pub known_on : (P Q : Operation → Type 0) (old new : State) → ((op : Operation) → P op → Q op) → LivesOn P old new → LivesOn Q old new
 known_on P Q old new w f site limit came l =
     let one = f site limit came l in (one.0, one.1, λ op i. elim (one.2 op i) [ inl e ↦ inl e | inr p ↦ inr (w op p) ])
 

@@ -1,14 +1,16 @@
 -- What is asked of marks and tags takes no operation away, so who is gone stays gone.
-use Rattle.std.proofs.Common.{◌≡◌, List, Ok, Err, Result, refl, subst, sym}
+use Rattle.std.proofs.Common.{◌≡◌, arith, List, Ok, Err, Result, refl, subst, sym}
 use Rattle.rt_stamps.specs.declared.fault.Fault.{Fault}
 use Rattle.rt_stamps.specs.Outcomes.{Answers}
 use Rattle.rt_stamps.specs.Words.{Word}
 use Rattle.rt_ops.specs.Operations.{Operation}
+use Rattle.rt_store.specs.Shown.{TaggedCell}
+use Rattle.rt_undo.specs.Undo.{History, no_history}
 use Rattle.rt_requests.specs.declared.request.MarkRequest.{MarkRequest}
 use Rattle.rt_requests.specs.declared.request.TagRequest.{TagRequest}
 use Rattle.rt_text.specs.Widgets.{Viewed}
 use Rattle.rt_editing.specs.Recordings.{Recording}
-use Rattle.rt_editing.specs.Settled.{IsSettled}
+use Rattle.rt_editing.specs.Settled.{AreGoneOnce, IsSettled, all_taken}
 use Rattle.rt_editing.specs.Noting.{IsOfLog}
 use Rattle.rt_editing.proofs.Growing.{Grows, grows_drafts}
 use Rattle.rt_editing.proofs.Noted.{settled_same}
@@ -29,6 +31,10 @@ pub tag_grows : (view new : Viewed) (request : TagRequest) (words : List Word) �
 tag_grows view new request words h = steps_grow view new (tag_stays view new request words h)
 
 -- SETTLED SITES
+
+-- where nothing was done nobody was taken away
+pub none_taken : (cells : List TaggedCell) (h : History (List Word)) → h ≡ no_history → AreGoneOnce cells (all_taken h)
+none_taken cells h e = subst (λ (x : History (List Word)). AreGoneOnce cells (all_taken x)) (sym e) (λ s. omega arith)
 
 -- a site stays settled where what its widget shows is changed so
 pub viewer_settled : (view new : Viewed) (recording : Recording) (outcome : Outcome Viewed) (result : Result (List Word) Fault) → Answers outcome view result new

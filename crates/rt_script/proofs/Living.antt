@@ -19,6 +19,7 @@ use Rattle.rt_peers.specs.PeerStep.{destroyed}
 use Rattle.rt_peers.specs.SiteStep.{SiteReceives}
 use Rattle.rt_peers.specs.State.{State, new_state}
 use Rattle.rt_peers.proofs.Calls.{destroyed_on, gives_on, received_on}
+use Rattle.rt_peers.proofs.Events.{either_of, known_on, then_on as goes_on}
 use Rattle.rt_script.specs.declared.answer.Answer.{Answer}
 use Rattle.rt_script.specs.declared.answer.Answer.TheVariants as answers
 use Rattle.rt_script.specs.declared.site_run.Outcome.{Outcome}
@@ -28,30 +29,9 @@ use Rattle.rt_script.specs.Run.{Ends, LineGives, Ran, RanPast, RanUnwritten, Run
 use Rattle.rt_script.specs.Site.{DestroyGives, IsDone, IsRefused, NamedFile, PathGives, ReceiveGives, Session, SiteGives, WordsGive, file_named}
 use Rattle.rt_script.specs.SiteRun.{Begins, BeginsWith, RunsScript}
 
--- one of some operations, or of others
-either_of : (P : Operation → Type 0) (ops more : List Operation) → ((op : Operation) → Has ops op → P op) → ((op : Operation) → Has more op → P op)
-    → (op : Operation) → Has (ops ++ more) op → P op
-either_of P [] more f g op h = g op h
-either_of P (q ∷ ops) more f g op (inl e) = f op (inl e)
-either_of P (q ∷ ops) more f g op (inr i) = either_of P ops more (λ x j. f x (inr j)) g op i
-
 stays_on : (IsOther : Operation → Type 0) (old new : State) → new ≡ old → LivesOn IsOther old new
 stays_on IsOther old new e site limit came l =
     ([], subst (λ (s : State). Lives site limit s (came ++ [])) (sym e) (subst (Lives site limit old) (sym (append-nil came)) l), λ op i. absurd i)
-
-goes_on : (IsOther : Operation → Type 0) (old mid new : State) → LivesOn IsOther old mid → LivesOn IsOther mid new → LivesOn IsOther old new
-goes_on IsOther old mid new f g site limit came l =
-    let one = f site limit came l in
-    let two = g site limit (came ++ one.0) one.1 in (
-      one.0 ++ two.0,
-      subst (Lives site limit new) (append_assoc came one.0 two.0) two.1,
-      either_of (λ op. (op.site ≡ site) ⊎ IsOther op) one.0 two.0 one.2 two.2,
-    )
-
--- more is known of the others
-known_on : (P Q : Operation → Type 0) (old new : State) → ((op : Operation) → P op → Q op) → LivesOn P old new → LivesOn Q old new
-known_on P Q old new w f site limit came l =
-    let one = f site limit came l in (one.0, one.1, λ op i. elim (one.2 op i) [ inl e ↦ inl e | inr p ↦ inr (w op p) ])
 
 -- WORDS
 

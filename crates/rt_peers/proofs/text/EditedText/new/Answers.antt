@@ -1,11 +1,11 @@
-use Rattle.std.proofs.Common.{◌∙◌, arith, subst, sym}
+use Rattle.std.proofs.Common.{◌∙◌, subst, sym}
 use Rattle.std.specs.List.{AllByRecursion}
 use Rattle.std.proofs.lemmas.Result.{err_from_is_err_and}
 use Rattle.rt_stamps.specs.Words.{Word}
 use Rattle.std.specs.Prelude.{List}
 use Rattle.rt_revert.specs.ReversionLaws.{AreSound}
 use Rattle.rt_undo.specs.Undo.{History}
-use Rattle.rt_editing.specs.Settled.{AreGoneOnce, all_taken}
+use Rattle.rt_peers.proofs.Growing.{none_taken}
 use Rattle.rt_peers.proofs.text.EditedText.new.Goals as goal
 
 pub returns-in_err-recorder-clause-err : goal.returns-in_err-recorder-clause-err
@@ -18,7 +18,7 @@ invariant_of-result c =
     let none = c.in_ok-recorder.ensures.history in
     record {
       gone = λ s back. let never = c.in_ok-recorder.ensures.came_back s in absurd (cc (never, back));
-      taken = subst (λ (h : History (List Word)). AreGoneOnce _ (all_taken h)) (sym none) (λ s. omega arith);
+      taken = none_taken _ _ none;
       closed = subst (λ (h : History (List Word)). AllByRecursion AreSound h.closed) (sym none) tt;
       current = subst (λ (h : History (List Word)). AreSound h.current) (sym none) tt;
       undone = subst (λ (h : History (List Word)). AllByRecursion AreSound h.undone) (sym none) tt;
