@@ -1,5 +1,5 @@
-//! Tests of the crates from rt_revert and rt_tree down, and of rt_args, by what is public of them. The library itself is
-//! empty.
+//! Tests of the crates from rt_revert and rt_tree down, and of rt_args, by what is public of them. The library itself
+//! is empty.
 #![tactic(auto)]
 
 #[cfg(test)]
