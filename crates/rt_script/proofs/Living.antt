@@ -1,11 +1,11 @@
 -- Lines that a site runs are calls by which it lives on.
-use Rattle.std.proofs.Common.{◌≡◌, ◌⊎◌, ◌∙◌, ◌<◌, ℕ, Bool, true, false, List, [], ◌∷◌, ◌++◌, Option, None, Some, Ok, Err, Result, append_assoc, inl, inr, refl, subst, sym, lit<}
+use Rattle.std.proofs.Common.{◌≡◌, ◌⊎◌, ◌∙◌, ◌<◌, ℕ, Bool, true, false, List, [], ◌∷◌, ◌++◌, Option, None, Some, Ok, Err, Result, inl, inr, refl, subst, sym, lit<}
 use Rattle.std.specs.Borrow.{Bor}
 use Rattle.std.specs.Prelude.{MatchOption, MatchResult, codes}
 use Rattle.std.specs.Str.{bytes_eq}
 use Rattle.std.proofs.lemmas.List.{append-nil}
 use Rattle.rt_stamps.specs.declared.fault.Fault.{Fault}
-use Rattle.rt_stamps.specs.declared.fault.Fault.TheVariants.{NoFile, NoMemory, ReadFault, WriteFault}
+use Rattle.rt_stamps.specs.declared.fault.Fault.TheVariants.{NoFile}
 use Rattle.rt_stamps.specs.declared.limits.TheConstants.{MOST_CELLS}
 use Rattle.rt_stamps.specs.Streams.{Stream}
 use Rattle.rt_stamps.specs.Words.{Word}
@@ -23,11 +23,11 @@ use Rattle.rt_peers.proofs.Events.{either_of, known_on, then_on as goes_on}
 use Rattle.rt_script.specs.declared.answer.Answer.{Answer}
 use Rattle.rt_script.specs.declared.answer.Answer.TheVariants as answers
 use Rattle.rt_script.specs.declared.site_run.Outcome.{Outcome}
-use Rattle.rt_script.specs.Lived.{IsOfLog, IsOfNamed, IsRun, RunsLive}
+use Rattle.rt_script.specs.Lived.{IsOfLog, IsOfNamed, RunsLive}
 use Rattle.rt_script.specs.Lines.{answered, complete_of, lines_of}
 use Rattle.rt_script.specs.Run.{Ends, LineGives, Ran, RanPast, RanUnwritten, Runs}
-use Rattle.rt_script.specs.Site.{DestroyGives, IsDone, IsRefused, NamedFile, PathGives, ReceiveGives, Session, SiteGives, WordsGive, file_named}
-use Rattle.rt_script.specs.SiteRun.{Begins, BeginsWith, RunsScript}
+use Rattle.rt_script.specs.Site.{IsDone, IsRefused, NamedFile, PathGives, ReceiveGives, Session, SiteGives, WordsGive, file_named}
+use Rattle.rt_script.specs.SiteRun.{BeginsWith, RunsScript}
 
 stays_on : (IsOther : Operation → Type 0) (old new : State) → new ≡ old → LivesOn IsOther old new
 stays_on IsOther old new e site limit came l =

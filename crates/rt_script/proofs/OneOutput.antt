@@ -1,11 +1,11 @@
 -- Lines for which no memory was wanting have one answer each, and so a whole run has one output.
-use Rattle.std.proofs.Common.{◌≡◌, ◌≢◌, ◌∙◌, ◌⊎◌, ℕ, Bool, true, false, List, [], ◌∷◌, ◌++◌, Option, None, Some, Ok, Err, Result, ap, append-nil, flat_map, inl, inr, refl, subst, sym, codes}
+use Rattle.std.proofs.Common.{◌≡◌, ◌∙◌, ◌⊎◌, ℕ, Bool, true, false, List, [], ◌∷◌, ◌++◌, Option, None, Some, Ok, Err, Result, ap, append-nil, flat_map, inl, inr, refl, subst, sym, codes}
 use Rattle.std.specs.Borrow.{Bor}
 use Rattle.std.specs.Io.KnownBytes.{Appends, Consumes, IsAtEnd}
 use Rattle.std.specs.Prelude.{MatchOption, MatchResult, option_map}
 use Rattle.std.specs.Str.{bytes_eq}
 use Rattle.rt_stamps.specs.declared.fault.Fault.{Fault}
-use Rattle.rt_stamps.specs.declared.fault.Fault.TheVariants.{NoFile, NoMemory}
+use Rattle.rt_stamps.specs.declared.fault.Fault.TheVariants.{NoFile}
 use Rattle.rt_stamps.specs.declared.limits.TheConstants.{MOST_CELLS}
 use Rattle.rt_stamps.specs.Words.{Word}
 use Rattle.rt_words.specs.Spelling.{IsBadlyQuoted, Spells}
@@ -24,8 +24,8 @@ use Rattle.rt_script.specs.Lived.{IsRun}
 use Rattle.rt_script.specs.Lines.{answered, is_readable, lines_of}
 use Rattle.rt_script.specs.Output.{BeginFoundMemory, FileFoundMemory, Given, IsWhole, LineFoundMemory, LinesFoundMemory, ReceiveFoundMemory, RunsHaveOneOutput, WordsFoundMemory}
 use Rattle.rt_script.specs.Replies.{reply_line}
-use Rattle.rt_script.specs.Run.{LineGives, Ran, Runs}
-use Rattle.rt_script.specs.Site.{DestroyGives, IsDone, IsRefused, NamedFile, PathGives, ReceiveGives, Session, SiteGives, WordsGive, as_answer, file_named}
+use Rattle.rt_script.specs.Run.{LineGives, Runs}
+use Rattle.rt_script.specs.Site.{IsDone, IsRefused, NamedFile, PathGives, ReceiveGives, Session, SiteGives, WordsGive, as_answer, file_named}
 use Rattle.rt_script.specs.SiteRun.{BeginsWith}
 
 -- ONE LINE

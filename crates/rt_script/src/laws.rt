@@ -10,7 +10,9 @@ ghost use Rattle.rt_script.specs.Replies.{text_of_answer};
 
 use rt_oplog::laws::joining;
 use rt_peers::SiteState;
-use rt_peers::laws::{accepted, exchange, lives_on, one_way, sites_agree, sites_agree_in_any_order};
+use rt_peers::laws::{
+    accepted, exchange, lives_on, one_way, sites_agree, sites_agree_in_any_order,
+};
 use rt_requests::laws::{reading_is_total, reading_is_unique};
 use rt_rga::laws::histories;
 

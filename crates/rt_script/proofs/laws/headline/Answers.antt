@@ -1,6 +1,4 @@
-use Rattle.std.proofs.Common.{◌≡◌, List, Ok, Err, Result}
-use Rattle.rt_stamps.specs.declared.fault.Fault.{Fault}
-use Rattle.rt_stamps.specs.Words.{Word}
+use Rattle.std.proofs.Common.{Ok, Err}
 use Rattle.rt_peers.specs.SiteStep.{log_of}
 use Rattle.rt_script.specs.Headline.{RepliesByStep}
 use Rattle.rt_script.proofs.laws.headline.Goals as goal
@@ -23,7 +21,7 @@ returns c =
       words = λ words. let asked = c.reading_is_total.ensures words in (asked.0, asked.1, λ other h. c.reading_is_unique.ensures words other asked.0 h asked.1);
       replies = by_step;
       one_way = c.one_way.ensures.events;
-      calls = c.lives_on.ensures;
+      calls = c.lives_on.ensures.events;
       runs = c.runs.ensures.lives;
       output = c.one_output.ensures.runs;
     }
