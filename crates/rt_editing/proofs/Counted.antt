@@ -42,7 +42,7 @@ count_append : (xs ys : List (Action (List Word))) → removed_count (xs ++ ys) 
 count_append [] ys = omega arith
 count_append (x ∷ xs) ys = omega (arith, count_append xs ys)
 
-pub count_reverse : (group : List (Action (List Word))) → removed_count (reverse group) ≡ removed_count group
+count_reverse : (group : List (Action (List Word))) → removed_count (reverse group) ≡ removed_count group
 count_reverse [] = refl
 count_reverse (a ∷ group) =
     let whole : removed_count (reverse (a ∷ group)) ≡ removed_count (reverse group ++ a ∷ []) = ap (λ (l : List (Action (List Word))). removed_count l) (reverse-cons a group) in

@@ -1,9 +1,9 @@
 -- Who was taken away is gone, and was so once, also while a group is reverted, and after it.
-use Rattle.std.proofs.Common.{◌≡◌, ◌∙◌, ℕ, suc, ◌+◌, ◌-◌, ◌<◌, ◌≤◌, Bool, true, false, List, [], ◌∷◌, ◌++◌, Option, Some, cond, length, map, take, ap, arith, refl, subst, sym}
+use Rattle.std.proofs.Common.{◌≡◌, ◌∙◌, ℕ, suc, ◌+◌, ◌-◌, ◌<◌, ◌≤◌, Bool, true, false, List, [], ◌∷◌, ◌++◌, Option, Some, cond, length, map, take, ap, arith, refl, subst, sym, append_assoc}
 use Rattle.std.specs.Prelude.{None, option_and_then, option_map, reverse, slice_get, unwrap_or}
 use Rattle.std.specs.List.{AllByRecursion, flat_map}
 use mathlib.Core.List.{reverse-cons}
-use Rattle.std.proofs.lemmas.List.{length-append, length-map, map-append, map-id, take-map}
+use Rattle.std.proofs.lemmas.List.{append-nil, length-map, map-append, map-id, take-map}
 use Rattle.rt_stamps.specs.declared.limits.TheConstants.{GREATEST_COUNT}
 use Rattle.rt_stamps.specs.declared.stamp.Stamp.{Stamp}
 use Rattle.rt_stamps.specs.Stamps.{replaced}
@@ -24,9 +24,8 @@ use Rattle.rt_revert.proofs.Stamps.{all_apart}
 use Rattle.rt_revert.proofs.Steps.{IsOnWay, action_step, all_grow, all_reversed, gone_step, return_step, returns_grow}
 use Rattle.rt_revert.proofs.TakenBack.{stamp_after_more, still_is}
 use Rattle.rt_editing.specs.Recordings.{HaveStayed}
-use Rattle.rt_editing.specs.Returns.{Return, back_after, removed_count, stamp_after}
+use Rattle.rt_editing.specs.Returns.{Return, back_after, stamp_after}
 use Rattle.rt_editing.specs.Settled.{AreGoneOnce, all_taken, is_gone, taken_by, times}
-use Rattle.rt_editing.proofs.Counted.{count_reverse}
 use Rattle.rt_editing.proofs.Gone.{gone_still}
 use Rattle.rt_editing.proofs.Once.{HaveGone, by_append, in_append, in_groups, in_groups_append, in_history, in_one, in_to_undo, none_replaced, once_fewer, once_grown, once_more, one_if, taken_append, times_append, times_by}
 use Rattle.rt_editing.proofs.OnceTaken.{places_gone, removed_stamps}
@@ -41,12 +40,21 @@ none s = false
 abbrev pub StandOnce : Reversion → List Stamp → Type 0
 StandOnce r stamps = AreGoneOnce r.doc.cells (map (stamp_after r.returns) stamps)
 
+-- the stamps of removed characters
+abbrev stamps_removed : List (Removed (List Word)) → List Stamp
+stamps_removed removed = map (λ (x : Removed (List Word)). x.stamp) removed
+
+-- the stamp under which a character that came back had gone
+abbrev former_of : Return → Stamp
+former_of r = r.former
+
 -- WHO COMES BACK
 
--- so many come back, and others are gone once
-record Back (r next : Reversion) (others : List Stamp) (many : ℕ) : Type 0 where
+-- some come back, each under the stamp that it went by; others are gone once, and have the stamps that they had
+record Back (r next : Reversion) (others came : List Stamp) : Type 0 where
   pub once : StandOnce next others
-  pub number : length next.returns ≡ length r.returns + many
+  pub still : map (stamp_after next.returns) others ≡ others
+  pub formers : map former_of next.returns ≡ map former_of r.returns ++ came
 
 none_gone : (cells : List TaggedCell) (s : Stamp) → gone_cell_of cells s ≡ None → is_gone cells s ≡ false
 none_gone cells s h = by (cell_of cells s) h
@@ -59,9 +67,16 @@ none_gone cells s h = by (cell_of cells s) h
     by None k = refl
     by (Some c) k = this c c.gone refl k
 
+head_same : (x y : Stamp) (xs ys : List Stamp) → x ∷ xs ≡ y ∷ ys → x ≡ y
+head_same x y xs ys e = cc e
+
+tail_same : (x y : Stamp) (xs ys : List Stamp) → x ∷ xs ≡ y ∷ ys → xs ≡ ys
+tail_same x y xs ys e = cc e
+
 -- one comes back, as it is gone: the others are gone as before
-return_once : (removed : Removed (List Word)) (others : List Stamp) (r : Reversion) → AreKept r → StandOnce r (removed.stamp ∷ others) → Back r (with_return removed r) others 1
-return_once removed others r k h = by (gone_cell_of r.doc.cells stamp) refl
+return_once : (removed : Removed (List Word)) (others : List Stamp) (r : Reversion) → AreKept r → StandOnce r (removed.stamp ∷ others)
+    → map (stamp_after r.returns) (removed.stamp ∷ others) ≡ removed.stamp ∷ others → Back r (with_return removed r) others (removed.stamp ∷ [])
+return_once removed others r k h t = by (gone_cell_of r.doc.cells stamp) refl
   where
     stamp : Stamp
     stamp = stamp_after r.returns removed.stamp
@@ -91,7 +106,7 @@ return_once removed others r k h = by (gone_cell_of r.doc.cells stamp) refl
     names (x ∷ xs) = (λ i. stamp_after_more r.returns came x i ∷ names xs i)
 
     by : (o : Option TaggedCell) → gone_cell_of r.doc.cells stamp ≡ o
-        → Back r (unwrap_or (option_map (λ (cell : TaggedCell). with_character stamp removed.tags cell.ch r) o) r) others 1
+        → Back r (unwrap_or (option_map (λ (cell : TaggedCell). with_character stamp removed.tags cell.ch r) o) r) others (removed.stamp ∷ [])
     by None e = let gone = is_gone_now (is_gone r.doc.cells stamp) refl (h stamp) in let not_gone = none_gone r.doc.cells stamp e in absurd (cc (gone, not_gone))
     by (Some cell) e =
         let next = with_character stamp removed.tags cell.ch r in
@@ -100,19 +115,25 @@ return_once removed others r k h = by (gone_cell_of r.doc.cells stamp) refl
           once = subst (AreGoneOnce next.doc.cells) (sym same)
               (once_grown r.doc.cells next.doc.cells rest (gone_next none stamp removed.tags cell.ch r k)
               (once_fewer r.doc.cells rest (stamp ∷ rest) (λ s. let all = both s in omega (arith, all)) h));
-          number = length-append r.returns (came ∷ []);
+          still = same ∙ tail_same stamp removed.stamp rest others t;
+          formers = map-append former_of r.returns (came ∷ []) ∙ ap (λ x. map former_of r.returns ++ x ∷ []) (head_same stamp removed.stamp rest others t);
         }
 
 returns_once : (site : ℕ) (log : List Operation) (removed : List (Removed (List Word))) (others : List Stamp) (r : Reversion) → 0 < site → IsOnWay site log r
-    → AllByRecursion MayReturn removed → (with_returns removed r).doc.count ≤ GREATEST_COUNT → StandOnce r (map (λ (x : Removed (List Word)). x.stamp) removed ++ others)
-    → Back r (with_returns removed r) others (length removed)
-returns_once site log [] others r p h m l s = record { once = s; number = omega arith }
-returns_once site log (x ∷ more) others r p h m l s =
+    → AllByRecursion MayReturn removed → (with_returns removed r).doc.count ≤ GREATEST_COUNT → StandOnce r (stamps_removed removed ++ others)
+    → map (stamp_after r.returns) (stamps_removed removed ++ others) ≡ stamps_removed removed ++ others
+    → Back r (with_returns removed r) others (stamps_removed removed)
+returns_once site log [] others r p h m l s t = record { once = s; still = t; formers = sym (append-nil (map former_of r.returns)) }
+returns_once site log (x ∷ more) others r p h m l s t =
     let next = with_return x r in
     let few : next.doc.count ≤ GREATEST_COUNT = omega (arith, returns_grow more next, l) in
-    let one = return_once x (map (λ (y : Removed (List Word)). y.stamp) more ++ others) r (kept_on_way site log r p h) s in
-    let rest = returns_once site log more others next p (return_step site log x r p h m.0 few) m.1 l one.once in
-    record { once = rest.once; number = omega (arith, one.number, rest.number) }
+    let one = return_once x (stamps_removed more ++ others) r (kept_on_way site log r p h) s t in
+    let rest = returns_once site log more others next p (return_step site log x r p h m.0 few) m.1 l one.once one.still in
+    record {
+      once = rest.once;
+      still = rest.still;
+      formers = rest.formers ∙ ap (λ l. l ++ stamps_removed more) one.formers ∙ append_assoc (map former_of r.returns) (x.stamp ∷ []) (stamps_removed more);
+    }
 
 -- WHO GOES
 
@@ -137,6 +158,24 @@ visible_kept : (stamps : List Stamp) (r : Reversion) → AreDistinct r.doc.cells
 visible_kept stamps r d t = kept_stamps r.returns (went stamps r.doc.cells)
     (mapped (λ s. back_after r.returns none s ≡ false) (λ (x : Removed (List Word)). x.stamp) (still_visible stamps r.doc.cells) (went_here none stamps r d t))
 
+-- STAMPS THAT STAY
+
+-- of two lists that keep their stamps each does, and the other way round
+both_still : (f : Stamp → Stamp) (xs ys : List Stamp) → map f xs ≡ xs → map f ys ≡ ys → map f (xs ++ ys) ≡ xs ++ ys
+both_still f xs ys h k = map-append f xs ys ∙ (λ i. h i ++ k i)
+
+two_still : (f : Stamp → Stamp) (xs ys : List Stamp) → map f (xs ++ ys) ≡ xs ++ ys → (map f xs ≡ xs) × (map f ys ≡ ys)
+two_still f [] ys h = (refl, h)
+two_still f (x ∷ xs) ys h =
+    let rest = two_still f xs ys (tail_same (f x) x (map f (xs ++ ys)) (xs ++ ys) h) in
+    ((λ i. head_same (f x) x (map f (xs ++ ys)) (xs ++ ys) h i ∷ rest.0 i), rest.1)
+
+apart_still : (f : Stamp → Stamp) (xs ys zs : List Stamp) → map f (xs ++ (ys ++ zs)) ≡ xs ++ (ys ++ zs) → (map f xs ≡ xs) × (map f ys ≡ ys) × (map f zs ≡ zs)
+apart_still f xs ys zs h =
+    let first = two_still f xs (ys ++ zs) h in
+    let rest = two_still f ys zs first.1 in
+    (first.0, rest.0, rest.1)
+
 -- ACTIONS
 
 -- those that the actions that are left took away, others, and those that the reverted actions took away
@@ -145,8 +184,9 @@ in_turn r actions others = taken_by actions ++ (others ++ taken_by r.actions)
 
 action_once : (site : ℕ) (log : List Operation) (action : Action (List Word)) (more : List (Action (List Word))) (others : List Stamp) (r : Reversion) → 0 < site
     → IsOnWay site log r → IsSound action → (with_reverted action r).doc.count ≤ GREATEST_COUNT → IsTold none r → StandOnce r (in_turn r (action ∷ more) others)
-    → Back r (with_reverted action r) (in_turn (with_reverted action r) more others) (length action.removed)
-action_once site log action more others r p h c l t once =
+    → map (stamp_after r.returns) (in_turn r (action ∷ more) others) ≡ in_turn r (action ∷ more) others
+    → Back r (with_reverted action r) (in_turn (with_reverted action r) more others) (stamps_removed action.removed)
+action_once site log action more others r p h c l t once st =
     let stamps = map (stamp_after r.returns) action.inserted in
     let left = with_gone stamps r in
     let all = with_returns action.removed left in
@@ -174,25 +214,38 @@ action_once site log action more others r p h c l t once =
     let o = by_append s f others acts in
     let q : times_by s f gone ≡ times s gone = ap (times s) (visible_kept stamps r d t) in
     omega (arith, a, b, e, i, j, k, m, n, o, q)) joined in
-    let done = returns_once site log action.removed rest left p way c.removed l ready in
+    let parts = apart_still f (own ++ taken_by more) others acts st in
+    let front = two_still f own (taken_by more) parts.0 in
+    let kept : map f (own ++ rest) ≡ own ++ rest =
+    both_still f own rest front.0
+    (both_still f (taken_by more) (others ++ (acts ++ (gone ++ []))) front.1
+    (both_still f others (acts ++ (gone ++ [])) parts.1
+    (both_still f acts (gone ++ []) parts.2 (both_still f gone [] (visible_kept stamps r d t) refl)))) in
+    let done = returns_once site log action.removed rest left p way c.removed l ready kept in
+    let new = taken_append r.actions (record { number = action.number; kind = action.kind; inserted = since r all; removed = still_visible stamps r.doc.cells } ∷ []) in
     record {
-      once = subst (λ (xs : List Stamp). StandOnce all (taken_by more ++ (others ++ xs)))
-          (sym (taken_append r.actions (record { number = action.number; kind = action.kind; inserted = since r all; removed = still_visible stamps r.doc.cells } ∷ []))) done.once;
-      number = done.number;
+      once = subst (λ (xs : List Stamp). StandOnce all (taken_by more ++ (others ++ xs))) (sym new) done.once;
+      still = subst (λ (xs : List Stamp). map (stamp_after all.returns) (taken_by more ++ (others ++ xs)) ≡ taken_by more ++ (others ++ xs)) (sym new) done.still;
+      formers = done.formers;
     }
 
 all_once : (site : ℕ) (log : List Operation) (actions : List (Action (List Word))) (others : List Stamp) (r : Reversion) → 0 < site → IsOnWay site log r → AreSound actions
     → (with_each_reverted actions r).doc.count ≤ GREATEST_COUNT → IsTold none r → HaveStayed (λ s. back_after r.returns none (stamp_after r.returns s)) r.actions
     → AllByRecursion (λ (a : Action (List Word)). AllByRecursion (λ (x : Removed (List Word)). Stays none r.returns x.stamp) a.removed) actions
-    → StandOnce r (in_turn r actions others) → Back r (with_each_reverted actions r) (in_turn (with_each_reverted actions r) [] others) (removed_count actions)
-all_once site log [] others r p h c l t st s once = record { once = once; number = omega arith }
-all_once site log (action ∷ actions) others r p h c l t st s once =
+    → StandOnce r (in_turn r actions others) → map (stamp_after r.returns) (in_turn r actions others) ≡ in_turn r actions others
+    → Back r (with_each_reverted actions r) (in_turn (with_each_reverted actions r) [] others) (taken_by actions)
+all_once site log [] others r p h c l t st s once same = record { once = once; still = same; formers = sym (append-nil (map former_of r.returns)) }
+all_once site log (action ∷ actions) others r p h c l t st s once same =
     let next = with_reverted action r in
     let few : next.doc.count ≤ GREATEST_COUNT = omega (arith, all_grow actions next, l) in
     let on = action_told none site log action r p h c.0 few t s.0 st in
-    let one = action_once site log action actions others r p h c.0 few t once in
-    let rest = all_once site log actions others next p (action_step site log action r p h c.0 few) c.1 l on.leads.told on.stay (removed_on none r next actions on.leads s.1) one.once in
-    record { once = rest.once; number = omega (arith, one.number, rest.number) }
+    let one = action_once site log action actions others r p h c.0 few t once same in
+    let rest = all_once site log actions others next p (action_step site log action r p h c.0 few) c.1 l on.leads.told on.stay (removed_on none r next actions on.leads s.1) one.once one.still in
+    record {
+      once = rest.once;
+      still = rest.still;
+      formers = rest.formers ∙ ap (λ l. l ++ taken_by actions) one.formers ∙ append_assoc (map former_of r.returns) (stamps_removed action.removed) (taken_by actions);
+    }
 
 -- GROUPS
 
@@ -222,10 +275,10 @@ taken_now f (action ∷ group) =
     own (x ∷ xs) = ap (λ l. f x.stamp ∷ l) (own xs)
 
 -- after a group was reverted those are gone once that the group for the other stack takes away, and others that were, by the stamps
--- that they have then; and as many came back as the group took away
+-- that they have then; and just those came back that the group took away, in the order of reverting
 pub record IsOnce (flat : Flat) (group : List (Action (List Word))) (others : List Stamp) : Type 0 where
   pub once : AreGoneOnce (reversion flat group).doc.cells (map (stamp_after (reversion flat group).returns) others ++ taken_by (reverted_group flat group))
-  pub number : length (reversion flat group).returns ≡ removed_count group
+  pub formers : map (λ (r : Return). r.former) (reversion flat group).returns ≡ taken_by (reverse group)
 
 pub reversion_once : (site : ℕ) (log : List Operation) (flat : Flat) (group : List (Action (List Word))) (others : List Stamp) → 0 < site → IsHistory log
     → IsDocument site log flat → AreSound group → (reversion flat group).doc.count ≤ GREATEST_COUNT → AreGoneOnce flat.cells (taken_by group ++ others)
@@ -245,7 +298,7 @@ reversion_once site log flat group others p h doc c l once =
     let all = all_once site log (reverse group) others (as_it_is flat) p (record { may = tt; history = h; document = doc; apart = tt; sound = tt }) (all_reversed IsSound group c) l
     (record { gone = λ s e. absurd (cc e); returns = tt; newer = tt }) tt
     (trivial (λ (a : Action (List Word)). AllByRecursion (λ (x : Removed (List Word)). Stays none [] x.stamp) a.removed)
-    (λ a. trivial (λ (x : Removed (List Word)). Stays none [] x.stamp) (λ x. refl) a.removed) (reverse group)) start in
+    (λ a. trivial (λ (x : Removed (List Word)). Stays none [] x.stamp) (λ x. refl) a.removed) (reverse group)) start (map-id (in_turn (as_it_is flat) (reverse group) others)) in
     record {
       once = once_fewer r.doc.cells (map f others ++ taken_by (reverted_group flat group)) (map f (in_turn r [] others))
           (λ s.
@@ -253,7 +306,7 @@ reversion_once site log flat group others p h doc c l once =
           let b = ap (times s) (taken_now f r.actions) in
           let e = by_append s f others (taken_by r.actions) in
           omega (arith, a, b, e)) all.once;
-      number = omega (arith, all.number, count_reverse group);
+      formers = all.formers;
     }
 
 -- HISTORIES

@@ -1,5 +1,5 @@
 -- What the text is after a recorded edit was undone.
-use Rattle.std.specs.Prelude.{◌≡◌, ℕ, ◌<◌, ◌≤◌, Bool, List, [], ◌∷◌, length, option_map, unwrap_or}
+use Rattle.std.specs.Prelude.{◌≡◌, ℕ, ◌<◌, ◌≤◌, Bool, List, [], ◌∷◌, map, option_map, reverse, unwrap_or}
 use Rattle.rt_stamps.specs.declared.limits.TheConstants.{GREATEST_COUNT}
 use Rattle.rt_stamps.specs.Words.{Word}
 use Rattle.rt_ops.specs.Operations.{Operation}
@@ -19,7 +19,6 @@ use Rattle.rt_revert.specs.ReversionLaws.{AreSound}
 use Rattle.rt_text.specs.Commands.{lost_in, with_pieces_at, with_range_replaced}
 use Rattle.rt_text.specs.Widgets.{Viewed, begin_of, text_shown}
 use Rattle.rt_editing.specs.Edits.{action_of}
-use Rattle.rt_editing.specs.Returns.{removed_count}
 use Rattle.rt_editing.specs.Settled.{AreGoneOnce, taken_by}
 
 -- Characters are removed, with the action that `delete` records of it, and this is undone at once: the text is again what it was,
@@ -80,9 +79,10 @@ ReplacementIsTakenBack =
     → let new = (with_range_replaced view range pieces rest).doc in
     tagged_text (reverted new (action_of Replace view.doc new (lost_in view (range ∷ [])) ∷ [])).cells ≡ tagged_text view.doc.cells
 
--- Those whom a group took away, each once, who are gone, all come back when it is reverted: each has the cell that it had.
+-- Those whom a group took away, each once, who are gone, all come back when it is reverted and the counts fit, and nobody else: each
+-- under the stamp that it went by, in the order of reverting.
 abbrev pub AllComeBack : Type 0
 AllComeBack =
     (site : ℕ) (log : List Operation) (flat : Flat) (group : List (Action (List Word))) → 0 < site → IsHistory log → IsDocument site log flat
     → AreSound group → (reversion flat group).doc.count ≤ GREATEST_COUNT → AreGoneOnce flat.cells (taken_by group)
-    → length (reversion flat group).returns ≡ removed_count group
+    → map (λ r. r.former) (reversion flat group).returns ≡ taken_by (reverse group)

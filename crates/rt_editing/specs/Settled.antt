@@ -12,7 +12,7 @@ use Rattle.rt_editing.specs.Recordings.{Recording, came_back}
 use Rattle.rt_text.specs.Widgets.{Viewed}
 pub use Rattle.rt_views.specs.Limits.{is_gone}
 
--- the stamps of the characters that actions took away, and that all actions of a history did
+-- the stamps of the characters that actions took away; and those of both stacks
 abbrev pub taken_by : List (Action (List Word)) → List Stamp
 taken_by group = flat_map (λ action. map (λ r. r.stamp) action.removed) group
 
@@ -23,12 +23,12 @@ all_taken h = flat_map taken_by h.closed ++ (taken_by h.current ++ flat_map take
 abbrev pub times : Stamp → List Stamp → ℕ
 times stamp stamps = length (filter (λ s. is_same s stamp) stamps)
 
--- these characters are gone, and each stands among them once
+-- these characters are gone, and each stands among them once at most
 abbrev pub AreGoneOnce : List TaggedCell → List Stamp → Type 0
 AreGoneOnce cells stamps = (stamp : Stamp) → times stamp stamps ≤ (if is_gone cells stamp then 1 else 0)
 
--- Who came back under another stamp is gone: it is another character since. Who was taken away is gone, and was so by one action. Each
--- action of the history may be reverted: it names no final newline, and its tags are names as operations list them.
+-- Who came back under another stamp is gone: it is another character since. Who was taken away is gone, and no other action took it
+-- away. Each action of the history may be reverted: it names no final newline, and its tags are names as operations list them.
 pub record IsSettled (view : Viewed) (recording : Recording) : Type 0 where
   pub gone : (stamp : Stamp) → came_back recording stamp ≡ true → is_gone view.doc.cells stamp ≡ true
   pub taken : AreGoneOnce view.doc.cells (all_taken recording.history)

@@ -26,7 +26,8 @@ pub fn recorded_replacement()
 {}
 
 /// Who was taken away comes back: of a group all of whose removed characters are gone, and each was removed by one of its
-/// actions, as many come back as it removed. Between calls the groups of both stacks are such (`IsSettled`).
+/// actions, all of these come back where the counts fit, and nobody else. Between calls the groups of both stacks are
+/// such (`IsSettled`).
 pub fn removed_characters()
     ensures { AllComeBack }
 {}

@@ -8,10 +8,13 @@ use Rattle.rt_stamps.specs.Outcomes.{Answers}
 use Rattle.rt_stamps.specs.Words.{Word}
 use Rattle.rt_requests.specs.Asking.{Asked}
 use Rattle.rt_requests.proofs.AskedOnce.{one_asked}
+use Rattle.rt_editing.specs.Edited.{Edited}
 use Rattle.rt_editing.specs.Edits.{text_with_new}
 use Rattle.rt_holding.specs.declared.receiving.Received.{Received}
+use Rattle.rt_holding.proofs.Finding.{files_find}
 use Rattle.rt_holding.proofs.OneWay.{files_go, one_try}
-use Rattle.rt_peers.specs.Memory.{CommandFoundMemory, GivesFoundMemory, OnFalse, ReceivingFoundMemory, RequestFoundMemory, TriesFoundMemory, WidgetFoundMemory}
+use Rattle.rt_holding.specs.Receiving.{State as Holder}
+use Rattle.rt_peers.specs.Memory.{CommandFoundMemory, GivesFoundMemory, OnFalse, ReceivingFindsMemory, ReceivingFoundMemory, RequestFoundMemory, TriesFoundMemory, WidgetFoundMemory}
 use Rattle.rt_peers.specs.Memory.{AskingFoundMemory, OwnFoundMemory}
 use Rattle.rt_peers.specs.SiteStep.{AnswersInTurn, CommandGives, Gives, KeepsOperations, MakesAndTries, SiteReceives, WidgetGives, by_widget, has_made, text_limit, text_log}
 use Rattle.rt_peers.specs.State.{State, holding_of, place_of}
@@ -111,3 +114,12 @@ receiving_once bytes old received other new left h k f g =
     (record { site = new.text; held = new.held }) (record { site = left.text; held = left.held }) h.text k.text f g in
     let paths = h.widgets ∙ sym k.widgets in
     (one.0, λ i. record { paths = paths i; text = (one.1 i).site; held = (one.1 i).held })
+
+-- SUCH FILES ARE THERE
+
+pub receiving_finds : ReceivingFindsMemory
+receiving_finds bytes ops offsets ending old reads =
+    let from : Holder Edited = record { site = old.text; held = old.held } in
+    let found = files_find text_log text_limit text_with_new (λ op text new. (refl, refl)) bytes ops offsets ending from reads in
+    let new : State = record old { text = found.1.site; held = found.1.held } in
+    (found.0, new, record { text = found.2; widgets = refl }, found.3)

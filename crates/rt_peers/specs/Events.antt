@@ -20,7 +20,7 @@ use Rattle.rt_peers.specs.State.{State}
 
 -- CALLS
 
--- What a site is asked by a call that may change it, with what the call is given: `SiteState` has one of each name.
+-- a call that may change a site, with what it is given; `SiteState` has a call of each name
 pub data Event : Type 0 where
   -- command words of the widget of a path
   Command : (path : Word) (words : List Word) → Event
@@ -49,8 +49,8 @@ pub record Destroys (path : Word) (old : State) (result : Result (List Word) Fau
   pub err : IfErr result (λ fault. destroyed path old ≡ Err fault)
   pub unchanged : OnErr result (new ≡ old)
 
--- What an event tells in a state, and the state after it: by the clauses of the call's own contract. Of a file `OfFile`
--- tells, and of all else `Replied`.
+-- What an event tells in a state, and the state after it: by the clause `answers` of the call's contract, or by its only ones. Of a
+-- file `OfFile` tells, and of all else `Replied`.
 abbrev pub EventGives : Event → State → Told → State → Type 0
 EventGives (Command path words) old (Replied result) new = Gives path words old result new
 EventGives (Answer path request) old (Replied result) new = AnswersInTurn (step_at path old request) old result new

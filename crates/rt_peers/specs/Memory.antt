@@ -1,11 +1,13 @@
 -- Calls of a site for which no memory was wanting: none was refused for it, and each try of a held operation found some. What is asked,
 -- in a state, then has one answer, and leaves one state.
-use Rattle.std.specs.Prelude.{◌≡◌, ◌≢◌, ℕ, Bool, true, false, List, [], ◌∷◌, Some, Result, Err, MatchBool, codes}
+use Rattle.std.specs.Prelude.{◌≡◌, ◌≢◌, ℕ, Bool, true, false, List, [], ◌∷◌, Option, Some, Result, Err, MatchBool, codes}
 use Rattle.std.specs.Str.{bytes_eq}
 use Rattle.rt_stamps.specs.declared.fault.Fault.{Fault}
 use Rattle.rt_stamps.specs.declared.fault.Fault.TheVariants.{NoMemory}
 use Rattle.rt_stamps.specs.Outcomes.{Answers}
 use Rattle.rt_stamps.specs.Words.{Word}
+use Rattle.rt_ops.specs.Operations.{Operation}
+use Rattle.rt_ops.specs.Reading.{Reads}
 use Rattle.rt_editing.specs.Edits.{text_with_new}
 use Rattle.rt_holding.specs.declared.receiving.Received.{Received}
 use Rattle.rt_holding.specs.Memory.{FileFoundMemory, FoundMemory}
@@ -88,3 +90,11 @@ ReceivingGoesOneWay =
     (bytes : List ℕ) (old : State) (received other : Received) (new left : State)
     (h : SiteReceives bytes old received new) (k : SiteReceives bytes old other left)
     → ReceivingFoundMemory bytes old received new h → ReceivingFoundMemory bytes old other left k → (received ≡ other) × (new ≡ left)
+
+-- SUCH FILES ARE THERE
+
+-- each file that is read can be received by a site, with memory found
+abbrev pub ReceivingFindsMemory : Type 0
+ReceivingFindsMemory =
+    (bytes : List ℕ) (ops : List Operation) (offsets : List ℕ) (ending : Option (Fault × ℕ)) (old : State) → Reads bytes ops offsets ending
+    → (received : Received) × (new : State) × (h : SiteReceives bytes old received new) × ReceivingFoundMemory bytes old received new h

@@ -1,4 +1,4 @@
-// Laws of the definitions, each the contract of a function that does nothing.
+// Laws of the definitions, and of sites, each the contract of a function that changes nothing.
 ghost use Rattle.std.specs.Prelude.{◌≡◌, ℕ, List, Ok, Result};
 ghost use Rattle.rt_stamps.specs.declared.fault.Fault.{Fault};
 ghost use Rattle.rt_stamps.specs.Outcomes.{Answers};
@@ -12,7 +12,7 @@ ghost use Rattle.rt_peer_requests.specs.declared.settings.WidgetSettings.{Widget
 ghost use Rattle.rt_peers.specs.Events.{EventsGoOneWay, EventsLive};
 ghost use Rattle.rt_peers.specs.Exchange.{AgreeOnceCaughtUp, AgreeOnceExchanged, ExchangeAgrees, ReceivesAny, ReceivesLacking, ReceivesWhole, TellsClash};
 ghost use Rattle.rt_peers.specs.Lives.{AcceptsGreatest, AcceptsHistory, AgreeInAnyOrder, KeepsOrMakes, SitesHold};
-ghost use Rattle.rt_peers.specs.Memory.{CommandsGoOneWay, OthersGoOneWay, ReceivingGoesOneWay, RequestsGoOneWay};
+ghost use Rattle.rt_peers.specs.Memory.{CommandsGoOneWay, OthersGoOneWay, ReceivingFindsMemory, ReceivingGoesOneWay, RequestsGoOneWay};
 ghost use Rattle.rt_peers.specs.Peers.{text_led};
 ghost use Rattle.rt_peers.specs.PeerStep.{destroyed};
 ghost use Rattle.rt_peers.specs.SiteStep.{AnswersInTurn, Gives, KeepsOperations, by_widget, log_of, option_at, peer_step_at, settings_at};
@@ -69,7 +69,7 @@ pub fn exchange(one: &SiteState, other: &SiteState)
     let _ = other.log();
 }
 
-/// Two sites that hold nothing receive each other's whole logs, and neither is told a fault: then both have one log and
+/// Two sites that hold nothing receive each the log that the other had before, and neither is told a fault: then both have one log and
 /// equal cells, and so equal text with equal tags. So it is where each receives only what it lacks of the other's
 /// log, if no operation of one clashes with one of the other.
 pub fn exchanged(one: &SiteState, other: &SiteState, left_one: &SiteState, left_other: &SiteState)
@@ -117,11 +117,12 @@ pub fn lives_on()
 {}
 
 /// Where no memory was wanting, a call has one answer and leaves one state: two sites in the same state that are asked the
-/// same go on as one. So it is of any calls, one after the other.
+/// same go on as one. So it is of any calls, one after the other. Each file that is read can be received so.
 pub fn one_way()
     ensures requests { RequestsGoOneWay }
     ensures others { OthersGoOneWay }
     ensures commands { CommandsGoOneWay }
     ensures receiving { ReceivingGoesOneWay }
+    ensures found { ReceivingFindsMemory }
     ensures events { EventsGoOneWay }
 {}

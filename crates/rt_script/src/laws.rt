@@ -1,4 +1,4 @@
-// Laws of the definitions, each the contract of a function that does nothing.
+// Laws of the definitions, and of sites, each the contract of a function that changes nothing.
 ghost use Rattle.std.specs.Prelude.{◌≡◌, ◌∷◌, List, codes};
 ghost use Rattle.rt_stamps.specs.Words.{Word};
 ghost use Rattle.rt_words.specs.Spelling.{Spells};
@@ -39,7 +39,8 @@ pub fn one_output()
     ensures runs { RunsHaveOneOutput }
 {}
 
-/// The headline, of any two sites: what is proved of them together, each sentence with the law that has it.
+/// The headline, of any two sites: what is proved of them together. `Headline` names behind each sentence the law that
+/// has it.
 pub fn headline(one: &SiteState, other: &SiteState)
     ensures { Headline one.now other.now }
 {

@@ -7,4 +7,4 @@ use Rattle.rt_editing.proofs.laws.removed_characters.Goals as goal
 pub returns : goal.returns
 returns c site log flat group p h doc sound fits once =
     (reversion_once site log flat group [] p h doc sound fits
-    (once_fewer flat.cells (taken_by group ++ []) (taken_by group) (λ s. let all = times_append s (taken_by group) [] in omega (arith, all)) once)).number
+    (once_fewer flat.cells (taken_by group ++ []) (taken_by group) (λ s. let all = times_append s (taken_by group) [] in omega (arith, all)) once)).formers

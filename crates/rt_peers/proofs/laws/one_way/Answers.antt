@@ -1,5 +1,5 @@
 use Rattle.rt_peers.proofs.Events.{events_once}
-use Rattle.rt_peers.proofs.OneWay.{answers_once, commands_once, receiving_once, requests_once}
+use Rattle.rt_peers.proofs.OneWay.{answers_once, commands_once, receiving_once, requests_once, receiving_finds}
 use Rattle.rt_peers.proofs.laws.one_way.Goals as goal
 
 pub returns-clause-requests : goal.returns-clause-requests
@@ -16,3 +16,6 @@ returns-clause-receiving c = receiving_once
 
 pub returns-clause-events : goal.returns-clause-events
 returns-clause-events c = events_once
+
+pub returns-clause-found : goal.returns-clause-found
+returns-clause-found c = receiving_finds
