@@ -1,10 +1,7 @@
-use Rattle.std.proofs.Common.{◌≡◌, ◌∙◌, ℕ, Bool, false, List, Ok, Err, Result, ap, length, sym, subst, arith}
+use Rattle.std.proofs.Common.{◌≡◌, ◌∙◌, ℕ, Bool, false, Ok, Err, ap, length, subst, arith}
 use Rattle.std.specs.Prelude.{MatchBool, nat_lt}
 use Rattle.std.proofs.lemmas.Bool.Decides.{nat_tests}
-use Rattle.rt_stamps.specs.declared.fault.Fault.{Fault}
-use Rattle.rt_stamps.specs.Words.{Word}
 use Rattle.rt_peers.specs.SiteStep.{KeepsOperations, MakesAndTries, has_made, log_of}
-use Rattle.rt_peers.specs.State.{State}
 use Rattle.rt_script.specs.Headline.{RepliesByStep}
 use Rattle.rt_script.proofs.laws.headline.Goals as goal
 
