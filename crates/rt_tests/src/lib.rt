@@ -25,6 +25,8 @@ mod oplog_logs;
 #[cfg(test)]
 mod requests;
 #[cfg(test)]
+mod rga_every;
+#[cfg(test)]
 mod rga_make;
 #[cfg(test)]
 mod rga_many;

@@ -1,5 +1,4 @@
-// Operations of a few sites, each offered twice: in each order that is allowed, and in each order there is; and some
-// that come early.
+// Operations of a few sites, offered in each order that is allowed, each twice; and some that come early.
 use crate::checks::same;
 use rt_oplog::Op;
 use rt_replica::{HoldingReplica, Taken};
@@ -199,7 +198,7 @@ impl Peer {
     }
 
     // The cells in turn: of each its stamp and its character, with a minus behind one that is gone.
-    fn cells(&self) -> Result<String, Fail> {
+    pub(crate) fn cells(&self) -> Result<String, Fail> {
         let store = self.replica.replica().store();
         let mut text = String::new(self.alloc);
         for position in 0..store.cells() {
@@ -220,27 +219,27 @@ impl Peer {
     }
 }
 
-const AB: Made = (1, 1, 0, Does::Inserts((0, 0), &['a', 'b']));
+pub(crate) const AB: Made = (1, 1, 0, Does::Inserts((0, 0), &['a', 'b']));
 
-const XX: Made = (3, 1, 2, Does::Inserts((1, 1), &['X', 'X']));
+pub(crate) const XX: Made = (3, 1, 2, Does::Inserts((1, 1), &['X', 'X']));
 
-const Y: Made = (3, 2, 0, Does::Inserts((1, 1), &['Y']));
+pub(crate) const Y: Made = (3, 2, 0, Does::Inserts((1, 1), &['Y']));
 
-const B_GOES: Made = (3, 1, 2, Does::Deletes((1, 2, 2)));
+pub(crate) const B_GOES: Made = (3, 1, 2, Does::Deletes((1, 2, 2)));
 
-const Z: Made = (3, 2, 0, Does::Inserts((2, 1), &['Z']));
+pub(crate) const Z: Made = (3, 2, 0, Does::Inserts((2, 1), &['Z']));
 
-const TAGGED: Made = (1, 1, 0, Does::InsertsTagged((0, 0), &['a', 'b']));
+pub(crate) const TAGGED: Made = (1, 1, 0, Does::InsertsTagged((0, 0), &['a', 'b']));
 
-const OFF: Made = (3, 1, 2, Does::Tags(false, (1, 1, 1)));
+pub(crate) const OFF: Made = (3, 1, 2, Does::Tags(false, (1, 1, 1)));
 
-const ON: Made = (4, 1, 3, Does::Tags(true, (1, 1, 1)));
+pub(crate) const ON: Made = (4, 1, 3, Does::Tags(true, (1, 1, 1)));
 
-const OFF_TOO: Made = (3, 2, 0, Does::Tags(false, (1, 1, 1)));
+pub(crate) const OFF_TOO: Made = (3, 2, 0, Does::Tags(false, (1, 1, 1)));
 
-const Q: Made = (3, 2, 0, Does::Inserts((2, 1), &['q']));
+pub(crate) const Q: Made = (3, 2, 0, Does::Inserts((2, 1), &['q']));
 
-const OFF_LAST: Made = (4, 2, 3, Does::Tags(false, (1, 1, 1)));
+pub(crate) const OFF_LAST: Made = (4, 2, 3, Does::Tags(false, (1, 1, 1)));
 
 /// Operations in an order; then the text with a star behind each tagged character, and how many cells there are.
 type Row = (&'static [Made], &'static str, usize);
@@ -294,102 +293,6 @@ fn come_out(rt: &impl Abort, alloc: Global, rows: &[Row]) -> Result<(), Fail> {
 fn each_order(rt: HostRuntime) -> Result<(), Fail> {
     for rows in [AT_ONE_PLACE, BESIDE_A_TOMBSTONE, TAGS, LATER_TAGS] {
         come_out(&rt, rt.alloc(), rows)?;
-    }
-    Ok(())
-}
-
-/// Operations, how many orders they have, and in how many of these none is held; then their cells, and their text with
-/// a star behind each tagged character.
-type Orders = (&'static [Made], usize, usize, &'static str, &'static str);
-
-const ORDERS: &[Orders] = &[
-    (
-        &[AB, XX, Y],
-        6,
-        2,
-        "1.1a 3.2Y 3.1X 4.1X 2.1b 1.0\n ",
-        "aYXXb\n",
-    ),
-    (&[AB, B_GOES, Z], 6, 2, "1.1a 2.1b- 3.2Z 1.0\n ", "aZ\n"),
-    (
-        &[TAGGED, OFF, ON, OFF_TOO],
-        24,
-        3,
-        "1.1a 2.1b 1.0\n ",
-        "a*b*\n",
-    ),
-    (
-        &[TAGGED, OFF, ON, Q, OFF_LAST],
-        120,
-        6,
-        "1.1a 2.1b 3.2q 1.0\n ",
-        "ab*q\n",
-    ),
-    (&[AB, Y], 2, 1, "1.1a 3.2Y 2.1b 1.0\n ", "aYb\n"),
-];
-
-// The order of a number, of which there are as many as orders: each operation is put among those before it at a place
-// that the number tells.
-fn order(alloc: Global, all: &[Made], number: usize) -> Result<Vec<Made>, Fail> {
-    let mut order = Vec::new(alloc);
-    let mut rest = number;
-    for made in all {
-        let places = order.len() + 1;
-        order.insert(rest % places, *made)?;
-        rest /= places;
-    }
-    Ok(order)
-}
-
-// Offers operations, each twice: it is new or held, and then a repeat. Answers whether none was held.
-fn offer_early(rt: &impl Abort, peer: &mut Peer, all: &[Made]) -> bool {
-    let mut held = 0;
-    for made in all {
-        let said = peer.offer(*made);
-        let is_taken = said.is_new() || said == Said::Held;
-        same(rt, (is_taken, peer.offer(*made)), (true, Said::Repeat));
-        held = peer.replica.held().max(held);
-    }
-    held == 0
-}
-
-// Offers operations in an order to a new replica, which holds none in the end, and shows what is told then. Answers
-// whether it held none before.
-fn comes_out_early(
-    rt: &impl Abort,
-    alloc: Global,
-    all: &[Made],
-    cells: &str,
-    text: &str,
-) -> Result<bool, Fail> {
-    let mut peer = Peer::new(alloc, 100)?;
-    let held_none = offer_early(rt, &mut peer, all);
-    same(rt, peer.replica.held(), 0);
-    same(rt, peer.replica.log().len(), all.len());
-    same(rt, peer.cells()?.as_str(), cells);
-    same(rt, peer.reading()?.as_str(), text);
-    Ok(held_none)
-}
-
-// Each order of operations comes out, and in so many of these none is held.
-fn orders_come_out(rt: &impl Abort, alloc: Global, row: &Orders) -> Result<(), Fail> {
-    let (all, orders, allowed, cells, text) = *row;
-    let mut found: usize = 0;
-    for number in 0..orders {
-        let order = order(alloc, all, number)?;
-        if comes_out_early(rt, alloc, &order, cells, text)? {
-            found = found.saturating_add(1);
-        }
-    }
-    same(rt, found, allowed);
-    Ok(())
-}
-
-// The same operations in each order there is, and two of which one is made upon the other.
-#[test]
-fn each_order_at_all(rt: HostRuntime) -> Result<(), Fail> {
-    for row in ORDERS {
-        orders_come_out(&rt, rt.alloc(), row)?;
     }
     Ok(())
 }

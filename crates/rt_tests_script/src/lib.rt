@@ -4,6 +4,8 @@
 #[cfg(test)]
 mod accepting;
 #[cfg(test)]
+mod arriving;
+#[cfg(test)]
 mod begins;
 #[cfg(test)]
 mod calls;
