@@ -25,6 +25,8 @@ tests/bench.py early [PROGRAM]: times a site to which as many operations of anot
 wait for: in one file; each in a file of its own, the last one first; and fewer of them while the site types as many. Of each the seconds of
 the processor, those without the time in which its files are read, and how many lines told of held operations. It is wrong where a reply is,
 or where a case takes more than two seconds without its files.
+tests/bench.py received [PROGRAM]: the greatest memory of a site that receives a file of as many Inserts as it may hold, above that of one
+which only has the file: once, once more, and where all come early; of one character each, and of a hundred.
 tests/bench.py instructions [PROGRAM [LINES]]: counts the instructions that a line takes, by valgrind's callgrind: those of 4,000
 lines less those of 2,000, if no number is given, which are the same each time.
 """
@@ -42,7 +44,7 @@ ROOT = os.path.dirname(os.path.dirname(os.path.abspath(__file__)))
 sys.path.insert(0, os.path.join(ROOT, "tests", "bench"))
 import growth as cases
 import tagged
-MODES = ("early", "lists", "spans", "nodes", "replica", "tree", "instructions", "growth", "steps", "tags")
+MODES = ("early", "received", "lists", "spans", "nodes", "replica", "tree", "instructions", "growth", "steps", "tags")
 MODE = sys.argv[1] if sys.argv[1:2] and sys.argv[1] in MODES else ""
 WORDS = sys.argv[2:] if MODE else sys.argv[1:]
 PROGRAM = WORDS[0] if WORDS else os.path.join(ROOT, "crates", "peertext", "out", "peertext")
@@ -50,9 +52,9 @@ OPERATIONS = int(WORDS[1]) if len(WORDS) > 1 else 1_000_000
 wrong = 0
 
 
-def record(count, site, prev, after):
-    """An Insert of `x` after the element of a stamp, as docs/FILES.md has it."""
-    content = struct.pack(">BQHQQHB", 1, count, site, prev, *after, 0) + b"x"
+def record(count, site, prev, after, text=b"x"):
+    """An Insert of a text after the element of a stamp, as docs/FILES.md has it."""
+    content = struct.pack(">BQHQQHB", 1, count, site, prev, *after, 0) + text
     return struct.pack(">I", len(content)) + content
 
 
@@ -337,6 +339,29 @@ def early():
     return 1 if wrong else 0
 
 
+def received():
+    """The memory of receiving a file of as many Inserts as a site may hold, each behind the one before it, of one character or of more."""
+    n = MOST_HELD
+    with tempfile.TemporaryDirectory() as folder:
+        os.chdir(folder)
+        for size in (1, 100):
+            records = [record(1 + size * i, 2, size * i, (size * i, 2) if i else (0, 0), b"x" * size) for i in range(n + 1)]
+            for name, some in (("whole", records[:-1]), ("late", records[1:])):
+                with open(name, "wb") as file:
+                    file.writelines([b"RGATEXT1", *some])
+            alone = spent([], "whole")[1]
+            for name, words, lines, wanted in [
+                ("received", "whole", ["receive whole"], [f"= {n} 0"]),
+                ("received twice", "whole", ["receive whole"] * 2, [f"= {n} 0", f"= 0 {n}"]),
+                ("received early", "late", ["receive late"], [f"= 0 0 {n}"]),
+            ]:
+                seconds, memory = spent(lines, words)
+                with open("replies", encoding="ascii") as file:
+                    expect(name, file.read().splitlines()[:-1] == wanted)
+                print(f"{n:,} Inserts of {size} {name:15} {seconds:6.2f} seconds, {(memory - alone) / 2**20:7.1f} MiB above {alone / 2**20:.1f} of the file alone", flush=True)
+    return 1 if wrong else 0
+
+
 def steps():
     """The instructions of a command in a script of 4,000 and in one of 8,000, and of one between them."""
     n = int(WORDS[1]) if len(WORDS) > 1 else 4_000
@@ -364,5 +389,5 @@ def tags():
 
 
 if __name__ == "__main__":
-    parts = {"early": early, "instructions": instructions, "lists": lists, "spans": spans, "nodes": nodes, "replica": replica, "tree": tree}
+    parts = {"early": early, "received": received, "instructions": instructions, "lists": lists, "spans": spans, "nodes": nodes, "replica": replica, "tree": tree}
     sys.exit({**parts, "growth": grown, "steps": steps, "tags": tags, "": main}[MODE]())

@@ -16,6 +16,7 @@ from driving.memory import failing_allocations, failing_allocations_of_files, fa
 from driving.program import CHECKED, PROGRAM, called, check, run
 from driving.runs import early_logs, exchanges, faults_before_the_script, logs_of_runs, outs_after_faults, outs_of_runs, received
 from driving.samples import with_files
+from driving.streams import closed_pipes, full_outputs, readers_that_fail_late
 
 
 def answered(script):
@@ -106,7 +107,7 @@ def many_marks():
 
 PARTS = (whole_scripts, hostile_bytes, asks_and_waits, statuses, failing_allocations, many_marks, long_lists)
 IN_FILES = (joins, outs_that_fail, outs_with_modes, shows, many_operations, outs_of_runs, logs_of_runs, early_logs, received,
-            exchanges, faults_before_the_script, outs_after_faults, failing_allocations_of_files, failing_allocations_of_receive, failing_allocations_of_held,
+            exchanges, faults_before_the_script, outs_after_faults, readers_that_fail_late, closed_pipes, full_outputs, failing_allocations_of_files, failing_allocations_of_receive, failing_allocations_of_held,
             failing_allocations_of_undo)
 
 for part in PARTS:

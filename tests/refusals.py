@@ -13,7 +13,7 @@ import sys
 import tempfile
 
 from driving.program import CHECKED, PROGRAM, check
-from refusing import ends, scripts
+from refusing import ends, records, scripts
 from refusing.rows import COMMANDS, Table, refused_script
 from refusing.runs import Library
 from refusing.tables import scripts_of, tables
@@ -45,7 +45,7 @@ def main():
             if not wanted or any(word in name for word in wanted):
                 for site, script in tried:
                     refused_script(library, table, name, site, script)
-        for name, part in ends.PARTS.items():
+        for name, part in {**ends.PARTS, "received files of many records": records.received}.items():
             if not wanted or any(word in name for word in wanted):
                 part(library, table)
     if not table.counts:

@@ -63,7 +63,7 @@ def held_after(line, known):
         return None
     at, new, repeats = map(int, found.groups())
     taken = new + repeats
-    fits = taken < 2 and repeats == min(known, taken) and (at == OFFSETS[taken] or (at, taken) == (0, 0))
+    fits = taken < 2 and repeats == min(known, taken) and at == OFFSETS[taken]
     return max(known, taken) if fits else None
 
 
@@ -108,7 +108,7 @@ def failing_allocations_of_receive():
 def after_one(name, line, has_ab, y):
     """What a site has after this reply to `receive ab` or `receive y`: whether it has `ab`, and whether it knows nothing of `Y`,
     holds it, or took it; none where no such reply may come. What is held and could be taken stays held where it found no memory."""
-    if re.fullmatch(r"! 1 NoMemory( at [0-9]+ new 0 repeat 0( held 1)?)?", line):
+    if line in ("! 1 NoMemory", "! 1 NoMemory at 8 new 0 repeat 0" + (" held 1" if y == "held" else "")):
         return has_ab, y
     if name == "ab":
         # a new `ab` has the held `Y` tried behind it; a repeat has none tried

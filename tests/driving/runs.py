@@ -158,11 +158,12 @@ def faults_before_the_script():
             check(f"run with {words} and an --out that can't be written", ran(script, *SITE, *words, "--out", "folder"), want)
         remove("out")
         check(f"files after {words}", sorted(os.listdir(".")), names)
-    # one byte more than a file may have
-    with open("big", "wb") as big:
-        big.truncate(2**30 + 1)
-    for words in (("big",), ("--log", "big")):
-        check(f"run with {words}", ran(script, *SITE, *words), refused("big", "40 ReadFault"))
+    # one byte more than a file may have behind a whole record, and just as many
+    for more, words, fault in ((1, ("big",), "40 ReadFault"), (1, ("--log", "big"), "40 ReadFault"), (0, ("--log", "big"), "33 BadRecord at 44")):
+        with open("big", "wb") as big:
+            big.write(FILES["ab"])
+            big.truncate(2**30 + more)
+        check(f"run with {words} of 2^30 and {more} bytes", ran(script, *SITE, *words), refused("big", fault))
     remove("big")
 
 

@@ -12,8 +12,8 @@ File = collections.namedtuple("File", "ops size fault", defaults=(None,))
 
 
 class Wanting(Peers):
-    """A site with the files that it may receive. Of the operations that are offered to it one may find no memory, or of the held ones
-    that it takes; then others stay too, or are taken."""
+    """A site with the files that it may receive. Of a file's records one may find no memory, when it is read or when its operation is
+    taken or held; or one of the held operations that it takes, and then others stay too, or are taken."""
 
     def __init__(self, site, files):
         super().__init__(site)
@@ -24,11 +24,11 @@ class Wanting(Peers):
 
     def accept(self, op):
         self.offers += 1
+        if self.offers == self.refused_offer:
+            return 0, NO_MEMORY
         if isinstance(op, Insert) and op.after >= stamp(op):
             return 0, "! 34 BadStamp"
-        answer = self.answer_to(op)
-        takes_memory = answer == NEW or answer == EARLY and op not in self.held
-        return (0, NO_MEMORY) if takes_memory and self.offers == self.refused_offer else super().accept(op)
+        return super().accept(op)
 
     def settle(self):
         count, waiting, has_failed = 0, [], False
@@ -50,7 +50,10 @@ class Wanting(Peers):
         if not file.fault or line[0] != "=":
             return line
         new, repeats, *held = line.split()[1:]
-        return " ".join([file.fault, f"new {new} repeat {repeats}", *(f"held {number}" for number in held)])
+        *broken, offset = file.fault.split()
+        # a broken record may take memory before it is found to be one
+        lacks = "BadRecord" in broken and self.offers + 1 == self.refused_offer
+        return " ".join([f"{NO_MEMORY} at {offset}" if lacks else file.fault, f"new {new} repeat {repeats}", *(f"held {number}" for number in held)])
 
     def answered(self, line):
         """The reply line to a line of a script."""
@@ -67,7 +70,7 @@ class Wanting(Peers):
 
 
 def wants(site, line, offer=None, held=None, stays=False):
-    """What a line is answered by a site of which an operation that is offered, or a held one, finds no memory; and the site after it."""
+    """What a line is answered by a site where a record of its file, or a held operation, finds no memory; and the site after it."""
     site = copy.deepcopy(site)
     site.offers = site.tries = 0
     site.refused_offer, site.refused_try, site.stays = offer, held, stays
@@ -79,14 +82,12 @@ def wants(site, line, offer=None, held=None, stays=False):
 
 def ways(site, line):
     """What a line may be answered while one allocation is refused, with the site after it: first as if none were; `NoMemory` with the site
-    as it was; of a file some operations are taken, and others aren't."""
+    as it was; of a file the records before one that found none, and of held operations some."""
     reply, after, tried = wants(site, line)
     found = [(reply, after), (NO_MEMORY, copy.deepcopy(site))]
     file = site.files.get(line.split()[1]) if line.startswith("receive ") else None
     if file:
-        nothing = f"{NO_MEMORY} at 0 new 0 repeat 0" + (f" held {len(site.held)}" if site.held else "")
-        found.append((nothing, copy.deepcopy(site)))
-        found += [wants(site, line, offer=number)[:2] for number in range(1, len(file.ops) + 1)]
+        found += [wants(site, line, offer=number)[:2] for number in range(1, len(file.ops) + 2)]
     return found + [wants(site, line, held=number, stays=stays)[:2] for number in range(1, tried + 1) for stays in (True, False)]
 
 

@@ -4,60 +4,33 @@
 //! and `peertext show FILE` writes the line of each operation of one.
 #![tactic(auto)]
 
-ghost use Rattle.std.specs.Prelude.{◌≡◌, ◌<◌, ◌≤◌, length, IfOk, OnOk};
+ghost use Rattle.std.specs.Prelude.{◌≡◌, ◌≤◌, ◌<◌, length, None, IfOk, MatchResult, OnOk};
 ghost use Rattle.rt_stamps.specs.declared.limits.TheConstants.{MOST_BYTES};
-ghost use Rattle.rt_script.specs.Site.{AreWithin};
+ghost use Rattle.peertext.specs.Program.{ProgramRuns, WritesLog};
+ghost use Rattle.rt_program.specs.Endings.{log_failure};
+ghost use Rattle.rt_program.specs.Readers.{stream_of};
+ghost use Rattle.rt_script.specs.Site.{AreWithin, named_files};
+ghost use Rattle.rt_script.specs.SiteRun.{BeginsWith};
 
 mod counted;
 
-use counted::{join_counted, read_counted, show_counted};
+use counted::{Counts, begin_with, join_two, read_file, run_counted, show_file};
 use rt_args::{Line, LineFault, line};
 use rt_program::ending::{
     Failure, file_failure, first_failure, join_failure, log_failure, run_failure, show_failure,
     status, write_failure,
 };
 use rt_program::{LazyFile, write_whole};
-use rt_script::{JoinFault, Outcome, SiteState, begun, run_site};
-use rt_stamps::std_ends::{Count, Reader, Writer};
+use rt_script::{JoinFault, Outcome, SiteState, begun};
+use rt_stamps::std_ends::{Reader, Writer};
 use rt_stamps::{Fault, Site};
 use std::alloc::Global;
 use std::env::{self, Env};
-use std::io::{self, BufReader, BufWriter, Write};
+use std::io::{self, BufReader, BufWriter, Read, Write};
 use std::marker::Brand;
 use std::mem::forget;
 use std::process::ExitCode;
 use std::sync::ledger::{Blank, Ledger};
-
-// Runs standard input by a site, with its reads and the writes to standard output counted in ledgers
-// that take no bytes.
-fn run_streams<A: Ledger, B: Ledger, C: Ledger, D: Ledger, R: Input + Print + AllocGlobal>(
-    rt: &R,
-    site: SiteState,
-    files: &[(String, Vec<u8>)],
-    wants_log: bool,
-    reads: Blank,
-    failed_reads: Blank,
-    writes: Blank,
-    failed_writes: Blank,
-) -> Outcome
-    requires files { AreWithin files.now }
-    requires a { (reads.name ≡ A.name) × (reads.parts ≡ A.parts) × (0 < A.parts) }
-    requires b { (failed_reads.name ≡ B.name) × (failed_reads.parts ≡ B.parts) × (0 < B.parts) }
-    requires c { (writes.name ≡ C.name) × (writes.parts ≡ C.parts) × (0 < C.parts) }
-    requires d { (failed_writes.name ≡ D.name) × (failed_writes.parts ≡ D.parts) × (0 < D.parts) }
-{
-    let mut script = Reader::new(
-        rt.reader(),
-        Count::<A>::begin(reads),
-        Count::<B>::begin(failed_reads),
-    );
-    let mut out = Writer::new(
-        io::writer(rt),
-        Count::<C>::begin(writes),
-        Count::<D>::begin(failed_writes),
-    );
-    run_site(rt.alloc(), site, files, wants_log, &mut script, &mut out)
-}
 
 // A file that is opened by its first read, read in larger pieces.
 type FileReader<'a> = BufReader<LazyFile<'a, HostRuntime>>;
@@ -77,9 +50,31 @@ fn read_path<'a>(rt: &HostRuntime, path: &'a str) -> Result<Vec<u8>, Failure<'a>
         Ok(file) => file,
         Err(fault) => return Err(file_failure(fault, 0, path)),
     };
-    match read_counted::<Brand, Brand, _>(rt.alloc(), file, Blank::new(1), Blank::new(1)) {
+    match read_file::<Brand, Brand, _>(rt.alloc(), file, Blank::new(1), Blank::new(1)) {
         Ok(bytes) => Ok(bytes),
         Err(fault) => Err(file_failure(fault, 0, path)),
+    }
+}
+
+// A new site.
+fn begun_new<'a>(rt: &HostRuntime, site: Site) -> Result<SiteState, Failure<'a>>
+    ensures { MatchResult result (BeginsWith site.number None) (λ failure. failure ≡ log_failure (Fault.NoMemory, 0) None) }
+{
+    match begun(rt.alloc(), site, None) {
+        Ok(state) => Ok(state),
+        Err((fault, offset)) => Err(log_failure(fault, offset, None)),
+    }
+}
+
+// A site with the log of a file.
+fn begun_with<'a>(rt: &HostRuntime, site: Site, path: &'a str) -> Result<SiteState, Failure<'a>> {
+    let file = match file_at(rt, path) {
+        Ok(file) => file,
+        Err(fault) => return Err(log_failure(fault, 0, Some(path))),
+    };
+    match begin_with::<Brand, Brand, _>(rt.alloc(), site, file, Blank::new(1), Blank::new(1)) {
+        Ok(state) => Ok(state),
+        Err((fault, offset)) => Err(log_failure(fault, offset, Some(path))),
     }
 }
 
@@ -88,14 +83,12 @@ fn begun_at<'a>(
     rt: &HostRuntime,
     site: Site,
     log: Option<&'a str>,
-) -> Result<SiteState, Failure<'a>> {
-    let state = match log {
-        Some(path) => begun(rt.alloc(), site, Some(read_path(rt, path)?.as_slice())),
-        None => begun(rt.alloc(), site, None),
-    };
-    match state {
-        Ok(state) => Ok(state),
-        Err((fault, offset)) => Err(log_failure(fault, offset, log)),
+) -> Result<SiteState, Failure<'a>>
+    ensures { log.entry ≡ None → MatchResult result (BeginsWith site.number None) (λ failure. failure ≡ log_failure (Fault.NoMemory, 0) None) }
+{
+    match log {
+        Some(path) => begun_with(rt, site, path),
+        None => begun_new(rt, site),
     }
 }
 
@@ -138,7 +131,9 @@ fn write_log<'a>(
     rt: &HostRuntime,
     out: Option<&'a str>,
     log: Option<Result<Vec<u8>, Fault>>,
-) -> Option<Failure<'a>> {
+) -> Option<Failure<'a>>
+    ensures { WritesLog out.entry log result }
+{
     match (out, log) {
         (Some(path), Some(Ok(bytes))) => match write_whole(rt, path, &bytes) {
             Ok(()) => None,
@@ -149,7 +144,64 @@ fn write_log<'a>(
     }
 }
 
-// Runs standard input by a site, and then writes its log's file where it is wanted.
+// Runs a script by a site, and then writes its log's file where it is wanted. Answers the reader and the writer too.
+fn run_with<'a, A: Ledger, B: Ledger, C: Ledger, D: Ledger, S: Read + Drop, W: Write + Drop>(
+    rt: &HostRuntime,
+    site: SiteState,
+    files: &[(String, Vec<u8>)],
+    out: Option<&'a str>,
+    script: S,
+    lines: W,
+    counts: Counts,
+) -> (Option<Failure<'a>>, Reader<S, A, B>, Writer<W, C, D>)
+    requires files { AreWithin files.now }
+    requires a { (counts.reads.name ≡ A.name) × (counts.reads.parts ≡ A.parts) × (0 < A.parts) }
+    requires b { (counts.failed_reads.name ≡ B.name) × (counts.failed_reads.parts ≡ B.parts) × (0 < B.parts) }
+    requires c { (counts.writes.name ≡ C.name) × (counts.writes.parts ≡ C.parts) × (0 < C.parts) }
+    requires d { (counts.failed_writes.name ≡ D.name) × (counts.failed_writes.parts ≡ D.parts) × (0 < D.parts) }
+    ensures { ProgramRuns (named_files files.now) site out.entry
+        (S.remaining script) (stream_of result.1.calls result.1.failures (S.remaining result.1.inner))
+        (W.contents lines) (stream_of result.2.calls result.2.failures (W.contents result.2.inner)) result.0 }
+{
+    let (outcome, script, lines) = run_counted::<A, B, C, D, S, W>(
+        rt.alloc(),
+        site,
+        files,
+        out.is_some(),
+        script,
+        lines,
+        counts,
+    );
+    let Outcome { site, fault, log } = outcome;
+    let failure = first_failure(fault, write_log(rt, out, log));
+    // The program ends here: the site's memory goes with it as a whole, not cell by cell.
+    forget(site);
+    (failure, script, lines)
+}
+
+// The same for `run_begun`, which asks for no reader and no writer.
+fn run_over<'a, A: Ledger, B: Ledger, C: Ledger, D: Ledger, S: Read + Drop, W: Write + Drop>(
+    rt: &HostRuntime,
+    site: SiteState,
+    files: &[(String, Vec<u8>)],
+    out: Option<&'a str>,
+    script: S,
+    lines: W,
+    counts: Counts,
+) -> Option<Failure<'a>>
+    requires files { AreWithin files.now }
+    requires a { (counts.reads.name ≡ A.name) × (counts.reads.parts ≡ A.parts) × (0 < A.parts) }
+    requires b { (counts.failed_reads.name ≡ B.name) × (counts.failed_reads.parts ≡ B.parts) × (0 < B.parts) }
+    requires c { (counts.writes.name ≡ C.name) × (counts.writes.parts ≡ C.parts) × (0 < C.parts) }
+    requires d { (counts.failed_writes.name ≡ D.name) × (counts.failed_writes.parts ≡ D.parts) × (0 < D.parts) }
+{
+    let (failure, _script, _lines) = run_with::<A, B, C, D, S, W>(
+        rt, site, files, out, script, lines, counts,
+    );
+    failure
+}
+
+// Runs standard input by a site.
 fn run_begun<'a>(
     rt: &HostRuntime,
     site: SiteState,
@@ -158,20 +210,15 @@ fn run_begun<'a>(
 ) -> Option<Failure<'a>>
     requires { AreWithin files.now }
 {
-    let Outcome { site, fault, log } = run_streams::<Brand, Brand, Brand, Brand, HostRuntime>(
+    run_over::<Brand, Brand, Brand, Brand, _, _>(
         rt,
         site,
         files,
-        out.is_some(),
-        Blank::new(1),
-        Blank::new(1),
-        Blank::new(1),
-        Blank::new(1),
-    );
-    let failure = first_failure(fault, write_log(rt, out, log));
-    // The program ends here: the site's memory goes with it as a whole, not cell by cell.
-    forget(site);
-    failure
+        out,
+        rt.reader(),
+        io::writer(rt),
+        Counts::new(),
+    )
 }
 
 // Reads the log and then the files, and runs standard input where none of these is at fault.
@@ -199,7 +246,7 @@ fn run_paths<'a>(
 fn join_paths(rt: &HostRuntime, a: &str, b: &str) -> Result<Vec<u8>, JoinFault> {
     match (file_at(rt, a), file_at(rt, b)) {
         (Ok(first), Ok(second)) => {
-            join_counted::<Brand, Brand, Brand, Brand, _, _>(
+            join_two::<Brand, Brand, Brand, Brand, _, _>(
                 rt.alloc(),
                 first,
                 second,
@@ -235,7 +282,7 @@ fn show<'a>(rt: &HostRuntime, path: &'a str) -> Option<Failure<'a>> {
         BufWriter::new(rt.alloc(), io::writer(rt)),
     ) {
         (Ok(file), Ok(out)) => {
-            let (shown, mut out) = show_counted::<Brand, Brand, Brand, Brand, _, _>(
+            let (shown, mut out) = show_file::<Brand, Brand, Brand, Brand, _, _>(
                 rt.alloc(),
                 file,
                 out,

@@ -6,6 +6,7 @@ pub mod Places
 pub mod Runs
 pub mod Stamps
 pub mod TagNames
+pub mod Telling
 pub mod Texts
 pub mod Told
 pub mod Turns

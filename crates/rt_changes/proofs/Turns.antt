@@ -21,7 +21,7 @@ use Rattle.rt_rga.proofs.Histories.{continues_from, history_with}
 use Rattle.rt_changes.specs.Replays.{VisibleChange, all_changes, replayed, changes_by_request, changes_by_requests, changes_if_new, changes_in_turn, changes_of, with_change}
 use Rattle.rt_changes.proofs.Texts.{changes_replay}
 
-replayed_append : (changes more : List VisibleChange) (t : List TaggedCharacter) → replayed (changes ++ more) t ≡ replayed more (replayed changes t)
+pub replayed_append : (changes more : List VisibleChange) (t : List TaggedCharacter) → replayed (changes ++ more) t ≡ replayed more (replayed changes t)
 replayed_append [] more t = refl
 replayed_append (c ∷ changes) more t = replayed_append changes more (with_change c t)
 

@@ -1,5 +1,5 @@
 // Laws of the definitions, each the contract of a function that does nothing.
-ghost use Rattle.rt_changes.specs.Laws.{ChangesAreExact, ChangesAreInText, ChangesAreReplayed, DeletesTakeAway, DeletesTakeStampsAway, DeletesTakeTextAway, InsertsPutIn, InsertsPutStampsIn, InsertsPutTextIn, OffersAreReplayed, OwnAreReplayed, RequestsAreReplayed, RetaggedDiffer, RunsAreKnown, RunsFall, RunsHavePlaces, TagsAreListed, TagsLeaveStamps, TagsLeaveText, TagsRetag, TakenAreGone, ToldAreChanges};
+ghost use Rattle.rt_changes.specs.Laws.{ChangesAreExact, ChangesAreInText, ChangesAreReplayed, DeletesTakeAway, DeletesTakeStampsAway, DeletesTakeTextAway, InsertsPutIn, InsertsPutStampsIn, InsertsPutTextIn, OffersAreReplayed, OwnAreReplayed, RequestsAreReplayed, RetaggedDiffer, RunsAreKnown, RunsFall, RunsHavePlaces, TagsAreListed, TagsLeaveStamps, TagsLeaveText, TagsRetag, TakenAreExact, TakenAreGone, TakenAreInText, TakenAreReplayed, ToldAreChanges};
 
 /// What an operation that continues a history does to the visible text with its tags. An Insert puts
 /// its characters in at its place, each with its tags. A Delete leaves the characters at the places
@@ -56,4 +56,12 @@ pub fn turns()
     ensures offers { OffersAreReplayed }
     ensures own { OwnAreReplayed }
     ensures requests { RequestsAreReplayed }
+{}
+
+/// The changes of operations that continue a log one after the other, replayed on the text before all, give the text after
+/// all; each is within the text that the ones before it leave, and names only places that its operation changes.
+pub fn taken()
+    ensures replayed { TakenAreReplayed }
+    ensures within { TakenAreInText }
+    ensures exact { TakenAreExact }
 {}

@@ -1,7 +1,9 @@
 pub mod Actions
+pub mod Among
 pub mod Counted
 pub mod Gone
 pub mod Growing
+pub mod Limits
 pub mod Named
 pub mod Noted
 pub mod Once

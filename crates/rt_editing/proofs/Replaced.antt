@@ -1,4 +1,4 @@
--- The text after a recorded replacement was undone.
+-- The text after a recorded deletion or replacement was undone.
 use Rattle.std.proofs.Common.{◌≡◌, ◌∙◌, ℕ, suc, ◌+◌, ◌-◌, ◌<◌, ◌≤◌, Bool, true, false, not, List, [], ◌∷◌, ◌++◌, None, Some, length, map, filter, drop, get_or, cond, ap, arith, refl, subst, sym, add-zero, append_assoc}
 use Rattle.std.specs.List.{AllByRecursion}
 use Rattle.std.specs.Prelude.{Option, min, option_and_then, option_map, slice_get, unwrap_or}
@@ -32,7 +32,8 @@ use Rattle.rt_edits.proofs.DeletionDraftLaws.{stamps_gone}
 use Rattle.rt_edits.proofs.InsertDraftLaws.{put_behind}
 use Rattle.rt_edits.proofs.LastNames.{Rise, new_names, rise_to, sorted_filter}
 use Rattle.rt_edits.proofs.TagNames.{AreNamed, CellsNamed, every_named}
-use Rattle.rt_undo.specs.declared.action.Kind.TheVariants.{Replace}
+use Rattle.rt_undo.specs.declared.action.Kind.{Kind}
+use Rattle.rt_undo.specs.declared.action.Kind.TheVariants.{Delete, Replace}
 use Rattle.rt_undo.specs.Renames.{replaced}
 use Rattle.rt_revert.specs.Reverting.{Reversion, are_at, as_it_is, as_removed, gone_cell_of, reverted, stamp_after, with_character, with_each_reverted, with_gone, with_return, with_returns}
 use Rattle.rt_revert.proofs.TakenBack.{stamp_after_more}
@@ -299,6 +300,52 @@ record Lacks (places : ℕ → Bool) (flat less : Flat) : Type 0 where
   pub site : less.site ≡ flat.site
   pub count : flat.count ≤ less.count
 
+-- An edit took away the characters at some places, and put in others whose stamps have counts of its own. It is undone: the text is as
+-- it was.
+edit_back : (site : ℕ) (log : List Operation) (flat : Flat) (places : ℕ → Bool) (kind : Kind) (new : Flat) → 0 < site → IsHistory log → IsDocument site log flat
+    → new.site ≡ flat.site → flat.count ≤ new.count
+    → beside (stamps_of_span (counts_between flat.site flat.count new.count)) new.cells ≡ gone_at places 0 flat.cells
+    → tagged_text (reverted new (action_of kind flat new (cells_at places 0 flat.cells) ∷ [])).cells ≡ tagged_text flat.cells
+edit_back site log flat places kind new p h doc same later old =
+    let stamps = stamps_of_span (counts_between flat.site flat.count new.count) in
+    let action = action_of kind flat new (cells_at places 0 flat.cells) in
+    let r = as_it_is new in
+    let start = with_gone stamps r in
+    let removed = map as_removed (cells_at places 0 flat.cells) in
+    let gone = went stamps (are_at stamps new.cells) 0 new.cells (λ k. ap (are_at stamps new.cells) (omega arith)) in
+    let part : IsPart stamps places 0 [] start.doc.cells flat.cells start = record {
+      cells = refl;
+      gone = gone.gone;
+      old = gone.others ∙ old;
+      none = counts_apart site log flat new.count p h doc;
+      site = omega (arith, same, doc.site, p);
+      older = below_later (greatest_last_count log) start.doc.count flat.cells (omega (arith, doc.count, later))
+          (subst (AreBelowNext (greatest_last_count log)) (sym doc.cells) (cells_older log h));
+      distinct = subst AreDistinct (sym doc.cells) (cells_distinct log h);
+      apart = λ s k. refl;
+      root = ap (λ (cells : List TaggedCell). is_among (stamps_of cells) ROOT) doc.cells ∙ root_absent log h;
+      still = λ s k. refl;
+      named = rise_all flat.cells (subst CellsNamed (sym doc.cells) (every_named log h));
+    } in
+    ap (λ group. tagged_text (with_each_reverted group r).doc.cells) (one_reversed action)
+    ∙ ap (λ ss. tagged_text (with_returns removed (with_gone ss r)).doc.cells) (map-id stamps)
+    ∙ back stamps places start.doc.cells flat.cells 0 [] start part
+
+-- what a document has that lacks some characters is apart from the counts of an edit
+less_apart : (site : ℕ) (log : List Operation) (flat less : Flat) (places : ℕ → Bool) (after : ℕ) → 0 < site → IsHistory log → IsDocument site log flat → Lacks places flat less
+    → HaveNone (stamps_of_span (counts_between flat.site flat.count after)) less.cells
+less_apart site log flat less places after p h doc lacks =
+    subst (HaveNone (stamps_of_span (counts_between flat.site flat.count after))) (sym lacks.cells) (λ s k.
+    counts_apart site log flat after p h doc s (subst (λ (l : List Stamp). is_among l s ≡ true) (stamps_gone places 0 flat.cells) k))
+
+-- characters are taken away, and that is undone
+removed_back : (site : ℕ) (log : List Operation) (flat : Flat) (places : ℕ → Bool) (less : Flat) → 0 < site → IsHistory log → IsDocument site log flat → Lacks places flat less
+    → tagged_text (reverted less (action_of Delete flat less (cells_at places 0 flat.cells) ∷ [])).cells ≡ tagged_text flat.cells
+removed_back site log flat places less p h doc lacks =
+    let stamps = stamps_of_span (counts_between flat.site flat.count less.count) in
+    edit_back site log flat places Delete less p h doc lacks.site lacks.count
+    (all_beside stamps less.cells (less_apart site log flat less places less.count p h doc lacks) ∙ lacks.cells)
+
 -- text is inserted into such a document, and that is undone together with the removal
 replaced_back : (site : ℕ) (log : List Operation) (flat : Flat) (places : ℕ → Bool) (view : Viewed) (place : ℕ) (pieces : List Piece) (rest : Word) → 0 < site → IsHistory log
     → IsDocument site log flat → Lacks places flat view.doc
@@ -311,38 +358,15 @@ replaced_back site log flat places view place pieces rest p h doc lacks =
     let after = left_of less.cells (in_text view place) in
     let new = (with_pieces_at view place pieces rest).doc in
     let stamps = stamps_of_span (counts_between flat.site flat.count inserted.count) in
-    let action = action_of Replace flat new (cells_at places 0 flat.cells) in
     let is_new : IsNew less.site less.count inserted =
     new_insertion less.site less.count (left_neighbour (shown_by view) place) (right_behind view place pieces) pieces rest begun (record { cells = tt; count = omega arith }) in
     let between : AreBetween flat.site flat.count inserted.count inserted.cells =
     between_wider flat.site less.count inserted.count flat.count inserted.count inserted.cells lacks.count (omega arith)
     (subst (λ s. AreBetween s less.count inserted.count inserted.cells) lacks.site is_new.cells) in
-    let apart : HaveNone stamps flat.cells = counts_apart site log flat inserted.count p h doc in
-    let fewer : HaveNone stamps less.cells =
-    subst (HaveNone stamps) (sym lacks.cells) (λ s k. apart s (subst (λ (l : List Stamp). is_among l s ≡ true) (stamps_gone places 0 flat.cells) k)) in
-    let r = as_it_is new in
-    let start = with_gone stamps r in
-    let removed = map as_removed (cells_at places 0 flat.cells) in
-    let gone = went stamps (are_at stamps new.cells) 0 new.cells (λ k. ap (are_at stamps new.cells) (omega arith)) in
-    let part : IsPart stamps places 0 [] start.doc.cells flat.cells start = record {
-      cells = refl;
-      gone = gone.gone;
-      old = gone.others
-          ∙ beside_put stamps less.cells inserted.cells after (all_beside stamps less.cells fewer) (none_beside flat.site flat.count inserted.count inserted.cells between)
-          ∙ lacks.cells;
-      none = apart;
-      site = omega (arith, lacks.site, doc.site, p);
-      older = below_later (greatest_last_count log) start.doc.count flat.cells (omega (arith, doc.count, lacks.count, is_new.count))
-          (subst (AreBelowNext (greatest_last_count log)) (sym doc.cells) (cells_older log h));
-      distinct = subst AreDistinct (sym doc.cells) (cells_distinct log h);
-      apart = λ s k. refl;
-      root = ap (λ (cells : List TaggedCell). is_among (stamps_of cells) ROOT) doc.cells ∙ root_absent log h;
-      still = λ s k. refl;
-      named = rise_all flat.cells (subst CellsNamed (sym doc.cells) (every_named log h));
-    } in
-    ap (λ group. tagged_text (with_each_reverted group r).doc.cells) (one_reversed action)
-    ∙ ap (λ ss. tagged_text (with_returns removed (with_gone ss r)).doc.cells) (map-id stamps)
-    ∙ back stamps places start.doc.cells flat.cells 0 [] start part
+    let fewer = less_apart site log flat less places inserted.count p h doc lacks in
+    edit_back site log flat places Replace new p h doc lacks.site (omega (arith, lacks.count, is_new.count))
+    (beside_put stamps less.cells inserted.cells after (all_beside stamps less.cells fewer) (none_beside flat.site flat.count inserted.count inserted.cells between)
+    ∙ lacks.cells)
 
 -- where a deletion takes no tags off the newline that stays, it does no more than to take characters away
 only_places : (flat : Flat) (places : ℕ → Bool) (newline : Option TaggedCell) → unwrap_or (option_map (λ (cell : TaggedCell). names_on cell.state) newline) [] ≡ []
@@ -351,19 +375,33 @@ only_places : (flat : Flat) (places : ℕ → Bool) (newline : Option TaggedCell
 only_places flat places None e = refl
 only_places flat places (Some cell) e = ap (bared (without_places flat places) cell.stamp) e
 
+-- ranges are deleted, with no tags taken off the newline that stays: the document lacks the characters at their places
+lacks_ranges : (view : Viewed) (ranges : List Range) → tags_lost view ranges ≡ []
+    → Lacks (loss_in (text_shown view) (begin_of view) ranges).places view.doc (without_ranges view ranges).doc
+lacks_ranges view ranges none =
+    let flat = view.doc in
+    let loss = loss_in (text_shown view) (begin_of view) ranges in
+    let less = only_places flat loss.places (newline_of flat loss) none in
+    record {
+      cells = ap (λ (d : Flat). d.cells) less;
+      site = ap (λ (d : Flat). d.site) less;
+      count = subst (λ (d : Flat). flat.count ≤ d.count) (sym less) (omega arith);
+    }
+
+-- a deletion that is undone at once leaves the text as it was
+pub deletion_back : (site : ℕ) (log : List Operation) (view : Viewed) (ranges : List Range) → 0 < site → IsHistory log
+    → IsDocument site log view.doc → tags_lost view ranges ≡ []
+    → let new = (without_ranges view ranges).doc in
+    tagged_text (reverted new (action_of Delete view.doc new (lost_in view ranges) ∷ [])).cells ≡ tagged_text view.doc.cells
+deletion_back site log view ranges p h doc none =
+    removed_back site log view.doc (loss_in (text_shown view) (begin_of view) ranges).places (without_ranges view ranges).doc p h doc (lacks_ranges view ranges none)
+
 -- a replacement that is undone at once leaves the text as it was
 pub replacement_back : (site : ℕ) (log : List Operation) (view : Viewed) (range : Range) (pieces : List Piece) (rest : Word) → 0 < site → IsHistory log
     → IsDocument site log view.doc → tags_lost view (range ∷ []) ≡ []
     → let new = (with_range_replaced view range pieces rest).doc in
     tagged_text (reverted new (action_of Replace view.doc new (lost_in view (range ∷ [])) ∷ [])).cells ≡ tagged_text view.doc.cells
 replacement_back site log view range pieces rest p h doc none =
-    let flat = view.doc in
-    let loss = loss_in (text_shown view) (begin_of view) (range ∷ []) in
     let left = without_ranges view (range ∷ []) in
-    let less = only_places flat loss.places (newline_of flat loss) none in
-    let lacks : Lacks loss.places flat left.doc = record {
-      cells = ap (λ (d : Flat). d.cells) less;
-      site = ap (λ (d : Flat). d.site) less;
-      count = subst (λ (d : Flat). flat.count ≤ d.count) (sym less) (omega arith);
-    } in
-    replaced_back site log flat loss.places left (min range.from (length_shown left - 1)) pieces rest p h doc lacks
+    replaced_back site log view.doc (loss_in (text_shown view) (begin_of view) (range ∷ [])).places left (min range.from (length_shown left - 1)) pieces rest p h doc
+    (lacks_ranges view (range ∷ []) none)

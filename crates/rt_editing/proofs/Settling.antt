@@ -18,10 +18,12 @@ use Rattle.rt_revert.specs.Reverting.{reversion, reverted, reverted_group}
 use Rattle.rt_revert.specs.ReversionLaws.{AreSound}
 use Rattle.rt_revert.proofs.Soundness.{group_renamed}
 use Rattle.rt_text.specs.Commands.{cell_check}
-use Rattle.rt_text.specs.Reversions.{reversion_check}
+use Rattle.rt_text.specs.Reversions.{reversion_check, view_reverted}
+use Rattle.rt_text.specs.Widgets.{Viewed}
 use Rattle.rt_editing.specs.Recordings.{HaveStayed}
 use Rattle.rt_editing.specs.Returns.{IsOther, Return, stamp_after}
-use Rattle.rt_editing.specs.Settled.{AreGoneOnce, is_gone, taken_by}
+use Rattle.rt_editing.specs.Settled.{AreGoneOnce, AreInOrder, is_gone, limits_of, taken_by}
+use Rattle.rt_editing.proofs.Limits.{reverted_order}
 use Rattle.rt_editing.proofs.OnceReverted.{reversion_once}
 use Rattle.rt_editing.proofs.Told.{IsReturned, reversion_told}
 
@@ -54,7 +56,19 @@ once_told flat group others number p site history cells count sound checked once
     let positive : 0 < flat.site = omega (arith, p, site) in
     (reversion_once flat.site flat.log flat group others positive history (record { cells = cells; site = refl; count = count }) sound (fits flat group checked) once).once
 
+-- and each widget's limits are in their order
+pub order_told : (view : Viewed) (group : List (Action (List Word))) (number : ℕ) → 0 < number → number ≡ view.doc.site → IsHistory view.doc.log
+    → view.doc.cells ≡ cells_of view.doc.log → view.doc.count ≡ greatest_last_count view.doc.log → AreSound group → reversion_check view.doc group ≡ None
+    → AllByRecursion (AreInOrder view.doc.cells) (limits_of view) → AllByRecursion (AreInOrder (view_reverted view group).doc.cells) (limits_of (view_reverted view group))
+order_told view group number p site history cells count sound checked order =
+    let positive : 0 < view.doc.site = omega (arith, p, site) in
+    reverted_order view.doc.site view.doc.log view group positive history (record { cells = cells; site = refl; count = count }) sound (fits view.doc group checked) order
+
 -- RESULTS
+
+pub on_weaker : {A E : Type 0} (C D : Type 0) (r : Result A E) → OnOk r C → (C → D) → OnOk r D
+on_weaker C D (Ok x) c f = f c
+on_weaker C D (Err e) c f = tt
 
 pub if_checked : {A E C : Type 0} (P Q : A → Type 0) (r : Result A E) → OnOk r C → IfOk r P → (C → (x : A) → P x → Q x) → IfOk r Q
 if_checked P Q (Ok x) c p f = f c x p

@@ -1,4 +1,4 @@
--- The text after a recorded edit was undone.
+-- Counts that an edit takes are those of none of the cells that were there.
 use Rattle.std.proofs.Common.{◌≡◌, ◌∙◌, ℕ, ◌<◌, ◌≤◌, Bool, true, false, List, [], ◌∷◌, ap, arith, refl, subst, sym}
 use Rattle.rt_stamps.specs.declared.stamp.Stamp.{Stamp}
 use Rattle.rt_stamps.specs.Stamps.{is_same}
@@ -43,10 +43,3 @@ document_below site log flat h doc = subst (λ (q : _). q) (λ i. AreBelowNext (
 pub counts_apart : (site : ℕ) (log : List Operation) (flat : Flat) (after : ℕ) → 0 < site → IsHistory log → IsDocument site log flat → (s : Stamp)
     → is_among (stamps_of flat.cells) s ≡ true → is_among (stamps_of_span (counts_between flat.site flat.count after)) s ≡ false
 counts_apart site log flat after p h doc = below_apart flat after (omega (arith, doc.site, p)) (document_below site log flat h doc)
-
-pub deletion_back : (site : ℕ) (log : List Operation) (flat : Flat) (places : ℕ → Bool) → 0 < site → IsHistory log → IsDocument site log flat
-    → let left = without_places flat places in
-    tagged_text (reverted left (action_of Delete flat left (cells_at places 0 flat.cells) ∷ [])).cells ≡ tagged_text flat.cells
-deletion_back site log flat places p h doc =
-    let left = without_places flat places in
-    removal_back site log flat places (action_of Delete flat left (cells_at places 0 flat.cells)) p h doc (counts_apart site log flat left.count p h doc) refl

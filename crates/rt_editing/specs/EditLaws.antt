@@ -7,36 +7,32 @@ use Rattle.rt_tags.specs.States.{names_on}
 use Rattle.rt_rga.specs.Histories.{IsHistory}
 use Rattle.rt_rga.specs.Texts.{tagged_text}
 use Rattle.rt_edits.specs.declared.range.Range.{Range}
-use Rattle.rt_edits.specs.Deletions.{loss_in, newline_of, without_places}
+use Rattle.rt_edits.specs.Deletions.{loss_in, newline_of}
 use Rattle.rt_edits.specs.DraftLaws.{IsDocument}
 use Rattle.rt_edits.specs.Flat.{Flat}
 use Rattle.rt_edits.specs.Insertions.{Piece}
-use Rattle.rt_edits.specs.Removals.{cells_at}
 use Rattle.rt_undo.specs.Actions.{Action}
 use Rattle.rt_undo.specs.declared.action.Kind.TheVariants.{Delete, Insert, Replace}
 use Rattle.rt_revert.specs.Reverting.{reversion, reverted}
 use Rattle.rt_revert.specs.ReversionLaws.{AreSound}
-use Rattle.rt_text.specs.Commands.{lost_in, with_pieces_at, with_range_replaced}
+use Rattle.rt_text.specs.Commands.{lost_in, with_pieces_at, with_range_replaced, without_ranges}
 use Rattle.rt_text.specs.Widgets.{Viewed, begin_of, text_shown}
 use Rattle.rt_editing.specs.Edits.{action_of}
 use Rattle.rt_editing.specs.Settled.{AreGoneOnce, taken_by}
 
--- Characters are removed, with the action that `delete` records of it, and this is undone at once: the text is again what it was,
--- each character with its tags. It is said of deletions that take no tags off the last newline.
+-- the tags that a deletion takes off the last newline that the widget shows, which stays
+abbrev pub tags_lost : Viewed → List Range → List Word
+tags_lost view ranges =
+    let loss = loss_in (text_shown view) (begin_of view) ranges in unwrap_or (option_map (λ cell. names_on cell.state) (newline_of view.doc loss)) []
+
+-- Ranges are deleted, with the action that `delete` records of it, and this is undone at once: the text is again what it was, each
+-- character with its tags. It is said of deletions that take no tags off the last newline.
 abbrev pub DeletionIsTakenBack : Type 0
 DeletionIsTakenBack =
-    (site : ℕ) (log : List Operation) (flat : Flat) (places : ℕ → Bool) → 0 < site → IsHistory log → IsDocument site log flat
-    → let left = without_places flat places in
-    tagged_text (reverted left (action_of Delete flat left (cells_at places 0 flat.cells) ∷ [])).cells ≡ tagged_text flat.cells
-
--- Text is inserted, with the action that `insert` records of it, and this is undone at once: the text is again what it was, each
--- character with its tags.
-abbrev pub InsertedTextIsTakenBack : Type 0
-InsertedTextIsTakenBack =
-    (site : ℕ) (log : List Operation) (view : Viewed) (place : ℕ) (pieces : List Piece) (rest : Word) → 0 < site → IsHistory log
-    → IsDocument site log view.doc
-    → let new = (with_pieces_at view place pieces rest).doc in
-    tagged_text (reverted new (action_of Insert view.doc new [] ∷ [])).cells ≡ tagged_text view.doc.cells
+    (site : ℕ) (log : List Operation) (view : Viewed) (ranges : List Range) → 0 < site → IsHistory log
+    → IsDocument site log view.doc → tags_lost view ranges ≡ []
+    → let new = (without_ranges view ranges).doc in
+    tagged_text (reverted new (action_of Delete view.doc new (lost_in view ranges) ∷ [])).cells ≡ tagged_text view.doc.cells
 
 -- text to insert, in pieces with lists of tags, and then characters without one, before the character at a place
 pub record Put : Type 0 where
@@ -65,11 +61,6 @@ InsertedTextsAreTakenBack =
     (site : ℕ) (log : List Operation) (view : Viewed) (puts : List Put) → 0 < site → IsHistory log → IsDocument site log view.doc
     → tagged_text (reverted (after_puts view puts).doc (put_actions view puts)).cells ≡ tagged_text view.doc.cells
 
--- the tags that a deletion takes off the last newline that the widget shows, which stays
-abbrev pub tags_lost : Viewed → List Range → List Word
-tags_lost view ranges =
-    let loss = loss_in (text_shown view) (begin_of view) ranges in unwrap_or (option_map (λ cell. names_on cell.state) (newline_of view.doc loss)) []
-
 -- Characters are removed and text is inserted in their stead, with the one action that `replace` records of it, and this is undone at
 -- once: the text is again what it was, each character with its tags. It is said of replacements that take no tags off the last newline.
 abbrev pub ReplacementIsTakenBack : Type 0
@@ -79,8 +70,8 @@ ReplacementIsTakenBack =
     → let new = (with_range_replaced view range pieces rest).doc in
     tagged_text (reverted new (action_of Replace view.doc new (lost_in view (range ∷ [])) ∷ [])).cells ≡ tagged_text view.doc.cells
 
--- Those whom a group took away, each once, who are gone, all come back when it is reverted and the counts fit, and nobody else: each
--- under the stamp that it went by, in the order of reverting.
+-- Where each character that a group took away was taken once and is gone, and the counts fit, just these come back when it is
+-- reverted. They are told by their former stamps, in the order of reverting; each has a newer one then.
 abbrev pub AllComeBack : Type 0
 AllComeBack =
     (site : ℕ) (log : List Operation) (flat : Flat) (group : List (Action (List Word))) → 0 < site → IsHistory log → IsDocument site log flat

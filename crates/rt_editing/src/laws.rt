@@ -1,20 +1,23 @@
 // Laws of the definitions, each the contract of a function that does nothing.
-ghost use Rattle.rt_editing.specs.EditLaws.{AllComeBack, DeletionIsTakenBack, InsertedTextIsTakenBack, InsertedTextsAreTakenBack, ReplacementIsTakenBack};
+ghost use Rattle.std.specs.Prelude.{◌≡◌, List};
+ghost use Rattle.rt_rga.specs.Cells.{cells_of};
+ghost use Rattle.rt_rga.specs.Histories.{IsHistory};
+ghost use Rattle.rt_rga.specs.Orders.{AreIn};
+ghost use Rattle.rt_ops.specs.Operations.{Operation};
+ghost use Rattle.rt_store.specs.Shown.{TaggedCell};
+ghost use Rattle.rt_text.specs.Neighbours.{limits_in};
+ghost use Rattle.rt_views.specs.declared.limits.Limits.{Limits};
+ghost use Rattle.rt_views.specs.Ordered.{AreInOrder, StandAmong, letters_of};
+ghost use Rattle.rt_editing.specs.EditLaws.{AllComeBack, DeletionIsTakenBack, InsertedTextsAreTakenBack, ReplacementIsTakenBack};
 
-/// The text after a removal of characters was undone at once, by the action that a deletion records which
-/// takes no tags off the last newline: it is again what it was, each character with its tags.
+/// The text after ranges were deleted, which took no tags off the last newline, and this was undone at once by the action
+/// that `delete` records: it is again what it was, each character with its tags.
 pub fn recorded_deletion()
     ensures { DeletionIsTakenBack }
 {}
 
-/// The text after an insertion was undone at once, by the action that an insertion records: it is again what it was,
-/// each character with its tags.
-pub fn recorded_insertion()
-    ensures { InsertedTextIsTakenBack }
-{}
-
-/// The text after several insertions, one after the other, were undone at once as one group, by the actions that the
-/// insertions record: it is again what it was, each character with its tags.
+/// The text after insertions, one or several, one after the other, were undone at once as one group, by the actions that
+/// they record: it is again what it was, each character with its tags.
 pub fn recorded_insertions()
     ensures { InsertedTextsAreTakenBack }
 {}
@@ -25,9 +28,16 @@ pub fn recorded_replacement()
     ensures { ReplacementIsTakenBack }
 {}
 
-/// Who was taken away comes back: of a group all of whose removed characters are gone, and each was removed by one of its
-/// actions, all of these come back where the counts fit, and nobody else. Between calls the groups of both stacks are
-/// such (`IsSettled`).
+/// Where each removed character of a group is gone, and one of its actions alone removed it, reverting the group brings
+/// back all of them, if the counts fit, and no others. Between calls the groups of both stacks are such (`IsSettled`).
 pub fn removed_characters()
     ensures { AllComeBack }
+{}
+
+/// While the log of a text grows, by operations of whichever sites, its characters stay in their order: new ones come in
+/// between. So the limits of each widget stay in theirs (`IsSettled`), and the text knows them: none is passed over.
+pub fn limits_in_order()
+    ensures characters { (old new : List Operation) → IsHistory old → IsHistory new → AreIn old new
+        → StandAmong (letters_of (cells_of old)) (letters_of (cells_of new)) }
+    ensures known { (cells : List TaggedCell) (limits : Limits) → AreInOrder cells limits → limits_in cells limits ≡ limits }
 {}

@@ -4,7 +4,7 @@ use Rattle.std.specs.declared.alloc.Global.{Global}
 use Rattle.std.specs.Io.KnownBytes.{Appends}
 use Rattle.rt_stamps.specs.declared.fault.Fault.{Fault}
 use Rattle.rt_stamps.specs.declared.fault.Fault.TheVariants.{NoMemory, WriteFault}
-use Rattle.rt_stamps.specs.Streams.{Stream}
+use Rattle.rt_stamps.specs.Streams.{FILE_BOUNDS, Stream}
 use Rattle.rt_stamps.specs.Written.{AppendsPart}
 use Rattle.rt_ops.specs.File.{spelling}
 use Rattle.rt_ops.specs.Intake.{ReadsFile, LacksMemory}
@@ -30,8 +30,9 @@ TellsLines ops fault before after result =
 -- before that, and nothing was written.
 abbrev pub ShowsFile : Stream → Stream → Stream → Stream → Result (Unit {0}) (Fault × ℕ) → Type 0
 ShowsFile old new before after result =
-    ((ops : List Operation) × (offsets : List ℕ) × (fault : Option (Fault × ℕ)) × ReadsFile old new ops offsets fault × TellsLines ops fault before after result)
-    ⊎ ((result ≡ Err (NoMemory, 0)) × LacksMemory old new × (after ≡ before))
+    ((ops : List Operation) × (offsets : List ℕ) × (fault : Option (Fault × ℕ)) × ReadsFile FILE_BOUNDS old new ops offsets fault
+    × TellsLines ops fault before after result)
+    ⊎ ((result ≡ Err (NoMemory, 0)) × LacksMemory FILE_BOUNDS old new × (after ≡ before))
 
 -- one of a file's operations is the first that is refused, and the fault has the offset of its record
 abbrev pub IsRefused : List Operation → List ℕ → Fault × ℕ → Type 0
@@ -40,7 +41,9 @@ IsRefused ops offsets found = (place : ℕ) × IsFirstRefused ops place found.0 
 -- What a file gives: the log of its operations, where its reading has no fault. Or its first fault: of the first operation
 -- that is refused, else that of the reading, which comes after all of them.
 abbrev pub FileGives : Stream → Stream → Result (List Operation) (Fault × ℕ) → Type 0
-FileGives old new result = (ops : List Operation) × (offsets : List ℕ) × (fault : Option (Fault × ℕ)) × ReadsFile old new ops offsets fault × MatchResult result
+FileGives old new result =
+    (ops : List Operation) × (offsets : List ℕ) × (fault : Option (Fault × ℕ)) × ReadsFile FILE_BOUNDS old new ops offsets fault
+    × MatchResult result
     (λ log. (fault ≡ None) × IsLogOf ops log)
     (λ found. IsRefused ops offsets found ⊎ ((fault ≡ Some found) × ((log : List Operation) × IsLogOf ops log)))
 
@@ -56,8 +59,8 @@ of_neither fault = record { file = 0; fault = fault; offset = 0 }
 -- reading ended, and then memory was wanting for the log of them.
 abbrev pub FindsNoMemory : Stream → Stream → Type 0
 FindsNoMemory old new =
-    LacksMemory old new
-    ⊎ ((ops : List Operation) × (offsets : List ℕ) × (fault : Option (Fault × ℕ)) × ReadsFile old new ops offsets fault × (0 < length ops))
+    LacksMemory FILE_BOUNDS old new
+    ⊎ ((ops : List Operation) × (offsets : List ℕ) × (fault : Option (Fault × ℕ)) × ReadsFile FILE_BOUNDS old new ops offsets fault × (0 < length ops))
 
 -- why there is no log of a file: its first fault, or want of memory
 abbrev pub GivesNoLog : ℕ → Stream → Stream → JoinFault → Type 0

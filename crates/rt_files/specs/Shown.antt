@@ -23,7 +23,8 @@ kind_of (Tag on name spans) = codes "tag"
 
 -- What an operation does, word by word. Texts and names are written as the words of a script.
 abbrev pub words_of : Body → List Word
-words_of (Insert after tags text) = codes "after" ∷ text_of_stamp after ∷ codes "text" ∷ text_of_word (encode_utf8_all text) ∷ codes "tags" ∷ map text_of_word tags
+words_of (Insert after tags text) =
+    codes "after" ∷ text_of_stamp after ∷ codes "text" ∷ text_of_word (encode_utf8_all text) ∷ codes "tags" ∷ map text_of_word tags
 words_of (Delete spans) = codes "spans" ∷ map text_of_span spans
 words_of (Tag on name spans) = (if on then codes "on" else codes "off") ∷ text_of_word name ∷ codes "spans" ∷ map text_of_span spans
 

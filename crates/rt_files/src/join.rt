@@ -69,14 +69,8 @@ fn log_of(alloc: Global, file: u8, ops: Vec<Op>, offsets: &[u64]) -> Result<OpLo
 // The log of a file, or its first fault.
 fn log_in<R: Source>(alloc: Global, file: u8, source: &mut R) -> Result<OpLog, JoinFault>
     ensures { MatchResult result
-        (λ log. FileGives
-        (record { calls = R.calls source.old; failures = R.failures source.old; bytes = R.remaining source.old })
-        (record { calls = R.calls source.new; failures = R.failures source.new; bytes = R.remaining source.new })
-        (Ok log.operations))
-        (λ why. GivesNoLog file
-        (record { calls = R.calls source.old; failures = R.failures source.old; bytes = R.remaining source.old })
-        (record { calls = R.calls source.new; failures = R.failures source.new; bytes = R.remaining source.new })
-        why) }
+        (λ log. FileGives (R.stream source.old) (R.stream source.new) (Ok log.operations))
+        (λ why. GivesNoLog file (R.stream source.old) (R.stream source.new) why) }
 {
     let reading = match read_file(alloc, source) {
         Ok(reading) => reading,
@@ -134,12 +128,7 @@ pub fn join_files<A: Source, B: Source>(
     a: &mut A,
     b: &mut B,
 ) -> Result<Vec<u8>, JoinFault>
-    ensures { JoinsFiles
-        (record { calls = A.calls a.old; failures = A.failures a.old; bytes = A.remaining a.old })
-        (record { calls = A.calls a.new; failures = A.failures a.new; bytes = A.remaining a.new })
-        (record { calls = B.calls b.old; failures = B.failures b.old; bytes = B.remaining b.old })
-        (record { calls = B.calls b.new; failures = B.failures b.new; bytes = B.remaining b.new })
-        result }
+    ensures { JoinsFiles (A.stream a.old) (A.stream a.new) (B.stream b.old) (B.stream b.new) result }
 {
     let one = log_in(alloc, 1, a)?;
     let other = log_in(alloc, 2, b)?;

@@ -15,9 +15,9 @@ use rt_stamps::{Fault, Sink, Span, Stamp, write_all};
 /// Writes the line of each operation, in their order. `WriteFault` where a write fails or takes
 /// nothing; a front of the lines was then written. It takes no memory and checks no stamp.
 pub fn write_lines<W: Sink>(ops: &[Op], out: &mut W) -> Result<(), Fault>
-    ensures wrote { Wrote (W.contents out.old) (W.contents out.new) result (lines_of ops.now) }
+    ensures wrote { Wrote (W.stream out.old).bytes (W.stream out.new).bytes result (lines_of ops.now) }
     ensures fault { IsOkUnless result Fault.WriteFault }
-    ensures failures { W.failures out.new ≡ W.failures out.old + failures_of result }
+    ensures failures { (W.stream out.new).failures ≡ (W.stream out.old).failures + failures_of result }
 {
     for op in ops {
         write_line(op, out)?;
@@ -26,19 +26,19 @@ pub fn write_lines<W: Sink>(ops: &[Op], out: &mut W) -> Result<(), Fault>
 }
 
 fn write_line<W: Sink>(op: &Op, out: &mut W) -> Result<(), Fault>
-    ensures wrote { Wrote (W.contents out.old) (W.contents out.new) result (line_of op.now) }
+    ensures wrote { Wrote (W.stream out.old).bytes (W.stream out.new).bytes result (line_of op.now) }
     ensures fault { IsOkUnless result Fault.WriteFault }
-    ensures failures { W.failures out.new ≡ W.failures out.old + failures_of result }
+    ensures failures { (W.stream out.new).failures ≡ (W.stream out.old).failures + failures_of result }
 {
     write_op(op, out)?;
     write_all(out, b"\n")
 }
 
 fn write_op<W: Sink>(op: &Op, out: &mut W) -> Result<(), Fault>
-    ensures wrote { Wrote (W.contents out.old) (W.contents out.new) result ((kind_of op.now.body
+    ensures wrote { Wrote (W.stream out.old).bytes (W.stream out.new).bytes result ((kind_of op.now.body
         ++ spaced (text_of_stamp (stamp_of op.now) ∷ codes "prev" ∷ decimal op.now.prev ∷ [])) ++ spaced (words_of op.now.body)) }
     ensures fault { IsOkUnless result Fault.WriteFault }
-    ensures failures { W.failures out.new ≡ W.failures out.old + failures_of result }
+    ensures failures { (W.stream out.new).failures ≡ (W.stream out.old).failures + failures_of result }
 {
     write_head(op, out)?;
     write_edit(op.edit(), out)
@@ -46,10 +46,10 @@ fn write_op<W: Sink>(op: &Op, out: &mut W) -> Result<(), Fault>
 
 // Kind, stamp, and the count before it.
 fn write_head<W: Sink>(op: &Op, out: &mut W) -> Result<(), Fault>
-    ensures wrote { Wrote (W.contents out.old) (W.contents out.new) result (kind_of op.now.body
+    ensures wrote { Wrote (W.stream out.old).bytes (W.stream out.new).bytes result (kind_of op.now.body
         ++ spaced (text_of_stamp (stamp_of op.now) ∷ codes "prev" ∷ decimal op.now.prev ∷ [])) }
     ensures fault { IsOkUnless result Fault.WriteFault }
-    ensures failures { W.failures out.new ≡ W.failures out.old + failures_of result }
+    ensures failures { (W.stream out.new).failures ≡ (W.stream out.old).failures + failures_of result }
 {
     write_all(out, kind_of(op.edit()))?;
     let parts = [
@@ -79,9 +79,9 @@ fn kind_of(edit: &Edit) -> &'static [u8]
 }
 
 fn write_edit<W: Sink>(edit: &Edit, out: &mut W) -> Result<(), Fault>
-    ensures wrote { Wrote (W.contents out.old) (W.contents out.new) result (spaced (words_of (body_of edit.now))) }
+    ensures wrote { Wrote (W.stream out.old).bytes (W.stream out.new).bytes result (spaced (words_of (body_of edit.now))) }
     ensures fault { IsOkUnless result Fault.WriteFault }
-    ensures failures { W.failures out.new ≡ W.failures out.old + failures_of result }
+    ensures failures { (W.stream out.new).failures ≡ (W.stream out.old).failures + failures_of result }
 {
     match edit {
         Edit::Insert { after, tags, text } => write_insert(*after, tags, text.characters(), out),
@@ -96,9 +96,9 @@ fn write_insert<W: Sink>(
     text: &[char],
     out: &mut W,
 ) -> Result<(), Fault>
-    ensures wrote { Wrote (W.contents out.old) (W.contents out.new) result (spaced (words_of (Insert after (as_words tags.now) text.now))) }
+    ensures wrote { Wrote (W.stream out.old).bytes (W.stream out.new).bytes result (spaced (words_of (Insert after (as_words tags.now) text.now))) }
     ensures fault { IsOkUnless result Fault.WriteFault }
-    ensures failures { W.failures out.new ≡ W.failures out.old + failures_of result }
+    ensures failures { (W.stream out.new).failures ≡ (W.stream out.old).failures + failures_of result }
 {
     let parts = [
         Part::Letters(b"after"),
@@ -112,18 +112,18 @@ fn write_insert<W: Sink>(
 }
 
 fn write_delete<W: Sink>(spans: &[Span], out: &mut W) -> Result<(), Fault>
-    ensures wrote { Wrote (W.contents out.old) (W.contents out.new) result (spaced (words_of (Delete spans.now))) }
+    ensures wrote { Wrote (W.stream out.old).bytes (W.stream out.new).bytes result (spaced (words_of (Delete spans.now))) }
     ensures fault { IsOkUnless result Fault.WriteFault }
-    ensures failures { W.failures out.new ≡ W.failures out.old + failures_of result }
+    ensures failures { (W.stream out.new).failures ≡ (W.stream out.old).failures + failures_of result }
 {
     write_parts(&[Part::Letters(b"spans")], out)?;
     write_spans(spans, out)
 }
 
 fn write_tag<W: Sink>(on: bool, name: &str, spans: &[Span], out: &mut W) -> Result<(), Fault>
-    ensures wrote { Wrote (W.contents out.old) (W.contents out.new) result (spaced (words_of (Tag on name.now spans.now))) }
+    ensures wrote { Wrote (W.stream out.old).bytes (W.stream out.new).bytes result (spaced (words_of (Tag on name.now spans.now))) }
     ensures fault { IsOkUnless result Fault.WriteFault }
-    ensures failures { W.failures out.new ≡ W.failures out.old + failures_of result }
+    ensures failures { (W.stream out.new).failures ≡ (W.stream out.old).failures + failures_of result }
 {
     let parts = [
         Part::Letters(switch(on)),

@@ -20,12 +20,7 @@ pub fn show_file<R: Source, W: Sink>(
     source: &mut R,
     out: &mut W,
 ) -> Result<(), (Fault, u64)>
-    ensures { ShowsFile
-        (record { calls = R.calls source.old; failures = R.failures source.old; bytes = R.remaining source.old })
-        (record { calls = R.calls source.new; failures = R.failures source.new; bytes = R.remaining source.new })
-        (record { calls = W.calls out.old; failures = W.failures out.old; bytes = W.contents out.old })
-        (record { calls = W.calls out.new; failures = W.failures out.new; bytes = W.contents out.new })
-        result }
+    ensures { ShowsFile (R.stream source.old) (R.stream source.new) (W.stream out.old) (W.stream out.new) result }
 {
     let reading = match read_file(alloc, source) {
         Ok(reading) => reading,

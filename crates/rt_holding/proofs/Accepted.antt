@@ -1,7 +1,7 @@
 -- What a site has accepted in the end.
 use Rattle.std.proofs.Common.{◌≡◌, ℕ, ◌<◌, Bool, true, false, inl, inr, refl, ap, ◌∙◌, List, [], ◌∷◌, ◌||◌}
 use Rattle.rt_ops.specs.Operations.{Operation}
-use Rattle.rt_oplog.specs.Logs.{Has}
+use Rattle.rt_oplog.specs.Logs.{AreOf, Has}
 use Rattle.rt_rga.specs.Answers.{Answer, New, Repeat, Refused, answer_to, answer_within}
 use Rattle.rt_rga.specs.Cells.{cells_of}
 use Rattle.rt_rga.specs.Histories.{IsHistory}
@@ -9,7 +9,7 @@ use Rattle.rt_rga.specs.Requests.{Request}
 use Rattle.rt_rga.proofs.Accepting.{free, one_list, repeat_is}
 use Rattle.rt_rga.proofs.Room.{other_within}
 use Rattle.rt_holding.specs.Holding.{Holding, has_no_room, is_new, nothing, stays}
-use Rattle.rt_holding.specs.Runs.{AreFree, AreOf, IsGreatestHistoryWithin, NoneCouldBeTaken, Runs}
+use Rattle.rt_holding.specs.Runs.{AreFree, IsGreatestHistoryWithin, NoneCouldBeTaken, Runs}
 use Rattle.rt_holding.proofs.Greatest.{is_greatest}
 use Rattle.rt_holding.proofs.Arriving.{Keeps, from_nothing}
 

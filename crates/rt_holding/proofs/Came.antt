@@ -1,11 +1,8 @@
 -- A file that a site receives is so many requests, one for each operation that came with it.
-use Rattle.std.proofs.Common.{◌≡◌, ◌∙◌, ◌++◌, ℕ, ◌<◌, Bool, true, false, cond, inl, inr, refl, sym, ap, subst, List, [], ◌∷◌, Option, None, Some, Ok, append_assoc, not, take}
-use Rattle.std.specs.List.{AllByRecursion}
+use Rattle.std.proofs.Common.{◌≡◌, ◌∙◌, ◌++◌, ℕ, ◌<◌, Bool, true, false, cond, inl, inr, refl, sym, ap, subst, List, [], ◌∷◌, Ok, append_assoc, not}
 use Rattle.rt_stamps.specs.declared.fault.Fault.{Fault}
 use Rattle.rt_stamps.specs.declared.fault.Fault.TheVariants.{NoMemory, TextFull, WaitingFull}
-use Rattle.rt_ops.specs.File.{HasRecord}
 use Rattle.rt_ops.specs.Operations.{Operation}
-use Rattle.rt_ops.specs.Reading.{ReadsAs, head_fault}
 use Rattle.rt_ops.specs.Rules.{keeps_rules}
 use Rattle.rt_oplog.specs.Logs.{Has, holds}
 use Rattle.rt_rga.specs.Answers.{Answer, New, Repeat, Refused, answer_within}
@@ -16,11 +13,12 @@ use Rattle.rt_holding.specs.declared.held.Offered.TheVariants as offerings
 use Rattle.rt_holding.specs.declared.receiving.Received.{Received}
 use Rattle.rt_holding.specs.Came.{came_with, is_want, offered_in}
 use Rattle.rt_holding.specs.Holding.{Holding, Settles, after_answer, as_reply, is_early, is_full, is_new, put_held, reply_to, with_taken}
-use Rattle.rt_holding.specs.Receiving.{Offers, Receives, State}
+use Rattle.rt_holding.specs.Receiving.{Behind, Offers, Receives, State}
 use Rattle.rt_holding.specs.Replies.{Reply}
 use Rattle.rt_holding.specs.Replies as replies
 use Rattle.rt_holding.specs.Runs.{IsHolding, Leads, Runs, at_first, brought_by, finds_no_room, next, none}
 use Rattle.rt_holding.specs.Taken.{IsOffered, IsRefused, all_after, holding, replied}
+use Rattle.rt_holding.proofs.Fronts.{read_rules}
 use Rattle.rt_holding.proofs.Sites.{refused_changes_nothing, repeat_changes_nothing, requests_keep}
 
 -- ONE REQUEST AFTER OTHERS
@@ -114,19 +112,6 @@ no_want _ e = refl
 brings : (site limit : ℕ) (op : Operation) (s : Holding) (reply : Reply) → reply_to limit op s ≡ reply → finds_no_room reply ≡ false → brought_by site limit (Offer op) s ≡ op ∷ []
 brings site limit op s reply r e = let f : finds_no_room (reply_to limit op s) ≡ false = ap finds_no_room r ∙ e in rw f refl
 
--- WHAT WAS READ
-
-all_rules : (ops : List Operation) → AllByRecursion HasRecord ops → (op : Operation) → Has ops op → keeps_rules op.body ≡ true
-all_rules [] h op i = absurd i
-all_rules (q ∷ ops) h op (inl e) = subst (λ (x : Operation). keeps_rules x.body ≡ true) e h.0.rules
-all_rules (q ∷ ops) h op (inr i) = all_rules ops h.1 op i
-
--- each operation that was read keeps the rules
-read_rules : (fault : Option Fault) (bytes : List ℕ) (ops : List Operation) (offsets : List ℕ) (ending : Option (Fault × ℕ)) → ReadsAs fault bytes ops offsets ending
-    → (op : Operation) → Has ops op → keeps_rules op.body ≡ true
-read_rules (Some found) bytes ops offsets ending h op i = absurd (subst (λ l. Has l op) h.0 i)
-read_rules None bytes ops offsets ending h op i = all_rules ops h.2.records op i
-
 -- ONE AFTER THE OTHER
 
 module _ {Site : Type 0} (log : Site → List Operation) (limit : Site → ℕ) (after : Operation → Site → Site) (keeps : (op : Operation) (s : Site) → limit (after op s) ≡ limit s) where
@@ -190,21 +175,20 @@ module _ {Site : Type 0} (log : Site → List Operation) (limit : Site → ℕ) 
     limit_stays = rest.limit_stays ∙ stays;
   }
 
-  offers_go : (site : ℕ) (ops : List Operation) (offsets : List ℕ) (ending : Option (Fault × ℕ)) (old : State Site) (received : Received) (new : State Site)
-      → (h : Offers log limit after ops offsets ending old received new) → 0 < site → ((op : Operation) → Has ops op → keeps_rules op.body ≡ true)
-      → IsHolding (limit old.site) (state_of old) → Goes site old new (offered_in log limit after ops offsets ending old received new h)
-  offers_go site [] offsets ending old received new h p rules k = stays_so site old new k h.1
-  offers_go site (op ∷ ops) [] ending old received new h p rules k = absurd h
-  offers_go site (op ∷ ops) (offset ∷ offsets) ending old received new (inl h) p rules k = refused_goes site op h.0 old new (rules op (inl refl)) k h.1 h.3
-  offers_go site (op ∷ ops) (offset ∷ offsets) ending old received new (inr h) p rules k =
+  offers_go : (site : ℕ) (ops : List Operation) (offsets : List ℕ) (behind : Behind) (old : State Site) (received : Received) (new : State Site)
+      → (h : Offers log limit after ops offsets behind old received new) → 0 < site → ((op : Operation) → Has ops op → keeps_rules op.body ≡ true)
+      → IsHolding (limit old.site) (state_of old) → Goes site old new (offered_in log limit after ops offsets behind old received new h)
+  offers_go site [] offsets behind old received new h p rules k = stays_so site old new k h.3
+  offers_go site (op ∷ ops) [] behind old received new h p rules k = absurd h
+  offers_go site (op ∷ ops) (offset ∷ offsets) behind old received new (inl h) p rules k = refused_goes site op h.0 old new (rules op (inl refl)) k h.1 h.3
+  offers_go site (op ∷ ops) (offset ∷ offsets) behind old received new (inr h) p rules k =
       let mid = h.1 in
       let (more, leads) = offered_leads site op h.0 old mid k h.3 h.4 in
       let stays = offered_limit op h.0 old mid h.4 in
       let kept = requests_keep site (limit old.site) (Offer op) (state_of old) (state_of mid) more p k (rules op (inl refl)) leads in
-      goes_past site op more (offered_in log limit after ops offsets ending mid h.2 new h.6) h.0 old mid new (rules op (inl refl)) h.3 leads stays
-      (offers_go site ops offsets ending mid h.2 new h.6 p (λ x i. rules x (inr i)) (subst (λ l. IsHolding l (state_of mid)) (sym stays) kept))
+      goes_past site op more (offered_in log limit after ops offsets behind mid h.2 new h.6) h.0 old mid new (rules op (inl refl)) h.3 leads stays
+      (offers_go site ops offsets behind mid h.2 new h.6 p (λ x i. rules x (inr i)) (subst (λ l. IsHolding l (state_of mid)) (sym stays) kept))
 
   pub file_goes : (site : ℕ) (bytes : List ℕ) (old : State Site) (received : Received) (new : State Site) → (h : Receives log limit after bytes old received new) → 0 < site
       → IsHolding (limit old.site) (state_of old) → Goes site old new (came_with log limit after bytes old received new h)
-  file_goes site bytes old received new (inl h) p k = offers_go site h.0 h.1 h.2 old received new h.4 p (read_rules (head_fault (take 8 bytes)) bytes h.0 h.1 h.2 h.3) k
-  file_goes site bytes old received new (inr h) p k = stays_so site old new k h.1
+  file_goes site bytes old received new h p k = offers_go site h.0 h.1 h.2 old received new h.4 p (read_rules bytes h.0 h.1 h.2 h.3) k

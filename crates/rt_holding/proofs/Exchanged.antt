@@ -6,7 +6,6 @@ use Rattle.rt_stamps.specs.declared.fault.Fault.{Fault}
 use Rattle.rt_stamps.specs.declared.fault.Fault.TheVariants.{NoMemory, TextFull}
 use Rattle.rt_ops.specs.Operations.{Operation}
 use Rattle.rt_ops.specs.Reading.{Reads}
-use Rattle.rt_ops.proofs.Unique.{one_reading}
 use Rattle.rt_oplog.specs.Logs.{Has, holds, with_operation}
 use Rattle.rt_rga.specs.Answers.{Answer, New, Repeat, Refused, all_taken, answer_to, answer_within, refused_if_full, taken}
 use Rattle.rt_rga.specs.Histories.{IsHistory}
@@ -20,10 +19,11 @@ use Rattle.rt_holding.specs.declared.held.Offered.{Offered}
 use Rattle.rt_holding.specs.declared.held.Offered.TheVariants as offerings
 use Rattle.rt_holding.specs.declared.receiving.Received.{Received}
 use Rattle.rt_holding.specs.Holding.{as_reply, reply_for, reply_to, with_taken}
-use Rattle.rt_holding.specs.Receiving.{Offers, Receives, State, one_more}
+use Rattle.rt_holding.specs.Receiving.{Behind, Offers, Receives, State, one_more}
 use Rattle.rt_holding.specs.Replies.{Reply}
 use Rattle.rt_holding.specs.Replies as replies
 use Rattle.rt_holding.specs.Taken.{IsOffered, IsRefused, holding, replied}
+use Rattle.rt_holding.proofs.Fronts.{EndsWell, all_offered, front_read, well_told}
 use Rattle.rt_holding.proofs.Settling.{nothing_tried}
 
 -- IN TIME
@@ -40,7 +40,7 @@ behind : (xs ys : List Operation) (x : Operation) → Has ys x → Has (xs ++ ys
 behind [] ys x i = i
 behind (z ∷ xs) ys x i = inr (behind xs ys x i)
 
-before : (xs ys : List Operation) (x : Operation) → Has xs x → Has (xs ++ ys) x
+pub before : (xs ys : List Operation) (x : Operation) → Has xs x → Has (xs ++ ys) x
 before [] ys x i = absurd i
 before (z ∷ xs) ys x (inl e) = inl e
 before (z ∷ xs) ys x (inr i) = inr (before xs ys x i)
@@ -59,6 +59,11 @@ of_reverse (z ∷ xs) x i = elim (apart (reverse xs) x (subst (λ l. Has l x) (r
     apart [] x (inr i) = absurd i
     apart (y ∷ ys) x (inl e) = inl (inl e)
     apart (y ∷ ys) x (inr i) = elim (apart ys x i) [ inl j ↦ inl (inr j) | inr e ↦ inr e ]
+
+-- and so does a front of those that do
+pub come_front : (set first xs ys : List Operation) → ComeInTime set first (xs ++ ys) → ComeInTime set first xs
+come_front set first [] ys t = tt
+come_front set first (x ∷ xs) ys t = (t.0, come_front set (x ∷ first) xs ys t.1)
 
 -- the operations of a history come in time by rising stamp, also for a larger one
 pub by_stamp : (set other first : List Operation) → IsHistory set → IsHistory other → AreIn other set → ComeInTime set first (reverse other)
@@ -132,18 +137,18 @@ module _ {Site : Type 0} (log : Site → List Operation) (limit : Site → ℕ) 
       let q = new_reply _ (answer_to op set) op o a here in
       subst (λ s. HasLog s new) (sym (ap (λ b. Rattle.rt_rga.specs.Answers.set_after b op set) a)) (newly op o old new set l q t))
 
-  offers_go : (all : List Operation) → IsHistory all → (ops : List Operation) (offsets : List ℕ) (old : State Site) (received : Received) (new : State Site) (seen set : List Operation)
-      → Offers log limit after ops offsets None old received new → received.fault ≡ None → HasLog set old → IsHistory set → ((x : Operation) → Has set x → Has seen x) → ((x : Operation) → Has seen x → Has set x)
+  offers_go : (all : List Operation) → IsHistory all → (ops : List Operation) (offsets : List ℕ) (behind : Behind) (old : State Site) (received : Received) (new : State Site) (seen set : List Operation)
+      → Offers log limit after ops offsets behind old received new → received.fault ≡ None → HasLog set old → IsHistory set → ((x : Operation) → Has set x → Has seen x) → ((x : Operation) → Has seen x → Has set x)
       → AreIn set all → AreIn ops all → ComeInTime all seen ops → HasLog (all_taken ops set) new
-  offers_go all h [] offsets old received new seen set f e l k a b sub o t = subst (λ s. HasLog set s) (sym f.1) l
-  offers_go all h (op ∷ ops) [] old received new seen set f e l k a b sub o t = absurd f
-  offers_go all h (op ∷ ops) (offset ∷ offsets) old received new seen set (inl f) e l k a b sub o t = absurd (let q = ap (λ (r : Received). r.fault) f.2 in let n : ⊥ = cc (q, e) in n)
-  offers_go all h (op ∷ ops) (offset ∷ offsets) old received new seen set (inr f) e l k a b sub o t =
+  offers_go all h [] offsets behind old received new seen set f e l k a b sub o t = subst (λ s. HasLog set s) (sym f.3) l
+  offers_go all h (op ∷ ops) [] behind old received new seen set f e l k a b sub o t = absurd f
+  offers_go all h (op ∷ ops) (offset ∷ offsets) behind old received new seen set (inl f) e l k a b sub o t = absurd (let q = ap (λ (r : Received). r.fault) f.2 in let n : ⊥ = cc (q, e) in n)
+  offers_go all h (op ∷ ops) (offset ∷ offsets) behind old received new seen set (inr f) e l k a b sub o t =
       let bases : HasBasesIn all op set = λ base i u. b base (t.0 base i u) in
       let one = one_taken all set op h k sub (o op (inl refl)) bases in
       let next = one_goes op f.0 all set old f.1 h k sub (o op (inl refl)) bases l f.3 f.4 in
       let fault : f.2.fault ≡ None = sym (fault_of f.0 f.2) ∙ sym (ap (λ (r : Received). r.fault) f.5) ∙ e in
-      offers_go all h ops offsets f.1 f.2 new (op ∷ seen) (taken op set) f.6 fault next one.history
+      offers_go all h ops offsets behind f.1 f.2 new (op ∷ seen) (taken op set) f.6 fault next one.history
       (λ x i. elim ((one.members x).0 i) [ inl j ↦ inr (a x j) | inr q ↦ inl q ])
       (λ x i. (one.members x).1 (elim i [ inl q ↦ inr q | inr j ↦ inl (b x j) ]))
       (λ x i. elim ((one.members x).0 i) [ inl j ↦ sub x j | inr q ↦ subst (Has all) q (o op (inl refl)) ])
@@ -162,20 +167,22 @@ module _ {Site : Type 0} (log : Site → List Operation) (limit : Site → ℕ) 
       let q : ◌≡◌ {A = Reply} replies.Repeat (replies.Refused fault) = sym (ap (λ b. reply_for b op []) (repeat_reply (limit old.site) op set a)) ∙ here in absurd (cc q))
       (λ e. let a = new_if_continues set op k (in_time all set op h k sub i bases e) in inr (full_fault _ (answer_to op set) op fault a here))
 
-  offers_end : (all : List Operation) → IsHistory all → (ops : List Operation) (offsets : List ℕ) (old : State Site) (received : Received) (new : State Site) (seen set : List Operation)
-      → Offers log limit after ops offsets None old received new → HasLog set old → IsHistory set → ((x : Operation) → Has set x → Has seen x) → ((x : Operation) → Has seen x → Has set x)
+  offers_end : (all : List Operation) → IsHistory all → (ops : List Operation) (offsets : List ℕ) (behind : Behind) (old : State Site) (received : Received) (new : State Site) (seen set : List Operation)
+      → Offers log limit after ops offsets behind old received new → EndsWell behind → HasLog set old → IsHistory set → ((x : Operation) → Has set x → Has seen x) → ((x : Operation) → Has seen x → Has set x)
       → AreIn set all → AreIn ops all → ComeInTime all seen ops → IfSome received.fault (λ found. (found.0 ≡ NoMemory) ⊎ (found.0 ≡ TextFull))
-  offers_end all h [] offsets old received new seen set f l k a b sub o t = subst (λ (r : Received). IfSome r.fault (λ found. (found.0 ≡ NoMemory) ⊎ (found.0 ≡ TextFull))) (sym f.0) tt
-  offers_end all h (op ∷ ops) [] old received new seen set f l k a b sub o t = absurd f
-  offers_end all h (op ∷ ops) (offset ∷ offsets) old received new seen set (inl f) l k a b sub o t =
+  offers_end all h [] offsets behind old received new seen set f w l k a b sub o t =
+      subst (λ (r : Received). IfSome r.fault (λ found. (found.0 ≡ NoMemory) ⊎ (found.0 ≡ TextFull))) (sym f.2)
+      (well_told (λ found. (found.0 ≡ NoMemory) ⊎ (found.0 ≡ TextFull)) behind f.0 w f.1 (λ at. inl refl))
+  offers_end all h (op ∷ ops) [] behind old received new seen set f w l k a b sub o t = absurd f
+  offers_end all h (op ∷ ops) (offset ∷ offsets) behind old received new seen set (inl f) w l k a b sub o t =
       subst (λ (r : Received). IfSome r.fault (λ found. (found.0 ≡ NoMemory) ⊎ (found.0 ≡ TextFull))) (sym f.2)
       (refused_goes op f.0 all set old h k sub (o op (inl refl)) (λ base i u. b base (t.0 base i u)) l f.1)
-  offers_end all h (op ∷ ops) (offset ∷ offsets) old received new seen set (inr f) l k a b sub o t =
+  offers_end all h (op ∷ ops) (offset ∷ offsets) behind old received new seen set (inr f) w l k a b sub o t =
       let bases : HasBasesIn all op set = λ base i u. b base (t.0 base i u) in
       let one = one_taken all set op h k sub (o op (inl refl)) bases in
       let next = one_goes op f.0 all set old f.1 h k sub (o op (inl refl)) bases l f.3 f.4 in
       subst (λ fault. IfSome fault (λ found. (found.0 ≡ NoMemory) ⊎ (found.0 ≡ TextFull))) (sym (ap (λ (r : Received). r.fault) f.5 ∙ fault_of f.0 f.2))
-      (offers_end all h ops offsets f.1 f.2 new (op ∷ seen) (taken op set) f.6 next one.history
+      (offers_end all h ops offsets behind f.1 f.2 new (op ∷ seen) (taken op set) f.6 w next one.history
       (λ x i. elim ((one.members x).0 i) [ inl j ↦ inr (a x j) | inr q ↦ inl q ])
       (λ x i. (one.members x).1 (elim i [ inl q ↦ inr q | inr j ↦ inl (b x j) ]))
       (λ x i. elim ((one.members x).0 i) [ inl j ↦ sub x j | inr q ↦ subst (Has all) q (o op (inl refl)) ])
@@ -185,21 +192,16 @@ module _ {Site : Type 0} (log : Site → List Operation) (limit : Site → ℕ) 
   pub part_joins : (bytes : List ℕ) (offsets : List ℕ) (all set ops : List Operation) (old : State Site) (received : Received) (new : State Site)
       → Reads bytes ops offsets None → Receives log limit after bytes old received new → received.fault ≡ None → HasLog set old → IsHistory all → IsHistory set
       → ((x : Operation) → Has all x ↔ (Has set x ⊎ Has ops x)) → ComeInTime all set ops → HasLog all new
-  part_joins bytes offsets all set ops old received new reads (inr f) e l h k same t = absurd (let q = ap (λ (r : Received). r.fault) f.0 in let n : ⊥ = cc (q, e) in n)
-  part_joins bytes offsets all set ops old received new reads (inl f) e l h k same t =
-      let read = one_reading bytes f.0 ops f.1 offsets f.2 None f.3 reads in
-      let offers : Offers log limit after ops f.1 None old received new =
-      subst (λ ending. Offers log limit after ops f.1 ending old received new) read.2 (subst (λ ops. Offers log limit after ops f.1 f.2 old received new) read.0 f.4) in
+  part_joins bytes offsets all set ops old received new reads f e l h k same t =
+      let read : ops ≡ f.0 = all_offered log limit after bytes ops f.0 offsets f.1 f.2 old received new reads f.3 f.4 e in
+      let offers : Offers log limit after ops f.1 f.2 old received new = subst (λ ops. Offers log limit after ops f.1 f.2 old received new) (sym read) f.4 in
       subst (λ s. HasLog s new) (whole all set ops h k same t)
-      (offers_go all h ops f.1 old received new set set offers e l k (λ x i. i) (λ x i. i) (λ x i. (same x).1 (inl i)) (λ x i. (same x).1 (inr i)) t)
+      (offers_go all h ops f.1 f.2 old received new set set offers e l k (λ x i. i) (λ x i. i) (λ x i. (same x).1 (inl i)) (λ x i. (same x).1 (inr i)) t)
 
   pub part_ends : (bytes : List ℕ) (offsets : List ℕ) (all set ops : List Operation) (old : State Site) (received : Received) (new : State Site)
       → Reads bytes ops offsets None → Receives log limit after bytes old received new → HasLog set old → IsHistory all → IsHistory set
       → ((x : Operation) → Has all x ↔ (Has set x ⊎ Has ops x)) → ComeInTime all set ops → IfSome received.fault (λ found. (found.0 ≡ NoMemory) ⊎ (found.0 ≡ TextFull))
-  part_ends bytes offsets all set ops old received new reads (inr f) l h k same t =
-      subst (λ (r : Received). IfSome r.fault (λ found. (found.0 ≡ NoMemory) ⊎ (found.0 ≡ TextFull))) (sym f.0) (inl refl)
-  part_ends bytes offsets all set ops old received new reads (inl f) l h k same t =
-      let read = one_reading bytes f.0 ops f.1 offsets f.2 None f.3 reads in
-      let offers : Offers log limit after ops f.1 None old received new =
-      subst (λ ending. Offers log limit after ops f.1 ending old received new) read.2 (subst (λ ops. Offers log limit after ops f.1 f.2 old received new) read.0 f.4) in
-      offers_end all h ops f.1 old received new set set offers l k (λ x i. i) (λ x i. i) (λ x i. (same x).1 (inl i)) (λ x i. (same x).1 (inr i)) t
+  part_ends bytes offsets all set ops old received new reads f l h k same t =
+      let front = front_read bytes ops f.0 offsets f.1 f.2 reads f.3 in
+      offers_end all h f.0 f.1 f.2 old received new set set f.4 front.well l k (λ x i. i) (λ x i. i) (λ x i. (same x).1 (inl i))
+      (λ x i. (same x).1 (inr (subst (λ l. Has l x) (sym front.is) (before f.0 front.more x i)))) (come_front all set f.0 front.more (subst (ComeInTime all set) front.is t))

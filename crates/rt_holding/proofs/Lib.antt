@@ -7,6 +7,7 @@ pub mod Drafts
 pub mod Due
 pub mod Exchanged
 pub mod Finding
+pub mod Fronts
 pub mod Going
 pub mod Greatest
 pub mod Keeping
@@ -19,6 +20,7 @@ pub mod Passing
 pub mod Places
 pub mod Putting
 pub mod Receptions
+pub mod Seen
 pub mod Settling
 pub mod Sites
 pub mod Sleeping

@@ -1,18 +1,20 @@
 -- A file that is received where no memory is wanting has one answer, and leaves one state.
-use Rattle.std.proofs.Common.{◌≡◌, ◌≢◌, ◌∙◌, ℕ, List, [], ◌∷◌, length, Option, Ok, Some, ap, inl, inr, refl, subst, sym}
+use Rattle.std.proofs.Common.{◌≡◌, ◌≢◌, ◌∙◌, ◌+◌, ◌++◌, ℕ, List, [], ◌∷◌, length, Ok, Some, ap, inl, inr, refl, subst, sym}
 use Rattle.rt_stamps.specs.declared.fault.Fault.{Fault}
 use Rattle.rt_stamps.specs.declared.fault.Fault.TheVariants.{NoMemory}
 use Rattle.rt_ops.specs.Operations.{Operation}
-use Rattle.rt_ops.proofs.Unique.{one_reading}
+use Rattle.rt_ops.specs.File.{record_of}
+use Rattle.rt_ops.specs.Reading.{offsets_from}
 use Rattle.rt_holding.specs.declared.held.Offered.{Offered}
 use Rattle.rt_holding.specs.declared.held.Offered.TheVariants as offered
 use Rattle.rt_holding.specs.declared.receiving.Received.{Received}
 use Rattle.rt_holding.specs.Holding.{Holding, with_taken}
 use Rattle.rt_holding.specs.Memory.{FilesGoOneWay, FoundMemory, OfferFoundMemory, OffersFoundMemory}
-use Rattle.rt_holding.specs.Receiving.{Offers, State, none_accepted, one_more, reply_at}
+use Rattle.rt_holding.specs.Receiving.{Behind, Ended, Offers, State, Unread, Wanting, none_accepted, one_more, reply_at}
 use Rattle.rt_holding.specs.Replies.{Reply}
 use Rattle.rt_holding.specs.Replies as replies
 use Rattle.rt_holding.specs.Taken.{AreTried, IsOffered, IsRefused, all_after, holding, replied}
+use Rattle.rt_holding.proofs.Fronts.{Agree, GoesNoFurther, offsets_are, one_or_other}
 use Rattle.rt_holding.proofs.Settling.{ample_settled}
 
 -- what was refused, though not for want of memory, was refused by its reply
@@ -74,47 +76,60 @@ module _ {Site : Type 0} (log : Site → List Operation) (limit : Site → ℕ) 
   one_offer op offered.Held offered.Repeat old next mid e h k f g = absurd (cc e)
   one_offer op offered.Held offered.Held old next mid e h k f g = (refl, same_state next mid (h.0 ∙ sym k.0) (h.1 ∙ sym k.1))
 
-  -- operations one after the other
-  one_run : (ops : List Operation) (offsets : List ℕ) (ending : Option (Fault × ℕ)) (old : State Site) (received other : Received) (new left : State Site)
-      (h : Offers log limit after ops offsets ending old received new) (k : Offers log limit after ops offsets ending old other left)
-      → OffersFoundMemory log limit after ops offsets ending old received new h → OffersFoundMemory log limit after ops offsets ending old other left k
+  -- operations one after the other, of which so many were read in one case, and perhaps more in the other
+  one_run : (ops more : List Operation) (at : ℕ) (behind beyond : Behind) (old : State Site) (received other : Received) (new left : State Site) → Agree behind more beyond
+      → (h : Offers log limit after ops (offsets_from at ops) behind old received new)
+      → (k : Offers log limit after (ops ++ more) (offsets_from at (ops ++ more)) beyond old other left)
+      → OffersFoundMemory log limit after ops (offsets_from at ops) behind old received new h
+      → OffersFoundMemory log limit after (ops ++ more) (offsets_from at (ops ++ more)) beyond old other left k
       → (received ≡ other) × (new ≡ left)
-  one_run [] offsets ending old received other new left h k f g = (h.0 ∙ sym k.0, h.1 ∙ sym k.1)
-  one_run (op ∷ ops) [] ending old received other new left h k f g = absurd h
-  one_run (op ∷ ops) (offset ∷ offsets) ending old received other new left (inl h) (inl k) f g =
+  one_run [] more at (Wanting m) beyond old received other new left a h k f g = absurd f
+  one_run [] more at Unread beyond old received other new left a h k f g = absurd h.1
+  one_run [] more at (Ended x) (Wanting n) old received other new left a h k f g = absurd a
+  one_run [] more at (Ended x) Unread old received other new left a h k f g = absurd a
+  one_run [] (op ∷ more) at (Ended x) (Ended y) old received other new left a h k f g = absurd (let e = a.0 in cc e)
+  one_run [] [] at (Ended x) (Ended y) old received other new left a h k f g =
+      let same : h.0 ≡ k.0 = h.1 ∙ a.1 ∙ sym k.1 in
+      (h.2 ∙ ap (λ told. none_accepted told old.held) same ∙ sym k.2, h.3 ∙ sym k.3)
+  one_run (op ∷ ops) more at behind beyond old received other new left a (inl h) (inl k) f g =
       let same = one_fault (reply_at log limit after op old) h.0 k.0 (refused_by (reply_at log limit after op old) h.0 h.1 f) (refused_by (reply_at log limit after op old) k.0 k.1 g) in
-      (h.2 ∙ ap (λ fault. none_accepted (Some (fault, offset)) old.held) same ∙ sym k.2, h.3 ∙ sym k.3)
-  one_run (op ∷ ops) (offset ∷ offsets) ending old received other new left (inl h) (inr k) f g =
+      (h.2 ∙ ap (λ fault. none_accepted (Some (fault, at)) old.held) same ∙ sym k.2, h.3 ∙ sym k.3)
+  one_run (op ∷ ops) more at behind beyond old received other new left a (inl h) (inr k) f g =
       absurd (not_refused k.0 h.0 (reply_at log limit after op old) k.3 (refused_by (reply_at log limit after op old) h.0 h.1 f))
-  one_run (op ∷ ops) (offset ∷ offsets) ending old received other new left (inr h) (inl k) f g =
+  one_run (op ∷ ops) more at behind beyond old received other new left a (inr h) (inl k) f g =
       absurd (not_refused h.0 k.0 (reply_at log limit after op old) h.3 (refused_by (reply_at log limit after op old) k.0 k.1 g))
-  one_run (op ∷ ops) (offset ∷ offsets) ending old received other new left (inr h) (inr k) f g =
+  one_run (op ∷ ops) more at behind beyond old received other new left a (inr h) (inr k) f g =
+      let next = at + length (record_of op) in
+      let all = ops ++ more in
       let here = one_offer op h.0 k.0 old h.1 k.1 (sym h.3 ∙ k.3) h.4 k.4 f.0 g.0 in
-      let behind : (h.2 ≡ k.2) × (new ≡ left) = subst (λ (s : State Site). (l : Offers log limit after ops offsets ending s k.2 left)
-      → OffersFoundMemory log limit after ops offsets ending s k.2 left l → (h.2 ≡ k.2) × (new ≡ left)) here.1
-      (λ l e. one_run ops offsets ending h.1 h.2 k.2 new left h.6 l f.1 e) k.6 g.1 in
-      (h.5 ∙ (λ i. one_more (here.0 i) (behind.0 i)) ∙ sym k.5, behind.1)
+      let later : (h.2 ≡ k.2) × (new ≡ left) = subst (λ (s : State Site). (l : Offers log limit after all (offsets_from next all) beyond s k.2 left)
+      → OffersFoundMemory log limit after all (offsets_from next all) beyond s k.2 left l → (h.2 ≡ k.2) × (new ≡ left)) here.1
+      (λ l e. one_run ops more next behind beyond h.1 h.2 k.2 new left a h.6 l f.1 e) k.6 g.1 in
+      (h.5 ∙ (λ i. one_more (here.0 i) (later.0 i)) ∙ sym k.5, later.1)
 
-  one_read : (ops more : List Operation) (offsets places : List ℕ) (ending end : Option (Fault × ℕ)) (old : State Site) (received other : Received) (new left : State Site)
-      → ops ≡ more → offsets ≡ places → ending ≡ end
-      → (h : Offers log limit after ops offsets ending old received new) (k : Offers log limit after more places end old other left)
-      → OffersFoundMemory log limit after ops offsets ending old received new h → OffersFoundMemory log limit after more places end old other left k
-      → (received ≡ other) × (new ≡ left)
-  one_read ops more offsets places ending end old received other new left d e f =
-      subst (λ (more : List Operation). (h : Offers log limit after ops offsets ending old received new) (k : Offers log limit after more places end old other left)
-      → OffersFoundMemory log limit after ops offsets ending old received new h → OffersFoundMemory log limit after more places end old other left k
-      → (received ≡ other) × (new ≡ left)) d
-      (subst (λ (places : List ℕ). (h : Offers log limit after ops offsets ending old received new) (k : Offers log limit after ops places end old other left)
-      → OffersFoundMemory log limit after ops offsets ending old received new h → OffersFoundMemory log limit after ops places end old other left k
-      → (received ≡ other) × (new ≡ left)) e
-      (subst (λ (end : Option (Fault × ℕ)). (h : Offers log limit after ops offsets ending old received new) (k : Offers log limit after ops offsets end old other left)
-      → OffersFoundMemory log limit after ops offsets ending old received new h → OffersFoundMemory log limit after ops offsets end old other left k
-      → (received ≡ other) × (new ≡ left)) f (one_run ops offsets ending old received other new left)))
+  -- a file in which a front was read, and in which all
+  one_read : (ops other : List Operation) (offsets places : List ℕ) (behind beyond : Behind) (old : State Site) (received again : Received) (new left : State Site)
+      → GoesNoFurther ops other behind beyond → offsets ≡ offsets_from 8 ops → places ≡ offsets_from 8 other
+      → (h : Offers log limit after ops offsets behind old received new) (k : Offers log limit after other places beyond old again left)
+      → OffersFoundMemory log limit after ops offsets behind old received new h → OffersFoundMemory log limit after other places beyond old again left k
+      → (received ≡ again) × (new ≡ left)
+  one_read ops other offsets places behind beyond old received again new left front d e =
+      subst (λ (offsets : List ℕ). (h : Offers log limit after ops offsets behind old received new) (k : Offers log limit after other places beyond old again left)
+      → OffersFoundMemory log limit after ops offsets behind old received new h → OffersFoundMemory log limit after other places beyond old again left k
+      → (received ≡ again) × (new ≡ left)) (sym d)
+      (subst (λ (p : List Operation × List ℕ). (h : Offers log limit after ops (offsets_from 8 ops) behind old received new) (k : Offers log limit after p.0 p.1 beyond old again left)
+      → OffersFoundMemory log limit after ops (offsets_from 8 ops) behind old received new h → OffersFoundMemory log limit after p.0 p.1 beyond old again left k
+      → (received ≡ again) × (new ≡ left)) (sym same) (one_run ops front.more 8 behind beyond old received again new left front.agree))
+    where
+      same : ◌≡◌ {A = List Operation × List ℕ} (other, places) (ops ++ front.more, offsets_from 8 (ops ++ front.more))
+      same = λ i. (front.is i, (e ∙ ap (offsets_from 8) front.is) i)
 
-  -- a file, whose operations are read in one way
+  -- a file, however far it is read
   pub files_go : FilesGoOneWay log limit after
-  files_go bytes old received other new left (inl h) (inl k) f g =
-      let read = one_reading bytes h.0 k.0 h.1 k.1 h.2 k.2 h.3 k.3 in
-      one_read h.0 k.0 h.1 k.1 h.2 k.2 old received other new left read.0 read.1 read.2 h.4 k.4 f g
-  files_go bytes old received other new left (inr h) k f g = absurd f
-  files_go bytes old received other new left (inl h) (inr k) f g = absurd g
+  files_go bytes old received other new left h k f g =
+      let one = offsets_are bytes h.0 h.1 h.2 h.3 in
+      let two = offsets_are bytes k.0 k.1 k.2 k.3 in
+      elim (one_or_other bytes h.0 k.0 h.1 k.1 h.2 k.2 h.3 k.3) [
+        | inl front ↦ one_read h.0 k.0 h.1 k.1 h.2 k.2 old received other new left front one two h.4 k.4 f g
+        | inr front ↦ (let same = one_read k.0 h.0 k.1 h.1 k.2 h.2 old other received left new front two one k.4 h.4 g f in (sym same.0, sym same.1))
+      ]

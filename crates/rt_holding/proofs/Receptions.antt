@@ -1,16 +1,21 @@
 -- Operations that were received one after the other, and how many of them.
-use Rattle.std.proofs.Common.{◌≡◌, ℕ, ◌+◌, ◌<◌, ◌≤◌, List, [], ◌∷◌, drop, length, Option, Some, ap, arith, inl, inr, refl, subst, sym}
-use Rattle.std.proofs.Math.ListN.{get_or}
-use Rattle.std.proofs.lemmas.List.{drop_more}
+use Rattle.std.proofs.Common.{◌≡◌, ◌∙◌, ◌++◌, ℕ, ◌+◌, ◌≤◌, List, [], ◌∷◌, length, take, Option, None, Some, ap, append_assoc, append-nil, arith, inl, inr, refl, subst, sym}
+use Rattle.std.proofs.lemmas.List.{length-append}
+use Rattle.std.specs.List.{flat_map}
 use Rattle.std.specs.Prelude.{Ok}
 use Rattle.rt_stamps.specs.declared.fault.Fault.{Fault}
+use Rattle.rt_ops.specs.File.{magic, record_of, spelling}
 use Rattle.rt_ops.specs.Operations.{Operation}
+use Rattle.rt_ops.specs.Reading.{IsEnd, ReadsAs, head_fault, offsets_from}
+use Rattle.rt_ops.specs.Records.{HasTaken, Left, RefusesRecord, TakesRecord}
+use Rattle.rt_ops.proofs.Readings.{reads_records, record_some, spelling_push}
+use Rattle.rt_ops.proofs.Taken.{magic_length}
 use Rattle.rt_holding.specs.declared.held.Offered.{Offered}
 use Rattle.rt_holding.specs.declared.held.Offered.TheVariants as offered
 use Rattle.rt_holding.specs.declared.receiving.Received.{Received}
 use Rattle.rt_holding.specs.Holding.{Holding, Settles, rest, takes, drops, lacks, with_taken, no_more_held}
 use Rattle.rt_holding.specs.Taken.{IsOffered, IsRefused, holding, replied}
-use Rattle.rt_holding.specs.Receiving.{Offers, State, count_of, none_accepted, one_more, reply_at}
+use Rattle.rt_holding.specs.Receiving.{Behind, Ended, EndsWith, Offers, ReadsUpTo, Receives, State, Unread, Wanting, count_of, none_accepted, one_more, reply_at}
 use Rattle.rt_holding.proofs.Keeping.{next_is}
 use Rattle.rt_holding.proofs.Settling.{without_le, without_lt}
 use Rattle.rt_holding.proofs.Sites.{length_put}
@@ -24,6 +29,12 @@ added_nothing r ending held =
     let e : r.new + 0 ≡ r.new = omega (arith) in
     let f : r.repeats + 0 ≡ r.repeats = omega (arith) in
     λ i. record { new = e i; repeats = f i; held = length held; fault = ending }
+
+pub nothing_added : (held : List Operation) (r : Received) → added (none_accepted None held) r ≡ r
+nothing_added held r =
+    let e : 0 + r.new ≡ r.new = omega (arith) in
+    let f : 0 + r.repeats ≡ r.repeats = omega (arith) in
+    λ i. record { new = e i; repeats = f i; held = r.held; fault = r.fault }
 
 pub added_more : (o : Offered) (r s : Received) → added (one_more o r) s ≡ added r (one_more o s)
 added_more (offered.New more) r s =
@@ -48,6 +59,22 @@ settles_length limit wanting s t more (drops {op = op} e n r) =
     omega (arith, i, l)
 settles_length limit wanting s t more (lacks {op = op} e n r) = settles_length limit (op ∷ wanting) s t more r
 
+-- LENGTHS
+
+head_length : length (spelling []) ≡ 8
+head_length = omega (arith, length-append magic [], magic_length)
+
+one_longer : (ops : List Operation) (op : Operation) → length (spelling (ops ++ op ∷ [])) ≡ length (spelling ops) + length (record_of op)
+one_longer ops op = omega (arith, ap length (spelling_push ops op), length-append (spelling ops) (record_of op))
+
+as_many : (ops : List Operation) → length ops ≤ length (flat_map record_of ops)
+as_many [] = omega arith
+as_many (op ∷ ops) = omega (arith, as_many ops, record_some op [], length-append (record_of op) [], length-append (record_of op) (flat_map record_of ops))
+
+-- no file has more operations than bytes
+pub fewer : (left : Left) (ops : List Operation) → HasTaken left ops → length ops ≤ length left.bytes
+fewer left ops h = omega (arith, as_many ops, ap length h.bytes, length-append (spelling ops) left.rest, length-append magic (flat_map record_of ops))
+
 module _ {Site : Type 0} (log : Site → List Operation) (limit : Site → ℕ) (after : Operation → Site → Site) where
   pub offered_length : (most : ℕ) (op : Operation) (o : Offered) (old : Site) (held : List Operation) (new : Site) (left : List Operation)
       → IsOffered log after most op o old held new left → count_of o + length left ≤ 1 + length held
@@ -71,25 +98,109 @@ module _ {Site : Type 0} (log : Site → List Operation) (limit : Site → ℕ) 
 
   -- ONE AFTER THE OTHER
 
-  -- an operation that is refused ends the receiving
-  pub stopped : (op : Operation) (ops : List Operation) (offsets : List ℕ) (i : ℕ) (ending : Option (Fault × ℕ)) (old new : State Site) (fault : Fault)
-      → i < length offsets → IsRefused (reply_at log limit after op old) fault → new ≡ old
-      → Offers log limit after (op ∷ ops) (drop i offsets) ending old (none_accepted (Some (fault, get_or offsets i 0)) old.held) new
-  stopped op ops offsets i ending old new fault h why same =
-      subst (λ (l : List ℕ). Offers log limit after (op ∷ ops) l ending old (none_accepted (Some (fault, get_or offsets i 0)) old.held) new) (sym (drop_more offsets i 0 h))
-      (inl (fault, why, refl, same))
+  -- Of a file some operations were offered, from one state to another: what is received behind them is received with them.
+  abbrev pub GoesPast : List Operation → State Site → Received → State Site → Type 0
+  GoesPast ops start before now =
+      (more : List Operation) (behind : Behind) (received : Received) (new : State Site)
+      → Offers log limit after more (offsets_from (length (spelling ops)) more) behind now received new
+      → Offers log limit after (ops ++ more) (offsets_from 8 (ops ++ more)) behind start (added before received) new
 
-  -- one that is taken goes before the others
-  pub goes_before : (op : Operation) (ops : List Operation) (offsets : List ℕ) (i : ℕ) (ending : Option (Fault × ℕ)) (old mid new : State Site) (o : Offered) (received : Received)
-      → i < length offsets → reply_at log limit after op old ≡ replied (Ok o) → IsOffered log after (limit old.site) op o old.site old.held mid.site mid.held
-      → Offers log limit after ops (drop (i + 1) offsets) ending mid received new
-      → Offers log limit after (op ∷ ops) (drop i offsets) ending old (one_more o received) new
-  goes_before op ops offsets i ending old mid new o received h reply taken later =
-      subst (λ (l : List ℕ). Offers log limit after (op ∷ ops) l ending old (one_more o received) new) (sym (drop_more offsets i 0 h))
-      (inr (o, mid, received, reply, taken, refl, later))
+  -- of a file some records were read, and their operations offered
+  pub record HasOffered (left : Left) (start : State Site) (before : Received) (now : State Site) : Type 0 where
+    pub ops : List Operation
+    pub taken : HasTaken left ops
+    pub past : GoesPast ops start before now
+    pub few : before.new + before.repeats + length now.held ≤ length ops + length start.held
 
-  -- where none is left, the ending is told
-  pub none_left : (ops : List Operation) (offsets : List ℕ) (ending : Option (Fault × ℕ)) (s : State Site) → length ops ≡ 0
-      → Offers log limit after ops offsets ending s (none_accepted ending s.held) s
-  none_left [] offsets ending s h = (refl, refl)
-  none_left (op ∷ ops) offsets ending s h = let bad : ⊥ = cc in absurd bad
+  pub none_offered : (left : Left) (start : State Site) (received : Received) → HasTaken left [] → received ≡ none_accepted None start.held
+      → HasOffered left start received start
+  none_offered left start received taken e = subst (λ (r : Received). HasOffered left start r start) (sym e) (record {
+    ops = [];
+    taken = taken;
+    past = λ more behind received new h.
+        subst (λ (r : Received). Offers log limit after more (offsets_from 8 more) behind start r new) (sym (nothing_added start.held received))
+        (subst (λ (at : ℕ). Offers log limit after more (offsets_from at more) behind start received new) head_length h);
+    few = omega arith;
+  })
+
+  -- One more record was read, and its operation offered.
+  pub offered_more : (left later : Left) (op : Operation) (o : Offered) (start : State Site) (before : Received) (now mid : State Site)
+      → TakesRecord left op later → reply_at log limit after op now ≡ replied (Ok o)
+      → IsOffered log after (limit now.site) op o now.site now.held mid.site mid.held
+      → HasOffered left start before now → HasOffered later start (one_more o before) mid
+  offered_more left later op o start before now mid read reply taken h = record {
+    ops = h.ops ++ op ∷ [];
+    taken = read.taken h.ops h.taken;
+    past = λ more behind received new k.
+        let at = length (spelling h.ops) in
+        let next : Offers log limit after more (offsets_from (at + length (record_of op)) more) behind mid received new =
+        subst (λ (n : ℕ). Offers log limit after more (offsets_from n more) behind mid received new) (one_longer h.ops op) k in
+        let whole = h.past (op ∷ more) behind (one_more o received) new (inr (o, mid, received, reply, taken, refl, next)) in
+        subst (λ (r : Received). Offers log limit after ((h.ops ++ op ∷ []) ++ more) (offsets_from 8 ((h.ops ++ op ∷ []) ++ more)) behind start r new)
+        (sym (added_more o before received))
+        (subst (λ (ops : List Operation). Offers log limit after ops (offsets_from 8 ops) behind start (added before (one_more o received)) new)
+        (sym (append_assoc h.ops (op ∷ []) more)) whole);
+    few =
+        let sums = counted_more o before in
+        let more = offered_length (limit now.site) op o now.site now.held mid.site mid.held taken in
+        omega (arith, h.few, sums, more, length-append h.ops (op ∷ []));
+  }
+
+  -- HOW IT ENDS
+
+  ends_so : (bytes : List ℕ) (left : Left) (start : State Site) (before : Received) (now : State Site) (behind : Behind) (told : Option (Fault × ℕ))
+      → (h : HasOffered left start before now) → EndsWith behind told → ReadsUpTo bytes h.ops (offsets_from 8 h.ops) behind
+      → Receives log limit after bytes start (record before { held = length now.held; fault = told }) now
+  ends_so bytes left start before now behind told h is reads =
+      let whole = h.past [] behind (none_accepted told now.held) now (told, is, refl, refl) in (
+        h.ops,
+        offsets_from 8 h.ops,
+        behind,
+        reads,
+        subst (λ (r : Received). Offers log limit after h.ops (offsets_from 8 h.ops) behind start r now) (added_nothing before told now.held)
+            (subst (λ (ops : List Operation). Offers log limit after ops (offsets_from 8 ops) behind start (added before (none_accepted told now.held)) now) (append-nil h.ops) whole),
+      )
+
+  -- at the end of the file
+  pub receives_whole : (bytes : List ℕ) (left : Left) (start : State Site) (before : Received) (now : State Site) → left.bytes ≡ bytes → left.rest ≡ []
+      → HasOffered left start before now → Receives log limit after bytes start (record before { held = length now.held; fault = None }) now
+  receives_whole bytes left start before now e none h =
+      ends_so bytes left start before now (Ended None) None h refl
+      (reads_records bytes h.ops (offsets_from 8 h.ops) None left.rest (sym e ∙ h.taken.bytes) h.taken.are refl none)
+
+  -- at a record that isn't read
+  pub receives_front : (bytes : List ℕ) (left : Left) (start : State Site) (before : Received) (now : State Site) (fault : Fault) (offset : ℕ) → left.bytes ≡ bytes
+      → ((ops : List Operation) → HasTaken left ops → offset ≡ length (spelling ops)) → RefusesRecord left fault
+      → HasOffered left start before now → Receives log limit after bytes start (record before { held = length now.held; fault = Some (fault, offset) }) now
+  receives_front bytes left start before now fault offset e at (inl lack) h =
+      ends_so bytes left start before now (Wanting offset) (Some (fault, offset)) h (ap (λ f. Some (f, offset)) lack.0)
+      ((left.rest, sym e ∙ h.taken.bytes, h.taken.are), lack.1, refl, at h.ops h.taken)
+  receives_front bytes left start before now fault offset e at (inr ends) h =
+      ends_so bytes left start before now (Ended (Some (fault, offset))) (Some (fault, offset)) h refl
+      (reads_records bytes h.ops (offsets_from 8 h.ops) (Some (fault, offset)) left.rest (sym e ∙ h.taken.bytes) h.taken.are refl
+      (subst (λ n. IsEnd h.ops left.rest (Some (fault, n))) (sym (at h.ops h.taken)) (ends h.ops h.taken)))
+
+  -- at an operation that is refused
+  pub receives_until : (bytes : List ℕ) (left later : Left) (op : Operation) (start : State Site) (before : Received) (now new : State Site) (fault : Fault) (offset : ℕ)
+      → left.bytes ≡ bytes → ((ops : List Operation) → HasTaken left ops → offset ≡ length (spelling ops)) → TakesRecord left op later
+      → IsRefused (reply_at log limit after op now) fault → new ≡ now
+      → HasOffered left start before now → Receives log limit after bytes start (record before { held = length new.held; fault = Some (fault, offset) }) new
+  receives_until bytes left later op start before now new fault offset e at read why same h =
+      let ops = h.ops ++ op ∷ [] in
+      let taken = read.taken h.ops h.taken in
+      let told : Option (Fault × ℕ) = Some (fault, offset) in
+      let place : Some (fault, length (spelling h.ops)) ≡ told = ap (λ n. Some (fault, n)) (sym (at h.ops h.taken)) in
+      let whole = h.past (op ∷ []) Unread (none_accepted told now.held) new (inl (fault, why, ap (λ t. none_accepted t now.held) (sym place), same)) in (
+        ops,
+        offsets_from 8 ops,
+        Unread,
+        ((later.rest, sym e ∙ sym read.bytes ∙ taken.bytes, taken.are), refl),
+        subst (λ (r : Received). Offers log limit after ops (offsets_from 8 ops) Unread start r new)
+            (added_nothing before told now.held ∙ (λ i. record before { held = length (sym same i).held; fault = told })) whole,
+      )
+
+  -- at the file's first eight bytes
+  pub receives_none : (bytes : List ℕ) (start : State Site) (fault : Fault) → head_fault (take 8 bytes) ≡ Some fault
+      → Receives log limit after bytes start (none_accepted (Some (fault, 0)) start.held) start
+  receives_none bytes start fault e =
+      ([], [], Ended (Some (fault, 0)), subst (λ found. ReadsAs found bytes [] [] (Some (fault, 0))) (sym e) (refl, refl, refl), (Some (fault, 0), refl, refl, refl))

@@ -1,11 +1,11 @@
 -- Which operations came to a site with a file that it received, told by how its offers went: each was refused, or it wasn't.
 use mathlib.Core.Logic.{inl, inr}
-use Rattle.std.specs.Prelude.{ℕ, Bool, true, false, List, [], ◌∷◌, Option, if◌then◌else◌}
+use Rattle.std.specs.Prelude.{ℕ, Bool, true, false, List, [], ◌∷◌, if◌then◌else◌}
 use Rattle.rt_stamps.specs.declared.fault.Fault.{Fault}
 use Rattle.rt_stamps.specs.declared.fault.Fault.TheVariants.{NoMemory, TextFull, WaitingFull}
 use Rattle.rt_ops.specs.Operations.{Operation}
 use Rattle.rt_holding.specs.declared.receiving.Received.{Received}
-use Rattle.rt_holding.specs.Receiving.{Offers, Receives, State}
+use Rattle.rt_holding.specs.Receiving.{Behind, Offers, Receives, State}
 
 -- memory was wanting, or cells, or a place among the held ones: an operation that was refused so is as one that didn't come
 abbrev pub is_want : Fault → Bool
@@ -16,16 +16,15 @@ is_want _ = false
 
 module _ {Site : Type 0} (log : Site → List Operation) (limit : Site → ℕ) (after : Operation → Site → Site) where
   -- those that were offered, up to the first that was refused; that one too, unless something was wanting for it
-  abbrev pub offered_in : (ops : List Operation) (offsets : List ℕ) (ending : Option (Fault × ℕ)) (old : State Site) (received : Received) (new : State Site)
-      → Offers log limit after ops offsets ending old received new → List Operation
-  offered_in [] offsets ending old received new h = []
-  offered_in (op ∷ ops) [] ending old received new h = []
-  offered_in (op ∷ ops) (offset ∷ offsets) ending old received new (inl refused) = if is_want refused.0 then [] else op ∷ []
-  offered_in (op ∷ ops) (offset ∷ offsets) ending old received new (inr offered) =
-      op ∷ offered_in ops offsets ending offered.1 offered.2 new offered.6
+  abbrev pub offered_in : (ops : List Operation) (offsets : List ℕ) (behind : Behind) (old : State Site) (received : Received) (new : State Site)
+      → Offers log limit after ops offsets behind old received new → List Operation
+  offered_in [] offsets behind old received new h = []
+  offered_in (op ∷ ops) [] behind old received new h = []
+  offered_in (op ∷ ops) (offset ∷ offsets) behind old received new (inl refused) = if is_want refused.0 then [] else op ∷ []
+  offered_in (op ∷ ops) (offset ∷ offsets) behind old received new (inr offered) =
+      op ∷ offered_in ops offsets behind offered.1 offered.2 new offered.6
 
-  -- none of a file that found no memory
+  -- so with a file; an operation whose record found no memory when it was read was never offered
   abbrev pub came_with : (bytes : List ℕ) (old : State Site) (received : Received) (new : State Site)
       → Receives log limit after bytes old received new → List Operation
-  came_with bytes old received new (inl read) = offered_in read.0 read.1 read.2 old received new read.4
-  came_with bytes old received new (inr none) = []
+  came_with bytes old received new h = offered_in h.0 h.1 h.2 old received new h.4

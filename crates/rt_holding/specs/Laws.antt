@@ -2,7 +2,7 @@
 use Rattle.std.specs.Prelude.{◌≡◌, ℕ, ◌<◌, true, false, List, [], None}
 use Rattle.rt_ops.specs.Operations.{Operation}
 use Rattle.rt_ops.specs.Rules.{keeps_rules}
-use Rattle.rt_oplog.specs.Logs.{Has, with_operation}
+use Rattle.rt_oplog.specs.Logs.{AreOf, Has, with_operation}
 use Rattle.rt_rga.specs.Answers.{New, Refused, answer_within}
 use Rattle.rt_rga.specs.Drafts.{all_changed, with_operations}
 use Rattle.rt_stamps.specs.declared.fault.Fault.{Fault}
@@ -12,7 +12,7 @@ use Rattle.rt_rga.specs.Histories.{IsHistory}
 use Rattle.rt_rga.specs.Requests.{MayBeAsked, Offer, Request}
 use Rattle.rt_holding.specs.Replies as replies
 use Rattle.rt_holding.specs.Holding.{Holding, Settles, has_no_room, next_held, nothing, reply_to, settled, taken_then}
-use Rattle.rt_holding.specs.Runs.{AllMayBeAsked, AllStay, AreFree, AreOf, AreTakenInTurn, IsGreatestHistoryWithin, IsHolding, Leads, NoneCouldBeTaken, Runs, after_requests, brought}
+use Rattle.rt_holding.specs.Runs.{AllMayBeAsked, AllStay, AreFree, AreTakenInTurn, IsGreatestHistoryWithin, IsHolding, Leads, NoneCouldBeTaken, Runs, after_requests, brought}
 
 -- In whatever order operations come, and whichever tries found no memory: if no two clash, and in the end none is held that
 -- could be taken, the greatest history within them is accepted.

@@ -10,6 +10,7 @@ pub mod Memory
 pub mod Receiving
 pub mod Replies
 pub mod Runs
+pub mod Seeing
 pub mod Taken
 pub mod Waiting
 pub mod Waits

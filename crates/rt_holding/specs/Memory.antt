@@ -11,7 +11,7 @@ use Rattle.rt_holding.specs.declared.held.Offered.{Offered}
 use Rattle.rt_holding.specs.declared.held.Offered.TheVariants as offered
 use Rattle.rt_holding.specs.declared.receiving.Received.{Received}
 use Rattle.rt_holding.specs.Holding.{Holding, Settles, rest, takes, drops, lacks, settled, taken_then}
-use Rattle.rt_holding.specs.Receiving.{Offers, Receives, State, reply_at}
+use Rattle.rt_holding.specs.Receiving.{Behind, Ended, Offers, Receives, State, Unread, Wanting, reply_at}
 use Rattle.rt_holding.specs.Replies.{Refused}
 use Rattle.rt_holding.specs.Taken.{IsOffered, replied}
 
@@ -32,8 +32,14 @@ SettlesAlone =
 abbrev pub SettledFindsMemory : Type 0
 SettledFindsMemory = (limit : ℕ) (s : Holding) → (h : Settles limit [] s (settled limit s) (taken_then limit s)) × FoundMemory h
 
+-- no memory was wanting for what came behind the operations of a file
+abbrev pub WasRead : Behind → Type 0
+WasRead (Ended ending) = Unit {0}
+WasRead (Wanting offset) = ⊥
+WasRead Unread = Unit {0}
+
 module _ {Site : Type 0} (log : Site → List Operation) (limit : Site → ℕ) (after : Operation → Site → Site) where
-  -- behind an operation that was offered
+  -- each try behind an operation that was taken found memory; behind another none is made
   abbrev pub OfferFoundMemory : (most : ℕ) (op : Operation) (answer : Offered)
       (old : Site) (held : List Operation) (new : Site) (left : List Operation)
       → IsOffered log after most op answer old held new left → Type 0
@@ -41,22 +47,21 @@ module _ {Site : Type 0} (log : Site → List Operation) (limit : Site → ℕ) 
   OfferFoundMemory most op offered.Repeat old held new left h = Unit {0}
   OfferFoundMemory most op offered.Held old held new left h = Unit {0}
 
-  -- no operation of a file was refused for want of memory, and each try behind them found some
-  abbrev pub OffersFoundMemory : (ops : List Operation) (offsets : List ℕ) (ending : Option (Fault × ℕ))
+  -- no operation of a file was refused for want of memory, each try behind one found some, and so did the reading of what is behind them
+  abbrev pub OffersFoundMemory : (ops : List Operation) (offsets : List ℕ) (behind : Behind)
       (old : State Site) (received : Received) (new : State Site)
-      → Offers log limit after ops offsets ending old received new → Type 0
-  OffersFoundMemory [] offsets ending old received new h = Unit {0}
-  OffersFoundMemory (op ∷ ops) [] ending old received new h = ⊥
-  OffersFoundMemory (op ∷ ops) (offset ∷ offsets) ending old received new (inl refused) = refused.0 ≢ NoMemory
-  OffersFoundMemory (op ∷ ops) (offset ∷ offsets) ending old received new (inr each) =
+      → Offers log limit after ops offsets behind old received new → Type 0
+  OffersFoundMemory [] offsets behind old received new h = WasRead behind
+  OffersFoundMemory (op ∷ ops) [] behind old received new h = ⊥
+  OffersFoundMemory (op ∷ ops) (offset ∷ offsets) behind old received new (inl refused) = refused.0 ≢ NoMemory
+  OffersFoundMemory (op ∷ ops) (offset ∷ offsets) behind old received new (inr each) =
       OfferFoundMemory (limit old.site) op each.0 old.site old.held each.1.site each.1.held each.4
-      × OffersFoundMemory ops offsets ending each.1 each.2 new each.6
+      × OffersFoundMemory ops offsets behind each.1 each.2 new each.6
 
-  -- nor was the file
+  -- so for a file
   abbrev pub FileFoundMemory : (bytes : List ℕ) (old : State Site) (received : Received) (new : State Site)
       → Receives log limit after bytes old received new → Type 0
-  FileFoundMemory bytes old received new (inl read) = OffersFoundMemory read.0 read.1 read.2 old received new read.4
-  FileFoundMemory bytes old received new (inr none) = ⊥
+  FileFoundMemory bytes old received new h = OffersFoundMemory h.0 h.1 h.2 old received new h.4
 
   -- then a file has one answer, and leaves one state
   abbrev pub FilesGoOneWay : Type 0
@@ -66,15 +71,16 @@ module _ {Site : Type 0} (log : Site → List Operation) (limit : Site → ℕ) 
       → FileFoundMemory bytes old received new one → FileFoundMemory bytes old other left two
       → (received ≡ other) × (new ≡ left)
 
-  -- SUCH CALLS ARE THERE
+  -- THERE IS SUCH A WAY
 
-  -- as `Taking` promises: what is new comes to the log of the site that takes it, and the limit stays
+  -- What is new comes to the log of the site that takes it, and the limit stays: a `Taking` promises so of each operation that its `take` took.
   abbrev pub TakesNew : Type 0
   TakesNew =
       (op : Operation) (site : Site) → answer_within (limit site) op (log site) ≡ New
       → (log (after op site) ≡ with_operation op (log site)) × (limit (after op site) ≡ limit site)
 
-  -- Then, in each state, an operation can be offered so unless its reply is a refusal.
+  -- Then, in each state, for an operation whose reply is no refusal there is an answer with that reply, and a state to which the offer
+  -- leads, each try behind it having found memory.
   abbrev pub OffersFindMemory : Type 0
   OffersFindMemory =
       TakesNew → (op : Operation) (old : State Site) → ((fault : Fault) → reply_at log limit after op old ≢ Refused fault)
@@ -82,7 +88,7 @@ module _ {Site : Type 0} (log : Site → List Operation) (limit : Site → ℕ) 
       × (h : IsOffered log after (limit old.site) op answer old.site old.held new.site new.held)
       × OfferFoundMemory (limit old.site) op answer old.site old.held new.site new.held h
 
-  -- Likewise each file that is read as operations can be received so.
+  -- Likewise, for a file that is read as operations, there is what is told of it, and a state to which it leads.
   abbrev pub FilesFindMemory : Type 0
   FilesFindMemory =
       TakesNew → (bytes : List ℕ) (ops : List Operation) (offsets : List ℕ) (ending : Option (Fault × ℕ)) (old : State Site)

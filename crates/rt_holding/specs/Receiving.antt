@@ -2,14 +2,39 @@
 use Rattle.std.specs.Prelude.{◌≡◌, ◌⊎◌, ℕ, ◌+◌, List, [], ◌∷◌, length, Option, Some, Ok}
 use Rattle.rt_stamps.specs.declared.fault.Fault.{Fault}
 use Rattle.rt_stamps.specs.declared.fault.Fault.TheVariants.{NoMemory}
+use Rattle.rt_ops.specs.File.{spelling}
 use Rattle.rt_ops.specs.Operations.{Operation}
-use Rattle.rt_ops.specs.Reading.{Reads}
+use Rattle.rt_ops.specs.Reading.{IsBegun, Reads, StandsWhole, offsets_from}
 use Rattle.rt_holding.specs.declared.held.Offered.{Offered}
 use Rattle.rt_holding.specs.declared.held.Offered.TheVariants as offered
 use Rattle.rt_holding.specs.declared.receiving.Received.{Received}
 use Rattle.rt_holding.specs.Holding.{reply_to}
 use Rattle.rt_holding.specs.Replies.{Reply}
 use Rattle.rt_holding.specs.Taken.{IsOffered, IsRefused, holding, replied}
+
+-- HOW FAR A FILE IS READ
+
+-- What came behind the operations that were read: the end of the file, or the first fault of its reading; or a record for which memory
+-- was wanting, with its offset. Or it stays unread, as one of the operations was refused.
+pub data Behind : Type 0 where
+  Ended : (ending : Option (Fault × ℕ)) → Behind
+  Wanting : (offset : ℕ) → Behind
+  Unread : Behind
+
+-- the bytes of a file are read as these operations, each with the offset of its record, and then comes what is behind them
+abbrev pub ReadsUpTo : List ℕ → List Operation → List ℕ → Behind → Type 0
+ReadsUpTo bytes ops offsets (Ended ending) = Reads bytes ops offsets ending
+ReadsUpTo bytes ops offsets (Wanting offset) =
+    (begun : IsBegun bytes ops) × StandsWhole begun.0 × (offsets ≡ offsets_from 8 ops) × (offset ≡ length (spelling ops))
+ReadsUpTo bytes ops offsets Unread = IsBegun bytes ops × (offsets ≡ offsets_from 8 ops)
+
+-- What is told where none of the operations was refused. It doesn't come to that where what is behind them stays unread.
+abbrev pub EndsWith : Behind → Option (Fault × ℕ) → Type 0
+EndsWith (Ended ending) told = told ≡ ending
+EndsWith (Wanting offset) told = told ≡ Some (NoMemory, offset)
+EndsWith Unread told = ⊥
+
+-- HOW ITS OPERATIONS ARE OFFERED
 
 -- no operation was accepted, and these are held
 abbrev pub none_accepted : Option (Fault × ℕ) → List Operation → Received
@@ -37,20 +62,20 @@ module _ {Site : Type 0} (log : Site → List Operation) (limit : Site → ℕ) 
   reply_at op s = reply_to (limit s.site) op (holding log s.site s.held)
 
   -- Operations are offered one after the other, each with the offset of its record, up to the first that is refused: its fault is
-  -- told with its offset. Where none is, the ending is told. Want of memory may refuse one that is new, or that is to be held.
-  abbrev pub Offers : List Operation → List ℕ → Option (Fault × ℕ) → State Site → Received → State Site → Type 0
-  Offers [] offsets ending old received new = (received ≡ none_accepted ending old.held) × (new ≡ old)
-  Offers (op ∷ ops) [] ending old received new = ⊥
-  Offers (op ∷ ops) (offset ∷ offsets) ending old received new =
+  -- told with its offset. Where none is, what came behind them is told. Want of memory may refuse one that is new, or that is to be
+  -- held. What is refused changes nothing, and those before it stay accepted or held.
+  abbrev pub Offers : List Operation → List ℕ → Behind → State Site → Received → State Site → Type 0
+  Offers [] offsets behind old received new =
+      (told : Option (Fault × ℕ)) × EndsWith behind told × (received ≡ none_accepted told old.held) × (new ≡ old)
+  Offers (op ∷ ops) [] behind old received new = ⊥
+  Offers (op ∷ ops) (offset ∷ offsets) behind old received new =
       ((fault : Fault) × IsRefused (reply_at op old) fault × (received ≡ none_accepted (Some (fault, offset)) old.held) × (new ≡ old))
       ⊎ ((offered : Offered) × (next : State Site) × (rest : Received) × (reply_at op old ≡ replied (Ok offered))
       × IsOffered log after (limit old.site) op offered old.site old.held next.site next.held
-      × (received ≡ one_more offered rest) × Offers ops offsets ending next rest new)
+      × (received ≡ one_more offered rest) × Offers ops offsets behind next rest new)
 
-  -- The operations of a file are offered, and then the fault of its reading is told, if it has one. Or the file found no memory,
-  -- which is told at the offset 0.
+  -- A file is read, and each operation offered before what is behind it is looked at.
   abbrev pub Receives : List ℕ → State Site → Received → State Site → Type 0
   Receives bytes old received new =
-      ((ops : List Operation) × (offsets : List ℕ) × (ending : Option (Fault × ℕ)) × Reads bytes ops offsets ending
-      × Offers ops offsets ending old received new)
-      ⊎ ((received ≡ none_accepted (Some (NoMemory, 0)) old.held) × (new ≡ old))
+      (ops : List Operation) × (offsets : List ℕ) × (behind : Behind) × ReadsUpTo bytes ops offsets behind
+      × Offers ops offsets behind old received new

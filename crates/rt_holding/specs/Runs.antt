@@ -1,11 +1,11 @@
 -- Whole runs of a site that holds early operations, and what it then has accepted.
-use Rattle.std.specs.Prelude.{◌≡◌, ◌↔◌, ◌⊎◌, ℕ, ◌≤◌, Bool, true, false, List, [], ◌∷◌, ◌++◌, length, if◌then◌else◌}
+use Rattle.std.specs.Prelude.{◌≡◌, ◌⊎◌, ℕ, ◌≤◌, Bool, true, false, List, [], ◌∷◌, ◌++◌, length, if◌then◌else◌}
 use Rattle.rt_stamps.specs.declared.fault.Fault.TheVariants.{TextFull, WaitingFull}
 use Rattle.std.specs.List.{AllByRecursion}
 use Rattle.rt_stamps.specs.Stamps.{is_before}
 use Rattle.rt_ops.specs.Operations.{Operation, stamp_of}
 use Rattle.rt_ops.specs.Rules.{keeps_rules}
-use Rattle.rt_oplog.specs.Logs.{Has, clash, holds, with_operation}
+use Rattle.rt_oplog.specs.Logs.{AreOf, Has, clash, holds, with_operation}
 use Rattle.rt_rga.specs.Answers.{New, answer_within}
 use Rattle.rt_rga.specs.Cells.{cells_of}
 use Rattle.rt_rga.specs.Drafts.{operations_of, with_drafts}
@@ -83,10 +83,6 @@ abbrev pub NoneCouldBeTaken : ℕ → Holding → Type 0
 NoneCouldBeTaken limit s =
     (op : Operation) → Has s.held op
     → (is_new (answer_within limit op s.log) ≡ false) × (has_no_room (answer_within limit op s.log) ≡ false)
-
--- some operations, in whatever order and with repeats, are those of a set
-abbrev pub AreOf : List Operation → List Operation → Type 0
-AreOf ops set = (op : Operation) → Has ops op ↔ Has set op
 
 -- WHAT A SITE KEEPS TO
 

@@ -64,8 +64,9 @@ pub fn arrivals()
 {}
 
 /// Where no memory was wanting, held operations settle in one way, and a received file has one answer and leaves one
-/// state. Such calls are there: from each state held operations settle so, and an operation is offered so that isn't
-/// refused, and a file is received so that is read.
+/// state. There is such a way: from each state held operations settle so. Of sites to whose log comes what is new when they
+/// take it, and whose limit stays (`TakesNew`; a `Taking` promises it of each operation that its `take` took), also each
+/// operation whose reply is no refusal can be offered so, and each file that is read as operations can be received so.
 pub fn one_way<Site>()
     ensures settles { SettlesAlone }
     ensures found { SettledFindsMemory }

@@ -5,6 +5,7 @@ pub mod examples;
 mod held;
 pub mod laws;
 pub mod receiving;
+pub mod seeing;
 mod taking;
 mod trying;
 mod waits;

@@ -1,12 +1,12 @@
 // Files of operations that a site receives.
-ghost use Rattle.std.specs.Prelude.{◌≡◌, ◌+◌, ◌<◌, ◌≤◌, length};
+ghost use Rattle.std.specs.Prelude.{◌≡◌, ◌+◌, ◌<◌, ◌≤◌, None, length};
 ghost use Rattle.rt_stamps.specs.declared.limits.TheConstants.{MOST_BYTES};
 ghost use Rattle.rt_holding.specs.Grown.{AreTriedAt};
-ghost use Rattle.rt_holding.specs.Receiving.{Offers, Receives, count_of, one_more};
+ghost use Rattle.rt_holding.specs.Receiving.{Receives, count_of, none_accepted, one_more};
 
-use crate::held::{Held, Offered};
+use crate::held::{Held, MOST_HELD, Offered};
 use crate::taking::Taking;
-use rt_oplog::{Op, read_bytes};
+use rt_ops::Records;
 use rt_stamps::Fault;
 use std::alloc::Global;
 
@@ -25,15 +25,16 @@ pub struct Received {
 }
 
 impl Received {
-    // Where none was accepted, and so many are held.
-    fn nothing(fault: Option<(Fault, u64)>, held: usize) -> Received
-        ensures { result ≡ record { new = 0; repeats = 0; held = held; fault = fault } }
+    // Before any operation is offered.
+    fn nothing(held: &Held) -> Received
+        ensures nothing { result ≡ none_accepted None held.now.held }
+        ensures most { length held.now.held ≤ MOST_HELD }
     {
         Received {
             new: 0,
             repeats: 0,
-            held: held as u64,
-            fault,
+            held: held.len() as u64,
+            fault: None,
         }
     }
 
@@ -54,45 +55,24 @@ impl Received {
             Offered::Held => self,
         }
     }
-}
 
-// Offers operations in order, up to the first that is refused.
-fn offer_all<T: Taking>(
-    site: &mut T,
-    held: &mut Held,
-    ops: Vec<Op>,
-    offsets: &[u64],
-    ending: Option<(Fault, u64)>,
-) -> Received
-    requires offsets { length offsets.now ≡ length ops.items }
-    requires tried { AreTriedAt (T.limit site.old) (T.log site.old) held.old }
-    ensures offers { Offers T.log T.limit T.after ops.items offsets.now ending (record { site = site.old; held = held.old.held })
-        result (record { site = site.new; held = held.new.held }) }
-    ensures tried { AreTriedAt (T.limit site.new) (T.log site.new) held.new }
-{
-    let mut received = Received::nothing(ending, held.len());
-    let mut i = 0;
-    for op in ops {
-        match held.offer(site, op) {
-            Ok(offered) => received = received.with(offered),
-            Err(fault) => {
-                received.fault = Some((fault, offsets[i]));
-                received.held = held.len() as u64;
-                return received;
-            }
+    // At the end, or at the first fault, with those that are held then.
+    fn ended(self, fault: Option<(Fault, u64)>, held: &Held) -> Received
+        ensures ended { result ≡ record self { held = length held.now.held; fault = fault } }
+    {
+        Received {
+            held: held.len() as u64,
+            fault,
+            ..self
         }
-        i += 1;
     }
-    received.held = held.len() as u64;
-    received
 }
 
-/// Receives the bytes of a file of operations: they are read, and offered to the site one after the
-/// other, each in the place of its record. What comes too early is held, and taken when it can be. The
-/// first that is refused ends it, with its fault: `BadStamp`, `Conflict`, `BadTarget`, `TextFull`,
-/// `WaitingFull`; those before it stay accepted or held. Else the reading's own fault is told, if it has
-/// one: `BadMagic`, `BadVersion`, `Truncated`, `BadRecord`. `NoMemory` at the offset 0, before any operation is
-/// offered, where the file found no memory; at an operation's, where that is new or to be held.
+/// Receives the bytes of a file of operations: each of its records is read, and its operation offered to the site before
+/// the next is read. What comes too early is held, and taken when it can be. The first that is refused ends it, with its
+/// fault: `BadStamp`, `Conflict`, `BadTarget`, `TextFull`, `WaitingFull`; so does the first fault of the reading:
+/// `BadMagic`, `BadVersion`, `Truncated`, `BadRecord`. `NoMemory` has the offset of the record for which memory was wanting,
+/// when it was read, or when its operation was taken or held. All before it stays accepted or held.
 pub fn receive<T: Taking>(alloc: Global, site: &mut T, held: &mut Held, bytes: &[u8]) -> Received
     requires bytes { length bytes.now ≤ MOST_BYTES }
     requires tried { AreTriedAt (T.limit site.old) (T.log site.old) held.old }
@@ -100,8 +80,22 @@ pub fn receive<T: Taking>(alloc: Global, site: &mut T, held: &mut Held, bytes: &
         result (record { site = site.new; held = held.new.held }) }
     ensures tried { AreTriedAt (T.limit site.new) (T.log site.new) held.new }
 {
-    match read_bytes(alloc, bytes) {
-        Ok(reading) => offer_all(site, held, reading.ops, &reading.offsets, reading.fault),
-        Err(fault) => Received::nothing(Some((fault, 0)), held.len()),
+    let mut received = Received::nothing(held);
+    let mut records = match Records::begin(bytes) {
+        Ok(records) => records,
+        Err(fault) => return received.ended(Some((fault, 0)), held),
+    };
+    'records: loop {
+        let offset = records.offset();
+        let op = match records.next(alloc) {
+            Ok(Some(op)) => op,
+            Ok(None) => break 'records,
+            Err(fault) => return received.ended(Some((fault, offset)), held),
+        };
+        match held.offer(site, op) {
+            Ok(offered) => received = received.with(offered),
+            Err(refused) => return received.ended(Some((refused, offset)), held),
+        }
     }
+    received.ended(None, held)
 }

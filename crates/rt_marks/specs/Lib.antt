@@ -1,3 +1,4 @@
+pub mod Examples
 pub mod Marks
 pub mod Seen
 pub mod Tables

@@ -23,7 +23,9 @@ names_of marks = map (λ m. m.name) marks
 
 -- a name that isn't there would stand at an index of names that ascend
 abbrev pub IsGap : List ℕ → List (List ℕ) → ℕ → Type 0
-IsGap name names i = AllByRecursion (λ x. is_lt (name_order x name) ≡ true) (take i names) × AllByRecursion (λ x. is_lt (name_order name x) ≡ true) (drop i names)
+IsGap name names i =
+    AllByRecursion (λ x. is_lt (name_order x name) ≡ true) (take i names)
+    × AllByRecursion (λ x. is_lt (name_order name x) ≡ true) (drop i names)
 
 -- SLOTS: marks stand in slots, and two lists have the slots' numbers, one by the names, one in the order of marks
 

@@ -21,4 +21,6 @@ IsTable table = IsIndexed (slots_of table) table.by_name.items table.in_order.it
 
 -- there is room for one mark more
 abbrev pub HasRoom : Table → Type 0
-HasRoom table = (vec_len table.marks < vec_capacity table.marks) × (vec_len table.by_name < vec_capacity table.by_name) × (vec_len table.in_order < vec_capacity table.in_order)
+HasRoom table =
+    (vec_len table.marks < vec_capacity table.marks)
+    × (vec_len table.by_name < vec_capacity table.by_name) × (vec_len table.in_order < vec_capacity table.in_order)

@@ -2,6 +2,7 @@
 //! marks"). The definitions stand in `specs/Marks.antt`.
 #![tactic(auto)]
 
+pub mod examples;
 pub mod gravity;
 pub mod laws;
 mod mark;

@@ -9,7 +9,9 @@ pub record Nodes (H E : Type 0) : Type 0 where
   pub room : ℕ
 
 abbrev pub nodes_code : {H E : Type 0} → Coded H → Coded E → Coded (Nodes H E)
-nodes_code {H} {E} h e = code_by (List H × (List (List E) × ℕ)) (coded× (coded_list h) (coded× (coded_list (coded_list e)) coded_ℕ)) (λ m. (m.heads, (m.rows, m.room))) (λ p. record { heads = p.0; rows = p.1.0; room = p.1.1 }) (λ _. refl)
+nodes_code {H} {E} h e =
+    code_by (List H × (List (List E) × ℕ)) (coded× (coded_list h) (coded× (coded_list (coded_list e)) coded_ℕ))
+    (λ m. (m.heads, (m.rows, m.room))) (λ p. record { heads = p.0; rows = p.1.0; room = p.1.1 }) (λ _. refl)
 
 module _ {H E : Type 0} where
   abbrev pub no_nodes : Nodes H E

@@ -11,4 +11,5 @@ pub use Rattle.rt_ops.specs.File
 pub use Rattle.rt_ops.specs.Intake
 pub use Rattle.rt_ops.specs.Operations
 pub use Rattle.rt_ops.specs.Reading
+pub use Rattle.rt_ops.specs.Records
 pub use Rattle.rt_ops.specs.Rules

@@ -1,10 +1,10 @@
 -- What the calls of a log answer and leave.
-use Rattle.std.specs.Prelude.{◌≡◌, ◌↔◌, ℕ, ◌+◌, ◌<◌, ◌≤◌, ◌⊎◌, List, length, take, slice_get, Some, Result, Ok, Err, MatchResult}
+use Rattle.std.specs.Prelude.{◌≡◌, ℕ, ◌+◌, ◌<◌, ◌≤◌, ◌⊎◌, List, length, take, slice_get, Some, Result, Ok, Err, MatchResult}
 use Rattle.rt_stamps.specs.declared.fault.Fault.{Fault}
 use Rattle.rt_stamps.specs.declared.fault.Fault.TheVariants.{NoMemory}
 use Rattle.rt_ops.specs.Operations.{Operation}
 use Rattle.rt_oplog.specs.declared.log.Refused.{Refused}
-use Rattle.rt_oplog.specs.Logs.{Has, IsLog, pushed, joined, with_operation}
+use Rattle.rt_oplog.specs.Logs.{AreOf, IsLog, pushed, joined, with_operation}
 
 -- a log's operations, the newest first, and how many pushes will take no memory
 pub record Log : Type 0 where
@@ -22,7 +22,7 @@ Pushes op old result new = MatchResult result
 -- the log that has just these operations
 pub record IsLogOf (ops log : List Operation) : Type 0 where
   pub is_log : IsLog log
-  pub members : (op : Operation) → Has log op ↔ Has ops op
+  pub members : AreOf log ops
 
 -- The operation at a place is the first that is not sound, or clashes with one before it: those before it have a log, and a
 -- push to that refuses it.

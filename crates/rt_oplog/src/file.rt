@@ -15,9 +15,9 @@ use std::alloc::Global;
 
 #[tactic(auto, unfolding(rt_ops::specs::File::magic))]
 fn write_magic<W: Sink>(out: &mut W) -> Result<(), Fault>
-    ensures wrote { Wrote (W.contents out.old) (W.contents out.new) result magic }
+    ensures wrote { Wrote (W.stream out.old).bytes (W.stream out.new).bytes result magic }
     ensures fault { IsOkUnless result WriteFault }
-    ensures failures { W.failures out.new ≡ W.failures out.old + failures_of result }
+    ensures failures { (W.stream out.new).failures ≡ (W.stream out.old).failures + failures_of result }
 {
     write_all(out, b"RGATEXT1")
 }
@@ -30,11 +30,12 @@ fn write_records<W: Sink>(
     out: &mut W,
 ) -> Result<(), Fault>
     requires { AllByRecursion (λ place. place < length ops.now) places.now }
-    ensures wrote { Wrote (W.contents out.old) (W.contents out.new) result (flat_map record_of (map (op_at ops.now) places.now)) }
+    ensures wrote { Wrote (W.stream out.old).bytes (W.stream out.new).bytes result (flat_map record_of (map (op_at ops.now) places.now)) }
     ensures records { OnOk result (AllByRecursion HasRecord (map (op_at ops.now) places.now)) }
     ensures failures { MatchResult result
-        (λ _. W.failures out.new ≡ W.failures out.old)
-        (λ fault. ((fault ≡ NoMemory) × (W.failures out.new ≡ W.failures out.old)) ⊎ ((fault ≡ WriteFault) × (W.failures out.new ≡ W.failures out.old + 1))) }
+        (λ _. (W.stream out.new).failures ≡ (W.stream out.old).failures)
+        (λ fault. ((fault ≡ NoMemory) × ((W.stream out.new).failures ≡ (W.stream out.old).failures))
+        ⊎ ((fault ≡ WriteFault) × ((W.stream out.new).failures ≡ (W.stream out.old).failures + 1))) }
 {
     for place in places {
         spell(record, &ops[*place])?;
@@ -48,12 +49,13 @@ fn write_records<W: Sink>(
 /// `MOST_BYTES`). `NoMemory` where the buffer could not grow, `WriteFault` where a write failed; a front
 /// of the file was then written.
 pub fn write_file<W: Sink>(alloc: Global, log: &OpLog, out: &mut W) -> Result<(), Fault>
-    ensures wrote { Wrote (W.contents out.old) (W.contents out.new) result (spelling (reverse log.now.operations)) }
+    ensures wrote { Wrote (W.stream out.old).bytes (W.stream out.new).bytes result (spelling (reverse log.now.operations)) }
     ensures read_back { OnOk result
         (Reads (spelling (reverse log.now.operations)) (reverse log.now.operations) (offsets_from 8 (reverse log.now.operations)) None) }
     ensures failures { MatchResult result
-        (λ _. W.failures out.new ≡ W.failures out.old)
-        (λ fault. ((fault ≡ NoMemory) × (W.failures out.new ≡ W.failures out.old)) ⊎ ((fault ≡ WriteFault) × (W.failures out.new ≡ W.failures out.old + 1))) }
+        (λ _. (W.stream out.new).failures ≡ (W.stream out.old).failures)
+        (λ fault. ((fault ≡ NoMemory) × ((W.stream out.new).failures ≡ (W.stream out.old).failures))
+        ⊎ ((fault ≡ WriteFault) × ((W.stream out.new).failures ≡ (W.stream out.old).failures + 1))) }
 {
     write_magic(out)?;
     let (ops, blocks) = log.blocks();

@@ -222,8 +222,7 @@ impl OpLog {
     /// The operation at a place by rising stamp.
     pub fn get(&self, place: usize) -> &Op
         requires { place < length self.now.operations }
-        ensures operation { slice_get (reverse self.now.operations) place ≡ Some result.now }
-        ensures log { IsLog self.now.operations }
+        ensures { slice_get (reverse self.now.operations) place ≡ Some result.now }
     {
         &self.ops[self.order.get(place)]
     }
@@ -237,9 +236,15 @@ impl OpLog {
         (&self.ops, self.order.blocks())
     }
 
-    /// The operations by rising stamp, or want of memory. In any log they are sound, and no two of them clash.
-    pub fn in_order(&self) -> Result<Vec<&Op>, Fault>
+    /// In any log the operations are sound, and no two of them clash.
+    pub fn soundness(&self)
         ensures log { IsLog self.now.operations }
+    {
+        let _ = &self.ops;
+    }
+
+    /// The operations by rising stamp, or want of memory.
+    pub fn in_order(&self) -> Result<Vec<&Op>, Fault>
         ensures operations { IfOk result (λ ops. map (λ op. op.now) ops.items ≡ reverse self.now.operations) }
         ensures fault { IsOkUnless result NoMemory }
     {

@@ -1,4 +1,6 @@
 pub mod Adjacent
+pub mod Fronts
+pub mod InMemory
 pub mod Lengths
 pub mod Offsets
 pub mod OneForm

@@ -1,6 +1,6 @@
 -- Operations read from a file, record by record.
-use Rattle.std.proofs.Common.{◌≡◌, ℕ, ◌+◌, ◌-◌, ◌<◌, ◌≤◌, Bool, true, false, suc, List, [], ◌∷◌, ◌++◌, length, take, Option, Some, None, Result, Ok, Err, IfOk, IfErr, cond, refl, sym, ap, subst, ◌∙◌, append_assoc, append-nil, arith, inl, inr}
-use Rattle.std.specs.Prelude.{◌⊎◌, slice_get, min, not, nat_lt}
+use Rattle.std.proofs.Common.{◌≡◌, ℕ, ◌+◌, ◌<◌, ◌≤◌, Bool, true, false, suc, List, [], ◌∷◌, ◌++◌, length, take, Option, Some, None, Result, Ok, Err, IfOk, IfErr, cond, refl, sym, ap, subst, ◌∙◌, append_assoc, append-nil, arith, inl, inr}
+use Rattle.std.specs.Prelude.{◌⊎◌, min, not, nat_lt}
 use Rattle.std.specs.Str.{bytes_eq}
 use Rattle.std.specs.List.{flat_map, AllByRecursion}
 use Rattle.std.specs.Int.{w32}
@@ -10,15 +10,16 @@ use Rattle.std.proofs.lemmas.Bool.Decides.{nat_tests}
 use Rattle.std.proofs.lemmas.List.{length-append, length-take, take_at, take_all}
 use Rattle.std.proofs.lemmas.List.Concat.{flat_map-append}
 use Rattle.rt_stamps.specs.Stamps.{is_before}
+use Rattle.rt_stamps.specs.declared.stamp.Stamp.{Stamp}
 use Rattle.rt_stamps.specs.declared.fault.Fault.{Fault}
 use Rattle.rt_stamps.specs.declared.fault.Fault.TheVariants.{NoMemory, BadMagic, BadVersion, Truncated, BadRecord, ReadFault}
-use Rattle.rt_ops.specs.declared.intake.Bounds.{Bounds}
+use Rattle.rt_stamps.specs.declared.limits.Bounds.{Bounds}
 use Rattle.rt_ops.specs.Operations.{Operation, stamp_of}
 use Rattle.rt_ops.specs.Rules.{each_next}
 use Rattle.rt_ops.specs.File.{magic, number, content_of, record_of, spelling, HasRecord, AreInFile}
-use Rattle.rt_ops.specs.Reading.{file_name, head_fault, offsets_from, EndsEarly, IsEnd, ReadsAs, Reads, may_follow}
+use Rattle.rt_ops.specs.Reading.{file_name, head_fault, offsets_from, EndsEarly, IsEnd, ReadsAs, HasNoRecord, IsBroken, Reads, last_stamp, may_follow}
 use Rattle.rt_stamps.specs.Streams.{Stream}
-use Rattle.rt_ops.specs.Intake.{Takes, Finishes, IsStopped, HasNoRecord, Fails, GetsHead, FILE_BOUNDS, HasRead, IsTold, ReadsFile, LacksMemory}
+use Rattle.rt_ops.specs.Intake.{Takes, Finishes, IsStopped, Fails, GetsHead, HasRead, IsTold, ReadsFile, LacksMemory}
 use Rattle.rt_ops.proofs.Lengths.{length_4, same_front, content_short}
 use Rattle.rt_ops.proofs.Spells.{front_same_4, same_content}
 use Rattle.rt_ops.proofs.Taken.{takes_then, finishes_then, stopped_then, magic_length}
@@ -66,6 +67,10 @@ offsets_push at (q ∷ ops) op =
 pub spelling_length : (ops : List Operation) → length (spelling ops) ≡ 8 + length (flat_map record_of ops)
 spelling_length ops = omega (arith, length-append magic (flat_map record_of ops), magic_length)
 
+pub offsets_more : (ops : List Operation) (offsets : List ℕ) (op : Operation) (at : ℕ) → offsets ≡ offsets_from 8 ops → at ≡ length (spelling ops) → offsets ++ at ∷ [] ≡ offsets_from 8 (ops ++ op ∷ [])
+offsets_more ops offsets op at off place =
+    ap (λ v. v ++ at ∷ []) off ∙ ap (λ n. offsets_from 8 ops ++ n ∷ []) (place ∙ spelling_length ops) ∙ sym (offsets_push 8 ops op)
+
 pub all_push : (ops : List Operation) (op : Operation) → AllByRecursion HasRecord ops → HasRecord op → AllByRecursion HasRecord (ops ++ op ∷ [])
 all_push [] op h has = (has, tt)
 all_push (q ∷ ops) op h has = (h.0, all_push ops op h.1 has)
@@ -73,47 +78,50 @@ all_push (q ∷ ops) op h has = (h.0, all_push ops op h.1 has)
 abbrev rises : Operation → Operation → Bool
 rises a b = is_before (stamp_of a) (stamp_of b)
 
-last_is : (q r : Operation) (ops : List Operation) → slice_get (q ∷ (r ∷ ops)) (length (q ∷ (r ∷ ops)) - 1) ≡ slice_get (r ∷ ops) (length (r ∷ ops) - 1)
-last_is q r ops =
-    let e : length (q ∷ (r ∷ ops)) - 1 ≡ suc (length (r ∷ ops) - 1) = omega arith in
-    ap (λ n. slice_get (q ∷ (r ∷ ops)) n) e
-
-pub rising_push : (ops : List Operation) (op : Operation) → each_next rises ops ≡ true → may_follow (slice_get ops (length ops - 1)) op ≡ true → each_next rises (ops ++ op ∷ []) ≡ true
+pub rising_push : (ops : List Operation) (op : Operation) → each_next rises ops ≡ true → may_follow (last_stamp ops) op ≡ true → each_next rises (ops ++ op ∷ []) ≡ true
 rising_push [] op h f = refl
 rising_push (q ∷ []) op h f = grind (arith, nat_tests)
 rising_push (q ∷ (r ∷ ops)) op h f =
     let one : rises q r ≡ true = grind (arith, nat_tests) in
     let others : each_next rises (r ∷ ops) ≡ true = grind (arith, nat_tests) in
-    let rest : each_next rises ((r ∷ ops) ++ op ∷ []) ≡ true = rising_push (r ∷ ops) op others (ap (λ o. may_follow o op) (sym (last_is q r ops)) ∙ f) in
+    let rest : each_next rises ((r ∷ ops) ++ op ∷ []) ≡ true = rising_push (r ∷ ops) op others f in
     rw (one, rest) refl
 
-pub rising_last : (ops : List Operation) (op : Operation) → each_next rises (ops ++ op ∷ []) ≡ true → may_follow (slice_get ops (length ops - 1)) op ≡ true
+pub rising_last : (ops : List Operation) (op : Operation) → each_next rises (ops ++ op ∷ []) ≡ true → may_follow (last_stamp ops) op ≡ true
 rising_last [] op h = refl
 rising_last (q ∷ []) op h = grind (arith, nat_tests)
 rising_last (q ∷ (r ∷ ops)) op h =
     let rest : each_next rises ((r ∷ ops) ++ op ∷ []) ≡ true = grind (arith, nat_tests) in
-    ap (λ o. may_follow o op) (last_is q r ops) ∙ rising_last (r ∷ ops) op rest
+    rising_last (r ∷ ops) op rest
+
+pub last_push : (ops : List Operation) (op : Operation) → last_stamp (ops ++ op ∷ []) ≡ Some (stamp_of op)
+last_push [] op = refl
+last_push (q ∷ []) op = refl
+last_push (q ∷ (r ∷ ops)) op = last_push (r ∷ ops) op
 
 pub in_file_none : AreInFile []
 in_file_none = record { records = tt; rising = refl }
 
-pub in_file_push : (ops : List Operation) (op : Operation) → AreInFile ops → HasRecord op → may_follow (slice_get ops (length ops - 1)) op ≡ true → AreInFile (ops ++ op ∷ [])
+pub in_file_push : (ops : List Operation) (op : Operation) → AreInFile ops → HasRecord op → may_follow (last_stamp ops) op ≡ true → AreInFile (ops ++ op ∷ [])
 in_file_push ops op are has f = record { records = all_push ops op are.records has; rising = rising_push ops op are.rising f }
 
-last_has : (ops : List Operation) (op : Operation) → AllByRecursion HasRecord (ops ++ op ∷ []) → HasRecord op
+pub last_has : (ops : List Operation) (op : Operation) → AllByRecursion HasRecord (ops ++ op ∷ []) → HasRecord op
 last_has [] op h = h.0
 last_has (q ∷ ops) op h = last_has ops op h.1
 
 -- ---- what is read of bytes
 
-magic_ok : head_fault magic ≡ None
+pub magic_ok : head_fault magic ≡ None
 unfolding magic file_name
 magic_ok = refl
 
+pub front_is_magic : (bytes rest : List ℕ) (ops : List Operation) → bytes ≡ spelling ops ++ rest → take 8 bytes ≡ magic
+front_is_magic bytes rest ops parts =
+    ap (take 8) (parts ∙ append_assoc magic (flat_map record_of ops) rest) ∙ take_at magic (flat_map record_of ops ++ rest) 8 magic_length
+
 pub reads_records : (bytes : List ℕ) (ops : List Operation) (offsets : List ℕ) (fault : Option (Fault × ℕ)) (rest : List ℕ) → bytes ≡ spelling ops ++ rest → AreInFile ops → offsets ≡ offsets_from 8 ops → IsEnd ops rest fault → Reads bytes ops offsets fault
 reads_records bytes ops offsets fault rest parts are off end =
-    let front : take 8 bytes ≡ magic = ap (take 8) (parts ∙ append_assoc magic (flat_map record_of ops) rest) ∙ take_at magic (flat_map record_of ops ++ rest) 8 magic_length in
-    subst (λ (o : Option Fault). ReadsAs o bytes ops offsets fault) (sym (ap head_fault front ∙ magic_ok)) (rest, parts, are, off, end)
+    subst (λ (o : Option Fault). ReadsAs o bytes ops offsets fault) (sym (ap head_fault (front_is_magic bytes rest ops parts) ∙ magic_ok)) (rest, parts, are, off, end)
 
 name_length : length file_name ≡ 7
 unfolding file_name
@@ -144,11 +152,11 @@ reads_head bytes front rest fault parts short end found =
 
 -- ---- how reading a file ends
 
-pub has_read : (a b : Stream) (y : Bounds) (bytes : List ℕ) → Takes a b FILE_BOUNDS y bytes → HasRead a b bytes
-has_read a b y bytes h = record { consumed = h.consumed; within = omega (arith, h.room); failures = h.failures; calls = omega (arith, h.calls, h.room) }
+pub has_read : (a b : Stream) (x y : Bounds) (bytes : List ℕ) → Takes a b x y bytes → HasRead x a b bytes
+has_read a b x y bytes h = record { consumed = h.consumed; within = omega (arith, h.room); failures = h.failures; calls = omega (arith, h.reads); each = omega (arith, h.calls) }
 
-pub has_finished : (a b : Stream) (y : Bounds) (bytes : List ℕ) → Finishes a b FILE_BOUNDS y bytes → HasRead a b bytes
-has_finished a b y bytes h = record { consumed = h.consumed; within = omega (arith, h.room); failures = h.failures; calls = omega (arith, h.calls, h.room) }
+pub has_finished : (a b : Stream) (x y : Bounds) (bytes : List ℕ) → Finishes a b x y bytes → HasRead x a b bytes
+has_finished a b x y bytes h = record { consumed = h.consumed; within = omega (arith, h.room); failures = h.failures; calls = omega (arith, h.reads); each = omega (arith, h.calls) }
 
 kinds_of_head : (a b c : Bool) (fault : Fault) → cond (not a) (Some BadMagic) (cond b (Some Truncated) (cond c None (Some BadVersion))) ≡ Some fault → fault ≡ NoMemory → ⊥
 kinds_of_head false b c fault e is = cc
@@ -160,14 +168,14 @@ kinds_of_head true false false fault e is = cc
 not_memory : (front : List ℕ) (fault : Fault) → head_fault front ≡ Some fault → fault ≡ NoMemory → ⊥
 not_memory front fault e = kinds_of_head (bytes_eq (take 7 front) (take (length front) file_name)) (nat_lt (length front) 8) (bytes_eq front magic) fault e
 
-pub ends_whole : (a b c : Stream) (y z : Bounds) (ops : List Operation) (offsets : List ℕ) → Takes a b FILE_BOUNDS y (spelling ops) → AreInFile ops → offsets ≡ offsets_from 8 ops → Finishes b c y z [] → ReadsFile a c ops offsets None
-ends_whole a b c y z ops offsets h are off e =
+pub ends_whole : (a b c : Stream) (x y z : Bounds) (ops : List Operation) (offsets : List ℕ) → Takes a b x y (spelling ops) → AreInFile ops → offsets ≡ offsets_from 8 ops → Finishes b c y z [] → ReadsFile x a c ops offsets None
+ends_whole a b c x y z ops offsets h are off e =
     let bytes = spelling ops ++ [] in
-    inl (bytes, has_finished a c z bytes (finishes_then a b c FILE_BOUNDS y z (spelling ops) [] h e), inl (e.at_end, reads_records bytes ops offsets None [] refl are off refl))
+    inl (bytes, has_finished a c x z bytes (finishes_then a b c x y z (spelling ops) [] h e), inl (e.at_end, reads_records bytes ops offsets None [] refl are off refl))
 
-pub ends_fault : (a b c : Stream) (y z : Bounds) (ops : List Operation) (offsets : List ℕ) (fault : Fault) (at : ℕ) → Takes a b FILE_BOUNDS y (spelling ops) → AreInFile ops → offsets ≡ offsets_from 8 ops → Fails b c y z fault
-    → (fault ≡ NoMemory → ⊥) → at ≡ length (spelling ops) → ReadsFile a c ops offsets (Some (fault, at))
-ends_fault a b c y z ops offsets fault at h are off fails other place = by fails.1
+pub ends_fault : (a b c : Stream) (x y z : Bounds) (ops : List Operation) (offsets : List ℕ) (fault : Fault) (at : ℕ) → Takes a b x y (spelling ops) → AreInFile ops → offsets ≡ offsets_from 8 ops → Fails b c y z fault
+    → (fault ≡ NoMemory → ⊥) → at ≡ length (spelling ops) → ReadsFile x a c ops offsets (Some (fault, at))
+ends_fault a b c x y z ops offsets fault at h are off fails other place = by fails.1
   where
     taken : List ℕ
     taken = fails.0
@@ -175,17 +183,17 @@ ends_fault a b c y z ops offsets fault at h are off fails other place = by fails
     bytes : List ℕ
     bytes = spelling ops ++ taken
 
-    truncated : (fault ≡ Truncated) × Finishes b c y z taken × (0 < length taken) × EndsEarly taken → ReadsFile a c ops offsets (Some (fault, at))
+    truncated : (fault ≡ Truncated) × Finishes b c y z taken × (0 < length taken) × EndsEarly taken → ReadsFile x a c ops offsets (Some (fault, at))
     truncated t = inl (
       bytes,
-      has_finished a c z bytes (finishes_then a b c FILE_BOUNDS y z (spelling ops) taken h t.1),
+      has_finished a c x z bytes (finishes_then a b c x y z (spelling ops) taken h t.1),
       inl (t.1.at_end, reads_records bytes ops offsets (Some (fault, at)) taken refl are off (place, inl (t.0, (t.2, t.3)))),
     )
 
-    broken : (fault ≡ BadRecord) × Takes b c y z taken × HasNoRecord taken → ReadsFile a c ops offsets (Some (fault, at))
+    broken : (fault ≡ BadRecord) × Takes b c y z taken × HasNoRecord taken → ReadsFile x a c ops offsets (Some (fault, at))
     broken t = inl (
       bytes,
-      has_read a c z bytes (takes_then a b c FILE_BOUNDS y z (spelling ops) taken h t.1),
+      has_read a c x z bytes (takes_then a b c x y z (spelling ops) taken h t.1),
       inr (λ rest. reads_records (bytes ++ rest) ops offsets (Some (fault, at)) (taken ++ rest) (append_assoc (spelling ops) taken rest) are off (
         place,
         inr (
@@ -202,45 +210,45 @@ ends_fault a b c y z ops offsets fault at h are off fails other place = by fails
     by : ((fault ≡ NoMemory) × Takes b c y z taken)
         ⊎ (((fault ≡ Truncated) × Finishes b c y z taken × (0 < length taken) × EndsEarly taken)
         ⊎ (((fault ≡ BadRecord) × Takes b c y z taken × HasNoRecord taken)
-        ⊎ ((fault ≡ ReadFault) × IsStopped b c y taken × EndsEarly taken))) → ReadsFile a c ops offsets (Some (fault, at))
+        ⊎ ((fault ≡ ReadFault) × IsStopped b c y taken × EndsEarly taken))) → ReadsFile x a c ops offsets (Some (fault, at))
     by (inl memory) = absurd (other memory.0)
     by (inr (inl t)) = truncated t
     by (inr (inr (inl t))) = broken t
-    by (inr (inr (inr t))) = inr (at, spelling ops ++ taken, ap (λ f. Some (f, at)) t.0, inr (taken, refl, are, off, place, t.2), stopped_then a b c FILE_BOUNDS y (spelling ops) taken h t.1)
+    by (inr (inr (inr t))) = inr (at, spelling ops ++ taken, ap (λ f. Some (f, at)) t.0, inr (taken, refl, are, off, place, t.2), stopped_then a b c x y (spelling ops) taken h t.1)
 
 -- the record of an operation that may not follow
-pub ends_unrisen : (a b c : Stream) (y z : Bounds) (ops : List Operation) (offsets : List ℕ) (op : Operation) (at : ℕ) → Takes a b FILE_BOUNDS y (spelling ops) → AreInFile ops → offsets ≡ offsets_from 8 ops → Takes b c y z (record_of op) → HasRecord op
-    → may_follow (slice_get ops (length ops - 1)) op ≡ false → at ≡ length (spelling ops) → ReadsFile a c ops offsets (Some (BadRecord, at))
-ends_unrisen a b c y z ops offsets op at h are off t has out place =
+pub broken_unrisen : (ops : List Operation) (op : Operation) (rest : List ℕ) → HasRecord op → may_follow (last_stamp ops) op ≡ false → IsBroken ops (record_of op ++ rest)
+broken_unrisen ops op rest has out = record {
+  some = record_some op rest;
+  whole = is_whole op rest has;
+  none = λ other more next e.
+      let same = same_record op other rest more has (last_has ops other next.records) e in
+      false≢true (sym out ∙ ap (λ o. may_follow (last_stamp ops) o) same.0 ∙ rising_last ops other next.rising);
+}
+
+pub ends_unrisen : (a b c : Stream) (x y z : Bounds) (ops : List Operation) (offsets : List ℕ) (op : Operation) (at : ℕ) → Takes a b x y (spelling ops) → AreInFile ops → offsets ≡ offsets_from 8 ops → Takes b c y z (record_of op) → HasRecord op
+    → may_follow (last_stamp ops) op ≡ false → at ≡ length (spelling ops) → ReadsFile x a c ops offsets (Some (BadRecord, at))
+ends_unrisen a b c x y z ops offsets op at h are off t has out place =
     let bytes = spelling ops ++ record_of op in
     inl (
       bytes,
-      has_read a c z bytes (takes_then a b c FILE_BOUNDS y z (spelling ops) (record_of op) h t),
+      has_read a c x z bytes (takes_then a b c x y z (spelling ops) (record_of op) h t),
       inr (λ rest. reads_records (bytes ++ rest) ops offsets (Some (BadRecord, at)) (record_of op ++ rest) (append_assoc (spelling ops) (record_of op) rest) are off (
         place,
-        inr (
-          refl,
-          record {
-            some = record_some op rest;
-            whole = is_whole op rest has;
-            none = λ other more next e.
-                let same = same_record op other rest more has (last_has ops other next.records) e in
-                false≢true (sym out ∙ ap (λ o. may_follow (slice_get ops (length ops - 1)) o) same.0 ∙ rising_last ops other next.rising);
-          },
-        ),
+        inr (refl, broken_unrisen ops op rest has out),
       )),
     )
 
-pub ends_head : (a b : Stream) (y : Bounds) (fault : Fault) → (bytes : List ℕ) × (((fault ≡ NoMemory) × Takes a b FILE_BOUNDS y bytes)
-    ⊎ (((head_fault bytes ≡ Some fault) × (length bytes ≤ 8) × (8 ≤ length bytes → Takes a b FILE_BOUNDS y bytes) × (length bytes < 8 → Finishes a b FILE_BOUNDS y bytes))
-    ⊎ ((fault ≡ ReadFault) × IsStopped a b FILE_BOUNDS bytes × (length bytes < 8)))) → (fault ≡ NoMemory → ⊥) → ReadsFile a b [] [] (Some (fault, 0))
-ends_head a b y fault gets other = by gets.1
+pub ends_head : (a b : Stream) (x y : Bounds) (fault : Fault) → (bytes : List ℕ) × (((fault ≡ NoMemory) × Takes a b x y bytes)
+    ⊎ (((head_fault bytes ≡ Some fault) × (length bytes ≤ 8) × (8 ≤ length bytes → Takes a b x y bytes) × (length bytes < 8 → Finishes a b x y bytes))
+    ⊎ ((fault ≡ ReadFault) × IsStopped a b x bytes × (length bytes < 8)))) → (fault ≡ NoMemory → ⊥) → ReadsFile x a b [] [] (Some (fault, 0))
+ends_head a b x y fault gets other = by gets.1
   where
     bytes : List ℕ
     bytes = gets.0
 
-    read : (8 ≤ length bytes → Takes a b FILE_BOUNDS y bytes) → (length bytes < 8 → Finishes a b FILE_BOUNDS y bytes) → HasRead a b bytes
-    read takes finishes = elim (cases_lt (length bytes) 8) [ inl lt ↦ has_finished a b y bytes (finishes lt) | inr le ↦ has_read a b y bytes (takes le) ]
+    read : (8 ≤ length bytes → Takes a b x y bytes) → (length bytes < 8 → Finishes a b x y bytes) → HasRead x a b bytes
+    read takes finishes = elim (cases_lt (length bytes) 8) [ inl lt ↦ has_finished a b x y bytes (finishes lt) | inr le ↦ has_read a b x y bytes (takes le) ]
 
     told : head_fault bytes ≡ Some fault → length bytes ≤ 8 → (length bytes < 8 → IsAtEnd b.bytes) → IsTold b.bytes bytes [] [] (Some (fault, 0))
     told found short end = elim (cases_lt (length bytes) 8) [
@@ -248,9 +256,9 @@ ends_head a b y fault gets other = by gets.1
       | inr le ↦ inr (λ rest. reads_head (bytes ++ rest) bytes rest fault refl short (λ lt. absurd (omega (arith, le, lt))) found)
     ]
 
-    by : ((fault ≡ NoMemory) × Takes a b FILE_BOUNDS y bytes)
-        ⊎ (((head_fault bytes ≡ Some fault) × (length bytes ≤ 8) × (8 ≤ length bytes → Takes a b FILE_BOUNDS y bytes) × (length bytes < 8 → Finishes a b FILE_BOUNDS y bytes))
-        ⊎ ((fault ≡ ReadFault) × IsStopped a b FILE_BOUNDS bytes × (length bytes < 8))) → ReadsFile a b [] [] (Some (fault, 0))
+    by : ((fault ≡ NoMemory) × Takes a b x y bytes)
+        ⊎ (((head_fault bytes ≡ Some fault) × (length bytes ≤ 8) × (8 ≤ length bytes → Takes a b x y bytes) × (length bytes < 8 → Finishes a b x y bytes))
+        ⊎ ((fault ≡ ReadFault) × IsStopped a b x bytes × (length bytes < 8))) → ReadsFile x a b [] [] (Some (fault, 0))
     by (inl memory) = absurd (other memory.0)
     by (inr (inl t)) = inl (bytes, read t.2 t.3, told t.0 t.1 (λ lt. (t.3 lt).at_end))
     by (inr (inr t)) = inr (0, bytes, ap (λ f. Some (f, 0)) t.0, inl (t.2, refl, refl, refl), t.1)
@@ -261,7 +269,7 @@ offsets_length : (at : ℕ) (ops : List Operation) → length (offsets_from at o
 offsets_length at [] = refl
 offsets_length at (op ∷ ops) = ap suc (offsets_length (at + length (record_of op)) ops)
 
-reads_length : (bytes : List ℕ) (ops : List Operation) (offsets : List ℕ) (fault : Option (Fault × ℕ)) → Reads bytes ops offsets fault → length offsets ≡ length ops
+pub reads_length : (bytes : List ℕ) (ops : List Operation) (offsets : List ℕ) (fault : Option (Fault × ℕ)) → Reads bytes ops offsets fault → length offsets ≡ length ops
 reads_length bytes ops offsets fault h = by (head_fault (take 8 bytes)) h
   where
     by : (found : Option Fault) → ReadsAs found bytes ops offsets fault → length offsets ≡ length ops
@@ -273,14 +281,14 @@ pub each_has_place : {R : Type 0} (result : Result R Fault) (bytes : List ℕ) (
 each_has_place (Ok r) bytes view places found h = reads_length bytes (view r) (places r) (found r) h
 each_has_place (Err fault) bytes view places found h = tt
 
-pub offset_each : (a b : Stream) (ops : List Operation) (offsets : List ℕ) (fault : Option (Fault × ℕ)) → ReadsFile a b ops offsets fault → length offsets ≡ length ops
-offset_each a b ops offsets fault (inl h) = elim h.2 [ inl t ↦ reads_length h.0 ops offsets fault t.1 | inr f ↦ reads_length (h.0 ++ []) ops offsets fault (f []) ]
-offset_each a b ops offsets fault (inr h) = elim h.3 [ inl s ↦ ap length s.2 ∙ sym (ap length s.1) | inr s ↦ ap length s.3 ∙ offsets_length 8 ops ]
+pub offset_each : (x : Bounds) (a b : Stream) (ops : List Operation) (offsets : List ℕ) (fault : Option (Fault × ℕ)) → ReadsFile x a b ops offsets fault → length offsets ≡ length ops
+offset_each x a b ops offsets fault (inl h) = elim h.2 [ inl t ↦ reads_length h.0 ops offsets fault t.1 | inr f ↦ reads_length (h.0 ++ []) ops offsets fault (f []) ]
+offset_each x a b ops offsets fault (inr h) = elim h.3 [ inl s ↦ ap length s.2 ∙ sym (ap length s.1) | inr s ↦ ap length s.3 ∙ offsets_length 8 ops ]
 
 -- ---- want of memory
 
-pub memory_in : (a b c : Stream) (y z : Bounds) (taken : List ℕ) (fault : Fault) → Takes a b FILE_BOUNDS y taken → Fails b c y z fault → fault ≡ NoMemory → LacksMemory a c
-memory_in a b c y z taken fault h fails is = by fails.1
+pub memory_in : (a b c : Stream) (x y z : Bounds) (taken : List ℕ) (fault : Fault) → Takes a b x y taken → Fails b c y z fault → fault ≡ NoMemory → LacksMemory x a c
+memory_in a b c x y z taken fault h fails is = by fails.1
   where
     more : List ℕ
     more = fails.0
@@ -288,17 +296,17 @@ memory_in a b c y z taken fault h fails is = by fails.1
     by : ((fault ≡ NoMemory) × Takes b c y z more)
         ⊎ (((fault ≡ Truncated) × Finishes b c y z more × (0 < length more) × EndsEarly more)
         ⊎ (((fault ≡ BadRecord) × Takes b c y z more × HasNoRecord more)
-        ⊎ ((fault ≡ ReadFault) × IsStopped b c y more × EndsEarly more))) → LacksMemory a c
-    by (inl t) = (taken ++ more, has_read a c z (taken ++ more) (takes_then a b c FILE_BOUNDS y z taken more h t.1))
+        ⊎ ((fault ≡ ReadFault) × IsStopped b c y more × EndsEarly more))) → LacksMemory x a c
+    by (inl t) = (taken ++ more, has_read a c x z (taken ++ more) (takes_then a b c x y z taken more h t.1))
     by (inr (inl t)) = absurd (cc (is, t.0))
     by (inr (inr (inl t))) = absurd (cc (is, t.0))
     by (inr (inr (inr t))) = absurd (cc (is, t.0))
 
-pub memory_after : (a b c : Stream) (y z : Bounds) (taken more : List ℕ) → Takes a b FILE_BOUNDS y taken → Takes b c y z more → LacksMemory a c
-memory_after a b c y z taken more h k = (taken ++ more, has_read a c z (taken ++ more) (takes_then a b c FILE_BOUNDS y z taken more h k))
+pub memory_after : (a b c : Stream) (x y z : Bounds) (taken more : List ℕ) → Takes a b x y taken → Takes b c y z more → LacksMemory x a c
+memory_after a b c x y z taken more h k = (taken ++ more, has_read a c x z (taken ++ more) (takes_then a b c x y z taken more h k))
 
-pub memory_first : (a b : Stream) (y : Bounds) (fault : Fault) → GetsHead a b FILE_BOUNDS y (Err fault) → fault ≡ NoMemory → LacksMemory a b
-memory_first a b y fault gets is = by gets.1
+pub memory_first : (a b : Stream) (x y : Bounds) (fault : Fault) → GetsHead a b x y (Err fault) → fault ≡ NoMemory → LacksMemory x a b
+memory_first a b x y fault gets is = by gets.1
   where
     bytes : List ℕ
     bytes = gets.0
@@ -306,34 +314,34 @@ memory_first a b y fault gets is = by gets.1
     other : head_fault bytes ≡ Some fault → ⊥
     other e = not_memory bytes fault e is
 
-    by : ((fault ≡ NoMemory) × Takes a b FILE_BOUNDS y bytes)
-        ⊎ (((head_fault bytes ≡ Some fault) × (length bytes ≤ 8) × (8 ≤ length bytes → Takes a b FILE_BOUNDS y bytes) × (length bytes < 8 → Finishes a b FILE_BOUNDS y bytes))
-        ⊎ ((fault ≡ ReadFault) × IsStopped a b FILE_BOUNDS bytes × (length bytes < 8))) → LacksMemory a b
-    by (inl t) = (bytes, has_read a b y bytes t.1)
+    by : ((fault ≡ NoMemory) × Takes a b x y bytes)
+        ⊎ (((head_fault bytes ≡ Some fault) × (length bytes ≤ 8) × (8 ≤ length bytes → Takes a b x y bytes) × (length bytes < 8 → Finishes a b x y bytes))
+        ⊎ ((fault ≡ ReadFault) × IsStopped a b x bytes × (length bytes < 8))) → LacksMemory x a b
+    by (inl t) = (bytes, has_read a b x y bytes t.1)
     by (inr (inl t)) = absurd (other t.0)
     by (inr (inr t)) = absurd (cc (is, t.0))
 
 -- what was read up to a fault
-pub ended_reads : {R : Type 0} (result : Result R Fault) (view : R → List Operation) (places : R → List ℕ) (found : R → Option (Fault × ℕ)) (a c : Stream) (ops : List Operation) (offsets : List ℕ) (fault : Fault) (at : ℕ)
+pub ended_as : {R : Type 0} (result : Result R Fault) (view : R → List Operation) (places : R → List ℕ) (found : R → Option (Fault × ℕ)) (P : List Operation → List ℕ → Option (Fault × ℕ) → Type 0) (ops : List Operation) (offsets : List ℕ) (fault : Fault) (at : ℕ)
     → IfOk result (λ r. view r ≡ ops) → IfOk result (λ r. places r ≡ offsets) → IfOk result (λ r. (found r ≡ Some (fault, at)) × (fault ≡ NoMemory → ⊥))
-    → ((fault ≡ NoMemory → ⊥) → ReadsFile a c ops offsets (Some (fault, at))) → IfOk result (λ r. ReadsFile a c (view r) (places r) (found r))
-ended_reads (Ok r) view places found a c ops offsets fault at v p f reads = rw (v, p, f.0) (reads f.1)
-ended_reads (Err refused) view places found a c ops offsets fault at v p f reads = tt
+    → ((fault ≡ NoMemory → ⊥) → P ops offsets (Some (fault, at))) → IfOk result (λ r. P (view r) (places r) (found r))
+ended_as (Ok r) view places found P ops offsets fault at v p f reads = rw (v, p, f.0) (reads f.1)
+ended_as (Err refused) view places found P ops offsets fault at v p f reads = tt
 
-pub ended_memory : {R : Type 0} (result : Result R Fault) (a c : Stream) (fault : Fault) → IfErr result (λ refused. (refused ≡ NoMemory) × (fault ≡ NoMemory)) → (fault ≡ NoMemory → LacksMemory a c)
-    → IfErr result (λ refused. (refused ≡ NoMemory) × LacksMemory a c)
-ended_memory (Ok r) a c fault h lacks = tt
-ended_memory (Err refused) a c fault h lacks = (h.0, lacks h.1)
+pub ended_memory : {R : Type 0} (result : Result R Fault) (x : Bounds) (a c : Stream) (fault : Fault) → IfErr result (λ refused. (refused ≡ NoMemory) × (fault ≡ NoMemory)) → (fault ≡ NoMemory → LacksMemory x a c)
+    → IfErr result (λ refused. (refused ≡ NoMemory) × LacksMemory x a c)
+ended_memory (Ok r) x a c fault h lacks = tt
+ended_memory (Err refused) x a c fault h lacks = (h.0, lacks h.1)
 
 -- one more record is read
-pub records_more : (a b c : Stream) (y z : Bounds) (ops : List Operation) (offsets : List ℕ) (op : Operation) (at : ℕ) → Takes a b FILE_BOUNDS y (spelling ops) → AreInFile ops → offsets ≡ offsets_from 8 ops → Takes b c y z (record_of op) → HasRecord op
-    → may_follow (slice_get ops (length ops - 1)) op ≡ true → at ≡ length (spelling ops)
-    → Takes a c FILE_BOUNDS z (spelling (ops ++ op ∷ [])) × AreInFile (ops ++ op ∷ []) × (offsets ++ at ∷ [] ≡ offsets_from 8 (ops ++ op ∷ []))
-records_more a b c y z ops offsets op at h are off t has f place = (
-  subst (Takes a c FILE_BOUNDS z) (sym (spelling_push ops op)) (takes_then a b c FILE_BOUNDS y z (spelling ops) (record_of op) h t),
+pub records_more : (a b c : Stream) (x y z : Bounds) (ops : List Operation) (offsets : List ℕ) (op : Operation) (at : ℕ) → Takes a b x y (spelling ops) → AreInFile ops → offsets ≡ offsets_from 8 ops → Takes b c y z (record_of op) → HasRecord op
+    → may_follow (last_stamp ops) op ≡ true → at ≡ length (spelling ops)
+    → Takes a c x z (spelling (ops ++ op ∷ [])) × AreInFile (ops ++ op ∷ []) × (offsets ++ at ∷ [] ≡ offsets_from 8 (ops ++ op ∷ []))
+records_more a b c x y z ops offsets op at h are off t has f place = (
+  subst (Takes a c x z) (sym (spelling_push ops op)) (takes_then a b c x y z (spelling ops) (record_of op) h t),
   in_file_push ops op are has f,
-  ap (λ v. v ++ at ∷ []) off ∙ ap (λ n. offsets_from 8 ops ++ n ∷ []) (place ∙ spelling_length ops) ∙ sym (offsets_push 8 ops op),
+  offsets_more ops offsets op at off place,
 )
 
-pub follows_at : (list ops : List Operation) (op : Operation) (b : Bool) → list ≡ ops → b ≡ may_follow (slice_get list (length list - 1)) op → may_follow (slice_get ops (length ops - 1)) op ≡ b
-follows_at list ops op b same h = ap (λ l. may_follow (slice_get l (length l - 1)) op) (sym same) ∙ sym h
+pub follows : (ops : List Operation) (last : Option Stamp) (op : Operation) (b : Bool) → last ≡ last_stamp ops → b ≡ may_follow last op → may_follow (last_stamp ops) op ≡ b
+follows ops last op b same h = ap (λ l. may_follow l op) (sym same) ∙ sym h

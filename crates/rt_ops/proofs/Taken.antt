@@ -2,23 +2,20 @@
 use Rattle.std.proofs.Common.{◌≡◌, ℕ, ◌+◌, ◌^◌, ◌<◌, ◌≤◌, Bool, true, false, cond, List, [], ◌∷◌, ◌++◌, length, take, Option, Some, None, Err, refl, sym, ap, subst, ◌∙◌, append_assoc, append-nil, arith, inl, inr}
 use Rattle.std.specs.Prelude.{◌⊎◌, not, nat_lt}
 use Rattle.std.specs.Str.{bytes_eq}
-use Rattle.std.proofs.lemmas.Bool.{false≢true}
-use Rattle.std.proofs.lemmas.Bool.Decides.{nat_tests}
 use Rattle.std.proofs.lemmas.Slice.Eq.{bytes_eq-Decides}
 use Rattle.std.specs.Int.{w32}
 use Rattle.std.specs.Io.KnownBytes.{Consumes}
 use Rattle.std.proofs.lemmas.List.{length-append, nil_from_length}
 use Rattle.rt_stamps.specs.declared.limits.TheConstants.{FEWEST_RECORD_BYTES, MOST_RECORD_BYTES}
 use Rattle.rt_stamps.specs.declared.fault.Fault.{Fault}
-use Rattle.rt_stamps.specs.declared.fault.Fault.TheVariants.{NoMemory, BadMagic, BadVersion, Truncated, BadRecord, ReadFault}
-use Rattle.rt_ops.specs.declared.intake.Bounds.{Bounds}
+use Rattle.rt_stamps.specs.declared.fault.Fault.TheVariants.{NoMemory, BadMagic, BadVersion, Truncated, ReadFault}
+use Rattle.rt_stamps.specs.declared.limits.Bounds.{Bounds}
 use Rattle.rt_ops.specs.Operations.{Operation}
 use Rattle.rt_ops.specs.Decoding.{RefusesBytes}
 use Rattle.rt_ops.specs.File.{magic, number, content_of, record_of, HasRecord}
-use Rattle.rt_ops.specs.Rules.{is_within}
-use Rattle.rt_ops.specs.Reading.{file_name, head_fault, EndsEarly}
+use Rattle.rt_ops.specs.Reading.{file_name, head_fault, EndsEarly, HasNoRecord}
 use Rattle.rt_stamps.specs.Streams.{Stream}
-use Rattle.rt_ops.specs.Intake.{Takes, Finishes, IsStopped, HasNoRecord, Fails, GetsHead}
+use Rattle.rt_ops.specs.Intake.{Takes, Finishes, IsStopped, Fails, GetsHead}
 use Rattle.rt_ops.proofs.Lengths.{length_4, same_front, content_length, content_short}
 use Rattle.rt_ops.proofs.Spells.{front_same_4}
 
@@ -33,7 +30,7 @@ consumes_then (Some xs) (Some ys) None s t h k = k
 consumes_then (Some xs) (Some ys) (Some zs) s t h k = h ∙ ap (λ v. s ++ v) k ∙ sym (append_assoc s t zs)
 
 pub takes_none : (a : Stream) (x : Bounds) → Takes a a x x []
-takes_none a x = record { consumed = consumes_none a.bytes; failures = refl; calls = omega arith; room = omega arith }
+takes_none a x = record { consumed = consumes_none a.bytes; failures = refl; calls = omega arith; room = omega arith; reads = refl }
 
 pub takes_then : (a b c : Stream) (x y z : Bounds) (s t : List ℕ) → Takes a b x y s → Takes b c y z t → Takes a c x z (s ++ t)
 takes_then a b c x y z s t h k = record {
@@ -41,6 +38,7 @@ takes_then a b c x y z s t h k = record {
   failures = k.failures ∙ h.failures;
   calls = omega (arith, h.calls, k.calls, length-append s t);
   room = omega (arith, h.room, k.room, length-append s t);
+  reads = k.reads ∙ h.reads;
 }
 
 pub finishes_then : (a b c : Stream) (x y z : Bounds) (s t : List ℕ) → Takes a b x y s → Finishes b c y z t → Finishes a c x z (s ++ t)
@@ -49,6 +47,7 @@ finishes_then a b c x y z s t h k = record {
   failures = k.failures ∙ h.failures;
   calls = omega (arith, h.calls, k.calls, length-append s t);
   room = omega (arith, h.room, k.room, length-append s t);
+  reads = k.reads ∙ h.reads;
   at_end = k.at_end;
 }
 
@@ -56,9 +55,21 @@ pub stopped_then : (a b c : Stream) (x y : Bounds) (s t : List ℕ) → Takes a 
 stopped_then a b c x y s t h k = record {
   within = omega (arith, h.room, k.within, length-append s t);
   calls = omega (arith, h.calls, k.calls, length-append s t);
+  reads = omega (arith, h.reads, k.reads);
   cause = elim k.cause [
     | inl failed ↦ inl (consumes_then a.bytes b.bytes c.bytes s t h.consumed failed.0, failed.1 ∙ ap (λ n. n + 1) h.failures)
-    | inr over ↦ inr (over.0, subst (Consumes a.bytes c.bytes) (sym (append_assoc s t (over.0 ∷ []))) (consumes_then a.bytes b.bytes c.bytes s (t ++ over.0 ∷ []) h.consumed over.1), over.2 ∙ h.failures, omega (arith, over.3, h.room, length-append s t))
+    | inr (inl over) ↦ inr (inl (
+      over.0,
+      subst (Consumes a.bytes c.bytes) (sym (append_assoc s t (over.0 ∷ []))) (consumes_then a.bytes b.bytes c.bytes s (t ++ over.0 ∷ []) h.consumed over.1),
+      over.2 ∙ h.failures,
+      omega (arith, over.3, h.room, length-append s t),
+    ))
+    | inr (inr used) ↦ inr (inr (
+      consumes_then a.bytes b.bytes c.bytes s t h.consumed used.0,
+      used.1 ∙ h.failures,
+      omega (arith, used.2, h.reads),
+      omega (arith, used.3, h.reads, h.calls, length-append s t),
+    ))
   ];
 }
 
@@ -96,15 +107,20 @@ bad_length buffer n few is out = record {
       out (omega (arith, p.0, content_length op), omega (arith, p.0, short));
 }
 
+-- a whole record doesn't end early
+pub whole_content : (content more : List ℕ) → FEWEST_RECORD_BYTES ≤ length content → length content ≤ MOST_RECORD_BYTES → EndsEarly ((number w32 (length content) ++ content) ++ more) → ⊥
+whole_content content more least most (inl lt) =
+    let n = length content in
+    omega (arith, lt, length-append (number w32 n ++ content) more, length-append (number w32 n) content, length_4 n)
+whole_content content more least most (inr r) =
+    let n = length content in
+    let p = front_same_4 n r.0 (content ++ more) r.1 (omega (arith, most)) (omega (arith, r.4)) (sym (append_assoc (number w32 n) content more) ∙ r.2) in
+    omega (arith, p.0, ap length p.1, length-append content more, r.5)
+
 pub bad_content : (content : List ℕ) (n : ℕ) → FEWEST_RECORD_BYTES ≤ n → n ≤ MOST_RECORD_BYTES → length content ≡ n → ((op : Operation) → HasRecord op → content ≡ content_of op → ⊥) → HasNoRecord (number w32 n ++ content)
 bad_content content n least most size none = record {
   some = omega (arith, length-append (number w32 n) content, length_4 n);
-  whole = λ more early. elim early [
-    | inl lt ↦ omega (arith, length-append (number w32 n ++ content) more, length-append (number w32 n) content, length_4 n)
-    | inr r ↦ (
-        let p = front_same_4 n r.0 (content ++ more) r.1 (omega (arith, most)) (omega (arith, r.4)) (sym (append_assoc (number w32 n) content more) ∙ r.2) in
-        omega (arith, p.0, ap length p.1, length-append content more, r.5, size))
-  ];
+  whole = λ more. subst (λ m. EndsEarly ((number w32 m ++ content) ++ more) → ⊥) size (whole_content content more (omega (arith, size, least)) (omega (arith, size, most)));
   none = λ op more tail has e.
       let len = length (content_of op) in
       let short = content_short op has.rules in
@@ -132,17 +148,9 @@ stopped_in a b c x y s h k = subst (IsStopped a c x) (append-nil s) (stopped_the
 
 -- ---- a length field
 
-pub refused_length : (a b : Stream) (x y : Bounds) (s rest : List ℕ) (n : ℕ) → n < 2 ^ 32 → s ≡ number w32 n ++ rest → length s ≤ 4 → (4 ≤ length s → Takes a b x y s) → is_within FEWEST_RECORD_BYTES MOST_RECORD_BYTES n ≡ false → Fails a b x y BadRecord
-refused_length a b x y s rest n few parts short h out = (
-  s,
-  inr (inr (inl (
-    refl,
-    h (omega (arith, ap length parts, length-append (number w32 n) rest, length_4 n)),
-    bad_length s n few (only_length s rest n parts short) (λ range.
-        let inside : is_within FEWEST_RECORD_BYTES MOST_RECORD_BYTES n ≡ true = grind (arith, nat_tests, range.0, range.1) in
-        false≢true (sym out ∙ inside)),
-  ))),
-)
+pub field_told : (a b : Stream) (x y : Bounds) (s rest : List ℕ) (n : ℕ) → s ≡ number w32 n ++ rest → length s ≤ 4 → (4 ≤ length s → Takes a b x y s) → Takes a b x y (number w32 n)
+field_told a b x y s rest n parts short takes =
+    subst (Takes a b x y) (only_length s rest n parts short) (takes (omega (arith, ap length parts, length-append (number w32 n) rest, length_4 n)))
 
 -- ---- what a record has behind it
 

@@ -31,7 +31,7 @@ one_list a b has so e = same_records a b has so (append_cancel_left magic (flat_
 pub spelled_is_read : (ops : List Operation) → AreInFile ops → Reads (spelling ops) ops (offsets_from 8 ops) None
 spelled_is_read ops are = reads_records (spelling ops) ops (offsets_from 8 ops) None [] (sym (append-nil (spelling ops))) are refl refl
 
-none_some : {A : Type 0} (x : A) → None ≡ Some x → ⊥
+pub none_some : {A : Type 0} (x : A) → None ≡ Some x → ⊥
 none_some x e = cc
 
 -- what is read without a fault is spelled
@@ -59,11 +59,11 @@ all_front : (xs ys : List Operation) → AllByRecursion HasRecord (xs ++ ys) →
 all_front [] ys h = tt
 all_front (x ∷ xs) ys h = (h.0, all_front xs ys h.1)
 
-in_file_front : (xs ys : List Operation) → AreInFile (xs ++ ys) → AreInFile xs
+pub in_file_front : (xs ys : List Operation) → AreInFile (xs ++ ys) → AreInFile xs
 in_file_front xs ys h = record { records = all_front xs ys h.records; rising = rising_front xs ys h.rising }
 
 -- where one reading ends, no other goes on
-no_further : (front : List Operation) (op : Operation) (rest more : List ℕ) (fault : Option (Fault × ℕ)) → HasRecord op → AreInFile (front ++ op ∷ []) → IsEnd front rest fault → rest ≡ record_of op ++ more → ⊥
+pub no_further : (front : List Operation) (op : Operation) (rest more : List ℕ) (fault : Option (Fault × ℕ)) → HasRecord op → AreInFile (front ++ op ∷ []) → IsEnd front rest fault → rest ≡ record_of op ++ more → ⊥
 no_further front op rest more None has are end e = omega (arith, record_some op more, ap length (sym end ∙ e))
 no_further front op rest more (Some fault) has are end e =
     elim end.1 [

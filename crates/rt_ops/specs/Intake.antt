@@ -1,24 +1,25 @@
--- Bytes taken from a reader, within the bounds of a file.
+-- Bytes taken from a reader, within bounds.
 use Rattle.std.specs.Prelude.{◌≡◌, ◌⊎◌, ℕ, ◌+◌, ◌<◌, ◌≤◌, List, [], ◌∷◌, ◌++◌, length, take, Option, Some, Result, MatchResult, MatchOption, Vec}
 use Rattle.std.specs.declared.alloc.Global.{Global}
 use Rattle.std.specs.Int.{w32}
 use Rattle.std.specs.Io.KnownBytes.{Consumes, IsAtEnd}
-use Rattle.rt_stamps.specs.declared.limits.TheConstants.{FEWEST_RECORD_BYTES, MOST_RECORD_BYTES, MOST_BYTES, MOST_READS}
+use Rattle.rt_stamps.specs.declared.limits.Bounds.{Bounds}
+use Rattle.rt_stamps.specs.declared.limits.TheConstants.{FEWEST_RECORD_BYTES, MOST_RECORD_BYTES}
 use Rattle.rt_stamps.specs.declared.fault.Fault.{Fault}
 use Rattle.rt_stamps.specs.declared.fault.Fault.TheVariants.{NoMemory, Truncated, BadRecord, ReadFault}
 use Rattle.rt_stamps.specs.Streams.{Stream}
-use Rattle.rt_ops.specs.declared.intake.Bounds.{Bounds}
 use Rattle.rt_ops.specs.Operations.{Operation}
 use Rattle.rt_ops.specs.File.{magic, number, record_of, HasRecord}
-use Rattle.rt_ops.specs.Reading.{head_fault, EndsEarly, Reads, Stops}
+use Rattle.rt_ops.specs.Reading.{head_fault, EndsEarly, HasNoRecord, Reads, Stops}
 
--- These bytes were taken, each read gave some of them, and none failed. `had` and `has` are what the bounds allowed before
--- and allow now.
+-- These bytes were taken in no more reads than there are bytes, and none failed. `had` and `has` are what the bounds allowed
+-- before and allow now.
 pub record Takes (old new : Stream) (had has : Bounds) (bytes : List ℕ) : Type 0 where
   pub consumed : Consumes old.bytes new.bytes bytes
   pub failures : new.failures ≡ old.failures
   pub calls : new.calls ≤ old.calls + length bytes
   pub room : length bytes + has.bytes ≡ had.bytes
+  pub reads : new.calls + has.reads ≡ old.calls + had.reads
 
 -- These bytes were taken, and then one read told that they are the last.
 pub record Finishes (old new : Stream) (had has : Bounds) (bytes : List ℕ) : Type 0 where
@@ -26,14 +27,29 @@ pub record Finishes (old new : Stream) (had has : Bounds) (bytes : List ℕ) : T
   pub failures : new.failures ≡ old.failures
   pub calls : new.calls ≤ old.calls + length bytes + 1
   pub room : length bytes + has.bytes ≡ had.bytes
+  pub reads : new.calls + has.reads ≡ old.calls + had.reads
   pub at_end : IsAtEnd new.bytes
 
--- These bytes were taken, and then a read failed, or one more byte came than is allowed.
+-- after these bytes a read failed
+abbrev pub FailsAfter : Stream → Stream → List ℕ → Type 0
+FailsAfter old new bytes = Consumes old.bytes new.bytes bytes × (new.failures ≡ old.failures + 1)
+
+-- these are as many bytes as the bounds allow, and one more came
+abbrev pub PassesBytes : Stream → Stream → Bounds → List ℕ → Type 0
+PassesBytes old new had bytes =
+    (byte : ℕ) × Consumes old.bytes new.bytes (bytes ++ byte ∷ []) × (new.failures ≡ old.failures) × (length bytes ≡ had.bytes)
+
+-- as many reads as the bounds allow gave these bytes, of which there are no fewer, and the end was not found
+abbrev pub UsesReads : Stream → Stream → Bounds → List ℕ → Type 0
+UsesReads old new had bytes =
+    Consumes old.bytes new.bytes bytes × (new.failures ≡ old.failures) × (new.calls ≡ old.calls + had.reads) × (had.reads ≤ length bytes)
+
+-- These bytes were taken, and then a read failed, or one more byte came than is allowed, or no more reads were.
 pub record IsStopped (old new : Stream) (had : Bounds) (bytes : List ℕ) : Type 0 where
   pub within : length bytes ≤ had.bytes
   pub calls : new.calls ≤ old.calls + length bytes + 1
-  pub cause : (Consumes old.bytes new.bytes bytes × (new.failures ≡ old.failures + 1))
-      ⊎ ((byte : ℕ) × Consumes old.bytes new.bytes (bytes ++ byte ∷ []) × (new.failures ≡ old.failures) × (length bytes ≡ had.bytes))
+  pub reads : new.calls ≤ old.calls + had.reads
+  pub cause : FailsAfter old new bytes ⊎ (PassesBytes old new had bytes ⊎ UsesReads old new had bytes)
 
 -- a read of at most so many bytes, none only at the end
 abbrev pub GetsSome : Stream → Stream → Bounds → Bounds → ℕ → Result ℕ Fault → List ℕ → Type 0
@@ -47,12 +63,6 @@ Gathers old new had has wanted result bytes = MatchResult result
     (λ _. (length bytes ≤ wanted) × (wanted ≤ length bytes → Takes old new had has bytes) × (length bytes < wanted → Finishes old new had has bytes))
     (λ fault. ((fault ≡ NoMemory) × (taken : List ℕ) × Takes old new had has taken)
     ⊎ ((fault ≡ ReadFault) × (taken : List ℕ) × (length taken < wanted) × IsStopped old new had taken))
-
--- whatever follows, these bytes are whole and begin with the record of no operation
-pub record HasNoRecord (bytes : List ℕ) : Type 0 where
-  pub some : 0 < length bytes
-  pub whole : (more : List ℕ) → EndsEarly (bytes ++ more) → ⊥
-  pub none : (op : Operation) (more tail : List ℕ) → HasRecord op → bytes ++ more ≡ record_of op ++ tail → ⊥
 
 -- why a record isn't read, with the bytes of it that were taken
 abbrev pub Fails : Stream → Stream → Bounds → Bounds → Fault → Type 0
@@ -84,35 +94,32 @@ GetsHead old new had has result = MatchResult result
     × (length bytes < 8 → Finishes old new had has bytes))
     ⊎ ((fault ≡ ReadFault) × IsStopped old new had bytes × (length bytes < 8)))))
 
--- what a file may take
-abbrev pub FILE_BOUNDS : Bounds
-FILE_BOUNDS = record { bytes = MOST_BYTES }
-
--- These bytes of a file were read, within its bounds, and no read failed.
-pub record HasRead (old new : Stream) (bytes : List ℕ) : Type 0 where
+-- These bytes were read within the bounds, in at most one read more than there are bytes, and none failed.
+pub record HasRead (bounds : Bounds) (old new : Stream) (bytes : List ℕ) : Type 0 where
   pub consumed : Consumes old.bytes new.bytes bytes
-  pub within : length bytes ≤ MOST_BYTES
+  pub within : length bytes ≤ bounds.bytes
   pub failures : new.failures ≡ old.failures
-  pub calls : new.calls ≤ old.calls + MOST_READS
+  pub calls : new.calls ≤ old.calls + bounds.reads
+  pub each : new.calls ≤ old.calls + length bytes + 1
 
 -- A file that begins with these bytes is read so: it has no others, or whatever others follow.
 abbrev pub IsTold : Option (List ℕ) → List ℕ → List Operation → List ℕ → Option (Fault × ℕ) → Type 0
 IsTold left bytes ops offsets fault = (IsAtEnd left × Reads bytes ops offsets fault) ⊎ ((more : List ℕ) → Reads (bytes ++ more) ops offsets fault)
 
 -- Some bytes were read, and what is told is what they are read as. They are those that were left, where these are known.
--- Or reading was stopped before any fault: a read failed, or more bytes came than are allowed.
-abbrev pub ReadsFile : Stream → Stream → List Operation → List ℕ → Option (Fault × ℕ) → Type 0
-ReadsFile old new ops offsets fault =
-    ((bytes : List ℕ) × HasRead old new bytes × IsTold new.bytes bytes ops offsets fault)
-    ⊎ ((at : ℕ) × (front : List ℕ) × (fault ≡ Some (ReadFault, at)) × Stops front ops offsets at × IsStopped old new FILE_BOUNDS front)
+-- Or reading was stopped before any fault: a read failed, or more bytes came or more reads were wanted than are allowed.
+abbrev pub ReadsFile : Bounds → Stream → Stream → List Operation → List ℕ → Option (Fault × ℕ) → Type 0
+ReadsFile bounds old new ops offsets fault =
+    ((bytes : List ℕ) × HasRead bounds old new bytes × IsTold new.bytes bytes ops offsets fault)
+    ⊎ ((at : ℕ) × (front : List ℕ) × (fault ≡ Some (ReadFault, at)) × Stops front ops offsets at × IsStopped old new bounds front)
 
 -- Memory was wanting after some bytes, within the bounds, and no read had failed.
-abbrev pub LacksMemory : Stream → Stream → Type 0
-LacksMemory old new = (bytes : List ℕ) × HasRead old new bytes
+abbrev pub LacksMemory : Bounds → Stream → Stream → Type 0
+LacksMemory bounds old new = (bytes : List ℕ) × HasRead bounds old new bytes
 
 -- All bytes were read, to the end. Or memory was wanting after some. Or reading was stopped: a read failed, or more bytes came
--- than are allowed.
-abbrev pub ReadsWhole : Stream → Stream → Result (Vec ℕ Global) Fault → Type 0
-ReadsWhole old new result = MatchResult result
-    (λ bytes. HasRead old new bytes.items × IsAtEnd new.bytes)
-    (λ fault. ((fault ≡ NoMemory) × LacksMemory old new) ⊎ ((fault ≡ ReadFault) × ((front : List ℕ) × IsStopped old new FILE_BOUNDS front)))
+-- or more reads were wanted than are allowed.
+abbrev pub ReadsWhole : Bounds → Stream → Stream → Result (Vec ℕ Global) Fault → Type 0
+ReadsWhole bounds old new result = MatchResult result
+    (λ bytes. HasRead bounds old new bytes.items × IsAtEnd new.bytes)
+    (λ fault. ((fault ≡ NoMemory) × LacksMemory bounds old new) ⊎ ((fault ≡ ReadFault) × ((front : List ℕ) × IsStopped old new bounds front)))

@@ -5,5 +5,6 @@ pub mod File
 pub mod Intake
 pub mod Operations
 pub mod Reading
+pub mod Records
 pub mod Rules
 pub mod Texts

@@ -4,10 +4,11 @@ use Rattle.std.specs.Int.{w32}
 use Rattle.std.specs.Str.{bytes_eq}
 use Rattle.rt_stamps.specs.declared.limits.TheConstants.{FEWEST_RECORD_BYTES, MOST_RECORD_BYTES}
 use Rattle.rt_stamps.specs.declared.fault.Fault.{Fault}
+use Rattle.rt_stamps.specs.declared.stamp.Stamp.{Stamp}
 use Rattle.rt_stamps.specs.declared.fault.Fault.TheVariants.{BadMagic, BadVersion, Truncated, BadRecord}
 use Rattle.rt_ops.specs.Operations.{Operation, stamp_of}
 use Rattle.rt_stamps.specs.Stamps.{is_before}
-use Rattle.rt_ops.specs.File.{magic, number, record_of, spelling, AreInFile}
+use Rattle.rt_ops.specs.File.{magic, number, record_of, spelling, HasRecord, AreInFile}
 
 -- the first seven bytes of a file, before the version
 unfoldable pub file_name : List ℕ
@@ -27,7 +28,23 @@ offsets_from at (op ∷ ops) = at ∷ offsets_from (at + length (record_of op)) 
 
 -- fewer bytes than a length field has, or than a length in its range says
 abbrev pub EndsEarly : List ℕ → Type 0
-EndsEarly rest = (length rest < 4) ⊎ ((n : ℕ) × (content : List ℕ) × (rest ≡ number w32 n ++ content) × (FEWEST_RECORD_BYTES ≤ n) × (n ≤ MOST_RECORD_BYTES) × (length content < n))
+EndsEarly rest =
+    (length rest < 4)
+    ⊎ ((n : ℕ) × (content : List ℕ) × (rest ≡ number w32 n ++ content) × (FEWEST_RECORD_BYTES ≤ n) × (n ≤ MOST_RECORD_BYTES) × (length content < n))
+
+-- a length in its range stands at the front, and as many bytes follow it
+pub record StandsWhole (rest : List ℕ) : Type 0 where
+  pub content : List ℕ
+  pub more : List ℕ
+  pub parts : rest ≡ (number w32 (length content) ++ content) ++ more
+  pub least : FEWEST_RECORD_BYTES ≤ length content
+  pub most : length content ≤ MOST_RECORD_BYTES
+
+-- whatever follows, these bytes are whole and begin with the record of no operation
+pub record HasNoRecord (bytes : List ℕ) : Type 0 where
+  pub some : 0 < length bytes
+  pub whole : (more : List ℕ) → EndsEarly (bytes ++ more) → ⊥
+  pub none : (op : Operation) (more tail : List ℕ) → HasRecord op → bytes ++ more ≡ record_of op ++ tail → ⊥
 
 -- a record was begun, and the end comes within it
 abbrev pub IsCutShort : List ℕ → Type 0
@@ -50,6 +67,14 @@ abbrev pub ReadsAs : Option Fault → List ℕ → List Operation → List ℕ �
 ReadsAs (Some found) bytes ops offsets fault = (ops ≡ []) × (offsets ≡ []) × (fault ≡ Some (found, 0))
 ReadsAs None bytes ops offsets fault = (rest : List ℕ) × (bytes ≡ spelling ops ++ rest) × AreInFile ops × (offsets ≡ offsets_from 8 ops) × IsEnd ops rest fault
 
+-- The bytes begin with the spelling of these operations.
+abbrev pub IsBegun : List ℕ → List Operation → Type 0
+IsBegun bytes ops = (rest : List ℕ) × (bytes ≡ spelling ops ++ rest) × AreInFile ops
+
+-- these operations are the first of all, or all of them
+abbrev pub IsFrontOf : List Operation → List Operation → Type 0
+IsFrontOf ops all = (more : List Operation) × (all ≡ ops ++ more)
+
 -- what is read of a file's bytes
 abbrev pub Reads : List ℕ → List Operation → List ℕ → Option (Fault × ℕ) → Type 0
 Reads bytes ops offsets fault = ReadsAs (head_fault (take 8 bytes)) bytes ops offsets fault
@@ -61,7 +86,13 @@ Stops front ops offsets at =
     ((length front < 8) × (ops ≡ []) × (offsets ≡ []) × (at ≡ 0))
     ⊎ ((rest : List ℕ) × (front ≡ spelling ops ++ rest) × AreInFile ops × (offsets ≡ offsets_from 8 ops) × (at ≡ length (spelling ops)) × EndsEarly rest)
 
--- whether an operation's stamp is after that of the last one, if there is any
-abbrev pub may_follow : Option Operation → Operation → Bool
+-- the stamp of the last operation, if there is any
+abbrev pub last_stamp : List Operation → Option Stamp
+last_stamp [] = None
+last_stamp (op ∷ []) = Some (stamp_of op)
+last_stamp (op ∷ (other ∷ ops)) = last_stamp (other ∷ ops)
+
+-- whether an operation's stamp is after the last one, if there is any
+abbrev pub may_follow : Option Stamp → Operation → Bool
 may_follow None op = true
-may_follow (Some last) op = is_before (stamp_of last) (stamp_of op)
+may_follow (Some last) op = is_before last (stamp_of op)

@@ -1,6 +1,11 @@
-// Worked examples of the rules, each a clause that computes.
-ghost use Rattle.std.specs.Prelude.{◌≡◌, true, false, [], ◌∷◌, codes};
-ghost use Rattle.rt_ops.specs.Examples.{may_be_deleted, may_be_listed, may_be_tagged, span};
+// Worked examples of the rules and of the file, each a clause that computes.
+ghost use Rattle.std.specs.Prelude.{◌≡◌, ◌-◌, ◌^◌, true, false, [], ◌∷◌, codes, Some, None};
+ghost use Rattle.rt_stamps.specs.declared.fault.Fault.TheVariants.{BadMagic, BadVersion, Truncated};
+ghost use Rattle.rt_stamps.specs.declared.stamp.TheConstants.{ROOT};
+ghost use Rattle.rt_ops.specs.Examples.{hex, made, may_be_deleted, may_be_listed, may_be_tagged, puts_ab, span, tags_a, takes_b};
+ghost use Rattle.rt_ops.specs.File.{record_of};
+ghost use Rattle.rt_ops.specs.Operations.{Delete, Insert, has_bad_stamp};
+ghost use Rattle.rt_ops.specs.Reading.{head_fault, last_stamp, may_follow};
 
 /// The spans of an operation stand by site, and at one site by count, with at least one count between two.
 pub fn spans()
@@ -26,4 +31,44 @@ pub fn tags()
     ensures falling { may_be_listed (codes "b" ∷ codes "a" ∷ []) ≡ false }
     ensures twice { may_be_listed (codes "a" ∷ codes "a" ∷ []) ≡ false }
     ensures sel { may_be_listed (codes "sel" ∷ []) ≡ false }
+{}
+
+/// The fault of a file's first eight bytes, or of all where there are fewer.
+#[tactic(auto, unfolding(crate::specs::Reading::file_name, crate::specs::File::magic))]
+pub fn heads()
+    ensures version_one { head_fault (codes "RGATEXT1") ≡ None }
+    ensures version_two { head_fault (codes "RGATEXT2") ≡ Some BadVersion }
+    ensures empty { head_fault [] ≡ Some Truncated }
+    ensures no_version { head_fault (codes "RGATEXT") ≡ Some Truncated }
+    ensures other_name { head_fault (codes "RGATEX11") ≡ Some BadMagic }
+    ensures front_of_other { head_fault (codes "RB") ≡ Some BadMagic }
+{}
+
+/// The bytes of a record: its length, then kind, count, site, `prev` and body.
+pub fn records()
+    ensures insert { record_of puts_ab ≡ hex (codes "000000200100000000000000010001000000000000000000000000000000000000006162") }
+    ensures delete { record_of takes_b ≡ hex (codes "000000290200000000000000030001000000000000000200000001000100000000000000020000000000000002") }
+    ensures tag { record_of tags_a ≡ hex (codes "0000002c0300000000000000030001000000000000000201017400000001000100000000000000010000000000000001") }
+{}
+
+/// Stamps of a file's operations rise: by count, and at one count by site.
+pub fn orders()
+    ensures first { may_follow (last_stamp []) takes_b ≡ true }
+    ensures greater { may_follow (last_stamp (puts_ab ∷ [])) takes_b ≡ true }
+    ensures last { may_follow (last_stamp (puts_ab ∷ takes_b ∷ [])) tags_a ≡ false }
+    ensures next_site { may_follow (last_stamp (takes_b ∷ [])) (made 3 2 0 (Delete [])) ≡ true }
+    ensures lesser { may_follow (last_stamp (takes_b ∷ [])) puts_ab ≡ false }
+{}
+
+/// Which stamps of an operation are bad.
+pub fn stamps()
+    ensures sound { has_bad_stamp puts_ab ≡ false }
+    ensures no_site { has_bad_stamp (made 1 0 0 (Insert ROOT [] (codes "a"))) ≡ true }
+    ensures no_count { has_bad_stamp (made 0 1 0 (Insert ROOT [] (codes "a"))) ≡ true }
+    ensures greatest { has_bad_stamp (made (2 ^ 48 - 1) 1 0 (Insert ROOT [] (codes "a"))) ≡ false }
+    ensures past_the_greatest { has_bad_stamp (made (2 ^ 48 - 1) 1 0 (Insert ROOT [] (codes "ab"))) ≡ true }
+    ensures prev_of_its_own { has_bad_stamp (made 1 1 1 (Insert ROOT [] (codes "a"))) ≡ true }
+    ensures after_itself { has_bad_stamp (made 1 1 0 (Insert (record { count = 1; site = 1 }) [] (codes "a"))) ≡ true }
+    ensures span_before { has_bad_stamp takes_b ≡ false }
+    ensures span_of_its_own { has_bad_stamp (made 3 1 2 (Delete (span 1 2 3 ∷ []))) ≡ true }
 {}

@@ -1,23 +1,17 @@
-// Records, taken from a reader within the bounds of a file.
+// Records, taken from a reader within bounds.
 ghost use Rattle.std.specs.Prelude.{◌≡◌, ◌+◌, ◌<◌, ◌≤◌, length, max, IfOk};
-ghost use Rattle.rt_ops.specs.Rules.{is_within};
 ghost use Rattle.rt_ops.specs.Intake.{GetsSome, Gathers, GetsLength, GetsRecord};
 
 use crate::Op;
 use crate::decode::decode;
-use crate::fields::{LENGTH_BYTES, u32_at};
-use rt_stamps::limits::{FEWEST_RECORD_BYTES, MOST_RECORD_BYTES, PIECE_BYTES};
-use rt_stamps::{Fault, Source, read_piece};
+use crate::fields::LENGTH_BYTES;
+use crate::record::length_at;
+use rt_stamps::limits::PIECE_BYTES;
+use rt_stamps::{Bounds, Fault, Source, read_piece};
 use std::alloc::Global;
 
-/// What a file may still take.
-#[derive(Clone, Copy)]
-pub struct Bounds {
-    pub bytes: usize,
-}
-
 /// Reads a piece of at most so many bytes within the bounds. Where these allow no byte it reads
-/// one, which tells whether the file ends there.
+/// one, which tells whether the file ends there; where they allow no read it makes none.
 fn read_some<R: Source>(
     reader: &mut R,
     bounds: &mut Bounds,
@@ -26,11 +20,12 @@ fn read_some<R: Source>(
 ) -> Result<usize, Fault>
     requires buffer { 0 < length buf.old }
     requires most { 0 < most }
-    ensures { GetsSome
-        (record { calls = R.calls reader.old; failures = R.failures reader.old; bytes = R.remaining reader.old })
-        (record { calls = R.calls reader.new; failures = R.failures reader.new; bytes = R.remaining reader.new })
-        bounds.old bounds.new most result buf.new }
+    ensures { GetsSome (R.stream reader.old) (R.stream reader.new) bounds.old bounds.new most result buf.new }
 {
+    if bounds.reads == 0 {
+        return Err(Fault::ReadFault);
+    }
+    bounds.reads -= 1;
     let n = match read_piece(reader, buf, bounds.bytes.min(most)) {
         Ok(n) => n,
         Err(_) => return Err(Fault::ReadFault),
@@ -42,17 +37,15 @@ fn read_some<R: Source>(
     Ok(n)
 }
 
-/// Reads so many bytes into a buffer, which grows as they come; fewer at the end.
+/// Reads so many bytes into a buffer, which grows as they come; fewer at the end. What was in it goes. `ReadFault` where a read
+/// failed or the bounds allow no more, `NoMemory` where a growth was refused.
 pub fn gather<R: Source>(
     reader: &mut R,
     bounds: &mut Bounds,
     buffer: &mut Vec<u8>,
     wanted: usize,
 ) -> Result<(), Fault>
-    ensures { Gathers
-        (record { calls = R.calls reader.old; failures = R.failures reader.old; bytes = R.remaining reader.old })
-        (record { calls = R.calls reader.new; failures = R.failures reader.new; bytes = R.remaining reader.new })
-        bounds.old bounds.new wanted result buffer.new.items }
+    ensures { Gathers (R.stream reader.old) (R.stream reader.new) bounds.old bounds.new wanted result buffer.new.items }
 {
     buffer.clear();
     let mut piece = [0; PIECE_BYTES];
@@ -66,51 +59,33 @@ pub fn gather<R: Source>(
     Ok(())
 }
 
-/// Whether a record may have this length.
-fn is_length(length: usize) -> bool
-    ensures { result ≡ is_within FEWEST_RECORD_BYTES MOST_RECORD_BYTES length }
-{
-    FEWEST_RECORD_BYTES <= length && length <= MOST_RECORD_BYTES
-}
-
-/// The length of the next record; none at the end.
+/// The length of the next record; none at the end. The faults of `gather`, `Truncated` where the end comes within it, and
+/// `BadRecord` where no record has it.
 fn next_length<R: Source>(
     reader: &mut R,
     bounds: &mut Bounds,
     buffer: &mut Vec<u8>,
 ) -> Result<Option<usize>, Fault>
-    ensures { GetsLength
-        (record { calls = R.calls reader.old; failures = R.failures reader.old; bytes = R.remaining reader.old })
-        (record { calls = R.calls reader.new; failures = R.failures reader.new; bytes = R.remaining reader.new })
-        bounds.old bounds.new result }
+    ensures { GetsLength (R.stream reader.old) (R.stream reader.new) bounds.old bounds.new result }
 {
     gather(reader, bounds, buffer, LENGTH_BYTES)?;
     if buffer.is_empty() {
         return Ok(None);
     }
-    let (length, _) = match u32_at(buffer) {
-        Some(found) => found,
-        None => return Err(Fault::Truncated),
-    };
-    let length = length as usize;
-    if !is_length(length) {
-        return Err(Fault::BadRecord);
-    }
+    let (length, _) = length_at(buffer)?;
     Ok(Some(length))
 }
 
 /// The operation of the next record; none at the end. The buffer has the bytes of a record as they
-/// come, so no more than about its size.
+/// come, so no more than about its size. The faults of `gather`, `Truncated` where the end comes within the record, and
+/// `BadRecord` where it has another.
 pub fn next_op<R: Source>(
     alloc: Global,
     reader: &mut R,
     bounds: &mut Bounds,
     buffer: &mut Vec<u8>,
 ) -> Result<Option<Op>, Fault>
-    ensures { GetsRecord
-        (record { calls = R.calls reader.old; failures = R.failures reader.old; bytes = R.remaining reader.old })
-        (record { calls = R.calls reader.new; failures = R.failures reader.new; bytes = R.remaining reader.new })
-        bounds.old bounds.new result }
+    ensures { GetsRecord (R.stream reader.old) (R.stream reader.new) bounds.old bounds.new result }
 {
     let length = match next_length(reader, bounds, buffer)? {
         Some(length) => length,

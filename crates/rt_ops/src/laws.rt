@@ -1,17 +1,18 @@
 // Laws of operations and of their files, each the contract of a function that does nothing.
-ghost use Rattle.std.specs.Prelude.{◌≡◌, ℕ, ◌+◌, ◌<◌, ◌≤◌, List, length, take, true, Option, Some, None, slice_get};
+ghost use Rattle.std.specs.Prelude.{◌≡◌, ◌⊎◌, ℕ, ◌+◌, ◌<◌, ◌≤◌, List, length, take, true, Option, Some, None, slice_get};
 ghost use Rattle.std.specs.List.{AllByRecursion, list_any};
 ghost use Rattle.rt_stamps.specs.declared.fault.Fault.{Fault};
 ghost use Rattle.rt_stamps.specs.declared.fault.Fault.TheVariants.{ReadFault};
-ghost use Rattle.rt_stamps.specs.declared.limits.TheConstants.{MOST_READS};
+ghost use Rattle.rt_stamps.specs.declared.limits.Bounds.{Bounds};
 ghost use Rattle.rt_stamps.specs.declared.stamp.Span.{Span};
 ghost use Rattle.rt_stamps.specs.declared.stamp.Stamp.{Stamp};
 ghost use Rattle.rt_stamps.specs.Spans.{is_in_span};
 ghost use Rattle.rt_stamps.specs.Streams.{Stream};
 ghost use Rattle.rt_ops.specs.Operations.{Operation};
 ghost use Rattle.rt_ops.specs.File.{HasRecord, AreInFile, spelling};
-ghost use Rattle.rt_ops.specs.Intake.{ReadsFile};
-ghost use Rattle.rt_ops.specs.Reading.{Reads, offsets_from};
+ghost use Rattle.rt_ops.specs.Intake.{FailsAfter, IsStopped, PassesBytes, ReadsFile};
+ghost use Rattle.rt_ops.specs.Reading.{IsBegun, IsEnd, IsFrontOf, Reads, head_fault, offsets_from};
+ghost use Rattle.rt_ops.specs.Records.{HasTaken, Left};
 ghost use Rattle.rt_ops.specs.Rules.{are_spans};
 
 /// A list of operations has one spelling, and bytes spell at most one list. What is spelled is read,
@@ -34,21 +35,55 @@ pub fn offsets()
     ensures count { (ops : List Operation) → length (offsets_from 8 ops) ≡ length ops }
 {}
 
-/// What is told of a reader, whose bytes may be known or not, are operations that a file can have, each
-/// with the offset of its record. Known bytes are told as what they are read as. No more than
-/// `MOST_READS` reads are made.
-pub fn readings()
-    ensures told { (old new : Stream) (ops : List Operation) (offsets : List ℕ) (fault : Option (Fault × ℕ))
-        → ReadsFile old new ops offsets fault → AreInFile ops × (offsets ≡ offsets_from 8 ops) }
-    ensures known { (old new : Stream) (bytes : List ℕ) (ops : List Operation) (offsets : List ℕ) (fault : Option (Fault × ℕ)) → old.bytes
-        ≡ Some bytes
-        → ((at : ℕ) → fault ≡ Some (ReadFault, at) → ⊥) → ReadsFile old new ops offsets fault → Reads bytes ops offsets fault }
-    ensures reads { (old new : Stream) (ops : List Operation) (offsets : List ℕ) (fault : Option (Fault × ℕ))
-        → ReadsFile old new ops offsets fault → new.calls ≤ old.calls + MOST_READS }
+/// What a file begins with is a front of what it is read as, and of two such lists one is a front of the other. What is
+/// read is what it begins with, where its first eight bytes have no fault.
+pub fn fronts()
+    ensures read { (bytes : List ℕ) (ops all : List Operation) (offsets : List ℕ) (fault : Option (Fault × ℕ)) → IsBegun bytes ops
+        → Reads bytes all offsets fault → IsFrontOf ops all }
+    ensures two { (bytes : List ℕ) (one other : List Operation) → IsBegun bytes one → IsBegun bytes other
+        → IsFrontOf one other ⊎ IsFrontOf other one }
+    ensures begun { (bytes : List ℕ) (all : List Operation) (offsets : List ℕ) (fault : Option (Fault × ℕ)) → head_fault (take 8 bytes) ≡ None
+        → Reads bytes all offsets fault → IsBegun bytes all }
 {}
 
-/// Stamps have one list of spans alone that keeps the rules of an operation: lists that keep them and have
-/// the same stamps are the same. So spans don't touch, and stand in one order.
+/// Records that are taken one after another are what the file begins with. They are all that is read just where the end, or
+/// the first fault, comes behind them.
+pub fn records()
+    ensures begun { (left : Left) (ops : List Operation) → HasTaken left ops → IsBegun left.bytes ops }
+    ensures one { (left : Left) (one other : List Operation) → HasTaken left one → HasTaken left other → one ≡ other }
+    ensures ended { (left : Left) (ops : List Operation) (fault : Option (Fault × ℕ)) → HasTaken left ops → IsEnd ops left.rest fault
+        → Reads left.bytes ops (offsets_from 8 ops) fault }
+    ensures all { (left : Left) (ops : List Operation) (offsets : List ℕ) (fault : Option (Fault × ℕ)) → HasTaken left ops
+        → Reads left.bytes ops offsets fault → IsEnd ops left.rest fault }
+{}
+
+/// What is told of a reader, whose bytes may be known or not, are operations that a file can have, each
+/// with the offset of its record. Known bytes are told as what they are read as. No more reads are made
+/// than are allowed.
+pub fn readings()
+    ensures told { (bounds : Bounds) (old new : Stream) (ops : List Operation) (offsets : List ℕ) (fault : Option (Fault × ℕ))
+        → ReadsFile bounds old new ops offsets fault → AreInFile ops × (offsets ≡ offsets_from 8 ops) }
+    ensures known { (bounds : Bounds) (old new : Stream) (bytes : List ℕ) (ops : List Operation) (offsets : List ℕ) (fault : Option (Fault × ℕ))
+        → old.bytes ≡ Some bytes → ((at : ℕ) → fault ≡ Some (ReadFault, at) → ⊥) → ReadsFile bounds old new ops offsets fault
+        → Reads bytes ops offsets fault }
+    ensures reads { (bounds : Bounds) (old new : Stream) (ops : List Operation) (offsets : List ℕ) (fault : Option (Fault × ℕ))
+        → ReadsFile bounds old new ops offsets fault → new.calls ≤ old.calls + bounds.reads }
+{}
+
+/// A file of as many bytes as are allowed is whole, where as many reads are allowed and one more, and none fails; a
+/// longer one is not. Where more reads are allowed than bytes, as for a file, they are not used up.
+pub fn bounds()
+    ensures whole { (bounds : Bounds) (old new : Stream) (bytes : List ℕ) (ops : List Operation) (offsets : List ℕ) (fault : Option (Fault × ℕ))
+        → old.bytes ≡ Some bytes → length bytes ≤ bounds.bytes → length bytes < bounds.reads → new.failures ≡ old.failures
+        → ReadsFile bounds old new ops offsets fault → Reads bytes ops offsets fault }
+    ensures within { (bounds : Bounds) (old new : Stream) (bytes : List ℕ) (ops : List Operation) (offsets : List ℕ) → old.bytes ≡ Some bytes
+        → ReadsFile bounds old new ops offsets None → length bytes ≤ bounds.bytes }
+    ensures enough { (bounds : Bounds) (old new : Stream) (bytes : List ℕ) → bounds.bytes < bounds.reads → IsStopped old new bounds bytes
+        → FailsAfter old new bytes ⊎ PassesBytes old new bounds bytes }
+{}
+
+/// Stamps have at most one list of spans that keeps the rules of an operation: two lists that keep them
+/// and have the same stamps are the same.
 pub fn spans()
     ensures one_list { (one other : List Span) → are_spans one ≡ true → are_spans other ≡ true
         → ((stamp : Stamp) → list_any (λ span. is_in_span span stamp) one ≡ list_any (λ span. is_in_span span stamp) other) → one ≡ other }

@@ -9,7 +9,6 @@ use Rattle.rt_stamps.specs.declared.fault.Fault.TheVariants.{Conflict, TextFull}
 use Rattle.rt_stamps.specs.declared.stamp.Stamp.{Stamp}
 use Rattle.rt_ops.specs.Operations.{Operation, last_count, named}
 use Rattle.rt_ops.specs.Reading.{Reads}
-use Rattle.rt_ops.proofs.Unique.{one_reading}
 use Rattle.rt_oplog.specs.Logs.{Has, clash, holds, with_operation}
 use Rattle.rt_oplog.proofs.Joins.{joined_err}
 use Rattle.rt_oplog.proofs.Sets.{any_from, has_held, has_with, held_from, none_at, split, with_has}
@@ -26,11 +25,12 @@ use Rattle.rt_holding.specs.declared.held.Offered.{Offered}
 use Rattle.rt_holding.specs.declared.held.Offered.TheVariants as offerings
 use Rattle.rt_holding.specs.declared.receiving.Received.{Received}
 use Rattle.rt_holding.specs.Holding.{reply_for, reply_to, with_taken, without}
-use Rattle.rt_holding.specs.Receiving.{Offers, Receives, State, one_more}
+use Rattle.rt_holding.specs.Receiving.{Behind, Offers, Receives, State, one_more}
 use Rattle.rt_holding.specs.Replies.{Reply}
 use Rattle.rt_holding.specs.Replies as replies
 use Rattle.rt_holding.specs.Taken.{IsOffered, IsRefused, holding, replied}
-use Rattle.rt_holding.proofs.Exchanged.{HasLog, by_stamp, of_reverse}
+use Rattle.rt_holding.proofs.Exchanged.{HasLog, before, by_stamp, come_front, of_reverse}
+use Rattle.rt_holding.proofs.Fronts.{EndsWell, all_offered, front_read, well_told}
 use Rattle.rt_holding.proofs.Settling.{nothing_tried}
 use Rattle.rt_peers.specs.Exchange.{IsWantOrConflict}
 
@@ -183,21 +183,21 @@ module _ {Site : Type 0} (log : Site → List Operation) (limit : Site → ℕ) 
   abbrev pub Ends : List Operation → List Operation → List Operation → List Operation → Received → State Site → Type 0
   Ends one other set ops received new = (received.fault ≡ None → HasAll one other set ops new) × IfSome received.fault (λ found. IsWantOrConflict one other found.0)
 
-  offers_end : (one other : List Operation) → IsHistory other → (ops : List Operation) (offsets : List ℕ) (old : State Site) (received : Received) (new : State Site) (seen set : List Operation)
-      → Offers log limit after ops offsets None old received new → Logs set old → IsAmong one other set → AreIn seen set → AreIn ops other → ComeInTime other seen ops
+  offers_end : (one other : List Operation) → IsHistory other → (ops : List Operation) (offsets : List ℕ) (behind : Behind) (old : State Site) (received : Received) (new : State Site) (seen set : List Operation)
+      → Offers log limit after ops offsets behind old received new → EndsWell behind → Logs set old → IsAmong one other set → AreIn seen set → AreIn ops other → ComeInTime other seen ops
       → Ends one other set ops received new
-  offers_end one other h [] offsets old received new seen set f l m a o t = (
-    λ e. record { result = set; has = subst (λ s. Logs set s) (sym f.1) l; history = m.history; some = m.some; all = λ x i. elim i [ inl j ↦ j | inr j ↦ absurd j ] },
-    subst (λ (r : Received). IfSome r.fault (λ found. IsWantOrConflict one other found.0)) (sym f.0) tt,
+  offers_end one other h [] offsets behind old received new seen set f w l m a o t = (
+    λ e. record { result = set; has = subst (λ s. Logs set s) (sym f.3) l; history = m.history; some = m.some; all = λ x i. elim i [ inl j ↦ j | inr j ↦ absurd j ] },
+    subst (λ (r : Received). IfSome r.fault (λ found. IsWantOrConflict one other found.0)) (sym f.2) (well_told (λ found. IsWantOrConflict one other found.0) behind f.0 w f.1 (λ at. inl refl)),
   )
-  offers_end one other h (op ∷ ops) [] old received new seen set f l m a o t = absurd f
-  offers_end one other h (op ∷ ops) (offset ∷ offsets) old received new seen set (inl f) l m a o t =
+  offers_end one other h (op ∷ ops) [] behind old received new seen set f w l m a o t = absurd f
+  offers_end one other h (op ∷ ops) (offset ∷ offsets) behind old received new seen set (inl f) w l m a o t =
       let bases : HasBasesIn other op set = λ base i u. a base (t.0 base i u) in
       let is = answered other set op h m.history (o op (inl refl)) bases in (
         λ e. absurd (let q = ap (λ (r : Received). r.fault) f.2 in let n : ⊥ = cc (q, e) in n),
         subst (λ (r : Received). IfSome r.fault (λ found. IsWantOrConflict one other found.0)) (sym f.2) (ended op f.0 one other set old m is l (o op (inl refl)) f.1),
       )
-  offers_end one other h (op ∷ ops) (offset ∷ offsets) old received new seen set (inr f) l m a o t =
+  offers_end one other h (op ∷ ops) (offset ∷ offsets) behind old received new seen set (inr f) w l m a o t =
       let bases : HasBasesIn other op set = λ base i u. a base (t.0 base i u) in
       let is = answered other set op h m.history (o op (inl refl)) bases in
       let next = goes op f.0 set old f.1 m.history is l f.3 f.4 in
@@ -205,7 +205,7 @@ module _ {Site : Type 0} (log : Site → List Operation) (limit : Site → ℕ) 
         history = next.history;
         some = λ x j. elim ((next.members x).0 j) [ inl k ↦ m.some x k | inr e ↦ inr (subst (Has other) e (o op (inl refl))) ];
       } in
-      let rest = offers_end one other h ops offsets f.1 f.2 new (op ∷ seen) next.result f.6 next.has among
+      let rest = offers_end one other h ops offsets behind f.1 f.2 new (op ∷ seen) next.result f.6 w next.has among
       (λ x j. (next.members x).1 (elim j [ inl e ↦ inr e | inr k ↦ inl (a x k) ]))
       (λ x j. o x (inr j)) t.1 in
       let fault : received.fault ≡ f.2.fault = ap (λ (r : Received). r.fault) f.5 ∙ fault_of f.0 f.2 in (
@@ -226,14 +226,11 @@ module _ {Site : Type 0} (log : Site → List Operation) (limit : Site → ℕ) 
   pub file_ends : (bytes offsets : List ℕ) (one other : List Operation) (old : State Site) (received : Received) (new : State Site)
       → Reads bytes (reverse other) offsets None → Receives log limit after bytes old received new → HasLog log limit after one old → IsHistory one → IsHistory other
       → Ends one other one (reverse other) received new
-  file_ends bytes offsets one other old received new reads (inr f) l h k = (
-    λ e. absurd (let q = ap (λ (r : Received). r.fault) f.0 in let n : ⊥ = cc (q, e) in n),
-    subst (λ (r : Received). IfSome r.fault (λ found. IsWantOrConflict one other found.0)) (sym f.0) (inl refl),
-  )
-  file_ends bytes offsets one other old received new reads (inl f) l h k =
-      let ops = reverse other in
-      let read = one_reading bytes f.0 ops f.1 offsets f.2 None f.3 reads in
-      let offers : Offers log limit after ops f.1 None old received new =
-      subst (λ ending. Offers log limit after ops f.1 ending old received new) read.2 (subst (λ ops. Offers log limit after ops f.1 f.2 old received new) read.0 f.4) in
-      offers_end one other k ops f.1 old received new [] one offers l (record { history = h; some = λ x i. inl i })
-      (λ x i. absurd i) (λ x i. of_reverse other x i) (by_stamp other other [] k k (λ x i. i))
+  file_ends bytes offsets one other old received new reads f l h k =
+      let front = front_read bytes (reverse other) f.0 offsets f.1 f.2 reads f.3 in
+      let ends = offers_end one other k f.0 f.1 f.2 old received new [] one f.4 front.well l (record { history = h; some = λ x i. inl i })
+      (λ x i. absurd i) (λ x i. of_reverse other x (subst (λ l. Has l x) (sym front.is) (before f.0 front.more x i)))
+      (come_front other [] f.0 front.more (subst (ComeInTime other []) front.is (by_stamp other other [] k k (λ x i. i)))) in (
+        λ e. subst (λ ops. HasAll one other one ops new) (sym (all_offered log limit after bytes (reverse other) f.0 offsets f.1 f.2 old received new reads f.3 f.4 e)) (ends.0 e),
+        ends.1,
+      )

@@ -1,6 +1,5 @@
 -- Which operations come to a site with a call: its own, and those of a file that it receives.
-use Rattle.std.proofs.Common.{◌≡◌, ◌∙◌, ℕ, Bool, true, false, cond, inl, inr, List, [], ◌∷◌, Option, ap, sym}
-use Rattle.rt_stamps.specs.declared.fault.Fault.{Fault}
+use Rattle.std.proofs.Common.{◌≡◌, ◌∙◌, ℕ, Bool, true, false, cond, inl, inr, List, [], ◌∷◌, ap, sym}
 use Rattle.rt_ops.specs.Operations.{Body, Operation}
 use Rattle.rt_oplog.specs.Logs.{Has, with_operation}
 use Rattle.rt_rga.specs.Drafts.{next_operation, operations_of}
@@ -8,7 +7,8 @@ use Rattle.rt_editing.specs.Edited.{Edited}
 use Rattle.rt_editing.specs.Edits.{text_with_new}
 use Rattle.rt_holding.specs.declared.receiving.Received.{Received}
 use Rattle.rt_holding.specs.Came.{came_with, is_want, offered_in}
-use Rattle.rt_holding.specs.Receiving.{Offers, Receives, State as Holder}
+use Rattle.rt_holding.specs.Receiving.{Behind, Offers, Receives, State as Holder}
+use Rattle.rt_holding.proofs.Fronts.{begun_with}
 use Rattle.rt_peers.specs.Lives.{IsOfFile, Lives, came_to, made_by}
 use Rattle.rt_peers.specs.SiteStep.{MakesAndTries, SiteReceives, log_of, site_of, text_limit, text_log}
 use Rattle.rt_peers.specs.State.{State}
@@ -30,21 +30,21 @@ one_of true op x ops h = absurd h
 one_of false op x ops (inl e) = inl e
 one_of false op x ops (inr i) = absurd i
 
-offered_among : (ops : List Operation) (offsets : List ℕ) (ending : Option (Fault × ℕ)) (old : Holder Edited) (received : Received) (new : Holder Edited)
-    → (h : Offers text_log text_limit text_with_new ops offsets ending old received new) (x : Operation)
-    → Has (offered_in text_log text_limit text_with_new ops offsets ending old received new h) x → Has ops x
-offered_among [] offsets ending old received new h x i = absurd i
-offered_among (op ∷ ops) [] ending old received new h x i = absurd h
-offered_among (op ∷ ops) (offset ∷ offsets) ending old received new (inl refused) x i = one_of (is_want refused.0) op x ops i
-offered_among (op ∷ ops) (offset ∷ offsets) ending old received new (inr offered) x (inl e) = inl e
-offered_among (op ∷ ops) (offset ∷ offsets) ending old received new (inr offered) x (inr i) =
-    inr (offered_among ops offsets ending offered.1 offered.2 new offered.6 x i)
+offered_among : (ops : List Operation) (offsets : List ℕ) (behind : Behind) (old : Holder Edited) (received : Received) (new : Holder Edited)
+    → (h : Offers text_log text_limit text_with_new ops offsets behind old received new) (x : Operation)
+    → Has (offered_in text_log text_limit text_with_new ops offsets behind old received new h) x → Has ops x
+offered_among [] offsets behind old received new h x i = absurd i
+offered_among (op ∷ ops) [] behind old received new h x i = absurd h
+offered_among (op ∷ ops) (offset ∷ offsets) behind old received new (inl refused) x i = one_of (is_want refused.0) op x ops i
+offered_among (op ∷ ops) (offset ∷ offsets) behind old received new (inr offered) x (inl e) = inl e
+offered_among (op ∷ ops) (offset ∷ offsets) behind old received new (inr offered) x (inr i) =
+    inr (offered_among ops offsets behind offered.1 offered.2 new offered.6 x i)
 
 came_of : (bytes : List ℕ) (old : Holder Edited) (received : Received) (new : Holder Edited) (h : Receives text_log text_limit text_with_new bytes old received new) (x : Operation)
     → Has (came_with text_log text_limit text_with_new bytes old received new h) x → IsOfFile bytes x
-came_of bytes old received new (inl read) x i =
-    (read.0, read.1, read.2, read.3, offered_among read.0 read.1 read.2 old received new read.4 x i)
-came_of bytes old received new (inr none) x i = absurd i
+came_of bytes old received new h x i =
+    let among = offered_among h.0 h.1 h.2 old received new h.4 x i in
+    (h.0, begun_with bytes h.0 h.1 h.2 h.3 x among, among)
 
 pub file_of : (bytes : List ℕ) (old new : State) (received : Received) (h : SiteReceives bytes old received new) (x : Operation)
     → Has (came_to bytes old received new h) x → IsOfFile bytes x

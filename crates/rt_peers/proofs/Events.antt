@@ -6,7 +6,8 @@ use Rattle.rt_stamps.specs.declared.fault.Fault.{Fault}
 use Rattle.rt_stamps.specs.Words.{Word}
 use Rattle.rt_ops.specs.Operations.{Operation}
 use Rattle.rt_oplog.specs.Logs.{Has}
-use Rattle.rt_peers.specs.Events.{Answer, AnswerPeers, Cget, Command, Configure, Destroy, Destroys, Event, EventFoundMemory, EventGives, EventsFoundMemory, EventsGive, IsOfReceived, OfFile, Receive, Replied, Told}
+use Rattle.rt_peers.specs.Events.{Answer, AnswerPeers, Cget, Command, Configure, Destroy, Event, EventFoundMemory, EventGives, EventsFoundMemory, EventsGive, IsOfReceived, OfFile, Receive, Replied, Told}
+use Rattle.rt_peers.specs.PeerStep.{Destroys}
 use Rattle.rt_peers.specs.Lives.{IsOfFile, Lives, LivesOn}
 use Rattle.rt_peers.specs.SiteStep.{option_at, peer_step_at, settings_at, step_at}
 use Rattle.rt_peers.specs.State.{State}

@@ -1,4 +1,4 @@
--- What is asked of marks and tags takes no operation away, so who is gone stays gone.
+-- What is asked of marks and tags takes no operation away, so who is gone stays gone, and changes no limits.
 use Rattle.std.proofs.Common.{◌≡◌, arith, List, Ok, Err, Result, refl, subst, sym}
 use Rattle.rt_stamps.specs.declared.fault.Fault.{Fault}
 use Rattle.rt_stamps.specs.Outcomes.{Answers}
@@ -12,23 +12,21 @@ use Rattle.rt_text.specs.Widgets.{Viewed}
 use Rattle.rt_editing.specs.Recordings.{Recording}
 use Rattle.rt_editing.specs.Settled.{AreGoneOnce, IsSettled, all_taken}
 use Rattle.rt_editing.specs.Noting.{IsOfLog}
-use Rattle.rt_editing.proofs.Growing.{Grows, grows_drafts}
+use Rattle.rt_editing.proofs.Growing.{Grows, GrowsTo, grows_drafts}
 use Rattle.rt_editing.proofs.Noted.{settled_same}
 use Rattle.rt_peers.specs.ViewStep.{Outcome, mark_step, tag_step}
 use Rattle.rt_peers.proofs.Staying.{Steps, mark_stays, tag_stays}
-
-abbrev GrowsTo : Viewed → Viewed → Type 0
-GrowsTo view new = Grows view.doc.log new.doc.log
+use Rattle.rt_peers.proofs.WidgetLimits.{mark_keeps, tag_keeps}
 
 -- a log that gains operations grows
-steps_grow : (view new : Viewed) → Steps view new → GrowsTo view new
+steps_grow : (view new : Viewed) → Steps view new → Grows view.doc.log new.doc.log
 steps_grow view new steps = subst (λ (log : List Operation). Grows view.doc.log log) (sym steps.gains.log) (grows_drafts view.doc.site steps.gains.drafts view.doc.log)
 
 pub mark_grows : (view new : Viewed) (request : MarkRequest) (words : List Word) → mark_step view request ≡ Ok (words, new) → GrowsTo view new
-mark_grows view new request words h = steps_grow view new (mark_stays view new request words h)
+mark_grows view new request words h = record { log = steps_grow view new (mark_stays view new request words h); limits = mark_keeps view new request words h }
 
 pub tag_grows : (view new : Viewed) (request : TagRequest) (words : List Word) → tag_step view request ≡ Ok (words, new) → GrowsTo view new
-tag_grows view new request words h = steps_grow view new (tag_stays view new request words h)
+tag_grows view new request words h = record { log = steps_grow view new (tag_stays view new request words h); limits = tag_keeps view new request words h }
 
 -- SETTLED SITES
 

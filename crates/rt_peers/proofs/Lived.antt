@@ -11,7 +11,8 @@ use Rattle.rt_editing.specs.Edits.{text_with_new}
 use Rattle.rt_holding.specs.declared.receiving.Received.{Received}
 use Rattle.rt_holding.specs.Holding.{Holding, Settles, nothing}
 use Rattle.rt_holding.specs.Receiving.{State as Holder}
-use Rattle.rt_holding.specs.Runs.{AreFree, AreOf, IsGreatestHistoryWithin, IsHolding, Leads, NoneCouldBeTaken, Runs, at_first, brought_by, next, none}
+use Rattle.rt_oplog.specs.Logs.{AreOf}
+use Rattle.rt_holding.specs.Runs.{AreFree, IsGreatestHistoryWithin, IsHolding, Leads, NoneCouldBeTaken, Runs, at_first, brought_by, next, none}
 use Rattle.rt_holding.proofs.Accepted.{greatest_accepted, histories_accepted, sites_agree}
 use Rattle.rt_holding.proofs.Came.{file_goes, runs_on}
 use Rattle.rt_holding.proofs.Sites.{requests_keep}

@@ -8,18 +8,18 @@ use Rattle.rt_stamps.specs.declared.fault.Fault.TheVariants.{WidgetExists}
 use Rattle.rt_stamps.specs.Outcomes.{Answers, Refuses}
 use Rattle.rt_stamps.specs.Words.{Word}
 use Rattle.rt_requests.specs.declared.options.Settings.{Settings}
+use Rattle.rt_peer_requests.specs.declared.options.NamedOption.{NamedOption}
 use Rattle.rt_peer_requests.specs.declared.settings.WidgetSettings.{WidgetSettings}
 use Rattle.rt_editing.specs.Edited.{Edited}
-use Rattle.rt_editing.specs.Recordings.{Recording}
-use Rattle.rt_editing.specs.Settled.{AreGoneOnce, IsSettled, all_taken, is_gone}
 use Rattle.rt_text.specs.Limited.{limited, new_peer, with_limits, with_new_peer, with_peer}
 use Rattle.rt_text.specs.Widgets.{Viewed}
 use Rattle.rt_views.specs.declared.choice.Choice.{Choice}
 use Rattle.rt_views.specs.declared.limits.Limits.{Limits}
 use Rattle.rt_views.specs.Choices.{limits_chosen}
-use Rattle.rt_peers.specs.Options.{choice_of, settings_step, text_configured}
+use Rattle.rt_peers.specs.Options.{choice_of, option_step, settings_step, text_configured}
 use Rattle.rt_peers.specs.Peers.{text_led, widgets_of, with_widget}
 use Rattle.rt_peers.specs.PeerStep.{created, path_check, text_with_peer}
+use Rattle.rt_peers.specs.SiteStep.{by_widget}
 use Rattle.rt_peers.specs.State.{State, place_of}
 use Rattle.rt_peers.specs.ViewStep.{Outcome, as_outcome, changed_step, one_word}
 use Rattle.rt_peers.proofs.PeerLaws.{led_number, text_back}
@@ -48,16 +48,6 @@ peer_leaves view new (Err fault) h = absurd (cc h)
 
 pub one_more : (view new : Viewed) (start end : Choice) → with_peer view start end ≡ Ok new → (view.doc ≡ new.doc) × (length (widgets_of new) ≡ length (widgets_of view) + 1)
 one_more view new start end h = peer_leaves view new (limits_chosen view.doc.cells start end view.own.limits) h
-
--- what is settled stays so where the document does
-pub settled_still : (view new : Viewed) (recording : Recording) → view.doc ≡ new.doc → IsSettled view recording → IsSettled new recording
-settled_still view new recording same h = record {
-  gone = λ stamp back. subst (λ (d : Flat). is_gone d.cells stamp ≡ true) same (h.gone stamp back);
-  taken = subst (λ (d : Flat). AreGoneOnce d.cells (all_taken recording.history)) same h.taken;
-  closed = h.closed;
-  current = h.current;
-  undone = h.undone;
-}
 
 -- AS MANY WIDGETS
 
@@ -159,3 +149,16 @@ created_refused place path state settings fault free (inr e) = inr (
     ap (λ b. created place path state settings (cond b (Some WidgetExists) None)) free
     ∙ ap (as_outcome (λ text. (one_word path, with_widget place path state text))) e
     )
+
+-- TELLING
+
+abbrev state_in : Outcome State → State → State
+state_in (Ok answer) none = answer.1
+state_in (Err fault) none = none
+
+-- what an option is set to is told, and the site is as it was
+pub told_unchanged : (place : ℕ) (old new : State) (option : NamedOption) (result : Result (List Word) Fault)
+    → Answers (by_widget place old (λ text. option_step text option)) old result new → new ≡ old
+told_unchanged place old new option (Ok words) h =
+    sym (ap (λ (o : Outcome State). state_in o old) h) ∙ ap (λ (text : Edited). record old { text = text }) (text_back old.text place)
+told_unchanged place old new option (Err fault) h = h.0

@@ -48,7 +48,7 @@ use Rattle.rt_editing.proofs.Outcomes.{given}
 use Rattle.rt_holding.specs.declared.held.Offered.{Offered}
 use Rattle.rt_holding.specs.declared.held.Offered.TheVariants as offerings
 use Rattle.rt_holding.specs.declared.receiving.Received.{Received}
-use Rattle.rt_holding.specs.Receiving.{Offers, Receives, State as Holder}
+use Rattle.rt_holding.specs.Receiving.{Behind, Offers, Receives, State as Holder}
 use Rattle.rt_holding.specs.Holding.{Holding, with_taken}
 use Rattle.rt_holding.specs.Taken.{AreTried, IsOffered, all_after, holding}
 use Rattle.rt_peers.specs.SiteStep.{text_limit, text_log}
@@ -74,15 +74,15 @@ abbrev value_of : {S : Type 0} → Result S Fault → S → S
 value_of (Ok value) none = value
 value_of (Err fault) none = none
 
-changed_is : {S : Type 0} (said : Result S Fault) (words : List Word) (new : S) → changed_step said ≡ Ok (words, new) → said ≡ Ok new
+pub changed_is : {S : Type 0} (said : Result S Fault) (words : List Word) (new : S) → changed_step said ≡ Ok (words, new) → said ≡ Ok new
 changed_is {S} (Ok value) words new h = ap (λ (o : Outcome S). Ok (left_by o value)) h
 changed_is (Err fault) words new h = absurd (cc h)
 
-told_is : {T S : Type 0} (f : T → List Word) (old : S) (said : Result T Fault) (words : List Word) (new : S) → told_step f old said ≡ Ok (words, new) → old ≡ new
+pub told_is : {T S : Type 0} (f : T → List Word) (old : S) (said : Result T Fault) (words : List Word) (new : S) → told_step f old said ≡ Ok (words, new) → old ≡ new
 told_is {S = S} f old (Ok value) words new h = ap (λ (o : Outcome S). left_by o old) h
 told_is f old (Err fault) words new h = absurd (cc h)
 
-same_is : {S : Type 0} (told words : List Word) (old new : S) → ◌≡◌ {A = Outcome S} (Ok (told, old)) (Ok (words, new)) → old ≡ new
+pub same_is : {S : Type 0} (told words : List Word) (old new : S) → ◌≡◌ {A = Outcome S} (Ok (told, old)) (Ok (words, new)) → old ≡ new
 same_is {S} told words old new h = ap (λ (o : Outcome S). left_by o old) h
 
 -- WHAT A COMMAND CHANGES: not how many widgets there are; and of operations, the log has those more that the site makes of drafts
@@ -285,18 +285,17 @@ module _ (P : Edited → Type 0) (keeps : (op : Operation) (text : Edited) → P
   offered_keeps limit op offerings.Repeat old held new left h p = subst P (sym h.0) p
   offered_keeps limit op offerings.Held old held new left h p = subst P (sym h.0) p
 
-  offers_keep : (ops : List Operation) (offsets : List ℕ) (ending : Option (Fault × ℕ)) (old : Holder Edited) (received : Received) (new : Holder Edited)
-      → Offers text_log text_limit text_with_new ops offsets ending old received new → P old.site → P new.site
-  offers_keep [] offsets ending old received new h p = subst (λ (s : Holder Edited). P s.site) (sym h.1) p
-  offers_keep (op ∷ ops) [] ending old received new h p = absurd h
-  offers_keep (op ∷ ops) (offset ∷ offsets) ending old received new (inl h) p = subst (λ (s : Holder Edited). P s.site) (sym h.3) p
-  offers_keep (op ∷ ops) (offset ∷ offsets) ending old received new (inr h) p =
-      offers_keep ops offsets ending h.1 h.2 new h.6 (offered_keeps (text_limit old.site) op h.0 old.site old.held h.1.site h.1.held h.4 p)
+  offers_keep : (ops : List Operation) (offsets : List ℕ) (behind : Behind) (old : Holder Edited) (received : Received) (new : Holder Edited)
+      → Offers text_log text_limit text_with_new ops offsets behind old received new → P old.site → P new.site
+  offers_keep [] offsets behind old received new h p = subst (λ (s : Holder Edited). P s.site) (sym h.3) p
+  offers_keep (op ∷ ops) [] behind old received new h p = absurd h
+  offers_keep (op ∷ ops) (offset ∷ offsets) behind old received new (inl h) p = subst (λ (s : Holder Edited). P s.site) (sym h.3) p
+  offers_keep (op ∷ ops) (offset ∷ offsets) behind old received new (inr h) p =
+      offers_keep ops offsets behind h.1 h.2 new h.6 (offered_keeps (text_limit old.site) op h.0 old.site old.held h.1.site h.1.held h.4 p)
 
   pub received_keep : (bytes : List ℕ) (old : Holder Edited) (received : Received) (new : Holder Edited)
       → Receives text_log text_limit text_with_new bytes old received new → P old.site → P new.site
-  received_keep bytes old received new (inl h) p = offers_keep h.0 h.1 h.2 old received new h.4 p
-  received_keep bytes old received new (inr h) p = subst (λ (s : Holder Edited). P s.site) (sym h.1) p
+  received_keep bytes old received new h p = offers_keep h.0 h.1 h.2 old received new h.4 p
 
 -- how many widgets there are
 taken_stays : (old : Viewed) (op : Operation) (text : Edited) → Stay old text.view → Stay old (text_with_new op text).view

@@ -1,6 +1,6 @@
 -- Calls of a site, one after the other, and what they are answered. Where no memory was wanting, the first state and the calls decide all
 -- answers and the state in the end.
-use Rattle.std.specs.Prelude.{◌≡◌, ◌≢◌, ℕ, List, [], ◌∷◌, Result, Ok, Err, IfErr, IfOk, OnErr, OnOk}
+use Rattle.std.specs.Prelude.{◌≡◌, ◌≢◌, ℕ, List, [], ◌∷◌, Result, Err}
 use Rattle.std.specs.List.{Contains}
 use Rattle.rt_stamps.specs.declared.fault.Fault.{Fault}
 use Rattle.rt_stamps.specs.declared.fault.Fault.TheVariants.{NoMemory}
@@ -14,13 +14,13 @@ use Rattle.rt_ops.specs.Operations.{Operation}
 use Rattle.rt_holding.specs.declared.receiving.Received.{Received}
 use Rattle.rt_peers.specs.Lives.{IsOfFile, LivesOn}
 use Rattle.rt_peers.specs.Memory.{GivesFoundMemory, ReceivingFoundMemory, RequestFoundMemory}
-use Rattle.rt_peers.specs.PeerStep.{destroyed}
+use Rattle.rt_peers.specs.PeerStep.{Destroys}
 use Rattle.rt_peers.specs.SiteStep.{AnswersInTurn, Gives, SiteReceives, option_at, peer_step_at, settings_at, step_at}
 use Rattle.rt_peers.specs.State.{State}
 
 -- CALLS
 
--- a call that may change a site, with what it is given; `SiteState` has a call of each name
+-- a call that may change a site, with what it is given; `SiteState` has a call of each name, and `receive_telling` is a Receive
 pub data Event : Type 0 where
   -- command words of the widget of a path
   Command : (path : Word) (words : List Word) → Event
@@ -41,13 +41,6 @@ pub data Event : Type 0 where
 pub data Told : Type 0 where
   Replied : (result : Result (List Word) Fault) → Told
   OfFile : (received : Received) → Told
-
--- what `SiteState::destroy` promises: the widget goes and the reply has no words, or it is refused and the site is as it was
-pub record Destroys (path : Word) (old : State) (result : Result (List Word) Fault) (new : State) : Type 0 where
-  pub reply : IfOk result (λ reply. reply ≡ [])
-  pub ok : OnOk result (destroyed path old ≡ Ok new)
-  pub err : IfErr result (λ fault. destroyed path old ≡ Err fault)
-  pub unchanged : OnErr result (new ≡ old)
 
 -- What an event tells in a state, and the state after it: by the clause `answers` of the call's contract, or by its only ones. Of a
 -- file `OfFile` tells, and of all else `Replied`.

@@ -31,10 +31,14 @@ ReceivesWhole one log =
     (bytes : List ℕ) (received : Received) (new : State) → IsFileOf bytes log → AreApart (log_of one) log → one.held ≡ []
     → SiteReceives bytes one received new → ComesToJoin one log received new
 
+-- the counts of a log reach those that are known
+abbrev pub Reaches : List Operation → (ℕ → ℕ) → Type 0
+Reaches log known = (site : ℕ) → known site ≤ known_end log site
+
 -- It receives of that log only what is past some counts, up to which it knows the operations of each site.
 abbrev pub ReceivesLacking : State → List Operation → Type 0
 ReceivesLacking one log =
-    (known : ℕ → ℕ) (bytes : List ℕ) (received : Received) (new : State) → ((site : ℕ) → known site ≤ known_end (log_of one) site)
+    (known : ℕ → ℕ) (bytes : List ℕ) (received : Received) (new : State) → Reaches (log_of one) known
     → IsFileOf bytes (since known log) → AreApart (log_of one) log → one.held ≡ []
     → SiteReceives bytes one received new → ComesToJoin one log received new
 
@@ -77,10 +81,6 @@ abbrev pub AgreeOnceExchanged : {Shown : Type 0} → (State → Shown) → State
 AgreeOnceExchanged shown one other left_one left_other =
     (file_one file_other : List ℕ) → IsFileOf file_one (log_of one) → IsFileOf file_other (log_of other)
     → ReceivesAll file_other one left_one → ReceivesAll file_one other left_other → shown left_one ≡ shown left_other
-
--- the counts of a log reach those that are known
-abbrev pub Reaches : List Operation → (ℕ → ℕ) → Type 0
-Reaches log known = (site : ℕ) → known site ≤ known_end log site
 
 -- so do two that are apart and receive of each other's log what is past counts up to which they know the operations of each site
 abbrev pub AgreeOnceCaughtUp : {Shown : Type 0} → (State → Shown) → State → State → State → State → Type 0

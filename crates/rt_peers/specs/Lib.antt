@@ -9,6 +9,7 @@ pub mod Peers
 pub mod SiteStep
 pub mod State
 pub mod Step
+pub mod Telling
 pub mod ViewStep
 pub use Rattle.rt_stamps.specs.Outcomes
 pub use Rattle.rt_stamps.specs.Places
@@ -24,3 +25,5 @@ pub use Rattle.rt_editing.specs.Edits
 pub use Rattle.rt_editing.specs.Reverts
 pub use Rattle.rt_holding.specs.Holding
 pub use Rattle.rt_holding.specs.Receiving
+pub use Rattle.rt_changes.specs.Replays
+pub use Rattle.rt_changes.specs.Telling as ChangeTelling

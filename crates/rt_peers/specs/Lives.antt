@@ -1,15 +1,14 @@
 -- What becomes of the operations of a site from its beginning on, call by call, and which of them came to it.
-use Rattle.std.specs.Prelude.{◌≡◌, ◌⊎◌, ℕ, ◌<◌, List, [], ◌++◌, Option}
-use Rattle.rt_stamps.specs.declared.fault.Fault.{Fault}
+use Rattle.std.specs.Prelude.{◌≡◌, ◌⊎◌, ℕ, ◌<◌, List, [], ◌++◌}
 use Rattle.rt_ops.specs.Operations.{Operation}
-use Rattle.rt_ops.specs.Reading.{Reads}
-use Rattle.rt_oplog.specs.Logs.{Has}
+use Rattle.rt_ops.specs.Reading.{IsBegun}
+use Rattle.rt_oplog.specs.Logs.{AreOf, Has}
 use Rattle.rt_rga.specs.Drafts.{operations_of}
 use Rattle.rt_rga.specs.Histories.{IsHistory}
 use Rattle.rt_editing.specs.Edits.{text_with_new}
 use Rattle.rt_holding.specs.declared.receiving.Received.{Received}
 use Rattle.rt_holding.specs.Came.{came_with}
-use Rattle.rt_holding.specs.Runs.{AreFree, AreOf, IsGreatestHistoryWithin, IsHolding, NoneCouldBeTaken}
+use Rattle.rt_holding.specs.Runs.{AreFree, IsGreatestHistoryWithin, IsHolding, NoneCouldBeTaken}
 use Rattle.rt_peers.specs.SiteStep.{KeepsOperations, MakesAndTries, SiteReceives, limit_of, log_of, site_of, text_limit, text_log}
 use Rattle.rt_peers.specs.State.{State, holding_of, new_state}
 
@@ -38,9 +37,9 @@ pub data Lives (site limit : ℕ) : State → List Operation → Type 0 where
 abbrev pub KeepsOrMakes : State → State → Type 0
 KeepsOrMakes old new = KeepsOperations old new ⊎ ((mid : State) × MakesAndTries old mid new)
 
--- an operation is one of those that the bytes of a file are read as, up to their first fault
+-- an operation is one of those with whose records the bytes of a file begin
 abbrev pub IsOfFile : List ℕ → Operation → Type 0
-IsOfFile bytes op = (ops : List Operation) × (offsets : List ℕ) × (ending : Option (Fault × ℕ)) × Reads bytes ops offsets ending × Has ops op
+IsOfFile bytes op = (ops : List Operation) × IsBegun bytes ops × Has ops op
 
 -- Some calls lead from one state to another. What came to the site with them are operations of its own number, and others, of which
 -- something is known.

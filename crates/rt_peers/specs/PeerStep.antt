@@ -1,6 +1,6 @@
 -- What is asked of the widgets of a site by a command of one of them, and by the line `destroy PATH` (Tk text manual, "PEER
 -- WIDGETS"): the reply and the site after it, or why it is refused.
-use Rattle.std.specs.Prelude.{ℕ, not, nat_lt, List, filter, length, Option, Some, None, Result, Ok, Err, if◌then◌else◌}
+use Rattle.std.specs.Prelude.{◌≡◌, ℕ, not, nat_lt, List, [], filter, length, Option, Some, None, Result, Ok, Err, IfErr, IfOk, OnErr, OnOk, if◌then◌else◌}
 use Rattle.std.specs.Str.{bytes_eq}
 use Rattle.rt_stamps.specs.declared.fault.Fault.{Fault}
 use Rattle.rt_stamps.specs.declared.fault.Fault.TheVariants.{LastWidget, NoWidget, WidgetExists}
@@ -61,3 +61,10 @@ destroyed_at (Some place) state = unless (last_check state.paths) (without_widge
 -- the widget of a path is no longer there
 abbrev pub destroyed : Word → State → Result State Fault
 destroyed path state = destroyed_at (place_of path state.paths) state
+
+-- The widget of a path goes, and the reply has no words; or it is refused, and the site is as it was.
+pub record Destroys (path : Word) (old : State) (result : Result (List Word) Fault) (new : State) : Type 0 where
+  pub reply : IfOk result (λ reply. reply ≡ [])
+  pub ok : OnOk result (destroyed path old ≡ Ok new)
+  pub err : IfErr result (λ fault. destroyed path old ≡ Err fault)
+  pub unchanged : OnErr result (new ≡ old)

@@ -5,7 +5,7 @@ ghost use Rattle.rt_stamps.specs.Outcomes.{Answers};
 ghost use Rattle.rt_stamps.specs.Words.{Word};
 ghost use Rattle.rt_rga.specs.Texts.{tagged_text};
 ghost use Rattle.rt_editing.specs.Edited.{Edited};
-ghost use Rattle.rt_holding.specs.Runs.{AreOf};
+ghost use Rattle.rt_oplog.specs.Logs.{AreOf};
 ghost use Rattle.rt_peer_requests.specs.declared.options.NamedOption.{NamedOption};
 ghost use Rattle.rt_peer_requests.specs.declared.peers.PeerRequest.{PeerRequest};
 ghost use Rattle.rt_peer_requests.specs.declared.settings.WidgetSettings.{WidgetSettings};

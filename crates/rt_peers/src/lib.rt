@@ -10,8 +10,11 @@ pub mod reply;
 mod sending;
 pub mod site;
 mod text;
+pub mod told;
 mod viewer;
 
 pub use reply::Reply;
+pub use rt_changes::ToldChange;
 pub use rt_holding::Received;
 pub use site::SiteState;
+pub use told::ReceivedChanges;

@@ -9,6 +9,7 @@ mod exchange;
 mod marking;
 mod options;
 mod peers;
+mod telling;
 mod undoing;
 
 use crate::reply::Reply;

@@ -1,6 +1,7 @@
 // Files that are read, joined and shown.
 ghost use Rattle.std.specs.Prelude.{◌≤◌, length, IfOk};
 ghost use Rattle.rt_stamps.specs.declared.limits.TheConstants.{MOST_BYTES};
+ghost use Rattle.rt_stamps.specs.Streams.{FILE_BOUNDS};
 ghost use Rattle.rt_ops.specs.Intake.{ReadsWhole};
 ghost use Rattle.rt_files.specs.Files.{JoinsFiles, ShowsFile};
 
@@ -12,10 +13,7 @@ use std::alloc::Global;
 /// Reads all bytes of a file, to its end. `ReadFault` where a read failed, or the file has more than
 /// `MOST_BYTES` bytes; `NoMemory` where a growth was refused.
 pub fn read_bytes<R: Source>(alloc: Global, file: &mut R) -> Result<Vec<u8>, Fault>
-    ensures read { ReadsWhole
-        (record { calls = R.calls file.old; failures = R.failures file.old; bytes = R.remaining file.old })
-        (record { calls = R.calls file.new; failures = R.failures file.new; bytes = R.remaining file.new })
-        result }
+    ensures read { ReadsWhole FILE_BOUNDS (R.stream file.old) (R.stream file.new) result }
     ensures within { IfOk result (λ bytes. length bytes.items ≤ MOST_BYTES) }
 {
     read_whole(alloc, file)
@@ -29,12 +27,7 @@ pub fn join_readers<A: Source, B: Source>(
     first: &mut A,
     second: &mut B,
 ) -> Result<Vec<u8>, JoinFault>
-    ensures joined { JoinsFiles
-        (record { calls = A.calls first.old; failures = A.failures first.old; bytes = A.remaining first.old })
-        (record { calls = A.calls first.new; failures = A.failures first.new; bytes = A.remaining first.new })
-        (record { calls = B.calls second.old; failures = B.failures second.old; bytes = B.remaining second.old })
-        (record { calls = B.calls second.new; failures = B.failures second.new; bytes = B.remaining second.new })
-        result }
+    ensures joined { JoinsFiles (A.stream first.old) (A.stream first.new) (B.stream second.old) (B.stream second.new) result }
 {
     join_files(alloc, first, second)
 }
@@ -46,12 +39,7 @@ pub fn show_lines<R: Source, W: Sink>(
     file: &mut R,
     out: &mut W,
 ) -> Result<(), (Fault, u64)>
-    ensures shown { ShowsFile
-        (record { calls = R.calls file.old; failures = R.failures file.old; bytes = R.remaining file.old })
-        (record { calls = R.calls file.new; failures = R.failures file.new; bytes = R.remaining file.new })
-        (record { calls = W.calls out.old; failures = W.failures out.old; bytes = W.contents out.old })
-        (record { calls = W.calls out.new; failures = W.failures out.new; bytes = W.contents out.new })
-        result }
+    ensures shown { ShowsFile (R.stream file.old) (R.stream file.new) (W.stream out.old) (W.stream out.new) result }
 {
     show_file(alloc, file, out)
 }

@@ -1,7 +1,7 @@
 // Laws of replicas, each the contract of a function that changes nothing.
 ghost use Rattle.std.specs.Prelude.{◌≡◌};
 ghost use Rattle.rt_rga.specs.Texts.{tagged_text};
-ghost use Rattle.rt_holding.specs.Runs.{AreOf};
+ghost use Rattle.rt_oplog.specs.Logs.{AreOf};
 
 use crate::HoldingReplica;
 use rt_store::TextStore;

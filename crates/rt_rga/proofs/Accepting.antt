@@ -6,7 +6,7 @@ use Rattle.std.specs.List.{AllByRecursion, list_any, list_all}
 use Rattle.rt_stamps.specs.declared.stamp.Stamp.{Stamp}
 use Rattle.rt_stamps.specs.declared.fault.Fault.TheVariants.{BadStamp, Conflict, NotYet, BadTarget}
 use Rattle.rt_ops.specs.Operations.{Operation, Body, Insert, Delete, Tag, last_count, named, has_bad_stamp}
-use Rattle.rt_oplog.specs.Logs.{Has, IsFalling, IsLog, clash, holds, known_end, pushed, reaches_into, same_operation, with_operation}
+use Rattle.rt_oplog.specs.Logs.{AreOf, Has, IsFalling, IsLog, clash, holds, known_end, pushed, reaches_into, same_operation, with_operation}
 use Rattle.rt_ops.specs.Rules.{keeps_rules}
 use Rattle.rt_oplog.proofs.Sets.{any_at, any_from, clash_self, clash_sym, has_held, held_from, none_at as no_op_at, operation_sym, same_set}
 use Rattle.rt_rga.specs.Histories.{has_character, may_name, is_known, Continues, IsHistory}
@@ -213,7 +213,7 @@ conflict_answer set op h a n =
       λ k. let d : nat_lt op.prev (known_end set op.site) ≡ true = c ∙ k in rw (a, b, d) refl,
     )
 
-pub one_list : (one other : List Operation) → IsHistory one → IsHistory other → ((op : Operation) → Has one op ↔ Has other op) → one ≡ other
+pub one_list : (one other : List Operation) → IsHistory one → IsHistory other → AreOf one other → one ≡ other
 one_list one other h k f = same_set one other (falling one h) (falling other k) f
 
 -- a log takes an operation that continues it

@@ -4,7 +4,7 @@ use Rattle.std.proofs.lemmas.Bool.Decides.{nat_tests}
 use Rattle.rt_stamps.specs.declared.limits.TheConstants.{GREATEST_COUNT}
 use Rattle.rt_stamps.specs.declared.stamp.Stamp.{Stamp}
 use Rattle.rt_ops.specs.Operations.{Operation, Body, Insert, Delete, Tag, last_of, stamp_of}
-use Rattle.rt_oplog.specs.Logs.{Has, with_operation}
+use Rattle.rt_oplog.specs.Logs.{AreOf, Has, with_operation}
 use Rattle.rt_oplog.proofs.Sets.{with_has}
 use Rattle.rt_rga.specs.Answers.{Answer, New, Repeat, Refused, answer_to, answer_within, set_after}
 use Rattle.rt_rga.specs.Cells.{cells_of}
@@ -138,6 +138,6 @@ all_in site limit (request ∷ requests) set x i = all_in site limit requests (a
 
 -- two sites that have the same operations
 pub all_agree : (site other limit most : ℕ) (asked more : List Request) → 0 < site → 0 < other → AllMayBeAsked site limit [] asked → AllMayBeAsked other most [] more
-    → ((op : Operation) → Has (after_requests site limit asked []) op ↔ Has (after_requests other most more []) op)
+    → AreOf (after_requests site limit asked []) (after_requests other most more [])
     → cells_of (after_requests site limit asked []) ≡ cells_of (after_requests other most more [])
 all_agree site other limit most asked more p q m n same = ap cells_of (one_list (after_requests site limit asked []) (after_requests other most more []) (all_history site limit asked [] p tt m) (all_history other most more [] q tt n) same)

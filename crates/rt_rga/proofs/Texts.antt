@@ -10,7 +10,7 @@ use Rattle.rt_tags.specs.Tags.{HaveNoRepeats, is_listed}
 use Rattle.rt_tags.specs.Writers.{is_shared, state_after}
 use Rattle.rt_tags.proofs.Commuting.{on_is_listed, on_once}
 use Rattle.rt_ops.specs.Operations.{Operation, Name}
-use Rattle.rt_oplog.specs.Logs.{Has}
+use Rattle.rt_oplog.specs.Logs.{AreOf}
 use Rattle.rt_rga.specs.Reading.{Character, reading_by_stamp}
 use Rattle.rt_rga.specs.Histories.{IsHistory, characters}
 use Rattle.rt_rga.specs.Cells.{cell_in, cells_of, stamped_writes_on, writes_on}
@@ -26,11 +26,11 @@ use Rattle.rt_rga.proofs.Writes.{state_sorted}
 -- WHAT TWO REPLICAS SHOW
 
 pub shown_alike : (one other : List Operation) (table tags : TagStates) (kept more : List (Cell ℕ)) → IsReplica one table kept → IsReplica other tags more
-    → ((op : Operation) → Has one op ↔ Has other op) → map (shown table) kept ≡ map (shown tags) more
+    → AreOf one other → map (shown table) kept ≡ map (shown tags) more
 shown_alike one other table tags kept more r q same = r.cells ∙ ap cells_of (one_list one other r.history q.history same) ∙ sym q.cells
 
 pub text_alike : (one other : List Operation) (table tags : TagStates) (kept more : List (Cell ℕ)) → IsReplica one table kept → IsReplica other tags more
-    → ((op : Operation) → Has one op ↔ Has other op) → tagged_text (map (shown table) kept) ≡ tagged_text (map (shown tags) more)
+    → AreOf one other → tagged_text (map (shown table) kept) ≡ tagged_text (map (shown tags) more)
 text_alike one other table tags kept more r q same = ap tagged_text (shown_alike one other table tags kept more r q same)
 
 -- a text with its tags has the characters of the text

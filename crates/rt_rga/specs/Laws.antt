@@ -16,7 +16,7 @@ use Rattle.rt_store.specs.declared.cell.Cell.{Cell}
 use Rattle.rt_store.specs.Cells.{after_element, cells_from, IsPlaced, put_at, skip_from, stamps_of}
 use Rattle.rt_store.specs.Tagged.{AreStates}
 use Rattle.rt_ops.specs.Operations.{Body, Operation, Insert, Delete, Tag, Name, has_bad_stamp, last_of, stamp_of, stamps_in, stamps_of_span}
-use Rattle.rt_oplog.specs.Logs.{Has, clash, joined, known_end, union, with_operation}
+use Rattle.rt_oplog.specs.Logs.{AreOf, Has, clash, joined, known_end, union, with_operation}
 use Rattle.rt_ops.specs.Rules.{keeps_rules}
 use Rattle.rt_rga.specs.Reading.{reading}
 use Rattle.rt_rga.specs.Histories.{Continues, IsHistory, characters, greatest_last_count, has_character, inserted, is_known}
@@ -159,7 +159,7 @@ abbrev pub SitesAgree : Type 0
 SitesAgree =
     (site other limit most : ℕ) (asked more : List Request) → 0 < site → 0 < other
     → AllMayBeAsked site limit [] asked → AllMayBeAsked other most [] more
-    → ((op : Operation) → Has (after_requests site limit asked []) op ↔ Has (after_requests other most more []) op)
+    → AreOf (after_requests site limit asked []) (after_requests other most more [])
     → cells_of (after_requests site limit asked []) ≡ cells_of (after_requests other most more [])
 
 -- Two histories, no operation of one of which clashes with one of the other.
@@ -260,13 +260,13 @@ CharactersAppend = (drafts more : List Body) → characters_in_all (drafts ++ mo
 abbrev pub EqualLogsShowEqualCells : Type 0
 EqualLogsShowEqualCells =
     (one other : List Operation) (table tags : TagStates) (kept more : List (Cell ℕ))
-    → IsReplica one table kept → IsReplica other tags more → ((op : Operation) → Has one op ↔ Has other op)
+    → IsReplica one table kept → IsReplica other tags more → AreOf one other
     → map (shown table) kept ≡ map (shown tags) more
 
 abbrev pub EqualLogsShowEqualText : Type 0
 EqualLogsShowEqualText =
     (one other : List Operation) (table tags : TagStates) (kept more : List (Cell ℕ))
-    → IsReplica one table kept → IsReplica other tags more → ((op : Operation) → Has one op ↔ Has other op)
+    → IsReplica one table kept → IsReplica other tags more → AreOf one other
     → tagged_text (map (shown table) kept) ≡ tagged_text (map (shown tags) more)
 
 abbrev pub InsertIsKept : Type 0

@@ -55,7 +55,8 @@ after_requests site limit (request ∷ requests) set = after_requests site limit
 abbrev pub MayBeMade : ℕ → List Operation → List Body → Type 0
 MayBeMade site set [] = Unit {0}
 MayBeMade site set (draft ∷ drafts) =
-    (keeps_rules draft ≡ true) × (list_all (is_known set draft) (named draft) ≡ true) × MayBeMade site (with_operation (next_operation site draft set) set) drafts
+    (keeps_rules draft ≡ true) × (list_all (is_known set draft) (named draft) ≡ true)
+    × MayBeMade site (with_operation (next_operation site draft set) set) drafts
 
 -- an offered operation keeps the rules too, and may otherwise be any
 abbrev pub MayBeAsked : ℕ → List Operation → Request → Type 0

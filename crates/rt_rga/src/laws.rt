@@ -8,7 +8,7 @@ ghost use Rattle.rt_tags.specs.Tags.{HaveNoRepeats};
 ghost use Rattle.rt_store.specs.declared.cell.Cell.{Cell};
 ghost use Rattle.rt_store.specs.Cells.{AreDistinct, EndsFinal, stamps_of, text_of};
 ghost use Rattle.rt_ops.specs.Operations.{Operation, last_count};
-ghost use Rattle.rt_oplog.specs.Logs.{Has, IsLog, joined, with_operation};
+ghost use Rattle.rt_oplog.specs.Logs.{AreOf, Has, IsLog, joined, with_operation};
 ghost use Rattle.rt_ops.specs.Rules.{keeps_rules};
 ghost use Rattle.rt_rga.specs.Reading.{Character, IsReading, reading, reading_by_stamp};
 ghost use Rattle.rt_rga.specs.Histories.{Continues, IsHistory, characters, greatest_last_count};
@@ -67,8 +67,7 @@ pub fn orders()
     ensures in_time { InTimeIsTaken }
     ensures within { InTimeIsTakenWithin }
     ensures by_stamp { (set : List Operation) → IsHistory set → ComeInTime set [] (reverse set) }
-    ensures one_list { (one other : List Operation) → IsHistory one → IsHistory other → ((op : Operation) → Has one op ↔ Has other op) → one
-        ≡ other }
+    ensures one_list { (one other : List Operation) → IsHistory one → IsHistory other → AreOf one other → one ≡ other }
 {}
 
 /// Whatever is asked of a site's replica, offers and operations of its own, with refusals and repeats
@@ -191,9 +190,8 @@ pub fn agreement()
 /// Replicas whose logs have the same operations have equal cells, and so equal text with equal tags, over
 /// whichever stores.
 pub fn replicas_agree<S: TextStore, T: TextStore>(one: &Replica<S>, other: &Replica<T>)
-    ensures cells { ((op : Operation) → Has one.now.log op ↔ Has other.now.log op) → one.now.cells ≡ other.now.cells }
-    ensures text { ((op : Operation) → Has one.now.log op ↔ Has other.now.log op) → tagged_text one.now.cells
-        ≡ tagged_text other.now.cells }
+    ensures cells { AreOf one.now.log other.now.log → one.now.cells ≡ other.now.cells }
+    ensures text { AreOf one.now.log other.now.log → tagged_text one.now.cells ≡ tagged_text other.now.cells }
 {
     let _ = one.log();
     let _ = one.store();

@@ -4,4 +4,4 @@
 pub mod ends;
 pub mod files;
 
-pub use ends::{Output, Pieces};
+pub use ends::{Output, Pieces, Repeated};

@@ -5,28 +5,29 @@ use Rattle.std.specs.Io.KnownBytes.{Consumes, Keeps, IsAtEnd}
 use Rattle.std.proofs.lemmas.List.{length-take, length-append}
 use Rattle.rt_stamps.specs.declared.fault.Fault.{Fault}
 use Rattle.rt_stamps.specs.declared.fault.Fault.TheVariants.{NoMemory, ReadFault, WriteFault}
-use Rattle.rt_stamps.specs.declared.limits.TheConstants.{MOST_BYTES, MOST_READS, PIECE_BYTES}
+use Rattle.rt_stamps.specs.declared.limits.Bounds.{Bounds}
+use Rattle.rt_stamps.specs.declared.limits.TheConstants.{PIECE_BYTES}
 use Rattle.rt_script.specs.Lines.{cut, complete_of, rest_of, last_of, lines_of}
 use Rattle.rt_stamps.specs.Words.{Word}
 use Rattle.rt_stamps.specs.Streams.{Stream}
 use Rattle.rt_script.specs.declared.answer.Answer.{Answer}
-use Rattle.rt_script.specs.Run.{Ran, RanPast, RanUnwritten, Ends}
+use Rattle.rt_script.specs.Run.{Point, IsReadUp, Ran, RanFront, RanPast, RanUnwritten, StopsInLast, Ends}
 use Rattle.rt_script.specs.Pieces.{kept, RanLines}
 use Rattle.rt_script.proofs.LinesLaws.{complete_append, rest_append, cut_rest}
 use Rattle.rt_script.proofs.RunLaws.{ran_then, unwritten_then, lines_append}
 
 -- a run goes on: what was read of the script, and that its complete lines were run
-pub record Goes {S : Type 0} (gives : S → List Word → Answer → S → Type 0) (old new : S) (script left before after : Stream) (pending : List ℕ) (room turns : ℕ) : Type 0 where
+pub record Goes {S : Type 0} (gives : S → List Word → Answer → S → Type 0) (bounds : Bounds) (old new : Point S) (script left : Stream) (pending : List ℕ) (room turns : ℕ) : Type 0 where
   pub read : List ℕ
   pub consumes : Consumes script.bytes left.bytes read
-  pub ran : Ran gives old new before.bytes after.bytes (complete_of read)
+  pub ran : Ran gives old new (complete_of read)
   pub rest : pending ≡ kept (rest_of read)
-  pub bounded : length read + room ≡ MOST_BYTES
+  pub bounded : length read + room ≡ bounds.bytes
   pub calls : left.calls ≡ script.calls + turns
   -- each read gave a byte
   pub some : turns ≤ length read
   pub reads : left.failures ≡ script.failures
-  pub writes : after.failures ≡ before.failures
+  pub writes : new.out.failures ≡ old.out.failures
 
 consumes_keeps : (a b c : Option (List ℕ)) (xs : List ℕ) → Consumes a b xs → Keeps b c → Consumes a c xs
 consumes_keeps None b c xs h k = tt
@@ -44,24 +45,27 @@ consumes_then (Some x) (Some y) (Some z) xs ys h k = h ∙ ap (λ v. xs ++ v) k 
 length_front : (n : ℕ) (buf : List ℕ) → n ≤ length buf → length (take n buf) ≡ n
 length_front n buf h = omega (arith, length-take n buf)
 
+length_piece : (read buf : List ℕ) (n : ℕ) → n ≤ length buf → length (read ++ take n buf) ≡ length read + n
+length_piece read buf n h = omega (arith, length-append read (take n buf), length_front n buf h)
+
 -- a piece was read, and the lines that it completes were run
-pub goes_more : {S : Type 0} (gives : S → List Word → Answer → S → Type 0) (old mid new : S) (script middle left before between after : Stream) (kept_old kept_new : List ℕ) (n : ℕ) (buf : List ℕ) (room turns : ℕ)
-    → Goes gives old mid script middle before between kept_old room turns
+pub goes_more : {S : Type 0} (gives : S → List Word → Answer → S → Type 0) (bounds : Bounds) (old mid new : Point S) (script middle left : Stream) (kept_old kept_new : List ℕ) (n : ℕ) (buf : List ℕ) (room turns : ℕ)
+    → Goes gives bounds old mid script middle kept_old room turns
     → Consumes middle.bytes left.bytes (take n buf) → n ≤ length buf → n ≤ room → n ≢ 0 → left.calls ≡ middle.calls + 1 → left.failures ≡ middle.failures + 0
-    → ((rest : List ℕ) → cut rest ≡ ([], rest) → kept_old ≡ kept rest → Ran gives mid new between.bytes after.bytes (complete_of (rest ++ take n buf)) × (after.failures ≡ between.failures))
+    → ((rest : List ℕ) → cut rest ≡ ([], rest) → kept_old ≡ kept rest → Ran gives mid new (complete_of (rest ++ take n buf)) × (new.out.failures ≡ mid.out.failures))
     → ((rest : List ℕ) → cut rest ≡ ([], rest) → kept_old ≡ kept rest → kept_new ≡ kept (rest_of (rest ++ take n buf)))
-    → Goes gives old new script left before after kept_new (room - n) (turns + 1)
-goes_more gives old mid new script middle left before between after kept_old kept_new n buf room turns g eaten within fits given calls failures ran rest =
+    → Goes gives bounds old new script left kept_new (room - n) (turns + 1)
+goes_more gives bounds old mid new script middle left kept_old kept_new n buf room turns g eaten within fits given calls failures ran rest =
     let piece = take n buf in
     let more = ran (rest_of g.read) (cut_rest g.read) g.rest in
     record {
       read = g.read ++ piece;
       consumes = consumes_then _ _ _ g.read piece g.consumes eaten;
-      ran = rw (complete_append g.read piece) (ran_then gives old mid new _ _ _ _ _ g.ran more.0);
+      ran = rw (complete_append g.read piece) (ran_then gives old mid new _ _ g.ran more.0);
       rest = rest (rest_of g.read) (cut_rest g.read) g.rest ∙ ap kept (sym (rest_append g.read piece));
-      bounded = let b = g.bounded in omega (arith, length-append g.read piece, length_front n buf within);
+      bounded = let b = g.bounded in omega (arith, length_piece g.read buf n within);
       calls = let b = g.calls in omega arith;
-      some = let b = g.some in omega (arith, given, length-append g.read piece, length_front n buf within);
+      some = let b = g.some in omega (arith, given, length_piece g.read buf n within);
       reads = failures ∙ add-zero _ ∙ g.reads;
       writes = more.1 ∙ g.writes;
     }
@@ -91,12 +95,12 @@ write_not_read e = cc
 write_not_memory : Is WriteFault ≡ Is NoMemory → ⊥
 write_not_memory e = cc
 
--- the run ends with what was read before, since a read failed or a bound was passed
-ends_unread : {S : Type 0} (gives : S → List Word → Answer → S → Type 0) (old new : S) (script left before after : Stream) (read over : List ℕ)
-    → Consumes script.bytes left.bytes (read ++ over) → length read ≤ MOST_BYTES → (over ≢ [] → length read ≡ MOST_BYTES) → left.calls ≤ script.calls + MOST_READS → Ran gives old new before.bytes after.bytes (complete_of read)
-    → ((left.failures ≡ script.failures + 1) ⊎ (over ≢ []))
-    → after.failures ≡ before.failures → Ends gives old new script left before after (Some ReadFault)
-ends_unread gives old new script left before after read over eaten few past reads ran why same = record {
+-- the run ends with what was read before, since a read failed, a byte came past the bound, or no read is left
+ends_unread : {S : Type 0} (gives : S → List Word → Answer → S → Type 0) (bounds : Bounds) (old new : Point S) (script left : Stream) (read over : List ℕ)
+    → Consumes script.bytes left.bytes (read ++ over) → length read ≤ bounds.bytes → (over ≢ [] → length read ≡ bounds.bytes) → left.calls ≤ script.calls + bounds.reads → Ran gives old new (complete_of read)
+    → ((left.failures ≡ script.failures + 1) ⊎ (over ≢ []) ⊎ IsReadUp bounds script left read)
+    → new.out.failures ≡ old.out.failures → Ends gives bounds old new script left (Some ReadFault)
+ends_unread gives bounds old new script left read over eaten few past reads ran why same = record {
   read = read;
   over = over;
   consumes = eaten;
@@ -115,37 +119,42 @@ ends_unread gives old new script left before after read over eaten few past read
 }
 
 -- a read failed
-pub ends_failed : {S : Type 0} (gives : S → List Word → Answer → S → Type 0) (old new : S) (script middle left before after : Stream) (pending : List ℕ) (room turns : ℕ)
-    → Goes gives old new script middle before after pending room turns → turns < MOST_READS
-    → Keeps middle.bytes left.bytes → left.calls ≡ middle.calls + 1 → left.failures ≡ middle.failures + 1 → Ends gives old new script left before after (Some ReadFault)
-ends_failed gives old new script middle left before after pending room turns g few keeps calls failures =
+pub ends_failed : {S : Type 0} (gives : S → List Word → Answer → S → Type 0) (bounds : Bounds) (old new : Point S) (script middle left : Stream) (pending : List ℕ) (room turns : ℕ)
+    → Goes gives bounds old new script middle pending room turns → turns < bounds.reads
+    → Keeps middle.bytes left.bytes → left.calls ≡ middle.calls + 1 → left.failures ≡ middle.failures + 1 → Ends gives bounds old new script left (Some ReadFault)
+ends_failed gives bounds old new script middle left pending room turns g few keeps calls failures =
     let bounded = g.bounded in
     let called = g.calls in
     let failed : left.failures ≡ script.failures + 1 = failures ∙ ap (λ n. n + 1) g.reads in
-    ends_unread gives old new script left before after g.read [] (rw (append-nil g.read) (consumes_keeps _ _ _ g.read g.consumes keeps)) (omega arith) (λ n. absurd (n refl)) (omega arith) g.ran (inl failed) g.writes
+    ends_unread gives bounds old new script left g.read [] (rw (append-nil g.read) (consumes_keeps _ _ _ g.read g.consumes keeps)) (omega arith) (λ n. absurd (n refl)) (omega arith) g.ran (inl failed) g.writes
 
 -- the bound of bytes was passed
-pub ends_over : {S : Type 0} (gives : S → List Word → Answer → S → Type 0) (old new : S) (script middle left before after : Stream) (pending : List ℕ) (n : ℕ) (buf : List ℕ) (room turns : ℕ)
-    → Goes gives old new script middle before after pending room turns → turns < MOST_READS → room ≡ 0
-    → Consumes middle.bytes left.bytes (take n buf) → n ≤ length buf → n ≢ 0 → left.calls ≡ middle.calls + 1 → Ends gives old new script left before after (Some ReadFault)
-ends_over gives old new script middle left before after pending n buf room turns g few full eaten within some calls =
+pub ends_over : {S : Type 0} (gives : S → List Word → Answer → S → Type 0) (bounds : Bounds) (old new : Point S) (script middle left : Stream) (pending : List ℕ) (n : ℕ) (buf : List ℕ) (room turns : ℕ)
+    → Goes gives bounds old new script middle pending room turns → turns < bounds.reads → room ≡ 0
+    → Consumes middle.bytes left.bytes (take n buf) → n ≤ length buf → n ≢ 0 → left.calls ≡ middle.calls + 1 → Ends gives bounds old new script left (Some ReadFault)
+ends_over gives bounds old new script middle left pending n buf room turns g few full eaten within some calls =
     let bounded = g.bounded in
     let called = g.calls in
-    let all : length g.read ≡ MOST_BYTES = omega arith in
+    let all : length g.read ≡ bounds.bytes = omega arith in
     let over : take n buf ≢ [] = λ e. some (sym (length_front n buf within) ∙ ap length e) in
-    ends_unread gives old new script left before after g.read (take n buf) (consumes_then _ _ _ g.read (take n buf) g.consumes eaten) (omega arith) (λ n. all) (omega arith) g.ran (inr over) g.writes
+    ends_unread gives bounds old new script left g.read (take n buf) (consumes_then _ _ _ g.read (take n buf) g.consumes eaten) (omega arith) (λ n. all) (omega arith) g.ran (inr (inl over)) g.writes
 
--- the bound of reads isn't reached
-pub ends_turns : {S : Type 0} (gives : S → List Word → Answer → S → Type 0) (old new : S) (script left before after : Stream) (pending : List ℕ) (room turns : ℕ)
-    → Goes gives old new script left before after pending room turns → turns ≡ MOST_READS → Ends gives old new script left before after (Some ReadFault)
-ends_turns gives old new script left before after pending room turns g all = absurd (omega (arith, all, g.some, g.bounded))
+-- no read is left, and the end wasn't found
+pub ends_turns : {S : Type 0} (gives : S → List Word → Answer → S → Type 0) (bounds : Bounds) (old new : Point S) (script left : Stream) (pending : List ℕ) (room turns : ℕ)
+    → Goes gives bounds old new script left pending room turns → turns ≡ bounds.reads → Ends gives bounds old new script left (Some ReadFault)
+ends_turns gives bounds old new script left pending room turns g all =
+    let bounded = g.bounded in
+    let called = g.calls in
+    let some = g.some in
+    ends_unread gives bounds old new script left g.read [] (rw (append-nil g.read) g.consumes) (omega arith) (λ n. absurd (n refl)) (omega arith) g.ran
+    (inr (inr (omega arith, omega arith))) g.writes
 
 -- a write failed
-ends_unwritten : {S : Type 0} (gives : S → List Word → Answer → S → Type 0) (old new : S) (script left before after : Stream) (read : List ℕ)
-    → Consumes script.bytes left.bytes read → length read ≤ MOST_BYTES → left.calls ≤ script.calls + MOST_READS
-    → RanUnwritten gives old new before.bytes after.bytes (complete_of read) ⊎ (IsAtEnd left.bytes × RanUnwritten gives old new before.bytes after.bytes (lines_of read))
-    → after.failures ≡ before.failures + 1 → left.failures ≡ script.failures → Ends gives old new script left before after (Some WriteFault)
-ends_unwritten gives old new script left before after read eaten few reads ran why same = record {
+ends_unwritten : {S : Type 0} (gives : S → List Word → Answer → S → Type 0) (bounds : Bounds) (old new : Point S) (script left : Stream) (read : List ℕ)
+    → Consumes script.bytes left.bytes read → length read ≤ bounds.bytes → left.calls ≤ script.calls + bounds.reads
+    → RanUnwritten gives old new (complete_of read) ⊎ (IsAtEnd left.bytes × RanUnwritten gives old new (lines_of read))
+    → new.out.failures ≡ old.out.failures + 1 → left.failures ≡ script.failures → Ends gives bounds old new script left (Some WriteFault)
+ends_unwritten gives bounds old new script left read eaten few reads ran why same = record {
   read = read;
   over = [];
   consumes = rw (append-nil read) eaten;
@@ -164,10 +173,10 @@ ends_unwritten gives old new script left before after read eaten few reads ran w
 }
 
 -- a line could not be stored
-ends_unstored : {S : Type 0} (gives : S → List Word → Answer → S → Type 0) (old new : S) (script left before after : Stream) (read : List ℕ)
-    → Consumes script.bytes left.bytes read → length read ≤ MOST_BYTES → left.calls ≤ script.calls + MOST_READS → RanPast gives old new before.bytes after.bytes read
-    → after.failures ≡ before.failures → left.failures ≡ script.failures → Ends gives old new script left before after (Some NoMemory)
-ends_unstored gives old new script left before after read eaten few reads ran same same_read = record {
+ends_unstored : {S : Type 0} (gives : S → List Word → Answer → S → Type 0) (bounds : Bounds) (old new : Point S) (script left : Stream) (read : List ℕ)
+    → Consumes script.bytes left.bytes read → length read ≤ bounds.bytes → left.calls ≤ script.calls + bounds.reads → RanPast gives old new script left read
+    → new.out.failures ≡ old.out.failures → left.failures ≡ script.failures → Ends gives bounds old new script left (Some NoMemory)
+ends_unstored gives bounds old new script left read eaten few reads ran same same_read = record {
   read = read;
   over = [];
   consumes = rw (append-nil read) eaten;
@@ -186,10 +195,10 @@ ends_unstored gives old new script left before after read eaten few reads ran sa
 }
 
 -- the script is at its end, and its last line was run
-ends_complete : {S : Type 0} (gives : S → List Word → Answer → S → Type 0) (old new : S) (script left before after : Stream) (read : List ℕ)
-    → Consumes script.bytes left.bytes read → length read ≤ MOST_BYTES → left.calls ≤ script.calls + MOST_READS → IsAtEnd left.bytes → Ran gives old new before.bytes after.bytes (lines_of read)
-    → after.failures ≡ before.failures → left.failures ≡ script.failures → Ends gives old new script left before after None
-ends_complete gives old new script left before after read eaten few reads end ran same same_read = record {
+ends_complete : {S : Type 0} (gives : S → List Word → Answer → S → Type 0) (bounds : Bounds) (old new : Point S) (script left : Stream) (read : List ℕ)
+    → Consumes script.bytes left.bytes read → length read ≤ bounds.bytes → left.calls ≤ script.calls + bounds.reads → IsAtEnd left.bytes → Ran gives old new (lines_of read)
+    → new.out.failures ≡ old.out.failures → left.failures ≡ script.failures → Ends gives bounds old new script left None
+ends_complete gives bounds old new script left read eaten few reads end ran same same_read = record {
   read = read;
   over = [];
   consumes = rw (append-nil read) eaten;
@@ -208,54 +217,91 @@ ends_complete gives old new script left before after read eaten few reads end ra
 }
 
 -- nothing is left of the script
-pub ends_whole : {S : Type 0} (gives : S → List Word → Answer → S → Type 0) (old mid new : S) (script middle left before between after : Stream) (pending : List ℕ) (n : ℕ) (buf : List ℕ) (room turns : ℕ) (r : Result (Unit {0}) Fault)
-    → Goes gives old mid script middle before between pending room turns → turns < MOST_READS
+pub ends_whole : {S : Type 0} (gives : S → List Word → Answer → S → Type 0) (bounds : Bounds) (old mid new : Point S) (script middle left : Stream) (pending : List ℕ) (n : ℕ) (buf : List ℕ) (room turns : ℕ) (r : Result (Unit {0}) Fault)
+    → Goes gives bounds old mid script middle pending room turns → turns < bounds.reads
     → Consumes middle.bytes left.bytes (take n buf) → n ≡ 0 → IsAtEnd left.bytes → left.calls ≡ middle.calls + 1 → left.failures ≡ middle.failures + 0
-    → ((rest : List ℕ) → pending ≡ kept rest → RanLines gives mid new between.bytes after.bytes between.failures after.failures (last_of rest) (last_of rest) r)
-    → IfErr r (λ fault. fault ≡ WriteFault) → Ends gives old new script left before after (result_err r)
-ends_whole gives old mid new script middle left before between after pending n buf room turns (Ok x) g few eaten none end calls failures ran fault =
+    → ((rest : List ℕ) → pending ≡ kept rest → RanLines gives mid new (last_of rest) (last_of rest) r)
+    → IfErr r (λ fault. fault ≡ WriteFault) → Ends gives bounds old new script left (result_err r)
+ends_whole gives bounds old mid new script middle left pending n buf room turns (Ok x) g few eaten none end calls failures ran fault =
     let bounded = g.bounded in
     let called = g.calls in
     let last = ran (rest_of g.read) g.rest in
-    ends_complete gives old new script left before after g.read (rw (none, append-nil g.read) at (consumes_then _ _ _ g.read (take n buf) g.consumes eaten)) (omega arith) (omega arith) end
-    (ran_then gives old mid new _ _ _ _ _ g.ran last.0) (last.1 ∙ g.writes) (failures ∙ add-zero _ ∙ g.reads)
-ends_whole gives old mid new script middle left before between after pending n buf room turns (Err e) g few eaten none end calls failures ran fault =
+    ends_complete gives bounds old new script left g.read (rw (none, append-nil g.read) at (consumes_then _ _ _ g.read (take n buf) g.consumes eaten)) (omega arith) (omega arith) end
+    (ran_then gives old mid new _ _ g.ran last.0) (last.1 ∙ g.writes) (failures ∙ add-zero _ ∙ g.reads)
+ends_whole gives bounds old mid new script middle left pending n buf room turns (Err e) g few eaten none end calls failures ran fault =
     let bounded = g.bounded in
     let called = g.calls in
     elim (ran (rest_of g.read) g.rest) [
       | inl h ↦ absurd (memory_not_write (ap Is (sym h.0 ∙ fault)))
-      | inr h ↦ rw fault (ends_unwritten gives old new script left before after g.read (rw (none, append-nil g.read) at (consumes_then _ _ _ g.read (take n buf) g.consumes eaten)) (omega arith) (omega arith)
-          (inr (end, unwritten_then gives old mid new _ _ _ _ _ g.ran h.1)) (h.2 ∙ ap (λ k. k + 1) g.writes) (failures ∙ add-zero _ ∙ g.reads))
+      | inr h ↦ rw fault (ends_unwritten gives bounds old new script left g.read (rw (none, append-nil g.read) at (consumes_then _ _ _ g.read (take n buf) g.consumes eaten)) (omega arith) (omega arith)
+          (inr (end, unwritten_then gives old mid new _ _ g.ran h.1)) (h.2 ∙ ap (λ k. k + 1) g.writes) (failures ∙ add-zero _ ∙ g.reads))
     ]
 
+-- of what was read the last piece has a line, or goes on with one, that could not be stored
+ran_past : {S : Type 0} (gives : S → List Word → Answer → S → Type 0) (bounds : Bounds) (old mid new : Point S) (script middle left : Stream) (pending : List ℕ) (n : ℕ) (buf : List ℕ) (room turns : ℕ)
+    → (g : Goes gives bounds old mid script middle pending room turns) → n ≤ length buf → n ≤ PIECE_BYTES → n ≢ 0 → left.calls ≡ middle.calls + 1
+    → RanFront gives mid new (lines_of (rest_of g.read ++ take n buf)) → RanPast gives old new script left (g.read ++ take n buf)
+ran_past gives bounds old mid new script middle left pending n buf room turns g within small given calls h =
+    let piece = take n buf in
+    let called = g.calls in
+    let some = g.some in
+    record {
+      front = g.read;
+      piece = piece;
+      is = refl;
+      some = λ e. given (sym (length_front n buf within) ∙ ap length e);
+      short = omega (arith, length_front n buf within, small);
+      calls = omega (arith, calls, called, some);
+      run = h.run;
+      line = h.line;
+      more = h.more;
+      split = lines_append g.read piece ∙ ap (λ lines. complete_of g.read ++ lines) h.split ∙ sym (append_assoc (complete_of g.read) h.run (h.line ∷ h.more));
+      ran = ran_then gives old mid new _ _ g.ran h.ran;
+    }
+
 -- the run ends in a piece
-pub ends_stopped : {S : Type 0} (gives : S → List Word → Answer → S → Type 0) (old mid new : S) (script middle left before between after : Stream) (pending : List ℕ) (n : ℕ) (buf : List ℕ) (room turns : ℕ) (fault : Fault)
-    → Goes gives old mid script middle before between pending room turns → turns < MOST_READS
-    → Consumes middle.bytes left.bytes (take n buf) → n ≤ length buf → n ≤ PIECE_BYTES → n ≤ room → left.calls ≡ middle.calls + 1 → left.failures ≡ middle.failures + 0
-    → ((rest : List ℕ) → cut rest ≡ ([], rest) → pending ≡ kept rest → RanLines gives mid new between.bytes after.bytes between.failures after.failures (complete_of (rest ++ take n buf)) (lines_of (rest ++ take n buf)) (Err fault))
-    → Ends gives old new script left before after (Some fault)
-ends_stopped gives old mid new script middle left before between after pending n buf room turns fault g few eaten within small fits calls failures ran =
+pub ends_stopped : {S : Type 0} (gives : S → List Word → Answer → S → Type 0) (bounds : Bounds) (old mid new : Point S) (script middle left : Stream) (pending : List ℕ) (n : ℕ) (buf : List ℕ) (room turns : ℕ) (fault : Fault)
+    → Goes gives bounds old mid script middle pending room turns → turns < bounds.reads
+    → Consumes middle.bytes left.bytes (take n buf) → n ≤ length buf → n ≤ PIECE_BYTES → n ≤ room → n ≢ 0 → left.calls ≡ middle.calls + 1 → left.failures ≡ middle.failures + 0
+    → ((rest : List ℕ) → cut rest ≡ ([], rest) → pending ≡ kept rest → RanLines gives mid new (complete_of (rest ++ take n buf)) (lines_of (rest ++ take n buf)) (Err fault))
+    → Ends gives bounds old new script left (Some fault)
+ends_stopped gives bounds old mid new script middle left pending n buf room turns fault g few eaten within small fits given calls failures ran =
     let piece = take n buf in
     let bounded = g.bounded in
     let called = g.calls in
     let read = consumes_then _ _ _ g.read piece g.consumes eaten in
-    let short : length (g.read ++ piece) ≤ MOST_BYTES = omega (arith, length-append g.read piece, length_front n buf within) in
-    let reads : left.calls ≤ script.calls + MOST_READS = omega arith in
+    let short : length (g.read ++ piece) ≤ bounds.bytes = omega (arith, length_piece g.read buf n within) in
+    let reads : left.calls ≤ script.calls + bounds.reads = omega arith in
     let same = failures ∙ add-zero _ ∙ g.reads in
     elim (ran (rest_of g.read) (cut_rest g.read) g.rest) [
-      | inl h ↦ rw h.0 (ends_unstored gives old new script left before after (g.read ++ piece) read short reads
-          (record {
-            front = g.read;
-            piece = piece;
-            is = refl;
-            short = omega (arith, length_front n buf within, small);
-            run = h.1.run;
-            line = h.1.line;
-            more = h.1.more;
-            split = lines_append g.read piece ∙ ap (λ lines. complete_of g.read ++ lines) h.1.split ∙ sym (append_assoc (complete_of g.read) h.1.run (h.1.line ∷ h.1.more));
-            ran = ran_then gives old mid new _ _ _ _ _ g.ran h.1.ran;
-          }) (h.2 ∙ g.writes) same)
-      | inr h ↦ rw h.0 (ends_unwritten gives old new script left before after (g.read ++ piece) read short reads
-          (inl (rw (complete_append g.read piece) (unwritten_then gives old mid new _ _ _ _ _ g.ran h.1)))
+      | inl h ↦ rw h.0 (ends_unstored gives bounds old new script left (g.read ++ piece) read short reads
+          (ran_past gives bounds old mid new script middle left pending n buf room turns g within small given calls h.1) (h.2 ∙ g.writes) same)
+      | inr h ↦ rw h.0 (ends_unwritten gives bounds old new script left (g.read ++ piece) read short reads
+          (inl (rw (complete_append g.read piece) (unwritten_then gives old mid new _ _ g.ran h.1)))
           (h.2 ∙ ap (λ k. k + 1) g.writes) same)
     ]
+
+-- for want of memory it ends in the piece that the last read gave
+pub stops_in_last : {S R : Type 0} (gives : S → List Word → Answer → S → Type 0) (stream : R → Stream) (bounds : Bounds) (old mid new : Point S) (script middle left : R) (pending : List ℕ) (n : ℕ) (buf : List ℕ) (room turns : ℕ) (fault : Fault)
+    → Goes gives bounds old mid (stream script) (stream middle) pending room turns
+    → Consumes (stream middle).bytes (stream left).bytes (take n buf) → n ≤ length buf → n ≤ PIECE_BYTES → n ≢ 0 → (stream left).calls ≡ (stream middle).calls + 1
+    → ((rest : List ℕ) → cut rest ≡ ([], rest) → pending ≡ kept rest → RanLines gives mid new (complete_of (rest ++ take n buf)) (lines_of (rest ++ take n buf)) (Err fault))
+    → Is fault ≡ Is NoMemory → StopsInLast gives stream old new script left
+unfolding ran_past
+stops_in_last gives stream bounds old mid new script middle left pending n buf room turns fault g eaten within small given calls ran is =
+    elim (ran (rest_of g.read) (cut_rest g.read) g.rest) [
+      | inl h ↦ (
+        g.read ++ take n buf,
+        ran_past gives bounds old mid new (stream script) (stream middle) (stream left) pending n buf room turns g within small given calls h.1,
+        record { before = middle; gave = g.consumes; calls = calls; last = eaten },
+      )
+      | inr h ↦ absurd (write_not_memory (ap Is (sym h.0) ∙ is))
+    ]
+
+-- no other end is for want of memory
+pub unread_is_stored : (fault : Option Fault) → fault ≡ Some ReadFault → fault ≡ Some NoMemory → ⊥
+unread_is_stored fault is e = not_memory (sym is ∙ e)
+
+pub finished_is_stored : (r : Result (Unit {0}) Fault) → IfErr r (λ fault. fault ≡ WriteFault) → result_err r ≡ Some NoMemory → ⊥
+finished_is_stored (Ok x) h e = none_not NoMemory (sym e)
+finished_is_stored (Err x) h e = write_not_memory (ap Is (sym h) ∙ e)

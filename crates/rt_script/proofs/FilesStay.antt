@@ -3,10 +3,11 @@ use Rattle.std.proofs.Common.{◌≡◌, ◌⊎◌, ◌∙◌, ℕ, List, [], �
 use Rattle.std.specs.Prelude.{IfSome}
 use Rattle.rt_stamps.specs.declared.fault.Fault.{Fault}
 use Rattle.rt_stamps.specs.declared.fault.Fault.TheVariants.{NoMemory, ReadFault, WriteFault}
+use Rattle.rt_stamps.specs.declared.limits.Bounds.{Bounds}
 use Rattle.rt_script.specs.Lines.{answered}
 use Rattle.rt_stamps.specs.Streams.{Stream}
 use Rattle.rt_script.specs.declared.answer.Answer.{Answer}
-use Rattle.rt_script.specs.Run.{Ends, LineGives, Ran, RanUnwritten, Runs}
+use Rattle.rt_script.specs.Run.{Ends, LineGives, Point, Ran, RanUnwritten, Runs, StopsInLast, point}
 use Rattle.rt_peers.specs.State.{State}
 use Rattle.rt_script.specs.Site.{Session, SiteGives}
 
@@ -21,37 +22,51 @@ runs_keep (line ∷ lines) (answer ∷ answers) old new (mid, here, rest) = runs
 runs_keep [] (answer ∷ answers) old new bad = absurd bad
 runs_keep (line ∷ lines) [] old new bad = absurd bad
 
-ran_keeps : (old new : Session) (before after : Option (List ℕ)) (lines : List (List ℕ)) → Ran SiteGives old new before after lines → new.files ≡ old.files
-ran_keeps old new before after lines r = runs_keep (answered lines) r.answers old new r.runs
+ran_keeps : (old new : Point Session) (lines : List (List ℕ)) → Ran SiteGives old new lines → new.state.files ≡ old.state.files
+ran_keeps old new lines r = runs_keep (answered lines) r.answers old.state new.state r.runs
 
-unwritten_keeps : (old new : Session) (before after : Option (List ℕ)) (lines : List (List ℕ)) → RanUnwritten SiteGives old new before after lines
-    → new.files ≡ old.files
-unwritten_keeps old new before after lines r = runs_keep (answered r.run) (r.answers ++ r.last ∷ []) old new r.runs
+unwritten_keeps : (old new : Point Session) (lines : List (List ℕ)) → RanUnwritten SiteGives old new lines → new.state.files ≡ old.state.files
+unwritten_keeps old new lines r = runs_keep (answered r.run) (r.answers ++ r.last ∷ []) old.state new.state r.runs
 
-either_keeps : (old new : Session) (before after : Option (List ℕ)) (complete lines : List (List ℕ)) (End : Type 0)
-    → RanUnwritten SiteGives old new before after complete ⊎ (End × RanUnwritten SiteGives old new before after lines) → new.files ≡ old.files
-either_keeps old new before after complete lines End (inl r) = unwritten_keeps old new before after complete r
-either_keeps old new before after complete lines End (inr (end, r)) = unwritten_keeps old new before after lines r
+either_keeps : (old new : Point Session) (complete lines : List (List ℕ)) (End : Type 0)
+    → RanUnwritten SiteGives old new complete ⊎ (End × RanUnwritten SiteGives old new lines) → new.state.files ≡ old.state.files
+either_keeps old new complete lines End (inl r) = unwritten_keeps old new complete r
+either_keeps old new complete lines End (inr (end, r)) = unwritten_keeps old new lines r
 
 -- whatever ended a run
-pub ended_keeps : (old new : Session) (script left before after : Stream) (fault : Option Fault) → Ends SiteGives old new script left before after fault
-    → new.files ≡ old.files
-ended_keeps old new script left before after fault e = by fault refl
+pub ended_keeps : (bounds : Bounds) (old new : Point Session) (script left : Stream) (fault : Option Fault) → Ends SiteGives bounds old new script left fault
+    → new.state.files ≡ old.state.files
+ended_keeps bounds old new script left fault e = by fault refl
   where
-    why_by : (why : Fault) → fault ≡ Some why → (why ≡ NoMemory) ⊎ ((why ≡ ReadFault) ⊎ (why ≡ WriteFault)) → new.files ≡ old.files
-    why_by why h (inl m) = ran_keeps old new _ _ _ (e.unstored (h ∙ ap Some m)).ran
-    why_by why h (inr (inl r)) = ran_keeps old new _ _ _ (e.unread (h ∙ ap Some r))
-    why_by why h (inr (inr w)) = either_keeps old new _ _ _ _ _ (e.unwritten (h ∙ ap Some w))
+    why_by : (why : Fault) → fault ≡ Some why → (why ≡ NoMemory) ⊎ ((why ≡ ReadFault) ⊎ (why ≡ WriteFault)) → new.state.files ≡ old.state.files
+    why_by why h (inl m) = ran_keeps old new _ (e.unstored (h ∙ ap Some m)).ran
+    why_by why h (inr (inl r)) = ran_keeps old new _ (e.unread (h ∙ ap Some r))
+    why_by why h (inr (inr w)) = either_keeps old new _ _ _ (e.unwritten (h ∙ ap Some w))
 
-    by : (f : Option Fault) → fault ≡ f → new.files ≡ old.files
-    by None h = ran_keeps old new _ _ _ (e.whole h).2
+    by : (f : Option Fault) → fault ≡ f → new.state.files ≡ old.state.files
+    by None h = ran_keeps old new _ (e.whole h).2
     by (Some why) h = why_by why h (subst (λ (f : Option Fault). IfSome f (λ why. (why ≡ NoMemory) ⊎ (why ≡ ReadFault) ⊎ (why ≡ WriteFault))) h e.only)
 
 -- a site that ends a run has the files with which the run began
-pub site_ends : (start new last : Session) (site : State) (script left before after : Stream) (fault : Option Fault) → new ≡ start → site ≡ last.site
-    → Ends SiteGives new last script left before after fault → Ends SiteGives start (record { site = site; files = start.files }) script left before after fault
-site_ends start new last site script left before after fault begins is e =
-    let run : Ends SiteGives start last script left before after fault = subst (λ (s : Session). Ends SiteGives s last script left before after fault) begins e in
-    let files : last.files ≡ start.files = ended_keeps start last script left before after fault run in
-    let end : last ≡ record { site = site; files = start.files } = λ i. record { site = sym is i; files = files i } in
-    subst (λ (s : Session). Ends SiteGives start s script left before after fault) end run
+end_is : (bounds : Bounds) (start new last : Session) (site : State) (script left before after : Stream) (fault : Option Fault) → new ≡ start → site ≡ last.site
+    → Ends SiteGives bounds (point new before) (point last after) script left fault → last ≡ record { site = site; files = start.files }
+end_is bounds start new last site script left before after fault begins is e =
+    let files : last.files ≡ start.files = ended_keeps bounds (point new before) (point last after) script left fault e ∙ ap (λ (s : Session). s.files) begins in
+    λ i. record { site = sym is i; files = files i }
+
+pub site_ends : (bounds : Bounds) (start new last : Session) (site : State) (script left before after : Stream) (fault : Option Fault) → new ≡ start → site ≡ last.site
+    → Ends SiteGives bounds (point new before) (point last after) script left fault
+    → Ends SiteGives bounds (point start before) (point (record { site = site; files = start.files }) after) script left fault
+site_ends bounds start new last site script left before after fault begins is e =
+    let end = end_is bounds start new last site script left before after fault begins is e in
+    subst (λ (s : Session). Ends SiteGives bounds (point start before) (point s after) script left fault) end
+    (subst (λ (s : Session). Ends SiteGives bounds (point s before) (point last after) script left fault) begins e)
+
+-- and so it stopped in what the last read gave
+pub site_stops : {R : Type 0} (stream : R → Stream) (bounds : Bounds) (start new last : Session) (site : State) (script left : R) (before after : Stream) (fault : Option Fault) → new ≡ start → site ≡ last.site
+    → Ends SiteGives bounds (point new before) (point last after) (stream script) (stream left) fault → StopsInLast SiteGives stream (point new before) (point last after) script left
+    → StopsInLast SiteGives stream (point start before) (point (record { site = site; files = start.files }) after) script left
+site_stops stream bounds start new last site script left before after fault begins is e stops =
+    let end = end_is bounds start new last site (stream script) (stream left) before after fault begins is e in
+    subst (λ (s : Session). StopsInLast SiteGives stream (point start before) (point s after) script left) end
+    (subst (λ (s : Session). StopsInLast SiteGives stream (point s before) (point last after) script left) begins stops)

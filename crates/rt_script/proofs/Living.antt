@@ -6,8 +6,9 @@ use Rattle.std.specs.Str.{bytes_eq}
 use Rattle.std.proofs.lemmas.List.{append-nil}
 use Rattle.rt_stamps.specs.declared.fault.Fault.{Fault}
 use Rattle.rt_stamps.specs.declared.fault.Fault.TheVariants.{NoFile}
+use Rattle.rt_stamps.specs.declared.limits.Bounds.{Bounds}
 use Rattle.rt_stamps.specs.declared.limits.TheConstants.{MOST_CELLS}
-use Rattle.rt_stamps.specs.Streams.{Stream}
+use Rattle.rt_stamps.specs.Streams.{FILE_BOUNDS, Stream}
 use Rattle.rt_stamps.specs.Words.{Word}
 use Rattle.rt_ops.specs.Operations.{Operation}
 use Rattle.rt_oplog.specs.Logs.{Has}
@@ -25,8 +26,8 @@ use Rattle.rt_script.specs.declared.answer.Answer.TheVariants as answers
 use Rattle.rt_script.specs.declared.site_run.Outcome.{Outcome}
 use Rattle.rt_script.specs.Lived.{IsOfLog, IsOfNamed, RunsLive}
 use Rattle.rt_script.specs.Lines.{answered, complete_of, lines_of}
-use Rattle.rt_script.specs.Run.{Ends, LineGives, Ran, RanPast, RanUnwritten, Runs}
-use Rattle.rt_script.specs.Site.{IsDone, IsRefused, NamedFile, PathGives, ReceiveGives, Session, SiteGives, WordsGive, file_named}
+use Rattle.rt_script.specs.Run.{Ends, LineGives, Point, Ran, RanUnwritten, Runs, point}
+use Rattle.rt_script.specs.Site.{IsDone, LineIsRefused, NamedFile, PathGives, ReceiveGives, Session, SiteGives, WordsGive, file_named}
 use Rattle.rt_script.specs.SiteRun.{BeginsWith, RunsScript}
 
 stays_on : (IsOther : Operation → Type 0) (old new : State) → new ≡ old → LivesOn IsOther old new
@@ -36,7 +37,7 @@ stays_on IsOther old new e site limit came l =
 -- WORDS
 
 receive_on : (files : List NamedFile) (name : Word) (found : Option (List ℕ)) (old new : State) (answer : Answer) → file_named name files ≡ found
-    → MatchOption found (IsRefused NoFile old answer new) (λ bytes. (received : Received)
+    → MatchOption found (LineIsRefused NoFile old answer new) (λ bytes. (received : Received)
     × (answer ≡ answers.Received received) × SiteReceives bytes old received new) → LivesOn (IsOfNamed files) old new
 receive_on files name None old new answer e h = stays_on (IsOfNamed files) old new h.1
 receive_on files name (Some bytes) old new answer e h =
@@ -53,7 +54,7 @@ module _ (files : List NamedFile) where
   done_on path (Err fault) old new answer e h = stays_on (IsOfNamed files) old new h.1
 
   destroy_by : (old new : State) (answer : Answer) (asked : Result Destroy Fault)
-      → MatchResult asked (λ request. IsDone (destroyed request.path old) old answer new) (λ fault. IsRefused fault old answer new) → LivesOn (IsOfNamed files) old new
+      → MatchResult asked (λ request. IsDone (destroyed request.path old) old answer new) (λ fault. LineIsRefused fault old answer new) → LivesOn (IsOfNamed files) old new
   destroy_by old new answer (Ok request) h = done_on request.path (destroyed request.path old) old new answer refl h
   destroy_by old new answer (Err fault) h = stays_on (IsOfNamed files) old new h.1
 
@@ -93,27 +94,24 @@ lines_on files (line ∷ lines) (answer ∷ given) old new h e =
     let more = lines_on files lines given h.0 new h.2 one.1 in
     (goes_on (IsOfNamed files) old.site h.0.site new.site one.0 more.0, more.1)
 
-module _ (files : List NamedFile) (old new : Session) (e : old.files ≡ files) where
-  ran_on : (before after : Option (List ℕ)) (lines : List (List ℕ)) → Ran SiteGives old new before after lines → LivesOn (IsOfNamed files) old.site new.site
-  ran_on before after lines r = (lines_on files (answered lines) r.answers old new r.runs e).0
+module _ (files : List NamedFile) (old new : Point Session) (e : old.state.files ≡ files) where
+  ran_on : (lines : List (List ℕ)) → Ran SiteGives old new lines → LivesOn (IsOfNamed files) old.state.site new.state.site
+  ran_on lines r = (lines_on files (answered lines) r.answers old.state new.state r.runs e).0
 
-  past_on : (before after : Option (List ℕ)) (read : List ℕ) → RanPast SiteGives old new before after read → LivesOn (IsOfNamed files) old.site new.site
-  past_on before after read r = ran_on before after (complete_of r.front ++ r.run) r.ran
-
-  unwritten_on : (before after : Option (List ℕ)) (lines : List (List ℕ)) → RanUnwritten SiteGives old new before after lines → LivesOn (IsOfNamed files) old.site new.site
-  unwritten_on before after lines r = (lines_on files (answered r.run) (r.answers ++ r.last ∷ []) old new r.runs e).0
+  unwritten_on : (lines : List (List ℕ)) → RanUnwritten SiteGives old new lines → LivesOn (IsOfNamed files) old.state.site new.state.site
+  unwritten_on lines r = (lines_on files (answered r.run) (r.answers ++ r.last ∷ []) old.state new.state r.runs e).0
 
   -- WHOLE RUNS
 
-  ends_on : (fault : Option Fault) (script left before after : Stream) → Ends SiteGives old new script left before after fault → LivesOn (IsOfNamed files) old.site new.site
-  ends_on None script left before after h = ran_on before.bytes after.bytes (lines_of h.read) (h.whole refl).2
-  ends_on (Some why) script left before after h = elim h.only [
-    | inl m ↦ past_on before.bytes after.bytes h.read (h.unstored (λ i. Some (m i)))
+  ends_on : (bounds : Bounds) (fault : Option Fault) (script left : Stream) → Ends SiteGives bounds old new script left fault → LivesOn (IsOfNamed files) old.state.site new.state.site
+  ends_on bounds None script left h = ran_on (lines_of h.read) (h.whole refl).2
+  ends_on bounds (Some why) script left h = elim h.only [
+    | inl m ↦ let past = h.unstored (λ i. Some (m i)) in ran_on (complete_of past.front ++ past.run) past.ran
     | inr other ↦ elim other [
-      | inl r ↦ ran_on before.bytes after.bytes (complete_of h.read) (h.unread (λ i. Some (r i)))
+      | inl r ↦ ran_on (complete_of h.read) (h.unread (λ i. Some (r i)))
       | inr w ↦ elim (h.unwritten (λ i. Some (w i))) [
-        | inl u ↦ unwritten_on before.bytes after.bytes (complete_of h.read) u
-        | inr u ↦ unwritten_on before.bytes after.bytes (lines_of h.read) u.1
+        | inl u ↦ unwritten_on (complete_of h.read) u
+        | inr u ↦ unwritten_on (lines_of h.read) u.1
       ]
     ]
   ]
@@ -121,7 +119,7 @@ module _ (files : List NamedFile) (old new : Session) (e : old.files ≡ files) 
 pub script_on : (files : List NamedFile) (site : State) (wants_log : Bool) (script left before after : Stream) (outcome : Outcome)
     → RunsScript files site wants_log script left before after outcome → LivesOn (IsOfNamed files) site outcome.site
 script_on files site wants_log script left before after outcome h =
-    ends_on files (record { site = site; files = files }) (record { site = outcome.site; files = files }) refl outcome.fault script left before after h.0
+    ends_on files (point (record { site = site; files = files }) before) (point (record { site = outcome.site; files = files }) after) refl FILE_BOUNDS outcome.fault script left h.0
 
 new_lives : (number : ℕ) → 0 < number → Lives number MOST_CELLS (new_state number MOST_CELLS) []
 new_lives number p = begins p (lit< tt)

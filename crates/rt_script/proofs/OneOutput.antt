@@ -22,10 +22,10 @@ use Rattle.rt_script.specs.declared.answer.Answer.{Answer}
 use Rattle.rt_script.specs.declared.answer.Answer.TheVariants as answers
 use Rattle.rt_script.specs.Lived.{IsRun}
 use Rattle.rt_script.specs.Lines.{answered, is_readable, lines_of}
-use Rattle.rt_script.specs.Output.{BeginFoundMemory, FileFoundMemory, Given, IsWhole, LineFoundMemory, LinesFoundMemory, ReceiveFoundMemory, RunsHaveOneOutput, WordsFoundMemory}
+use Rattle.rt_script.specs.Output.{BeginFoundMemory, NamedFileFoundMemory, Given, IsWhole, LineFoundMemory, LinesFoundMemory, ReceiveFoundMemory, RunsHaveOneOutput, WordsFoundMemory}
 use Rattle.rt_script.specs.Replies.{reply_line}
 use Rattle.rt_script.specs.Run.{LineGives, Runs}
-use Rattle.rt_script.specs.Site.{IsDone, IsRefused, NamedFile, PathGives, ReceiveGives, Session, SiteGives, WordsGive, as_answer, file_named}
+use Rattle.rt_script.specs.Site.{IsDone, LineIsRefused, NamedFile, PathGives, ReceiveGives, Session, SiteGives, WordsGive, as_answer, file_named}
 use Rattle.rt_script.specs.SiteRun.{BeginsWith}
 
 -- ONE LINE
@@ -34,13 +34,13 @@ module _ (old : State) (one two : Answer) (new left : State) where
   abbrev Same : Type 0
   Same = (one ≡ two) × (new ≡ left)
 
-  refused_once : (fault : Fault) → IsRefused fault old one new → IsRefused fault old two left → Same
+  refused_once : (fault : Fault) → LineIsRefused fault old one new → LineIsRefused fault old two left → Same
   refused_once fault h k = (h.0 ∙ sym k.0, h.1 ∙ sym k.1)
 
   file_once : (found : Option (List ℕ))
-      → (h : MatchOption found (IsRefused NoFile old one new) (λ bytes. (received : Received) × (one ≡ answers.Received received) × SiteReceives bytes old received new))
-      → (k : MatchOption found (IsRefused NoFile old two left) (λ bytes. (received : Received) × (two ≡ answers.Received received) × SiteReceives bytes old received left))
-      → FileFoundMemory found old one new h → FileFoundMemory found old two left k → Same
+      → (h : MatchOption found (LineIsRefused NoFile old one new) (λ bytes. (received : Received) × (one ≡ answers.Received received) × SiteReceives bytes old received new))
+      → (k : MatchOption found (LineIsRefused NoFile old two left) (λ bytes. (received : Received) × (two ≡ answers.Received received) × SiteReceives bytes old received left))
+      → NamedFileFoundMemory found old one new h → NamedFileFoundMemory found old two left k → Same
   file_once None h k f g = refused_once NoFile h k
   file_once (Some bytes) h k f g =
       let same = receiving_once bytes old h.0 k.0 new left h.2 k.2 f g in
@@ -57,8 +57,8 @@ module _ (old : State) (one two : Answer) (new left : State) where
   done_once (Err fault) h k = refused_once fault h k
 
   destroy_once : (asked : Result Destroy Fault)
-      → MatchResult asked (λ request. IsDone (destroyed request.path old) old one new) (λ fault. IsRefused fault old one new)
-      → MatchResult asked (λ request. IsDone (destroyed request.path old) old two left) (λ fault. IsRefused fault old two left) → Same
+      → MatchResult asked (λ request. IsDone (destroyed request.path old) old one new) (λ fault. LineIsRefused fault old one new)
+      → MatchResult asked (λ request. IsDone (destroyed request.path old) old two left) (λ fault. LineIsRefused fault old two left) → Same
   destroy_once (Ok request) h k = done_once (destroyed request.path old) h k
   destroy_once (Err fault) h k = refused_once fault h k
 

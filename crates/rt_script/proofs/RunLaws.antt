@@ -20,7 +20,7 @@ use Rattle.rt_stamps.proofs.Writes.{appends_then}
 use Rattle.rt_script.specs.declared.answer.Answer.{Answer}
 use Rattle.rt_script.specs.declared.engine.TheConstants.{MOST_KEPT_BYTES}
 use Rattle.rt_script.specs.Replies.{reply_line}
-use Rattle.rt_script.specs.Run.{LineGives, Runs, Ran, RanFront, RanUnwritten}
+use Rattle.rt_script.specs.Run.{LineGives, Point, Runs, Ran, RanFront, RanUnwritten}
 use Rattle.rt_script.specs.Pieces.{is_inner, kept, RanLine, RanLines}
 use Rattle.rt_stamps.specs.Source.{failures_of}
 use Rattle.rt_script.proofs.LinesLaws.{complete_append, complete_newline, complete_front, rest_append, rest_newline, rest_front, cut_empty}
@@ -35,38 +35,38 @@ runs_then gives old mid new (l ∷ ls) ms [] cs h k = absurd h
 pub answered_append : (ls ms : List (List ℕ)) → answered (ls ++ ms) ≡ answered ls ++ answered ms
 answered_append ls ms = filter-append (λ line. not (is_readable line && is_silent line)) ls ms
 
-pub ran_then : {S : Type 0} (gives : S → List Word → Answer → S → Type 0) (old mid new : S) (a b c : Option (List ℕ)) (ls ms : List (List ℕ)) → Ran gives old mid a b ls → Ran gives mid new b c ms → Ran gives old new a c (ls ++ ms)
-ran_then gives old mid new a b c ls ms h k = record {
+pub ran_then : {S : Type 0} (gives : S → List Word → Answer → S → Type 0) (old mid new : Point S) (ls ms : List (List ℕ)) → Ran gives old mid ls → Ran gives mid new ms → Ran gives old new (ls ++ ms)
+ran_then gives old mid new ls ms h k = record {
   answers = h.answers ++ k.answers;
-  runs = rw (answered_append ls ms) (runs_then gives old mid new (answered ls) (answered ms) h.answers k.answers h.runs k.runs);
-  wrote = rw (flat_map-append reply_line h.answers k.answers) (appends_then a b c _ _ h.wrote k.wrote);
+  runs = rw (answered_append ls ms) (runs_then gives old.state mid.state new.state (answered ls) (answered ms) h.answers k.answers h.runs k.runs);
+  wrote = rw (flat_map-append reply_line h.answers k.answers) (appends_then old.out.bytes mid.out.bytes new.out.bytes _ _ h.wrote k.wrote);
 }
 
-pub front_then : {S : Type 0} (gives : S → List Word → Answer → S → Type 0) (old mid new : S) (a b c : Option (List ℕ)) (ls ms : List (List ℕ)) → Ran gives old mid a b ls → RanFront gives mid new b c ms → RanFront gives old new a c (ls ++ ms)
-front_then gives old mid new a b c ls ms h k = record {
+pub front_then : {S : Type 0} (gives : S → List Word → Answer → S → Type 0) (old mid new : Point S) (ls ms : List (List ℕ)) → Ran gives old mid ls → RanFront gives mid new ms → RanFront gives old new (ls ++ ms)
+front_then gives old mid new ls ms h k = record {
   run = ls ++ k.run;
   line = k.line;
   more = k.more;
   split = rw k.split (sym (append_assoc ls k.run (k.line ∷ k.more)));
-  ran = ran_then gives old mid new a b c ls k.run h k.ran;
+  ran = ran_then gives old mid new ls k.run h k.ran;
 }
 
-pub unwritten_then : {S : Type 0} (gives : S → List Word → Answer → S → Type 0) (old mid new : S) (a b c : Option (List ℕ)) (ls ms : List (List ℕ)) → Ran gives old mid a b ls → RanUnwritten gives mid new b c ms → RanUnwritten gives old new a c (ls ++ ms)
-unwritten_then gives old mid new a b c ls ms h k = record {
+pub unwritten_then : {S : Type 0} (gives : S → List Word → Answer → S → Type 0) (old mid new : Point S) (ls ms : List (List ℕ)) → Ran gives old mid ls → RanUnwritten gives mid new ms → RanUnwritten gives old new (ls ++ ms)
+unwritten_then gives old mid new ls ms h k = record {
   run = ls ++ k.run;
   more = k.more;
   split = rw k.split (sym (append_assoc ls k.run k.more));
   answers = h.answers ++ k.answers;
   last = k.last;
-  runs = rw (answered_append ls k.run, append_assoc h.answers k.answers) (runs_then gives old mid new (answered ls) (answered k.run) h.answers (k.answers ++ k.last ∷ []) h.runs k.runs);
+  runs = rw (answered_append ls k.run, append_assoc h.answers k.answers) (runs_then gives old.state mid.state new.state (answered ls) (answered k.run) h.answers (k.answers ++ k.last ∷ []) h.runs k.runs);
   here = k.here;
-  wrote = rw (flat_map-append reply_line h.answers k.answers) (appends_then a b k.here _ _ h.wrote k.wrote);
+  wrote = rw (flat_map-append reply_line h.answers k.answers) (appends_then old.out.bytes mid.out.bytes k.here _ _ h.wrote k.wrote);
   part = k.part;
 }
 
 -- a run stops before further lines
-front_longer : {S : Type 0} (gives : S → List Word → Answer → S → Type 0) (old new : S) (a b : Option (List ℕ)) (ls ms : List (List ℕ)) → RanFront gives old new a b ls → RanFront gives old new a b (ls ++ ms)
-front_longer gives old new a b ls ms h = record {
+front_longer : {S : Type 0} (gives : S → List Word → Answer → S → Type 0) (old new : Point S) (ls ms : List (List ℕ)) → RanFront gives old new ls → RanFront gives old new (ls ++ ms)
+front_longer gives old new ls ms h = record {
   run = h.run;
   line = h.line;
   more = h.more ++ ms;
@@ -74,8 +74,8 @@ front_longer gives old new a b ls ms h = record {
   ran = h.ran;
 }
 
-pub unwritten_longer : {S : Type 0} (gives : S → List Word → Answer → S → Type 0) (old new : S) (a b : Option (List ℕ)) (ls ms : List (List ℕ)) → RanUnwritten gives old new a b ls → RanUnwritten gives old new a b (ls ++ ms)
-unwritten_longer gives old new a b ls ms h = record {
+pub unwritten_longer : {S : Type 0} (gives : S → List Word → Answer → S → Type 0) (old new : Point S) (ls ms : List (List ℕ)) → RanUnwritten gives old new ls → RanUnwritten gives old new (ls ++ ms)
+unwritten_longer gives old new ls ms h = record {
   run = h.run;
   more = h.more ++ ms;
   split = rw h.split (append_assoc h.run h.more ms);
@@ -91,8 +91,8 @@ pub appends_self : (a : Option (List ℕ)) → Appends a a []
 appends_self None = tt
 appends_self (Some xs) = sym (append-nil xs)
 
-pub ran_none : {S : Type 0} (gives : S → List Word → Answer → S → Type 0) (s : S) (a : Option (List ℕ)) → Ran gives s s a a []
-ran_none gives s a = record { answers = []; runs = refl; wrote = appends_self a }
+pub ran_none : {S : Type 0} (gives : S → List Word → Answer → S → Type 0) (here : Point S) → Ran gives here here []
+ran_none gives here = record { answers = []; runs = refl; wrote = appends_self here.out.bytes }
 
 -- a line that is answered, and one that isn't
 answered_one : (line : List ℕ) → is_readable line && is_silent line ≡ false → answered (line ∷ []) ≡ line ∷ []
@@ -102,26 +102,26 @@ answered_silent : (line : List ℕ) → is_readable line && is_silent line ≡ t
 answered_silent line e = rw e refl
 
 -- a line was run, and what it was answered was written
-pub ran_line : {S : Type 0} (gives : S → List Word → Answer → S → Type 0) (old new : S) (a b : Option (List ℕ)) (line : List ℕ) → RanLine gives old new a b line (Ok tt) → Ran gives old new a b (line ∷ [])
-ran_line gives old new a b line (inl h) = record { answers = []; runs = rw (answered_silent line h.0) h.2; wrote = h.3 }
-ran_line gives old new a b line (inr h) = record {
+pub ran_line : {S : Type 0} (gives : S → List Word → Answer → S → Type 0) (old new : Point S) (line : List ℕ) → RanLine gives old new line (Ok tt) → Ran gives old new (line ∷ [])
+ran_line gives old new line (inl h) = record { answers = []; runs = rw (answered_silent line h.0) h.2; wrote = h.3 }
+ran_line gives old new line (inr h) = record {
   answers = h.1.0 ∷ [];
-  runs = rw (answered_one line h.0) (new, h.1.1, refl);
+  runs = rw (answered_one line h.0) (new.state, h.1.1, refl);
   wrote = rw (append-nil (reply_line h.1.0)) h.1.2;
 }
 
 -- a line was run, and what it was answered could not be written
-pub unwritten_line : {S : Type 0} (gives : S → List Word → Answer → S → Type 0) (old new : S) (a b : Option (List ℕ)) (line : List ℕ) (e : Fault) → RanLine gives old new a b line (Err e) → RanUnwritten gives old new a b (line ∷ [])
-unwritten_line gives old new a b line e (inl h) = let bad : ⊥ = cc in absurd bad
-unwritten_line gives old new a b line e (inr h) = record {
+pub unwritten_line : {S : Type 0} (gives : S → List Word → Answer → S → Type 0) (old new : Point S) (line : List ℕ) (e : Fault) → RanLine gives old new line (Err e) → RanUnwritten gives old new (line ∷ [])
+unwritten_line gives old new line e (inl h) = let bad : ⊥ = cc in absurd bad
+unwritten_line gives old new line e (inr h) = record {
   run = line ∷ [];
   more = [];
   split = refl;
   answers = [];
   last = h.1.0;
-  runs = rw (answered_one line h.0) (new, h.1.1, refl);
-  here = a;
-  wrote = appends_self a;
+  runs = rw (answered_one line h.0) (new.state, h.1.1, refl);
+  here = old.out.bytes;
+  wrote = appends_self old.out.bytes;
   part = h.1.2;
 }
 
@@ -131,9 +131,9 @@ unreadable_gives gives old new l m answer e f (inl h) = absurd (false≢true (sy
 unreadable_gives gives old new l m answer e f (inr (inl h)) = inr (inl (inl f, h.1, h.2))
 unreadable_gives gives old new l m answer e f (inr (inr h)) = absurd (false≢true (sym e ∙ h.0))
 
-pub unreadable_line : {S : Type 0} (gives : S → List Word → Answer → S → Type 0) (old new : S) (a b : Option (List ℕ)) (l m : List ℕ) (r : Result (Unit {0}) Fault) → is_readable l ≡ false → is_readable m ≡ false → RanLine gives old new a b l r → RanLine gives old new a b m r
-unreadable_line gives old new a b l m r e f (inl h) = absurd (false≢true (ap (λ t. t && is_silent l) (sym e) ∙ h.0))
-unreadable_line gives old new a b l m r e f (inr h) = inr (ap (λ t. t && is_silent m) f, (h.1.0, unreadable_gives gives old new l m h.1.0 e f h.1.1, h.1.2))
+pub unreadable_line : {S : Type 0} (gives : S → List Word → Answer → S → Type 0) (old new : Point S) (l m : List ℕ) (r : Result (Unit {0}) Fault) → is_readable l ≡ false → is_readable m ≡ false → RanLine gives old new l r → RanLine gives old new m r
+unreadable_line gives old new l m r e f (inl h) = absurd (false≢true (ap (λ t. t && is_silent l) (sym e) ∙ h.0))
+unreadable_line gives old new l m r e f (inr h) = inr (ap (λ t. t && is_silent m) f, (h.1.0, unreadable_gives gives old.state new.state l m h.1.0 e f h.1.1, h.1.2))
 
 -- a line that is too long can't be read, whether or not it loses its last byte
 too_long : (line : List ℕ) → MOST_LINE_BYTES < length line → is_readable line ≡ false
@@ -148,19 +148,19 @@ kept_length : (line : List ℕ) → MOST_KEPT_BYTES < length line → length (ke
 kept_length line h = omega (arith, length-take MOST_KEPT_BYTES line)
 
 -- a line is answered by what is kept of it
-pub last_kept : {S : Type 0} (gives : S → List Word → Answer → S → Type 0) (old new : S) (a b : Option (List ℕ)) (line : List ℕ) (r : Result (Unit {0}) Fault) → RanLine gives old new a b (kept line) r → RanLine gives old new a b line r
-last_kept gives old new a b line r h = elim (cases_lt MOST_KEPT_BYTES (length line)) [
-  | inl long ↦ let e = kept_length line long in unreadable_line gives old new a b (kept line) line r (too_long (kept line) (omega arith)) (too_long line (omega arith)) h
-  | inr short ↦ subst (λ l. RanLine gives old new a b l r) (take_all MOST_KEPT_BYTES line short) h
+pub last_kept : {S : Type 0} (gives : S → List Word → Answer → S → Type 0) (old new : Point S) (line : List ℕ) (r : Result (Unit {0}) Fault) → RanLine gives old new (kept line) r → RanLine gives old new line r
+last_kept gives old new line r h = elim (cases_lt MOST_KEPT_BYTES (length line)) [
+  | inl long ↦ let e = kept_length line long in unreadable_line gives old new (kept line) line r (too_long (kept line) (omega arith)) (too_long line (omega arith)) h
+  | inr short ↦ subst (λ l. RanLine gives old new l r) (take_all MOST_KEPT_BYTES line short) h
 ]
 
-pub line_kept : {S : Type 0} (gives : S → List Word → Answer → S → Type 0) (old new : S) (a b : Option (List ℕ)) (line : List ℕ) (r : Result (Unit {0}) Fault) → RanLine gives old new a b (without_return (kept line)) r → RanLine gives old new a b (without_return line) r
-line_kept gives old new a b line r h = elim (cases_lt MOST_KEPT_BYTES (length line)) [
+pub line_kept : {S : Type 0} (gives : S → List Word → Answer → S → Type 0) (old new : Point S) (line : List ℕ) (r : Result (Unit {0}) Fault) → RanLine gives old new (without_return (kept line)) r → RanLine gives old new (without_return line) r
+line_kept gives old new line r h = elim (cases_lt MOST_KEPT_BYTES (length line)) [
   | inl long ↦
       let e = kept_length line long in
-      unreadable_line gives old new a b (without_return (kept line)) (without_return line) r
+      unreadable_line gives old new (without_return (kept line)) (without_return line) r
       (too_long (without_return (kept line)) (omega (arith, length_without (kept line)))) (too_long (without_return line) (omega (arith, length_without line))) h
-  | inr short ↦ subst (λ l. RanLine gives old new a b (without_return l) r) (take_all MOST_KEPT_BYTES line short) h
+  | inr short ↦ subst (λ l. RanLine gives old new (without_return l) r) (take_all MOST_KEPT_BYTES line short) h
 ]
 
 -- a byte more of a line, of which a front is kept
@@ -196,44 +196,44 @@ last_some [] n = absurd (n refl)
 last_some (c ∷ rest) n = refl
 
 -- lines were run after others
-pub lines_then : {S : Type 0} (gives : S → List Word → Answer → S → Type 0) (old mid new : S) (a b c : Option (List ℕ)) (e f g : ℕ) (done lines all : List (List ℕ)) (r : Result (Unit {0}) Fault)
-    → Ran gives old mid a b done → f ≡ e → RanLines gives mid new b c f g lines all r → RanLines gives old new a c e g (done ++ lines) (done ++ all) r
-lines_then gives old mid new a b c e f g done lines all (Ok x) h same k = (ran_then gives old mid new a b c done lines h k.0, k.1 ∙ same)
-lines_then gives old mid new a b c e f g done lines all (Err x) h same (inl k) = inl (k.0, front_then gives old mid new a b c done all h k.1, k.2 ∙ same)
-lines_then gives old mid new a b c e f g done lines all (Err x) h same (inr k) = inr (k.0, unwritten_then gives old mid new a b c done lines h k.1, k.2 ∙ ap (λ m. m + 1) same)
+pub lines_then : {S : Type 0} (gives : S → List Word → Answer → S → Type 0) (old mid new : Point S) (done lines all : List (List ℕ)) (r : Result (Unit {0}) Fault)
+    → Ran gives old mid done → mid.out.failures ≡ old.out.failures → RanLines gives mid new lines all r → RanLines gives old new (done ++ lines) (done ++ all) r
+lines_then gives old mid new done lines all (Ok x) h same k = (ran_then gives old mid new done lines h k.0, k.1 ∙ same)
+lines_then gives old mid new done lines all (Err x) h same (inl k) = inl (k.0, front_then gives old mid new done all h k.1, k.2 ∙ same)
+lines_then gives old mid new done lines all (Err x) h same (inr k) = inr (k.0, unwritten_then gives old mid new done lines h k.1, k.2 ∙ ap (λ m. m + 1) same)
 
 -- a run stops before further lines
-lines_longer : {S : Type 0} (gives : S → List Word → Answer → S → Type 0) (old new : S) (a b : Option (List ℕ)) (f g : ℕ) (lines all more others : List (List ℕ)) (fault : Fault)
-    → RanLines gives old new a b f g lines all (Err fault) → RanLines gives old new a b f g (lines ++ more) (all ++ others) (Err fault)
-lines_longer gives old new a b f g lines all more others fault (inl k) = inl (k.0, front_longer gives old new a b all others k.1, k.2)
-lines_longer gives old new a b f g lines all more others fault (inr k) = inr (k.0, unwritten_longer gives old new a b lines more k.1, k.2)
+lines_longer : {S : Type 0} (gives : S → List Word → Answer → S → Type 0) (old new : Point S) (lines all more others : List (List ℕ)) (fault : Fault)
+    → RanLines gives old new lines all (Err fault) → RanLines gives old new (lines ++ more) (all ++ others) (Err fault)
+lines_longer gives old new lines all more others fault (inl k) = inl (k.0, front_longer gives old new all others k.1, k.2)
+lines_longer gives old new lines all more others fault (inr k) = inr (k.0, unwritten_longer gives old new lines more k.1, k.2)
 
 -- one line was run
-pub one_line : {S : Type 0} (gives : S → List Word → Answer → S → Type 0) (old new : S) (a b : Option (List ℕ)) (f g : ℕ) (line : List ℕ) (r : Result (Unit {0}) Fault)
-    → RanLine gives old new a b line r → IfErr r (λ fault. fault ≡ WriteFault) → g ≡ f + failures_of r → RanLines gives old new a b f g (line ∷ []) (line ∷ []) r
-one_line gives old new a b f g line (Ok x) h w n = (ran_line gives old new a b line h, omega arith)
-one_line gives old new a b f g line (Err x) h w n = inr (w, unwritten_line gives old new a b line x h, n)
+pub one_line : {S : Type 0} (gives : S → List Word → Answer → S → Type 0) (old new : Point S) (line : List ℕ) (r : Result (Unit {0}) Fault)
+    → RanLine gives old new line r → IfErr r (λ fault. fault ≡ WriteFault) → new.out.failures ≡ old.out.failures + failures_of r → RanLines gives old new (line ∷ []) (line ∷ []) r
+one_line gives old new line (Ok x) h w n = (ran_line gives old new line h, omega arith)
+one_line gives old new line (Err x) h w n = inr (w, unwritten_line gives old new line x h, n)
 
 -- it could not be stored
-pub unstored_line : {S : Type 0} (gives : S → List Word → Answer → S → Type 0) (s : S) (a : Option (List ℕ)) (f : ℕ) (line : List ℕ) (fault : Fault) → fault ≡ NoMemory → RanLines gives s s a a f f (line ∷ []) (line ∷ []) (Err fault)
-unstored_line gives s a f line fault is = inl (is, record { run = []; line = line; more = []; split = refl; ran = ran_none gives s a }, refl)
+pub unstored_line : {S : Type 0} (gives : S → List Word → Answer → S → Type 0) (here : Point S) (line : List ℕ) (fault : Fault) → fault ≡ NoMemory → RanLines gives here here (line ∷ []) (line ∷ []) (Err fault)
+unstored_line gives here line fault is = inl (is, record { run = []; line = line; more = []; split = refl; ran = ran_none gives here }, refl)
 
 -- it was run as it came, since nothing of it was kept before
-pub whole_line : {S : Type 0} (gives : S → List Word → Answer → S → Type 0) (old new : S) (a b : Option (List ℕ)) (f g : ℕ) (front bytes pending line : List ℕ) (r : Result (Unit {0}) Fault)
-    → pending ≡ kept front → pending ≡ [] → line ≡ without_return bytes → RanLine gives old new a b line r → IfErr r (λ fault. fault ≡ WriteFault) → g ≡ f + failures_of r
-    → RanLines gives old new a b f g (without_return (front ++ bytes) ∷ []) (without_return (front ++ bytes) ∷ []) r
-whole_line gives old new a b f g front bytes pending line r is none e h w n =
+pub whole_line : {S : Type 0} (gives : S → List Word → Answer → S → Type 0) (old new : Point S) (front bytes pending line : List ℕ) (r : Result (Unit {0}) Fault)
+    → pending ≡ kept front → pending ≡ [] → line ≡ without_return bytes → RanLine gives old new line r → IfErr r (λ fault. fault ≡ WriteFault) → new.out.failures ≡ old.out.failures + failures_of r
+    → RanLines gives old new (without_return (front ++ bytes) ∷ []) (without_return (front ++ bytes) ∷ []) r
+whole_line gives old new front bytes pending line r is none e h w n =
     let blank : front ≡ [] = take_none MOST_KEPT_BYTES front (omega arith) (sym is ∙ none) in
     let same : line ≡ without_return (front ++ bytes) = e ∙ ap (λ v. without_return (v ++ bytes)) (sym blank) in
-    one_line gives old new a b f g (without_return (front ++ bytes)) r (subst (λ l. RanLine gives old new a b l r) same h) w n
+    one_line gives old new (without_return (front ++ bytes)) r (subst (λ l. RanLine gives old new l r) same h) w n
 
 -- it was run as what is kept of it
-pub kept_line : {S : Type 0} (gives : S → List Word → Answer → S → Type 0) (old new : S) (a b : Option (List ℕ)) (f g : ℕ) (front bytes before pending line : List ℕ) (r : Result (Unit {0}) Fault)
-    → before ≡ kept front → pending ≡ kept (before ++ bytes) → line ≡ without_return pending → RanLine gives old new a b line r → IfErr r (λ fault. fault ≡ WriteFault) → g ≡ f + failures_of r
-    → RanLines gives old new a b f g (without_return (front ++ bytes) ∷ []) (without_return (front ++ bytes) ∷ []) r
-kept_line gives old new a b f g front bytes before pending line r is k e h w n =
+pub kept_line : {S : Type 0} (gives : S → List Word → Answer → S → Type 0) (old new : Point S) (front bytes before pending line : List ℕ) (r : Result (Unit {0}) Fault)
+    → before ≡ kept front → pending ≡ kept (before ++ bytes) → line ≡ without_return pending → RanLine gives old new line r → IfErr r (λ fault. fault ≡ WriteFault) → new.out.failures ≡ old.out.failures + failures_of r
+    → RanLines gives old new (without_return (front ++ bytes) ∷ []) (without_return (front ++ bytes) ∷ []) r
+kept_line gives old new front bytes before pending line r is k e h w n =
     let all : pending ≡ kept (front ++ bytes) = k ∙ ap (λ v. kept (v ++ bytes)) is ∙ kept_longer front bytes in
-    one_line gives old new a b f g (without_return (front ++ bytes)) r (line_kept gives old new a b (front ++ bytes) r (subst (λ l. RanLine gives old new a b l r) (e ∙ ap without_return all) h)) w n
+    one_line gives old new (without_return (front ++ bytes)) r (line_kept gives old new (front ++ bytes) r (subst (λ l. RanLine gives old new l r) (e ∙ ap without_return all) h)) w n
 
 -- a byte of a line could not be stored: a line begins after those that were run
 lines_some : (rest : List ℕ) → rest ≢ [] → (line : List ℕ) × (more : List (List ℕ)) × (lines_of rest ≡ line ∷ more)
@@ -256,8 +256,8 @@ nothing_before : (xs ys : List ℕ) → ys ≢ [] → xs ++ ys ≢ []
 nothing_before [] ys some e = some e
 nothing_before (x ∷ xs) ys some e = cc
 
-pub front_unstored : {S : Type 0} (gives : S → List Word → Answer → S → Type 0) (old new : S) (a b : Option (List ℕ)) (xs all more : List ℕ) → Ran gives old new a b (complete_of xs) → all ≡ xs ++ more → more ≢ [] → RanFront gives old new a b (lines_of all)
-front_unstored gives old new a b xs all more h g some =
+pub front_unstored : {S : Type 0} (gives : S → List Word → Answer → S → Type 0) (old new : Point S) (xs all more : List ℕ) → Ran gives old new (complete_of xs) → all ≡ xs ++ more → more ≢ [] → RanFront gives old new (lines_of all)
+front_unstored gives old new xs all more h g some =
     let left = lines_some (rest_of xs ++ more) (nothing_before (rest_of xs) more some) in
     record {
       run = complete_of xs;
@@ -302,8 +302,8 @@ newline_at xs i n e h =
 bytes_front : (p xs : List ℕ) (i n : ℕ) → n ≡ line_at xs i → p ++ take (i + n) xs ≡ (p ++ take i xs) ++ take (line_at xs i) (drop i xs)
 bytes_front p xs i n e = ap (λ k. p ++ take (i + k) xs) e ∙ ap (λ v. p ++ v) (take-add i (line_at xs i) xs) ∙ sym (append_assoc p (take i xs) (take (line_at xs i) (drop i xs)))
 
-pub ran_front : {S : Type 0} (gives : S → List Word → Answer → S → Type 0) (old new : S) (a b : Option (List ℕ)) (p xs : List ℕ) (i n : ℕ) → n ≡ line_at xs i → Ran gives old new a b (complete_of (p ++ take i xs)) → Ran gives old new a b (complete_of (p ++ take (i + n) xs))
-ran_front gives old new a b p xs i n e h = rw (bytes_front p xs i n e, complete_front (p ++ take i xs) (drop i xs)) h
+pub ran_front : {S : Type 0} (gives : S → List Word → Answer → S → Type 0) (old new : Point S) (p xs : List ℕ) (i n : ℕ) → n ≡ line_at xs i → Ran gives old new (complete_of (p ++ take i xs)) → Ran gives old new (complete_of (p ++ take (i + n) xs))
+ran_front gives old new p xs i n e h = rw (bytes_front p xs i n e, complete_front (p ++ take i xs) (drop i xs)) h
 
 pub kept_front : (old new p xs : List ℕ) (i n : ℕ) → n ≡ line_at xs i → new ≡ kept (old ++ take (i + n - i) (drop i xs)) → old ≡ kept (rest_of (p ++ take i xs)) → new ≡ kept (rest_of (p ++ take (i + n) xs))
 kept_front old new p xs i n e h k =
@@ -327,18 +327,18 @@ complete_line p xs i n e more =
     ∙ ap (λ v. complete_of before ++ without_return v ∷ []) (rest_front before left)
     ∙ ap (λ m. complete_of before ++ without_return (rest_of before ++ take m left) ∷ []) (sym count)
 
-pub ran_more : {S : Type 0} (gives : S → List Word → Answer → S → Type 0) (old mid new : S) (a b c : Option (List ℕ)) (p xs : List ℕ) (i n : ℕ) → n ≡ line_at xs i → i + n < length xs
-    → Ran gives old mid a b (complete_of (p ++ take i xs)) → Ran gives mid new b c (without_return (rest_of (p ++ take i xs) ++ take (i + n - i) (drop i xs)) ∷ [])
-    → Ran gives old new a c (complete_of (p ++ take (i + n + 1) xs))
-ran_more gives old mid new a b c p xs i n e more h k =
-    subst (λ v. Ran gives old new a c v) (sym (complete_line p xs i n e more))
-    (ran_then gives old mid new a b c (complete_of (p ++ take i xs)) (without_return (rest_of (p ++ take i xs) ++ take (i + n - i) (drop i xs)) ∷ []) h k)
+pub ran_more : {S : Type 0} (gives : S → List Word → Answer → S → Type 0) (old mid new : Point S) (p xs : List ℕ) (i n : ℕ) → n ≡ line_at xs i → i + n < length xs
+    → Ran gives old mid (complete_of (p ++ take i xs)) → Ran gives mid new (without_return (rest_of (p ++ take i xs) ++ take (i + n - i) (drop i xs)) ∷ [])
+    → Ran gives old new (complete_of (p ++ take (i + n + 1) xs))
+ran_more gives old mid new p xs i n e more h k =
+    subst (λ v. Ran gives old new v) (sym (complete_line p xs i n e more))
+    (ran_then gives old mid new (complete_of (p ++ take i xs)) (without_return (rest_of (p ++ take i xs) ++ take (i + n - i) (drop i xs)) ∷ []) h k)
 
-pub stopped_lines : {S : Type 0} (gives : S → List Word → Answer → S → Type 0) (old mid new : S) (a b c : Option (List ℕ)) (e f g : ℕ) (p xs : List ℕ) (i n : ℕ) (fault : Fault) → n ≡ line_at xs i → i + n < length xs
-    → Ran gives old mid a b (complete_of (p ++ take i xs)) → f ≡ e
-    → (let line = without_return (rest_of (p ++ take i xs) ++ take (i + n - i) (drop i xs)) in RanLines gives mid new b c f g (line ∷ []) (line ∷ []) (Err fault))
-    → RanLines gives old new a c e g (complete_of (p ++ xs)) (lines_of (p ++ xs)) (Err fault)
-stopped_lines gives old mid new a b c e f g p xs i n fault at more h same k =
+pub stopped_lines : {S : Type 0} (gives : S → List Word → Answer → S → Type 0) (old mid new : Point S) (p xs : List ℕ) (i n : ℕ) (fault : Fault) → n ≡ line_at xs i → i + n < length xs
+    → Ran gives old mid (complete_of (p ++ take i xs)) → mid.out.failures ≡ old.out.failures
+    → (let line = without_return (rest_of (p ++ take i xs) ++ take (i + n - i) (drop i xs)) in RanLines gives mid new (line ∷ []) (line ∷ []) (Err fault))
+    → RanLines gives old new (complete_of (p ++ xs)) (lines_of (p ++ xs)) (Err fault)
+stopped_lines gives old mid new p xs i n fault at more h same k =
     let here = complete_line p xs i n at more in
     let begun = p ++ take (i + n + 1) xs in
     let left = drop (i + n + 1) xs in
@@ -346,17 +346,17 @@ stopped_lines gives old mid new a b c e f g p xs i n fault at more h same k =
     let line = without_return (rest_of (p ++ take i xs) ++ take (i + n - i) (drop i xs)) in
     let next = complete_of (rest_of begun ++ left) in
     let others = lines_of (rest_of begun ++ left) in
-    let ran = lines_longer gives old new a c e g (done ++ line ∷ []) (done ++ line ∷ []) next others fault (lines_then gives old mid new a b c e f g done (line ∷ []) (line ∷ []) (Err fault) h same k) in
+    let ran = lines_longer gives old new (done ++ line ∷ []) (done ++ line ∷ []) next others fault (lines_then gives old mid new done (line ∷ []) (line ∷ []) (Err fault) h same k) in
     let complete : complete_of (p ++ xs) ≡ (done ++ line ∷ []) ++ next = ap complete_of (bytes_all p xs (i + n + 1)) ∙ complete_append begun left ∙ ap (λ v. v ++ next) here in
     let lines : lines_of (p ++ xs) ≡ (done ++ line ∷ []) ++ others = ap lines_of (bytes_all p xs (i + n + 1)) ∙ lines_append begun left ∙ ap (λ v. v ++ others) here in
-    subst (λ v. RanLines gives old new a c e g v (lines_of (p ++ xs)) (Err fault)) (sym complete) (subst (λ v. RanLines gives old new a c e g ((done ++ line ∷ []) ++ next) v (Err fault)) (sym lines) ran)
+    subst (λ v. RanLines gives old new v (lines_of (p ++ xs)) (Err fault)) (sym complete) (subst (λ v. RanLines gives old new ((done ++ line ∷ []) ++ next) v (Err fault)) (sym lines) ran)
 
 -- the piece ends, and what is left of it is kept
-pub kept_lines : {S : Type 0} (gives : S → List Word → Answer → S → Type 0) (old new : S) (a b : Option (List ℕ)) (f g : ℕ) (p xs : List ℕ) (i n : ℕ) (r : Result (Unit {0}) Fault) → n ≡ line_at xs i → i + n ≡ length xs → i < length xs
-    → IfErr r (λ fault. fault ≡ NoMemory) → Ran gives old new a b (complete_of (p ++ take i xs)) → g ≡ f → RanLines gives old new a b f g (complete_of (p ++ xs)) (lines_of (p ++ xs)) r
-kept_lines gives old new a b f g p xs i n (Ok x) e all some w h same =
-    (subst (λ v. Ran gives old new a b (complete_of (p ++ v))) (take_all (i + n) xs (omega (arith, all))) (ran_front gives old new a b p xs i n e h), same)
-kept_lines gives old new a b f g p xs i n (Err x) e all some w h same = inl (w, front_unstored gives old new a b (p ++ take i xs) (p ++ xs) (drop i xs) h (bytes_all p xs i) (drop_some xs i some), same)
+pub kept_lines : {S : Type 0} (gives : S → List Word → Answer → S → Type 0) (old new : Point S) (p xs : List ℕ) (i n : ℕ) (r : Result (Unit {0}) Fault) → n ≡ line_at xs i → i + n ≡ length xs → i < length xs
+    → IfErr r (λ fault. fault ≡ NoMemory) → Ran gives old new (complete_of (p ++ take i xs)) → new.out.failures ≡ old.out.failures → RanLines gives old new (complete_of (p ++ xs)) (lines_of (p ++ xs)) r
+kept_lines gives old new p xs i n (Ok x) e all some w h same =
+    (subst (λ v. Ran gives old new (complete_of (p ++ v))) (take_all (i + n) xs (omega (arith, all))) (ran_front gives old new p xs i n e h), same)
+kept_lines gives old new p xs i n (Err x) e all some w h same = inl (w, front_unstored gives old new (p ++ take i xs) (p ++ xs) (drop i xs) h (bytes_all p xs i) (drop_some xs i some), same)
 
 pub kept_rest : (old new p xs : List ℕ) (i n : ℕ) (r : Result (Unit {0}) Fault) → n ≡ line_at xs i → i + n ≡ length xs → OnOk r (new ≡ kept (old ++ take (i + n - i) (drop i xs)))
     → old ≡ kept (rest_of (p ++ take i xs)) → OnOk r (new ≡ kept (rest_of (p ++ xs)))
@@ -368,8 +368,8 @@ pub kept_newline : (xs ys : List ℕ) → ys ≡ xs ++ 10 ∷ [] → [] ≡ kept
 kept_newline xs ys f = ap kept (sym (ap rest_of f ∙ rest_newline xs))
 
 -- nothing was run of a script without a newline
-pub ran_start : {S : Type 0} (gives : S → List Word → Answer → S → Type 0) (s : S) (a : Option (List ℕ)) (rest : List ℕ) → complete_of rest ≡ [] → Ran gives s s a a (complete_of rest)
-ran_start gives s a rest e = rw e (ran_none gives s a)
+pub ran_start : {S : Type 0} (gives : S → List Word → Answer → S → Type 0) (here : Point S) (rest : List ℕ) → complete_of rest ≡ [] → Ran gives here here (complete_of rest)
+ran_start gives here rest e = rw e (ran_none gives here)
 
 -- whether a line can be read
 pub readable_text : (line : List ℕ) → length line ≤ MOST_LINE_BYTES → IsUtf8 line → is_readable line ≡ true
@@ -384,9 +384,9 @@ unreadable_text line n = go (nat_le (length line) MOST_LINE_BYTES) (is_utf8 line
     go false b h = refl
 
 -- the last line of a script was run
-pub ran_last : {S : Type 0} (gives : S → List Word → Answer → S → Type 0) (old new : S) (a b : Option (List ℕ)) (f g : ℕ) (rest : List ℕ) (r : Result (Unit {0}) Fault)
-    → RanLine gives old new a b (kept rest) r → kept rest ≢ [] → IfErr r (λ fault. fault ≡ WriteFault) → g ≡ f + failures_of r → RanLines gives old new a b f g (last_of rest) (last_of rest) r
-ran_last gives old new a b f g rest r h n w e = rw (last_some rest n) (one_line gives old new a b f g rest r (last_kept gives old new a b rest r h) w e)
+pub ran_last : {S : Type 0} (gives : S → List Word → Answer → S → Type 0) (old new : Point S) (rest : List ℕ) (r : Result (Unit {0}) Fault)
+    → RanLine gives old new (kept rest) r → kept rest ≢ [] → IfErr r (λ fault. fault ≡ WriteFault) → new.out.failures ≡ old.out.failures + failures_of r → RanLines gives old new (last_of rest) (last_of rest) r
+ran_last gives old new rest r h n w e = rw (last_some rest n) (one_line gives old new rest r (last_kept gives old new rest r h) w e)
 
 pub length_none : (bytes : List ℕ) → length bytes ≡ 0 → bytes ≡ []
 length_none [] e = refl

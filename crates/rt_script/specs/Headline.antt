@@ -2,7 +2,7 @@
 -- stands the law that has it. The code meets these relations by its contracts: `SiteState::answer` by `AnswersInTurn`, `command` by
 -- `Gives`, `receive` by `SiteReceives`, each other call by the relation of its event; `begun` by `Begins`, and `run_site` by
 -- `RunsScript`, in which the lines are answered in order (`Ends`). `SiteState::export` gives bytes that are read as the log.
-use Rattle.std.specs.Prelude.{◌≡◌, ◌↔◌, List, Result, Ok, Err, MatchResult}
+use Rattle.std.specs.Prelude.{◌≡◌, ◌⊎◌, ◌↔◌, List, Result, Ok, Err, MatchResult}
 use Rattle.rt_stamps.specs.declared.fault.Fault.{Fault}
 use Rattle.rt_stamps.specs.declared.fault.Fault.TheVariants.{Conflict}
 use Rattle.rt_stamps.specs.Outcomes.{Refuses}
@@ -10,15 +10,14 @@ use Rattle.rt_stamps.specs.Words.{Word}
 use Rattle.rt_requests.specs.declared.request.Request.{Request}
 use Rattle.rt_requests.specs.Asking.{Asked, Asks}
 use Rattle.rt_ops.specs.Operations.{Operation}
-use Rattle.rt_oplog.specs.Logs.{HasClashOf, IsUnion, joined}
+use Rattle.rt_oplog.specs.Logs.{AreOf, HasClashOf, IsUnion, joined}
 use Rattle.rt_rga.specs.Cells.{cells_of}
 use Rattle.rt_rga.specs.Histories.{IsHistory}
 use Rattle.rt_rga.specs.Texts.{TaggedCharacter, tagged_text}
-use Rattle.rt_holding.specs.Runs.{AreOf}
 use Rattle.rt_peers.specs.Events.{EventsGoOneWay, EventsLive}
 use Rattle.rt_peers.specs.Exchange.{ReceivesAny}
 use Rattle.rt_peers.specs.Lives.{AcceptsGreatest, AgreeInAnyOrder}
-use Rattle.rt_peers.specs.SiteStep.{AnswersInTurn, log_of, step_at}
+use Rattle.rt_peers.specs.SiteStep.{AnswersInTurn, Tries, log_of, step_at}
 use Rattle.rt_peers.specs.State.{State}
 use Rattle.rt_script.specs.Lived.{RunsLive}
 use Rattle.rt_script.specs.Output.{LinesGoOneWay, RunsHaveOneOutput}
@@ -27,13 +26,13 @@ use Rattle.rt_script.specs.Output.{LinesGoOneWay, RunsHaveOneOutput}
 abbrev pub text_of_site : State → List TaggedCharacter
 text_of_site state = tagged_text state.text.view.doc.cells
 
--- A request that is answered has the reply of its step. One that is refused is so as its step is, or for want of memory, and then the
--- site is as it was.
+-- A request that is answered has the reply of its step and leaves its state, but that held operations may be tried behind it. One
+-- that is refused is so as its step is, or for want of memory, and then the site is as it was.
 abbrev pub RepliesByStep : Type 0
 RepliesByStep =
     (path : Word) (request : Request) (old new : State) (result : Result (List Word) Fault) → AnswersInTurn (step_at path old request) old result new
     → MatchResult result
-    (λ reply. (mid : State) × (step_at path old request ≡ Ok (reply, mid)))
+    (λ reply. (mid : State) × (step_at path old request ≡ Ok (reply, mid)) × ((new ≡ mid) ⊎ Tries mid new))
     (λ fault. (new ≡ old) × Refuses (step_at path old request) fault)
 
 -- words ask for one request, or are refused with one fault
@@ -60,10 +59,10 @@ pub record Headline (one other : State) : Type 0 where
   -- The words of a command ask for one request, or are refused with one fault (`reading_is_total`, `reading_is_unique` of
   -- rt_requests). Those of `peer`, `configure` and `cget` a site reads by functions of their own.
   pub words : WordsAskOnce
-  -- A request has the reply of its step, or is refused.
+  -- A request has the reply of its step and leaves its state, or is refused.
   pub replies : RepliesByStep
-  -- A list of calls, from one state on, has one list of answers and leaves one state, where no memory was wanting (`one_way` of
-  -- rt_peers). So it is of the lines of a script (`one_output`).
+  -- A list of calls, from one state on, has at most one list of answers and leaves at most one state, where no memory was wanting
+  -- (`one_way` of rt_peers). So it is of the lines of a script (`one_output`).
   pub one_way : EventsGoOneWay
   pub lines : LinesGoOneWay
   -- What comes to a site by calls, or by a whole run, are operations of its own number and of the files that it is given (`lives_on`

@@ -14,24 +14,24 @@ use Rattle.rt_script.specs.declared.answer.Answer.TheVariants as answers
 use Rattle.rt_script.specs.Lived.{IsRun}
 use Rattle.rt_script.specs.Lines.{answered, lines_of}
 use Rattle.rt_script.specs.Run.{LineGives, Runs}
-use Rattle.rt_script.specs.Site.{IsRefused, NamedFile, ReceiveGives, Session, SiteGives, WordsGive, file_named}
+use Rattle.rt_script.specs.Site.{LineIsRefused, NamedFile, ReceiveGives, Session, SiteGives, WordsGive, file_named}
 use Rattle.rt_script.specs.SiteRun.{BeginsWith}
 use Rattle.rt_stamps.specs.declared.limits.TheConstants.{MOST_CELLS}
 
 -- WHERE NO MEMORY WAS WANTING
 
 -- for a file that was named, if it is there
-abbrev pub FileFoundMemory : (found : Option (List ℕ)) (old : State) (answer : Answer) (new : State)
-    → MatchOption found (IsRefused NoFile old answer new)
+abbrev pub NamedFileFoundMemory : (found : Option (List ℕ)) (old : State) (answer : Answer) (new : State)
+    → MatchOption found (LineIsRefused NoFile old answer new)
     (λ bytes. (received : Received) × (answer ≡ answers.Received received) × SiteReceives bytes old received new)
     → Type 0
-FileFoundMemory None old answer new h = Unit {0}
-FileFoundMemory (Some bytes) old answer new h = ReceivingFoundMemory bytes old h.0 new h.2
+NamedFileFoundMemory None old answer new h = Unit {0}
+NamedFileFoundMemory (Some bytes) old answer new h = ReceivingFoundMemory bytes old h.0 new h.2
 
 -- `receive NAME`
 abbrev pub ReceiveFoundMemory : (files : List NamedFile) (words : List Word) (old : State) (answer : Answer) (new : State)
     → ReceiveGives files words old answer new → Type 0
-ReceiveFoundMemory files (name ∷ []) old answer new h = FileFoundMemory (file_named name files) old answer new h
+ReceiveFoundMemory files (name ∷ []) old answer new h = NamedFileFoundMemory (file_named name files) old answer new h
 ReceiveFoundMemory files [] old answer new h = Unit {0}
 ReceiveFoundMemory files (name ∷ more ∷ words) old answer new h = Unit {0}
 

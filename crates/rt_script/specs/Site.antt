@@ -40,26 +40,26 @@ file_named name [] = None
 file_named name (file ∷ files) = if bytes_eq file.0 name then Some file.1 else file_named name files
 
 -- a line is refused with a fault, and the site is as it was
-abbrev pub IsRefused : Fault → State → Answer → State → Type 0
-IsRefused fault old answer new = (answer ≡ answers.Refused fault) × (new ≡ old)
+abbrev pub LineIsRefused : Fault → State → Answer → State → Type 0
+LineIsRefused fault old answer new = (answer ≡ answers.Refused fault) × (new ≡ old)
 
 -- `receive NAME`: the operations of the file are received, and the answer tells what became of them
 abbrev pub ReceiveGives : List NamedFile → List Word → State → Answer → State → Type 0
 ReceiveGives files (name ∷ []) old answer new = MatchOption (file_named name files)
-    (IsRefused NoFile old answer new)
+    (LineIsRefused NoFile old answer new)
     (λ bytes. (received : Received) × (answer ≡ answers.Received received) × SiteReceives bytes old received new)
-ReceiveGives files [] old answer new = IsRefused BadCommand old answer new
-ReceiveGives files (name ∷ more ∷ words) old answer new = IsRefused BadCommand old answer new
+ReceiveGives files [] old answer new = LineIsRefused BadCommand old answer new
+ReceiveGives files (name ∷ more ∷ words) old answer new = LineIsRefused BadCommand old answer new
 
 -- a call without a reply, which changes the site or is refused
 abbrev pub IsDone : Result State Fault → State → Answer → State → Type 0
-IsDone said old answer new = MatchResult said (λ left. (answer ≡ answers.Replied []) × (new ≡ left)) (λ fault. IsRefused fault old answer new)
+IsDone said old answer new = MatchResult said (λ left. (answer ≡ answers.Replied []) × (new ≡ left)) (λ fault. LineIsRefused fault old answer new)
 
 -- `destroy PATH`: the widget of the path is no longer there
 abbrev pub DestroyGives : List Word → State → Answer → State → Type 0
 DestroyGives words old answer new = MatchResult (asked_destroy words)
     (λ request. IsDone (destroyed request.path old) old answer new)
-    (λ fault. IsRefused fault old answer new)
+    (λ fault. LineIsRefused fault old answer new)
 
 -- a reply or a fault, as an answer
 abbrev pub as_answer : Result (List Word) Fault → Answer
@@ -72,7 +72,7 @@ PathGives path words old answer new = (result : Result (List Word) Fault) × (an
 
 -- What the words of a line give: those of `receive NAME`, of `destroy PATH`, or of `PATH COMMAND WORDS`.
 abbrev pub WordsGive : List NamedFile → List Word → State → Answer → State → Type 0
-WordsGive files [] old answer new = IsRefused BadCommand old answer new
+WordsGive files [] old answer new = LineIsRefused BadCommand old answer new
 WordsGive files (first ∷ words) old answer new =
     (bytes_eq first (codes "receive") ≡ true → ReceiveGives files words old answer new)
     × (bytes_eq first (codes "receive") ≡ false

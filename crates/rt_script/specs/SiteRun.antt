@@ -1,15 +1,15 @@
 -- The run of a script by a site: how the site begins, and what there is of it at the end.
-use Rattle.std.specs.Prelude.{◌≡◌, ◌⊎◌, ◌≤◌, ℕ, Bool, true, false, List, length, Option, Some, None, Result, MatchResult, IfOk, IfErr, Vec, reverse, ⊤}
+use Rattle.std.specs.Prelude.{◌≡◌, ◌≢◌, ◌⊎◌, ◌+◌, ◌≤◌, ℕ, Bool, [], true, false, List, length, Option, Some, None, Result, MatchResult, IfOk, IfErr, Vec, reverse, ⊤}
 use Rattle.std.specs.Borrow.{Bor}
 use Rattle.std.specs.declared.alloc.Global.{Global}
 use Rattle.rt_stamps.specs.declared.fault.Fault.{Fault}
-use Rattle.rt_stamps.specs.declared.fault.Fault.TheVariants.{NoMemory}
+use Rattle.rt_stamps.specs.declared.fault.Fault.TheVariants.{NoMemory, ReadFault}
 use Rattle.rt_stamps.specs.declared.limits.TheConstants.{MOST_BYTES, MOST_CELLS}
-use Rattle.rt_stamps.specs.Streams.{Stream}
+use Rattle.rt_stamps.specs.Streams.{FILE_BOUNDS, Stream}
 use Rattle.rt_ops.specs.File.{spelling}
-use Rattle.rt_script.specs.Run.{Ends}
+use Rattle.rt_script.specs.Run.{Ends, Point, point}
 use Rattle.rt_script.specs.State.{State, new_state}
-use Rattle.rt_script.specs.Site.{NamedFile, SiteGives}
+use Rattle.rt_script.specs.Site.{NamedFile, Session, SiteGives}
 use Rattle.rt_script.specs.SiteStep.{SiteReceives}
 use Rattle.rt_holding.specs.declared.receiving.Received.{Received}
 use Rattle.rt_script.specs.declared.site_run.Outcome.{Outcome}
@@ -44,8 +44,15 @@ TellsLog true state log = (told : Result (Vec ℕ Global) Fault) × (log ≡ Som
 -- A script was run by a site, which is told as the run left it, with its log where that is wanted.
 abbrev pub RunsScript : List NamedFile → State → Bool → Stream → Stream → Stream → Stream → Outcome → Type 0
 RunsScript files site wants_log script left before after outcome =
-    Ends SiteGives (record { site = site; files = files }) (record { site = outcome.site; files = files }) script left before after outcome.fault
+    Ends SiteGives FILE_BOUNDS (point (record { site = site; files = files }) before) (point (record { site = outcome.site; files = files }) after) script left
+    outcome.fault
     × TellsLog wants_log outcome.site outcome.log
+
+-- Within the bounds of a file no run ends for want of reads: it ends with ReadFault where a read failed, or a byte came past the bound.
+abbrev pub ReadsSuffice : Type 0
+ReadsSuffice =
+    (old new : Point Session) (script left : Stream) (fault : Option Fault) (ends : Ends SiteGives FILE_BOUNDS old new script left fault)
+    → fault ≡ Some ReadFault → (left.failures ≡ script.failures + 1) ⊎ (ends.over ≢ [])
 
 -- a log has no more bytes than a file may have
 abbrev pub WithinBytes : Option (Bor (List ℕ)) → Type 0

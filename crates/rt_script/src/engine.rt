@@ -1,5 +1,5 @@
 // Runs of scripts.
-ghost use Rattle.std.specs.Prelude.{◌≡◌, ℕ, ◌+◌, ◌<◌, ◌≤◌, ◌&&◌, ◌∷◌, ◌++◌, [], true, false, List, length, IfOk, IsOkUnless, OnOk, IfSome, MatchOption};
+ghost use Rattle.std.specs.Prelude.{◌≡◌, ℕ, ◌+◌, ◌<◌, ◌≤◌, ◌&&◌, ◌∷◌, ◌++◌, [], true, false, List, length, Some, IfOk, IsOkUnless, OnOk, IfSome, MatchOption};
 ghost use Rattle.std.specs.List.{list_all, prefix_len};
 ghost use Rattle.rt_script.specs.Lines.{cut, without_return, is_readable, is_silent, complete_of, rest_of, last_of, lines_of};
 ghost use Rattle.rt_words.specs.Spelling.{is_blank};
@@ -8,12 +8,12 @@ ghost use Rattle.rt_stamps.specs.Written.{Wrote};
 ghost use Rattle.rt_words.specs.declared.spare.TheConstants.{MOST_WORDS};
 ghost use Rattle.rt_script.specs.Pieces.{is_inner, kept, RanLine, RanLines};
 ghost use Rattle.rt_script.specs.Replies.{reply_line};
-ghost use Rattle.rt_script.specs.Run.{LineGives, Ends};
+ghost use Rattle.rt_script.specs.Run.{LineGives, Ends, StopsInLast, point};
 
 use crate::reply::{push_bare, reply_line};
 use crate::{Answer, Commands};
 use memchr::memchr;
-use rt_stamps::limits::{MOST_BYTES, MOST_LINE_BYTES, MOST_READS, PIECE_BYTES};
+use rt_stamps::limits::{Bounds, MOST_LINE_BYTES, PIECE_BYTES};
 use rt_stamps::std_ends::{Count, Writer};
 use rt_stamps::{Fault, Sink, Source, read_piece, write_all};
 use rt_words::words::words_in;
@@ -189,9 +189,9 @@ fn write_answer<W: Sink>(
     answer: &Answer,
     out: &mut W,
 ) -> Result<(), Fault>
-    ensures wrote { Wrote (W.contents out.old) (W.contents out.new) result (reply_line answer.now) }
+    ensures wrote { Wrote (W.stream out.old).bytes (W.stream out.new).bytes result (reply_line answer.now) }
     ensures fault { IsOkUnless result Fault.WriteFault }
-    ensures failures { W.failures out.new ≡ W.failures out.old + failures_of result }
+    ensures failures { (W.stream out.new).failures ≡ (W.stream out.old).failures + failures_of result }
 {
     let empty = memory.answer(alloc);
     match rendered::<Brand, Brand>(empty, answer, Blank::new(1), Blank::new(1)) {
@@ -212,9 +212,9 @@ fn run_line<C: Commands, W: Sink>(
     line: &[u8],
     out: &mut W,
 ) -> Result<(), Fault>
-    ensures ran { RanLine C.gives (C.state site.old) (C.state site.new) (W.contents out.old) (W.contents out.new) line.now result }
+    ensures ran { RanLine C.gives (point (C.state site.old) (W.stream out.old)) (point (C.state site.new) (W.stream out.new)) line.now result }
     ensures fault { IsOkUnless result Fault.WriteFault }
-    ensures failures { W.failures out.new ≡ W.failures out.old + failures_of result }
+    ensures failures { (W.stream out.new).failures ≡ (W.stream out.old).failures + failures_of result }
 {
     match answer_line(alloc, &mut memory.words, site, line) {
         Some(answer) => write_answer(alloc, memory, &answer, out),
@@ -254,8 +254,8 @@ fn end_line<C: Commands, W: Sink>(
 ) -> Result<(), Fault>
     requires { length pending.old.items ≤ MOST_KEPT_BYTES }
     ensures ran { (front : List ℕ) → pending.old.items ≡ kept front → let line = without_return (front ++ bytes.now) in
-        RanLines C.gives (C.state site.old) (C.state site.new) (W.contents out.old) (W.contents out.new) (W.failures out.old)
-        (W.failures out.new) (line ∷ []) (line ∷ []) result }
+        RanLines C.gives (point (C.state site.old) (W.stream out.old)) (point (C.state site.new) (W.stream out.new))
+        (line ∷ []) (line ∷ []) result }
     ensures rest { OnOk result (pending.new.items ≡ []) }
 {
     if pending.is_empty() {
@@ -279,8 +279,8 @@ fn feed<C: Commands, W: Sink>(
 ) -> Result<(), Fault>
     requires { length pending.old.items ≤ MOST_KEPT_BYTES }
     ensures ran { (rest : List ℕ) → cut rest ≡ ([], rest) → pending.old.items ≡ kept rest
-        → RanLines C.gives (C.state site.old) (C.state site.new) (W.contents out.old) (W.contents out.new) (W.failures out.old)
-        (W.failures out.new) (complete_of (rest ++ piece.now)) (lines_of (rest ++ piece.now)) result }
+        → RanLines C.gives (point (C.state site.old) (W.stream out.old)) (point (C.state site.new) (W.stream out.new))
+        (complete_of (rest ++ piece.now)) (lines_of (rest ++ piece.now)) result }
     ensures rest { (rest : List ℕ) → cut rest ≡ ([], rest) → pending.old.items ≡ kept rest
         → OnOk result (pending.new.items ≡ kept (rest_of (rest ++ piece.now))) }
 {
@@ -305,8 +305,8 @@ fn finish<C: Commands, W: Sink>(
     out: &mut W,
 ) -> Result<(), Fault>
     ensures ran { (rest : List ℕ) → pending.now ≡ kept rest
-        → RanLines C.gives (C.state site.old) (C.state site.new) (W.contents out.old) (W.contents out.new) (W.failures out.old)
-        (W.failures out.new) (last_of rest) (last_of rest) result }
+        → RanLines C.gives (point (C.state site.old) (W.stream out.old)) (point (C.state site.new) (W.stream out.new))
+        (last_of rest) (last_of rest) result }
     ensures fault { IsOkUnless result Fault.WriteFault }
 {
     if pending.is_empty() {
@@ -324,29 +324,27 @@ fn finish<C: Commands, W: Sink>(
 /// memory, it is answered `NoMemory`, and not run.
 ///
 /// After each read all lines that are then complete are run, each answer in one write where there
-/// is memory for it. At a failed read, and past `MOST_BYTES` bytes, the run ends with
-/// `ReadFault` (it takes at most `MOST_READS` reads, which suffice for so many bytes), and what follows
-/// the last newline isn't run. After a failed write nothing more is run or written, and the run ends
-/// with `WriteFault`. Where a line can't be stored, it ends with `NoMemory`; then all lines were run that were complete
-/// before the last piece, of at most `PIECE_BYTES` bytes, and perhaps some of that.
+/// is memory for it. At a failed read, past the bound of bytes, and where no read is left before the end is found, the
+/// run ends with `ReadFault`, and what follows the last newline isn't run. After a failed write nothing more is run or
+/// written, and the run ends with `WriteFault`. Where a line can't be stored, it ends with `NoMemory`; then all lines
+/// were run that were complete before the last read, which gave at most `PIECE_BYTES` bytes, and perhaps some of those.
 pub fn run_lines<C: Commands + Drop, R: Source, W: Sink>(
     alloc: Global,
     mut site: C,
     script: &mut R,
     out: &mut W,
+    bounds: Bounds,
 ) -> Ended<C>
-    ensures { Ends C.gives (C.state site) (C.state result.site)
-        (record { calls = R.calls script.old; failures = R.failures script.old; bytes = R.remaining script.old })
-        (record { calls = R.calls script.new; failures = R.failures script.new; bytes = R.remaining script.new })
-        (record { calls = W.calls out.old; failures = W.failures out.old; bytes = W.contents out.old })
-        (record { calls = W.calls out.new; failures = W.failures out.new; bytes = W.contents out.new })
-        result.fault }
+    ensures ends { Ends C.gives bounds (point (C.state site) (W.stream out.old)) (point (C.state result.site) (W.stream out.new))
+        (R.stream script.old) (R.stream script.new) result.fault }
+    ensures last { result.fault ≡ Some Fault.NoMemory → StopsInLast C.gives R.stream (point (C.state site) (W.stream out.old))
+        (point (C.state result.site) (W.stream out.new)) script.old script.new }
 {
     let mut memory = Memory::new(alloc);
     let mut pending = Vec::new(alloc);
     let mut buf = [0u8; PIECE_BYTES];
-    let mut room = MOST_BYTES;
-    for _ in 0..MOST_READS {
+    let mut room = bounds.bytes;
+    for _ in 0..bounds.reads {
         let n = match read_piece(script, &mut buf, room) {
             Ok(n) => n,
             Err(_) => return stopped(site, Fault::ReadFault),

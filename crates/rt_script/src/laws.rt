@@ -7,6 +7,7 @@ ghost use Rattle.rt_script.specs.Headline.{Headline};
 ghost use Rattle.rt_script.specs.Lived.{RunsLive, ScriptsLiveOn};
 ghost use Rattle.rt_script.specs.Output.{LinesGoOneWay, RunsHaveOneOutput};
 ghost use Rattle.rt_script.specs.Replies.{text_of_answer};
+ghost use Rattle.rt_script.specs.SiteRun.{ReadsSuffice};
 
 use rt_oplog::laws::joining;
 use rt_peers::SiteState;
@@ -21,6 +22,12 @@ use rt_rga::laws::histories;
 pub fn reply_is_read_back()
     ensures spells { (words : List Word) → Spells (text_of_answer (Replied words)) (codes "=" ∷ words) }
     ensures nothing_else { (words others : List Word) → Spells (text_of_answer (Replied words)) others → others ≡ codes "=" ∷ words }
+{}
+
+/// The reads of `run` suffice for its bytes, since each read but the last gives one: it ends with `ReadFault` where a read
+/// failed, or a byte came past the bound.
+pub fn reads_suffice()
+    ensures { ReadsSuffice }
 {}
 
 /// A run of a script by a site is so many calls of it, however it ends: to a site that was begun, with a log or

@@ -1,7 +1,8 @@
 // The run of a script by a site.
 ghost use Rattle.std.specs.Prelude.{◌≡◌, ◌≤◌, None, Some, MatchResult, length};
 ghost use Rattle.rt_stamps.specs.declared.limits.TheConstants.{MOST_BYTES};
-ghost use Rattle.rt_script.specs.Site.{AreWithin, named_files};
+ghost use Rattle.rt_script.specs.Run.{StopsInLast, point};
+ghost use Rattle.rt_script.specs.Site.{AreWithin, SiteGives, named_files};
 ghost use Rattle.rt_script.specs.SiteRun.{Begins, RunsScript, TellsLog, WithinBytes};
 
 use crate::{Ended, SiteState, run};
@@ -68,12 +69,11 @@ pub fn run_site<R: Source, W: Sink>(
     out: &mut W,
 ) -> Outcome
     requires { AreWithin files.now }
-    ensures { RunsScript (named_files files.now) site wants_log
-        (record { calls = R.calls script.old; failures = R.failures script.old; bytes = R.remaining script.old })
-        (record { calls = R.calls script.new; failures = R.failures script.new; bytes = R.remaining script.new })
-        (record { calls = W.calls out.old; failures = W.failures out.old; bytes = W.contents out.old })
-        (record { calls = W.calls out.new; failures = W.failures out.new; bytes = W.contents out.new })
-        result }
+    ensures runs { RunsScript (named_files files.now) site wants_log (R.stream script.old) (R.stream script.new)
+        (W.stream out.old) (W.stream out.new) result }
+    ensures last { result.fault ≡ Some Fault.NoMemory → StopsInLast SiteGives R.stream
+        (point (record { site = site; files = named_files files.now }) (W.stream out.old))
+        (point (record { site = result.site; files = named_files files.now }) (W.stream out.new)) script.old script.new }
 {
     let Ended { site, fault } = run(alloc, site, script, files, out);
     let log = log_of(&site, wants_log);

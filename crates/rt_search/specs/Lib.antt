@@ -1,5 +1,6 @@
 pub mod Borders
 pub mod Ends
+pub mod Examples
 pub mod Parts
 pub mod Searches
 pub mod Walks

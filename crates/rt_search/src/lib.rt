@@ -3,6 +3,7 @@
 
 pub mod all;
 mod borders;
+pub mod examples;
 pub mod find;
 pub mod laws;
 pub mod part;

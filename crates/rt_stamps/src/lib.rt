@@ -15,6 +15,7 @@ pub mod write;
 
 pub use clock::Clock;
 pub use fault::Fault;
+pub use limits::Bounds;
 pub use name::{check_name, check_names, is_name_length};
 pub use position::Position;
 pub use source::{Failed, Sink, Source, read_piece};

@@ -1,4 +1,6 @@
 // Each limit once. Definitions cite them from here too.
+ghost use Rattle.std.specs.Prelude.{◌≡◌};
+ghost use Rattle.rt_stamps.specs.Streams.{FILE_BOUNDS};
 
 /// The greatest count of a stamp, 2^48 - 1.
 pub const GREATEST_COUNT: u64 = 0xffff_ffff_ffff;
@@ -38,3 +40,24 @@ pub const MOST_READS: usize = 0x8000_0000;
 
 /// The most bytes of one read.
 pub const PIECE_BYTES: usize = 1024;
+
+/// How much of an input is read at most.
+#[derive(Clone, Copy, Debug, PartialEq, Eq)]
+pub struct Bounds {
+    /// So many bytes; an input of just these is whole.
+    pub bytes: usize,
+    /// In so many reads, the one that finds the end among them.
+    pub reads: usize,
+}
+
+impl Bounds {
+    /// Those of a script or a file: `MOST_BYTES` and `MOST_READS`.
+    pub fn of_file() -> Bounds
+        ensures { result ≡ FILE_BOUNDS }
+    {
+        Bounds {
+            bytes: MOST_BYTES,
+            reads: MOST_READS,
+        }
+    }
+}

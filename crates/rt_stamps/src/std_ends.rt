@@ -66,11 +66,7 @@ impl<R: Read + Drop, C: Ledger, F: Ledger> Reader<R, C, F> {
 }
 
 impl<R: Read + Drop, C: Ledger, F: Ledger> Source for Reader<R, C, F> {
-    ghost calls = { λ s. s.calls };
-
-    ghost failures = { λ s. s.failures };
-
-    ghost remaining = { λ s. R.remaining s.inner };
+    ghost stream = { λ s. record { calls = s.calls; failures = s.failures; bytes = R.remaining s.inner } };
 
     fn read(&mut self, buf: &mut [u8]) -> Result<usize, Failed> {
         self.calls.tick();
@@ -116,11 +112,7 @@ impl<W: Write + Drop, C: Ledger, F: Ledger> Writer<W, C, F> {
 }
 
 impl<W: Write + Drop, C: Ledger, F: Ledger> Sink for Writer<W, C, F> {
-    ghost calls = { λ s. s.calls };
-
-    ghost failures = { λ s. s.failures };
-
-    ghost contents = { λ s. W.contents s.inner };
+    ghost stream = { λ s. record { calls = s.calls; failures = s.failures; bytes = W.contents s.inner } };
 
     fn write(&mut self, piece: &[u8]) -> Result<usize, Failed> {
         self.calls.tick();

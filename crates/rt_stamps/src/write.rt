@@ -8,9 +8,9 @@ use crate::{Fault, Sink};
 /// Writes a piece whole, in as many writes as the sink asks for, the first of them with the whole
 /// piece. `WriteFault` where a write fails or takes nothing; a front of the piece was then written.
 pub fn write_all<W: Sink>(out: &mut W, piece: &[u8]) -> Result<(), Fault>
-    ensures wrote { Wrote (W.contents out.old) (W.contents out.new) result piece.now }
+    ensures wrote { Wrote (W.stream out.old).bytes (W.stream out.new).bytes result piece.now }
     ensures fault { IsOkUnless result Fault.WriteFault }
-    ensures failures { W.failures out.new ≡ W.failures out.old + failures_of result }
+    ensures failures { (W.stream out.new).failures ≡ (W.stream out.old).failures + failures_of result }
 {
     let mut done = 0;
     while done < piece.len() {

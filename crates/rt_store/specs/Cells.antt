@@ -35,7 +35,8 @@ EndsFinal cells = option_map (map_state (λ _. final_cell.state)) (slice_get cel
 -- new cells for characters, from a count on, in one state
 abbrev pub cells_from : {T : Type 0} → ℕ → ℕ → T → List ℕ → List (Cell T)
 cells_from count site state [] = []
-cells_from count site state (c ∷ cs) = record { stamp = record { count = count; site = site }; ch = c; gone = false; state = state } ∷ cells_from (count + 1) site state cs
+cells_from count site state (c ∷ cs) =
+    record { stamp = record { count = count; site = site }; ch = c; gone = false; state = state } ∷ cells_from (count + 1) site state cs
 
 -- STAMPS AND POSITIONS
 

@@ -1,3 +1,4 @@
+pub mod Examples
 pub mod Looking
 pub mod MarkCommands
 pub mod MarkLists

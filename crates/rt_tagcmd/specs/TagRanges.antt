@@ -6,7 +6,8 @@ use Rattle.rt_edits.specs.declared.range.Range.{Range}
 -- one place before ranges that begin behind it: it joins the first where that begins right behind it, and is a range of its own elsewhere
 abbrev pub with_place : ℕ → List Range → List Range
 with_place place [] = record { from = place; to = place + 1 } ∷ []
-with_place place (range ∷ ranges) = if range.from == place + 1 then record { from = place; to = range.to } ∷ ranges else record { from = place; to = place + 1 } ∷ range ∷ ranges
+with_place place (range ∷ ranges) =
+    if range.from == place + 1 then record { from = place; to = range.to } ∷ ranges else record { from = place; to = place + 1 } ∷ range ∷ ranges
 
 -- the ranges of characters that pass a test, in order, where the first character stands at a place
 abbrev pub ranges_from : {A : Type 0} → (A → Bool) → ℕ → List A → List Range

@@ -1,6 +1,7 @@
 //! The mark and tag commands of a widget (Tk text manual, "mark", "tag").
 #![tactic(auto)]
 
+pub mod examples;
 pub mod laws;
 pub mod mark;
 pub mod mark_list;

@@ -19,6 +19,8 @@ mod marks;
 #[cfg(test)]
 mod nodes;
 #[cfg(test)]
+mod oplog_bounds;
+#[cfg(test)]
 mod oplog_files;
 #[cfg(test)]
 mod oplog_logs;

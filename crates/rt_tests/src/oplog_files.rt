@@ -68,6 +68,7 @@ fn write_bytes(
 ) -> (Vec<u8>, Option<Fault>) {
     let out = Output {
         bytes: Vec::new(alloc),
+        most: usize::MAX,
         until_failure,
     };
     write_in::<Brand, Brand>(alloc, log, out, Blank::new(1), Blank::new(1))

@@ -5,10 +5,11 @@ ghost use Rattle.rt_script.specs.Site.{AreWithin};
 use crate::arriving::{EARLY, MOVED};
 use crate::checks::same;
 use crate::samples::{
-    FRONT, INSERT_BEFORE_LAST, INSERT_Y_TAGGED, LEAVES_SEVEN, LEAVES_SIX, Q_BEFORE_Z, TAG_Y,
+    FRONT, INSERT_BEFORE_LAST, INSERT_BY_ROOT, INSERT_KNOWN, INSERT_PAST_LAST, INSERT_Y_TAGGED,
+    LEAVES_SEVEN, LEAVES_SIX, Q_BEFORE_Z, TAG_Y,
 };
 use crate::sites::{Script, answered, new_site};
-use crate::spent::SPENT;
+use crate::spent::{SPENT, UNSOUND};
 use rt_samples::files::{
     AFTER_DELETE, AFTER_ITSELF, CUT, DELETE_FINAL, DELETE_SECOND, INSERT_AB, INSERT_B, INSERT_LAST,
     INSERT_Y, INSERT_Z, SHORT_LENGTH, TAG_FIRST,
@@ -127,6 +128,9 @@ pub(crate) const SAMPLES: Files<'static> = &[
     ("version", b"RGATEXT9"),
     ("front", FRONT),
     ("before_last", INSERT_BEFORE_LAST),
+    ("past_last", INSERT_PAST_LAST),
+    ("known", INSERT_KNOWN),
+    ("by_root", INSERT_BY_ROOT),
     ("leaves_six", LEAVES_SIX),
     ("leaves_seven", LEAVES_SEVEN),
     ("y_tagged", INSERT_Y_TAGGED),
@@ -410,6 +414,7 @@ fn files_are_received(rt: HostRuntime) {
     receive_all(&rt, alloc, REFUSED);
     receive_all(&rt, alloc, MOVED);
     receive_all(&rt, alloc, SPENT);
+    receive_all(&rt, alloc, UNSOUND);
 }
 
 #[test]

@@ -3,7 +3,7 @@ ghost use Rattle.std.specs.Prelude.{◌≡◌, ◌<◌};
 
 use crate::samples::{
     CLASHES, CLASHES_AND_CUT, DELETE_AND_INSERT, DELETE_AND_TAG, INSERT_ACCENTS, INSERT_BOTH,
-    INSERT_QUOTED, NOT_BEHIND,
+    INSERT_BY_ROOT, INSERT_KNOWN, INSERT_PAST_LAST, INSERT_QUOTED, NOT_BEHIND,
 };
 use rt_samples::files::{
     AFTER_ITSELF, CUT, DELETE_FINAL, DELETE_SECOND, INSERT_AB, INSERT_B, INSERT_LAST, INSERT_Y,
@@ -121,6 +121,7 @@ pub(crate) fn shown(
 ) -> (Vec<u8>, Option<(Fault, u64)>) {
     let out = Output {
         bytes: Vec::new(alloc),
+        most: usize::MAX,
         until_failure,
     };
     show_in::<Brand, Brand, Brand, Brand>(
@@ -176,6 +177,9 @@ const REFUSED: &[Joined] = &[
     (DELETE_SECOND, TAG_FIRST, Err((0, Fault::Conflict, 0))),
     (AFTER_ITSELF, INSERT_AB, Err((1, Fault::BadStamp, 8))),
     (INSERT_AB, AFTER_ITSELF, Err((2, Fault::BadStamp, 8))),
+    (INSERT_PAST_LAST, INSERT_AB, Err((1, Fault::BadStamp, 8))),
+    (INSERT_KNOWN, INSERT_AB, Err((1, Fault::BadStamp, 8))),
+    (INSERT_BY_ROOT, INSERT_AB, Err((1, Fault::BadStamp, 8))),
     (SHORT_LENGTH, AFTER_ITSELF, Err((1, Fault::BadRecord, 8))),
     (AFTER_ITSELF, SHORT_LENGTH, Err((1, Fault::BadStamp, 8))),
     (INSERT_B, SHORT_LENGTH, Err((2, Fault::BadRecord, 8))),

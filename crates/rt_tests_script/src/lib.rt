@@ -58,7 +58,11 @@ mod sites;
 #[cfg(test)]
 mod spent;
 #[cfg(test)]
+mod stops;
+#[cfg(test)]
 mod tags;
+#[cfg(test)]
+mod telling;
 #[cfg(test)]
 mod texts;
 #[cfg(test)]

@@ -4,9 +4,9 @@ ghost use Rattle.std.specs.Prelude.{◌≡◌, ◌<◌};
 use rt_samples::Pieces;
 use rt_script::engine::run_lines;
 use rt_script::{Answer, Commands, Reply};
-use rt_stamps::Fault;
 use rt_stamps::limits::MOST_LINE_BYTES;
 use rt_stamps::std_ends::{Count, Reader, Writer};
+use rt_stamps::{Bounds, Fault};
 use std::alloc::Global;
 use std::marker::Brand;
 use std::process::Abort;
@@ -65,7 +65,13 @@ fn output<A: Ledger, B: Ledger, C: Ledger, D: Ledger>(
         Count::<C>::begin(writes),
         Count::<D>::begin(failed_writes),
     );
-    let ended = run_lines(alloc, Echo { alloc }, &mut script, &mut out);
+    let ended = run_lines(
+        alloc,
+        Echo { alloc },
+        &mut script,
+        &mut out,
+        Bounds::of_file(),
+    );
     (out.into_inner(), ended.fault)
 }
 

@@ -19,11 +19,11 @@ use crate::tags::{TAG_COMMANDS, TAG_REFUSALS, TAG_WRITES, TAGGED_TEXT};
 use crate::texts::{DELETIONS, RANGES, TEXTS};
 use crate::undoing::{COMING_BACK, FLAGS, GROUPING, UNDOING, UNDOING_FULL};
 use crate::widgets::{MARKS_IN_ORDER, REMOVALS, SELECTIONS, TAGGED_UNDO};
-use rt_samples::{Output, Pieces};
+use rt_samples::Pieces;
 use rt_script::{Ended, SiteState, run};
+use rt_stamps::Site;
 use rt_stamps::limits::MOST_CELLS;
 use rt_stamps::std_ends::{Count, Reader, Writer};
-use rt_stamps::{Fault, Site};
 use std::alloc::Global;
 use std::marker::Brand;
 use std::process::Abort;
@@ -41,7 +41,6 @@ fn output<A: Ledger, B: Ledger, C: Ledger, D: Ledger>(
     state: SiteState,
     files: &[(String, Vec<u8>)],
     script: Pieces,
-    failing_write: Option<usize>,
     reads: Blank,
     failed_reads: Blank,
     writes: Blank,
@@ -59,16 +58,12 @@ fn output<A: Ledger, B: Ledger, C: Ledger, D: Ledger>(
         Count::<B>::begin(failed_reads),
     );
     let mut out = Writer::new(
-        Output {
-            bytes: Vec::new(alloc),
-            until_failure: failing_write,
-        },
+        Vec::new(alloc),
         Count::<C>::begin(writes),
         Count::<D>::begin(failed_writes),
     );
     let ended = run(alloc, state, &mut script, files, &mut out);
-    let Output { bytes, .. } = out.into_inner();
-    (bytes, ended)
+    (out.into_inner(), ended)
 }
 
 fn run_of(
@@ -76,7 +71,6 @@ fn run_of(
     state: SiteState,
     files: &[(String, Vec<u8>)],
     script: Pieces,
-    failing_write: Option<usize>,
 ) -> (Vec<u8>, Ended<SiteState>)
     requires { AreWithin files.now }
 {
@@ -85,7 +79,6 @@ fn run_of(
         state,
         files,
         script,
-        failing_write,
         Blank::new(1),
         Blank::new(1),
         Blank::new(1),
@@ -107,8 +100,8 @@ fn add_line(rt: &impl Abort, lines: &mut String, line: &str) {
     lines.push('\n').expect(rt, "memory");
 }
 
-// Adds the lines of rows to some, and the reply lines to others. Rows may stand between empty lines.
-fn add_rows(rt: &impl Abort, rows: &str, lines: &mut String, replies: &mut String) {
+/// Adds the lines of rows to some, and the reply lines to others. Rows may stand between empty lines.
+pub(crate) fn add_rows(rt: &impl Abort, rows: &str, lines: &mut String, replies: &mut String) {
     for row in rows.lines() {
         if !row.is_empty() {
             let (line, reply) = row.split_once(" -> ").expect(rt, row);
@@ -135,7 +128,7 @@ fn gives(
         size,
         until_failure: None,
     };
-    let (text, ended) = run_of(alloc, state, files, pieces, None);
+    let (text, ended) = run_of(alloc, state, files, pieces);
     assert_eq!(rt; text.as_slice(), replies.as_bytes(), "{lines}");
     same(rt, ended.fault, None);
     ended.site
@@ -252,52 +245,4 @@ fn full_sites(rt: HostRuntime) {
     let _site = answered(&rt, alloc, state, &[], &[UNDOING_FULL], 4096);
     let state = new_site(&rt, alloc, 1, 3);
     let _site = answered(&rt, alloc, state, &[], &[FULL], 7);
-}
-
-// Four lines, and the reply lines of the first one, two, three, and of all.
-const LINES: &str = ".t insert 1.0 hello\n.t get 1.0 end\n.t index end\n.t index 1.end";
-
-const ONE: &str = "=\n";
-
-const TWO: &str = "=\n= \"hello\\n\"\n";
-
-const THREE: &str = "=\n= \"hello\\n\"\n= 2.0\n";
-
-const ALL: &str = "=\n= \"hello\\n\"\n= 2.0\n= 1.5\n";
-
-/// The numbers of a read and a write that fail, the reply lines, and what the run tells.
-type Failing = (Option<usize>, Option<usize>, &'static str, Option<Fault>);
-
-const FAILING: &[Failing] = &[
-    (Some(0), None, "", Some(Fault::ReadFault)),
-    (Some(1), None, ONE, Some(Fault::ReadFault)),
-    (Some(2), None, TWO, Some(Fault::ReadFault)),
-    (Some(3), None, THREE, Some(Fault::ReadFault)),
-    (Some(4), None, THREE, Some(Fault::ReadFault)),
-    (None, Some(0), "", Some(Fault::WriteFault)),
-    (None, Some(1), ONE, Some(Fault::WriteFault)),
-    (None, Some(2), TWO, Some(Fault::WriteFault)),
-    (None, Some(3), THREE, Some(Fault::WriteFault)),
-    (None, Some(4), ALL, None),
-];
-
-// The lines are run in pieces of 20 bytes.
-fn fails(rt: &impl Abort, alloc: Global, row: &Failing) {
-    let (read, write, replies, told) = row;
-    let pieces = Pieces {
-        bytes: LINES.as_bytes(),
-        size: 20,
-        until_failure: *read,
-    };
-    let state = new_site(rt, alloc, 1, MOST_CELLS);
-    let (text, ended) = run_of(alloc, state, &[], pieces, *write);
-    let is_told = text.as_slice() == replies.as_bytes() && ended.fault == *told;
-    assert!(rt; is_told, "{read:?} {write:?}");
-}
-
-#[test]
-fn reads_and_writes_that_fail(rt: HostRuntime) {
-    for row in FAILING {
-        fails(&rt, rt.alloc(), row);
-    }
 }

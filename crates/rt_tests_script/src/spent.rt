@@ -9,7 +9,23 @@ pub(crate) const SPENT: &[(u16, Script)] = &[
         r#"
 receive before_last -> = 1 0
 .t insert 1.0 ab -> ! 17 ClockSpent
+.t insert end ab -> ! 17 ClockSpent
 .t get 1.0 end -> = "z\n"
+.t insert end a -> =
+.t delete 1.0 -> ! 17 ClockSpent
+.t get 1.0 end -> = "za\n"
+"#,
+    ),
+    (
+        1,
+        r#"
+receive last -> = 1 0
+.t insert end a -> ! 17 ClockSpent
+.t delete 1.0 -> ! 17 ClockSpent
+.t tag add t 1.0 -> ! 17 ClockSpent
+.t get 1.0 end -> = "z\n"
+.t tag names -> = sel
+receive last -> = 0 1
 "#,
     ),
     (
@@ -72,3 +88,17 @@ receive leaves_six -> = 1 0
 "#,
     ),
 ];
+
+// Stamps that no operation has: a count, a site or an end that is out of its range.
+pub(crate) const UNSOUND: &[(u16, Script)] = &[(
+    1,
+    r#"
+receive past_last -> ! 34 BadStamp at 8 new 0 repeat 0
+receive known -> ! 34 BadStamp at 8 new 0 repeat 0
+receive by_root -> ! 34 BadStamp at 8 new 0 repeat 0
+receive after_itself -> ! 34 BadStamp at 8 new 0 repeat 0
+.t get 1.0 end -> = "\n"
+.t insert 1.0 a -> =
+.t get 1.0 end -> = "a\n"
+"#,
+)];

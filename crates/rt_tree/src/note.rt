@@ -9,11 +9,19 @@ ghost use Rattle.rt_tree.specs.Shape.{IsShape, all_below, below, level_of};
 ghost use Rattle.rt_tree.specs.Summaries.{AreBeside, AreSummed, AreSummedBut, HasEnds, shown_states, summary_of};
 
 use crate::node::Mem;
+use crate::room::{Place, Top};
 use crate::settle::{parent_of, slot_of};
 use crate::summaries::{before_in, replace_at, widened};
-use crate::summary::{Around, Summary};
+use crate::summary::{Around, StateChange, Summary};
 use rt_nodes::NodeId;
 use rt_tags::{StateId, StateTable, Toggles};
+
+// An entry of a leaf, and the states that it showed and shows now.
+#[derive(Clone, Copy)]
+pub(crate) struct Restated {
+    pub(crate) place: Place,
+    pub(crate) change: StateChange,
+}
 
 // Whether no run showed a state before, and the one that shows one now has a neighbour in that state.
 fn is_beside(around: &Around, old: &Option<StateId>, new: &Option<StateId>) -> bool
@@ -55,22 +63,19 @@ pub(crate) fn note(
     plus: &mut Toggles,
     states: &StateTable,
     mem: &Mem,
-    root: NodeId,
-    height: u32,
-    leaf: NodeId,
-    i: usize,
-    old: &Option<StateId>,
-    new: &Option<StateId>,
+    top: Top,
+    restated: Restated,
 )
-    requires tree { IsShape mem.now height root.index }
-    requires leaf { (leaf.index < length mem.now.heads) × (level_of mem.now leaf.index ≡ 0) }
-    requires within { i < length (entries mem.now leaf.index) }
+    requires tree { IsShape mem.now top.height top.root.index }
+    requires leaf { (restated.place.leaf.index < length mem.now.heads) × (level_of mem.now restated.place.leaf.index ≡ 0) }
+    requires within { restated.place.entry < length (entries mem.now restated.place.leaf.index) }
     requires many { length mem.now.heads ≤ length each.old }
-    requires old { IfSome old.now (IsState states.now) }
-    requires new { IfSome new.now (IsState states.now) }
-    requires shows { (e : Entry) → e ≡ slice_index_or (entries mem.now leaf.index) i e → shown_states (below mem.now 0 e) ≡ one_or_none new.now }
-    requires beside { AreBeside states.now mem.now height leaf.index i }
-    requires but { AreSummedBut states.now mem.now each.old height leaf.index i old.now }
+    requires old { IfSome restated.change.from (IsState states.now) }
+    requires new { IfSome restated.change.to (IsState states.now) }
+    requires shows { (e : Entry) → e ≡ slice_index_or (entries mem.now restated.place.leaf.index) restated.place.entry e
+        → shown_states (below mem.now 0 e) ≡ one_or_none restated.change.to }
+    requires beside { AreBeside states.now mem.now top.height restated.place.leaf.index restated.place.entry }
+    requires but { AreSummedBut states.now mem.now each.old top.height restated.place.leaf.index restated.place.entry restated.change.from }
     requires minus { length states.now.names ≤ minus.old.capacity }
     requires plus { length states.now.names ≤ plus.old.capacity }
     requires memory { (id : ℕ) → id < length mem.now.heads → length states.now.names ≤ (summary_of each.old id).counts.capacity }
@@ -80,12 +85,11 @@ pub(crate) fn note(
     ensures minus { minus.new.capacity ≡ minus.old.capacity }
     ensures plus { plus.new.capacity ≡ plus.old.capacity }
 {
-    if is_behind(each, mem, leaf, i, old, new) {
+    let Restated { place, change } = restated;
+    if is_behind(each, mem, place.leaf, place.entry, &change.from, &change.to) {
         return;
     }
-    note_up(
-        each, minus, plus, states, mem, root, height, leaf, i, old, new,
-    );
+    note_up(each, minus, plus, states, mem, top, restated);
 }
 
 // The same of what doesn't come in behind a run of its leaf in the same state.
@@ -96,22 +100,19 @@ fn note_up(
     plus: &mut Toggles,
     states: &StateTable,
     mem: &Mem,
-    root: NodeId,
-    height: u32,
-    leaf: NodeId,
-    i: usize,
-    old: &Option<StateId>,
-    new: &Option<StateId>,
+    top: Top,
+    restated: Restated,
 )
-    requires tree { IsShape mem.now height root.index }
-    requires leaf { (leaf.index < length mem.now.heads) × (level_of mem.now leaf.index ≡ 0) }
-    requires within { i < length (entries mem.now leaf.index) }
+    requires tree { IsShape mem.now top.height top.root.index }
+    requires leaf { (restated.place.leaf.index < length mem.now.heads) × (level_of mem.now restated.place.leaf.index ≡ 0) }
+    requires within { restated.place.entry < length (entries mem.now restated.place.leaf.index) }
     requires many { length mem.now.heads ≤ length each.old }
-    requires old { IfSome old.now (IsState states.now) }
-    requires new { IfSome new.now (IsState states.now) }
-    requires shows { (e : Entry) → e ≡ slice_index_or (entries mem.now leaf.index) i e → shown_states (below mem.now 0 e) ≡ one_or_none new.now }
-    requires beside { AreBeside states.now mem.now height leaf.index i }
-    requires but { AreSummedBut states.now mem.now each.old height leaf.index i old.now }
+    requires old { IfSome restated.change.from (IsState states.now) }
+    requires new { IfSome restated.change.to (IsState states.now) }
+    requires shows { (e : Entry) → e ≡ slice_index_or (entries mem.now restated.place.leaf.index) restated.place.entry e
+        → shown_states (below mem.now 0 e) ≡ one_or_none restated.change.to }
+    requires beside { AreBeside states.now mem.now top.height restated.place.leaf.index restated.place.entry }
+    requires but { AreSummedBut states.now mem.now each.old top.height restated.place.leaf.index restated.place.entry restated.change.from }
     requires minus { length states.now.names ≤ minus.old.capacity }
     requires plus { length states.now.names ≤ plus.old.capacity }
     requires memory { (id : ℕ) → id < length mem.now.heads → length states.now.names ≤ (summary_of each.old id).counts.capacity }
@@ -125,18 +126,19 @@ fn note_up(
         before: None,
         after: None,
     };
-    let mut around = widened(each, mem, leaf, i, &nobody);
-    if is_beside(&around, old, new) {
+    let Restated { place, change } = restated;
+    let mut around = widened(each, mem, place.leaf, place.entry, &nobody);
+    if is_beside(&around, &change.from, &change.to) {
         return;
     }
-    replace_at(each, minus, plus, states, leaf, &around, old, new);
-    let mut node = leaf;
+    replace_at(each, minus, plus, states, place.leaf, &around, &change);
+    let mut node = place.leaf;
     let mut level = 0;
-    while level < height {
+    while level < top.height {
         let parent = parent_of(mem, node);
         let slot = slot_of(mem, parent, node);
         let wider = widened(each, mem, parent, slot, &around);
-        replace_at(each, minus, plus, states, parent, &wider, old, new);
+        replace_at(each, minus, plus, states, parent, &wider, &change);
         around = wider;
         node = parent;
         level += 1;

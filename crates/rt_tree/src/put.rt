@@ -36,50 +36,40 @@ fn insert_at(
     mem: &mut Mem,
     sums: &mut Summaries,
     states: &StateTable,
-    root: NodeId,
-    height: u32,
-    leaf: NodeId,
-    i: usize,
+    top: Top,
+    place: Place,
     run: Run,
 ) -> Place
-    requires tree { IsShape (bare mem.old) height root.index }
+    requires tree { IsShape (bare mem.old) top.height top.root.index }
     requires exact { AreExact mem.old }
-    requires filled { AreFilled mem.old root.index }
-    requires few { AreFew (counts_of (runs (bare mem.old) height root.index)) }
-    requires leaf { (leaf.index < length mem.old.heads) × (level_of (bare mem.old) leaf.index ≡ 0) }
-    requires within { i ≤ length (entries mem.old leaf.index) }
-    requires root_room { length (entries mem.old root.index) < 16 }
-    requires room { HasNodes mem.old (length (runs (bare mem.old) height root.index)) }
+    requires filled { AreFilled mem.old top.root.index }
+    requires few { AreFew (counts_of (runs (bare mem.old) top.height top.root.index)) }
+    requires leaf { (place.leaf.index < length mem.old.heads) × (level_of (bare mem.old) place.leaf.index ≡ 0) }
+    requires within { place.entry ≤ length (entries mem.old place.leaf.index) }
+    requires root_room { length (entries mem.old top.root.index) < 16 }
+    requires room { HasNodes mem.old (length (runs (bare mem.old) top.height top.root.index)) }
     requires still_few { AreFew (counts_of
-        (insert (runs (bare mem.old) height root.index) (length (ahead (bare mem.old) height leaf.index) + i) run)) }
-    requires told { AreTold states.now mem.old sums.old (runs (bare mem.old) height root.index) }
-    requires short { length (runs (bare mem.old) height root.index) + 5 < 2 ^ 32 }
+        (insert (runs (bare mem.old) top.height top.root.index) (length (ahead (bare mem.old) top.height place.leaf.index) + place.entry) run)) }
+    requires told { AreTold states.now mem.old sums.old (runs (bare mem.old) top.height top.root.index) }
+    requires short { length (runs (bare mem.old) top.height top.root.index) + 5 < 2 ^ 32 }
     requires state { IsState states.now run.state }
-    ensures tree { IsShape (bare mem.new) height root.index }
+    ensures tree { IsShape (bare mem.new) top.height top.root.index }
     ensures exact { AreExact mem.new }
-    ensures filled { AreFilled mem.new root.index }
-    ensures runs { runs (bare mem.new) height root.index
-        ≡ insert (runs (bare mem.old) height root.index) (length (ahead (bare mem.old) height leaf.index) + i) run }
+    ensures filled { AreFilled mem.new top.root.index }
+    ensures runs { runs (bare mem.new) top.height top.root.index
+        ≡ insert (runs (bare mem.old) top.height top.root.index) (length (ahead (bare mem.old) top.height place.leaf.index) + place.entry) run }
     ensures stay { StayBut mem.old mem.new result.leaf.index run }
     ensures leaf { (result.leaf.index < length mem.new.heads) × (level_of (bare mem.new) result.leaf.index ≡ 0) }
     ensures here { slice_get (entries mem.new result.leaf.index) result.entry ≡ Some (Here run) }
-    ensures place { length (ahead (bare mem.new) height result.leaf.index) + result.entry ≡ length (ahead (bare mem.old) height leaf.index) + i }
+    ensures place { length (ahead (bare mem.new) top.height result.leaf.index) + result.entry
+        ≡ length (ahead (bare mem.old) top.height place.leaf.index) + place.entry }
     ensures longer { length mem.old.heads ≤ length mem.new.heads }
     ensures room { length mem.new.heads + mem.new.room ≡ length mem.old.heads + mem.old.room }
-    ensures told { AreTold states.now mem.new sums.new (runs (bare mem.new) height root.index) }
+    ensures told { AreTold states.now mem.new sums.new (runs (bare mem.new) top.height top.root.index) }
     ensures tags { sums.new.tags ≡ sums.old.tags }
 {
-    let place = make_room(mem, sums, states, root, height, leaf, i);
-    insert_run(
-        mem,
-        sums,
-        states,
-        root,
-        height,
-        place.leaf,
-        place.entry,
-        run,
-    );
+    let place = make_room(mem, sums, states, top, place);
+    insert_run(mem, sums, states, top, place, run);
     place
 }
 
@@ -240,9 +230,11 @@ pub(crate) fn put(
     let top = top_room(mem, sums, states, root, height);
     let known = still_known(known, height, &top);
     let spot = spot_known(mem, top.root, at, known);
-    let place = insert_at(
-        mem, sums, states, top.root, top.height, spot.leaf, spot.entry, run,
-    );
+    let place = Place {
+        leaf: spot.leaf,
+        entry: spot.entry,
+    };
+    let place = insert_at(mem, sums, states, top, place, run);
     Placed {
         root: top.root,
         leaf: place.leaf,
@@ -250,48 +242,55 @@ pub(crate) fn put(
     }
 }
 
-// The same, and tells where the run's stamps are. No cell has a greater count than `newest`.
+// A run that is put in before the one that has the cell at a position, and what is known of that cell. No cell that is there has
+// a greater count than `newest`.
+#[derive(Clone, Copy)]
+pub(crate) struct NewRun {
+    pub(crate) run: Run,
+    pub(crate) at: usize,
+    pub(crate) known: Known,
+    pub(crate) newest: u64,
+}
+
+// The same, and tells where the run's stamps are.
 #[inline(always)]
 pub(crate) fn put_home(
     mem: &mut Mem,
     sums: &mut Summaries,
     states: &StateTable,
     root: NodeId,
-    at: usize,
-    known: Known,
-    run: Run,
+    new: NewRun,
     homes: &mut Homes,
-    newest: u64,
 ) -> NodeId
     requires tree { IsTree mem.old root.index }
-    requires within { at < (counts_of (tree_runs mem.old root.index)).cells }
-    requires hint { HoldsAt mem.old root.index at known }
-    requires few { AreFew (plus (counts_of_run run) (counts_of (tree_runs mem.old root.index))) }
+    requires within { new.at < (counts_of (tree_runs mem.old root.index)).cells }
+    requires hint { HoldsAt mem.old root.index new.at new.known }
+    requires few { AreFew (plus (counts_of_run new.run) (counts_of (tree_runs mem.old root.index))) }
     requires height { level_of mem.old root.index + 1 < 2 ^ 32 }
     requires room { HasNodes mem.old (length (tree_runs mem.old root.index)) }
-    requires counts { run.first + run.len ≤ 2 ^ 64 }
-    requires known { AreKnown newest (tree_runs mem.old root.index) }
+    requires counts { new.run.first + new.run.len ≤ 2 ^ 64 }
+    requires known { AreKnown new.newest (tree_runs mem.old root.index) }
     requires home { homes.old.sure ≡ true → AreHome homes.old.leaves (tree_runs mem.old root.index) }
     requires housed { homes.old.sure ≡ true → AreHoused mem.old root.index homes.old.leaves }
     requires left { 0 < homes.old.left }
     requires told { AreTold states.now mem.old sums.old (tree_runs mem.old root.index) }
     requires short { length (tree_runs mem.old root.index) + 5 < 2 ^ 32 }
-    requires state { IsState states.now run.state }
+    requires state { IsState states.now new.run.state }
     ensures tree { IsTree mem.new result.index }
-    ensures runs { IsPutAt (tree_runs mem.old root.index) (tree_runs mem.new result.index) at run }
+    ensures runs { IsPutAt (tree_runs mem.old root.index) (tree_runs mem.new result.index) new.at new.run }
     ensures room { length mem.new.heads + mem.new.room ≡ length mem.old.heads + mem.old.room }
     ensures home { homes.new.sure ≡ true → AreHome homes.new.leaves (tree_runs mem.new result.index) }
     ensures housed { homes.new.sure ≡ true → AreHoused mem.new result.index homes.new.leaves }
     ensures left { homes.old.left ≤ homes.new.left + 1 }
-    ensures sure { homes.old.sure ≡ true → IsNew run (tree_runs mem.old root.index) → 0 < run.len → run.first + run.len < 2 ^ 64
+    ensures sure { homes.old.sure ≡ true → IsNew new.run (tree_runs mem.old root.index) → 0 < new.run.len → new.run.first + new.run.len < 2 ^ 64
         → homes.new.sure ≡ true }
     ensures told { AreTold states.now mem.new sums.new (tree_runs mem.new result.index) }
     ensures tags { sums.new.tags ≡ sums.old.tags }
 {
-    let is_new = homes.is_new(newest, &run);
+    let is_new = homes.is_new(new.newest, &new.run);
     let nodes = mem.nodes();
-    let placed = put(mem, sums, states, root, at, known, run);
-    homes.enter(&run, placed.leaf, is_new);
+    let placed = put(mem, sums, states, root, new.at, new.known, new.run);
+    homes.enter(&new.run, placed.leaf, is_new);
     homes.note_new(mem, nodes);
     placed.root
 }
@@ -322,5 +321,9 @@ pub(crate) fn replace_at(
     ensures tags { sums.new.tags ≡ sums.old.tags }
 {
     let height = level_of(mem, root);
-    replace_run(mem, sums, states, root, height, spot.leaf, spot.entry, run);
+    let place = Place {
+        leaf: spot.leaf,
+        entry: spot.entry,
+    };
+    replace_run(mem, sums, states, Top { root, height }, place, run);
 }

@@ -13,6 +13,7 @@ ghost use Rattle.rt_tree.specs.Sums.{AreFew, counts_of};
 
 use crate::gather::gather_at;
 use crate::node::Mem;
+use crate::room::Top;
 use crate::split::{grow, split};
 use crate::summed::Summaries;
 use rt_nodes::NodeId;
@@ -58,16 +59,15 @@ pub(crate) fn cut_node(
     mem: &mut Mem,
     sums: &mut Summaries,
     states: &StateTable,
-    root: NodeId,
-    height: u32,
+    top: Top,
     node: NodeId,
     parent: NodeId,
     slot: usize,
 ) -> NodeId
-    requires tree { IsShape (bare mem.old) height root.index }
+    requires tree { IsShape (bare mem.old) top.height top.root.index }
     requires exact { AreExact mem.old }
-    requires few { AreFew (counts_of (runs (bare mem.old) height root.index)) }
-    requires node { (node.index < length mem.old.heads) × (node.index ≢ root.index) }
+    requires few { AreFew (counts_of (runs (bare mem.old) top.height top.root.index)) }
+    requires node { (node.index < length mem.old.heads) × (node.index ≢ top.root.index) }
     requires parent { parent.index ≡ parent_of (bare mem.old) node.index }
     requires within { slot < length (entries mem.old parent.index) }
     requires slot { (e : Entry) → e ≡ slice_index_or (entries mem.old parent.index) slot e → strip e ≡ Down node blank }
@@ -77,22 +77,22 @@ pub(crate) fn cut_node(
     requires many { length mem.old.heads + mem.old.room ≤ length sums.old.each.items }
     requires memory { HaveMemory sums.old }
     requires tags { length states.now.names ≤ sums.old.tags }
-    requires given { AllByRecursion (IsState states.now) (shown_states (runs (bare mem.old) height root.index)) }
-    requires short { length (shown_states (runs (bare mem.old) height root.index)) + 2 < 2 ^ 32 }
-    ensures tree { IsShape (bare mem.new) height root.index }
+    requires given { AllByRecursion (IsState states.now) (shown_states (runs (bare mem.old) top.height top.root.index)) }
+    requires short { length (shown_states (runs (bare mem.old) top.height top.root.index)) + 2 < 2 ^ 32 }
+    ensures tree { IsShape (bare mem.new) top.height top.root.index }
     ensures exact { AreExact mem.new }
-    ensures runs { runs (bare mem.new) height root.index ≡ runs (bare mem.old) height root.index }
+    ensures runs { runs (bare mem.new) top.height top.root.index ≡ runs (bare mem.old) top.height top.root.index }
     ensures room { mem.new.room + 1 ≡ mem.old.room }
     ensures wider { length (entries mem.new parent.index) ≡ length (entries mem.old parent.index) + 1 }
     ensures halves { AreHalves mem.old mem.new node.index result.index }
-    ensures still { AreStill mem.old mem.new height node.index result.index }
+    ensures still { AreStill mem.old mem.new top.height node.index result.index }
     ensures stay { Stay mem.old mem.new }
     ensures summed { AreSummed states.now mem.new sums.new.each.items }
     ensures many { length sums.new.each.items ≡ length sums.old.each.items }
     ensures memory { HaveMemory sums.new }
     ensures tags { sums.new.tags ≡ sums.old.tags }
 {
-    let new = split(mem, root, height, node, parent, slot);
+    let new = split(mem, top.root, top.height, node, parent, slot);
     gather_at(sums, states, mem, node);
     gather_at(sums, states, mem, new);
     new

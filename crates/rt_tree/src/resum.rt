@@ -13,8 +13,10 @@ ghost use Rattle.rt_tree.specs.Sums.{AreFew, counts_of};
 
 use crate::change::{put_run, set_run};
 use crate::node::{Entry, Mem, Run};
-use crate::note::note;
+use crate::note::{Restated, note};
+use crate::room::{Place, Top};
 use crate::summaries::shown_state;
+use crate::summary::StateChange;
 use crate::summed::Summaries;
 use rt_nodes::NodeId;
 use rt_tags::{StateId, StateTable};
@@ -33,26 +35,17 @@ fn shown_at(mem: &Mem, leaf: NodeId, i: usize) -> Option<StateId>
 
 // An entry of a leaf shows another state now, or none, or the same as before: puts right the summaries of the nodes above it.
 #[inline(always)]
-fn put_right(
-    sums: &mut Summaries,
-    states: &StateTable,
-    mem: &Mem,
-    root: NodeId,
-    height: u32,
-    leaf: NodeId,
-    i: usize,
-    old: &Option<StateId>,
-    new: &Option<StateId>,
-)
-    requires tree { IsShape mem.now height root.index }
-    requires leaf { (leaf.index < length mem.now.heads) × (level_of mem.now leaf.index ≡ 0) }
-    requires within { i < length (entries mem.now leaf.index) }
+fn put_right(sums: &mut Summaries, states: &StateTable, mem: &Mem, top: Top, restated: Restated)
+    requires tree { IsShape mem.now top.height top.root.index }
+    requires leaf { (restated.place.leaf.index < length mem.now.heads) × (level_of mem.now restated.place.leaf.index ≡ 0) }
+    requires within { restated.place.entry < length (entries mem.now restated.place.leaf.index) }
     requires many { length mem.now.heads ≤ length sums.old.each.items }
-    requires old { IfSome old.now (IsState states.now) }
-    requires new { IfSome new.now (IsState states.now) }
-    requires shows { (e : Entry) → e ≡ slice_index_or (entries mem.now leaf.index) i e → shown_states (below mem.now 0 e) ≡ one_or_none new.now }
-    requires beside { AreBeside states.now mem.now height leaf.index i }
-    requires but { AreSummedBut states.now mem.now sums.old.each.items height leaf.index i old.now }
+    requires old { IfSome restated.change.from (IsState states.now) }
+    requires new { IfSome restated.change.to (IsState states.now) }
+    requires shows { (e : Entry) → e ≡ slice_index_or (entries mem.now restated.place.leaf.index) restated.place.entry e
+        → shown_states (below mem.now 0 e) ≡ one_or_none restated.change.to }
+    requires beside { AreBeside states.now mem.now top.height restated.place.leaf.index restated.place.entry }
+    requires but { AreSummedBut states.now mem.now sums.old.each.items top.height restated.place.leaf.index restated.place.entry restated.change.from }
     requires memory { HaveMemory sums.old }
     requires tags { length states.now.names ≤ sums.old.tags }
     ensures summed { AreSummed states.now mem.now sums.new.each.items }
@@ -60,7 +53,7 @@ fn put_right(
     ensures memory { HaveMemory sums.new }
     ensures tags { sums.new.tags ≡ sums.old.tags }
 {
-    if *old == *new {
+    if restated.change.from == restated.change.to {
         return;
     }
     note(
@@ -69,12 +62,8 @@ fn put_right(
         &mut sums.plus,
         states,
         mem,
-        root,
-        height,
-        leaf,
-        i,
-        old,
-        new,
+        top,
+        restated,
     );
 }
 
@@ -83,44 +72,46 @@ pub(crate) fn replace_run(
     mem: &mut Mem,
     sums: &mut Summaries,
     states: &StateTable,
-    root: NodeId,
-    height: u32,
-    leaf: NodeId,
-    i: usize,
+    top: Top,
+    place: Place,
     run: Run,
 )
-    requires tree { IsShape (bare mem.old) height root.index }
+    requires tree { IsShape (bare mem.old) top.height top.root.index }
     requires exact { AreExact mem.old }
-    requires filled { AreFilled mem.old root.index }
-    requires leaf { (leaf.index < length mem.old.heads) × (level_of (bare mem.old) leaf.index ≡ 0) }
-    requires within { i < length (entries mem.old leaf.index) }
-    requires few { AreFew (counts_of (ahead (bare mem.old) height leaf.index
-        ++ (all_below (bare mem.old) 0 (links (slice_set (entries mem.old leaf.index) i (Here run))) ++ behind (bare mem.old) height leaf.index))) }
+    requires filled { AreFilled mem.old top.root.index }
+    requires leaf { (place.leaf.index < length mem.old.heads) × (level_of (bare mem.old) place.leaf.index ≡ 0) }
+    requires within { place.entry < length (entries mem.old place.leaf.index) }
+    requires few { AreFew (counts_of (ahead (bare mem.old) top.height place.leaf.index
+        ++ (all_below (bare mem.old) 0 (links (slice_set (entries mem.old place.leaf.index) place.entry (Here run)))
+        ++ behind (bare mem.old) top.height place.leaf.index))) }
     requires summed { AreSummed states.now mem.old sums.old.each.items }
     requires many { length mem.old.heads ≤ length sums.old.each.items }
     requires memory { HaveMemory sums.old }
     requires tags { length states.now.names ≤ sums.old.tags }
-    requires had { AllByRecursion (IsState states.now) (shown_states (runs (bare mem.old) height root.index)) }
-    requires given { AllByRecursion (IsState states.now) (shown_states (ahead (bare mem.old) height leaf.index
-        ++ (all_below (bare mem.old) 0 (links (slice_set (entries mem.old leaf.index) i (Here run))) ++ behind (bare mem.old) height leaf.index))) }
-    requires short { length (shown_states (ahead (bare mem.old) height leaf.index
-        ++ (all_below (bare mem.old) 0 (links (slice_set (entries mem.old leaf.index) i (Here run)))
-        ++ behind (bare mem.old) height leaf.index))) + 4 < 2 ^ 32 }
-    ensures tree { IsShape (bare mem.new) height root.index }
+    requires had { AllByRecursion (IsState states.now) (shown_states (runs (bare mem.old) top.height top.root.index)) }
+    requires given { AllByRecursion (IsState states.now) (shown_states (ahead (bare mem.old) top.height place.leaf.index
+        ++ (all_below (bare mem.old) 0 (links (slice_set (entries mem.old place.leaf.index) place.entry (Here run)))
+        ++ behind (bare mem.old) top.height place.leaf.index))) }
+    requires short { length (shown_states (ahead (bare mem.old) top.height place.leaf.index
+        ++ (all_below (bare mem.old) 0 (links (slice_set (entries mem.old place.leaf.index) place.entry (Here run)))
+        ++ behind (bare mem.old) top.height place.leaf.index))) + 4 < 2 ^ 32 }
+    ensures tree { IsShape (bare mem.new) top.height top.root.index }
     ensures exact { AreExact mem.new }
-    ensures filled { AreFilled mem.new root.index }
-    ensures bare { bare mem.new ≡ with_entries (bare mem.old) leaf.index (links (slice_set (entries mem.old leaf.index) i (Here run))) }
-    ensures runs { runs (bare mem.new) height root.index ≡ ahead (bare mem.old) height leaf.index
-        ++ (all_below (bare mem.old) 0 (links (slice_set (entries mem.old leaf.index) i (Here run))) ++ behind (bare mem.old) height leaf.index) }
+    ensures filled { AreFilled mem.new top.root.index }
+    ensures bare { bare mem.new ≡ with_entries (bare mem.old) place.leaf.index (links (slice_set (entries mem.old place.leaf.index) place.entry (Here run))) }
+    ensures runs { runs (bare mem.new) top.height top.root.index ≡ ahead (bare mem.old) top.height place.leaf.index
+        ++ (all_below (bare mem.old) 0 (links (slice_set (entries mem.old place.leaf.index) place.entry (Here run)))
+        ++ behind (bare mem.old) top.height place.leaf.index) }
     ensures summed { AreSummed states.now mem.new sums.new.each.items }
     ensures many { length sums.new.each.items ≡ length sums.old.each.items }
     ensures memory { HaveMemory sums.new }
     ensures tags { sums.new.tags ≡ sums.old.tags }
 {
-    let old = shown_at(mem, leaf, i);
-    let new = shown_state(&run);
-    set_run(mem, root, height, leaf, i, run);
-    put_right(sums, states, mem, root, height, leaf, i, &old, &new);
+    let from = shown_at(mem, place.leaf, place.entry);
+    let to = shown_state(&run);
+    set_run(mem, top.root, top.height, place.leaf, place.entry, run);
+    let change = StateChange { from, to };
+    put_right(sums, states, mem, top, Restated { place, change });
 }
 
 // Puts a run into a leaf that has room, and the summaries right.
@@ -129,43 +120,45 @@ pub(crate) fn insert_run(
     mem: &mut Mem,
     sums: &mut Summaries,
     states: &StateTable,
-    root: NodeId,
-    height: u32,
-    leaf: NodeId,
-    i: usize,
+    top: Top,
+    place: Place,
     run: Run,
 )
-    requires tree { IsShape (bare mem.old) height root.index }
+    requires tree { IsShape (bare mem.old) top.height top.root.index }
     requires exact { AreExact mem.old }
-    requires filled { AreFilled mem.old root.index }
-    requires leaf { (leaf.index < length mem.old.heads) × (level_of (bare mem.old) leaf.index ≡ 0) }
-    requires within { i ≤ length (entries mem.old leaf.index) }
-    requires room { length (entries mem.old leaf.index) < 16 }
-    requires few { AreFew (counts_of (ahead (bare mem.old) height leaf.index
-        ++ (all_below (bare mem.old) 0 (links (insert (entries mem.old leaf.index) i (Here run))) ++ behind (bare mem.old) height leaf.index))) }
+    requires filled { AreFilled mem.old top.root.index }
+    requires leaf { (place.leaf.index < length mem.old.heads) × (level_of (bare mem.old) place.leaf.index ≡ 0) }
+    requires within { place.entry ≤ length (entries mem.old place.leaf.index) }
+    requires room { length (entries mem.old place.leaf.index) < 16 }
+    requires few { AreFew (counts_of (ahead (bare mem.old) top.height place.leaf.index
+        ++ (all_below (bare mem.old) 0 (links (insert (entries mem.old place.leaf.index) place.entry (Here run)))
+        ++ behind (bare mem.old) top.height place.leaf.index))) }
     requires summed { AreSummed states.now mem.old sums.old.each.items }
     requires many { length mem.old.heads ≤ length sums.old.each.items }
     requires memory { HaveMemory sums.old }
     requires tags { length states.now.names ≤ sums.old.tags }
-    requires given { AllByRecursion (IsState states.now) (shown_states (ahead (bare mem.old) height leaf.index
-        ++ (all_below (bare mem.old) 0 (links (insert (entries mem.old leaf.index) i (Here run))) ++ behind (bare mem.old) height leaf.index))) }
-    requires short { length (shown_states (ahead (bare mem.old) height leaf.index
-        ++ (all_below (bare mem.old) 0 (links (insert (entries mem.old leaf.index) i (Here run)))
-        ++ behind (bare mem.old) height leaf.index))) + 4 < 2 ^ 32 }
-    ensures tree { IsShape (bare mem.new) height root.index }
+    requires given { AllByRecursion (IsState states.now) (shown_states (ahead (bare mem.old) top.height place.leaf.index
+        ++ (all_below (bare mem.old) 0 (links (insert (entries mem.old place.leaf.index) place.entry (Here run)))
+        ++ behind (bare mem.old) top.height place.leaf.index))) }
+    requires short { length (shown_states (ahead (bare mem.old) top.height place.leaf.index
+        ++ (all_below (bare mem.old) 0 (links (insert (entries mem.old place.leaf.index) place.entry (Here run)))
+        ++ behind (bare mem.old) top.height place.leaf.index))) + 4 < 2 ^ 32 }
+    ensures tree { IsShape (bare mem.new) top.height top.root.index }
     ensures exact { AreExact mem.new }
-    ensures filled { AreFilled mem.new root.index }
-    ensures bare { bare mem.new ≡ with_entries (bare mem.old) leaf.index (links (insert (entries mem.old leaf.index) i (Here run))) }
-    ensures runs { runs (bare mem.new) height root.index ≡ ahead (bare mem.old) height leaf.index
-        ++ (all_below (bare mem.old) 0 (links (insert (entries mem.old leaf.index) i (Here run))) ++ behind (bare mem.old) height leaf.index) }
+    ensures filled { AreFilled mem.new top.root.index }
+    ensures bare { bare mem.new ≡ with_entries (bare mem.old) place.leaf.index (links (insert (entries mem.old place.leaf.index) place.entry (Here run))) }
+    ensures runs { runs (bare mem.new) top.height top.root.index ≡ ahead (bare mem.old) top.height place.leaf.index
+        ++ (all_below (bare mem.old) 0 (links (insert (entries mem.old place.leaf.index) place.entry (Here run)))
+        ++ behind (bare mem.old) top.height place.leaf.index) }
     ensures room { (mem.new.room ≡ mem.old.room) × (length mem.new.heads ≡ length mem.old.heads) }
     ensures summed { AreSummed states.now mem.new sums.new.each.items }
     ensures many { length sums.new.each.items ≡ length sums.old.each.items }
     ensures memory { HaveMemory sums.new }
     ensures tags { sums.new.tags ≡ sums.old.tags }
 {
-    let old: Option<StateId> = None;
-    let new = shown_state(&run);
-    put_run(mem, root, height, leaf, i, run);
-    put_right(sums, states, mem, root, height, leaf, i, &old, &new);
+    let from: Option<StateId> = None;
+    let to = shown_state(&run);
+    put_run(mem, top.root, top.height, place.leaf, place.entry, run);
+    let change = StateChange { from, to };
+    put_right(sums, states, mem, top, Restated { place, change });
 }

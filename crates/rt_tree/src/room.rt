@@ -75,7 +75,7 @@ fn make_way(
         if mem.len(node) >= 16 {
             let parent = parent_of(mem, node);
             let slot = slot_of(mem, parent, node);
-            cut_node(mem, sums, states, root, height, node, parent, slot);
+            cut_node(mem, sums, states, Top { root, height }, node, parent, slot);
         }
         level = next;
     }
@@ -87,39 +87,38 @@ pub(crate) fn make_room(
     mem: &mut Mem,
     sums: &mut Summaries,
     states: &StateTable,
-    root: NodeId,
-    height: u32,
-    leaf: NodeId,
-    i: usize,
+    top: Top,
+    place: Place,
 ) -> Place
-    requires tree { IsShape (bare mem.old) height root.index }
+    requires tree { IsShape (bare mem.old) top.height top.root.index }
     requires exact { AreExact mem.old }
-    requires filled { AreFilled mem.old root.index }
-    requires few { AreFew (counts_of (runs (bare mem.old) height root.index)) }
-    requires leaf { (leaf.index < length mem.old.heads) × (level_of (bare mem.old) leaf.index ≡ 0) }
-    requires within { i ≤ length (entries mem.old leaf.index) }
-    requires root_room { length (entries mem.old root.index) < 16 }
-    requires room { HasNodes mem.old (length (runs (bare mem.old) height root.index)) }
-    requires told { AreTold states.now mem.old sums.old (runs (bare mem.old) height root.index) }
-    requires short { length (runs (bare mem.old) height root.index) + 5 < 2 ^ 32 }
-    ensures tree { IsShape (bare mem.new) height root.index }
+    requires filled { AreFilled mem.old top.root.index }
+    requires few { AreFew (counts_of (runs (bare mem.old) top.height top.root.index)) }
+    requires leaf { (place.leaf.index < length mem.old.heads) × (level_of (bare mem.old) place.leaf.index ≡ 0) }
+    requires within { place.entry ≤ length (entries mem.old place.leaf.index) }
+    requires root_room { length (entries mem.old top.root.index) < 16 }
+    requires room { HasNodes mem.old (length (runs (bare mem.old) top.height top.root.index)) }
+    requires told { AreTold states.now mem.old sums.old (runs (bare mem.old) top.height top.root.index) }
+    requires short { length (runs (bare mem.old) top.height top.root.index) + 5 < 2 ^ 32 }
+    ensures tree { IsShape (bare mem.new) top.height top.root.index }
     ensures exact { AreExact mem.new }
-    ensures filled { AreFilled mem.new root.index }
-    ensures runs { runs (bare mem.new) height root.index ≡ runs (bare mem.old) height root.index }
+    ensures filled { AreFilled mem.new top.root.index }
+    ensures runs { runs (bare mem.new) top.height top.root.index ≡ runs (bare mem.old) top.height top.root.index }
     ensures leaf { (result.leaf.index < length mem.new.heads) × (level_of (bare mem.new) result.leaf.index ≡ 0) }
     ensures within { result.entry ≤ length (entries mem.new result.leaf.index) }
     ensures leaf_room { length (entries mem.new result.leaf.index) < 16 }
     ensures stay { Stay mem.old mem.new }
     ensures longer { length mem.old.heads ≤ length mem.new.heads }
-    ensures place { length (ahead (bare mem.new) height result.leaf.index) + result.entry ≡ length (ahead (bare mem.old) height leaf.index) + i }
+    ensures place { length (ahead (bare mem.new) top.height result.leaf.index) + result.entry
+        ≡ length (ahead (bare mem.old) top.height place.leaf.index) + place.entry }
     ensures room { length mem.new.heads + mem.new.room ≡ length mem.old.heads + mem.old.room }
-    ensures told { AreTold states.now mem.new sums.new (runs (bare mem.new) height root.index) }
+    ensures told { AreTold states.now mem.new sums.new (runs (bare mem.new) top.height top.root.index) }
     ensures tags { sums.new.tags ≡ sums.old.tags }
 {
-    if mem.len(leaf) < 16 {
-        return Place { leaf, entry: i };
+    if mem.len(place.leaf) < 16 {
+        return place;
     }
-    cut_for_room(mem, sums, states, root, height, leaf, i)
+    cut_for_room(mem, sums, states, top, place)
 }
 
 // The same where the leaf is full.
@@ -128,47 +127,47 @@ fn cut_for_room(
     mem: &mut Mem,
     sums: &mut Summaries,
     states: &StateTable,
-    root: NodeId,
-    height: u32,
-    leaf: NodeId,
-    i: usize,
+    top: Top,
+    place: Place,
 ) -> Place
-    requires tree { IsShape (bare mem.old) height root.index }
+    requires tree { IsShape (bare mem.old) top.height top.root.index }
     requires exact { AreExact mem.old }
-    requires filled { AreFilled mem.old root.index }
-    requires few { AreFew (counts_of (runs (bare mem.old) height root.index)) }
-    requires leaf { (leaf.index < length mem.old.heads) × (level_of (bare mem.old) leaf.index ≡ 0) }
-    requires within { i ≤ length (entries mem.old leaf.index) }
-    requires full { length (entries mem.old leaf.index) ≡ 16 }
-    requires root_room { length (entries mem.old root.index) < 16 }
-    requires room { HasNodes mem.old (length (runs (bare mem.old) height root.index)) }
-    requires told { AreTold states.now mem.old sums.old (runs (bare mem.old) height root.index) }
-    requires short { length (runs (bare mem.old) height root.index) + 5 < 2 ^ 32 }
-    ensures tree { IsShape (bare mem.new) height root.index }
+    requires filled { AreFilled mem.old top.root.index }
+    requires few { AreFew (counts_of (runs (bare mem.old) top.height top.root.index)) }
+    requires leaf { (place.leaf.index < length mem.old.heads) × (level_of (bare mem.old) place.leaf.index ≡ 0) }
+    requires within { place.entry ≤ length (entries mem.old place.leaf.index) }
+    requires full { length (entries mem.old place.leaf.index) ≡ 16 }
+    requires root_room { length (entries mem.old top.root.index) < 16 }
+    requires room { HasNodes mem.old (length (runs (bare mem.old) top.height top.root.index)) }
+    requires told { AreTold states.now mem.old sums.old (runs (bare mem.old) top.height top.root.index) }
+    requires short { length (runs (bare mem.old) top.height top.root.index) + 5 < 2 ^ 32 }
+    ensures tree { IsShape (bare mem.new) top.height top.root.index }
     ensures exact { AreExact mem.new }
-    ensures filled { AreFilled mem.new root.index }
-    ensures runs { runs (bare mem.new) height root.index ≡ runs (bare mem.old) height root.index }
+    ensures filled { AreFilled mem.new top.root.index }
+    ensures runs { runs (bare mem.new) top.height top.root.index ≡ runs (bare mem.old) top.height top.root.index }
     ensures leaf { (result.leaf.index < length mem.new.heads) × (level_of (bare mem.new) result.leaf.index ≡ 0) }
     ensures within { result.entry ≤ length (entries mem.new result.leaf.index) }
     ensures leaf_room { length (entries mem.new result.leaf.index) < 16 }
     ensures stay { Stay mem.old mem.new }
     ensures longer { length mem.old.heads ≤ length mem.new.heads }
-    ensures place { length (ahead (bare mem.new) height result.leaf.index) + result.entry ≡ length (ahead (bare mem.old) height leaf.index) + i }
+    ensures place { length (ahead (bare mem.new) top.height result.leaf.index) + result.entry
+        ≡ length (ahead (bare mem.old) top.height place.leaf.index) + place.entry }
     ensures room { length mem.new.heads + mem.new.room ≡ length mem.old.heads + mem.old.room }
-    ensures told { AreTold states.now mem.new sums.new (runs (bare mem.new) height root.index) }
+    ensures told { AreTold states.now mem.new sums.new (runs (bare mem.new) top.height top.root.index) }
     ensures tags { sums.new.tags ≡ sums.old.tags }
 {
-    make_way(mem, sums, states, root, height, leaf);
+    let Place { leaf, entry } = place;
+    make_way(mem, sums, states, top.root, top.height, leaf);
     let parent = parent_of(mem, leaf);
     let slot = slot_of(mem, parent, leaf);
-    let new = cut_node(mem, sums, states, root, height, leaf, parent, slot);
+    let new = cut_node(mem, sums, states, top, leaf, parent, slot);
     let half = mem.len(leaf);
-    if i <= half {
-        Place { leaf, entry: i }
+    if entry <= half {
+        place
     } else {
         Place {
             leaf: new,
-            entry: i - half,
+            entry: entry - half,
         }
     }
 }
@@ -246,10 +245,11 @@ fn cut_root(
     ensures told { AreTold states.now mem.new sums.new (runs (bare mem.new) result.height result.root.index) }
     ensures tags { sums.new.tags ≡ sums.old.tags }
 {
-    let top = add_root(mem, sums, states, root, height);
-    cut_node(mem, sums, states, top, height + 1, root, top, 0);
-    Top {
-        root: top,
+    let new = add_root(mem, sums, states, root, height);
+    let top = Top {
+        root: new,
         height: height + 1,
-    }
+    };
+    cut_node(mem, sums, states, top, root, new, 0);
+    top
 }

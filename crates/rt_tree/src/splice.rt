@@ -21,7 +21,7 @@ use crate::extend::{New, extend};
 use crate::find::{cells_of, first_stamp, has, seek};
 use crate::homes::Homes;
 use crate::node::{Measure, Mem, Run};
-use crate::put::{behind, put_home};
+use crate::put::{NewRun, behind, put_home};
 use crate::summed::Summaries;
 use crate::walk::{Found, Spot};
 use rt_nodes::NodeId;
@@ -198,8 +198,7 @@ struct Next {
 fn choose(
     mem: &Mem,
     root: NodeId,
-    text: &[char],
-    cells: &[Cell<StateId>],
+    new: &New<'_>,
     done: usize,
     lone: usize,
     newest: u64,
@@ -207,28 +206,28 @@ fn choose(
 ) -> Next
     requires home { homes.now.sure ≡ true → AreHome homes.now.leaves (tree_runs mem.now root.index) }
     requires tree { IsTree mem.now root.index }
-    requires kept { AllByRecursion (IsRun text.now) (tree_runs mem.now root.index) }
+    requires kept { AllByRecursion (IsRun new.now.text.now) (tree_runs mem.now root.index) }
     requires apart { AreApart (tree_runs mem.now root.index) }
-    requires upto { AreUpTo newest (cells_of text.now (tree_runs mem.now root.index)) }
+    requires upto { AreUpTo newest (cells_of new.now.text.now (tree_runs mem.now root.index)) }
     requires few { (counts_of (tree_runs mem.now root.index)).cells ≤ MOST_CELLS }
-    requires some { done < length cells.now }
-    requires last { EndsWith text.now cells.now }
-    requires short { length text.now ≤ MOST_CELLS }
-    ensures run { IsFrontOf text.now (drop done cells.now) result.run }
+    requires some { done < length new.now.cells.now }
+    requires last { EndsWith new.now.text.now new.now.cells.now }
+    requires short { length new.now.text.now ≤ MOST_CELLS }
+    ensures run { IsFrontOf new.now.text.now (drop done new.now.cells.now) result.run }
     ensures apart { AreApart (result.run ∷ tree_runs mem.now root.index) }
-    ensures stretch { lone ≡ 0 → AreOnce (cells_of text.now (tree_runs mem.now root.index)) (drop done cells.now)
-        → IsStretch (drop done cells.now) result.run.len × (result.lone ≡ 0) }
+    ensures stretch { lone ≡ 0 → AreOnce (cells_of new.now.text.now (tree_runs mem.now root.index)) (drop done new.now.cells.now)
+        → IsStretch (drop done new.now.cells.now) result.run.len × (result.lone ≡ 0) }
 {
     if lone > 0 {
-        let run = lone_run(text, cells, done);
+        let run = lone_run(new.text, new.cells, done);
         return Next {
             run,
             lone: lone - 1,
         };
     }
-    let run = next_run(text, cells, done);
+    let run = next_run(new.text, new.cells, done);
     if is_in_two(mem, root, newest, &run, homes) {
-        let first = lone_run(text, cells, done);
+        let first = lone_run(new.text, new.cells, done);
         return Next {
             run: first,
             lone: run.len as usize - 1,
@@ -287,19 +286,15 @@ fn put_runs(
     let mut newest = new.newest;
     let mut end = end;
     while done < new.cells.len() {
-        let next = choose(mem, root, new.text, new.cells, done, lone, newest, homes);
+        let next = choose(mem, root, new, done, lone, newest, homes);
         let to = done + next.run.len as usize;
-        root = put_home(
-            mem,
-            sums,
-            states,
-            root,
-            new.at + done,
-            behind(end),
-            next.run,
-            homes,
+        let put = NewRun {
+            run: next.run,
+            at: new.at + done,
+            known: behind(end),
             newest,
-        );
+        };
+        root = put_home(mem, sums, states, root, put, homes);
         newest = newest_of(newest, &new.cells[done..to]);
         done = to;
         end = None;

@@ -9,7 +9,7 @@ ghost use Rattle.rt_tree.specs.Shape.{all_below, below, level_of};
 ghost use Rattle.rt_tree.specs.Summaries.{HasEnds, IsSummary, WasAround, shown_states, summary_of};
 
 use crate::node::{Entry, Mem, Run};
-use crate::summary::{Around, Summary, count_around};
+use crate::summary::{Around, StateChange, Summary, count_around};
 use rt_nodes::NodeId;
 use rt_tags::{StateId, StateTable, Toggles};
 
@@ -150,31 +150,30 @@ pub(crate) fn replace_at(
     states: &StateTable,
     node: NodeId,
     around: &Around,
-    old: &Option<StateId>,
-    new: &Option<StateId>,
+    change: &StateChange,
 )
     requires within { node.index < length each.old }
     requires before { IfSome around.now.before (IsState states.now) }
     requires after { IfSome around.now.after (IsState states.now) }
-    requires old { IfSome old.now (IsState states.now) }
-    requires new { IfSome new.now (IsState states.now) }
+    requires old { IfSome change.now.from (IsState states.now) }
+    requires new { IfSome change.now.to (IsState states.now) }
     requires memory { (length states.now.names ≤ minus.old.capacity) × (length states.now.names ≤ plus.old.capacity)
         × (length states.now.names ≤ (summary_of each.old node.index).counts.capacity) }
-    requires was { WasAround states.now (summary_of each.old node.index) around.now.before around.now.after old.now }
+    requires was { WasAround states.now (summary_of each.old node.index) around.now.before around.now.after change.now.from }
     ensures is { (xs ys : List ℕ) → last xs ≡ around.now.before → first ys ≡ around.now.after
-        → IsSummary states.now (xs ++ (one_or_none old.now ++ ys)) (summary_of each.old node.index)
-        → IsSummary states.now (xs ++ (one_or_none new.now ++ ys)) (summary_of each.new node.index) }
+        → IsSummary states.now (xs ++ (one_or_none change.now.from ++ ys)) (summary_of each.old node.index)
+        → IsSummary states.now (xs ++ (one_or_none change.now.to ++ ys)) (summary_of each.new node.index) }
     ensures others { (id : ℕ) → id ≢ node.index → summary_of each.new id ≡ summary_of each.old id }
     ensures many { length each.new ≡ length each.old }
     ensures memory { (minus.new.capacity ≡ minus.old.capacity) × (plus.new.capacity ≡ plus.old.capacity)
         × ((summary_of each.new node.index).counts.capacity ≡ (summary_of each.old node.index).counts.capacity) }
 {
-    count_around(minus, states, around, old);
-    count_around(plus, states, around, new);
+    count_around(minus, states, around, &change.from);
+    count_around(plus, states, around, &change.to);
     // Its clause says that the counts stand in the order of their tags; the value isn't needed.
     plus.counts();
     let own = &mut each[node.index as usize];
     // The same of these.
     own.counts.counts();
-    own.replace(around, new, minus, plus);
+    own.replace(around, &change.to, minus, plus);
 }

@@ -136,6 +136,13 @@ pub(crate) struct Around {
     pub(crate) after: Option<StateId>,
 }
 
+// The state that an entry showed, and the one that it shows now; none where there was or is no visible run.
+#[derive(Clone, Copy)]
+pub(crate) struct StateChange {
+    pub(crate) from: Option<StateId>,
+    pub(crate) to: Option<StateId>,
+}
+
 impl Summary {
     // Within the stretch one state, or none, has become another, or none: by its neighbours in the stretch, and the toggles that
     // these made with the old one and make with the new one.

@@ -1,6 +1,6 @@
 -- The lines that a command asks for are those that its limits show.
 use Rattle.std.proofs.Common.{◌≡◌, ℕ, zero, suc, ◌+◌, ◌-◌, ◌<◌, ◌≤◌, min, List, [], ◌∷◌, Bool, true, false, not, cond, length, take, refl, sym, subst, ap, ◌∙◌, arith}
-use Rattle.std.specs.Prelude.{Option, Some, None, Ok, Err, is_some, nat_le, nat_lt, option_map, option_and_then, slice_get, unwrap_or}
+use Rattle.std.specs.Prelude.{IsOk, Option, Some, None, Ok, Err, is_some, nat_le, nat_lt, option_map, option_and_then, slice_get, unwrap_or}
 use Rattle.std.specs.List.{position_or_len}
 use Rattle.std.proofs.lemmas.Bool.{lt-ltb}
 use Rattle.std.proofs.lemmas.Bool.Decides.{nat_tests}
@@ -20,7 +20,7 @@ use Rattle.rt_views.specs.declared.choice.Choice.TheVariants.{Kept, Away, Line}
 use Rattle.rt_views.specs.declared.limits.Limits.{Limits}
 use Rattle.rt_views.specs.Choices.{are_lines, end_asked, end_chosen, limits_chosen, newline_of, start_asked, start_chosen}
 use Rattle.rt_views.specs.Limits.{first_line, is_gone, last_line, line_at, line_behind, no_limits, place_of}
-use Rattle.rt_views.specs.Ordered.{IsStart}
+use Rattle.rt_views.specs.Ordered.{IsNewline, IsStart}
 use Rattle.rt_views.specs.Stretches.{stretch_of}
 use Rattle.rt_views.proofs.Lines.{after_some, ends_with, lines_some}
 use Rattle.rt_views.proofs.Ordered.{first_is_behind}
@@ -116,6 +116,8 @@ pub record IsNewlineOf {T : Type 0} (cells : List (Cell T)) (line : ℕ) (stamp 
   pub is : newline_of cells line ≡ Some stamp
   pub at : line_at cells stamp ≡ Some line
   pub behind : line_behind cells stamp ≡ Some (line + 1)
+  pub newline : IsNewline cells stamp
+  pub there : is_gone cells stamp ≡ false
 
 pub newline_is : {T : Type 0} (cells : List (Cell T)) (line : ℕ) → AreDistinct cells → 1 ≤ line → line ≤ newlines (text_of cells) → (stamp : Stamp) × IsNewlineOf cells line stamp
 newline_is {T} cells line d low high =
@@ -136,8 +138,16 @@ newline_is {T} cells line d low high =
         let at : line_at cells cell.stamp ≡ Some line = ap (option_map (line_of (text_of cells))) stands ∙ ap Some own in
         let there : is_gone cells cell.stamp ≡ false = ap (λ o. unwrap_or (option_map (λ (cell : Cell T). cell.gone) o) false) f.found ∙ f.visible in
         let behind : line_behind cells cell.stamp ≡ Some (line + 1) =
-        ap (option_map (λ line. cond (is_gone cells cell.stamp) line (line + 1))) at ∙ ap (λ b. Some (cond b line (line + 1))) there in
-        (cell.stamp, record { is = ap (option_map (λ (cell : Cell T). cell.stamp)) e; at = at; behind = behind })
+        ap (option_map (λ line. cond (is_gone cells cell.stamp) line (line + 1))) at ∙ ap (λ b. Some (cond b line (line + 1))) there in (
+          cell.stamp,
+          record {
+            is = ap (option_map (λ (cell : Cell T). cell.stamp)) e;
+            at = at;
+            behind = behind;
+            newline = ap (option_map (λ (cell : Cell T). cell.ch)) f.found ∙ k;
+            there = there;
+          },
+        )
 
 -- THE LIMITS
 
@@ -240,3 +250,22 @@ pub whole_chosen : {T : Type 0} (cells : List (Cell T)) (limits chosen : Limits)
 whole_chosen cells limits chosen h e =
     let by = chosen_by (are_lines (newlines (text_of cells)) 1 (newlines (text_of cells) + 1)) no_limits chosen e in
     ap (stretch_of cells) (sym by.1) ∙ stretch_whole cells h
+
+-- without a limit at the start line 1 is first
+pub first_of_none : {T : Type 0} (cells : List (Cell T)) (end : Choice) (limits chosen : Limits) → AreDistinct cells → limits.start ≡ None
+    → limits_chosen cells Kept end limits ≡ Ok chosen → first_line cells chosen ≡ 1
+first_of_none {T} cells end limits chosen d n h =
+    let by = chosen_by (are_lines (newlines (text_of cells)) (first_line cells limits) (end_asked cells limits end)) _ chosen h in
+    let none : chosen.start ≡ None = ap (λ (l : Limits). l.start) (sym by.1) ∙ n in
+    let least : 1 ≤ first_line cells limits = grind (arith, by.0) in
+    let less = before_end (newlines (text_of cells)) (first_line cells limits) (end_asked cells limits end) by.0 in
+    let some : min 1 (last_line cells chosen) ≡ 1 = omega (arith, least, less, last_chosen cells Kept end limits chosen d h) in
+    ap (λ o. min (unwrap_or (option_and_then (line_behind cells) o) 1) (last_line cells chosen)) none ∙ some
+
+-- two lines in their order are never refused
+are_two : (lines first end : ℕ) → 1 ≤ first → first < end → end ≤ lines + 1 → are_lines lines first end ≡ true
+are_two lines first end h k l = grind (arith, nat_tests, h, k, l)
+
+pub two_chosen : {T : Type 0} (cells : List (Cell T)) (first end : ℕ) (limits : Limits) → 1 ≤ first → first < end → end ≤ newlines (text_of cells) + 1
+    → IsOk (limits_chosen cells (Line first) (Line end) limits)
+two_chosen cells first end limits h k l = rw (are_two (newlines (text_of cells)) first end h k l) refl

@@ -1,4 +1,6 @@
 pub mod Chosen
+pub mod ChosenOrder
+pub mod InOrder
 pub mod Lines
 pub mod Ordered
 pub mod Parts

@@ -17,7 +17,7 @@ use Rattle.rt_views.proofs.Places.{ends_text, few_by, place_within}
 -- COUNTS
 
 -- before a later cell stand as many visible ones or more
-before_mono : {T : Type 0} (cells : List (Cell T)) (p e : ℕ) → p ≤ e → visible_before cells p ≤ visible_before cells e
+pub before_mono : {T : Type 0} (cells : List (Cell T)) (p e : ℕ) → p ≤ e → visible_before cells p ≤ visible_before cells e
 before_mono cells zero e h = omega arith
 before_mono cells (suc p) zero h = absurd (omega arith)
 before_mono [] (suc p) (suc e) h = omega arith
@@ -32,7 +32,7 @@ first_by true x all h = let bad : ⊥ = cc in absurd bad
 first_by false x all h = omega arith
 
 -- and behind a visible one more
-before_more : {T : Type 0} (cells : List (Cell T)) (p e : ℕ) (cell : Cell T) → slice_get cells p ≡ Some cell → cell.gone ≡ false → p < e → visible_before cells p + 1 ≤ visible_before cells e
+pub before_more : {T : Type 0} (cells : List (Cell T)) (p e : ℕ) (cell : Cell T) → slice_get cells p ≡ Some cell → cell.gone ≡ false → p < e → visible_before cells p + 1 ≤ visible_before cells e
 before_more cells p zero cell h k l = absurd (omega arith)
 before_more [] p (suc e) cell h k l = let bad : ⊥ = cc in absurd bad
 before_more {T} (x ∷ xs) zero (suc e) cell h k l =
@@ -46,14 +46,14 @@ lines_by true n m d h = omega arith
 lines_by false n m d h = h
 
 -- a later place is on the same line, or on a later one
-taken_mono : (t : List ℕ) (a b : ℕ) → a ≤ b → newlines (take a t) + 0 ≤ newlines (take b t)
+pub taken_mono : (t : List ℕ) (a b : ℕ) → a ≤ b → newlines (take a t) + 0 ≤ newlines (take b t)
 taken_mono t zero b h = omega arith
 taken_mono t (suc a) zero h = absurd (omega arith)
 taken_mono [] (suc a) (suc b) h = omega arith
 taken_mono (c ∷ t) (suc a) (suc b) h = lines_by (is_newline c) (newlines (take a t)) (newlines (take b t)) 0 (taken_mono t a b (omega arith))
 
 -- and behind a newline on a later one
-taken_more : (t : List ℕ) (a b : ℕ) → slice_get t a ≡ Some 10 → a < b → newlines (take a t) + 1 ≤ newlines (take b t)
+pub taken_more : (t : List ℕ) (a b : ℕ) → slice_get t a ≡ Some 10 → a < b → newlines (take a t) + 1 ≤ newlines (take b t)
 taken_more t a zero h l = absurd (omega arith)
 taken_more [] a (suc b) h l = let bad : ⊥ = cc in absurd bad
 taken_more (c ∷ t) zero (suc b) h l = let e : c ≡ 10 = cc in rw e (omega arith)

@@ -16,7 +16,7 @@ use Rattle.rt_views.proofs.Lines.{line_within, lines_some}
 
 -- THE TEXT OF CELLS
 
-visible_last : {T : Type 0} (front : List (Cell T)) (last : Cell T) → last.gone ≡ false → visible_of (front ++ last ∷ []) ≡ visible_of front ++ last ∷ []
+pub visible_last : {T : Type 0} (front : List (Cell T)) (last : Cell T) → last.gone ≡ false → visible_of (front ++ last ∷ []) ≡ visible_of front ++ last ∷ []
 visible_last front last e = rw filter-append (rw e refl)
 
 -- it ends with a newline

@@ -1,15 +1,16 @@
 // Laws of the definitions, each the contract of a function that does nothing.
-ghost use Rattle.std.specs.Prelude.{◌≡◌, ℕ, ◌+◌, ◌<◌, ◌≤◌, List, None, Ok, Some, length, map};
+ghost use Rattle.std.specs.Prelude.{◌≡◌, ℕ, ◌+◌, ◌<◌, ◌≤◌, ◌∷◌, [], false, IsOk, List, None, Ok, Some, length, map, option_and_then, option_map, unwrap_or};
 ghost use Rattle.rt_stamps.specs.Places.{EndsWithNewline, newlines};
 ghost use Rattle.rt_stamps.specs.declared.stamp.Stamp.{Stamp};
 ghost use Rattle.rt_store.specs.declared.cell.Cell.{Cell};
-ghost use Rattle.rt_store.specs.Cells.{AreDistinct, EndsFinal, map_state, text_of, visible_of};
+ghost use Rattle.rt_store.specs.Cells.{AreDistinct, EndsFinal, cell_of, map_state, position_of, put_at, stamps_of, text_of, visible_of};
+ghost use Rattle.rt_store.specs.Spans.{is_among};
 ghost use Rattle.rt_views.specs.declared.choice.Choice.{Choice};
 ghost use Rattle.rt_views.specs.declared.limits.Limits.{Limits};
 ghost use Rattle.rt_views.specs.declared.choice.Choice.TheVariants.{Away, Kept, Line};
 ghost use Rattle.rt_views.specs.Choices.{end_asked, limits_chosen};
-ghost use Rattle.rt_views.specs.Limits.{end_number, first_line, last_line, line_behind, no_limits, start_number};
-ghost use Rattle.rt_views.specs.Ordered.{IsStart};
+ghost use Rattle.rt_views.specs.Limits.{end_number, first_line, last_line, limits_renamed, line_behind, no_limits, start_number};
+ghost use Rattle.rt_views.specs.Ordered.{AreInOrder, IsStart, StandAmong, letters_of};
 ghost use Rattle.rt_views.specs.Stretches.{shown_part, stretch_of};
 
 /// Without limits all of a text is shown. Whatever the limits are, and whichever newlines are gone, what is shown lies
@@ -39,10 +40,28 @@ pub fn ordered_limits<T>()
         → line_behind cells stamp ≡ Some (first_line cells limits) }
 {}
 
+/// Limits stay in their order, each none or a newline, perhaps a gone one, and the start's before the end's. They are so
+/// where there are none, and where a command asked for them and those before were so. They stay so while more cells
+/// come in among those of the text, and these go or come into other states. Where a newline comes back directly behind
+/// its old cell, it takes this one's place as a limit. No line is cut off: what is shown begins behind the start.
+pub fn limits_in_order<S, T>()
+    ensures none { (cells : List (Cell T)) → AreInOrder cells no_limits }
+    ensures chosen { (cells : List (Cell T)) (start end : Choice) (limits chosen : Limits) → AreDistinct cells → EndsFinal cells → AreInOrder cells limits
+        → limits_chosen cells start end limits ≡ Ok chosen → AreInOrder cells chosen }
+    ensures grown { (cells : List (Cell S)) (more : List (Cell T)) (limits : Limits) → AreDistinct cells → EndsFinal cells → AreDistinct more
+        → StandAmong (letters_of cells) (letters_of more) → AreInOrder cells limits → AreInOrder more limits }
+    ensures came_back { (cells : List (Cell T)) (limits : Limits) (former : Stamp) (position : ℕ) (new : Cell T)
+        → position_of cells former ≡ Some position → option_map (λ cell. cell.ch) (cell_of cells former) ≡ Some new.ch
+        → is_among (stamps_of cells) new.stamp ≡ false → AreInOrder cells limits
+        → AreInOrder (put_at (position + 1) (new ∷ []) cells) (limits_renamed former new.stamp limits) }
+    ensures first { (cells : List (Cell T)) (limits : Limits) → EndsFinal cells → AreInOrder cells limits
+        → first_line cells limits ≡ unwrap_or (option_and_then (line_behind cells) limits.start) 1 }
+{}
+
 /// The lines that a command asks for are those that its limits show: up to the last one asked for, from the first one
-/// where it is named, from line 1 where the limit there is taken away, and from the line that was first before where
-/// that limit is kept and stands before the one at the end. Where both limits are taken away all of the text is shown,
-/// and this is never refused.
+/// where it is named, from line 1 where the limit there is taken away, or none is kept there, and from the line that
+/// was first before where that limit is kept and stands before the one at the end. A line and a later one behind it are
+/// never refused. Where both limits are taken away all of the text is shown, and this is never refused.
 pub fn chosen_lines<T>()
     ensures first { (cells : List (Cell T)) (line : ℕ) (end : Choice) (limits chosen : Limits) → AreDistinct cells
         → limits_chosen cells (Line line) end limits ≡ Ok chosen → first_line cells chosen ≡ line }
@@ -51,10 +70,14 @@ pub fn chosen_lines<T>()
     ensures kept_start { (cells : List (Cell T)) (end : Choice) (limits chosen : Limits) (stamp : Stamp) (position : ℕ) → AreDistinct cells
         → EndsFinal cells → IsStart cells limits stamp position
         → limits_chosen cells Kept end limits ≡ Ok chosen → first_line cells chosen ≡ first_line cells limits }
+    ensures without_start { (cells : List (Cell T)) (end : Choice) (limits chosen : Limits) → AreDistinct cells → limits.start ≡ None
+        → limits_chosen cells Kept end limits ≡ Ok chosen → first_line cells chosen ≡ 1 }
     ensures last { (cells : List (Cell T)) (start end : Choice) (limits chosen : Limits) → AreDistinct cells
         → limits_chosen cells start end limits ≡ Ok chosen → last_line cells chosen + 1 ≡ end_asked cells limits end }
     ensures whole { (cells : List (Cell T)) (limits chosen : Limits) → EndsFinal cells
         → limits_chosen cells Away Away limits ≡ Ok chosen → stretch_of cells chosen ≡ record { begin = 0; end = length (visible_of cells) } }
+    ensures lines_taken { (cells : List (Cell T)) (line end : ℕ) (limits : Limits) → 1 ≤ line → line < end → end ≤ newlines (text_of cells) + 1
+        → IsOk (limits_chosen cells (Line line) (Line end) limits) }
     ensures never_refused { (cells : List (Cell T)) (limits : Limits) → EndsFinal cells → limits_chosen cells Away Away limits ≡ Ok no_limits }
 {}
 
@@ -71,8 +94,8 @@ pub fn told_lines<T>()
     ensures start_kept { (cells : List (Cell T)) (end : Choice) (limits chosen : Limits) (stamp : Stamp) (position : ℕ) → AreDistinct cells
         → EndsFinal cells → IsStart cells limits stamp position
         → limits_chosen cells Kept end limits ≡ Ok chosen → start_number cells chosen ≡ start_number cells limits }
-    ensures end_named { (cells : List (Cell T)) (start : Choice) (line : ℕ) (limits chosen : Limits) → AreDistinct cells → line ≤ newlines (text_of cells)
-        → limits_chosen cells start (Line line) limits ≡ Ok chosen → end_number cells chosen ≡ Some line }
+    ensures end_named { (cells : List (Cell T)) (start : Choice) (line : ℕ) (limits chosen : Limits) → AreDistinct cells
+        → line ≤ newlines (text_of cells) → limits_chosen cells start (Line line) limits ≡ Ok chosen → end_number cells chosen ≡ Some line }
     ensures end_behind { (cells : List (Cell T)) (start : Choice) (limits chosen : Limits)
         → limits_chosen cells start (Line (newlines (text_of cells) + 1)) limits ≡ Ok chosen → end_number cells chosen ≡ None }
     ensures end_away { (cells : List (Cell T)) (start : Choice) (limits chosen : Limits)

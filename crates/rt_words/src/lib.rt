@@ -1,6 +1,7 @@
 //! The words of a line of a script, and those of a list, as of tags: cut, and written.
 #![tactic(auto)]
 
+pub mod examples;
 pub mod laws;
 pub mod spare;
 pub mod words;

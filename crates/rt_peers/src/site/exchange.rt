@@ -1,17 +1,23 @@
 // Operations of other sites, and those of the site itself for them.
 ghost use Rattle.std.specs.Prelude.{◌≡◌, ℕ, ◌<◌, ◌≤◌, IfOk, IsOkUnless, None, OnOk, length, reverse};
+ghost use Rattle.std.specs.List.{AllByRecursion};
 ghost use Rattle.rt_stamps.specs.declared.limits.TheConstants.{MOST_BYTES};
 ghost use Rattle.rt_ops.specs.File.{spelling};
 ghost use Rattle.rt_ops.specs.Reading.{Reads, offsets_from};
 ghost use Rattle.rt_rga.specs.Cells.{cells_of};
 ghost use Rattle.rt_rga.specs.Histories.{IsHistory, greatest_last_count};
+ghost use Rattle.rt_rga.specs.Texts.{tagged_text};
+ghost use Rattle.rt_changes.specs.Replays.{AreInText, replayed};
+ghost use Rattle.rt_changes.specs.Telling.{AreChangesBetween, all_changes_in};
 ghost use Rattle.rt_oplog.specs.Logs.{known_end};
+ghost use Rattle.rt_editing.specs.Settled.{AreInOrder, limits_of};
 ghost use Rattle.rt_peers.specs.Exchange.{IsFileOf};
 ghost use Rattle.rt_peers.specs.Lacking.{known_in, since};
-ghost use Rattle.rt_peers.specs.SiteStep.{SiteReceives};
+ghost use Rattle.rt_peers.specs.SiteStep.{SiteReceives, log_of};
 
 use super::SiteState;
 use crate::sending::{ends_of, lacking};
+use crate::told::ReceivedChanges;
 use rt_editing::export;
 use rt_holding::{Received, receive};
 use rt_oplog::OpLog;
@@ -19,18 +25,34 @@ use rt_stamps::Fault;
 use std::collections::BTreeMap;
 
 impl SiteState {
-    /// Receives the bytes of a file of operations, at most `MOST_BYTES`: its operations are offered one after the
-    /// other. One that is new changes the text, moves all marks, those of each widget too, and lists its tags; what
-    /// is selected stays so, and where it changes the visible text it forces the modified flag. One that comes before
-    /// what it was made upon is held, 65,536 at most, and tried after each one that is accepted. The first that is refused
-    /// ends it, with its fault, and those before it stay accepted or held: `BadStamp`, `Conflict`, `BadTarget`, `TextFull`,
-    /// `WaitingFull`. Else the reading's own fault is told, if it has one: `BadMagic`, `BadVersion`, `Truncated`,
-    /// `BadRecord`. `NoMemory` before any operation is offered, or at one that is new or to be held.
+    /// Receives the bytes of a file of operations, at most `MOST_BYTES`: each of its records is read, and its operation
+    /// offered before the next is read. One that is new changes the text, moves all marks, those of each widget too, and
+    /// lists its tags; what is selected stays so, and where it changes the visible text it forces the modified flag. One
+    /// that comes before what it was made upon is held, 65,536 at most, and tried after each one that is accepted. The
+    /// first that is refused ends it, with its fault: `BadStamp`, `Conflict`, `BadTarget`, `TextFull`, `WaitingFull`; so
+    /// does the first fault of the reading: `BadMagic`, `BadVersion`, `Truncated`, `BadRecord`. `NoMemory` has the offset of
+    /// the record for which memory was wanting. All before it stays accepted or held.
     pub fn receive(&mut self, bytes: &[u8]) -> Received
         requires { length bytes.now ≤ MOST_BYTES }
         ensures { SiteReceives bytes.now self.old result self.new }
     {
         receive(self.alloc, &mut self.text, &mut self.held, bytes)
+    }
+
+    /// Receives the bytes of a file as `receive` does, and tells what changed on the visible text: operation by operation, in
+    /// an order in which they could be taken, those among them that had been held. Each change is of the text that those before it
+    /// left, so all of them, done one after the other to what was shown, with its tags, give what is shown now. Only what
+    /// changes is told: each place that a change names is one that its operation changes. An operation for whose telling
+    /// memory is wanting is refused as one that finds none itself.
+    pub fn receive_telling(&mut self, bytes: &[u8]) -> ReceivedChanges
+        requires { length bytes.now ≤ MOST_BYTES }
+        ensures receives { SiteReceives bytes.now self.old result.received self.new }
+        ensures told { AreChangesBetween (log_of self.old) (log_of self.new) (all_changes_in result.changes.items) }
+        ensures replayed { replayed (all_changes_in result.changes.items) (tagged_text self.old.text.view.doc.cells)
+            ≡ tagged_text self.new.text.view.doc.cells }
+        ensures within { AreInText (all_changes_in result.changes.items) (tagged_text self.old.text.view.doc.cells) }
+    {
+        self.text.receive_telling(&mut self.held, bytes)
     }
 
     /// How many operations it holds that came early.
@@ -41,7 +63,8 @@ impl SiteState {
     }
 
     /// The log of the operations that the site accepted or made. The cells of its text are those of the
-    /// log, which is a history.
+    /// log, which is a history. Each widget's limits are none or newlines of it, gone or not, and that at the start stands
+    /// before the end.
     pub fn log(&self) -> &OpLog
         ensures operations { result.now.operations ≡ self.now.text.view.doc.log }
         ensures history { IsHistory self.now.text.view.doc.log }
@@ -49,6 +72,7 @@ impl SiteState {
         ensures few { length self.now.text.view.doc.cells ≤ self.now.text.view.doc.limit }
         ensures count { self.now.text.view.doc.count ≡ greatest_last_count self.now.text.view.doc.log }
         ensures site { 0 < self.now.text.view.doc.site }
+        ensures limits { AllByRecursion (AreInOrder self.now.text.view.doc.cells) (limits_of self.now.text.view) }
     {
         self.text.log()
     }

@@ -72,6 +72,7 @@ impl SiteState {
     /// stays as it is.
     pub fn cget(&mut self, path: &str, option: NamedOption) -> Result<Reply, Fault>
         ensures answers { Answers (option_at path.now self.old option) self.old result self.new }
+        ensures unchanged { self.new ≡ self.old }
         ensures none { place_of path.now self.old.paths ≡ None → result ≡ Err Fault.NoWidget }
     {
         let Some(place) = place_of(&self.paths, path) else {

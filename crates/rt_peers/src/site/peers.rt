@@ -4,7 +4,7 @@ ghost use Rattle.rt_stamps.specs.Outcomes.{Answers, Refuses};
 ghost use Rattle.rt_stamps.specs.Words.{as_words};
 ghost use Rattle.rt_peer_requests.specs.PeerWords.{asked_of_peers};
 ghost use Rattle.rt_peers.specs.Peers.{text_led};
-ghost use Rattle.rt_peers.specs.PeerStep.{created, destroyed, other_paths, path_check, peer_outcome, peer_step, text_with_peer};
+ghost use Rattle.rt_peers.specs.PeerStep.{Destroys, created, other_paths, path_check, peer_outcome, peer_step, text_with_peer};
 ghost use Rattle.rt_peers.specs.SiteStep.{peer_step_at};
 ghost use Rattle.rt_peers.specs.State.{place_of};
 
@@ -108,10 +108,7 @@ impl SiteState {
     /// `destroy PATH`: the widget of a path is no longer there. It has no words in its reply, and takes
     /// no memory. Refused by `NoWidget`, or by `LastWidget` for the only one; then the site is as it was.
     pub fn destroy(&mut self, path: &str) -> Result<Reply, Fault>
-        ensures reply { IfOk result (λ reply. reply ≡ []) }
-        ensures ok { OnOk result (destroyed path.now self.old ≡ Ok self.new) }
-        ensures err { IfErr result (λ fault. destroyed path.now self.old ≡ Err fault) }
-        ensures unchanged { OnErr result (self.new ≡ self.old) }
+        ensures { Destroys path.now self.old result self.new }
     {
         let Some(place) = place_of(&self.paths, path) else {
             return Err(Fault::NoWidget);

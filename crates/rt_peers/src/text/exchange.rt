@@ -1,13 +1,18 @@
 // Operations of other sites, and those of the site itself for them.
-ghost use Rattle.std.specs.Prelude.{◌≡◌, ◌<◌, ◌≤◌, length};
+ghost use Rattle.std.specs.Prelude.{◌≡◌, ◌<◌, ◌≤◌, IfErr, IfOk, OnErr, OnOk, length};
+ghost use Rattle.std.specs.List.{AllByRecursion};
+ghost use Rattle.rt_rga.specs.Answers.{New};
 ghost use Rattle.rt_rga.specs.Cells.{cells_of};
 ghost use Rattle.rt_rga.specs.Histories.{IsHistory, greatest_last_count};
+ghost use Rattle.rt_rga.specs.Taken.{IsChange};
+ghost use Rattle.rt_text.specs.Accepted.{answer_of};
 ghost use Rattle.rt_editing.specs.Edits.{text_with_new};
+ghost use Rattle.rt_editing.specs.Settled.{AreInOrder, limits_of};
 
 use super::EditedText;
 use rt_holding::Taking;
 use rt_oplog::{Op, OpLog};
-use rt_rga::Offer;
+use rt_rga::{Change, Offer};
 use rt_stamps::{Fault, Site, Span};
 
 impl Taking for EditedText {
@@ -46,7 +51,8 @@ impl EditedText {
         self.viewer.site()
     }
 
-    /// The log of the document, which is a history: the cells are its cells.
+    /// The log of the document, which is a history: the cells are its cells. Each widget's limits are none or newlines
+    /// of it, gone or not, and that at the start stands before the end.
     pub(crate) fn log(&self) -> &OpLog
         ensures operations { result.now.operations ≡ self.now.view.doc.log }
         ensures history { IsHistory self.now.view.doc.log }
@@ -54,7 +60,19 @@ impl EditedText {
         ensures few { length self.now.view.doc.cells ≤ self.now.view.doc.limit }
         ensures count { self.now.view.doc.count ≡ greatest_last_count self.now.view.doc.log }
         ensures site { 0 < self.now.view.doc.site }
+        ensures limits { AllByRecursion (AreInOrder self.now.view.doc.cells) (limits_of self.now.view) }
     {
         self.viewer.log()
+    }
+
+    /// Takes an operation that is new, and tells what changed in the text; or gives it back for want of memory.
+    pub(super) fn take_new(&mut self, op: Op) -> Result<Change, Op>
+        requires { answer_of self.old.view.doc op ≡ New }
+        ensures taken { OnOk result (self.new ≡ text_with_new op self.old) }
+        ensures change { IfOk result (IsChange op self.old.view.doc.cells) }
+        ensures same { OnErr result (self.new ≡ self.old) }
+        ensures back { IfErr result (λ back. back ≡ op) }
+    {
+        self.viewer.take(&mut self.recorder, op)
     }
 }

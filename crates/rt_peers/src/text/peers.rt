@@ -27,6 +27,7 @@ impl EditedText {
     {
         let start = choice_of(settings.start_line);
         let end = choice_of(settings.end_line);
+        let _ = self.viewer.log();
         self.viewer.add_peer(start, end)?;
         self.set_options(settings.shared);
         Ok(())

@@ -1,5 +1,5 @@
 // Edits of the text, with what is recorded of them.
-ghost use Rattle.std.specs.Prelude.{◌≡◌, IfErr, OnErr, OnOk, map};
+ghost use Rattle.std.specs.Prelude.{◌≡◌, IfErr, IfOk, OnErr, OnOk, map};
 ghost use Rattle.rt_stamps.specs.Outcomes.{Answers};
 ghost use Rattle.rt_requests.specs.Parts.{all_of};
 ghost use Rattle.rt_editing.specs.Settled.{IsSettled};
@@ -8,6 +8,7 @@ ghost use Rattle.rt_editing.specs.Edits.{text_deleted, text_inserted, text_repla
 ghost use Rattle.rt_editing.specs.Reverts.{text_redone, text_undone};
 ghost use Rattle.rt_rga.specs.Answers.{New, has_gap};
 ghost use Rattle.rt_rga.specs.Kept.{said};
+ghost use Rattle.rt_rga.specs.Taken.{IsChange};
 ghost use Rattle.rt_text.specs.Accepted.{answer_of};
 ghost use Rattle.rt_peers.specs.ViewStep.{as_piece, changed_step};
 
@@ -148,6 +149,7 @@ impl Viewer {
         requires settled { IsSettled self.old recorder.old }
         requires new { answer_of self.old.doc op ≡ New }
         ensures taken { OnOk result (edited self.new recorder.new ≡ text_with_new op (edited self.old recorder.old)) }
+        ensures change { IfOk result (IsChange op self.old.doc.cells) }
         ensures unchanged { OnErr result (edited self.new recorder.new ≡ edited self.old recorder.old) }
         ensures back { IfErr result (λ back. back ≡ op) }
         ensures settled { IsSettled self.new recorder.new }

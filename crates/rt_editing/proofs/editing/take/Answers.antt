@@ -1,6 +1,5 @@
 use Rattle.std.proofs.Common.{sym, ◌∙◌, subst}
-use Rattle.rt_text.specs.Widgets.{Viewed}
-use Rattle.rt_editing.proofs.Growing.{Grows}
+use Rattle.rt_editing.proofs.Growing.{GrowsTo}
 use Rattle.rt_editing.proofs.Noted.{settled_forced, settled_same}
 use Rattle.rt_editing.proofs.Outcomes.{grows_taken}
 use Rattle.rt_editing.proofs.editing.take.Goals as goal
@@ -11,8 +10,7 @@ returns-after-has_changed-clause-settled g c =
     let view = c.args.view.now in
     let new = c.take.new.self in
     let old = c.args.recorder.now in
-    let grows : Grows view.doc.log new.doc.log =
-    subst (λ (v : Viewed). Grows view.doc.log v.doc.log) (sym c.in-Ok.ensures.taken) (grows_taken c.args.op view) in
+    let grows : GrowsTo view new = subst (GrowsTo view) (sym c.in-Ok.ensures.taken) (grows_taken c.args.op view) in
     elim c.if-has_changed.branch [
       | then-has_changed w ↦ settled_forced view new old c.if-has_changed.recorder (w.recorder-is ∙ w.force.ensures) c.requires.settled c.of-before.ensures.kept c.has_changed.ensures.kept grows
       | else-has_changed w ↦ settled_same view new old c.if-has_changed.recorder w.recorder-is c.requires.settled c.of-before.ensures.kept c.has_changed.ensures.kept grows

@@ -1,4 +1,4 @@
-use Rattle.rt_editing.proofs.TakenBack.{deletion_back}
+use Rattle.rt_editing.proofs.Replaced.{deletion_back}
 use Rattle.rt_editing.proofs.laws.recorded_deletion.Goals as goal
 
 pub returns : goal.returns

@@ -4,7 +4,7 @@ use Rattle.rt_ops.proofs.Readings.{offset_each}
 use Rattle.rt_files.proofs.join.log_in.Goals as goal
 
 pub log_of-requires : goal.log_of-requires
-log_of-requires g c = rw c.deref.ensures.value (offset_each _ _ c.in-Ok.reading.ops.items c.in-Ok.reading.offsets.items c.in-Ok.reading.fault c.in-Ok.ensures.reads)
+log_of-requires g c = rw c.deref.ensures.value (offset_each _ _ _ c.in-Ok.reading.ops.items c.in-Ok.reading.offsets.items c.in-Ok.reading.fault c.in-Ok.ensures.reads)
 
 pub returns-in-Some : goal.returns-in-Some
 returns-in-Some g c = inl (

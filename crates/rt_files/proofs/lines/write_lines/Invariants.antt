@@ -5,6 +5,6 @@ use Rattle.rt_files.proofs.lines.write_lines.Given as goal
 
 abbrev pub invariant-loop-op : goal.invariant-loop-op
 invariant-loop-op g l = record {
-  wrote : Appends (g.W.Sink.contents l.fn.out) (g.W.Sink.contents l.out) (flat_map line_of (take l.op-index l.ops));
-  failures : g.W.Sink.failures l.out ≡ g.W.Sink.failures l.fn.out;
+  wrote : Appends (g.W.Sink.stream l.fn.out).bytes (g.W.Sink.stream l.out).bytes (flat_map line_of (take l.op-index l.ops));
+  failures : (g.W.Sink.stream l.out).failures ≡ (g.W.Sink.stream l.fn.out).failures;
 }

@@ -5,6 +5,6 @@ use Rattle.rt_files.proofs.parts.write_names.Given as goal
 
 abbrev pub invariant-loop-name : goal.invariant-loop-name
 invariant-loop-name g l = record {
-  wrote : Appends (g.W.Sink.contents l.fn.out) (g.W.Sink.contents l.out) (flat_map (λ name. 32 ∷ text_of_word (string_bytes name)) (take l.name-index l.names));
-  failures : g.W.Sink.failures l.out ≡ g.W.Sink.failures l.fn.out;
+  wrote : Appends (g.W.Sink.stream l.fn.out).bytes (g.W.Sink.stream l.out).bytes (flat_map (λ name. 32 ∷ text_of_word (string_bytes name)) (take l.name-index l.names));
+  failures : (g.W.Sink.stream l.out).failures ≡ (g.W.Sink.stream l.fn.out).failures;
 }

@@ -5,6 +5,6 @@ use Rattle.rt_files.proofs.parts.write_parts.Given as goal
 
 abbrev pub invariant-loop-part : goal.invariant-loop-part
 invariant-loop-part g l = record {
-  wrote : Appends (g.W.Sink.contents l.fn.out) (g.W.Sink.contents l.out) (flat_map (λ part. 32 ∷ text_of_part part) (take l.part-index l.parts));
-  failures : g.W.Sink.failures l.out ≡ g.W.Sink.failures l.fn.out;
+  wrote : Appends (g.W.Sink.stream l.fn.out).bytes (g.W.Sink.stream l.out).bytes (flat_map (λ part. 32 ∷ text_of_part part) (take l.part-index l.parts));
+  failures : (g.W.Sink.stream l.out).failures ≡ (g.W.Sink.stream l.fn.out).failures;
 }

@@ -5,6 +5,6 @@ use Rattle.rt_files.proofs.parts.write_spans.Given as goal
 
 abbrev pub invariant-loop-span : goal.invariant-loop-span
 invariant-loop-span g l = record {
-  wrote : Appends (g.W.Sink.contents l.fn.out) (g.W.Sink.contents l.out) (flat_map (λ span. 32 ∷ text_of_span span) (take l.span-index l.spans));
-  failures : g.W.Sink.failures l.out ≡ g.W.Sink.failures l.fn.out;
+  wrote : Appends (g.W.Sink.stream l.fn.out).bytes (g.W.Sink.stream l.out).bytes (flat_map (λ span. 32 ∷ text_of_span span) (take l.span-index l.spans));
+  failures : (g.W.Sink.stream l.out).failures ≡ (g.W.Sink.stream l.fn.out).failures;
 }

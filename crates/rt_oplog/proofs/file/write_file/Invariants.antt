@@ -8,7 +8,7 @@ use Rattle.rt_oplog.proofs.file.write_file.Given as goal
 
 abbrev pub invariant-loop-block : goal.invariant-loop-block
 invariant-loop-block g l = record {
-  wrote : Appends (g.W.Sink.contents l.fn.out) (g.W.Sink.contents l.out) (spelling (map (op_at l.ops) (in_blocks (take l.block-index l.blocks))));
+  wrote : Appends (g.W.Sink.stream l.fn.out).bytes (g.W.Sink.stream l.out).bytes (spelling (map (op_at l.ops) (in_blocks (take l.block-index l.blocks))));
   records : AllByRecursion HasRecord (map (op_at l.ops) (in_blocks (take l.block-index l.blocks)));
-  failures : g.W.Sink.failures l.out ≡ g.W.Sink.failures l.fn.out;
+  failures : (g.W.Sink.stream l.out).failures ≡ (g.W.Sink.stream l.fn.out).failures;
 }

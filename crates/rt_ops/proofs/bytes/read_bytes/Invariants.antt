@@ -1,4 +1,14 @@
+use Rattle.std.proofs.Common.{◌≡◌, length}
+use Rattle.rt_ops.specs.Reading.{offsets_from}
+use Rattle.rt_ops.specs.Records.{HasTaken}
 use Rattle.rt_ops.proofs.bytes.read_bytes.Given as goal
 
-abbrev pub ghosts-read_in : goal.ghosts-read_in
-ghosts-read_in a = record { name = a.calls.name; parts = a.calls.parts }
+abbrev pub invariant-records : goal.invariant-records
+invariant-records l = record {
+  taken : HasTaken l.records l.ops.items;
+  bytes : l.records.bytes ≡ l.fn.bytes;
+  offsets : l.offsets.items ≡ offsets_from 8 l.ops.items;
+}
+
+abbrev pub decreases-records : goal.decreases-records
+decreases-records l = length l.records.rest

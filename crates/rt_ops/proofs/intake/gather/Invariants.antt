@@ -5,8 +5,8 @@ use Rattle.rt_ops.proofs.intake.gather.Given as goal
 
 abbrev pub invariant-loop-piece : goal.invariant-loop-piece
 invariant-loop-piece g l = record {
-  takes : Takes (record { calls = g.R.Source.calls l.fn.reader; failures = g.R.Source.failures l.fn.reader; bytes = g.R.Source.remaining l.fn.reader })
-      (record { calls = g.R.Source.calls l.reader; failures = g.R.Source.failures l.reader; bytes = g.R.Source.remaining l.reader }) l.fn.bounds l.bounds l.buffer.items;
+  takes : Takes (g.R.Source.stream l.fn.reader)
+      (g.R.Source.stream l.reader) l.fn.bounds l.bounds l.buffer.items;
   within : length l.buffer.items ≤ l.wanted;
   piece : length l.piece ≡ PIECE_BYTES;
 }

@@ -1,6 +1,6 @@
 use Rattle.std.proofs.Common.{◌≡◌, ◌↔◌, ◌∙◌, ap, List, sym}
 use Rattle.rt_ops.specs.Operations.{Operation}
-use Rattle.rt_oplog.specs.Logs.{Has}
+use Rattle.rt_oplog.specs.Logs.{AreOf}
 use Rattle.rt_store.specs.Shown.{TaggedCell}
 use Rattle.rt_rga.specs.Cells.{cells_of}
 use Rattle.rt_rga.specs.Histories.{IsHistory}
@@ -9,7 +9,7 @@ use Rattle.rt_rga.proofs.Accepting.{one_list}
 use Rattle.rt_rga.proofs.laws.replicas_agree.Goals as goal
 
 -- of two histories
-same_cells : (one other : List Operation) (kept more : List TaggedCell) → IsHistory one → IsHistory other → kept ≡ cells_of one → more ≡ cells_of other → ((op : Operation) → Has one op ↔ Has other op)
+same_cells : (one other : List Operation) (kept more : List TaggedCell) → IsHistory one → IsHistory other → kept ≡ cells_of one → more ≡ cells_of other → AreOf one other
     → kept ≡ more
 same_cells one other kept more h k a b same = a ∙ ap cells_of (one_list one other h k same) ∙ sym b
 

@@ -9,7 +9,7 @@ use Rattle.rt_script.proofs.engine.feed.Goals as goal
 
 pub loop-start-init : goal.loop-start-init
 loop-start-init g c = record {
-  ran = λ rest none is. rw (append-nil rest) (ran_start _ _ _ rest (complete_none rest none));
+  ran = λ rest none is. rw (append-nil rest) (ran_start _ _ rest (complete_none rest none));
   rest = λ rest none is. is ∙ ap (λ v. kept v) (sym (ap (λ p. p.1) none) ∙ ap rest_of (sym (append-nil rest)));
   short = c.requires;
   failures = refl;
@@ -26,7 +26,7 @@ keep-requires g c = c.loop-start.invariant.short
 pub returns-then-end-piece-clause-ran : goal.returns-then-end-piece-clause-ran
 returns-then-end-piece-clause-ran g c = λ rest none is.
     let n = line_counted c.args.piece.now c.loop-start.start c.line_len.result c.line_len.ensures in
-    kept_lines _ _ _ _ _ _ _ rest c.args.piece.now c.loop-start.start c.line_len.result c.keep.result n c.if-end-piece.true c.loop-start-test.true c.keep.ensures.fault
+    kept_lines _ _ _ rest c.args.piece.now c.loop-start.start c.line_len.result c.keep.result n c.if-end-piece.true c.loop-start-test.true c.keep.ensures.fault
     (c.loop-start.invariant.ran rest none is) c.loop-start.invariant.failures
 
 pub returns-then-end-piece-clause-rest : goal.returns-then-end-piece-clause-rest
@@ -49,7 +49,7 @@ returns-in_err-end_line-clause-ran g c = λ rest none is.
     let more : c.loop-start.start + c.line_len.result < length c.args.piece.now =
     omega (arith, c.if-end-piece.false, line_within c.args.piece.now c.loop-start.start c.line_len.result n (omega (arith, c.loop-start-test.true))) in
     rw (p.1, p.2)
-    (stopped_lines _ _ _ _ _ _ _ _ _ _ rest c.args.piece.now c.loop-start.start c.line_len.result _ n more (c.loop-start.invariant.ran rest none is) c.loop-start.invariant.failures
+    (stopped_lines _ _ _ _ rest c.args.piece.now c.loop-start.start c.line_len.result _ n more (c.loop-start.invariant.ran rest none is) c.loop-start.invariant.failures
     (c.in_err-end_line.ensures.ran _ (c.loop-start.invariant.rest rest none is)))
 
 pub loop-start-preserved : goal.loop-start-preserved
@@ -59,7 +59,7 @@ loop-start-preserved g c =
     let more : end < length c.args.piece.now = omega (arith, c.if-end-piece.false, line_within c.args.piece.now c.loop-start.start c.line_len.result n (omega (arith, c.loop-start-test.true))) in
     record {
       ran = λ rest none is.
-          ran_more _ _ _ _ _ _ _ rest c.args.piece.now c.loop-start.start c.line_len.result n more (c.loop-start.invariant.ran rest none is)
+          ran_more _ _ _ _ rest c.args.piece.now c.loop-start.start c.line_len.result n more (c.loop-start.invariant.ran rest none is)
           (c.in_ok-end_line.ensures.ran _ (c.loop-start.invariant.rest rest none is)).0;
       rest = λ rest none is.
           c.in_ok-end_line.ensures.rest ∙ kept_newline (rest ++ take end c.args.piece.now) _ (bytes_newline rest c.args.piece.now end more (newline_at c.args.piece.now c.loop-start.start c.line_len.result n more));

@@ -1,15 +1,20 @@
-use Rattle.std.proofs.Common.{◌≡◌, ◌∙◌, ℕ, Bool, false, Ok, Err, ap, length, subst, arith}
-use Rattle.std.specs.Prelude.{MatchBool, nat_lt}
+use Rattle.std.proofs.Common.{◌≡◌, ◌∙◌, ℕ, Bool, true, false, Ok, Err, ap, length, subst, arith, inl, inr}
+use Rattle.std.specs.Prelude.{◌⊎◌, MatchBool, nat_lt}
 use Rattle.std.proofs.lemmas.Bool.Decides.{nat_tests}
-use Rattle.rt_peers.specs.SiteStep.{KeepsOperations, MakesAndTries, has_made, log_of}
+use Rattle.rt_peers.specs.SiteStep.{KeepsOperations, MakesAndTries, Tries, has_made, log_of}
+use Rattle.rt_peers.specs.State.{State}
 use Rattle.rt_script.specs.Headline.{RepliesByStep}
 use Rattle.rt_script.proofs.laws.headline.Goals as goal
 
 never_less : (n : ℕ) → nat_lt n n ≡ false
 never_less n = grind (arith, nat_tests)
 
+tried_or_kept : (made : Bool) (old mid new : State) → MatchBool made (MakesAndTries old mid new) (KeepsOperations old mid × (new ≡ mid)) → (new ≡ mid) ⊎ Tries mid new
+tried_or_kept true old mid new h = inr h.tries
+tried_or_kept false old mid new h = inl h.1
+
 by_step : RepliesByStep
-by_step path request old new (Ok reply) h = (h.0, h.1)
+by_step path request old new (Ok reply) h = (h.0, h.1, tried_or_kept (has_made old h.0) old h.0 new h.2)
 by_step path request old new (Err fault) h =
     let same : h.0 ≡ old = h.1.0 in
     let none : has_made old h.0 ≡ false = ap (has_made old) same ∙ never_less (length (log_of old)) in

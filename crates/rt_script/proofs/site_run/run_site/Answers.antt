@@ -1,4 +1,7 @@
 use Rattle.rt_script.proofs.site_run.run_site.Goals as goal
 
-pub returns : goal.returns
-returns g c = (c.run-site.ensures, c.log_of-log.ensures)
+pub returns-clause-runs : goal.returns-clause-runs
+returns-clause-runs g c = (c.run-site.ensures.ends, c.log_of-log.ensures)
+
+pub returns-clause-last : goal.returns-clause-last
+returns-clause-last g c = c.run-site.ensures.last

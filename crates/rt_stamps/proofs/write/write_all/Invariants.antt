@@ -5,8 +5,8 @@ use Rattle.rt_stamps.proofs.write.write_all.Given as goal
 abbrev pub invariant-loop-done : goal.invariant-loop-done
 invariant-loop-done g l = record {
   within : l.done ≤ length l.piece;
-  failures : g.W.Sink.failures l.out ≡ g.W.Sink.failures l.fn.out;
-  wrote : Appends (g.W.Sink.contents l.fn.out) (g.W.Sink.contents l.out) (take l.done l.piece);
+  failures : (g.W.Sink.stream l.out).failures ≡ (g.W.Sink.stream l.fn.out).failures;
+  wrote : Appends (g.W.Sink.stream l.fn.out).bytes (g.W.Sink.stream l.out).bytes (take l.done l.piece);
 }
 
 abbrev pub decreases-loop-done : goal.decreases-loop-done

@@ -19,14 +19,14 @@ put_in m h r x i place old run t exact leaf le same at = put_at m h r t exact x 
 pub insert_run-requires-clause-few : goal.insert_run-requires-clause-few
 insert_run-requires-clause-few c =
     let e = c.make_room-place.ensures in let p = c.make_room-place.result in
-    let m = c.args.mem.now in let h = c.args.height in let r = c.args.root.index in
-    subst (λ (l : List Run). AreFew (counts_of l)) (sym (put_in c.make_room-place.new.mem h r p.leaf.index p.entry (length (ahead (bare m) h c.args.leaf.index) + c.args.i) (runs (bare m) h r) c.args.run e.tree e.exact e.leaf e.within e.runs e.place)) c.requires.still_few
+    let m = c.args.mem.now in let h = c.args.top.height in let r = c.args.top.root.index in
+    subst (λ (l : List Run). AreFew (counts_of l)) (sym (put_in c.make_room-place.new.mem h r p.leaf.index p.entry (length (ahead (bare m) h c.args.place.leaf.index) + c.args.place.entry) (runs (bare m) h r) c.args.run e.tree e.exact e.leaf e.within e.runs e.place)) c.requires.still_few
 
 pub returns-clause-runs : goal.returns-clause-runs
 returns-clause-runs c =
     let e = c.make_room-place.ensures in let p = c.make_room-place.result in
-    let m = c.args.mem.now in let h = c.args.height in let r = c.args.root.index in
-    c.insert_run.ensures.runs ∙ put_in c.make_room-place.new.mem h r p.leaf.index p.entry (length (ahead (bare m) h c.args.leaf.index) + c.args.i) (runs (bare m) h r) c.args.run e.tree e.exact e.leaf e.within e.runs e.place
+    let m = c.args.mem.now in let h = c.args.top.height in let r = c.args.top.root.index in
+    c.insert_run.ensures.runs ∙ put_in c.make_room-place.new.mem h r p.leaf.index p.entry (length (ahead (bare m) h c.args.place.leaf.index) + c.args.place.entry) (runs (bare m) h r) c.args.run e.tree e.exact e.leaf e.within e.runs e.place
 
 pub insert_run-requires-clause-summed : goal.insert_run-requires-clause-summed
 insert_run-requires-clause-summed c = c.make_room-place.ensures.told.each
@@ -43,8 +43,8 @@ insert_run-requires-clause-tags c = c.make_room-place.ensures.told.tags
 pub insert_run-requires-clause-given : goal.insert_run-requires-clause-given
 insert_run-requires-clause-given c =
     let e = c.make_room-place.ensures in let p = c.make_room-place.result in
-    let m = c.args.mem.now in let h = c.args.height in let r = c.args.root.index in
-    let n = length (ahead (bare m) h c.args.leaf.index) + c.args.i in
+    let m = c.args.mem.now in let h = c.args.top.height in let r = c.args.top.root.index in
+    let n = length (ahead (bare m) h c.args.place.leaf.index) + c.args.place.entry in
     let table = c.args.states.now in
     subst (λ rs. AllByRecursion (IsState table) (shown_states rs)) (sym (put_in c.make_room-place.new.mem h r p.leaf.index p.entry n (runs (bare m) h r) c.args.run e.tree e.exact e.leaf e.within e.runs e.place))
     (shown_given table (insert (runs (bare m) h r) n c.args.run) (given_insert table (runs (bare m) h r) n c.args.run c.requires.state c.requires.told.given))
@@ -52,8 +52,8 @@ insert_run-requires-clause-given c =
 pub insert_run-requires-clause-short : goal.insert_run-requires-clause-short
 insert_run-requires-clause-short c =
     let e = c.make_room-place.ensures in let p = c.make_room-place.result in
-    let m = c.args.mem.now in let h = c.args.height in let r = c.args.root.index in
-    let n = length (ahead (bare m) h c.args.leaf.index) + c.args.i in
+    let m = c.args.mem.now in let h = c.args.top.height in let r = c.args.top.root.index in
+    let n = length (ahead (bare m) h c.args.place.leaf.index) + c.args.place.entry in
     let same = ap (λ rs. length (shown_states rs)) (put_in c.make_room-place.new.mem h r p.leaf.index p.entry n (runs (bare m) h r) c.args.run e.tree e.exact e.leaf e.within e.runs e.place) in
     let few = shown_few (insert (runs (bare m) h r) n c.args.run) in
     let more = insert_few (runs (bare m) h r) n c.args.run in
@@ -62,8 +62,8 @@ insert_run-requires-clause-short c =
 pub returns-clause-told : goal.returns-clause-told
 returns-clause-told c =
     let e = c.insert_run.ensures in
-    let m = c.args.mem.now in let h = c.args.height in let r = c.args.root.index in
-    let n = length (ahead (bare m) h c.args.leaf.index) + c.args.i in
+    let m = c.args.mem.now in let h = c.args.top.height in let r = c.args.top.root.index in
+    let n = length (ahead (bare m) h c.args.place.leaf.index) + c.args.place.entry in
     let table = c.args.states.now in
     let given = subst (AreGiven table) (sym (returns-clause-runs c)) (given_insert table (runs (bare m) h r) n c.args.run c.requires.state c.requires.told.given) in
     told_next c.make_room-place.new.mem c.insert_run.new.mem table c.make_room-place.new.sums c.insert_run.new.sums (runs (bare c.make_room-place.new.mem) h r) (runs (bare c.insert_run.new.mem) h r) given c.make_room-place.ensures.told e.summed e.many e.memory e.tags (omega (arith, e.room.0, e.room.1))
@@ -77,7 +77,7 @@ returns-clause-longer c = omega (arith, c.make_room-place.ensures.longer, c.inse
 pub returns-clause-stay : goal.returns-clause-stay
 returns-clause-stay c =
     let e = c.make_room-place.ensures in let p = c.make_room-place.result in let m = c.make_room-place.new.mem in
-    let own = stay_insert m c.insert_run.new.mem c.args.height c.args.root.index p.leaf.index p.entry c.args.run e.tree e.leaf.0 c.insert_run.ensures.bare in
+    let own = stay_insert m c.insert_run.new.mem c.args.top.height c.args.top.root.index p.leaf.index p.entry c.args.run e.tree e.leaf.0 c.insert_run.ensures.bare in
     stay_but c.args.mem.now m c.insert_run.new.mem e.longer e.stay p.leaf.index c.args.run own
 
 pub returns-clause-leaf : goal.returns-clause-leaf
@@ -88,10 +88,10 @@ returns-clause-leaf c =
 pub returns-clause-here : goal.returns-clause-here
 returns-clause-here c =
     let e = c.make_room-place.ensures in let p = c.make_room-place.result in let m = c.make_room-place.new.mem in
-    here_insert m c.insert_run.new.mem c.args.height c.args.root.index p.leaf.index p.entry c.args.run e.tree e.leaf.0 e.within c.insert_run.ensures.bare
+    here_insert m c.insert_run.new.mem c.args.top.height c.args.top.root.index p.leaf.index p.entry c.args.run e.tree e.leaf.0 e.within c.insert_run.ensures.bare
 
 pub returns-clause-place : goal.returns-clause-place
 returns-clause-place c =
     let e = c.make_room-place.ensures in let p = c.make_room-place.result in let m = c.make_room-place.new.mem in
-    let same = ap length (ahead_insert m c.insert_run.new.mem c.args.height c.args.root.index p.leaf.index p.entry c.args.run e.tree e.leaf.0 e.leaf.1 c.insert_run.ensures.bare) in
+    let same = ap length (ahead_insert m c.insert_run.new.mem c.args.top.height c.args.top.root.index p.leaf.index p.entry c.args.run e.tree e.leaf.0 e.leaf.1 c.insert_run.ensures.bare) in
     omega (arith, same, e.place)

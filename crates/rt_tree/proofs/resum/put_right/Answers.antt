@@ -12,7 +12,7 @@ note-requires-clause-many c = let all = ap length c.as_mut_slice.ensures.value i
 
 pub note-requires-clause-but : goal.note-requires-clause-but
 note-requires-clause-but c =
-    subst (λ sums. AreSummedBut c.args.states.now c.args.mem.now sums c.args.height c.args.leaf.index c.args.i c.args.old.now) (sym c.as_mut_slice.ensures.value) c.requires.but
+    subst (λ sums. AreSummedBut c.args.states.now c.args.mem.now sums c.args.top.height c.args.restated.place.leaf.index c.args.restated.place.entry c.args.restated.change.from) (sym c.as_mut_slice.ensures.value) c.requires.but
 
 pub note-requires-clause-minus : goal.note-requires-clause-minus
 note-requires-clause-minus c = let m = c.requires.memory.minus in omega (arith, m, c.requires.tags)
@@ -63,11 +63,11 @@ returns-clause-memory c =
 pub returns-then-eq-clause-summed : goal.returns-then-eq-clause-summed
 returns-then-eq-clause-summed c =
     let m = c.args.mem.now in
-    let x = c.args.leaf.index in
-    let i = c.args.i in
+    let x = c.args.restated.place.leaf.index in
+    let i = c.args.restated.place.entry in
     let sums = c.args.sums.now.each.items in
     let e = get_or (entries m x) i (kid 0) in
     let here = get-any (entries m x) i (kid 0) e c.requires.within in
-    let same = same_option c.args.old.now c.args.new.now (sym c.eq.ensures ∙ c.if-eq.true) in
-    but_same m c.args.height c.args.root.index c.requires.tree x c.requires.leaf.0 c.requires.leaf.1 i e c.args.new.now c.requires.within here (c.requires.shows e here) c.args.states.now sums
-    (subst (AreSummedBut c.args.states.now m sums c.args.height x i) same c.requires.but)
+    let same = same_option c.args.restated.change.from c.args.restated.change.to (sym c.eq.ensures ∙ c.if-eq.true) in
+    but_same m c.args.top.height c.args.top.root.index c.requires.tree x c.requires.leaf.0 c.requires.leaf.1 i e c.args.restated.change.to c.requires.within here (c.requires.shows e here) c.args.states.now sums
+    (subst (AreSummedBut c.args.states.now m sums c.args.top.height x i) same c.requires.but)

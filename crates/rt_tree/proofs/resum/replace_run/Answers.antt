@@ -19,16 +19,16 @@ it : (m : Memory) (x i : ℕ) (run : Run) → i < length (entries m x) → ArePa
 it m x i run lt = let e = get_or (entries m x) i (kid 0) in parts_set (entries m x) i run e lt (get-any (entries m x) i (kid 0) e lt)
 
 pub put_right-requires-clause-tree : goal.put_right-requires-clause-tree
-put_right-requires-clause-tree c = shape-bare c.set_run.new.mem c.args.height c.args.root.index c.set_run.ensures.tree
+put_right-requires-clause-tree c = shape-bare c.set_run.new.mem c.args.top.height c.args.top.root.index c.set_run.ensures.tree
 
 pub put_right-requires-clause-leaf : goal.put_right-requires-clause-leaf
 put_right-requires-clause-leaf c =
-    let x = c.args.leaf.index in
+    let x = c.args.place.leaf.index in
     subst (λ (b : Memory). (x < length b.heads) × (level_of b x ≡ 0)) (sym c.set_run.ensures.bare) c.requires.leaf
 
 pub put_right-requires-clause-within : goal.put_right-requires-clause-within
 put_right-requires-clause-within c =
-    within_now c.args.mem.now c.set_run.new.mem c.args.height c.args.root.index c.requires.tree c.args.leaf.index c.requires.leaf.0 c.requires.leaf.1 c.args.i c.args.run (set (entries c.args.mem.now c.args.leaf.index) c.args.i (Here c.args.run)) (get_or (entries c.args.mem.now c.args.leaf.index) c.args.i (kid 0) ∷ []) (it c.args.mem.now c.args.leaf.index c.args.i c.args.run c.requires.within) c.set_run.ensures.bare
+    within_now c.args.mem.now c.set_run.new.mem c.args.top.height c.args.top.root.index c.requires.tree c.args.place.leaf.index c.requires.leaf.0 c.requires.leaf.1 c.args.place.entry c.args.run (set (entries c.args.mem.now c.args.place.leaf.index) c.args.place.entry (Here c.args.run)) (get_or (entries c.args.mem.now c.args.place.leaf.index) c.args.place.entry (kid 0) ∷ []) (it c.args.mem.now c.args.place.leaf.index c.args.place.entry c.args.run c.requires.within) c.set_run.ensures.bare
 
 pub put_right-requires-clause-many : goal.put_right-requires-clause-many
 put_right-requires-clause-many c =
@@ -37,63 +37,63 @@ put_right-requires-clause-many c =
 
 pub put_right-requires-clause-shows : goal.put_right-requires-clause-shows
 put_right-requires-clause-shows c e here =
-    shows_now_there c.args.mem.now c.set_run.new.mem c.args.height c.args.root.index c.requires.tree c.args.leaf.index c.requires.leaf.0 c.requires.leaf.1 c.args.i c.args.run (set (entries c.args.mem.now c.args.leaf.index) c.args.i (Here c.args.run)) (get_or (entries c.args.mem.now c.args.leaf.index) c.args.i (kid 0) ∷ []) (it c.args.mem.now c.args.leaf.index c.args.i c.args.run c.requires.within) c.set_run.ensures.bare e here
-    ∙ sym (ap one_or_none c.shown_state-new.ensures.first ∙ shown_one c.args.run)
+    shows_now_there c.args.mem.now c.set_run.new.mem c.args.top.height c.args.top.root.index c.requires.tree c.args.place.leaf.index c.requires.leaf.0 c.requires.leaf.1 c.args.place.entry c.args.run (set (entries c.args.mem.now c.args.place.leaf.index) c.args.place.entry (Here c.args.run)) (get_or (entries c.args.mem.now c.args.place.leaf.index) c.args.place.entry (kid 0) ∷ []) (it c.args.mem.now c.args.place.leaf.index c.args.place.entry c.args.run c.requires.within) c.set_run.ensures.bare e here
+    ∙ sym (ap one_or_none c.shown_state-to.ensures.first ∙ shown_one c.args.run)
 
 pub put_right-requires-clause-old : goal.put_right-requires-clause-old
 put_right-requires-clause-old c =
     let m = c.args.mem.now in
-    let h = c.args.height in
-    let r = c.args.root.index in
-    let x = c.args.leaf.index in
+    let h = c.args.top.height in
+    let r = c.args.top.root.index in
+    let x = c.args.place.leaf.index in
     let table = c.args.states.now in
-    let e = get_or (entries m x) c.args.i (kid 0) in
-    let here = get-any (entries m x) c.args.i (kid 0) e c.requires.within in
-    own_given m h r (shape-bare m h r c.requires.tree) x c.requires.leaf.0 c.requires.leaf.1 c.args.i e c.shown_at-old.result c.requires.within here (c.shown_at-old.ensures e here) table
+    let e = get_or (entries m x) c.args.place.entry (kid 0) in
+    let here = get-any (entries m x) c.args.place.entry (kid 0) e c.requires.within in
+    own_given m h r (shape-bare m h r c.requires.tree) x c.requires.leaf.0 c.requires.leaf.1 c.args.place.entry e c.shown_at-from.result c.requires.within here (c.shown_at-from.ensures e here) table
     (subst (λ rs. AllByRecursion (IsState table) (shown_states rs)) (runs-bare m h r) c.requires.had)
 
 pub put_right-requires-clause-new : goal.put_right-requires-clause-new
 put_right-requires-clause-new c =
     let m = c.set_run.new.mem in
-    let h = c.args.height in
-    let r = c.args.root.index in
-    let x = c.args.leaf.index in
-    let i = c.args.i in
+    let h = c.args.top.height in
+    let r = c.args.top.root.index in
+    let x = c.args.place.leaf.index in
+    let i = c.args.place.entry in
     let table = c.args.states.now in
     let leaf = subst (λ (b : Memory). (x < length b.heads) × (level_of b x ≡ 0)) (sym c.set_run.ensures.bare) c.requires.leaf in
     let within = within_now c.args.mem.now m h r c.requires.tree x c.requires.leaf.0 c.requires.leaf.1 i c.args.run (set (entries c.args.mem.now x) i (Here c.args.run)) (get_or (entries c.args.mem.now x) i (kid 0) ∷ []) (it c.args.mem.now x i c.args.run c.requires.within) c.set_run.ensures.bare in
     let e = get_or (entries m x) i (kid 0) in
     let here = get-any (entries m x) i (kid 0) e within in
     let shows = shows_now_there c.args.mem.now m h r c.requires.tree x c.requires.leaf.0 c.requires.leaf.1 i c.args.run (set (entries c.args.mem.now x) i (Here c.args.run)) (get_or (entries c.args.mem.now x) i (kid 0) ∷ []) (it c.args.mem.now x i c.args.run c.requires.within) c.set_run.ensures.bare e here
-    ∙ sym (ap one_or_none c.shown_state-new.ensures.first ∙ shown_one c.args.run) in
-    own_given m h r (shape-bare m h r c.set_run.ensures.tree) x leaf.0 leaf.1 i e c.shown_state-new.result within here shows table
+    ∙ sym (ap one_or_none c.shown_state-to.ensures.first ∙ shown_one c.args.run) in
+    own_given m h r (shape-bare m h r c.set_run.ensures.tree) x leaf.0 leaf.1 i e c.shown_state-to.result within here shows table
     (subst (λ rs. AllByRecursion (IsState table) (shown_states rs)) (sym c.set_run.ensures.runs ∙ runs-bare m h r) c.requires.given)
 
 pub put_right-requires-clause-beside : goal.put_right-requires-clause-beside
 put_right-requires-clause-beside c =
     let m = c.set_run.new.mem in
-    let h = c.args.height in
-    let r = c.args.root.index in
-    let x = c.args.leaf.index in
-    let i = c.args.i in
+    let h = c.args.top.height in
+    let r = c.args.top.root.index in
+    let x = c.args.place.leaf.index in
+    let i = c.args.place.entry in
     let table = c.args.states.now in
     let leaf = subst (λ (b : Memory). (x < length b.heads) × (level_of b x ≡ 0)) (sym c.set_run.ensures.bare) c.requires.leaf in
     let within = within_now c.args.mem.now m h r c.requires.tree x c.requires.leaf.0 c.requires.leaf.1 i c.args.run (set (entries c.args.mem.now x) i (Here c.args.run)) (get_or (entries c.args.mem.now x) i (kid 0) ∷ []) (it c.args.mem.now x i c.args.run c.requires.within) c.set_run.ensures.bare in
     let e = get_or (entries m x) i (kid 0) in
     let here = get-any (entries m x) i (kid 0) e within in
     let shows = shows_now_there c.args.mem.now m h r c.requires.tree x c.requires.leaf.0 c.requires.leaf.1 i c.args.run (set (entries c.args.mem.now x) i (Here c.args.run)) (get_or (entries c.args.mem.now x) i (kid 0) ∷ []) (it c.args.mem.now x i c.args.run c.requires.within) c.set_run.ensures.bare e here
-    ∙ sym (ap one_or_none c.shown_state-new.ensures.first ∙ shown_one c.args.run) in
+    ∙ sym (ap one_or_none c.shown_state-to.ensures.first ∙ shown_one c.args.run) in
     let are = sym c.set_run.ensures.runs ∙ runs-bare m h r in
-    beside m h r (shape-bare m h r c.set_run.ensures.tree) x leaf.0 leaf.1 i e c.shown_state-new.result within here shows table
+    beside m h r (shape-bare m h r c.set_run.ensures.tree) x leaf.0 leaf.1 i e c.shown_state-to.result within here shows table
     (subst (λ rs. AllByRecursion (IsState table) (shown_states rs)) are c.requires.given)
     (let long = ap (λ rs. length (shown_states rs)) are in omega (arith, long, c.requires.short))
 
 pub put_right-requires-clause-but : goal.put_right-requires-clause-but
 put_right-requires-clause-but c =
     let m = c.args.mem.now in
-    let x = c.args.leaf.index in
-    let i = c.args.i in
+    let x = c.args.place.leaf.index in
+    let i = c.args.place.entry in
     let e = get_or (entries m x) i (kid 0) in
     let here = get-any (entries m x) i (kid 0) e c.requires.within in
-    but_there m c.set_run.new.mem c.args.height c.args.root.index c.requires.tree x c.requires.leaf.0 c.requires.leaf.1 i c.args.run (set (entries m x) i (Here c.args.run)) (get_or (entries m x) i (kid 0) ∷ []) (it m x i c.args.run c.requires.within) c.set_run.ensures.bare c.args.states.now c.args.sums.now.each.items c.requires.summed c.shown_at-old.result
-    (ap shown_states (append-nil (below m 0 e)) ∙ c.shown_at-old.ensures e here)
+    but_there m c.set_run.new.mem c.args.top.height c.args.top.root.index c.requires.tree x c.requires.leaf.0 c.requires.leaf.1 i c.args.run (set (entries m x) i (Here c.args.run)) (get_or (entries m x) i (kid 0) ∷ []) (it m x i c.args.run c.requires.within) c.set_run.ensures.bare c.args.states.now c.args.sums.now.each.items c.requires.summed c.shown_at-from.result
+    (ap shown_states (append-nil (below m 0 e)) ∙ c.shown_at-from.ensures e here)

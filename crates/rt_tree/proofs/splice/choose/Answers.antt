@@ -4,7 +4,7 @@ use Rattle.rt_tree.proofs.Shared.{apart_chosen, apart_lone, chosen_twice}
 use Rattle.rt_tree.proofs.splice.choose.Goals as goal
 
 pub is_in_two-requires-clause-known : goal.is_in_two-requires-clause-known
-is_in_two-requires-clause-known c = record { text = c.args.text.now; kept = c.requires.kept; upto = c.requires.upto }
+is_in_two-requires-clause-known c = record { text = c.args.new.now.text.now; kept = c.requires.kept; upto = c.requires.upto }
 
 pub returns-then-lone-gt0-clause-apart : goal.returns-then-lone-gt0-clause-apart
 returns-then-lone-gt0-clause-apart c =
@@ -18,8 +18,8 @@ returns-then-is_in_two-clause-apart c =
 
 pub returns-then-is_in_two-clause-stretch : goal.returns-then-is_in_two-clause-stretch
 returns-then-is_in_two-clause-stretch c =
-    let cells = drop c.args.done c.args.cells.now in let run = c.next_run-run.result in
-    λ none once. absurd (chosen_twice c.args.text.now (tree_runs c.args.mem.now c.args.root.index) run cells c.requires.kept c.next_run-run.ensures.front once (sym c.is_in_two.ensures ∙ c.if-is_in_two.true))
+    let cells = drop c.args.done c.args.new.now.cells.now in let run = c.next_run-run.result in
+    λ none once. absurd (chosen_twice c.args.new.now.text.now (tree_runs c.args.mem.now c.args.root.index) run cells c.requires.kept c.next_run-run.ensures.front once (sym c.is_in_two.ensures ∙ c.if-is_in_two.true))
 
 pub returns-clause-run : goal.returns-clause-run
 returns-clause-run c = c.next_run-run.ensures.front

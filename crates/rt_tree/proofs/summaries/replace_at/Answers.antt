@@ -27,10 +27,10 @@ replace-requires-clause-few c tag =
     let table = c.args.states.now in
     let was = c.requires.was in
     let same = ap (λ (s : Summary). count_of tag s.counts) (get-any c.args.each.now node c.index-each-node.result no_summary c.requires.within) in
-    let a = few_toggles table (was.left ++ (one_or_none c.args.old.now ++ was.right)) (summary_of c.args.each.now node).counts was.is.counts tag in
-    let b = length_spread was.left was.right c.args.old.now in
-    let d = few_toggles table (one_or_none c.args.around.now.before ++ (one_or_none c.args.new.now ++ one_or_none c.args.around.now.after)) c.count_around-2.new.toggles c.count_around-2.ensures.toggles tag in
-    let e = length_three c.args.around.now.before c.args.new.now c.args.around.now.after in
+    let a = few_toggles table (was.left ++ (one_or_none c.args.change.now.from ++ was.right)) (summary_of c.args.each.now node).counts was.is.counts tag in
+    let b = length_spread was.left was.right c.args.change.now.from in
+    let d = few_toggles table (one_or_none c.args.around.now.before ++ (one_or_none c.args.change.now.to ++ one_or_none c.args.around.now.after)) c.count_around-2.new.toggles c.count_around-2.ensures.toggles tag in
+    let e = length_three c.args.around.now.before c.args.change.now.to c.args.around.now.after in
     let s = was.short in
     omega (arith, same, a, b, d, e, s)
 
@@ -42,8 +42,8 @@ replace-requires-clause-less c tag =
     let own = summary_of c.args.each.now node in
     let minus = c.count_around.new.toggles in
     let same = ap (λ (s : Summary). count_of tag s.counts) (get-any c.args.each.now node c.index-each-node.result no_summary c.requires.within) in
-    let all = enough table was.left was.right c.args.old.now c.args.new.now own own minus minus was.is
-    (at_ends table was.left was.right c.args.around.now.before c.args.around.now.after c.args.old.now minus was.ends was.begins c.count_around.ensures.toggles) tag in
+    let all = enough table was.left was.right c.args.change.now.from c.args.change.now.to own own minus minus was.is
+    (at_ends table was.left was.right c.args.around.now.before c.args.around.now.after c.args.change.now.from minus was.ends was.begins c.count_around.ensures.toggles) tag in
     omega (arith, same, all)
 
 pub returns-clause-is : goal.returns-clause-is
@@ -51,8 +51,8 @@ returns-clause-is c xs ys e f is =
     let node = c.args.node.index in
     let table = c.args.states.now in
     let own = summary_of c.args.each.now node in
-    let old = c.args.old.now in
-    let new = c.args.new.now in
+    let old = c.args.change.now.from in
+    let new = c.args.change.now.to in
     let before = c.args.around.now.before in
     let after = c.args.around.now.after in
     let minus = c.count_around.new.toggles in

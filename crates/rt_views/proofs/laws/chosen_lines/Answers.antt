@@ -1,4 +1,4 @@
-use Rattle.rt_views.proofs.Chosen.{first_chosen, first_stays, first_whole, last_chosen, none_chosen, whole_chosen}
+use Rattle.rt_views.proofs.Chosen.{first_chosen, first_of_none, first_stays, first_whole, last_chosen, none_chosen, two_chosen, whole_chosen}
 use Rattle.rt_views.proofs.laws.chosen_lines.Goals as goal
 
 pub returns-clause-first : goal.returns-clause-first
@@ -18,3 +18,9 @@ returns-clause-whole g c cells limits chosen h e = whole_chosen cells limits cho
 
 pub returns-clause-never_refused : goal.returns-clause-never_refused
 returns-clause-never_refused g c cells limits h = none_chosen cells limits h
+
+pub returns-clause-without_start : goal.returns-clause-without_start
+returns-clause-without_start g c cells end limits chosen d n e = first_of_none cells end limits chosen d n e
+
+pub returns-clause-lines_taken : goal.returns-clause-lines_taken
+returns-clause-lines_taken g c cells line end limits h k l = two_chosen cells line end limits h k l

@@ -5,6 +5,6 @@ use Rattle.rt_words.proofs.writing.write_all_escaped.Given as goal
 
 abbrev pub invariant-loop-byte : goal.invariant-loop-byte
 invariant-loop-byte g l = record {
-  wrote : Appends (g.W.Sink.contents l.fn.out) (g.W.Sink.contents l.out) (flat_map escape_of (take l.byte-index l.word));
-  failures : g.W.Sink.failures l.out ≡ g.W.Sink.failures l.fn.out;
+  wrote : Appends (g.W.Sink.stream l.fn.out).bytes (g.W.Sink.stream l.out).bytes (flat_map escape_of (take l.byte-index l.word));
+  failures : (g.W.Sink.stream l.out).failures ≡ (g.W.Sink.stream l.fn.out).failures;
 }

@@ -21,8 +21,8 @@ index-requires c =
     let fits = within_at (length ops) c.args.place order h c.self.invariant.within in
     omega (arith, read, fits, c.self.inside.ops.ok.0)
 
-pub returns-clause-operation : goal.returns-clause-operation
-returns-clause-operation c =
+pub returns : goal.returns
+returns c =
     let ops = c.self.inside.ops.items in
     let order = c.self.inside.order.items in
     let r = rw (← c.self.view_is) at c.requires in

@@ -26,9 +26,9 @@ index-requires c =
 pub returns-in_err-push : goal.returns-in_err-push
 returns-in_err-push c =
     let (y, is, gives) = err_from_is_err_and c.from_residual-in_err-push.result c.from_residual-in_err-push.ensures.1 in
-    rw (is, gives) (record { log = rw (← c.self.view_is) c.self.invariant.log; operations = tt; fault = refl })
+    rw (is, gives) (record { operations = tt; fault = refl })
 
 pub returns-in_err-places : goal.returns-in_err-places
 returns-in_err-places c =
     let (y, is, gives) = err_from_is_err_and c.from_residual.result c.from_residual.ensures.1 in
-    rw (is, gives) (record { log = rw (← c.self.view_is) c.self.invariant.log; operations = tt; fault = refl })
+    rw (is, gives) (record { operations = tt; fault = refl })

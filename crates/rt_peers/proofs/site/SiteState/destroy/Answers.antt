@@ -39,14 +39,17 @@ invariant_of-self c =
       tried = subst (λ (t : Edited). AreTriedAt t.view.doc.limit t.view.doc.log c.self.inside.held) (sym c.remove_widget.ensures) c.self.invariant.tried;
     }
 
-pub returns-clause-ok : goal.returns-clause-ok
-returns-clause-ok c =
+gone : (c : goal.After-no_words) → destroyed c.args.path.now c.args.self.now ≡ Ok (record { paths = as_words c.remove.new.self.items; text = c.remove_widget.new.self; held = c.self.inside.held.held })
+gone c =
     let place = c.in-Some.place in
     let state : State = record { paths = paths_in c; text = c.self.inside.text; held = c.self.inside.held.held } in
     let items : as_words c.remove.new.self.items ≡ remove (paths_in c) place = ap as_words c.remove.ensures.items ∙ strings_without c.self.inside.paths.items place in
     let left : without_widget place state ≡ record { paths = as_words c.remove.new.self.items; text = c.remove_widget.new.self; held = c.self.inside.held.held } =
     λ i. record { paths = sym items i; text = sym c.remove_widget.ensures i; held = c.self.inside.held.held } in
-    let gone : destroyed c.args.path.now state ≡ Ok (without_widget place state) =
+    let goes : destroyed c.args.path.now state ≡ Ok (without_widget place state) =
     ap (λ o. destroyed_at o state) (found c) ∙ ap (λ b. unless (cond b None (Some LastWidget)) (without_widget place state)) (counted _ (several c)) in
-    let all : destroyed c.args.path.now state ≡ Ok (record { paths = as_words c.remove.new.self.items; text = c.remove_widget.new.self; held = c.self.inside.held.held }) = gone ∙ ap (λ s. Ok s) left in
+    let all : destroyed c.args.path.now state ≡ Ok (record { paths = as_words c.remove.new.self.items; text = c.remove_widget.new.self; held = c.self.inside.held.held }) = goes ∙ ap (λ s. Ok s) left in
     subst (λ (s : State). destroyed c.args.path.now s ≡ Ok (record { paths = as_words c.remove.new.self.items; text = c.remove_widget.new.self; held = c.self.inside.held.held })) c.self.view_is all
+
+pub returns : goal.returns
+returns c = record { reply = c.no_words.ensures; ok = gone c; err = tt; unchanged = tt }

@@ -1,0 +1,195 @@
+-- The limits of a site's widgets stay in their order, whatever becomes of the text.
+use Rattle.std.proofs.Common.{◌≡◌, ◌∙◌, ℕ, ◌+◌, ◌≤◌, ◌<◌, ◌||◌, Bool, true, false, List, [], ◌∷◌, ◌++◌, Option, Some, None, append_assoc, cond, drop, map, ap, arith, refl, subst, sym, take}
+use Rattle.std.specs.Prelude.{IfSome, ◌&&◌, option_map, reverse, unwrap_or}
+use Rattle.std.specs.List.{AllByRecursion, position_or_len}
+use Rattle.std.proofs.lemmas.Bool.{both_ways, lt-ltb}
+use Rattle.rt_stamps.specs.declared.limits.TheConstants.{GREATEST_COUNT, MOST_SPANS}
+use Rattle.rt_stamps.specs.declared.stamp.Stamp.{Stamp}
+use Rattle.rt_stamps.specs.declared.stamp.TheConstants.{ROOT}
+use Rattle.rt_stamps.specs.Places.{is_newline}
+use Rattle.rt_stamps.specs.Stamps.{is_same}
+use Rattle.rt_stamps.specs.Words.{Word}
+use Rattle.rt_stamps.proofs.Order.{same_from_true}
+use Rattle.rt_ops.specs.Operations.{Body, Operation}
+use Rattle.rt_store.specs.declared.cell.Cell.{Cell}
+use Rattle.rt_store.specs.Cells.{after_element, cell_of, position_of, put_at, stamps_of}
+use Rattle.rt_store.specs.Shown.{TaggedCell}
+use Rattle.rt_store.specs.Spans.{is_among}
+use Rattle.rt_store.proofs.Distinct.{new_apart, split}
+use Rattle.rt_store.proofs.Places.{found_within}
+use Rattle.rt_rga.specs.Cells.{cells_of}
+use Rattle.rt_rga.specs.Drafts.{with_drafts}
+use Rattle.rt_rga.specs.Histories.{IsHistory}
+use Rattle.rt_rga.specs.Orders.{AreIn}
+use Rattle.rt_rga.proofs.Appending.{drafts_append}
+use Rattle.rt_rga.proofs.Corollaries.{cells_distinct, root_absent}
+use Rattle.rt_rga.proofs.Final.{ends_final}
+use Rattle.rt_edits.specs.DraftLaws.{IsDocument}
+use Rattle.rt_edits.specs.Flat.{Flat, put_after}
+use Rattle.rt_edits.specs.Insertions.{new_state}
+use Rattle.rt_edits.specs.RemovalDrafts.{removal_drafts}
+use Rattle.rt_undo.specs.Actions.{Action, Removed}
+use Rattle.rt_revert.specs.Reverting.{Reversion, are_at, as_it_is, gone_cell_of, next_in, reversion, stamp_after, with_character, with_each_reverted, with_gone, with_return, with_returns, with_reverted}
+use Rattle.rt_revert.specs.ReversionLaws.{AreSound, IsSound, MayReturn}
+use Rattle.rt_revert.proofs.Stamps.{all_apart, found, gone_found}
+use Rattle.rt_revert.proofs.Steps.{IsOnWay, action_step, all_grow, all_reversed, gone_step, return_step, returns_grow}
+use Rattle.rt_text.specs.Changes.{limits_after}
+use Rattle.rt_text.specs.Neighbours.{is_newline_of, limits_in}
+use Rattle.rt_text.specs.Reversions.{own_reverted, view_reverted}
+use Rattle.rt_text.specs.Widgets.{Own, Viewed}
+use Rattle.rt_views.specs.declared.limits.Limits.{Limits}
+use Rattle.rt_views.specs.Limits.{limits_renamed, no_limits}
+use Rattle.rt_views.specs.Ordered.{AreInOrder, IsNewline}
+use Rattle.rt_views.proofs.InOrder.{order_grown, order_renamed, position_is}
+use Rattle.rt_editing.specs.Noting.{IsOfLog}
+use Rattle.rt_editing.specs.Returns.{Return}
+use Rattle.rt_editing.specs.Settled.{limits_of}
+use Rattle.rt_editing.proofs.Among.{cells_among}
+use Rattle.rt_editing.proofs.Gone.{found_gone, gone_known}
+use Rattle.rt_editing.proofs.Growing.{Grows, GrowsTo, grows_drafts}
+use Rattle.rt_editing.proofs.Told.{kept_on_way}
+
+-- WHILE A LOG GROWS
+
+pub order_more : (old new : List Operation) (limits : Limits) → IsHistory old → IsHistory new → Grows old new → AreInOrder (cells_of old) limits → AreInOrder (cells_of new) limits
+order_more old new limits h k grows o =
+    order_grown (cells_of old) (cells_of new) limits (cells_distinct old h) (ends_final old h) (cells_distinct new k) (cells_among old new h k grows) o
+
+all_more : (old new : List Operation) (limits : List Limits) → IsHistory old → IsHistory new → Grows old new → AllByRecursion (AreInOrder (cells_of old)) limits
+    → AllByRecursion (AreInOrder (cells_of new)) limits
+all_more old new [] h k grows o = tt
+all_more old new (l ∷ limits) h k grows o = (order_more old new l h k grows o.0, all_more old new limits h k grows o.1)
+
+-- of a view that is that of its log
+pub limits_more : (view new : Viewed) → IsOfLog view.doc → IsOfLog new.doc → GrowsTo view new → AllByRecursion (AreInOrder view.doc.cells) (limits_of view)
+    → AllByRecursion (AreInOrder new.doc.cells) (limits_of new)
+limits_more view new kept same grows o =
+    subst (λ (limits : List Limits). AllByRecursion (AreInOrder new.doc.cells) limits) (sym grows.limits)
+    (subst (λ (cells : List TaggedCell). AllByRecursion (AreInOrder cells) (limits_of view)) (sym same.cells)
+    (all_more view.doc.log new.doc.log (limits_of view) kept.history same.history grows.log
+    (subst (λ (cells : List TaggedCell). AllByRecursion (AreInOrder cells) (limits_of view)) kept.cells o)))
+
+-- WHILE A GROUP IS REVERTED
+
+-- limits are in their order, by the stamps of then
+abbrev HasOrder : Reversion → Limits → Type 0
+HasOrder r limits = AreInOrder r.doc.cells (limits_after r.returns limits)
+
+gone_order : (site : ℕ) (log : List Operation) (stamps : List Stamp) (r : Reversion) (limits : Limits) → IsOnWay site log r → IsOnWay site log (with_gone stamps r) → HasOrder r limits
+    → HasOrder (with_gone stamps r) limits
+gone_order site log stamps r limits h k o =
+    let old = with_drafts site r.drafts log in
+    let new = with_drafts site (with_gone stamps r).drafts log in
+    let now = limits_after r.returns limits in
+    let drafts = removal_drafts MOST_SPANS (are_at stamps r.doc.cells) r.doc.cells in
+    let grows : Grows old new = subst (Grows old) (sym (drafts_append site r.drafts drafts log)) (grows_drafts site drafts old) in
+    subst (λ (cells : List TaggedCell). AreInOrder cells now) (sym k.document.cells)
+    (order_more old new now h.history k.history grows (subst (λ (cells : List TaggedCell). AreInOrder cells now) h.document.cells o))
+
+after_one_more : (returns : List Return) (r : Return) (limits : Limits) → limits_after (returns ++ r ∷ []) limits ≡ limits_renamed r.former r.newer (limits_after returns limits)
+after_one_more [] r limits = refl
+after_one_more (x ∷ returns) r limits = after_one_more returns r (limits_renamed x.former x.newer limits)
+
+-- where a cell stands
+stands : (cells : List TaggedCell) (s : Stamp) → is_among (stamps_of cells) s ≡ true → (p : ℕ) × (position_of cells s ≡ Some p)
+stands cells s h = (position_or_len (λ (c : TaggedCell). is_same c.stamp s) cells, rw (lt-ltb _ _ (found_within s cells h)) refl)
+
+not_root : (log : List Operation) (cells : List TaggedCell) (s : Stamp) → IsHistory log → cells ≡ cells_of log → is_among (stamps_of cells) s ≡ true → is_same s ROOT ≡ false
+not_root log cells s h e m = split (is_same s ROOT)
+    (λ same. absurd (let root = root_absent log h in
+    let there : is_among (stamps_of (cells_of log)) ROOT ≡ true = ap (is_among (stamps_of (cells_of log))) (sym (same_from_true s ROOT same)) ∙ ap (λ (l : List TaggedCell). is_among (stamps_of l) s) (sym e) ∙ m in
+    both_ways (is_among (stamps_of (cells_of log)) ROOT) root there))
+    (λ other. other)
+
+behind_it : (cells : List TaggedCell) (s : Stamp) (p : ℕ) → is_same s ROOT ≡ false → position_of cells s ≡ Some p → after_element cells s ≡ p + 1
+behind_it cells s p n f = rw n (ap (λ (o : Option ℕ). unwrap_or o 0 + 1) f)
+
+-- a newline that comes back takes the place of its old cell as a limit
+character_order : (site : ℕ) (log : List Operation) (stamp : Stamp) (tags : List Word) (cell : TaggedCell) (r : Reversion) (limits : Limits) → 0 < site → IsOnWay site log r
+    → gone_cell_of r.doc.cells stamp ≡ Some cell → HasOrder r limits → HasOrder (with_character stamp tags cell.ch r) limits
+character_order site log stamp tags cell r limits p h e o =
+    let cells = r.doc.cells in
+    let kept = kept_on_way site log r p h in
+    let this : TaggedCell = record { stamp = next_in r.doc; ch = cell.ch; gone = false; state = new_state r.doc.site (r.doc.count + 1) tags } in
+    let among = gone_known cells stamp (found_gone cells stamp cell e) in
+    let (position, there) = stands cells stamp among in
+    let fresh : is_among (stamps_of cells) (next_in r.doc) ≡ false = new_apart r.doc.count (r.doc.count + 1) r.doc.site cells kept.below (omega arith) kept.site in
+    let at : after_element cells stamp ≡ position + 1 = behind_it cells stamp position (not_root (with_drafts site r.drafts log) cells stamp h.history h.document.cells among) there in
+    let alike : option_map (λ (c : TaggedCell). c.ch) (cell_of cells stamp) ≡ Some cell.ch = ap (option_map (λ (c : TaggedCell). c.ch)) (gone_found cells stamp cell e).0 in
+    let renamed = order_renamed cells (limits_after r.returns limits) stamp position this (sym (position_is cells stamp) ∙ there) alike fresh o in
+    let limits_are = after_one_more r.returns (record { former = stamp; newer = next_in r.doc }) limits in
+    let put : put_after cells stamp (this ∷ []) ≡ put_at (after_element cells stamp) (this ∷ []) cells =
+    append_assoc (take (after_element cells stamp) cells) (this ∷ []) (drop (after_element cells stamp) cells) in
+    subst (λ (x : _). x) (λ i. AreInOrder (sym put i) (sym limits_are i))
+    (subst (λ n. AreInOrder (put_at n (this ∷ []) cells) (limits_renamed stamp (next_in r.doc) (limits_after r.returns limits))) (sym at) renamed)
+
+return_order : (site : ℕ) (log : List Operation) (removed : Removed (List Word)) (r : Reversion) (limits : Limits) → 0 < site → IsOnWay site log r → HasOrder r limits
+    → HasOrder (with_return removed r) limits
+return_order site log removed r limits p h o = by (gone_cell_of r.doc.cells (stamp_after r.returns removed.stamp)) refl
+  where
+    by : (found : Option TaggedCell) → gone_cell_of r.doc.cells (stamp_after r.returns removed.stamp) ≡ found
+        → HasOrder (unwrap_or (option_map (λ (cell : TaggedCell). with_character (stamp_after r.returns removed.stamp) removed.tags cell.ch r) found) r) limits
+    by None e = o
+    by (Some cell) e = character_order site log (stamp_after r.returns removed.stamp) removed.tags cell r limits p h e o
+
+returns_order : (site : ℕ) (log : List Operation) (removed : List (Removed (List Word))) (r : Reversion) (limits : Limits) → 0 < site → IsOnWay site log r
+    → AllByRecursion MayReturn removed → (with_returns removed r).doc.count ≤ GREATEST_COUNT → HasOrder r limits → HasOrder (with_returns removed r) limits
+returns_order site log [] r limits p h m l o = o
+returns_order site log (x ∷ more) r limits p h m l o =
+    let next = with_return x r in
+    let few : next.doc.count ≤ GREATEST_COUNT = omega (arith, returns_grow more next, l) in
+    returns_order site log more next limits p (return_step site log x r p h m.0 few) m.1 l (return_order site log x r limits p h o)
+
+action_order : (site : ℕ) (log : List Operation) (action : Action (List Word)) (r : Reversion) (limits : Limits) → 0 < site → IsOnWay site log r → IsSound action
+    → (with_reverted action r).doc.count ≤ GREATEST_COUNT → HasOrder r limits → HasOrder (with_reverted action r) limits
+action_order site log action r limits p h c l o =
+    let stamps = map (stamp_after r.returns) action.inserted in
+    let left = with_gone stamps r in
+    let few : left.doc.count ≤ GREATEST_COUNT = omega (arith, returns_grow action.removed left, l) in
+    let way = gone_step site log stamps r p h (all_apart r.returns action.inserted h.apart c.inserted) few in
+    returns_order site log action.removed left limits p way c.removed l (gone_order site log stamps r limits h way o)
+
+all_order : (site : ℕ) (log : List Operation) (actions : List (Action (List Word))) (r : Reversion) (limits : Limits) → 0 < site → IsOnWay site log r → AreSound actions
+    → (with_each_reverted actions r).doc.count ≤ GREATEST_COUNT → HasOrder r limits → HasOrder (with_each_reverted actions r) limits
+all_order site log [] r limits p h c l o = o
+all_order site log (action ∷ actions) r limits p h c l o =
+    let next = with_reverted action r in
+    let few : next.doc.count ≤ GREATEST_COUNT = omega (arith, all_grow actions next, l) in
+    all_order site log actions next limits p (action_step site log action r p h c.0 few) c.1 l (action_order site log action r limits p h c.0 few o)
+
+pub reversion_order : (site : ℕ) (log : List Operation) (flat : Flat) (group : List (Action (List Word))) (limits : Limits) → 0 < site → IsHistory log → IsDocument site log flat
+    → AreSound group → (reversion flat group).doc.count ≤ GREATEST_COUNT → AreInOrder flat.cells limits
+    → AreInOrder (reversion flat group).doc.cells (limits_after (reversion flat group).returns limits)
+reversion_order site log flat group limits p h doc c l o =
+    all_order site log (reverse group) (as_it_is flat) limits p (record { may = tt; history = h; document = doc; apart = tt; sound = tt }) (all_reversed IsSound group c) l o
+
+-- each widget's limits, in the view after a group was reverted
+pub reverted_order : (site : ℕ) (log : List Operation) (view : Viewed) (group : List (Action (List Word))) → 0 < site → IsHistory log → IsDocument site log view.doc
+    → AreSound group → (reversion view.doc group).doc.count ≤ GREATEST_COUNT → AllByRecursion (AreInOrder view.doc.cells) (limits_of view)
+    → AllByRecursion (AreInOrder (view_reverted view group).doc.cells) (limits_of (view_reverted view group))
+reverted_order site log view group p h doc c l o = each (view.own ∷ view.others) o
+  where
+    each : (widgets : List Own) → AllByRecursion (AreInOrder view.doc.cells) (map (λ (own : Own). own.limits) widgets)
+        → AllByRecursion (AreInOrder (reversion view.doc group).doc.cells) (map (λ (own : Own). own.limits) (map (own_reverted view.doc group) widgets))
+    each [] k = tt
+    each (own ∷ widgets) k = (reversion_order site log view.doc group own.limits p h doc c l k.0, each widgets k.1)
+
+-- WHAT A TEXT KNOWS
+
+newline_known : (cells : List TaggedCell) (o : Option Stamp) → IfSome o (IsNewline cells) → is_newline_of cells o ≡ true
+newline_known cells None h = refl
+newline_known cells (Some s) h = by (cell_of cells s) h
+  where
+    by : (found : Option TaggedCell) → option_map (λ (c : TaggedCell). c.ch) found ≡ Some 10 → unwrap_or (option_map (λ (c : TaggedCell). is_newline c.ch) found) false ≡ true
+    by None k = absurd (cc k)
+    by (Some c) k = let ch : c.ch ≡ 10 = cc in rw ch refl
+
+-- limits in their order are passed over nowhere
+pub known_limits : (cells : List TaggedCell) (limits : Limits) → AreInOrder cells limits → limits_in cells limits ≡ limits
+known_limits cells limits o =
+    let start = newline_known cells limits.start o.start in
+    let end = newline_known cells limits.end o.end in
+    both (is_newline_of cells limits.start) (is_newline_of cells limits.end) start end
+  where
+    both : (a b : Bool) → a ≡ true → b ≡ true → cond (a && b) limits no_limits ≡ limits
+    both a b e f = rw (e, f) refl

@@ -1,0 +1,5 @@
+use Rattle.rt_peers.proofs.WidgetLimits.{settled_led}
+use Rattle.rt_peers.proofs.text.EditedText.lead.Goals as goal
+
+pub invariant_of-self : goal.invariant_of-self
+invariant_of-self c = settled_led c.self.inside.viewer c.lead.new.self c.args.place c.self.inside.recorder c.lead.ensures c.self.invariant
