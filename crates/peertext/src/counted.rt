@@ -1,6 +1,7 @@
 // Sites that begin, scripts that are run, and files that are read, joined and shown, from their first read on, with reads
 // and writes counted in ledgers that take no bytes.
-ghost use Rattle.std.specs.Prelude.{◌≡◌, ◌<◌, ◌≤◌, length, IfOk};
+ghost use Rattle.std.specs.Prelude.{◌≡◌, ℕ, ◌<◌, ◌≤◌, length, IfOk};
+ghost use Rattle.rt_stamps.specs.Streams.{Stream};
 ghost use Rattle.rt_stamps.specs.declared.limits.TheConstants.{MOST_BYTES};
 ghost use Rattle.peertext.specs.Program.{BeginsFresh, RunsFresh};
 ghost use Rattle.rt_program.specs.Readers.{ReadsFresh, JoinsFresh, ShowsFresh, stream_of};
@@ -208,7 +209,8 @@ pub(crate) fn read_file<A: Ledger, B: Ledger, S: Read + Drop>(
 ) -> Result<Vec<u8>, Fault>
     requires a { (reads.name ≡ A.name) × (reads.parts ≡ A.parts) × (0 < A.parts) }
     requires b { (failed_reads.name ≡ B.name) × (failed_reads.parts ≡ B.parts) × (0 < B.parts) }
-    ensures { IfOk result (λ bytes. length bytes.items ≤ MOST_BYTES) }
+    ensures read { (left : Stream) × ReadsFresh (S.remaining file) left result }
+    ensures within { IfOk result (λ bytes. length bytes.items ≤ MOST_BYTES) }
 {
     let (read, _file) = read_counted::<A, B, S>(alloc, file, reads, failed_reads);
     read
@@ -223,6 +225,7 @@ pub(crate) fn begin_with<A: Ledger, B: Ledger, S: Read + Drop>(
 ) -> Result<SiteState, (Fault, u64)>
     requires a { (reads.name ≡ A.name) × (reads.parts ≡ A.parts) × (0 < A.parts) }
     requires b { (failed_reads.name ≡ B.name) × (failed_reads.parts ≡ B.parts) × (0 < B.parts) }
+    ensures { (left : Stream) × BeginsFresh site.number (S.remaining file) left result }
 {
     let (begun, _file) = begun_counted::<A, B, S>(alloc, site, file, reads, failed_reads);
     begun
@@ -241,6 +244,7 @@ pub(crate) fn join_two<A: Ledger, B: Ledger, C: Ledger, D: Ledger, S: Read + Dro
     requires b { (failed_reads.name ≡ B.name) × (failed_reads.parts ≡ B.parts) × (0 < B.parts) }
     requires c { (more_reads.name ≡ C.name) × (more_reads.parts ≡ C.parts) × (0 < C.parts) }
     requires d { (more_failed_reads.name ≡ D.name) × (more_failed_reads.parts ≡ D.parts) × (0 < D.parts) }
+    ensures { (left : Stream) × (rest : Stream) × JoinsFresh (S.remaining first) left (T.remaining second) rest result }
 {
     let (joined, _first, _second) = join_counted::<A, B, C, D, S, T>(
         alloc,
@@ -274,6 +278,8 @@ pub(crate) fn show_file<
     requires b { (failed_reads.name ≡ B.name) × (failed_reads.parts ≡ B.parts) × (0 < B.parts) }
     requires c { (writes.name ≡ C.name) × (writes.parts ≡ C.parts) × (0 < C.parts) }
     requires d { (failed_writes.name ≡ D.name) × (failed_writes.parts ≡ D.parts) × (0 < D.parts) }
+    ensures { (left : Stream) × (calls : ℕ) × (failures : ℕ) × ShowsFresh (S.remaining file) left
+        (W.contents out) (stream_of calls failures (W.contents result.1)) result.0 }
 {
     let (shown, _file, out) = show_counted::<A, B, C, D, S, W>(
         alloc,

@@ -6,6 +6,7 @@
 
 ghost use Rattle.std.specs.Prelude.{◌≡◌, ◌≤◌, ◌<◌, length, None, IfOk, MatchResult, OnOk};
 ghost use Rattle.rt_stamps.specs.declared.limits.TheConstants.{MOST_BYTES};
+ghost use Rattle.rt_stamps.specs.Streams.{Stream};
 ghost use Rattle.peertext.specs.Program.{ProgramRuns, WritesLog};
 ghost use Rattle.rt_program.specs.Endings.{log_failure};
 ghost use Rattle.rt_program.specs.Readers.{stream_of};
@@ -194,6 +195,8 @@ fn run_over<'a, A: Ledger, B: Ledger, C: Ledger, D: Ledger, S: Read + Drop, W: W
     requires b { (counts.failed_reads.name ≡ B.name) × (counts.failed_reads.parts ≡ B.parts) × (0 < B.parts) }
     requires c { (counts.writes.name ≡ C.name) × (counts.writes.parts ≡ C.parts) × (0 < C.parts) }
     requires d { (counts.failed_writes.name ≡ D.name) × (counts.failed_writes.parts ≡ D.parts) × (0 < D.parts) }
+    ensures { (left : Stream) × (after : Stream) × ProgramRuns (named_files files.now) site out.entry
+        (S.remaining script) left (W.contents lines) after result }
 {
     let (failure, _script, _lines) = run_with::<A, B, C, D, S, W>(
         rt, site, files, out, script, lines, counts,

@@ -1,62 +1,29 @@
--- Who is gone stays gone while a log grows; and a view whose log grows.
-use Rattle.std.proofs.Common.{◌≡◌, ◌∙◌, ℕ, Bool, true, false, ◌||◌, ◌&&◌, inr, List, [], ◌∷◌, Option, Some, cond, map, ap, arith, refl, subst, sym}
+-- Who is gone stays gone while a log grows.
+use Rattle.std.proofs.Common.{◌≡◌, ◌∙◌, Bool, true, false, ◌||◌, ◌&&◌, List, [], ◌∷◌, Option, Some, cond, map, ap, arith, refl, sym}
 use Rattle.std.specs.Prelude.{option_map, unwrap_or}
 use Rattle.std.specs.List.{find}
 use Rattle.rt_stamps.specs.declared.stamp.Stamp.{Stamp}
 use Rattle.rt_stamps.specs.Stamps.{is_same}
 use Rattle.rt_stamps.proofs.Order.{same_from_true}
-use Rattle.rt_oplog.specs.Logs.{Has, with_operation}
-use Rattle.rt_oplog.proofs.Sets.{any_at, any_from, with_has}
-use Rattle.rt_ops.specs.Operations.{Body, Operation}
+use Rattle.rt_oplog.proofs.Sets.{any_at, any_from}
+use Rattle.rt_ops.specs.Operations.{Operation}
 use Rattle.rt_store.specs.Cells.{stamps_of}
 use Rattle.rt_store.specs.Shown.{TaggedCell}
 use Rattle.rt_store.specs.Spans.{is_among}
 use Rattle.rt_rga.specs.Cells.{cell_in, cells_of, deletes, is_gone}
-use Rattle.rt_rga.specs.Drafts.{operations_of, with_drafts, with_operations}
 use Rattle.rt_rga.specs.Histories.{IsHistory, characters, has_character}
-use Rattle.rt_rga.specs.Orders.{AreIn}
 use Rattle.rt_rga.specs.Reading.{Character, reading}
 use Rattle.rt_rga.proofs.Corollaries.{cells_have}
 use Rattle.rt_rga.proofs.Skipping.{split}
 use Rattle.rt_rga.proofs.Writes.{not_gone}
-use Rattle.rt_text.specs.Widgets.{Viewed}
-use Rattle.rt_editing.specs.Settled.{is_gone as has_gone, limits_of}
+use Rattle.rt_text.proofs.Growing.{Grows}
+use Rattle.rt_editing.specs.Settled.{is_gone as has_gone}
 
 -- LOGS
-
--- a log has the operations of another
-abbrev pub Grows : List Operation → List Operation → Type 0
-Grows old new = AreIn old new
-
-pub grows_same : (old new : List Operation) → new ≡ old → Grows old new
-grows_same old new e op h = subst (λ (log : List Operation). Has log op) (sym e) h
-
-pub grows_by : (old mid new : List Operation) → Grows old mid → Grows mid new → Grows old new
-grows_by old mid new f g op h = g op (f op h)
-
-pub grows_with : (op : Operation) (log : List Operation) → Grows log (with_operation op log)
-grows_with op log x h = with_has op log x (inr h)
-
-grows_all : (ops log : List Operation) → Grows log (with_operations ops log)
-grows_all [] log x h = h
-grows_all (op ∷ ops) log x h = grows_all ops (with_operation op log) x (grows_with op log x h)
-
-pub grows_drafts : (site : ℕ) (drafts : List Body) (log : List Operation) → Grows log (with_drafts site drafts log)
-grows_drafts site drafts log = grows_all (operations_of site drafts log) log
 
 -- who is gone in a log is gone in one that has its operations
 gone_more : (old new : List Operation) → Grows old new → (s : Stamp) → is_gone old s ≡ true → is_gone new s ≡ true
 gone_more old new grows s h = let (op, there, deletes_it) = any_from (λ op. deletes op.body s) old h in any_at (λ op. deletes op.body s) new op (grows op there) deletes_it
-
--- VIEWS
-
--- the log grows, and each widget's limits stay
-pub record GrowsTo (view new : Viewed) : Type 0 where
-  pub log : Grows view.doc.log new.doc.log
-  pub limits : limits_of new ≡ limits_of view
-
-pub view_grows_by : (old mid new : Viewed) → GrowsTo old mid → GrowsTo mid new → GrowsTo old new
-view_grows_by old mid new f g = record { log = grows_by old.doc.log mid.doc.log new.doc.log f.log g.log; limits = g.limits ∙ f.limits }
 
 -- THE CELLS OF A LOG
 

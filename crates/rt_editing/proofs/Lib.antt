@@ -1,9 +1,7 @@
 pub mod Actions
-pub mod Among
 pub mod Counted
 pub mod Gone
 pub mod Growing
-pub mod Limits
 pub mod Named
 pub mod Noted
 pub mod Once

@@ -22,8 +22,8 @@ use Rattle.rt_editing.specs.Edited.{edited}
 use Rattle.rt_editing.specs.Edits.{action_of, counts_between, has_changed, noted, noted_by, recorded_edit}
 use Rattle.rt_editing.specs.Noting.{IsOfLog, Keeps}
 use Rattle.rt_editing.proofs.Actions.{action_stays, places_stay}
-use Rattle.rt_editing.proofs.Growing.{Grows, GrowsTo, cells_stay_gone}
-use Rattle.rt_editing.proofs.Limits.{limits_more}
+use Rattle.rt_text.proofs.Growing.{Grows}
+use Rattle.rt_editing.proofs.Growing.{cells_stay_gone}
 use Rattle.rt_editing.proofs.Once.{HaveGone, in_noted, once_fewer, once_grown, once_more}
 
 -- SOUND HISTORIES
@@ -77,15 +77,14 @@ stay_gone view new kept same grows s h =
     ap (λ (cells : List TaggedCell). is_gone cells s) same.cells
     ∙ cells_stay_gone view.doc.log new.doc.log same.history grows s (sym (ap (λ (cells : List TaggedCell). is_gone cells s) kept.cells) ∙ h)
 
-pub settled_after : (view new : Viewed) (old next : Recording) → IsSettled view old → IsOfLog view.doc → IsOfLog new.doc → GrowsTo view new
+pub settled_after : (view new : Viewed) (old next : Recording) → IsSettled view old → IsOfLog view.doc → IsOfLog new.doc → Grows view.doc.log new.doc.log
     → ((s : Stamp) → came_back next s ≡ came_back old s) → IsSoundHistory next.history → AreGoneOnce new.doc.cells (all_taken next.history) → IsSettled new next
 settled_after view new old next settled kept same grows back sound once = record {
-  gone = λ s h. stay_gone view new kept same grows.log s (settled.gone s (sym (back s) ∙ h));
+  gone = λ s h. stay_gone view new kept same grows s (settled.gone s (sym (back s) ∙ h));
   taken = once;
   closed = sound.closed;
   current = sound.current;
   undone = sound.undone;
-  limits = limits_more view new kept same grows settled.limits;
 }
 
 pub keeps_itself : (old : Recording) → Keeps old old
@@ -107,7 +106,7 @@ module _ (kind : Kind) (lost : List TaggedCell) (view new : Viewed) (old mid nex
       ap (recorded_edit kind lost (edited view old)) e
       ∙ (λ i. Ok (record { view = new; history = sym noted_history i; undo = sym (settings.0 ∙ keeps.undo) i; auto = sym (settings.1 ∙ keeps.auto) i }))
 
-  pub edit_settled : IsSettled view old → IsOfLog view.doc → IsOfLog new.doc → GrowsTo view new → next.moves ≡ mid.moves
+  pub edit_settled : IsSettled view old → IsOfLog view.doc → IsOfLog new.doc → Grows view.doc.log new.doc.log → next.moves ≡ mid.moves
       → IsSound (action_of kind view.doc new.doc lost) → HaveGone view.doc.cells new.doc.cells (map (λ (r : Removed (List Word)). r.stamp) (map as_removed lost)) → IsSettled new next
   edit_settled settled kept same grows moves sound went =
       let changed = has_changed (length view.doc.cells) (length (text_of view.doc.cells)) new.doc in
@@ -118,7 +117,7 @@ module _ (kind : Kind) (lost : List TaggedCell) (view new : Viewed) (old mid nex
       (subst (λ (h : History (List Word)). AreGoneOnce new.doc.cells (all_taken h)) (sym noted_history)
       (once_fewer new.doc.cells (all_taken (noted_by changed old.undo old.auto action old.history)) (all_taken old.history ++ map (λ (r : Removed (List Word)). r.stamp) (map as_removed lost))
       (λ s. in_noted s changed old.undo old.auto action old.history)
-      (once_more view.doc.cells new.doc.cells (all_taken old.history) (map (λ (r : Removed (List Word)). r.stamp) (map as_removed lost)) (stay_gone view new kept same grows.log) settled.taken went)))
+      (once_more view.doc.cells new.doc.cells (all_taken old.history) (map (λ (r : Removed (List Word)). r.stamp) (map as_removed lost)) (stay_gone view new kept same grows) settled.taken went)))
 
 -- who came back under another stamp is none of the edit's characters
 pub edit_stays : (kind : Kind) (view : Viewed) (old mid : Recording) (count site after : ℕ) (removed : List (Removed (List Word)))
@@ -138,13 +137,13 @@ lost_stay view old mid ranges settled kept keeps =
 
 -- the flag may be forced, where it is of no action
 pub settled_forced : (view new : Viewed) (old next : Recording) → next ≡ record old { history = forced_on old.history } → IsSettled view old → IsOfLog view.doc → IsOfLog new.doc
-    → GrowsTo view new → IsSettled new next
+    → Grows view.doc.log new.doc.log → IsSettled new next
 settled_forced view new old next e settled kept same grows =
     subst (IsSettled new) (sym e)
     (settled_after view new old (record old { history = forced_on old.history }) settled kept same grows (λ s. refl) (forced_sound old.history (history_of view old settled))
-    (once_grown view.doc.cells new.doc.cells (all_taken old.history) (stay_gone view new kept same grows.log) settled.taken))
+    (once_grown view.doc.cells new.doc.cells (all_taken old.history) (stay_gone view new kept same grows) settled.taken))
 
-pub settled_same : (view new : Viewed) (old next : Recording) → next ≡ old → IsSettled view old → IsOfLog view.doc → IsOfLog new.doc → GrowsTo view new → IsSettled new next
+pub settled_same : (view new : Viewed) (old next : Recording) → next ≡ old → IsSettled view old → IsOfLog view.doc → IsOfLog new.doc → Grows view.doc.log new.doc.log → IsSettled new next
 settled_same view new old next e settled kept same grows =
     subst (IsSettled new) (sym e) (settled_after view new old old settled kept same grows (λ s. refl) (history_of view old settled)
-    (once_grown view.doc.cells new.doc.cells (all_taken old.history) (stay_gone view new kept same grows.log) settled.taken))
+    (once_grown view.doc.cells new.doc.cells (all_taken old.history) (stay_gone view new kept same grows) settled.taken))

@@ -1,12 +1,8 @@
 -- What is so between commands holds again after a group was reverted.
-use Rattle.std.proofs.Common.{◌≡◌, ℕ, zero, suc, ◌-◌, ◌<◌, ◌≤◌, ◌++◌, Bool, true, false, List, [], ◌∷◌, Some, None, Result, Ok, Err, length, map, take, arith, refl, subst, sym, if◌then◌else◌}
-use Rattle.std.specs.Prelude.{IfOk, OnOk, nat_lt}
+use Rattle.std.proofs.Common.{◌≡◌, ℕ, zero, suc, ◌-◌, ◌<◌, ◌++◌, Bool, true, List, [], ◌∷◌, None, Result, Ok, Err, length, map, take, arith, refl, subst, sym}
+use Rattle.std.specs.Prelude.{IfOk, OnOk}
 use Rattle.std.specs.List.{AllByRecursion}
-use Rattle.std.proofs.lemmas.Bool.{ltb-false}
-use Rattle.rt_stamps.specs.declared.fault.Fault.TheVariants.{ClockSpent}
-use Rattle.rt_stamps.specs.declared.limits.TheConstants.{GREATEST_COUNT}
 use Rattle.rt_stamps.specs.declared.stamp.Stamp.{Stamp}
-use Rattle.rt_stamps.specs.Outcomes.{first_of}
 use Rattle.rt_stamps.specs.Words.{Word}
 use Rattle.rt_tags.proofs.Sorted.{every_append}
 use Rattle.rt_rga.specs.Cells.{cells_of}
@@ -17,28 +13,15 @@ use Rattle.rt_undo.specs.Undo.{History, as_group, redo_done, renamed_by, to_undo
 use Rattle.rt_revert.specs.Reverting.{reversion, reverted, reverted_group}
 use Rattle.rt_revert.specs.ReversionLaws.{AreSound}
 use Rattle.rt_revert.proofs.Soundness.{group_renamed}
-use Rattle.rt_text.specs.Commands.{cell_check}
-use Rattle.rt_text.specs.Reversions.{reversion_check, view_reverted}
-use Rattle.rt_text.specs.Widgets.{Viewed}
+use Rattle.rt_text.specs.Reversions.{reversion_check}
 use Rattle.rt_editing.specs.Recordings.{HaveStayed}
 use Rattle.rt_editing.specs.Returns.{IsOther, Return, stamp_after}
-use Rattle.rt_editing.specs.Settled.{AreGoneOnce, AreInOrder, is_gone, limits_of, taken_by}
-use Rattle.rt_editing.proofs.Limits.{reverted_order}
+use Rattle.rt_text.proofs.KeptLimits.{fits}
+use Rattle.rt_editing.specs.Settled.{AreGoneOnce, is_gone, taken_by}
 use Rattle.rt_editing.proofs.OnceReverted.{reversion_once}
 use Rattle.rt_editing.proofs.Told.{IsReturned, reversion_told}
 
 -- WHERE THE COUNTS FIT
-
-pub fits : (flat : Flat) (group : List (Action (List Word))) → reversion_check flat group ≡ None → (reversion flat group).doc.count ≤ GREATEST_COUNT
-fits flat group e = by (nat_lt GREATEST_COUNT count) refl e
-  where
-    count : ℕ
-    count = (reversion flat group).doc.count
-
-    by : (b : Bool) → nat_lt GREATEST_COUNT count ≡ b
-        → first_of ((if b then Some ClockSpent else None) ∷ cell_check flat.limit (length (reverted flat group).cells) ∷ []) ≡ None → count ≤ GREATEST_COUNT
-    by true lt f = absurd (cc f)
-    by false lt f = ltb-false GREATEST_COUNT count lt
 
 -- a document of a history, by which none of those who came back is visible, and a group of those who stayed
 pub told : (flat : Flat) (group : List (Action (List Word))) (back : Stamp → Bool) (number : ℕ) → 0 < number → number ≡ flat.site → IsHistory flat.log
@@ -55,14 +38,6 @@ pub once_told : (flat : Flat) (group : List (Action (List Word))) (others : List
 once_told flat group others number p site history cells count sound checked once =
     let positive : 0 < flat.site = omega (arith, p, site) in
     (reversion_once flat.site flat.log flat group others positive history (record { cells = cells; site = refl; count = count }) sound (fits flat group checked) once).once
-
--- and each widget's limits are in their order
-pub order_told : (view : Viewed) (group : List (Action (List Word))) (number : ℕ) → 0 < number → number ≡ view.doc.site → IsHistory view.doc.log
-    → view.doc.cells ≡ cells_of view.doc.log → view.doc.count ≡ greatest_last_count view.doc.log → AreSound group → reversion_check view.doc group ≡ None
-    → AllByRecursion (AreInOrder view.doc.cells) (limits_of view) → AllByRecursion (AreInOrder (view_reverted view group).doc.cells) (limits_of (view_reverted view group))
-order_told view group number p site history cells count sound checked order =
-    let positive : 0 < view.doc.site = omega (arith, p, site) in
-    reverted_order view.doc.site view.doc.log view group positive history (record { cells = cells; site = refl; count = count }) sound (fits view.doc group checked) order
 
 -- RESULTS
 

@@ -18,8 +18,8 @@ use Rattle.rt_store.specs.Spans.{is_among}
 use Rattle.rt_store.specs.Written.{AreBelowNext}
 use Rattle.rt_store.proofs.Distinct.{differs, new_apart, split}
 use Rattle.rt_rga.specs.Drafts.{with_drafts}
-use Rattle.rt_rga.specs.Histories.{IsHistory, greatest_last_count, has_character}
-use Rattle.rt_rga.proofs.Corollaries.{cells_distinct, cells_have, cells_older, character_count}
+use Rattle.rt_rga.specs.Histories.{IsHistory, has_character}
+use Rattle.rt_rga.proofs.Corollaries.{cells_distinct, cells_have, character_count}
 use Rattle.rt_edits.specs.DraftLaws.{IsDocument}
 use Rattle.rt_edits.specs.Flat.{Flat}
 use Rattle.rt_edits.specs.Insertions.{new_state}
@@ -29,6 +29,7 @@ use Rattle.rt_revert.specs.Reverting.{Reversion, are_at, as_it_is, as_removed, g
 use Rattle.rt_revert.specs.ReversionLaws.{AreSound, IsSound, MayReturn}
 use Rattle.rt_revert.proofs.Stamps.{IsApart, after_apart, all_apart}
 use Rattle.rt_revert.proofs.Steps.{IsOnWay, action_step, all_grow, all_reversed, gone_step, on_way, return_step, returns_grow}
+use Rattle.rt_text.proofs.KeptLimits.{below_on_way, real_on_way}
 use Rattle.rt_editing.specs.Recordings.{HasStayed, HaveStayed}
 use Rattle.rt_editing.specs.Returns.{AreReturns, IsReturn, Return, back_after, stamp_after}
 use Rattle.rt_editing.specs.Settled.{is_gone}
@@ -75,8 +76,8 @@ kept_on_way site log r p h =
     let more = with_drafts site r.drafts log in
     let doc = h.document in
     record {
-      site = omega (arith, doc.site, p);
-      below = subst (λ n. AreBelowNext n r.doc.cells) (sym doc.count) (subst (AreBelowNext (greatest_last_count more)) (sym doc.cells) (cells_older more h.history));
+      site = real_on_way site log r p h;
+      below = below_on_way site log r h;
       distinct = subst AreDistinct (sym doc.cells) (cells_distinct more h.history);
       older = λ s m n.
           let there : has_character more s ≡ true =

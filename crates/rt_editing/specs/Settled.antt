@@ -1,5 +1,5 @@
 -- What is so of a site's view and of what the site recorded, between commands.
-use Rattle.std.specs.Prelude.{◌≡◌, ℕ, ◌≤◌, ◌++◌, ◌∷◌, true, List, filter, length, map, if◌then◌else◌}
+use Rattle.std.specs.Prelude.{◌≡◌, ℕ, ◌≤◌, ◌++◌, true, List, filter, length, map, if◌then◌else◌}
 use Rattle.std.specs.List.{AllByRecursion, flat_map}
 use Rattle.rt_stamps.specs.declared.stamp.Stamp.{Stamp}
 use Rattle.rt_stamps.specs.Stamps.{is_same}
@@ -10,9 +10,7 @@ use Rattle.rt_undo.specs.Undo.{History}
 use Rattle.rt_revert.specs.ReversionLaws.{AreSound}
 use Rattle.rt_editing.specs.Recordings.{Recording, came_back}
 use Rattle.rt_text.specs.Widgets.{Viewed}
-use Rattle.rt_views.specs.declared.limits.Limits.{Limits}
 pub use Rattle.rt_views.specs.Limits.{is_gone}
-pub use Rattle.rt_views.specs.Ordered.{AreInOrder}
 
 -- the stamps of the characters that actions took away; and those of both stacks
 abbrev pub taken_by : List (Action (List Word)) → List Stamp
@@ -29,17 +27,11 @@ times stamp stamps = length (filter (λ s. is_same s stamp) stamps)
 abbrev pub AreGoneOnce : List TaggedCell → List Stamp → Type 0
 AreGoneOnce cells stamps = (stamp : Stamp) → times stamp stamps ≤ (if is_gone cells stamp then 1 else 0)
 
--- the limits of each widget of a site, those of the one that commands first
-abbrev pub limits_of : Viewed → List Limits
-limits_of view = map (λ own. own.limits) (view.own ∷ view.others)
-
 -- Who came back under another stamp is gone: it is another character since. Who was taken away is gone, and no other action took it
 -- away. Each action of the history may be reverted: it names no final newline, and its tags are names as operations list them.
--- Each widget's limits are none or newlines, gone or not, that at the start before the end.
 pub record IsSettled (view : Viewed) (recording : Recording) : Type 0 where
   pub gone : (stamp : Stamp) → came_back recording stamp ≡ true → is_gone view.doc.cells stamp ≡ true
   pub taken : AreGoneOnce view.doc.cells (all_taken recording.history)
   pub closed : AllByRecursion AreSound recording.history.closed
   pub current : AreSound recording.history.current
   pub undone : AllByRecursion AreSound recording.history.undone
-  pub limits : AllByRecursion (AreInOrder view.doc.cells) (limits_of view)

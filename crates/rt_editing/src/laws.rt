@@ -4,10 +4,7 @@ ghost use Rattle.rt_rga.specs.Cells.{cells_of};
 ghost use Rattle.rt_rga.specs.Histories.{IsHistory};
 ghost use Rattle.rt_rga.specs.Orders.{AreIn};
 ghost use Rattle.rt_ops.specs.Operations.{Operation};
-ghost use Rattle.rt_store.specs.Shown.{TaggedCell};
-ghost use Rattle.rt_text.specs.Neighbours.{limits_in};
-ghost use Rattle.rt_views.specs.declared.limits.Limits.{Limits};
-ghost use Rattle.rt_views.specs.Ordered.{AreInOrder, StandAmong, letters_of};
+ghost use Rattle.rt_views.specs.Ordered.{StandAmong, letters_of};
 ghost use Rattle.rt_editing.specs.EditLaws.{AllComeBack, DeletionIsTakenBack, InsertedTextsAreTakenBack, ReplacementIsTakenBack};
 
 /// The text after ranges were deleted, which took no tags off the last newline, and this was undone at once by the action
@@ -35,9 +32,8 @@ pub fn removed_characters()
 {}
 
 /// While the log of a text grows, by operations of whichever sites, its characters stay in their order: new ones come in
-/// between. So the limits of each widget stay in theirs (`IsSettled`), and the text knows them: none is passed over.
-pub fn limits_in_order()
-    ensures characters { (old new : List Operation) → IsHistory old → IsHistory new → AreIn old new
+/// between. With `laws::limits_in_order` of rt_views, clause `grown`, limits stay in theirs.
+pub fn characters_in_order()
+    ensures { (old new : List Operation) → IsHistory old → IsHistory new → AreIn old new
         → StandAmong (letters_of (cells_of old)) (letters_of (cells_of new)) }
-    ensures known { (cells : List TaggedCell) (limits : Limits) → AreInOrder cells limits → limits_in cells limits ≡ limits }
 {}

@@ -1,3 +1,4 @@
+pub mod Cursors
 pub mod Events
 pub mod Exchange
 pub mod Lacking

@@ -26,14 +26,21 @@ use Rattle.rt_peers.specs.ViewStep.{Outcome, as_outcome, as_piece, changed_step,
 abbrev pub on_view : Edited → Outcome Viewed → Outcome Edited
 on_view text = as_outcome (λ answer. (answer.0, record text { view = answer.1 }))
 
+-- whether edits are recorded and there is a group to undo, or one to redo (Tk text manual, "edit canundo", "edit canredo")
+abbrev pub can_undo : Edited → Bool
+can_undo text = text.undo && is_some (next_undo text.history)
+
+abbrev pub can_redo : Edited → Bool
+can_redo text = text.undo && is_some (next_redo text.history)
+
 -- what is asked of the undo mechanism
 abbrev pub edit_step : Edited → EditRequest → Outcome Edited
 edit_step text edits.Undo = changed_step (text_undone text)
 edit_step text edits.Redo = changed_step (text_redone text)
 edit_step text edits.Separator = Ok ([], record text { history = separated text.history })
 edit_step text edits.Reset = Ok ([], record text { history = emptied text.history })
-edit_step text edits.CanUndo = Ok (one_word (text_of_bool (text.undo && is_some (next_undo text.history))), text)
-edit_step text edits.CanRedo = Ok (one_word (text_of_bool (text.undo && is_some (next_redo text.history))), text)
+edit_step text edits.CanUndo = Ok (one_word (text_of_bool (can_undo text)), text)
+edit_step text edits.CanRedo = Ok (one_word (text_of_bool (can_redo text)), text)
 edit_step text edits.Modified = Ok (one_word (text_of_bool (is_modified text.history)), text)
 edit_step text (edits.SetModified on) = Ok ([], record text { history = if on then forced_on text.history else unmodified text.history })
 

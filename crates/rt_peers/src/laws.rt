@@ -1,6 +1,7 @@
 // Laws of the definitions, and of sites, each the contract of a function that changes nothing.
-ghost use Rattle.std.specs.Prelude.{◌≡◌, ℕ, List, Ok, Result};
+ghost use Rattle.std.specs.Prelude.{◌≡◌, ℕ, List, Ok, Result, Some};
 ghost use Rattle.rt_stamps.specs.declared.fault.Fault.{Fault};
+ghost use Rattle.rt_stamps.specs.declared.stamp.Stamp.{Stamp};
 ghost use Rattle.rt_stamps.specs.Outcomes.{Answers};
 ghost use Rattle.rt_stamps.specs.Words.{Word};
 ghost use Rattle.rt_rga.specs.Texts.{tagged_text};
@@ -9,6 +10,7 @@ ghost use Rattle.rt_oplog.specs.Logs.{AreOf};
 ghost use Rattle.rt_peer_requests.specs.declared.options.NamedOption.{NamedOption};
 ghost use Rattle.rt_peer_requests.specs.declared.peers.PeerRequest.{PeerRequest};
 ghost use Rattle.rt_peer_requests.specs.declared.settings.WidgetSettings.{WidgetSettings};
+ghost use Rattle.rt_peers.specs.Cursors.{place_by, stamp_by};
 ghost use Rattle.rt_peers.specs.Events.{EventsGoOneWay, EventsLive};
 ghost use Rattle.rt_peers.specs.Exchange.{AgreeOnceCaughtUp, AgreeOnceExchanged, ExchangeAgrees, ReceivesAny, ReceivesLacking, ReceivesWhole, TellsClash};
 ghost use Rattle.rt_peers.specs.Lives.{AcceptsGreatest, AcceptsHistory, AgreeInAnyOrder, KeepsOrMakes, SitesHold};
@@ -28,6 +30,13 @@ pub fn telling()
     ensures told { (place : ℕ) (state : State) (reply : List Word)
         → by_widget place state (λ text. Ok (reply, text)) ≡ Ok (reply, state) }
 {}
+
+/// The stamp of a character that a widget shows finds the place at which it stands there.
+pub fn cursors(site: &SiteState)
+    ensures { (path : Word) (place : ℕ) (stamp : Stamp) → stamp_by path place site.now ≡ Some stamp → place_by path stamp site.now ≡ Some place }
+{
+    let _ = site.log();
+}
 
 /// Sites that accepted the same operations hold equal cells, and so equal text with equal tags: whatever
 /// their calls were, in whatever order, with repeats and refusals between.
@@ -95,7 +104,8 @@ pub fn accepted()
 {}
 
 /// What a call of a site does to its operations, by what its own clause says: it accepts nothing, or it makes
-/// operations of the site's own, after which held ones are tried. Besides these calls there is `SiteState::receive`.
+/// operations of the site's own, after which held ones are tried. Besides these calls there are `SiteState::receive` and
+/// `receive_telling`.
 pub fn calls()
     ensures answers { (outcome : Outcome State) (old new : State) (result : Result (List Word) Fault)
         → AnswersInTurn outcome old result new → KeepsOrMakes old new }

@@ -7,9 +7,11 @@ ghost use Rattle.rt_peers.specs.SiteStep.{AnswersInTurn, AskingGives, CommandGiv
 ghost use Rattle.rt_peers.specs.State.{new_state, place_of};
 ghost use Rattle.rt_peers.specs.Step.{step};
 
+mod cursors;
 mod exchange;
 mod options;
 mod peers;
+mod undoing;
 
 use crate::paths::{is_cget, is_configure, is_peer, place_of};
 use crate::reply::Reply;

@@ -17,6 +17,8 @@ use crate::viewer::Viewer;
 use rt_editing::Recorder;
 use rt_requests::Request;
 use rt_stamps::{Fault, Site};
+use rt_text::View;
+use rt_tree::TreeStore;
 use std::alloc::Global;
 use std::marker::Model;
 
@@ -64,6 +66,13 @@ impl EditedText {
             viewer,
             recorder,
         })
+    }
+
+    /// The text as the widget that commands shows it.
+    pub(crate) fn view(&self) -> &View<TreeStore>
+        ensures { result.now ≡ self.now.view }
+    {
+        self.viewer.view()
     }
 
     /// What is asked of the widget. Refused by the request's own faults, or for want of memory; then

@@ -5,7 +5,7 @@ use rt_holding::Received;
 /// What became of a file that was received, and what changed on the visible text.
 #[derive(Drop)]
 pub struct ReceivedChanges {
-    /// What `receive` would have answered.
+    /// As `receive` answers; telling takes memory too, and where it is wanting the file ends with `NoMemory`.
     pub received: Received,
     /// What changed, by operations that were accepted, in an order in which they could be taken; each change is of the text that
     /// those before it left. Their places are those of the whole text, whichever lines a widget shows.

@@ -1,8 +1,11 @@
 // What the site's widget shows, and what is asked of it.
 ghost use Rattle.std.specs.Prelude.{◌≡◌, ◌<◌, ◌≤◌, IfOk, IsOkUnless, length};
+ghost use Rattle.std.specs.List.{AllByRecursion};
 ghost use Rattle.rt_stamps.specs.declared.limits.TheConstants.{MOST_CELLS};
 ghost use Rattle.rt_rga.specs.Cells.{cells_of};
 ghost use Rattle.rt_rga.specs.Histories.{IsHistory, greatest_last_count};
+ghost use Rattle.rt_text.specs.Widgets.{limits_of};
+ghost use Rattle.rt_views.specs.Ordered.{AreInOrder};
 ghost use Rattle.rt_peers.specs.State.{new_view};
 
 mod dumping;
@@ -47,6 +50,13 @@ impl Viewer {
         Ok(Viewer { alloc, view })
     }
 
+    /// The document as the widget shows it.
+    pub fn view(&self) -> &View<TreeStore>
+        ensures { result.now ≡ self.now }
+    {
+        &self.view
+    }
+
     /// The site whose document it is.
     pub fn site(&self) -> Site
         ensures { result.number ≡ self.now.doc.site }
@@ -54,7 +64,8 @@ impl Viewer {
         self.view.doc().site()
     }
 
-    /// The log of the document, which is a history: the cells are its cells.
+    /// The log of the document, which is a history: the cells are its cells. Each widget's limits are none or newlines
+    /// of it, gone or not, and that at the start stands before the end.
     pub fn log(&self) -> &OpLog
         ensures operations { result.now.operations ≡ self.now.doc.log }
         ensures history { IsHistory self.now.doc.log }
@@ -62,7 +73,9 @@ impl Viewer {
         ensures few { length self.now.doc.cells ≤ self.now.doc.limit }
         ensures count { self.now.doc.count ≡ greatest_last_count self.now.doc.log }
         ensures site { 0 < self.now.doc.site }
+        ensures limits { AllByRecursion (AreInOrder self.now.doc.cells) (limits_of self.now) }
     {
+        let _ = self.view.widget();
         self.view.doc().log()
     }
 }

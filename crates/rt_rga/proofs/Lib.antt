@@ -23,6 +23,7 @@ pub mod Merging
 pub mod Orders
 pub mod PlaceRuns
 pub mod PlacesAt
+pub mod Onward
 pub mod Planned
 pub mod PlannedEntries
 pub mod PlannedStates

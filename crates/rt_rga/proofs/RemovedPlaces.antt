@@ -21,12 +21,12 @@ use Rattle.rt_store.specs.Spans.{is_in_spans}
 use Rattle.rt_store.proofs.Distinct.{split}
 use Rattle.rt_store.proofs.Finding.{found_there, place_found}
 use Rattle.rt_store.proofs.Places.{final_last}
+use Rattle.rt_store.proofs.Positions.{found_stamp, position_at}
 use Rattle.rt_rga.specs.Cells.{deletes}
 use Rattle.rt_rga.specs.Removed.{place_of, places_of}
 use Rattle.rt_tags.specs.Borders.{one_or_none}
 use Rattle.rt_rga.specs.Runs.{cells_found}
 use Rattle.rt_rga.specs.Taken.{takes_away}
-use Rattle.rt_rga.proofs.PlacesAt.{position_at}
 use Rattle.rt_rga.proofs.Writes.{spans_name}
 
 -- VISIBLE CELLS
@@ -84,13 +84,6 @@ found_visible cells place cell d h =
 -- ONE STAMP, STAMPS, AND SPANS
 
 module _ {T : Type 0} (test : Cell T → Bool) where
-  -- what is found by a stamp has it
-  found_stamp : (cells : List (Cell T)) (s : Stamp) (x : Cell T) → cell_of cells s ≡ Some x → x.stamp ≡ s
-  found_stamp [] s x h = absurd (cc h)
-  found_stamp (c ∷ cs) s x h = split (is_same c.stamp s)
-      (λ e. let i : Some c ≡ Some x = sym (ap (λ b. cond b (Some c) (cell_of cs s)) e) ∙ h in let j : c ≡ x = cc in sym (ap (λ (y : Cell T). y.stamp) j) ∙ same_from_true c.stamp s e)
-      (λ e. found_stamp cs s x (sym (ap (λ b. cond b (Some c) (cell_of cs s)) e) ∙ h))
-
   -- the visible cell at a place has a stamp and passes
   abbrev has : Stamp → Option (Cell T) → Bool
   has s o = unwrap_or (option_map (λ cell. is_same s cell.stamp && test cell) o) false

@@ -20,6 +20,7 @@ use Rattle.rt_tags.specs.Borders.{one_or_none}
 use Rattle.rt_rga.specs.declared.tagging.StateChange.{StateChange}
 use Rattle.rt_rga.specs.Runs.{IsStateChange, cells_found, put_back, with_write}
 use Rattle.rt_rga.proofs.Skipping.{split}
+use Rattle.rt_store.proofs.Positions.{found_stamp}
 use Rattle.rt_store.proofs.Shown.{shown_later}
 use Rattle.rt_rga.proofs.Writes.{spans_name}
 
@@ -70,13 +71,6 @@ all_found (c ∷ cs) d = (
   ap (λ b. cond b (Some c) (cell_of cs c.stamp)) (same_refl c.stamp),
   found_further c cs cs (IsDistinct-head is_same c.stamp (stamps_of cs) d) (all_found cs (IsDistinct-tail is_same c.stamp (stamps_of cs) d)),
 )
-
--- what is found by a stamp has it
-found_stamp : (cells : List TaggedCell) (s : Stamp) (x : TaggedCell) → cell_of cells s ≡ Some x → x.stamp ≡ s
-found_stamp [] s x h = absurd (cc h)
-found_stamp (c ∷ cs) s x h = split (is_same c.stamp s)
-    (λ e. let i : Some c ≡ Some x = sym (ap (λ b. cond b (Some c) (cell_of cs s)) e) ∙ h in let j : c ≡ x = cc in sym (ap (λ (y : TaggedCell). y.stamp) j) ∙ same_from_true c.stamp s e)
-    (λ e. found_stamp cs s x (sym (ap (λ b. cond b (Some c) (cell_of cs s)) e) ∙ h))
 
 module _ (w : Write) (cells : List TaggedCell) (c : TaggedCell) (there : IsFound cells c) where
   abbrev rest_of : List Stamp → TaggedCell

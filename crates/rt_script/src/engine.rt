@@ -28,8 +28,8 @@ use std::{mem, str};
 pub struct Ended<C: Drop> {
     /// What ran the lines, as the last line that was run left it.
     pub site: C,
-    /// Why the run ended early: `NoMemory` where a line couldn't be stored, `ReadFault`, or
-    /// `WriteFault`.
+    /// Why the run ended early: `ReadFault`, `WriteFault`, or `NoMemory`, as where a line can't be
+    /// stored.
     pub fault: Option<Fault>,
 }
 
@@ -326,7 +326,7 @@ fn finish<C: Commands, W: Sink>(
 /// After each read all lines that are then complete are run, each answer in one write where there
 /// is memory for it. At a failed read, past the bound of bytes, and where no read is left before the end is found, the
 /// run ends with `ReadFault`, and what follows the last newline isn't run. After a failed write nothing more is run or
-/// written, and the run ends with `WriteFault`. Where a line can't be stored, it ends with `NoMemory`; then all lines
+/// written, and the run ends with `WriteFault`. It may end with `NoMemory`, where a line can't be stored; then all lines
 /// were run that were complete before the last read, which gave at most `PIECE_BYTES` bytes, and perhaps some of those.
 pub fn run_lines<C: Commands + Drop, R: Source, W: Sink>(
     alloc: Global,

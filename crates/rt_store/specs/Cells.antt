@@ -1,5 +1,5 @@
 -- The cells of a text, as a list.
-use Rattle.std.specs.Prelude.{◌≡◌, ℕ, ◌+◌, ◌-◌, ◌<◌, ◌≤◌, not, Bool, true, false, List, [], ◌∷◌, ◌++◌, length, take, drop, map, filter, take_while, position, Option, Some, IsSome, option_map, IsTrue, ◌⊎◌, slice_get, if◌then◌else◌, unwrap_or}
+use Rattle.std.specs.Prelude.{◌≡◌, ℕ, ◌+◌, ◌-◌, ◌<◌, ◌≤◌, not, true, false, List, [], ◌∷◌, ◌++◌, length, take, drop, map, filter, take_while, position, Option, Some, IsSome, option_map, IsTrue, ◌⊎◌, slice_get, if◌then◌else◌, unwrap_or}
 use Rattle.std.specs.List.{IsDistinct, find}
 use Rattle.rt_stamps.specs.declared.stamp.Span.{Span}
 use Rattle.rt_stamps.specs.declared.stamp.Stamp.{Stamp}
@@ -92,6 +92,21 @@ gone_in span cell = if is_in_span span cell.stamp then record cell { gone = true
 -- a cell with a stamp of a span has a state, another is as it was
 abbrev pub state_in : {T : Type 0} → Span → T → Cell T → Cell T
 state_in span state cell = if is_in_span span cell.stamp then with_state state cell else cell
+
+-- RUNS
+
+-- A cell goes on from another one, so many cells behind it: it has a stamp of its site with a count so much greater, is gone or
+-- visible as that one is, and is in its state.
+pub record GoesOn {T : Type 0} (first : Cell T) (n : ℕ) (cell : Cell T) : Type 0 where
+  pub stamp : cell.stamp ≡ record { count = first.stamp.count + n; site = first.stamp.site }
+  pub gone : cell.gone ≡ first.gone
+  pub state : cell.state ≡ first.state
+
+-- the cells directly behind one go on from it, up to the one of a count
+pub record GoOnTo {T : Type 0} (cells : List (Cell T)) (first : Cell T) (last : ℕ) : Type 0 where
+  pub position : ℕ
+  pub here : position_of cells first.stamp ≡ Some position
+  pub each : (n : ℕ) → first.stamp.count + n ≤ last → (cell : Cell T) × (slice_get cells (position + n) ≡ Some cell) × GoesOn first n cell
 
 -- ROOM
 

@@ -13,6 +13,14 @@ pub struct Cell<T> {
     pub state: T,
 }
 
+/// A cell, and the count of its site to which the cells directly behind it go on from it: with stamps of rising counts,
+/// gone or visible as it is, in its state. It is the cell's own count where none does.
+#[derive(Clone, Copy, Debug, PartialEq, Eq)]
+pub struct CellRun {
+    pub cell: Cell<StateId>,
+    pub last: u64,
+}
+
 /// The cell of the last newline, as it is at first. It is never gone; its state may change.
 pub const FINAL_CELL: Cell<StateId> = Cell {
     stamp: FINAL,

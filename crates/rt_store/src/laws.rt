@@ -5,7 +5,7 @@ ghost use Rattle.rt_stamps.specs.declared.stamp.Stamp.{Stamp};
 ghost use Rattle.rt_stamps.specs.declared.stamp.TheConstants.{FINAL, ROOT};
 ghost use Rattle.rt_stamps.specs.Stamps.{is_before, is_same};
 ghost use Rattle.rt_store.specs.declared.cell.Cell.{Cell};
-ghost use Rattle.rt_store.specs.Cells.{EndsFinal, IsPlaced, cell_of, gone_in, position_of, put_at, skip_from, stamps_of, state_in, text_of, visible_before, visible_of};
+ghost use Rattle.rt_store.specs.Cells.{AreDistinct, EndsFinal, GoOnTo, GoesOn, IsPlaced, cell_of, gone_in, position_of, put_at, skip_from, stamps_of, state_in, text_of, visible_before, visible_of};
 ghost use Rattle.rt_store.specs.Shown.{shown};
 ghost use Rattle.rt_store.specs.Spans.{gone_in_any, is_among};
 ghost use Rattle.rt_store.specs.Tagged.{AreStates, IsGreatestBelow, IsLeastFrom, Passes, next_place, previous_place};
@@ -46,6 +46,15 @@ pub fn found_cells<T>()
     ensures place { (cells : List (Cell T)) (stamp : Stamp) (cell : Cell T) (place : ℕ) → cell_of cells stamp ≡ Some cell
         → cell.gone ≡ false → option_map (visible_before cells) (position_of cells stamp) ≡ Some place → slice_get (visible_of cells) place
         ≡ Some cell }
+{}
+
+/// The stamps of a run are those of cells; where stamps differ, each finds its cell of the run.
+pub fn runs<T>()
+    ensures held { (cells : List (Cell T)) (first : Cell T) (last n : ℕ) → GoOnTo cells first last → first.stamp.count + n ≤ last
+        → is_among (stamps_of cells) (record { count = first.stamp.count + n; site = first.stamp.site }) ≡ true }
+    ensures found { (cells : List (Cell T)) (first : Cell T) (last n : ℕ) → AreDistinct cells → GoOnTo cells first last
+        → first.stamp.count + n ≤ last → (cell : Cell T)
+        × (cell_of cells (record { count = first.stamp.count + n; site = first.stamp.site }) ≡ Some cell) × GoesOn first n cell }
 {}
 
 /// New cells have a place behind each element that is the root or a cell before the last one, and it

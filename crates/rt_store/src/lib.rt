@@ -7,7 +7,7 @@ pub mod laws;
 pub mod list;
 pub mod store;
 
-pub use cell::{Cell, FINAL_CELL};
+pub use cell::{Cell, CellRun, FINAL_CELL};
 pub use count::{newline_count, visible_count};
 pub use list::ListStore;
 pub use store::TextStore;

@@ -7,7 +7,7 @@ ghost use Rattle.rt_stamps.specs.Stamps.{is_before};
 ghost use Rattle.rt_stamps.specs.Places.{newlines, after_newlines};
 
 use crate::TextStore;
-use crate::cell::{Cell, FINAL_CELL};
+use crate::cell::{Cell, CellRun, FINAL_CELL};
 use crate::count::{newline_count, visible_count};
 use rt_stamps::{Fault, ROOT, Span, Stamp};
 use rt_tags::{StateId, StateTable, TagId};
@@ -315,6 +315,15 @@ impl TextStore for ListStore {
 
     fn cell_of(&self, stamp: Stamp) -> Option<Cell<StateId>> {
         cell_of(&self.cells, stamp)
+    }
+
+    // A list is gone through for each cell, so each is a run of its own.
+    fn run_from(&self, stamp: Stamp, _last: u64) -> Option<CellRun> {
+        let cell = cell_of(&self.cells, stamp)?;
+        Some(CellRun {
+            cell,
+            last: stamp.count,
+        })
     }
 
     fn place_of(&self, stamp: Stamp) -> Option<usize> {

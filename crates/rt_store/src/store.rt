@@ -1,14 +1,14 @@
 // What keeps the cells of a text.
-ghost use Rattle.std.specs.Prelude.{◌≡◌, ◌∷◌, [], ℕ, ◌+◌, ◌-◌, min, ◌<◌, ◌≤◌, List, ◌++◌, true, false, map, take, drop, length, OnOk, OnErr, IsOk, IsOkUnless, slice_get, option_map};
+ghost use Rattle.std.specs.Prelude.{◌≡◌, ◌∷◌, [], ℕ, ◌+◌, ◌-◌, min, ◌<◌, ◌≤◌, List, ◌++◌, true, false, map, take, drop, length, OnOk, OnErr, IsOk, IfSome, IsOkUnless, slice_get, option_map};
 ghost use Rattle.rt_stamps.specs.Places.{newlines, line_of, line_start};
 ghost use Rattle.rt_stamps.specs.Stamps.{is_before};
 ghost use Rattle.rt_stamps.specs.declared.limits.TheConstants.{MOST_CELLS};
 ghost use Rattle.rt_store.specs.declared.cell.Cell.{Cell};
-ghost use Rattle.rt_store.specs.Cells.{final_cell, visible_of, text_of, EndsFinal, cell_of, position_of, visible_before, StandsBefore, skip_from, is_in_span, gone_in, state_in, Room, HasRoom, Spends};
+ghost use Rattle.rt_store.specs.Cells.{final_cell, visible_of, text_of, EndsFinal, cell_of, position_of, visible_before, StandsBefore, skip_from, is_in_span, gone_in, state_in, GoOnTo, Room, HasRoom, Spends};
 ghost use Rattle.rt_store.specs.Tagged.{AreStates, next_tagged, next_untagged, previous_tagged};
 ghost use Rattle.rt_tags.specs.States.{IsState, IsTag, KeepsIds, TagStates};
 
-use crate::Cell;
+use crate::{Cell, CellRun};
 use rt_stamps::{FINAL, Fault, Span, Stamp};
 use rt_tags::{StateId, StateTable, TagId};
 
@@ -54,6 +54,14 @@ pub trait TextStore: Drop {
     /// The cell of a stamp, gone or not; none if no cell has the stamp.
     fn cell_of(&self, stamp: Stamp) -> Option<Cell<StateId>>
         ensures { result ≡ cell_of (list self.now) stamp };
+
+    /// The cell of a stamp, gone or not, with a count, at most `last`, to which the cells directly behind it go on from
+    /// it; none if no cell has the stamp. It may be less than the greatest such count.
+    fn run_from(&self, stamp: Stamp, last: u64) -> Option<CellRun>
+        requires { stamp.count ≤ last }
+        ensures cell { option_map (λ run. run.cell) result ≡ cell_of (list self.now) stamp }
+        ensures run { IfSome result (λ run. GoOnTo (list self.now) run.cell run.last) }
+        ensures last { IfSome result (λ run. (stamp.count ≤ run.last) × (run.last ≤ last)) };
 
     /// How many visible cells stand before a stamp's cell, which is its place if it is visible; none if
     /// no cell has the stamp.

@@ -353,6 +353,15 @@ impl Pair {
         (place, looks.saturating_sub(before as u64))
     }
 
+    /// The count to which the tree's cells go on from that of a stamp, at most to one, and whether they are gone.
+    pub(crate) fn run_from(&self, stamp: Stamp, last: u64) -> Option<(u64, bool)> {
+        if last < stamp.count {
+            return None;
+        }
+        let run = self.tree.run_from(stamp, last)?;
+        Some((run.last, run.cell.gone))
+    }
+
     /// Whether the tree finds stamps by climbs alone.
     pub(crate) fn is_sure(&self) -> bool {
         self.tree.tree().is_sure()

@@ -86,6 +86,51 @@ fn all_come_out(rt: &impl Abort, alloc: Global, rows: &[Row]) -> Result<(), Faul
     Ok(())
 }
 
+/// A count of site 1, a count that is asked for, and the count to which cells go on from the first, with whether they are gone.
+type RunRow = (u64, u64, Option<(u64, bool)>);
+
+// Stops a test where others than these runs are told.
+fn tells_runs(rt: &impl Abort, pair: &Pair, rows: &[RunRow]) {
+    for (count, asked, run) in rows {
+        let stamp = Stamp {
+            count: *count,
+            site: 1,
+        };
+        same(rt, (*count, pair.run_from(stamp, *asked)), (*count, *run));
+    }
+}
+
+// The runs of `abcdef`.
+const WHOLE: &[RunRow] = &[
+    (1, 9, Some((6, false))),
+    (3, 9, Some((6, false))),
+    (3, 5, Some((5, false))),
+    (6, 6, Some((6, false))),
+    (7, 9, None),
+];
+
+// Those when `c` and `d` are gone, and when `f` has a tag too.
+const IN_PARTS: &[RunRow] = &[
+    (1, 9, Some((2, false))),
+    (3, 9, Some((4, true))),
+    (5, 9, Some((5, false))),
+    (6, 9, Some((6, false))),
+];
+
+// A run is told from each of its stamps, to its end or to the count that is asked for. What is gone is another run, and
+// what is in another state.
+#[test]
+fn told_runs(rt: HostRuntime) -> Result<(), Fail> {
+    let mut pair = Pair::new(rt.alloc())?;
+    pair.paste(0, 1, 1, ['a', 'b', 'c'])?;
+    pair.paste(3, 4, 1, ['d', 'e', 'f'])?;
+    tells_runs(&rt, &pair, WHOLE);
+    pair.remove(span(1, 3, 4))?;
+    pair.mark(span(1, 6, 6), true)?;
+    tells_runs(&rt, &pair, IN_PARTS);
+    Ok(())
+}
+
 // What is typed on makes its run longer; cells that don't follow make another.
 const TYPED: &[Row] = &[
     (

@@ -14,6 +14,8 @@ mod checks;
 #[cfg(test)]
 mod commands;
 #[cfg(test)]
+mod cursors;
+#[cfg(test)]
 mod early;
 #[cfg(test)]
 mod embedding;

@@ -1,5 +1,5 @@
 -- The neighbours of text that is inserted into what a widget shows.
-use Rattle.std.proofs.Common.{◌≡◌, ◌∙◌, ℕ, zero, suc, ◌+◌, ◌-◌, ◌<◌, ◌≤◌, ◌&&◌, ◌||◌, ◌++◌, ◌⊎◌, inl, inr, Bool, true, false, cond, not, List, [], ◌∷◌, length, map, take, drop, Option, None, Some, refl, sym, ap, arith, subst, append-nil, take-append-drop}
+use Rattle.std.proofs.Common.{◌≡◌, ◌∙◌, ℕ, zero, suc, ◌+◌, ◌-◌, ◌<◌, ◌≤◌, ◌&&◌, ◌++◌, ◌⊎◌, inl, inr, Bool, true, false, cond, not, List, [], ◌∷◌, length, map, take, drop, Option, None, Some, refl, sym, ap, arith, subst, append-nil, take-append-drop}
 use Rattle.std.specs.Prelude.{IfSome, nat_eq, nat_lt, option_and_then, option_map, slice_get, unwrap_or}
 use Rattle.std.specs.List.{IsDistinct}
 use Rattle.std.specs.Str.{chars}
@@ -11,14 +11,13 @@ use Rattle.rt_marks.proofs.Leaving.{place_kept}
 use Rattle.rt_stamps.specs.declared.limits.TheConstants.{MOST_CHARACTERS}
 use Rattle.rt_stamps.specs.declared.stamp.Stamp.{Stamp}
 use Rattle.rt_stamps.specs.declared.stamp.TheConstants.{ROOT}
-use Rattle.rt_stamps.specs.Places.{is_newline}
 use Rattle.rt_stamps.specs.Stamps.{is_same}
 use Rattle.rt_stamps.specs.Words.{Word}
 use Rattle.rt_store.specs.declared.cell.Cell.{Cell}
-use Rattle.rt_store.specs.Cells.{EndsFinal, after_element, cell_of, map_state, stamps_of, text_of, visible_of}
+use Rattle.rt_store.specs.Cells.{EndsFinal, after_element, stamps_of, text_of, visible_of}
 use Rattle.rt_store.specs.Shown.{TaggedCell, shown}
 use Rattle.rt_store.specs.Written.{AreBelowNext}
-use Rattle.rt_store.proofs.Distinct.{distinct_more, split}
+use Rattle.rt_store.proofs.Distinct.{distinct_more}
 use Rattle.rt_store.proofs.Shown.{visible_at_shown}
 use Rattle.rt_tags.specs.States.{TagStates, state_at}
 use Rattle.rt_rga.specs.Histories.{IsHistory}
@@ -32,18 +31,18 @@ use Rattle.rt_edits.specs.Removals.{is_covered}
 use Rattle.rt_edits.proofs.RestLaws.{element_shown, left_shown}
 use Rattle.rt_views.specs.declared.limits.Limits.{Limits}
 use Rattle.rt_views.specs.declared.stretch.Stretch.{Stretch}
-use Rattle.rt_views.specs.Limits.{no_limits, place_of}
+use Rattle.rt_views.specs.Limits.{place_of}
 use Rattle.rt_views.specs.Stretches.{shown_part, stretch_of}
 use Rattle.rt_views.proofs.Parts.{part_get}
 use Rattle.rt_views.proofs.Shown.{place_shown}
-use Rattle.rt_views.proofs.Whole.{stretch_whole, stretch_within}
+use Rattle.rt_views.proofs.Whole.{stretch_within}
 use Rattle.rt_text.specs.Commands.{none_inserted, right_behind}
-use Rattle.rt_text.specs.Neighbours.{are_newlines, are_sides_shown, is_ahead, is_behind, is_newline_of, limit_left, limits_in, pieces_text}
+use Rattle.rt_text.specs.Neighbours.{are_sides_shown, is_ahead, is_behind, limit_left, pieces_text}
 use Rattle.rt_text.specs.Widgets.{Own, Viewed, in_text, length_shown, shown_by}
 use Rattle.rt_text.proofs.LimitedDeletions.{stretch_kept}
 use Rattle.rt_text.proofs.LimitedTags.{shown_length}
 use Rattle.rt_text.proofs.NewCells.{AreNew, pieces_are, pieces_new}
-use Rattle.rt_text.proofs.ShownSides.{ArePut, sides_put}
+use Rattle.rt_text.proofs.ShownSides.{AreNewlines, ArePut, sides_put}
 use Rattle.rt_text.proofs.ViewLaws.{viewed}
 
 -- A DOCUMENT'S CELLS
@@ -167,24 +166,6 @@ given_not P b o x e h = subst (λ (y : Option (Cell ℕ)). IfSome y P) (sym e) (
 
 -- WHETHER BOTH SIDES ARE SHOWN
 
-pub newline_shown : {S T : Type 0} (f : S → T) (cells : List (Cell S)) (s : Stamp)
-    → unwrap_or (option_map (λ (cell : Cell T). is_newline cell.ch) (cell_of (map (map_state f) cells) s)) false ≡ unwrap_or (option_map (λ (cell : Cell S). is_newline cell.ch) (cell_of cells s)) false
-newline_shown f [] s = refl
-newline_shown {S} {T} f (x ∷ xs) s = by (is_same x.stamp s) (newline_shown f xs s)
-  where
-    by : (b : Bool) → unwrap_or (option_map (λ (cell : Cell T). is_newline cell.ch) (cell_of (map (map_state f) xs) s)) false ≡ unwrap_or (option_map (λ (cell : Cell S). is_newline cell.ch) (cell_of xs s)) false
-        → unwrap_or (option_map (λ (cell : Cell T). is_newline cell.ch) (cond b (Some (map_state f x)) (cell_of (map (map_state f) xs) s))) false
-        ≡ unwrap_or (option_map (λ (cell : Cell S). is_newline cell.ch) (cond b (Some x) (cell_of xs s))) false
-    by true h = refl
-    by false h = h
-
-pub limit_shown : (table : TagStates) (kept : List (Cell ℕ)) (limit : Option Stamp) → is_newline_of (map (shown table) kept) limit ≡ is_newline_of kept limit
-limit_shown table kept None = refl
-limit_shown table kept (Some s) = newline_shown (state_at table) kept s
-
-pub limits_kept : (table : TagStates) (kept : List (Cell ℕ)) (cells : List TaggedCell) (limits : Limits) → map (shown table) kept ≡ cells → are_newlines kept limits ≡ are_newlines cells limits
-limits_kept table kept cells limits e = (λ i. sym (limit_shown table kept limits.start) i && sym (limit_shown table kept limits.end) i) ∙ ap (λ (l : List TaggedCell). are_newlines l limits) e
-
 pub place_kept_of : (table : TagStates) (kept : List (Cell ℕ)) (cells : List TaggedCell) (limit : Option Stamp) → map (shown table) kept ≡ cells → option_and_then (place_of kept) limit ≡ option_and_then (place_of cells) limit
 place_kept_of table kept cells None e = refl
 place_kept_of table kept cells (Some s) e = sym (place_shown (state_at table) kept s) ∙ ap (λ (l : List TaggedCell). place_of l s) e
@@ -200,13 +181,12 @@ none_left {T} cells limit = by (option_and_then (place_of cells) limit)
 -- both sides are shown, by the document's cells
 abbrev pub are_shown : Flat → Limits → ℕ → List Piece → Bool
 are_shown flat limits at pieces =
-    not (are_newlines flat.cells limits) || are_sides_shown (option_and_then (place_of flat.cells) limits.start) (option_and_then (place_of flat.cells) limits.end) at (pieces_text pieces)
+    are_sides_shown (option_and_then (place_of flat.cells) limits.start) (option_and_then (place_of flat.cells) limits.end) at (pieces_text pieces)
 
 pub shown_kept : (table : TagStates) (kept : List (Cell ℕ)) (flat : Flat) (limits : Limits) (at place : ℕ) (pieces : List Piece) → map (shown table) kept ≡ flat.cells → at ≡ place
-    → (not (are_newlines kept limits) || are_sides_shown (limit_left (is_covered []) kept limits.start) (limit_left (is_covered []) kept limits.end) at (pieces_text pieces)) ≡ are_shown flat limits place pieces
+    → are_sides_shown (limit_left (is_covered []) kept limits.start) (limit_left (is_covered []) kept limits.end) at (pieces_text pieces) ≡ are_shown flat limits place pieces
 shown_kept table kept flat limits at place pieces e a =
-    λ i. not (limits_kept table kept flat.cells limits e i)
-    || are_sides_shown ((none_left kept limits.start ∙ place_kept_of table kept flat.cells limits.start e) i) ((none_left kept limits.end ∙ place_kept_of table kept flat.cells limits.end e) i) (a i) (pieces_text pieces)
+    λ i. are_sides_shown ((none_left kept limits.start ∙ place_kept_of table kept flat.cells limits.start e) i) ((none_left kept limits.end ∙ place_kept_of table kept flat.cells limits.end e) i) (a i) (pieces_text pieces)
 
 -- what the code finds at the place, as shown
 pub right_found : (table : TagStates) (kept : List (Cell ℕ)) (flat : Flat) (own : Own) (others : List Own) (place at : ℕ) (pieces : List Piece) (b : Bool) (right : Option (Cell ℕ)) → map (shown table) kept ≡ flat.cells → IsPlace flat own others place
@@ -237,32 +217,8 @@ no_sides start end at = by (is_behind at start) (is_ahead at end)
     by false true = refl
     by false false = refl
 
-shown_any : (b c : Bool) → c ≡ true → (not b || c) ≡ true
-shown_any true c h = h
-shown_any false c h = refl
-
 both_less : (a b c : ℕ) → a < b → b < c → (nat_lt a b && nat_lt b c) ≡ true
 both_less a b c h k = (λ i. lt-ltb a b h i && lt-ltb b c k i)
-
--- what the limits that the text knows show has all that the widget shows
-record AreWide (flat : Flat) (own : Own) (limits : Limits) : Type 0 where
-  begin : (stretch_of flat.cells limits).begin ≤ (stretch_of flat.cells own.limits).begin
-  end : (stretch_of flat.cells own.limits).end ≤ (stretch_of flat.cells limits).end
-
-whole_wide : (flat : Flat) (own : Own) → EndsFinal flat.cells → AreWide flat own no_limits
-whole_wide flat own h =
-    let whole = stretch_whole flat.cells h in
-    record {
-      begin = omega (arith, ap (λ (x : Stretch). x.begin) whole);
-      end = omega (arith, ap (λ (x : Stretch). x.end) whole, stretch_within flat.cells own.limits h);
-    }
-
-known_wide : (flat : Flat) (own : Own) → EndsFinal flat.cells → AreWide flat own (limits_in flat.cells own.limits)
-known_wide flat own h = by (are_newlines flat.cells own.limits)
-  where
-    by : (b : Bool) → AreWide flat own (cond b own.limits no_limits)
-    by true = record { begin = omega arith; end = omega arith }
-    by false = whole_wide flat own h
 
 put_at : (flat : Flat) (own : Own) (others : List Own) (place : ℕ) (new : List TaggedCell) → IsPlace flat own others place → AreNew flat.count flat.site new
     → ArePut flat.cells new flat.count flat.site (in_text (viewed flat own others) place)
@@ -281,46 +237,32 @@ sides_of flat at new limits =
     let stretch = stretch_of (put_after flat.cells (left_of flat.cells at) new) limits in
     nat_lt stretch.begin (at + length new) && nat_lt (at + length new) stretch.end
 
-sides_by : (flat : Flat) (own : Own) (others : List Own) (place : ℕ) → IsPlace flat own others place → (new : List TaggedCell) (text : List ℕ) → text_of new ≡ text → AreNew flat.count flat.site new
+sides_by : (flat : Flat) (own : Own) (others : List Own) (place : ℕ) → IsPlace flat own others place → AreNewlines flat.cells own.limits → (new : List TaggedCell) (text : List ℕ) → text_of new ≡ text
+    → AreNew flat.count flat.site new
     → let at = in_text (viewed flat own others) place in
     ((left_neighbour (shown_by (viewed flat own others)) place ≡ None) × (new ≡ []))
-    ⊎ ((not (are_newlines flat.cells own.limits) || are_sides_shown (option_and_then (place_of flat.cells) own.limits.start) (option_and_then (place_of flat.cells) own.limits.end) at text)
-    ≡ sides_of flat at new (limits_in flat.cells own.limits))
-sides_by flat own others zero is [] text t fresh = inl (refl, refl)
-sides_by flat own others (suc p) is [] text t fresh =
+    ⊎ (are_sides_shown (option_and_then (place_of flat.cells) own.limits.start) (option_and_then (place_of flat.cells) own.limits.end) at text ≡ sides_of flat at new own.limits)
+sides_by flat own others zero is known [] text t fresh = inl (refl, refl)
+sides_by flat own others (suc p) is known [] text t fresh =
     let at = in_text (viewed flat own others) (suc p) in
     let start = option_and_then (place_of flat.cells) own.limits.start in
     let end = option_and_then (place_of flat.cells) own.limits.end in
-    let valid = are_newlines flat.cells own.limits in
-    let limits : Limits = limits_in flat.cells own.limits in
-    let final = document_final flat is.history is.document in
-    let wide = known_wide flat own final in
-    let shown : (not valid || are_sides_shown start end at text) ≡ true = ap (λ x. not valid || are_sides_shown start end at x) (sym t) ∙ shown_any valid (are_sides_shown start end at []) (no_sides start end at) in
-    let low : (stretch_of flat.cells limits).begin < at + 0 = omega (arith, wide.begin) in
-    let high : at + 0 < (stretch_of flat.cells limits).end = omega (arith, wide.end, at_high flat own others (suc p) is) in
+    let limits : Limits = own.limits in
+    let shown : are_sides_shown start end at text ≡ true = ap (are_sides_shown start end at) (sym t) ∙ no_sides start end at in
+    let low : (stretch_of flat.cells limits).begin < at + 0 = omega arith in
+    let high : at + 0 < (stretch_of flat.cells limits).end = omega (arith, at_high flat own others (suc p) is) in
     let sides : sides_of flat at [] limits ≡ true =
     ap (λ (l : List TaggedCell). nat_lt (stretch_of l limits).begin (at + 0) && nat_lt (at + 0) (stretch_of l limits).end) (none_put flat.cells (left_of flat.cells at))
     ∙ both_less (stretch_of flat.cells limits).begin (at + 0) (stretch_of flat.cells limits).end low high in
     inr (shown ∙ sym sides)
-sides_by flat own others place is (x ∷ xs) text t fresh =
+sides_by flat own others place is known (x ∷ xs) text t fresh =
     let at = in_text (viewed flat own others) place in
     let new : List TaggedCell = x ∷ xs in
     let start = option_and_then (place_of flat.cells) own.limits.start in
     let end = option_and_then (place_of flat.cells) own.limits.end in
     let put = put_at flat own others place new is fresh in
-    let final = document_final flat is.history is.document in
-    let whole = whole_wide flat own final in
-    let low = at_low flat own others place is in
-    let high = at_high flat own others place is in
-    inr (split (are_newlines flat.cells own.limits)
-    (λ e.
-    ap (λ b. not b || are_sides_shown start end at text) e ∙ ap (are_sides_shown start end at) (sym t)
-    ∙ sym (sides_put flat.cells new flat.count flat.site at put own.limits e (omega arith) low high)
-    ∙ ap (λ b. sides_of flat at new (cond b own.limits no_limits)) (sym e))
-    (λ e.
-    ap (λ b. not b || are_sides_shown start end at text) e
-    ∙ sym (sides_put flat.cells new flat.count flat.site at put no_limits refl (omega arith) (omega (arith, whole.begin, low)) (omega (arith, whole.end, high)))
-    ∙ ap (λ b. sides_of flat at new (cond b own.limits no_limits)) (sym e)))
+    inr (ap (are_sides_shown start end at) (sym t)
+    ∙ sym (sides_put flat.cells new flat.count flat.site at put own.limits known (omega arith) (at_low flat own others place is) (at_high flat own others place is)))
 
 -- Behind pieces that have characters, and behind a left neighbour, the right one is that which is shown, if both sides are. Without
 -- either it doesn't matter.
@@ -329,18 +271,18 @@ IsRight flat own others place pieces right =
     ((left_neighbour (shown_by (viewed flat own others)) place ≡ None) × ((with_pieces flat.site pieces (none_inserted (viewed flat own others))).cells ≡ []))
     ⊎ (right ≡ right_behind (viewed flat own others) place pieces)
 
-pub right_is : (flat : Flat) (own : Own) (others : List Own) (place : ℕ) (pieces : List Piece) → IsPlace flat own others place
+pub right_is : (flat : Flat) (own : Own) (others : List Own) (place : ℕ) (pieces : List Piece) → IsPlace flat own others place → AreNewlines flat.cells own.limits
     → IsRight flat own others place pieces (cond (are_shown flat own.limits (in_text (viewed flat own others) place) pieces) (right_neighbour (shown_by (viewed flat own others)) place) None)
-right_is flat own others place pieces is =
+right_is flat own others place pieces is known =
     let view : Viewed = viewed flat own others in
     let new : List TaggedCell = (with_pieces flat.site pieces (none_inserted view)).cells in
     let text : text_of new ≡ pieces_text pieces = pieces_are flat.site pieces (none_inserted view) in
     let fresh : AreNew flat.count flat.site new = pieces_new flat.site flat.count pieces (none_inserted view) (omega arith) tt in
-    by (sides_by flat own others place is new (pieces_text pieces) text fresh)
+    by (sides_by flat own others place is known new (pieces_text pieces) text fresh)
   where
     by : ((left_neighbour (shown_by (viewed flat own others)) place ≡ None) × ((with_pieces flat.site pieces (none_inserted (viewed flat own others))).cells ≡ []))
         ⊎ (are_shown flat own.limits (in_text (viewed flat own others) place) pieces
-        ≡ sides_of flat (in_text (viewed flat own others) place) (with_pieces flat.site pieces (none_inserted (viewed flat own others))).cells (limits_in flat.cells own.limits))
+        ≡ sides_of flat (in_text (viewed flat own others) place) (with_pieces flat.site pieces (none_inserted (viewed flat own others))).cells own.limits)
         → IsRight flat own others place pieces (cond (are_shown flat own.limits (in_text (viewed flat own others) place) pieces) (right_neighbour (shown_by (viewed flat own others)) place) None)
     by (inl w) = inl w
     by (inr e) = inr (ap (λ b. cond b (right_neighbour (shown_by (viewed flat own others)) place) None) e)
@@ -352,21 +294,21 @@ pub record IsFound (flat : Flat) (own : Own) (others : List Own) (place : ℕ) (
   pub next : IsRight flat own others place pieces right
 
 pub found : (table : TagStates) (kept : List (Cell ℕ)) (flat : Flat) (own : Own) (others : List Own) (place : ℕ) (pieces : List Piece) (limits : Limits) (stretch : Stretch) (before left right : Option (Cell ℕ)) (after : Stamp)
-    → map (shown table) kept ≡ flat.cells → IsPlace flat own others place → limits ≡ own.limits → stretch ≡ stretch_of kept limits
+    → map (shown table) kept ≡ flat.cells → IsPlace flat own others place → AreNewlines flat.cells own.limits → limits ≡ own.limits → stretch ≡ stretch_of kept limits
     → before ≡ left_neighbour (visible_of kept) (stretch.begin + place) → left ≡ cond (nat_eq place 0) None before
-    → right ≡ cond (not (are_newlines kept limits) || are_sides_shown (limit_left (is_covered []) kept limits.start) (limit_left (is_covered []) kept limits.end) (stretch.begin + place) (pieces_text pieces))
+    → right ≡ cond (are_sides_shown (limit_left (is_covered []) kept limits.start) (limit_left (is_covered []) kept limits.end) (stretch.begin + place) (pieces_text pieces))
     (slice_get (visible_of kept) (stretch.begin + place)) None
     → after ≡ unwrap_or (option_map (λ cell. cell.stamp) before) ROOT
     → IsFound flat own others place pieces after (option_map (shown table) left) (option_map (shown table) right)
-found table kept flat own others place pieces limits stretch before left right after e is l s b x r a =
+found table kept flat own others place pieces limits stretch before left right after e is known l s b x r a =
     let at = stretch.begin + place in
     let here : at ≡ in_text (viewed flat own others) place = ap (λ (y : Stretch). y.begin + place) (s ∙ ap (stretch_of kept) l ∙ stretch_kept table kept flat.cells own.limits e) in
-    let flag = ap (λ (y : Limits). not (are_newlines kept y) || are_sides_shown (limit_left (is_covered []) kept y.start) (limit_left (is_covered []) kept y.end) at (pieces_text pieces)) l
+    let flag = ap (λ (y : Limits). are_sides_shown (limit_left (is_covered []) kept y.start) (limit_left (is_covered []) kept y.end) at (pieces_text pieces)) l
     ∙ shown_kept table kept flat own.limits at (in_text (viewed flat own others) place) pieces e here in
     record {
       element = a ∙ element_found table kept flat at (in_text (viewed flat own others) place) before e here b;
       before = left_found table kept flat own others place at before left e is here b x;
-      next = subst (IsRight flat own others place pieces) (sym (right_found table kept flat own others place at pieces _ right e is here flag r)) (right_is flat own others place pieces is);
+      next = subst (IsRight flat own others place pieces) (sym (right_found table kept flat own others place at pieces _ right e is here flag r)) (right_is flat own others place pieces is known);
     }
 
 pub any_some : {X : Type 0} (o : Option X) (P : Type 0) → P → IfSome o (λ _. P)

@@ -4,7 +4,7 @@ use Rattle.std.specs.Prelude.{IfSome, option_and_then, option_map, slice_get, un
 use Rattle.std.proofs.lemmas.Option.{slice_get-map}
 use Rattle.rt_marks.specs.Marks.{place_left}
 use Rattle.rt_stamps.specs.declared.stamp.Stamp.{Stamp}
-use Rattle.rt_stamps.specs.Places.{is_newline, line_end, line_start, newlines}
+use Rattle.rt_stamps.specs.Places.{line_end, line_start, newlines}
 use Rattle.rt_stamps.specs.Stamps.{is_same}
 use Rattle.rt_store.specs.declared.cell.Cell.{Cell}
 use Rattle.rt_store.specs.Cells.{EndsFinal, cell_of, text_of, visible_of}
@@ -13,9 +13,9 @@ use Rattle.rt_edits.specs.Removals.{gone_at}
 use Rattle.rt_edits.proofs.RemovedText.{text_left}
 use Rattle.rt_views.specs.declared.limits.Limits.{Limits}
 use Rattle.rt_views.specs.Limits.{first_line, is_gone, last_line, place_of}
+use Rattle.rt_views.specs.Ordered.{IsNewline}
 use Rattle.rt_views.specs.Stretches.{stretch_of}
 use Rattle.rt_views.proofs.Places.{ends_text, first_line_within, last_line_within}
-use Rattle.rt_text.specs.Neighbours.{is_newline_of}
 use Rattle.rt_text.proofs.LeftLines.{AreInside, begin_left, end_left, first_left, kept_from, kept_whole, last_left}
 use Rattle.rt_text.proofs.MarkLaws.{length_gone}
 use Rattle.rt_text.proofs.NeighbourLines.{last_at, start_at}
@@ -65,29 +65,27 @@ limit_gone removed cells (Some s) = place_gone removed cells s
 
 -- NEWLINES
 
-newline_from : {T : Type 0} (removed : ℕ → Bool) (k : ℕ) (cells : List (Cell T)) (s : Stamp)
-    → unwrap_or (option_map (λ (cell : Cell T). is_newline cell.ch) (cell_of (gone_at removed k cells) s)) false ≡ unwrap_or (option_map (λ (cell : Cell T). is_newline cell.ch) (cell_of cells s)) false
-newline_from removed k [] s = refl
-newline_from {T} removed k (c ∷ cs) s = by c.gone (newline_from removed k cs s) (newline_from removed (k + 1) cs s)
+character_from : {T : Type 0} (removed : ℕ → Bool) (k : ℕ) (cells : List (Cell T)) (s : Stamp)
+    → option_map (λ (cell : Cell T). cell.ch) (cell_of (gone_at removed k cells) s) ≡ option_map (λ (cell : Cell T). cell.ch) (cell_of cells s)
+character_from removed k [] s = refl
+character_from {T} removed k (c ∷ cs) s = by c.gone (character_from removed k cs s) (character_from removed (k + 1) cs s)
   where
-    pick : (d : Bool) (x : Cell T) (xs : List (Cell T)) → is_newline x.ch ≡ is_newline c.ch
-        → unwrap_or (option_map (λ (cell : Cell T). is_newline cell.ch) (cell_of xs s)) false ≡ unwrap_or (option_map (λ (cell : Cell T). is_newline cell.ch) (cell_of cs s)) false
-        → unwrap_or (option_map (λ (cell : Cell T). is_newline cell.ch) (cond d (Some x) (cell_of xs s))) false
-        ≡ unwrap_or (option_map (λ (cell : Cell T). is_newline cell.ch) (cond d (Some c) (cell_of cs s))) false
-    pick true x xs e h = e
+    pick : (d : Bool) (x : Cell T) (xs : List (Cell T)) → x.ch ≡ c.ch → option_map (λ (cell : Cell T). cell.ch) (cell_of xs s) ≡ option_map (λ (cell : Cell T). cell.ch) (cell_of cs s)
+        → option_map (λ (cell : Cell T). cell.ch) (cond d (Some x) (cell_of xs s)) ≡ option_map (λ (cell : Cell T). cell.ch) (cond d (Some c) (cell_of cs s))
+    pick true x xs e h = ap Some e
     pick false x xs e h = h
 
-    by : (b : Bool)
-        → unwrap_or (option_map (λ (cell : Cell T). is_newline cell.ch) (cell_of (gone_at removed k cs) s)) false ≡ unwrap_or (option_map (λ (cell : Cell T). is_newline cell.ch) (cell_of cs s)) false
-        → unwrap_or (option_map (λ (cell : Cell T). is_newline cell.ch) (cell_of (gone_at removed (k + 1) cs) s)) false ≡ unwrap_or (option_map (λ (cell : Cell T). is_newline cell.ch) (cell_of cs s)) false
-        → unwrap_or (option_map (λ (cell : Cell T). is_newline cell.ch) (cell_of (cond b (c ∷ gone_at removed k cs) (record c { gone = removed k } ∷ gone_at removed (k + 1) cs)) s)) false
-        ≡ unwrap_or (option_map (λ (cell : Cell T). is_newline cell.ch) (cond (is_same c.stamp s) (Some c) (cell_of cs s))) false
+    by : (b : Bool) → option_map (λ (cell : Cell T). cell.ch) (cell_of (gone_at removed k cs) s) ≡ option_map (λ (cell : Cell T). cell.ch) (cell_of cs s)
+        → option_map (λ (cell : Cell T). cell.ch) (cell_of (gone_at removed (k + 1) cs) s) ≡ option_map (λ (cell : Cell T). cell.ch) (cell_of cs s)
+        → option_map (λ (cell : Cell T). cell.ch) (cell_of (cond b (c ∷ gone_at removed k cs) (record c { gone = removed k } ∷ gone_at removed (k + 1) cs)) s)
+        ≡ option_map (λ (cell : Cell T). cell.ch) (cond (is_same c.stamp s) (Some c) (cell_of cs s))
     by true f g = pick (is_same c.stamp s) c (gone_at removed k cs) refl f
     by false f g = pick (is_same c.stamp s) (record c { gone = removed k }) (gone_at removed (k + 1) cs) refl g
 
-pub newline_gone : {T : Type 0} (removed : ℕ → Bool) (cells : List (Cell T)) (limit : Option Stamp) → is_newline_of (gone_at removed 0 cells) limit ≡ is_newline_of cells limit
-newline_gone removed cells None = refl
-newline_gone removed cells (Some s) = newline_from removed 0 cells s
+-- a limit's newline stays one, gone or not
+pub newline_gone : {T : Type 0} (removed : ℕ → Bool) (cells : List (Cell T)) (limit : Option Stamp) → IfSome limit (IsNewline cells) → IfSome limit (IsNewline (gone_at removed 0 cells))
+newline_gone removed cells None h = tt
+newline_gone removed cells (Some s) h = character_from removed 0 cells s ∙ h
 
 -- CELLS THAT ARE GONE
 

@@ -1,16 +1,20 @@
 pub mod AcceptedDocument
 pub mod AcceptedView
+pub mod Among
 pub mod BareNewline
 pub mod ChangedMarks
 pub mod Checks
+mod CursorLaws
 pub mod DeletionLaws
 pub mod Deletions
 pub mod Differences
 pub mod ExchangeLaws
 pub mod FollowingLaws
+pub mod Growing
 pub mod InsertedDocument
 pub mod InsertedSides
 pub mod KeptDocument
+pub mod KeptLimits
 pub mod LeftDocument
 pub mod LeftLines
 pub mod LeftPlaces

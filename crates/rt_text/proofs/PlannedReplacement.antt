@@ -1,5 +1,5 @@
 -- What the plan of a replacement finds, by what is kept of a document.
-use Rattle.std.proofs.Common.{◌≡◌, ◌∙◌, ℕ, suc, ◌+◌, ◌-◌, ◌<◌, ◌≤◌, ◌^◌, ◌&&◌, ◌||◌, ◌++◌, Bool, true, false, cond, not, List, [], ◌∷◌, length, map, min, Option, None, Some, refl, sym, ap, arith, subst}
+use Rattle.std.proofs.Common.{◌≡◌, ◌∙◌, ℕ, suc, ◌+◌, ◌-◌, ◌<◌, ◌≤◌, ◌^◌, ◌++◌, Bool, true, false, cond, List, [], ◌∷◌, length, map, min, Option, None, Some, refl, sym, ap, arith, subst}
 use Rattle.std.specs.Prelude.{IfSome, is_some, nat_eq, option_and_then, option_map, unwrap_or}
 use Rattle.std.proofs.lemmas.List.{length-map, map-append}
 use Rattle.rt_marks.specs.Marks.{place_left}
@@ -34,16 +34,17 @@ use Rattle.rt_views.specs.declared.stretch.Stretch.{Stretch}
 use Rattle.rt_views.specs.Limits.{place_of}
 use Rattle.rt_views.specs.Stretches.{part, stretch_of}
 use Rattle.rt_text.specs.Commands.{none_inserted, right_behind, with_range_replaced}
-use Rattle.rt_text.specs.Neighbours.{are_newlines, are_sides_shown, limit_left, pieces_text}
+use Rattle.rt_text.specs.Neighbours.{are_sides_shown, limit_left, pieces_text}
 use Rattle.rt_text.specs.Replacements.{drafts_at, insertion_at, left_by, loss_at}
 use Rattle.rt_text.specs.Widgets.{Own, Viewed, length_shown, selections_of, shown_by}
-use Rattle.rt_text.proofs.InsertedSides.{limits_kept, place_kept_of}
+use Rattle.rt_text.proofs.InsertedSides.{place_kept_of}
 use Rattle.rt_text.proofs.LeftDocument.{begin_low, end_stays, place_is, within}
 use Rattle.rt_text.proofs.LeftDocument as leaving
-use Rattle.rt_text.proofs.LeftPlaces.{limit_gone, newline_gone}
+use Rattle.rt_text.proofs.LeftPlaces.{limit_gone}
 use Rattle.rt_text.proofs.LimitedDeletions.{deletion_rest, loss_kept, loss_of, stretch_kept}
 use Rattle.rt_text.proofs.PutLaws.{visible_same}
 use Rattle.rt_text.proofs.Replacements.{IsBetween, deletion_count, is_between, of_any, sel_kept, shown_in}
+use Rattle.rt_text.proofs.ShownSides.{AreNewlines}
 use Rattle.rt_text.proofs.StayingPlaces.{gone_shown, left_small}
 use Rattle.rt_text.proofs.ViewLaws.{viewed}
 
@@ -90,6 +91,7 @@ pub record IsKept (table : TagStates) (kept : List (Cell ℕ)) (flat : Flat) (ow
   pub real : 0 < flat.site
   pub few : length (visible_of kept) ≤ MOST_CELLS
   pub shows : stretch ≡ stretch_of kept own.limits
+  pub known : AreNewlines flat.cells own.limits
 
 module _ (table : TagStates) (kept : List (Cell ℕ)) (flat : Flat) (own : Own) (stretch : Stretch) (is : IsKept table kept flat own stretch) where
   same_stretch : stretch ≡ stretch_of flat.cells own.limits
@@ -153,15 +155,10 @@ module _ (table : TagStates) (kept : List (Cell ℕ)) (flat : Flat) (own : Own) 
     limit_is : (limit : Option Stamp) → limit_left (is_covered removed) kept limit ≡ option_and_then (place_of (gone_at lost.places 0 flat.cells)) limit
     limit_is limit = (λ i. option_map (place_left (covered i)) (place_kept_of table kept flat.cells limit is.cells i)) ∙ sym (limit_gone lost.places flat.cells limit)
 
-    newlines_are : are_newlines kept own.limits ≡ are_newlines (gone_at lost.places 0 flat.cells) own.limits
-    newlines_are =
-        limits_kept table kept flat.cells own.limits is.cells
-        ∙ (λ i. sym (newline_gone lost.places flat.cells own.limits.start) i && sym (newline_gone lost.places flat.cells own.limits.end) i)
-
     flag_is : (at : ℕ) (pieces : List Piece)
-        → (not (are_newlines kept own.limits) || are_sides_shown (limit_left (is_covered removed) kept own.limits.start) (limit_left (is_covered removed) kept own.limits.end) at (pieces_text pieces))
+        → (are_sides_shown (limit_left (is_covered removed) kept own.limits.start) (limit_left (is_covered removed) kept own.limits.end) at (pieces_text pieces))
         ≡ shown_in (gone_at lost.places 0 flat.cells) own.limits at pieces
-    flag_is at pieces = λ i. not (newlines_are i) || are_sides_shown (limit_is own.limits.start i) (limit_is own.limits.end i) at (pieces_text pieces)
+    flag_is at pieces = λ i. are_sides_shown (limit_is own.limits.start i) (limit_is own.limits.end i) at (pieces_text pieces)
 
     -- what the plan finds beside the place
     pub record IsBeside (limits : Limits) (held : Bool) (place at : ℕ) (pieces : List Piece) (before : Option (Cell ℕ)) (after : Stamp) (l r : Option (Cell ℕ)) : Type 0 where
@@ -172,7 +169,7 @@ module _ (table : TagStates) (kept : List (Cell ℕ)) (flat : Flat) (own : Own) 
       pub before_is : before ≡ left_neighbour (visible_of (gone_at (is_covered removed) 0 kept)) at
       pub after_is : after ≡ unwrap_or (option_map (λ cell. cell.stamp) before) ROOT
       pub left_is : l ≡ cond (nat_eq place 0) None before
-      pub right_is : r ≡ cond (not (are_newlines kept limits) || are_sides_shown (limit_left (is_covered removed) kept limits.start) (limit_left (is_covered removed) kept limits.end) at (pieces_text pieces))
+      pub right_is : r ≡ cond (are_sides_shown (limit_left (is_covered removed) kept limits.start) (limit_left (is_covered removed) kept limits.end) at (pieces_text pieces))
           (cond held None (right_neighbour (visible_of (gone_at (is_covered removed) 0 kept)) at)) None
 
     module _ (others : List Own) (limits : Limits) (held : Bool) (place at : ℕ) (pieces : List Piece) (rest : Word) (before : Option (Cell ℕ)) (after : Stamp) (l r : Option (Cell ℕ))
@@ -199,15 +196,15 @@ module _ (table : TagStates) (kept : List (Cell ℕ)) (flat : Flat) (own : Own) 
           ap (option_map (shown table)) beside.left_is ∙ none_if (shown table) (nat_eq place 0) before ∙ ap (λ p. cond (nat_eq p 0) None (option_map (shown table) before)) place_flat in
           let next : option_map (shown table) (right_neighbour (visible_of cells) at) ≡ right_neighbour (visible_of gone) at =
           right_same table cells at ∙ ap (λ (v : List TaggedCell). right_neighbour (visible_of v) at) shown_gone in
-          let flag = ap (λ (y : Limits). not (are_newlines kept y) || are_sides_shown (limit_left (is_covered removed) kept y.start) (limit_left (is_covered removed) kept y.end) at (pieces_text pieces)) beside.limits_is ∙ flag_is at pieces in
+          let flag = ap (λ (y : Limits). are_sides_shown (limit_left (is_covered removed) kept y.start) (limit_left (is_covered removed) kept y.end) at (pieces_text pieces)) beside.limits_is ∙ flag_is at pieces in
           let second : option_map (shown table) r ≡ cond (shown_in gone own.limits at pieces) (cond held None (right_neighbour (visible_of gone) at)) None =
           ap (option_map (shown table)) beside.right_is ∙ some_if (shown table) _ (cond held None (right_neighbour (visible_of cells) at))
           ∙ (λ i. cond (flag i) ((none_if (shown table) held (right_neighbour (visible_of cells) at) ∙ ap (cond held None) next) i) None) in
-          is_between flat own others range is.history is.document is.real fits pieces rest at beside.at_is held (option_map (shown table) before) after (option_map (shown table) l) (option_map (shown table) r) is_held near first
+          is_between flat own others range is.history is.document is.real is.known fits pieces rest at beside.at_is held (option_map (shown table) before) after (option_map (shown table) l) (option_map (shown table) r) is_held near first
           (beside.after_is ∙ stamp_same table before) second
 
       abbrev flag : Bool
-      flag = not (are_newlines kept limits) || are_sides_shown (limit_left (is_covered removed) kept limits.start) (limit_left (is_covered removed) kept limits.end) at (pieces_text pieces)
+      flag = are_sides_shown (limit_left (is_covered removed) kept limits.start) (limit_left (is_covered removed) kept limits.end) at (pieces_text pieces)
 
       -- what is selected, where there is a right neighbour
       selected : (sel : List Stamp) → sel ≡ own.sel → IfSome r (λ cell. left.own.sel ≡ sel)

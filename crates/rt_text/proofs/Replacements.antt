@@ -44,17 +44,19 @@ use Rattle.rt_views.specs.declared.stretch.Stretch.{Stretch}
 use Rattle.rt_views.specs.Limits.{place_of}
 use Rattle.rt_views.specs.Stretches.{part}
 use Rattle.rt_text.specs.Commands.{none_inserted, right_behind, stretch_with}
-use Rattle.rt_text.specs.Neighbours.{are_newlines, are_sides_shown, pieces_text}
+use Rattle.rt_text.specs.Neighbours.{are_sides_shown, pieces_text}
 use Rattle.rt_text.specs.Replacements.{drafts_at, insertion_at}
 use Rattle.rt_text.specs.Widgets.{Own, Viewed, in_text, last_newline, selections_of, shown_by}
 use Rattle.rt_text.proofs.BareNewline.{IsBare, all_bare, bare_drafts, bare_insertion}
 use Rattle.rt_text.proofs.InsertedDocument.{drafts_are, new_is}
 use Rattle.rt_text.proofs.InsertedSides.{IsFound, IsPlace, IsRight, are_shown, document_below, left_there, right_is, right_there}
 use Rattle.rt_text.proofs.LeftDocument.{at_is, end_stays, is_place, last_place, left, loss, size, some, stretch, within}
+use Rattle.rt_text.proofs.LeftPlaces.{newline_gone}
 use Rattle.rt_text.proofs.LimitedDeletions.{widget_left}
 use Rattle.rt_text.proofs.MadeDocument.{document_written}
 use Rattle.rt_text.proofs.NewCells.{AreNew, none_new}
 use Rattle.rt_text.proofs.PutPlaces.{IsSeen, among_append, seen_at}
+use Rattle.rt_text.proofs.ShownSides.{AreNewlines}
 use Rattle.rt_text.proofs.StayingPlaces.{left_small, stays_at}
 use Rattle.rt_text.proofs.ViewLaws.{viewed}
 
@@ -169,7 +171,7 @@ of_any (Some x) P h = h
 -- both sides of a place behind pieces are shown, by the cells that are left
 abbrev pub shown_in : List TaggedCell → Limits → ℕ → List Piece → Bool
 shown_in cells limits at pieces =
-    not (are_newlines cells limits) || are_sides_shown (option_and_then (place_of cells) limits.start) (option_and_then (place_of cells) limits.end) at (pieces_text pieces)
+    are_sides_shown (option_and_then (place_of cells) limits.start) (option_and_then (place_of cells) limits.end) at (pieces_text pieces)
 
 module _ (flat : Flat) (own : Own) (others : List Own) (range : Range) (h : IsHistory flat.log) (doc : IsDocument flat.site flat.log flat) where
   abbrev lost : Loss
@@ -245,7 +247,7 @@ module _ (flat : Flat) (own : Own) (others : List Own) (range : Range) (h : IsHi
     pub insertion : inserting pieces rest l r ≡ insertion_at after_all place pieces rest
     pub drafts : drafting pieces rest after l r ≡ drafts_at after_all place pieces rest
 
-  module _ (real : 0 < flat.site) (fits : (without_text flat lost).count ≤ GREATEST_COUNT) (pieces : List Piece) (rest : Word) (at : ℕ) (here : at ≡ min (shows.begin + range.from) end_place) where
+  module _ (real : 0 < flat.site) (known : AreNewlines flat.cells own.limits) (fits : (without_text flat lost).count ≤ GREATEST_COUNT) (pieces : List Piece) (rest : Word) (at : ℕ) (here : at ≡ min (shows.begin + range.from) end_place) where
     abbrev place : ℕ
     place = at - shows.begin
 
@@ -254,6 +256,10 @@ module _ (flat : Flat) (own : Own) (others : List Own) (range : Range) (h : IsHi
 
     in_left : in_text after_all place ≡ at
     in_left = at_is flat own others range h doc at here
+
+    -- limits stay newlines where these go
+    still : AreNewlines gone.cells own.limits
+    still = (newline_gone lost.places flat.cells own.limits.start known.0, newline_gone lost.places flat.cells own.limits.end known.1)
 
     between_plain : (before : Option TaggedCell) (after : Stamp) (l r : Option TaggedCell) → is_some lost.newline ≡ false → before ≡ left_neighbour (visible_of gone.cells) at → l ≡ cond (nat_eq place 0) None before
         → after ≡ unwrap_or (option_map (λ cell. cell.stamp) before) ROOT → r ≡ cond (shown_in gone.cells own.limits at pieces) (right_neighbour (visible_of gone.cells) at) None → IsBetween pieces rest place after l r
@@ -266,7 +272,7 @@ module _ (flat : Flat) (own : Own) (others : List Own) (range : Range) (h : IsHi
         let found : IsFound after_all.doc after_all.own after_all.others place pieces after l r = record {
           element = c ∙ ap (λ o. unwrap_or (option_map (λ (cell : TaggedCell). cell.stamp) o) ROOT) near ∙ sym (element_left after_all.doc.cells (in_text after_all place));
           before = b ∙ left_side after_all.doc after_all.own after_all.others place before is near;
-          next = subst (IsRight after_all.doc after_all.own after_all.others place pieces) (sym next) (right_is after_all.doc after_all.own after_all.others place pieces is);
+          next = subst (IsRight after_all.doc after_all.own after_all.others place pieces) (sym next) (right_is after_all.doc after_all.own after_all.others place pieces is (subst (λ (l : List TaggedCell). AreNewlines l own.limits) same still));
         } in
         record {
           insertion = new_is after_all.doc after_all.own after_all.others place pieces rest after l r found;

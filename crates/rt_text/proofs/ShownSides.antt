@@ -2,12 +2,11 @@
 use Rattle.std.proofs.Common.{◌≡◌, ℕ, zero, suc, ◌+◌, ◌<◌, ◌≤◌, ◌&&◌, ◌||◌, ◌⊎◌, inl, inr, List, [], ◌∷◌, Bool, true, false, cond, min, length, take, drop, refl, sym, ap, subst, ◌∙◌, arith, Option, None, Some, take-append-drop, get_or}
 use Rattle.std.specs.Prelude.{IfSome, is_some, nat_lt, option_and_then, option_map, slice_get, unwrap_or}
 use Rattle.std.specs.List.{IsDistinct}
-use Rattle.std.proofs.lemmas.Bool.{and_parts}
 use Rattle.std.proofs.lemmas.List.{length-map}
 use Rattle.std.proofs.lemmas.Option.{slice_get-map, slice_get_cases}
 use Rattle.rt_stamps.specs.declared.stamp.Stamp.{Stamp}
 use Rattle.rt_stamps.specs.declared.stamp.TheConstants.{ROOT}
-use Rattle.rt_stamps.specs.Places.{is_newline, line_end, line_start, newlines}
+use Rattle.rt_stamps.specs.Places.{line_end, line_start, newlines}
 use Rattle.rt_stamps.specs.Stamps.{is_same}
 use Rattle.rt_store.specs.Cells.{EndsFinal, after_element, cell_of, position_of, stamps_of, text_of, visible_of}
 use Rattle.rt_store.specs.Shown.{TaggedCell}
@@ -20,9 +19,10 @@ use Rattle.rt_edits.specs.Flat.{left_of, put_after}
 use Rattle.rt_edits.proofs.InsertedText.{text_inserted}
 use Rattle.rt_views.specs.declared.limits.Limits.{Limits}
 use Rattle.rt_views.specs.Limits.{first_line, is_gone, last_line, line_at, line_behind, place_of}
+use Rattle.rt_views.specs.Ordered.{IsNewline}
 use Rattle.rt_views.specs.Stretches.{stretch_of}
 use Rattle.rt_views.proofs.Places.{ends_text, place_of_within}
-use Rattle.rt_text.specs.Neighbours.{are_newlines, are_sides_shown, is_newline_of}
+use Rattle.rt_text.specs.Neighbours.{are_sides_shown}
 use Rattle.rt_text.proofs.LineCounts.{put_in}
 use Rattle.rt_text.proofs.NeighbourLines.{both_sides, first_at, last_at, moved_by, start_at}
 use Rattle.rt_text.proofs.NewCells.{AreNew, all_there, none_new, there_counted}
@@ -35,26 +35,27 @@ abbrev pub gone_by : List TaggedCell → Option Stamp → Bool
 gone_by cells None = false
 gone_by cells (Some stamp) = is_gone cells stamp
 
-newline_among : (cells : List TaggedCell) (s : Stamp) → is_newline_of cells (Some s) ≡ true → is_among (stamps_of cells) s ≡ true
+-- limits are none or newlines
+abbrev pub AreNewlines : List TaggedCell → Limits → Type 0
+AreNewlines cells limits = IfSome limits.start (IsNewline cells) × IfSome limits.end (IsNewline cells)
+
+newline_among : (cells : List TaggedCell) (s : Stamp) → IsNewline cells s → is_among (stamps_of cells) s ≡ true
 newline_among cells s h = sym (stamp_held cells s) ∙ by (cell_of cells s) h
   where
-    by : (o : Option TaggedCell) → unwrap_or (option_map (λ (cell : TaggedCell). is_newline cell.ch) o) false ≡ true → is_some o ≡ true
+    by : (o : Option TaggedCell) → option_map (λ (cell : TaggedCell). cell.ch) o ≡ Some 10 → is_some o ≡ true
     by None k = let bad : ⊥ = cc in absurd bad
     by (Some cell) k = refl
 
-is_ten : (c : ℕ) → is_newline c ≡ true → c ≡ 10
-is_ten c h = grind (arith, h)
-
-newline_at : (cells : List TaggedCell) (limit : Option Stamp) → is_newline_of cells limit ≡ true
+newline_at : (cells : List TaggedCell) (limit : Option Stamp) → IfSome limit (IsNewline cells)
     → IfSome (option_and_then (place_of cells) limit) (λ n. gone_by cells limit ≡ false → slice_get (text_of cells) n ≡ Some 10)
 newline_at cells None h = tt
 newline_at cells (Some s) h = by (place_of cells s) refl
   where
-    seen : (n : ℕ) (o : Option TaggedCell) → cell_of cells s ≡ o → unwrap_or (option_map (λ (cell : TaggedCell). is_newline cell.ch) o) false ≡ true → unwrap_or (option_map (λ (cell : TaggedCell). cell.gone) o) false ≡ false
+    seen : (n : ℕ) (o : Option TaggedCell) → cell_of cells s ≡ o → option_map (λ (cell : TaggedCell). cell.ch) o ≡ Some 10 → unwrap_or (option_map (λ (cell : TaggedCell). cell.gone) o) false ≡ false
         → place_of cells s ≡ Some n → slice_get (text_of cells) n ≡ Some 10
     seen n None e k g p = let bad : ⊥ = cc in absurd bad
     seen n (Some cell) e k g p =
-        slice_get-map (λ (c : TaggedCell). c.ch) (visible_of cells) n ∙ ap (option_map (λ (c : TaggedCell). c.ch)) (place_found cells s cell n e g p) ∙ ap Some (is_ten cell.ch k)
+        slice_get-map (λ (c : TaggedCell). c.ch) (visible_of cells) n ∙ ap (option_map (λ (c : TaggedCell). c.ch)) (place_found cells s cell n e g p) ∙ k
 
     by : (o : Option ℕ) → place_of cells s ≡ o → IfSome o (λ n. is_gone cells s ≡ false → slice_get (text_of cells) n ≡ Some 10)
     by None e = tt
@@ -146,14 +147,14 @@ module _ (cells new : List TaggedCell) (count site at : ℕ) (put : ArePut cells
   size : length (visible_of new) ≡ k
   size = ap length (all_there count site new put.fresh)
 
-  place_put : (limit : Option Stamp) → is_newline_of cells limit ≡ true → option_and_then (place_of cells') limit ≡ option_map (moved_by at k) (option_and_then (place_of cells) limit)
+  place_put : (limit : Option Stamp) → IfSome limit (IsNewline cells) → option_and_then (place_of cells') limit ≡ option_map (moved_by at k) (option_and_then (place_of cells) limit)
   place_put None h = refl
   place_put (Some s) h =
       let none = none_new count site cells new s put.below put.real put.fresh (newline_among cells s h) in
       place_moved (take (after_element cells (left_of cells at)) cells) new (drop (after_element cells (left_of cells at)) cells) s at k cut.seen size none (cut.before s)
       ∙ ap (λ (l : List TaggedCell). option_map (moved_by at k) (place_of l s)) (take-append-drop (after_element cells (left_of cells at)) cells)
 
-  gone_put : (limit : Option Stamp) → is_newline_of cells limit ≡ true → gone_by cells' limit ≡ gone_by cells limit
+  gone_put : (limit : Option Stamp) → IfSome limit (IsNewline cells) → gone_by cells' limit ≡ gone_by cells limit
   gone_put None h = refl
   gone_put (Some s) h =
       let none = none_new count site cells new s put.below put.real put.fresh (newline_among cells s h) in
@@ -162,7 +163,7 @@ module _ (cells new : List TaggedCell) (count site at : ℕ) (put : ArePut cells
       ∙ ap (λ (l : List TaggedCell). cell_of l s) (take-append-drop (after_element cells (left_of cells at)) cells))
 
   -- both sides of the end of the new characters are shown as the places of the limits say
-  pub sides_put : (limits : Limits) → are_newlines cells limits ≡ true → 1 ≤ k → (stretch_of cells limits).begin ≤ at → at < (stretch_of cells limits).end
+  pub sides_put : (limits : Limits) → AreNewlines cells limits → 1 ≤ k → (stretch_of cells limits).begin ≤ at → at < (stretch_of cells limits).end
       → (nat_lt (stretch_of cells' limits).begin (at + k) && nat_lt (at + k) (stretch_of cells' limits).end)
       ≡ are_sides_shown (option_and_then (place_of cells) limits.start) (option_and_then (place_of cells) limits.end) at (text_of new)
   sides_put limits valid some low high =
@@ -171,16 +172,15 @@ module _ (cells new : List TaggedCell) (count site at : ℕ) (put : ArePut cells
       let p = option_and_then (place_of cells) limits.start in
       let q = option_and_then (place_of cells) limits.end in
       let gone = gone_by cells limits.start in
-      let both = and_parts (is_newline_of cells limits.start) (is_newline_of cells limits.end) valid in
       let many : length u ≡ k = there_counted count site new put.fresh in
       let ends = ends_text cells put.ends in
       let last : last_line cells' limits ≡ last_at (put_in at u t) (option_map (moved_by at (length u)) q) =
-      last_by cells' limits ∙ (λ i. last_at (text_put i) (place_put limits.end both.1 i)) ∙ ap (λ x. last_at (put_in at u t) (option_map (moved_by at x) q)) (sym many) in
+      last_by cells' limits ∙ (λ i. last_at (text_put i) (place_put limits.end valid.1 i)) ∙ ap (λ x. last_at (put_in at u t) (option_map (moved_by at x) q)) (sym many) in
       let first : first_line cells' limits ≡ first_at (put_in at u t) (option_map (moved_by at (length u)) p) gone (last_at (put_in at u t) (option_map (moved_by at (length u)) q)) =
       (λ i. min (start_by cells' limits.start i) (last i))
-      ∙ (λ i. first_at (text_put i) (place_put limits.start both.0 i) (gone_put limits.start both.0 i) (last_at (put_in at u t) (option_map (moved_by at (length u)) q)))
+      ∙ (λ i. first_at (text_put i) (place_put limits.start valid.0 i) (gone_put limits.start valid.0 i) (last_at (put_in at u t) (option_map (moved_by at (length u)) q)))
       ∙ ap (λ x. first_at (put_in at u t) (option_map (moved_by at x) p) gone (last_at (put_in at u t) (option_map (moved_by at (length u)) q))) (sym many) in
       let begin : line_start t (first_at t p gone (last_at t q)) ≤ at = subst (λ x. line_start t x ≤ at) (first_by cells limits) low in
       let end : at < line_end t (last_at t q) + 1 = subst (λ x. at < line_end t x + 1) (last_by cells limits) high in
       (λ i. nat_lt (line_start (text_put i) (first i)) (at + sym many i) && nat_lt (at + sym many i) (line_end (text_put i) (last i) + 1))
-      ∙ both_sides t u at p q gone ends put.within (omega (arith, many, some)) (newline_at cells limits.start both.0) (place_below cells limits.end put.ends) begin end
+      ∙ both_sides t u at p q gone ends put.within (omega (arith, many, some)) (newline_at cells limits.start valid.0) (place_below cells limits.end put.ends) begin end

@@ -23,7 +23,6 @@ use Rattle.rt_requests.specs.declared.comparison.Comparison.{Comparison}
 use Rattle.rt_requests.specs.declared.measure.Measure.{Measure}
 use Rattle.rt_text.specs.Comparisons.{holds_of}
 use Rattle.rt_text.specs.Distances.{or_indices, distance_of}
-use Rattle.rt_text.specs.Neighbours.{limits_in}
 use Rattle.rt_text.specs.Index.{index_check, place_at_index}
 use Rattle.rt_text.specs.Ranges.{text_between, texts_of, ranges_of}
 use Rattle.rt_edits.specs.Removals.{cells_at, is_covered, stamps_at}
@@ -61,12 +60,12 @@ abbrev pub none_inserted : Viewed → Insertion
 none_inserted view = record { cells = []; count = view.doc.count; sel = view.own.sel; others = selections_of view.others; tags = view.doc.tags }
 
 -- the stretch that the widget shows once the pieces stand before the character at a place: where the newline of a limit is gone, one
--- of theirs may be the nearer; the limits are those of the text as it was
+-- of theirs may be the nearer
 abbrev pub stretch_with : Viewed → ℕ → List Piece → Stretch
 stretch_with view place pieces =
     let flat = view.doc in
     let new = with_pieces flat.site pieces (none_inserted view) in
-    stretch_of (put_after flat.cells (left_of flat.cells (in_text view place)) new.cells) (limits_in flat.cells view.own.limits)
+    stretch_of (put_after flat.cells (left_of flat.cells (in_text view place)) new.cells) view.own.limits
 
 -- the right neighbour of characters without a list, behind the pieces: none where the widget then no longer shows both neighbours
 abbrev pub right_behind : Viewed → ℕ → List Piece → Option TaggedCell

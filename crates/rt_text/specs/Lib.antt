@@ -2,6 +2,7 @@ pub mod Accepted
 pub mod Changes
 pub mod Commands
 pub mod Comparisons
+pub mod Cursors
 pub mod Distances
 pub mod Grounds
 pub mod Index

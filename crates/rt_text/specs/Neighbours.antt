@@ -1,29 +1,15 @@
 -- What a widget still shows beside new characters, by the places of the newlines that limit it.
-use Rattle.std.specs.Prelude.{ℕ, ◌&&◌, not, nat_le, nat_lt, Bool, true, false, List, [], ◌∷◌, flat_map, Option, None, Some, option_and_then, option_map, unwrap_or, if◌then◌else◌}
+use Rattle.std.specs.Prelude.{ℕ, ◌&&◌, not, nat_le, nat_lt, Bool, false, List, [], ◌∷◌, flat_map, Option, None, Some, option_and_then, option_map}
 use Rattle.std.specs.List.{list_any}
 use Rattle.std.specs.Str.{chars}
 use Rattle.rt_marks.specs.Marks.{place_left}
 use Rattle.rt_stamps.specs.declared.stamp.Stamp.{Stamp}
 use Rattle.rt_stamps.specs.Places.{is_newline}
 use Rattle.rt_store.specs.declared.cell.Cell.{Cell}
-use Rattle.rt_store.specs.Cells.{cell_of}
 use Rattle.rt_edits.specs.Insertions.{Piece}
-use Rattle.rt_views.specs.declared.limits.Limits.{Limits}
-use Rattle.rt_views.specs.Limits.{no_limits, place_of}
+use Rattle.rt_views.specs.Limits.{place_of}
 
--- LIMITS OF A TEXT
-
--- a limit is none, or a newline of the text, gone or not
-abbrev pub is_newline_of : {T : Type 0} → List (Cell T) → Option Stamp → Bool
-is_newline_of cells None = true
-is_newline_of cells (Some stamp) = unwrap_or (option_map (λ cell. is_newline cell.ch) (cell_of cells stamp)) false
-
-abbrev pub are_newlines : {T : Type 0} → List (Cell T) → Limits → Bool
-are_newlines cells limits = is_newline_of cells limits.start && is_newline_of cells limits.end
-
--- the limits that a text knows: stamps of anything else limit nothing
-abbrev pub limits_in : {T : Type 0} → List (Cell T) → Limits → Limits
-limits_in cells limits = if are_newlines cells limits then limits else no_limits
+-- LIMITS
 
 -- the place of a limit's newline in what is left of the text
 abbrev pub limit_left : {T : Type 0} → (ℕ → Bool) → List (Cell T) → Option Stamp → Option ℕ

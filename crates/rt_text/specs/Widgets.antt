@@ -9,7 +9,7 @@ use Rattle.rt_marks.specs.Marks.{Mark, IsName, named, in_order, with_mark, mark_
 use Rattle.rt_stamps.specs.declared.stamp.Stamp.{Stamp}
 use Rattle.rt_stamps.specs.declared.stamp.TheConstants.{FINAL}
 use Rattle.rt_stamps.specs.Words.{Word}
-use Rattle.rt_store.specs.Cells.{visible_of}
+use Rattle.rt_store.specs.Cells.{text_of, visible_of}
 use Rattle.rt_store.specs.Tagged.{next_place, last_place}
 use Rattle.rt_tags.specs.States.{is_on}
 use Rattle.rt_tags.specs.Tags.{sel, is_listed}
@@ -22,6 +22,7 @@ use Rattle.rt_store.specs.Spans.{is_among}
 use Rattle.rt_views.specs.declared.limits.Limits.{Limits}
 use Rattle.rt_views.specs.declared.stretch.Stretch.{Stretch}
 use Rattle.rt_views.specs.Limits.{no_limits}
+use Rattle.rt_views.specs.Ordered.{AreInOrder}
 use Rattle.rt_views.specs.Stretches.{part, seen_cursor, seen_place, stretch_of}
 
 -- OWN MARKS
@@ -102,10 +103,12 @@ pub record IsOwnOf (n : ℕ) (own : Own) : Type 0 where
   pub insert_name : own.insert.name ≡ codes "insert"
   pub current_name : own.current.name ≡ codes "current"
 
--- the same of the widget that commands and of the others
-pub record AreOwnOf (n : ℕ) (first : Own) (rest : List Own) : Type 0 where
-  pub own : IsOwnOf n first
-  pub others : AllByRecursion (IsOwnOf n) rest
+-- What is so of the cells of a document and its site's widgets, the one that commands first: the own marks of each stand in the text,
+-- and its limits are none or newlines, gone or not, that at the start before the one at the end.
+pub record AreWidgetsOf (cells : List TaggedCell) (first : Own) (rest : List Own) : Type 0 where
+  pub own : IsOwnOf (length (text_of cells)) first
+  pub others : AllByRecursion (IsOwnOf (length (text_of cells))) rest
+  pub limits : AllByRecursion (AreInOrder cells) (map (λ own. own.limits) (first ∷ rest))
 
 -- ALL MARKS OF A WIDGET
 
@@ -136,6 +139,10 @@ pub record Viewed : Type 0 where
   pub others : List Own
 
 -- EACH WIDGET OF A SITE
+
+-- the limits of each widget, those of the one that commands first
+abbrev pub limits_of : Viewed → List Limits
+limits_of view = map (λ own. own.limits) (view.own ∷ view.others)
 
 -- each of them by one rule
 abbrev pub each_widget : (Own → Own) → Viewed → Viewed

@@ -1,5 +1,5 @@
 // The neighbours of text that is inserted, as a widget shows them.
-ghost use Rattle.std.specs.Prelude.{◌≡◌, ◌==◌, ◌≤◌, ◌<◌, ◌||◌, [], All, IfSome, None, not, length, option_map, slice_get, unwrap_or, if◌then◌else◌};
+ghost use Rattle.std.specs.Prelude.{◌≡◌, ◌==◌, ◌≤◌, ◌<◌, [], All, IfSome, None, length, option_map, slice_get, unwrap_or, if◌then◌else◌};
 ghost use Rattle.std.specs.List.{list_any};
 ghost use Rattle.std.specs.Str.{chars};
 ghost use Rattle.rt_marks.specs.Marks.{place_left};
@@ -11,7 +11,7 @@ ghost use Rattle.rt_store.specs.Tagged.{AreStates};
 ghost use Rattle.rt_tags.specs.States.{IsState, TagStates};
 ghost use Rattle.rt_edits.specs.Insertions.{left_neighbour, right_neighbour};
 ghost use Rattle.rt_edits.specs.Removals.{AreInOrder, gone_at, is_covered};
-ghost use Rattle.rt_text.specs.Neighbours.{are_newlines, are_sides_shown, ends_behind, ends_with_newline, is_ahead, is_behind, is_newline_of, limit_left, pieces_text};
+ghost use Rattle.rt_text.specs.Neighbours.{are_sides_shown, ends_behind, ends_with_newline, is_ahead, is_behind, limit_left, pieces_text};
 
 use crate::staying::{place_after, right_after};
 use rt_edits::{Piece, Range};
@@ -41,20 +41,6 @@ pub(crate) fn stamp_or_root(left: &Option<Cell<StateId>>) -> Stamp
     match left {
         Some(cell) => cell.stamp,
         None => ROOT,
-    }
-}
-
-// Whether a limit is none, or a newline of the text, gone or not.
-#[inline(always)]
-fn is_newline_of<S: TextStore>(store: &S, limit: Option<Stamp>) -> bool
-    ensures { result ≡ is_newline_of (S.list store.now) limit }
-{
-    let Some(stamp) = limit else {
-        return true;
-    };
-    match store.cell_of(stamp) {
-        Some(cell) => cell.ch == '\n',
-        None => false,
     }
 }
 
@@ -140,13 +126,9 @@ pub(crate) fn shows_both<S: TextStore>(
     pieces: &[Piece],
 ) -> bool
     requires { AreInOrder 0 removed.now }
-    ensures { result ≡ (not (are_newlines (S.list store.now) limits)
-        || are_sides_shown (limit_left (is_covered removed.now) (S.list store.now) limits.start)
-        (limit_left (is_covered removed.now) (S.list store.now) limits.end) at (pieces_text pieces.now)) }
+    ensures { result ≡ are_sides_shown (limit_left (is_covered removed.now) (S.list store.now) limits.start)
+        (limit_left (is_covered removed.now) (S.list store.now) limits.end) at (pieces_text pieces.now) }
 {
-    if !is_newline_of(store, limits.start) || !is_newline_of(store, limits.end) {
-        return true;
-    }
     let start = limit_left(store, removed, limits.start);
     let end = limit_left(store, removed, limits.end);
     let begins_there = is_behind(at, start) && end_with_newline(pieces);
@@ -172,8 +154,7 @@ pub(crate) fn shown_at<S: TextStore>(
     pieces: &[Piece],
 ) -> Option<Cell<StateId>>
     requires { at < length (visible_of (S.list store.now)) }
-    ensures { result ≡ (if not (are_newlines (S.list store.now) limits)
-        || are_sides_shown (limit_left (is_covered []) (S.list store.now) limits.start)
+    ensures { result ≡ (if are_sides_shown (limit_left (is_covered []) (S.list store.now) limits.start)
         (limit_left (is_covered []) (S.list store.now) limits.end) at (pieces_text pieces.now)
         then slice_get (visible_of (S.list store.now)) at else None) }
 {
@@ -198,8 +179,7 @@ pub(crate) fn shown_after<S: TextStore>(
     requires place { at < place_left (is_covered removed.now) (length (visible_of (S.list store.now))) }
     requires within { All (λ range. range.to ≤ length (visible_of (S.list store.now))) removed.now }
     requires few { length (visible_of (S.list store.now)) ≤ MOST_CELLS }
-    ensures is { result ≡ (if not (are_newlines (S.list store.now) limits)
-        || are_sides_shown (limit_left (is_covered removed.now) (S.list store.now) limits.start)
+    ensures is { result ≡ (if are_sides_shown (limit_left (is_covered removed.now) (S.list store.now) limits.start)
         (limit_left (is_covered removed.now) (S.list store.now) limits.end) at (pieces_text pieces.now)
         then (if held then None else right_neighbour (visible_of (gone_at (is_covered removed.now) 0 (S.list store.now))) at) else None) }
     ensures given { (table : TagStates) → AreStates table (S.list store.now) → IfSome result (λ cell. IsState table cell.state) }

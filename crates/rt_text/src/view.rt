@@ -4,9 +4,11 @@ ghost use Rattle.std.specs.List.{AllByRecursion, remove};
 ghost use Rattle.rt_stamps.specs.declared.limits.TheConstants.{MOST_CELLS};
 ghost use Rattle.rt_store.specs.Cells.{final_cell, text_of};
 ghost use Rattle.rt_edits.specs.Flat.{new_flat};
-ghost use Rattle.rt_text.specs.Widgets.{IsOwnOf, new_own};
+ghost use Rattle.rt_text.specs.Widgets.{IsOwnOf, limits_of, new_own};
+ghost use Rattle.rt_views.specs.Ordered.{AreInOrder};
 
 mod accepting;
+mod cursors;
 mod editing;
 mod lending;
 mod limiting;
@@ -47,16 +49,15 @@ impl<S: TextStore> Drop for View<S> {
 }
 
 impl<S: TextStore> Model for View<S> {
-    ghost use Rattle.std.specs.Prelude.{length, map};
-    ghost use Rattle.rt_store.specs.Cells.{text_of};
+    ghost use Rattle.std.specs.Prelude.{map};
     ghost use Rattle.rt_text.specs.Parts.{own_in};
-    ghost use Rattle.rt_text.specs.Widgets.{AreOwnOf, Viewed};
+    ghost use Rattle.rt_text.specs.Widgets.{AreWidgetsOf, Viewed};
 
     ghost Value = { Viewed };
 
     ghost view = { λ v. record { doc = v.doc; own = v.widget; others = map own_in v.others.items } };
 
-    ghost invariant = { λ v. AreOwnOf (length (text_of v.doc.cells)) v.widget (map own_in v.others.items) };
+    ghost invariant = { λ v. AreWidgetsOf v.doc.cells v.widget (map own_in v.others.items) };
 }
 
 impl<S: TextStore> View<S> {
@@ -69,20 +70,12 @@ impl<S: TextStore> View<S> {
         ensures err { IsOkUnless result Fault.NoMemory }
     {
         let doc = Doc::new(alloc, store, site, limit)?;
-        Ok(View::of(alloc, doc, Widget::new(alloc)))
-    }
-
-    /// A document as the only widget of its site shows it.
-    pub fn of(alloc: Global, doc: Doc<S>, widget: Widget) -> View<S>
-        requires { IsOwnOf (length (text_of doc.cells)) widget }
-        ensures { result ≡ record { doc = doc; own = widget; others = [] } }
-    {
-        View {
+        Ok(View {
             alloc,
             doc,
-            widget,
+            widget: Widget::new(alloc),
             others: Vec::new(alloc),
-        }
+        })
     }
 
     /// The document.
@@ -92,10 +85,12 @@ impl<S: TextStore> View<S> {
         &self.doc
     }
 
-    /// The widget.
+    /// The widget. The limits of each widget of the site are none or newlines of the text, gone or not, that at the start
+    /// before the one at the end.
     pub fn widget(&self) -> &Widget
         ensures own { result.now ≡ self.now.own }
         ensures stands { IsOwnOf (length (text_of self.now.doc.cells)) self.now.own }
+        ensures limits { AllByRecursion (AreInOrder self.now.doc.cells) (limits_of self.now) }
     {
         &self.widget
     }

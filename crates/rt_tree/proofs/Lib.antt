@@ -6,6 +6,7 @@ mod Going
 mod Rising
 mod Texts
 mod CellLaws
+mod Onward
 mod Tallying
 mod Stands
 mod Standing

@@ -25,7 +25,7 @@ use crate::walk::Found;
 use rt_nodes::NodeId;
 use rt_spans::SpanMap;
 use rt_stamps::{FINAL, Fault, Span, Stamp};
-use rt_store::Cell;
+use rt_store::{Cell, CellRun};
 use rt_tags::StateId;
 use std::alloc::Global;
 
@@ -84,6 +84,22 @@ impl Home {
     {
         let offset = self.offset(stamp);
         cell_in(text, &self.run, offset)
+    }
+
+    // The cell itself, with the rest of the run up to a count.
+    pub(crate) fn run_from(self, text: &[char], stamp: Stamp, last: u64) -> CellRun
+        requires run { IsRun text.now self.run }
+        requires has { has self.run stamp ≡ true }
+        ensures cell { slice_get (run_cells text.now self.run) (stamp.count - self.run.first) ≡ Some result.cell }
+        ensures last { result.last ≡ min last (self.run.first + (self.run.len - 1)) }
+    {
+        let len = self.run.len as u64;
+        let end = self.run.first + (len - 1);
+        let cell = self.cell(text, stamp);
+        CellRun {
+            cell,
+            last: last.min(end),
+        }
     }
 
     // The same position, if the run doesn't begin with it.

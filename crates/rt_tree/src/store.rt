@@ -7,7 +7,7 @@ ghost use Rattle.rt_tree.specs.Trees.{Agrees};
 
 use crate::Tree;
 use rt_stamps::{Fault, Span, Stamp};
-use rt_store::{Cell, TextStore};
+use rt_store::{Cell, CellRun, TextStore};
 use rt_tags::{StateId, StateTable, TagId};
 use std::alloc::Global;
 
@@ -140,6 +140,10 @@ impl TextStore for TreeStore {
 
     fn cell_of(&self, stamp: Stamp) -> Option<Cell<StateId>> {
         self.tree.cell_of(stamp)
+    }
+
+    fn run_from(&self, stamp: Stamp, last: u64) -> Option<CellRun> {
+        self.tree.run_from(stamp, last)
     }
 
     fn place_of(&self, stamp: Stamp) -> Option<usize> {

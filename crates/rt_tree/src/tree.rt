@@ -10,6 +10,7 @@ ghost use Rattle.rt_tree.specs.Sharing.{AreBelowGreatest};
 ghost use Rattle.rt_tree.specs.Trees.{AreRight, HasOwn, final_run};
 
 mod changing;
+mod running;
 mod tagging;
 
 use crate::copy::copy;

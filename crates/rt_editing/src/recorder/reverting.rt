@@ -12,7 +12,7 @@ ghost use Rattle.rt_editing.specs.Naming.{AreGiven, named_group};
 ghost use Rattle.rt_editing.specs.Recordings.{HaveStayed, came_back};
 ghost use Rattle.rt_editing.specs.Returns.{AreReturns, IsOther, back_after, stamp_after};
 ghost use Rattle.rt_editing.specs.Reversals.{redone, undone};
-ghost use Rattle.rt_editing.specs.Settled.{AreGoneOnce, AreInOrder, IsSettled, is_gone, limits_of, taken_by};
+ghost use Rattle.rt_editing.specs.Settled.{AreGoneOnce, IsSettled, is_gone, taken_by};
 
 use super::Recorder;
 use crate::counting::most_returns;
@@ -53,8 +53,6 @@ impl Recorder {
             → AreGoneOnce view.old.doc.cells (taken_by (named_group self.old.table (group_of group.now)) ++ others)
             → AreGoneOnce view.new.doc.cells (map (stamp_after r.returns.items) others
             ++ taken_by (named_group self.new.table (group_of r.actions.items)))) }
-        ensures limits { OnOk result (AllByRecursion (AreInOrder view.old.doc.cells) (limits_of view.old)
-            → AllByRecursion (AreInOrder view.new.doc.cells) (limits_of view.new)) }
         ensures ready { OnOk result (self.new.ready ≡ true) }
         ensures room { IfOk result (λ r. length r.returns.items ≤ self.new.moves.room) }
         ensures history { self.new.history ≡ self.old.history }

@@ -7,7 +7,8 @@ ghost use Rattle.rt_rga.specs.Histories.{IsHistory, greatest_last_count};
 ghost use Rattle.rt_rga.specs.Taken.{IsChange};
 ghost use Rattle.rt_text.specs.Accepted.{answer_of};
 ghost use Rattle.rt_editing.specs.Edits.{text_with_new};
-ghost use Rattle.rt_editing.specs.Settled.{AreInOrder, limits_of};
+ghost use Rattle.rt_text.specs.Widgets.{limits_of};
+ghost use Rattle.rt_views.specs.Ordered.{AreInOrder};
 
 use super::EditedText;
 use rt_holding::Taking;

@@ -40,7 +40,6 @@ impl EditedText {
     {
         let start = choice_of(settings.start_line);
         let end = choice_of(settings.end_line);
-        let _ = self.viewer.log();
         self.viewer.set_lines(start, end)?;
         self.set_options(settings.shared);
         Ok(no_words(self.alloc))

@@ -1,5 +1,5 @@
 // The widgets that show the text.
-ghost use Rattle.std.specs.Prelude.{◌≡◌, ◌<◌, Ok, IfErr, OnErr, OnOk, length};
+ghost use Rattle.std.specs.Prelude.{◌≡◌, ◌<◌, Ok, IfErr, OnErr, OnOk, Some, length, option_map, slice_get};
 ghost use Rattle.rt_stamps.specs.Outcomes.{Refuses};
 ghost use Rattle.rt_peers.specs.Peers.{text_led, view_without, widgets_of};
 ghost use Rattle.rt_peers.specs.PeerStep.{text_with_peer};
@@ -8,6 +8,7 @@ use super::EditedText;
 use crate::choices::choice_of;
 use rt_peer_requests::WidgetSettings;
 use rt_stamps::Fault;
+use rt_views::Limits;
 
 impl EditedText {
     /// Lets the widget at a place command: it and the first one change places. It takes no memory.
@@ -16,6 +17,19 @@ impl EditedText {
         ensures { self.new ≡ text_led place self.old }
     {
         self.viewer.lead(place);
+    }
+
+    /// The limits of the widget at a place.
+    pub(crate) fn limits_at(&self, place: usize) -> Limits
+        requires { place < length (widgets_of self.now.view) }
+        ensures { option_map (λ own. own.limits) (slice_get (widgets_of self.now.view) place) ≡ Some result }
+    {
+        let view = self.view();
+        if place == 0 {
+            view.widget().limits()
+        } else {
+            view.other_limits(place - 1)
+        }
     }
 
     // Adds a new widget behind the others, which the first one makes, with options. `BadView`, or want of memory, and then
@@ -27,7 +41,6 @@ impl EditedText {
     {
         let start = choice_of(settings.start_line);
         let end = choice_of(settings.end_line);
-        let _ = self.viewer.log();
         self.viewer.add_peer(start, end)?;
         self.set_options(settings.shared);
         Ok(())

@@ -1,6 +1,8 @@
 // What is asked of the undo mechanism.
+ghost use Rattle.std.specs.Prelude.{◌≡◌};
 ghost use Rattle.rt_stamps.specs.Outcomes.{Answers};
-ghost use Rattle.rt_peers.specs.Step.{edit_step};
+ghost use Rattle.rt_undo.specs.Undo.{is_modified};
+ghost use Rattle.rt_peers.specs.Step.{can_redo, can_undo, edit_step};
 
 use super::EditedText;
 use crate::replies::{no_words, truth};
@@ -9,6 +11,27 @@ use rt_requests::EditRequest;
 use rt_stamps::Fault;
 
 impl EditedText {
+    /// Whether edits are recorded and there is a group to undo.
+    pub(crate) fn can_undo(&self) -> bool
+        ensures { result ≡ can_undo self.now }
+    {
+        self.recorder.is_undo_on() && self.recorder.can_undo()
+    }
+
+    /// Whether edits are recorded and there is a group to redo.
+    pub(crate) fn can_redo(&self) -> bool
+        ensures { result ≡ can_redo self.now }
+    {
+        self.recorder.is_undo_on() && self.recorder.can_redo()
+    }
+
+    /// The modified flag.
+    pub(crate) fn is_modified(&self) -> bool
+        ensures { result ≡ is_modified self.now.history }
+    {
+        self.recorder.modified()
+    }
+
     // What is asked of the undo mechanism.
     pub(super) fn edit(&mut self, request: EditRequest) -> Result<Reply, Fault>
         ensures { Answers (edit_step self.old request) self.old result self.new }
@@ -24,15 +47,9 @@ impl EditedText {
                 self.recorder.reset();
                 Ok(no_words(self.alloc))
             }
-            EditRequest::CanUndo => truth(
-                self.alloc,
-                self.recorder.is_undo_on() && self.recorder.can_undo(),
-            ),
-            EditRequest::CanRedo => truth(
-                self.alloc,
-                self.recorder.is_undo_on() && self.recorder.can_redo(),
-            ),
-            EditRequest::Modified => truth(self.alloc, self.recorder.modified()),
+            EditRequest::CanUndo => truth(self.alloc, self.can_undo()),
+            EditRequest::CanRedo => truth(self.alloc, self.can_redo()),
+            EditRequest::Modified => truth(self.alloc, self.is_modified()),
             EditRequest::SetModified { modified } => {
                 self.recorder.set_modified(modified)?;
                 Ok(no_words(self.alloc))

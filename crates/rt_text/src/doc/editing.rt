@@ -18,6 +18,7 @@ ghost use Rattle.rt_text.specs.Commands.{cell_check, clock_check, none_inserted,
 ghost use Rattle.rt_edits.specs.DeletionLaws.{IsPiece};
 ghost use Rattle.rt_text.specs.Parts.{own_in};
 ghost use Rattle.std.specs.List.{AllByRecursion};
+ghost use Rattle.rt_views.specs.Ordered.{AreInOrder};
 ghost use Rattle.rt_views.specs.Stretches.{shown_part, stretch_of};
 
 use super::Doc;
@@ -52,6 +53,7 @@ impl<S: TextStore> Doc<S> {
     ) -> (&StateTable, Gap)
         requires stretch { stretch ≡ stretch_of self.now.cells widget.now.limits }
         requires place { place < length (shown_part self.now.cells widget.now.limits) }
+        requires order { AreInOrder self.now.cells widget.now.limits }
         ensures left { IfSome result.1.left (λ cell. IsState result.0.now cell.state) }
         ensures right { IfSome result.1.right (λ cell. IsState result.0.now cell.state) }
         ensures after { IfSome result.1.left (λ cell. result.1.after ≡ cell.stamp) }
@@ -84,6 +86,7 @@ impl<S: TextStore> Doc<S> {
     ) -> Result<Plan, Fault>
         requires stretch { stretch ≡ stretch_of self.now.cells widget.now.limits }
         requires place { place < length (shown_part self.now.cells widget.now.limits) }
+        requires order { AreInOrder self.now.cells widget.now.limits }
         ensures drafts { IfOk result (λ plan. (others : List Own)
             → map body_of (items_in plan.drafts) ≡ drafts_at (record { doc = self.now; own = widget.now; others = others }) place pieces.now rest.now) }
         ensures plans { IfOk result (λ plan. (others : List Own) → Plans plan widget.now.sel (selections_of others) self.now.tags
@@ -117,6 +120,7 @@ impl<S: TextStore> Doc<S> {
     ) -> Option<Typed>
         requires stretch { stretch ≡ stretch_of self.now.cells widget.now.limits }
         requires place { place < length (shown_part self.now.cells widget.now.limits) }
+        requires order { AreInOrder self.now.cells widget.now.limits }
         ensures drafts { IfSome result (λ typed. (others : List Own) → let view : Viewed = record { doc = self.now; own = widget.now; others = others } in
             drafts_at view place pieces.now rest.now ≡ one_character typed.left typed.character) }
         ensures comes { IfSome result (λ typed. (others : List Own) → let view : Viewed = record { doc = self.now; own = widget.now; others = others } in
@@ -247,6 +251,7 @@ impl<S: TextStore> Doc<S> {
     ) -> Result<(), Fault>
         requires stretch { stretch ≡ stretch_of self.old.cells widget.old.limits }
         requires place { place < length (shown_part self.old.cells widget.old.limits) }
+        requires order { AreInOrder self.old.cells widget.old.limits }
         requires pieces { All IsPiece pieces.now }
         requires own { IsOwnOf (length (text_of self.old.cells)) widget.old }
         requires others { AllByRecursion (IsOwnOf (length (text_of self.old.cells))) (map own_in others.old) }
@@ -280,6 +285,7 @@ impl<S: TextStore> Doc<S> {
     ) -> Result<(), Fault>
         requires stretch { stretch ≡ stretch_of self.old.cells widget.old.limits }
         requires place { place < length (shown_part self.old.cells widget.old.limits) }
+        requires order { AreInOrder self.old.cells widget.old.limits }
         requires pieces { All IsPiece pieces.now }
         requires own { IsOwnOf (length (text_of self.old.cells)) widget.old }
         requires others { AllByRecursion (IsOwnOf (length (text_of self.old.cells))) (map own_in others.old) }

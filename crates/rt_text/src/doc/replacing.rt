@@ -11,6 +11,7 @@ ghost use Rattle.rt_edits.specs.Deletions.{without_text};
 ghost use Rattle.rt_edits.specs.Removals.{AreInOrder, is_covered};
 ghost use Rattle.rt_text.specs.Parts.{own_in};
 ghost use Rattle.std.specs.List.{AllByRecursion};
+ghost use Rattle.rt_views.specs.Ordered.{AreInOrder as LimitsAreInOrder};
 
 use super::Doc;
 use crate::Widget;
@@ -76,6 +77,7 @@ impl<S: TextStore> Doc<S> {
         pieces: &[Piece],
         rest: &str,
     ) -> Result<Replacement, Fault>
+        requires { LimitsAreInOrder self.now.cells widget.now.limits }
         ensures plans { IfOk result (λ r. (others : List Own)
             → PlansReplacement (record { doc = self.now; own = widget.now; others = others }) range pieces.now rest.now r) }
         ensures removed { let view : Viewed = record { doc = self.now; own = widget.now; others = [] } in
@@ -134,6 +136,7 @@ impl<S: TextStore> Doc<S> {
         rest: &str,
     ) -> Result<(), Fault>
         requires pieces { All IsPiece pieces.now }
+        requires order { LimitsAreInOrder self.old.cells widget.old.limits }
         requires own { IsOwnOf (length (text_of self.old.cells)) widget.old }
         requires others { AllByRecursion (IsOwnOf (length (text_of self.old.cells))) (map own_in others.old) }
         ensures ok { let view : Viewed = record { doc = self.old; own = widget.old; others = map own_in others.old } in

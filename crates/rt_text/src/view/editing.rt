@@ -28,15 +28,18 @@ impl<S: TextStore> View<S> {
         check_names(pieces)?;
         let (place, stretch) = self.place_within(index)?;
         let place = place.min(stretch.end - stretch.begin - 1);
+        let _ = self.doc.kept();
         self.doc.focus(stretch.begin + place);
-        self.doc.insert_at(
+        let done = self.doc.insert_at(
             &mut self.widget,
             &mut self.others,
             stretch,
             place,
             pieces,
             rest,
-        )
+        );
+        let _ = self.doc.log();
+        done
     }
 
     /// `delete INDEX ?INDEX ...?` (Tk text manual): removes the characters in the ranges that the
@@ -52,7 +55,11 @@ impl<S: TextStore> View<S> {
         ensures unchanged { OnErr result (self.new ≡ self.old) }
     {
         let ranges = self.ranges(indices)?;
-        self.doc
-            .delete_in(&mut self.widget, &mut self.others, &ranges)
+        let _ = self.doc.kept();
+        let done = self
+            .doc
+            .delete_in(&mut self.widget, &mut self.others, &ranges);
+        let _ = self.doc.log();
+        done
     }
 }

@@ -65,7 +65,9 @@ impl<S: TextStore> View<S> {
         if name == "sel" {
             return self.widget.select(self.alloc, store, &ranges, on);
         }
-        self.doc.write_shared(on, name, &ranges)
+        let done = self.doc.write_shared(on, name, &ranges);
+        let _ = self.doc.log();
+        done
     }
 
     /// Takes tags off all characters of the whole text, and lists them no longer ("tag delete"); `sel`
@@ -78,7 +80,10 @@ impl<S: TextStore> View<S> {
             ⊎ (clock_check (with_tags_deleted self.old (as_words names.now)).doc.count ≡ Some fault)) }
         ensures unchanged { OnErr result (self.new ≡ self.old) }
     {
-        self.doc.delete_tags(names)
+        let _ = self.doc.kept();
+        let done = self.doc.delete_tags(names);
+        let _ = self.doc.log();
+        done
     }
 
     /// Raises a tag just above another, or above all ("tag raise"). `NoTag` just where one of them

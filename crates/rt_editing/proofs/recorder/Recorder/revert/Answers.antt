@@ -15,10 +15,10 @@ use Rattle.rt_text.specs.Widgets.{Viewed}
 use Rattle.rt_editing.specs.Naming.{HistoryIsGiven, named_group, named_history}
 use Rattle.rt_editing.specs.Recordings.{HaveStayed, Recording, came_back}
 use Rattle.rt_editing.specs.Returns.{AreReturns, IsOther, Return, back_after, stamp_after}
-use Rattle.rt_editing.specs.Settled.{AreGoneOnce, AreInOrder, is_gone, limits_of, taken_by}
+use Rattle.rt_editing.specs.Settled.{AreGoneOnce, is_gone, taken_by}
 use Rattle.rt_editing.proofs.Counted.{count_named, reversion_few}
 use Rattle.rt_editing.proofs.Named.{history_kept, history_stays}
-use Rattle.rt_editing.proofs.Settling.{if_both, if_checked, on_both, on_weaker, once_told, order_told, told}
+use Rattle.rt_editing.proofs.Settling.{if_both, if_checked, on_both, once_told, told}
 use Rattle.rt_editing.proofs.Told.{IsReturned}
 use Rattle.rt_editing.proofs.recorder.Recorder.revert.Given.{Over}
 use Rattle.rt_editing.proofs.recorder.Recorder.revert.Goals as goal
@@ -57,23 +57,6 @@ once_here g c checked others once =
     (subst (λ (d : Flat). d.count ≡ greatest_last_count d.log) c.doc.ensures c.log.ensures.count)
     (subst (λ (v : Recording). AreSound (named_group v.table group)) (sym c.self.view_is) c.requires.sound)
     checked once
-
--- and that limits are in their order
-order_here : (g : Over) (c : goal.After-revert g) → reversion_check c.args.view.now.doc (named_group c.self.inside.table (group_of c.args.group.now)) ≡ None
-    → AllByRecursion (AreInOrder c.args.view.now.doc.cells) (limits_of c.args.view.now)
-    → AllByRecursion (AreInOrder (view_reverted c.args.view.now (named_group c.self.inside.table (group_of c.args.group.now))).doc.cells)
-    (limits_of (view_reverted c.args.view.now (named_group c.self.inside.table (group_of c.args.group.now))))
-order_here g c checked o =
-    let s = c.self.inside in
-    let view = c.args.view.now in
-    let group = group_of c.args.group.now in
-    order_told view (named_group s.table group) c.site.result.number c.site.result.positive
-    (c.site.ensures ∙ ap (λ (d : Flat). d.site) c.doc-2.ensures)
-    (subst (λ (d : Flat). IsHistory d.log) c.doc.ensures c.log.ensures.history)
-    (subst (λ (d : Flat). d.cells ≡ cells_of d.log) c.doc.ensures c.log.ensures.cells)
-    (subst (λ (d : Flat). d.count ≡ greatest_last_count d.log) c.doc.ensures c.log.ensures.count)
-    (subst (λ (v : Recording). AreSound (named_group v.table group)) (sym c.self.view_is) c.requires.sound)
-    checked o
 
 pub invariant_of-self-2 : goal.invariant_of-self-2
 invariant_of-self-2 g c =
@@ -171,14 +154,3 @@ returns-clause-taken g c =
     (subst (λ (v : Viewed). AreGoneOnce v.doc.cells (map (stamp_after returns) others ++ taken_by (reverted_group flat group))) (sym both.1)
     (once_here g c both.0 others
     (subst (λ (v : Recording). AreGoneOnce flat.cells (taken_by (named_group v.table (group_of c.args.group.now)) ++ others)) (sym c.self.view_is) once)))))
-
-pub returns-clause-limits : goal.returns-clause-limits
-returns-clause-limits g c =
-    let s = c.self.inside in
-    let view = c.args.view.now in
-    let group = named_group s.table (group_of c.args.group.now) in
-    let C : Type 0 = reversion_check view.doc group ≡ None in
-    let V : Type 0 = c.revert.new.self ≡ view_reverted view group in
-    on_weaker (C × V) (AllByRecursion (AreInOrder view.doc.cells) (limits_of view) → AllByRecursion (AreInOrder c.revert.new.self.doc.cells) (limits_of c.revert.new.self)) c.revert.result
-    (on_both C V c.revert.result c.revert.ensures.checked c.revert.ensures.ok)
-    (λ both o. subst (λ (v : Viewed). AllByRecursion (AreInOrder v.doc.cells) (limits_of v)) (sym both.1) (order_here g c both.0 o))

@@ -31,5 +31,4 @@ returns-clause-settled g c =
       closed = after.closed;
       current = after.current;
       undone = after.undone;
-      limits = c.in_ok-returns.ensures.limits settled.limits;
     }

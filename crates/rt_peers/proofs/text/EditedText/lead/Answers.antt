@@ -1,4 +1,4 @@
-use Rattle.rt_peers.proofs.WidgetLimits.{settled_led}
+use Rattle.rt_peers.proofs.Growing.{settled_led}
 use Rattle.rt_peers.proofs.text.EditedText.lead.Goals as goal
 
 pub invariant_of-self : goal.invariant_of-self

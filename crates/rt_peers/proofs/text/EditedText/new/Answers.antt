@@ -1,13 +1,11 @@
-use Rattle.std.proofs.Common.{◌∙◌, ap, subst, sym}
+use Rattle.std.proofs.Common.{◌∙◌, subst, sym}
 use Rattle.std.specs.List.{AllByRecursion}
 use Rattle.std.proofs.lemmas.Result.{err_from_is_err_and}
 use Rattle.rt_stamps.specs.Words.{Word}
 use Rattle.std.specs.Prelude.{List}
 use Rattle.rt_revert.specs.ReversionLaws.{AreSound}
 use Rattle.rt_undo.specs.Undo.{History}
-use Rattle.rt_text.specs.Widgets.{Viewed}
 use Rattle.rt_peers.proofs.Growing.{none_taken}
-use Rattle.rt_peers.proofs.WidgetLimits.{none_at_first}
 use Rattle.rt_peers.proofs.text.EditedText.new.Goals as goal
 
 pub returns-in_err-recorder-clause-err : goal.returns-in_err-recorder-clause-err
@@ -24,7 +22,6 @@ invariant_of-result c =
       closed = subst (λ (h : History (List Word)). AllByRecursion AreSound h.closed) (sym none) tt;
       current = subst (λ (h : History (List Word)). AreSound h.current) (sym none) tt;
       undone = subst (λ (h : History (List Word)). AllByRecursion AreSound h.undone) (sym none) tt;
-      limits = none_at_first c.in_ok-viewer.viewer (ap (λ (v : Viewed). v.own.limits) c.in_ok-viewer.ensures.ok) (ap (λ (v : Viewed). v.others) c.in_ok-viewer.ensures.ok);
     }
 
 pub returns-in_err-viewer : goal.returns-in_err-viewer

@@ -1,4 +1,4 @@
-use Rattle.rt_peers.proofs.WidgetLimits.{settled_without}
+use Rattle.rt_peers.proofs.Growing.{settled_without}
 use Rattle.rt_peers.proofs.text.EditedText.remove_widget.Goals as goal
 
 pub invariant_of-self : goal.invariant_of-self

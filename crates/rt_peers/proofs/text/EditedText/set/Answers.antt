@@ -1,9 +1,8 @@
 use Rattle.std.proofs.Common.{subst, sym}
 use Rattle.rt_editing.specs.Settled.{IsSettled}
 use Rattle.rt_text.specs.Widgets.{Viewed}
-use Rattle.rt_editing.specs.Noting.{IsOfLog}
 use Rattle.rt_peers.proofs.OptionLaws.{limited_leaves}
-use Rattle.rt_peers.proofs.WidgetLimits.{limited_in_order, settled_with}
+use Rattle.rt_peers.proofs.Growing.{settled_with}
 use Rattle.rt_peers.proofs.text.EditedText.set.Goals as goal
 
 pub invariant_of-self : goal.invariant_of-self
@@ -12,9 +11,7 @@ invariant_of-self c = subst (λ (v : Viewed). IsSettled v c.self.inside.recorder
 pub invariant_of-self-2 : goal.invariant_of-self-2
 invariant_of-self-2 c =
     let view = c.self.inside.viewer in
-    let kept : IsOfLog view.doc = record { history = c.log.ensures.history; cells = c.log.ensures.cells; count = c.log.ensures.count } in
     let start = c.choice_of-start.result in
     let end = c.choice_of-end.result in
     let said = c.in_ok-set_lines.ensures.ok in
-    settled_with view c.set_lines.new.self c.self.inside.recorder (limited_leaves view c.set_lines.new.self start end said).0
-    (limited_in_order view c.set_lines.new.self start end kept c.self.invariant.limits said) c.self.invariant
+    settled_with view c.set_lines.new.self c.self.inside.recorder (limited_leaves view c.set_lines.new.self start end said).0 c.self.invariant

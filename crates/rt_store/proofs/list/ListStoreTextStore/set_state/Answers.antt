@@ -1,5 +1,3 @@
-use Rattle.std.proofs.Common.{◌≡◌, sym}
-use Rattle.rt_store.specs.Tagged.{AreStates}
 use Rattle.rt_store.proofs.GivenStates.{put_states}
 use Rattle.rt_store.proofs.list.ListStoreTextStore.set_state.Goals as goal
 

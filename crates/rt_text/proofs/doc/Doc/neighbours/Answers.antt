@@ -1,5 +1,5 @@
 use Rattle.std.proofs.Common.{◌≡◌, suc, ◌∙◌, ◌+◌, [], ap, arith, subst, sym, List}
-use Rattle.std.specs.Prelude.{◌||◌, IfSome, nat_eq, not, option_map, slice_get}
+use Rattle.std.specs.Prelude.{IfSome, nat_eq, option_map, slice_get}
 use Rattle.rt_stamps.specs.declared.stamp.Stamp.{Stamp}
 use Rattle.rt_store.specs.declared.cell.Cell.{Cell}
 use Rattle.rt_store.specs.Cells.{visible_of}
@@ -10,7 +10,7 @@ use Rattle.rt_edits.proofs.PlaceLaws.{length_text, text_within}
 use Rattle.rt_edits.proofs.RestLaws.{left_given}
 use Rattle.rt_views.specs.declared.stretch.Stretch.{Stretch}
 use Rattle.rt_views.specs.Stretches.{stretch_of}
-use Rattle.rt_text.specs.Neighbours.{are_newlines, are_sides_shown, limit_left, pieces_text}
+use Rattle.rt_text.specs.Neighbours.{are_sides_shown, limit_left, pieces_text}
 use Rattle.rt_text.specs.Widgets.{Own}
 use Rattle.rt_text.proofs.InsertedDocument.{drafts_are, new_is}
 use Rattle.rt_text.proofs.InsertedSides.{at_visible, element_is, found, given_if, given_not, place_is}
@@ -69,7 +69,7 @@ returns-clause-right g c =
     let limits = c.limits.result in
     let at = c.args.stretch.begin + c.args.place in
     given_if (λ cell. IsState table cell.state)
-    (not (are_newlines kept limits) || are_sides_shown (limit_left (is_covered []) kept limits.start) (limit_left (is_covered []) kept limits.end) at (pieces_text c.args.pieces.now)) (slice_get (visible_of kept) at) c.shown_at-right.result c.shown_at-right.ensures (left_given table kept (suc at) c.kept.ensures.states)
+    (are_sides_shown (limit_left (is_covered []) kept limits.start) (limit_left (is_covered []) kept limits.end) at (pieces_text c.args.pieces.now)) (slice_get (visible_of kept) at) c.shown_at-right.result c.shown_at-right.ensures (left_given table kept (suc at) c.kept.ensures.states)
 
 pub returns-clause-after : goal.returns-clause-after
 returns-clause-after g c =
@@ -89,7 +89,7 @@ returns-clause-drafts g c = λ others rest.
     let stretch = c.requires.stretch ∙ sym (stretch_kept table kept flat.cells own.limits c.kept.ensures.cells) ∙ ap (stretch_of kept) (sym limits) in
     drafts_are flat own others place pieces rest c.stamp_or_root-after.result (option_map (shown table) c.shown_before-left.result) (option_map (shown table) c.shown_at-right.result)
     (found table kept flat own others place pieces c.limits.result c.args.stretch c.left_of-behind.result c.shown_before-left.result c.shown_at-right.result c.stamp_or_root-after.result c.kept.ensures.cells is
-    limits stretch c.left_of-behind.ensures c.shown_before-left.ensures c.shown_at-right.ensures c.stamp_or_root-after.ensures)
+    (c.requires.order.start, c.requires.order.end) limits stretch c.left_of-behind.ensures c.shown_before-left.ensures c.shown_at-right.ensures c.stamp_or_root-after.ensures)
 
 pub returns-clause-comes : goal.returns-clause-comes
 returns-clause-comes g c = λ others rest.
@@ -104,4 +104,4 @@ returns-clause-comes g c = λ others rest.
     let stretch = c.requires.stretch ∙ sym (stretch_kept table kept flat.cells own.limits c.kept.ensures.cells) ∙ ap (stretch_of kept) (sym limits) in
     new_is flat own others place pieces rest c.stamp_or_root-after.result (option_map (shown table) c.shown_before-left.result) (option_map (shown table) c.shown_at-right.result)
     (found table kept flat own others place pieces c.limits.result c.args.stretch c.left_of-behind.result c.shown_before-left.result c.shown_at-right.result c.stamp_or_root-after.result c.kept.ensures.cells is
-    limits stretch c.left_of-behind.ensures c.shown_before-left.ensures c.shown_at-right.ensures c.stamp_or_root-after.ensures)
+    (c.requires.order.start, c.requires.order.end) limits stretch c.left_of-behind.ensures c.shown_before-left.ensures c.shown_at-right.ensures c.stamp_or_root-after.ensures)

@@ -1,4 +1,4 @@
-use Rattle.std.proofs.Common.{◌≡◌, ◌∙◌, ◌⊎◌, ◌+◌, ◌++◌, ◌-◌, ◌<◌, ◌≤◌, ◌||◌, All, [], ◌∷◌, cond, not, None, length, ap, arith, inl, inr, refl, subst, sym}
+use Rattle.std.proofs.Common.{◌≡◌, ◌∙◌, ◌⊎◌, ◌+◌, ◌++◌, ◌-◌, ◌<◌, ◌≤◌, All, [], ◌∷◌, cond, None, length, ap, arith, inl, inr, refl, subst, sym}
 use Rattle.std.specs.Prelude.{IfSome, is_some, nat_eq}
 use Rattle.std.proofs.lemmas.Result.{err_from_is_err_and}
 use Rattle.rt_stamps.specs.declared.limits.TheConstants.{GREATEST_COUNT}
@@ -14,7 +14,7 @@ use Rattle.rt_edits.specs.Insertions.{left_neighbour, right_neighbour}
 use Rattle.rt_edits.specs.Removals.{gone_at, is_covered, AreInOrder}
 use Rattle.rt_edits.specs.Selected.{selected_stamps}
 use Rattle.rt_views.specs.Stretches.{stretch_of}
-use Rattle.rt_text.specs.Neighbours.{are_newlines, are_sides_shown, limit_left, pieces_text}
+use Rattle.rt_text.specs.Neighbours.{are_sides_shown, limit_left, pieces_text}
 use Rattle.rt_text.specs.Widgets.{Own}
 use Rattle.rt_text.proofs.InsertedSides.{element_is, given_not}
 use Rattle.rt_text.proofs.LimitedDeletions.{loss_of}
@@ -60,6 +60,7 @@ returns-in_err-count g c =
       real = c.kept.ensures.site;
       few = few_visible kept flat.limit c.kept.ensures.few c.kept.ensures.most;
       shows = c.stretch-stretch.ensures.value ∙ ap (stretch_of kept) c.limits.ensures;
+      known = (c.requires.start, c.requires.end);
     } in
     let d = c.in_ok-deletion.deletion in
     let removed = d.removed.items in
@@ -96,6 +97,7 @@ left_after-behind-requires-clause-place g c =
       real = c.kept.ensures.site;
       few = few_visible kept flat.limit c.kept.ensures.few c.kept.ensures.most;
       shows = c.stretch-stretch.ensures.value ∙ ap (stretch_of kept) c.limits.ensures;
+      known = (c.requires.start, c.requires.end);
     } in
     let d = c.in_ok-deletion.deletion in
     let removed = d.removed.items in
@@ -120,6 +122,7 @@ left_after-behind-requires-clause-within g c =
       real = c.kept.ensures.site;
       few = few_visible kept flat.limit c.kept.ensures.few c.kept.ensures.most;
       shows = c.stretch-stretch.ensures.value ∙ ap (stretch_of kept) c.limits.ensures;
+      known = (c.requires.start, c.requires.end);
     } in
     let d = c.in_ok-deletion.deletion in
     let removed = d.removed.items in
@@ -144,6 +147,7 @@ shown_after-right-requires-clause-place g c =
       real = c.kept.ensures.site;
       few = few_visible kept flat.limit c.kept.ensures.few c.kept.ensures.most;
       shows = c.stretch-stretch.ensures.value ∙ ap (stretch_of kept) c.limits.ensures;
+      known = (c.requires.start, c.requires.end);
     } in
     let d = c.in_ok-deletion.deletion in
     let removed = d.removed.items in
@@ -168,6 +172,7 @@ shown_after-right-requires-clause-within g c =
       real = c.kept.ensures.site;
       few = few_visible kept flat.limit c.kept.ensures.few c.kept.ensures.most;
       shows = c.stretch-stretch.ensures.value ∙ ap (stretch_of kept) c.limits.ensures;
+      known = (c.requires.start, c.requires.end);
     } in
     let d = c.in_ok-deletion.deletion in
     let removed = d.removed.items in
@@ -192,6 +197,7 @@ overflow_sub-at g c =
       real = c.kept.ensures.site;
       few = few_visible kept flat.limit c.kept.ensures.few c.kept.ensures.most;
       shows = c.stretch-stretch.ensures.value ∙ ap (stretch_of kept) c.limits.ensures;
+      known = (c.requires.start, c.requires.end);
     } in
     let d = c.in_ok-deletion.deletion in
     let removed = d.removed.items in
@@ -215,6 +221,7 @@ overflow_sub-both g c =
       real = c.kept.ensures.site;
       few = few_visible kept flat.limit c.kept.ensures.few c.kept.ensures.most;
       shows = c.stretch-stretch.ensures.value ∙ ap (stretch_of kept) c.limits.ensures;
+      known = (c.requires.start, c.requires.end);
     } in
     let d = c.in_ok-deletion.deletion in
     let removed = d.removed.items in
@@ -256,6 +263,7 @@ returns-in_err-plan g c =
       real = c.kept.ensures.site;
       few = few_visible kept flat.limit c.kept.ensures.few c.kept.ensures.most;
       shows = c.stretch-stretch.ensures.value ∙ ap (stretch_of kept) c.limits.ensures;
+      known = (c.requires.start, c.requires.end);
     } in
     let d = c.in_ok-deletion.deletion in
     let removed = d.removed.items in
@@ -288,7 +296,7 @@ returns-in_err-plan g c =
       after_is = c.stamp_or_root-after.ensures;
       left_is = c.shown_before-left.ensures;
       right_is = c.shown_after-right.ensures.is
-          ∙ ap (λ rs. cond (not (are_newlines kept limits) || are_sides_shown (limit_left (is_covered rs) kept limits.start) (limit_left (is_covered rs) kept limits.end) at (pieces_text pieces))
+          ∙ ap (λ rs. cond (are_sides_shown (limit_left (is_covered rs) kept limits.start) (limit_left (is_covered rs) kept limits.end) at (pieces_text pieces))
           (cond d.held None (right_neighbour (visible_of (gone_at (is_covered rs) 0 kept)) at)) None) c.deref-3.ensures.value;
     } in
     let (y, same, gives) = err_from_is_err_and c.from_residual-in_err-plan.result c.from_residual-in_err-plan.ensures.1 in
@@ -331,6 +339,7 @@ returns-clause-plans g c = λ others.
       real = c.kept.ensures.site;
       few = few_visible kept flat.limit c.kept.ensures.few c.kept.ensures.most;
       shows = c.stretch-stretch.ensures.value ∙ ap (stretch_of kept) c.limits.ensures;
+      known = (c.requires.start, c.requires.end);
     } in
     let d = c.in_ok-deletion.deletion in
     let removed = d.removed.items in
@@ -363,7 +372,7 @@ returns-clause-plans g c = λ others.
       after_is = c.stamp_or_root-after.ensures;
       left_is = c.shown_before-left.ensures;
       right_is = c.shown_after-right.ensures.is
-          ∙ ap (λ rs. cond (not (are_newlines kept limits) || are_sides_shown (limit_left (is_covered rs) kept limits.start) (limit_left (is_covered rs) kept limits.end) at (pieces_text pieces))
+          ∙ ap (λ rs. cond (are_sides_shown (limit_left (is_covered rs) kept limits.start) (limit_left (is_covered rs) kept limits.end) at (pieces_text pieces))
           (cond d.held None (right_neighbour (visible_of (gone_at (is_covered rs) 0 kept)) at)) None) c.deref-3.ensures.value;
     } in
     let plan =
@@ -390,6 +399,7 @@ returns-clause-removed g c = λ p.
       real = c.kept.ensures.site;
       few = few_visible kept flat.limit c.kept.ensures.few c.kept.ensures.most;
       shows = c.stretch-stretch.ensures.value ∙ ap (stretch_of kept) c.limits.ensures;
+      known = (c.requires.start, c.requires.end);
     } in
     let d = c.in_ok-deletion.deletion in
     let removed = d.removed.items in
@@ -411,6 +421,7 @@ returns-clause-held g c =
       real = c.kept.ensures.site;
       few = few_visible kept flat.limit c.kept.ensures.few c.kept.ensures.most;
       shows = c.stretch-stretch.ensures.value ∙ ap (stretch_of kept) c.limits.ensures;
+      known = (c.requires.start, c.requires.end);
     } in
     let d = c.in_ok-deletion.deletion in
     let removed = d.removed.items in
@@ -424,7 +435,7 @@ returns-clause-alone g c = λ k.
     let at = c.min-at.result in
     let rs = c.deref-3.result.now in
     c.in_ok-plan.ensures.alone
-    (none_held (not (are_newlines kept limits) || are_sides_shown (limit_left (is_covered rs) kept limits.start) (limit_left (is_covered rs) kept limits.end) at (pieces_text c.args.pieces.now))
+    (none_held (are_sides_shown (limit_left (is_covered rs) kept limits.start) (limit_left (is_covered rs) kept limits.end) at (pieces_text c.args.pieces.now))
     c.in_ok-deletion.deletion.held (right_neighbour (visible_of (gone_at (is_covered rs) 0 kept)) at) c.shown_after-right.result c.shown_after-right.ensures.is k)
 
 pub returns-clause-fits : goal.returns-clause-fits
@@ -442,6 +453,7 @@ returns-clause-fits g c =
       real = c.kept.ensures.site;
       few = few_visible kept flat.limit c.kept.ensures.few c.kept.ensures.most;
       shows = c.stretch-stretch.ensures.value ∙ ap (stretch_of kept) c.limits.ensures;
+      known = (c.requires.start, c.requires.end);
     } in
     let d = c.in_ok-deletion.deletion in
     let removed = d.removed.items in

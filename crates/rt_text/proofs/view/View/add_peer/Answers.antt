@@ -1,8 +1,15 @@
-use Rattle.std.proofs.Common.{◌≡◌, ◌∙◌, Err, ap, refl, sym, inr}
+use Rattle.std.proofs.Common.{◌≡◌, ◌∙◌, ◌++◌, ◌∷◌, [], Err, Ok, ap, arith, inr, length, map, refl, subst, sym}
+use Rattle.std.specs.List.{AllByRecursion}
 use Rattle.std.proofs.lemmas.Result.{err_from_is_err_and}
+use Rattle.rt_store.specs.Cells.{text_of}
+use Rattle.rt_store.proofs.Shown.{map_append}
+use Rattle.rt_tags.proofs.Sorted.{every_append}
 use Rattle.rt_views.specs.Choices.{limits_chosen}
+use Rattle.rt_views.specs.Ordered.{AreInOrder}
 use Rattle.rt_text.specs.Limited.{with_new_peer}
-use Rattle.rt_text.specs.Widgets.{Viewed}
+use Rattle.rt_text.specs.Parts.{own_in}
+use Rattle.rt_text.specs.Widgets.{IsOwnOf, Own, Viewed, own_at}
+use Rattle.rt_text.proofs.KeptLimits.{InOrder, order_append, order_asked}
 use Rattle.rt_text.proofs.view.View.add_peer.Goals as goal
 
 pub returns-in_err-limits : goal.returns-in_err-limits
@@ -13,3 +20,34 @@ returns-in_err-limits g c =
     ∙ ap (limits_chosen c.self.inside.doc.cells c.args.start c.args.end) (sym c.limits.ensures) ∙ sym c.limits_chosen.ensures ∙ c.in_err-limits.was in
     let p = err_from_is_err_and c.from_residual.result c.from_residual.ensures.1 in
     rw (p.1, p.2) (record { ok = tt; err = inr (ap (with_new_peer view) chosen); unchanged = refl })
+
+pub invariant_of-self-2 : goal.invariant_of-self-2
+invariant_of-self-2 g c =
+    let flat = c.self.inside.doc in
+    let cells = flat.cells in
+    let n = length (text_of cells) in
+    let items = c.self.inside.others.items in
+    let own = c.self.inside.widget in
+    let limits = c.in_ok-limits.limits in
+    let chosen : limits_chosen cells c.args.start c.args.end own.limits ≡ Ok limits =
+    ap (limits_chosen cells c.args.start c.args.end) (sym c.limits.ensures) ∙ sym c.limits_chosen.ensures ∙ c.in_ok-limits.was in
+    let order = order_asked flat c.args.start c.args.end own.limits limits c.kept.ensures.history c.kept.ensures.document c.self.invariant.limits.0 chosen in
+    let begin = c.stretch-begin.result.begin in
+    let stands : IsOwnOf n (own_at begin limits) = record {
+      insert = omega (arith, c.stretch-begin.ensures.some, c.stretch-begin.ensures.within);
+      current = omega (arith, c.stretch-begin.ensures.some, c.stretch-begin.ensures.within);
+      insert_name = refl;
+      current_name = refl;
+    } in
+    let new : Own = own_in c.at.result in
+    let back : map own_in c.push.new.self.items ≡ map own_in items ++ new ∷ [] = ap (map own_in) c.in_ok-push.ensures.items ∙ map_append own_in items (c.at.result ∷ []) in
+    record {
+      own = c.self.invariant.own;
+      others = subst (AllByRecursion (IsOwnOf n)) (sym back)
+          (every_append (IsOwnOf n) (map own_in items) (new ∷ []) c.self.invariant.others (subst (IsOwnOf n) (sym c.at.ensures) stands, tt));
+      limits = (
+        c.self.invariant.limits.0,
+        subst (InOrder cells) (sym back) (order_append cells (map own_in items) (new ∷ []) c.self.invariant.limits.1
+            (subst (λ (o : Own). AreInOrder cells o.limits) (sym c.at.ensures) order, tt)),
+      );
+    }

@@ -4,7 +4,7 @@ use Rattle.std.proofs.Common.{List, length, ◌≡◌, ◌∙◌, ◌⊎◌, Som
 use Rattle.std.specs.Prelude.{IfErr}
 use Rattle.std.specs.Vec.{with_items}
 use Rattle.std.proofs.lemmas.List.{with_items_is}
-use Rattle.std.proofs.lemmas.Result.{IfErr-weaker, err_from_is_err_and, on_err_weaker}
+use Rattle.std.proofs.lemmas.Result.{IfErr-weaker, err_from_is_err_and, on_err_weaker, on_ok_weaker}
 use Rattle.rt_stamps.specs.declared.fault.Fault.TheVariants.{NoMemory}
 use Rattle.rt_stamps.specs.Words.{as_words}
 use Rattle.rt_store.specs.Cells.{text_of}
@@ -14,6 +14,8 @@ use Rattle.rt_text.specs.Widgets.{IsOwnOf, Viewed}
 use Rattle.rt_text.proofs.Deletions.{both_ok, deleted_index}
 use Rattle.rt_text.proofs.Refusals.{deleted_ok, deleted_refused}
 use Rattle.rt_text.proofs.ViewLaws.{viewed}
+use Rattle.rt_text.proofs.Growing.{without_grows}
+use Rattle.rt_text.proofs.KeptLimits.{order_made}
 use Rattle.rt_text.proofs.view.View.delete.Goals as goal
 
 pub returns-in_err-ranges : goal.returns-in_err-ranges
@@ -25,8 +27,8 @@ returns-in_err-ranges g c =
       unchanged = refl;
     })
 
-pub delete_in-requires-clause-others : goal.delete_in-requires-clause-others
-delete_in-requires-clause-others g c =
+pub delete_in-done-requires-clause-others : goal.delete_in-done-requires-clause-others
+delete_in-done-requires-clause-others g c =
     subst (λ (l : List Parts). AllByRecursion (IsOwnOf (length (text_of c.self.inside.doc.cells))) (map own_in l)) (sym c.deref_mut.ensures.value) c.self.invariant.others
 
 pub returns-clause-ok : goal.returns-clause-ok
@@ -37,11 +39,11 @@ returns-clause-ok g c =
     let read = c.deref.ensures.value ∙ c.in_ok-ranges.ensures.ok in
     let same : viewed c.self.inside.doc c.self.inside.widget (map own_in c.deref_mut.result.now) ≡ view =
     ap (λ l. viewed c.self.inside.doc c.self.inside.widget (map own_in l)) c.deref_mut.ensures.value ∙ c.self.view_is in
-    let back : (with_items c.self.inside.others c.delete_in.new.others).items ≡ c.delete_in.new.others = with_items_is c.self.inside.others c.delete_in.new.others (omega (arith, c.delete_in.auto.others, c.deref_mut.ensures.len)) in
-    let edited : Viewed = viewed c.delete_in.new.self c.delete_in.new.widget (map own_in (with_items c.self.inside.others c.delete_in.new.others).items) in
-    both_ok c.delete_in.result
-    (λ made fits. deleted_ok view indices ranges c.in_ok-ranges.ensures.checked read edited (ap (λ (v : Viewed). without_ranges v ranges) (sym same) ∙ made ∙ ap (λ l. viewed c.delete_in.new.self c.delete_in.new.widget (map own_in l)) (sym back)) fits)
-    c.delete_in.ensures.ok c.delete_in.ensures.checked
+    let back : (with_items c.self.inside.others c.delete_in-done.new.others).items ≡ c.delete_in-done.new.others = with_items_is c.self.inside.others c.delete_in-done.new.others (omega (arith, c.delete_in-done.auto.others, c.deref_mut.ensures.len)) in
+    let edited : Viewed = viewed c.delete_in-done.new.self c.delete_in-done.new.widget (map own_in (with_items c.self.inside.others c.delete_in-done.new.others).items) in
+    both_ok c.delete_in-done.result
+    (λ made fits. deleted_ok view indices ranges c.in_ok-ranges.ensures.checked read edited (ap (λ (v : Viewed). without_ranges v ranges) (sym same) ∙ made ∙ ap (λ l. viewed c.delete_in-done.new.self c.delete_in-done.new.widget (map own_in l)) (sym back)) fits)
+    c.delete_in-done.ensures.ok c.delete_in-done.ensures.checked
 
 pub returns-clause-err : goal.returns-clause-err
 returns-clause-err g c =
@@ -51,24 +53,39 @@ returns-clause-err g c =
     let read = c.deref.ensures.value ∙ c.in_ok-ranges.ensures.ok in
     let same : viewed c.self.inside.doc c.self.inside.widget (map own_in c.deref_mut.result.now) ≡ view =
     ap (λ l. viewed c.self.inside.doc c.self.inside.widget (map own_in l)) c.deref_mut.ensures.value ∙ c.self.view_is in
-    IfErr-weaker c.delete_in.result _ _ (λ fault h. deleted_refused view indices ranges c.in_ok-ranges.ensures.checked read fault h)
-    (subst (λ (v : Viewed). IfErr c.delete_in.result (λ fault. (fault ≡ NoMemory) ⊎ (clock_check (without_ranges v ranges).doc.count ≡ Some fault))) same c.delete_in.ensures.err)
+    IfErr-weaker c.delete_in-done.result _ _ (λ fault h. deleted_refused view indices ranges c.in_ok-ranges.ensures.checked read fault h)
+    (subst (λ (v : Viewed). IfErr c.delete_in-done.result (λ fault. (fault ≡ NoMemory) ⊎ (clock_check (without_ranges v ranges).doc.count ≡ Some fault))) same c.delete_in-done.ensures.err)
 
 pub invariant_of-self : goal.invariant_of-self
 invariant_of-self g c =
-    let back : (with_items c.self.inside.others c.delete_in.new.others).items ≡ c.delete_in.new.others =
-    with_items_is c.self.inside.others c.delete_in.new.others (omega (arith, c.delete_in.auto.others, c.deref_mut.ensures.len)) in
-    let n = length (text_of c.delete_in.new.self.cells) in
-    record { own = c.delete_in.ensures.own; others = subst (λ (l : List Parts). AllByRecursion (IsOwnOf n) (map own_in l)) (sym back) c.delete_in.ensures.others }
+    let back : (with_items c.self.inside.others c.delete_in-done.new.others).items ≡ c.delete_in-done.new.others =
+    with_items_is c.self.inside.others c.delete_in-done.new.others (omega (arith, c.delete_in-done.auto.others, c.deref_mut.ensures.len)) in
+    let n = length (text_of c.delete_in-done.new.self.cells) in
+    let items = c.self.inside.others.items in
+    let ranges = c.deref.result.now in
+    let view = viewed c.self.inside.doc c.self.inside.widget (map own_in items) in
+    let new = viewed c.delete_in-done.new.self c.delete_in-done.new.widget (map own_in (with_items c.self.inside.others c.delete_in-done.new.others).items) in
+    let here : new ≡ viewed c.delete_in-done.new.self c.delete_in-done.new.widget (map own_in c.delete_in-done.new.others) =
+    ap (λ (l : List Parts). viewed c.delete_in-done.new.self c.delete_in-done.new.widget (map own_in l)) back in
+    let lent : viewed c.self.inside.doc c.self.inside.widget (map own_in c.deref_mut.result.now) ≡ view =
+    ap (λ (l : List Parts). viewed c.self.inside.doc c.self.inside.widget (map own_in l)) c.deref_mut.ensures.value in
+    let made = on_ok_weaker c.delete_in-done.result (λ e. here ∙ sym e ∙ ap (λ (v : Viewed). without_ranges v ranges) lent) c.delete_in-done.ensures.ok in
+    let same = on_err_weaker c.delete_in-done.result (λ kept. here ∙ (λ i. viewed (kept.0 i) (kept.1 i) (kept.2 i)) ∙ lent) c.delete_in-done.ensures.unchanged in
+    record {
+      own = c.delete_in-done.ensures.own;
+      others = subst (λ (l : List Parts). AllByRecursion (IsOwnOf n) (map own_in l)) (sym back) c.delete_in-done.ensures.others;
+      limits = order_made c.delete_in-done.result view (without_ranges view ranges) new c.kept.ensures.history c.kept.ensures.document.cells c.log.ensures.history c.log.ensures.cells
+          (without_grows view ranges) made same c.self.invariant.limits;
+    }
 
-pub delete_in-requires-clause-own : goal.delete_in-requires-clause-own
-delete_in-requires-clause-own g c = c.self.invariant.own
+pub delete_in-done-requires-clause-own : goal.delete_in-done-requires-clause-own
+delete_in-done-requires-clause-own g c = c.self.invariant.own
 
 pub returns-clause-unchanged : goal.returns-clause-unchanged
 returns-clause-unchanged g c =
     let same : viewed c.self.inside.doc c.self.inside.widget (map own_in c.deref_mut.result.now) ≡ c.args.self.now =
     ap (λ l. viewed c.self.inside.doc c.self.inside.widget (map own_in l)) c.deref_mut.ensures.value ∙ c.self.view_is in
-    let back : (with_items c.self.inside.others c.delete_in.new.others).items ≡ c.delete_in.new.others = with_items_is c.self.inside.others c.delete_in.new.others (omega (arith, c.delete_in.auto.others, c.deref_mut.ensures.len)) in
-    on_err_weaker c.delete_in.result
-    (λ kept. ap (λ l. viewed c.delete_in.new.self c.delete_in.new.widget (map own_in l)) back ∙ (λ i. viewed (kept.0 i) (kept.1 i) (kept.2 i)) ∙ same)
-    c.delete_in.ensures.unchanged
+    let back : (with_items c.self.inside.others c.delete_in-done.new.others).items ≡ c.delete_in-done.new.others = with_items_is c.self.inside.others c.delete_in-done.new.others (omega (arith, c.delete_in-done.auto.others, c.deref_mut.ensures.len)) in
+    on_err_weaker c.delete_in-done.result
+    (λ kept. ap (λ l. viewed c.delete_in-done.new.self c.delete_in-done.new.widget (map own_in l)) back ∙ (λ i. viewed (kept.0 i) (kept.1 i) (kept.2 i)) ∙ same)
+    c.delete_in-done.ensures.unchanged

@@ -8,6 +8,7 @@ use Rattle.rt_text.specs.declared.parts.Parts.{Parts}
 use Rattle.rt_text.specs.Parts.{own_in}
 use Rattle.rt_text.specs.Widgets.{IsOwnOf, Own, Viewed}
 use Rattle.rt_text.proofs.ExchangeLaws.{each_at, each_set}
+use Rattle.rt_text.proofs.KeptLimits.{InOrder, order_at, order_set}
 use Rattle.rt_text.proofs.view.View.exchange.Goals as goal
 
 pub invariant_of-self : goal.invariant_of-self
@@ -21,10 +22,15 @@ invariant_of-self g c =
     slice_get-map own_in items i ∙ ap (option_map own_in) (slice_get-get_or items i c.index_mut.result.now within)
     ∙ ap (λ (p : Parts). Some (own_in p)) (sym c.index_mut.ensures.value) ∙ ap (λ (o : Own). Some o) (sym c.exchange.ensures.own) in
     let back : map own_in (set items i c.exchange.new.other) ≡ set others i c.self.inside.widget = map-set own_in items i c.exchange.new.other ∙ ap (set others i) c.exchange.ensures.other in
-    let n = length (text_of c.self.inside.doc.cells) in
+    let cells = c.self.inside.doc.cells in
+    let n = length (text_of cells) in
     record {
       own = each_at (IsOwnOf n) others i c.exchange.new.self found c.self.invariant.others;
       others = subst (AllByRecursion (IsOwnOf n)) (sym back) (each_set (IsOwnOf n) others i c.self.inside.widget c.self.invariant.own c.self.invariant.others);
+      limits = (
+        order_at cells others i c.exchange.new.self found c.self.invariant.limits.1,
+        subst (InOrder cells) (sym back) (order_set cells others i c.self.inside.widget c.self.invariant.limits.1 c.self.invariant.limits.0),
+      );
     }
 
 pub returns-clause-own : goal.returns-clause-own

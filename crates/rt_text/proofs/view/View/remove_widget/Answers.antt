@@ -4,6 +4,7 @@ use Rattle.rt_store.specs.Cells.{text_of}
 use Rattle.rt_text.specs.Parts.{own_in}
 use Rattle.rt_text.specs.Widgets.{IsOwnOf, Own, Viewed}
 use Rattle.rt_text.proofs.ExchangeLaws.{each_removed, map_removed}
+use Rattle.rt_text.proofs.KeptLimits.{InOrder, order_removed}
 use Rattle.rt_text.proofs.view.View.remove_widget.Goals as goal
 
 pub invariant_of-self : goal.invariant_of-self
@@ -11,8 +12,13 @@ invariant_of-self g c =
     let items = c.self.inside.others.items in
     let i = c.args.other in
     let back : map own_in c.remove.new.self.items ≡ remove (map own_in items) i = ap (map own_in) c.remove.ensures.items ∙ map_removed own_in items i in
-    let n = length (text_of c.self.inside.doc.cells) in
-    record { own = c.self.invariant.own; others = subst (AllByRecursion (IsOwnOf n)) (sym back) (each_removed (IsOwnOf n) (map own_in items) i c.self.invariant.others) }
+    let cells = c.self.inside.doc.cells in
+    let n = length (text_of cells) in
+    record {
+      own = c.self.invariant.own;
+      others = subst (AllByRecursion (IsOwnOf n)) (sym back) (each_removed (IsOwnOf n) (map own_in items) i c.self.invariant.others);
+      limits = (c.self.invariant.limits.0, subst (InOrder cells) (sym back) (order_removed cells (map own_in items) i c.self.invariant.limits.1));
+    }
 
 pub returns : goal.returns
 returns g c =

@@ -4,7 +4,7 @@ use Rattle.std.proofs.Common.{List, length, ◌≡◌, ◌∙◌, ◌⊎◌, Som
 use Rattle.std.specs.Prelude.{IfErr}
 use Rattle.std.specs.Vec.{with_items}
 use Rattle.std.proofs.lemmas.List.{with_items_is}
-use Rattle.std.proofs.lemmas.Result.{err_from_is_err_and, on_err_weaker}
+use Rattle.std.proofs.lemmas.Result.{err_from_is_err_and, on_err_weaker, on_ok_weaker}
 use Rattle.rt_stamps.specs.declared.fault.Fault.TheVariants.{NoMemory}
 use Rattle.rt_stamps.specs.Outcomes.{first_of}
 use Rattle.rt_edits.specs.declared.range.Range.{Range}
@@ -15,6 +15,8 @@ use Rattle.rt_text.specs.Widgets.{IsOwnOf, Viewed}
 use Rattle.rt_text.proofs.PutLaws.{both_done, either, late_checks}
 use Rattle.rt_text.proofs.ReplaceLaws.{backwards, bad_from, bad_name, bad_to, done_as, refused_late}
 use Rattle.rt_text.proofs.ViewLaws.{viewed}
+use Rattle.rt_text.proofs.Growing.{replaced_grows}
+use Rattle.rt_text.proofs.KeptLimits.{order_made}
 use Rattle.rt_text.proofs.view.View.replace.Goals as goal
 
 pub returns-in_err-check_names : goal.returns-in_err-check_names
@@ -55,8 +57,8 @@ returns-in_err-range g c =
       unchanged = refl;
     })
 
-pub replace_in-requires-clause-others : goal.replace_in-requires-clause-others
-replace_in-requires-clause-others g c =
+pub replace_in-done-requires-clause-others : goal.replace_in-done-requires-clause-others
+replace_in-done-requires-clause-others g c =
     subst (λ (l : List Parts). AllByRecursion (IsOwnOf (length (text_of c.self.inside.doc.cells))) (map own_in l)) (sym c.deref_mut.ensures.value) c.self.invariant.others
 
 pub returns-clause-ok : goal.returns-clause-ok
@@ -67,16 +69,16 @@ returns-clause-ok g c =
     let range : Range = record { from = c.in_ok-begin.begin; to = c.in_ok-end.end } in
     let same : viewed c.self.inside.doc c.self.inside.widget (map own_in c.deref_mut.result.now) ≡ view =
     ap (λ l. viewed c.self.inside.doc c.self.inside.widget (map own_in l)) c.deref_mut.ensures.value ∙ c.self.view_is in
-    let back : (with_items c.self.inside.others c.replace_in.new.others).items ≡ c.replace_in.new.others =
-    with_items_is c.self.inside.others c.replace_in.new.others (omega (arith, c.replace_in.auto.others, c.deref_mut.ensures.len)) in
-    let edited : Viewed = viewed c.replace_in.new.self c.replace_in.new.widget (map own_in (with_items c.self.inside.others c.replace_in.new.others).items) in
-    both_done c.replace_in.result
+    let back : (with_items c.self.inside.others c.replace_in-done.new.others).items ≡ c.replace_in-done.new.others =
+    with_items_is c.self.inside.others c.replace_in-done.new.others (omega (arith, c.replace_in-done.auto.others, c.deref_mut.ensures.len)) in
+    let edited : Viewed = viewed c.replace_in-done.new.self c.replace_in-done.new.widget (map own_in (with_items c.self.inside.others c.replace_in-done.new.others).items) in
+    both_done c.replace_in-done.result
     (λ made checked. done_as view pieces rest c.args.from.now c.args.to.now c.in_ok-check_names.ensures.ok c.in_ok-begin.begin c.in_ok-end.end c.in_ok-begin.ensures.ok c.in_ok-end.ensures.ok edited
     c.in_ok-range.ensures.checked
-    (ap (λ l. viewed c.replace_in.new.self c.replace_in.new.widget (map own_in l)) back ∙ made
+    (ap (λ l. viewed c.replace_in-done.new.self c.replace_in-done.new.widget (map own_in l)) back ∙ made
     ∙ (λ i. with_range_replaced (same i) (c.in_ok-range.ensures.ok i) pieces rest))
     (ap (λ (v : Viewed). first_of (late_checks v.doc edited)) (sym c.self.view_is) ∙ checked))
-    c.replace_in.ensures.ok c.replace_in.ensures.checked
+    c.replace_in-done.ensures.ok c.replace_in-done.ensures.checked
 
 pub returns-clause-err : goal.returns-clause-err
 returns-clause-err g c =
@@ -87,31 +89,51 @@ returns-clause-err g c =
     let same : viewed c.self.inside.doc c.self.inside.widget (map own_in c.deref_mut.result.now) ≡ view =
     ap (λ l. viewed c.self.inside.doc c.self.inside.widget (map own_in l)) c.deref_mut.ensures.value ∙ c.self.view_is in
     refused_late view pieces rest c.args.from.now c.args.to.now c.in_ok-check_names.ensures.ok c.in_ok-begin.begin c.in_ok-end.end c.in_ok-begin.ensures.ok c.in_ok-end.ensures.ok
-    c.replace_in.result c.in_ok-range.ensures.checked
-    (subst (λ (v : Viewed). IfErr c.replace_in.result (λ fault. (fault ≡ NoMemory) ⊎ (first_of (late_checks v.doc (with_range_replaced v range pieces rest)) ≡ Some fault))) same
-    (subst (λ (r : Range). IfErr c.replace_in.result (λ fault. (fault ≡ NoMemory)
+    c.replace_in-done.result c.in_ok-range.ensures.checked
+    (subst (λ (v : Viewed). IfErr c.replace_in-done.result (λ fault. (fault ≡ NoMemory) ⊎ (first_of (late_checks v.doc (with_range_replaced v range pieces rest)) ≡ Some fault))) same
+    (subst (λ (r : Range). IfErr c.replace_in-done.result (λ fault. (fault ≡ NoMemory)
     ⊎ (first_of (late_checks c.self.inside.doc (with_range_replaced (viewed c.self.inside.doc c.self.inside.widget (map own_in c.deref_mut.result.now)) r pieces rest)) ≡ Some fault)))
-    c.in_ok-range.ensures.ok c.replace_in.ensures.err))
+    c.in_ok-range.ensures.ok c.replace_in-done.ensures.err))
 
 pub returns-clause-unchanged : goal.returns-clause-unchanged
 returns-clause-unchanged g c =
     let same : viewed c.self.inside.doc c.self.inside.widget (map own_in c.deref_mut.result.now) ≡ c.args.self.now =
     ap (λ l. viewed c.self.inside.doc c.self.inside.widget (map own_in l)) c.deref_mut.ensures.value ∙ c.self.view_is in
-    let back : (with_items c.self.inside.others c.replace_in.new.others).items ≡ c.replace_in.new.others =
-    with_items_is c.self.inside.others c.replace_in.new.others (omega (arith, c.replace_in.auto.others, c.deref_mut.ensures.len)) in
-    on_err_weaker c.replace_in.result
-    (λ kept. ap (λ l. viewed c.replace_in.new.self c.replace_in.new.widget (map own_in l)) back ∙ (λ i. viewed (kept.0 i) (kept.1 i) (kept.2 i)) ∙ same)
-    c.replace_in.ensures.unchanged
+    let back : (with_items c.self.inside.others c.replace_in-done.new.others).items ≡ c.replace_in-done.new.others =
+    with_items_is c.self.inside.others c.replace_in-done.new.others (omega (arith, c.replace_in-done.auto.others, c.deref_mut.ensures.len)) in
+    on_err_weaker c.replace_in-done.result
+    (λ kept. ap (λ l. viewed c.replace_in-done.new.self c.replace_in-done.new.widget (map own_in l)) back ∙ (λ i. viewed (kept.0 i) (kept.1 i) (kept.2 i)) ∙ same)
+    c.replace_in-done.ensures.unchanged
 
 pub invariant_of-self : goal.invariant_of-self
 invariant_of-self g c =
-    let back : (with_items c.self.inside.others c.replace_in.new.others).items ≡ c.replace_in.new.others =
-    with_items_is c.self.inside.others c.replace_in.new.others (omega (arith, c.replace_in.auto.others, c.deref_mut.ensures.len)) in
-    let n = length (text_of c.replace_in.new.self.cells) in
-    record { own = c.replace_in.ensures.own; others = subst (λ (l : List Parts). AllByRecursion (IsOwnOf n) (map own_in l)) (sym back) c.replace_in.ensures.others }
+    let back : (with_items c.self.inside.others c.replace_in-done.new.others).items ≡ c.replace_in-done.new.others =
+    with_items_is c.self.inside.others c.replace_in-done.new.others (omega (arith, c.replace_in-done.auto.others, c.deref_mut.ensures.len)) in
+    let n = length (text_of c.replace_in-done.new.self.cells) in
+    let items = c.self.inside.others.items in
+    let range = c.in_ok-range.range in
+    let pieces = c.args.pieces.now in
+    let rest = c.args.rest.now in
+    let view = viewed c.self.inside.doc c.self.inside.widget (map own_in items) in
+    let new = viewed c.replace_in-done.new.self c.replace_in-done.new.widget (map own_in (with_items c.self.inside.others c.replace_in-done.new.others).items) in
+    let here : new ≡ viewed c.replace_in-done.new.self c.replace_in-done.new.widget (map own_in c.replace_in-done.new.others) =
+    ap (λ (l : List Parts). viewed c.replace_in-done.new.self c.replace_in-done.new.widget (map own_in l)) back in
+    let lent : viewed c.self.inside.doc c.self.inside.widget (map own_in c.deref_mut.result.now) ≡ view =
+    ap (λ (l : List Parts). viewed c.self.inside.doc c.self.inside.widget (map own_in l)) c.deref_mut.ensures.value in
+    let made = on_ok_weaker c.replace_in-done.result (λ e. here ∙ e ∙ ap (λ (v : Viewed). with_range_replaced v range pieces rest) lent) c.replace_in-done.ensures.ok in
+    let same = on_err_weaker c.replace_in-done.result (λ kept. here ∙ (λ i. viewed (kept.0 i) (kept.1 i) (kept.2 i)) ∙ lent) c.replace_in-done.ensures.unchanged in
+    record {
+      own = c.replace_in-done.ensures.own;
+      others = subst (λ (l : List Parts). AllByRecursion (IsOwnOf n) (map own_in l)) (sym back) c.replace_in-done.ensures.others;
+      limits = order_made c.replace_in-done.result view (with_range_replaced view range pieces rest) new c.kept.ensures.history c.kept.ensures.document.cells c.log.ensures.history c.log.ensures.cells
+          (replaced_grows view range pieces rest) made same c.self.invariant.limits;
+    }
 
-pub replace_in-requires-clause-own : goal.replace_in-requires-clause-own
-replace_in-requires-clause-own g c = c.self.invariant.own
+pub replace_in-done-requires-clause-own : goal.replace_in-done-requires-clause-own
+replace_in-done-requires-clause-own g c = c.self.invariant.own
 
-pub replace_in-requires-clause-pieces : goal.replace_in-requires-clause-pieces
-replace_in-requires-clause-pieces g c = c.in_ok-check_names.ensures.pieces
+pub replace_in-done-requires-clause-pieces : goal.replace_in-done-requires-clause-pieces
+replace_in-done-requires-clause-pieces g c = c.in_ok-check_names.ensures.pieces
+
+pub replace_in-done-requires-clause-order : goal.replace_in-done-requires-clause-order
+replace_in-done-requires-clause-order g c = c.self.invariant.limits.0

@@ -14,6 +14,7 @@ use Rattle.rt_undo.specs.Actions.{group_of}
 use Rattle.rt_revert.specs.Plans.{named_group}
 use Rattle.rt_text.specs.Reversions.{own_reverted, view_reverted, reversion_check}
 use Rattle.rt_text.specs.Widgets.{Viewed, IsOwnOf}
+use Rattle.rt_text.proofs.KeptLimits.{order_reverted}
 use Rattle.rt_text.proofs.view.View.revert.Goals as goal
 
 all_ok : {T E A B C D : Type 0} (r : Result T E) → (A → B → C → D) → OnOk r A → OnOk r B → OnOk r C → OnOk r D
@@ -56,7 +57,22 @@ invariant_of-self g c =
     let back : (with_items c.self.inside.others c.revert_in.new.others).items ≡ c.revert_in.new.others =
     with_items_is c.self.inside.others c.revert_in.new.others (omega (arith, c.revert_in.auto.others, c.deref_mut.ensures.len)) in
     let n = length (text_of c.revert_in.new.self.cells) in
-    record { own = c.revert_in.ensures.own; others = subst (λ (l : List Parts). AllByRecursion (IsOwnOf n) (map own_in l)) (sym back) c.revert_in.ensures.others }
+    let items = c.self.inside.others.items in
+    let group = named_group c.args.kept.now (group_of c.args.group.now) in
+    let view = viewed c.self.inside.doc c.self.inside.widget (map own_in items) in
+    let new = viewed c.revert_in.new.self c.revert_in.new.widget (map own_in (with_items c.self.inside.others c.revert_in.new.others).items) in
+    let lent : viewed c.self.inside.doc c.self.inside.widget (map own_in c.deref_mut.result.now) ≡ view =
+    ap (λ (l : List Parts). viewed c.self.inside.doc c.self.inside.widget (map own_in l)) c.deref_mut.ensures.value in
+    let made : OnOk c.revert_in.result (new ≡ view_reverted view group) = all_ok c.revert_in.result
+    (λ d w p. (λ k. viewed (d k) (w k) ((ap (map own_in) back ∙ p ∙ ap (λ l. map (own_reverted c.self.inside.doc group) (map own_in l)) c.deref_mut.ensures.value) k)))
+    c.revert_in.ensures.doc c.revert_in.ensures.widget c.revert_in.ensures.peers in
+    let same = on_err_weaker c.revert_in.result
+    (λ kept. ap (λ (l : List Parts). viewed c.revert_in.new.self c.revert_in.new.widget (map own_in l)) back ∙ (λ i. viewed (kept.0 i) (kept.1 i) (kept.2 i)) ∙ lent) c.revert_in.ensures.unchanged in
+    record {
+      own = c.revert_in.ensures.own;
+      others = subst (λ (l : List Parts). AllByRecursion (IsOwnOf n) (map own_in l)) (sym back) c.revert_in.ensures.others;
+      limits = order_reverted c.revert_in.result view new group c.kept.ensures.site c.kept.ensures.history c.kept.ensures.document c.requires.sound made c.revert_in.ensures.checked same c.self.invariant.limits;
+    }
 
 pub revert_in-requires-clause-own : goal.revert_in-requires-clause-own
 revert_in-requires-clause-own g c = c.self.invariant.own

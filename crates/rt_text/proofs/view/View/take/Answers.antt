@@ -13,9 +13,11 @@ use Rattle.rt_edits.specs.Flat.{Flat}
 use Rattle.rt_text.specs.Parts.{own_in}
 use Rattle.rt_text.specs.Accepted.{answer_of, own_with_new, view_with_new, with_new}
 use Rattle.rt_text.specs.declared.parts.Parts.{Parts}
-use Rattle.rt_text.specs.Widgets.{AreOwnOf, IsOwnOf, Own, Viewed}
+use Rattle.rt_text.specs.Widgets.{AreWidgetsOf, IsOwnOf, Own, Viewed}
 use Rattle.rt_text.proofs.PeerLaws.{each_by, each_room}
 use Rattle.rt_text.proofs.AcceptedView.{own_seen, own_stands, view_fits}
+use Rattle.rt_text.proofs.Growing.{GrowsTo, grows_taken}
+use Rattle.rt_text.proofs.KeptLimits.{limits_more}
 use Rattle.rt_text.proofs.view.View.take.Goals as goal
 
 pub take-requires : goal.take-requires
@@ -60,7 +62,7 @@ follow_each-requires-clause-fits g c =
 
 pub invariant_of-self : goal.invariant_of-self
 invariant_of-self g c =
-    subst (λ (f : Flat). AreOwnOf (length (text_of f.cells)) c.self.inside.widget (map own_in c.self.inside.others.items))
+    subst (λ (f : Flat). AreWidgetsOf f.cells c.self.inside.widget (map own_in c.self.inside.others.items))
     (sym c.in-Err.ensures.unchanged) c.self.invariant
 
 pub invariant_of-self-in-Ok : goal.invariant_of-self-in-Ok
@@ -82,10 +84,14 @@ invariant_of-self-in-Ok g c =
     with_items_is c.self.inside.others c.follow_each.new.others (omega (arith, c.follow_each.auto.others, c.deref_mut.ensures.len)) in
     let moved : map own_in (with_items c.self.inside.others c.follow_each.new.others).items ≡ map (own_with_new op flat) others =
     ap (map own_in) back ∙ c.follow_each.ensures ∙ (λ i. map (λ o. own_seen flat op change is_new tells o i) (map own_in (c.deref_mut.ensures.value i))) in
+    let old = viewed flat c.self.inside.widget others in
+    let new = viewed c.take.new.self c.follow.new.self (map own_in (with_items c.self.inside.others c.follow_each.new.others).items) in
     record {
       own = subst (λ (p : _). p) (λ i. IsOwnOf (length (text_of (sym seen i).cells)) (sym own i)) (stands c.self.inside.widget c.self.invariant.own);
       others = subst (λ (p : _). p) (λ i. AllByRecursion (IsOwnOf (length (text_of (sym seen i).cells))) (sym moved i))
           (each_by (IsOwnOf n) (IsOwnOf k) (own_with_new op flat) stands others c.self.invariant.others);
+      limits = limits_more old new c.log.ensures.history c.log.ensures.cells c.log-in-Ok.ensures.history c.log-in-Ok.ensures.cells
+          (subst (GrowsTo old) (λ i. viewed (sym seen i) (sym own i) (sym moved i)) (grows_taken op old)) c.self.invariant.limits;
     }
 
 pub returns-in-Ok-clause-taken : goal.returns-in-Ok-clause-taken

@@ -1,25 +1,29 @@
 use Rattle.std.proofs.Common.{◌≡◌, ℕ, ◌≤◌, ◌∙◌, All, Some, ap, arith, false, inl, inr, length, map, subst, sym, true, refl}
+use Rattle.std.specs.List.{AllByRecursion}
 use Rattle.std.specs.Str.{bytes_eq}
 use Rattle.std.proofs.lemmas.Result.{IfErr-weaker, on_ok_weaker, err_from_is_err_and, on_err_weaker}
-use Rattle.rt_stamps.specs.declared.limits.TheConstants.{GREATEST_COUNT}
+use Rattle.rt_stamps.specs.declared.limits.TheConstants.{GREATEST_COUNT, MOST_SPANS}
 use Rattle.rt_rga.proofs.Requests.{greatest_bound}
 use Rattle.rt_store.specs.Cells.{text_of, visible_of}
 use Rattle.rt_tags.specs.Tags.{sel}
 use Rattle.rt_edits.specs.declared.range.Range.{Range}
-use Rattle.rt_edits.specs.Flat.{Flat}
+use Rattle.rt_edits.specs.Flat.{Flat, logged}
 use Rattle.rt_edits.specs.Removals.{is_covered, stamps_at, AreInOrder}
 use Rattle.rt_edits.specs.Selections.{selection_with}
-use Rattle.rt_edits.specs.TagWrites.{with_tag_at}
+use Rattle.rt_edits.specs.TagDrafts.{tag_drafts_at}
+use Rattle.rt_edits.specs.TagWrites.{listed_if, with_tag_at}
 use Rattle.rt_edits.proofs.TagPlaces.{listed_count, listed_text, tag_text}
 use Rattle.rt_views.specs.Stretches.{stretch_of}
 use Rattle.rt_text.specs.Parts.{own_in}
 use Rattle.rt_text.specs.Commands.{clock_check, with_tag_in}
-use Rattle.rt_text.specs.Widgets.{AreOwnOf, Own, Viewed, places_in_text}
+use Rattle.rt_text.specs.Widgets.{AreWidgetsOf, IsOwnOf, Own, Viewed, places_in_text}
 use Rattle.rt_text.proofs.Deletions.{both_ok}
 use Rattle.rt_text.proofs.KeptDocument.{as_visible, clock_fine, clock_spent, either_way}
 use Rattle.rt_text.proofs.LimitedDeletions.{stretch_kept}
 use Rattle.rt_text.proofs.LimitedTags.{places_are, stamps_kept, tag_own, tag_shared, up_to_end}
 use Rattle.rt_text.proofs.ViewLaws.{viewed}
+use Rattle.rt_text.proofs.Growing.{logged_grows}
+use Rattle.rt_text.proofs.KeptLimits.{order_made, widgets_selecting}
 use Rattle.rt_text.proofs.view.View.write_tag.Goals as goal
 
 pub returns-then-eq-clause-err : goal.returns-then-eq-clause-err
@@ -29,19 +33,19 @@ pub returns-then-eq-clause-unchanged : goal.returns-then-eq-clause-unchanged
 returns-then-eq-clause-unchanged g c = on_err_weaker c.select.result (λ e. ap (λ (w : Own). viewed c.self.inside.doc w (map own_in c.self.inside.others.items)) e ∙ c.self.view_is) c.select.ensures.unchanged
 
 pub returns-clause-unchanged : goal.returns-clause-unchanged
-returns-clause-unchanged g c = on_err_weaker c.write_shared.result (λ e. ap (λ (f : Flat). viewed f c.self.inside.widget (map own_in c.self.inside.others.items)) e ∙ c.self.view_is) c.write_shared.ensures.unchanged
+returns-clause-unchanged g c = on_err_weaker c.write_shared-done.result (λ e. ap (λ (f : Flat). viewed f c.self.inside.widget (map own_in c.self.inside.others.items)) e ∙ c.self.view_is) c.write_shared-done.ensures.unchanged
 
 pub select-requires-clause-order : goal.select-requires-clause-order
 select-requires-clause-order g c = subst (AreInOrder 0) (sym c.deref.ensures.value) c.in_ok-ranges.ensures.order
 
-pub write_shared-requires-clause-order : goal.write_shared-requires-clause-order
-write_shared-requires-clause-order g c = subst (AreInOrder 0) (sym c.deref-2.ensures.value) c.in_ok-ranges.ensures.order
+pub write_shared-done-requires-clause-order : goal.write_shared-done-requires-clause-order
+write_shared-done-requires-clause-order g c = subst (AreInOrder 0) (sym c.deref-2.ensures.value) c.in_ok-ranges.ensures.order
 
-pub write_shared-requires-clause-name : goal.write_shared-requires-clause-name
-write_shared-requires-clause-name g c = c.requires
+pub write_shared-done-requires-clause-name : goal.write_shared-done-requires-clause-name
+write_shared-done-requires-clause-name g c = c.requires
 
-pub write_shared-requires-clause-shared : goal.write_shared-requires-clause-shared
-write_shared-requires-clause-shared g c = sym c.eq.ensures ∙ c.if-eq.false
+pub write_shared-done-requires-clause-shared : goal.write_shared-done-requires-clause-shared
+write_shared-done-requires-clause-shared g c = sym c.eq.ensures ∙ c.if-eq.false
 
 pub returns-in_err-ranges : goal.returns-in_err-ranges
 returns-in_err-ranges g c =
@@ -80,8 +84,8 @@ returns-then-eq-clause-ok g c =
       clock_fine old.count fits,
     )) c.select.ensures.ok
 
-pub write_shared-requires-clause-within : goal.write_shared-requires-clause-within
-write_shared-requires-clause-within g c =
+pub write_shared-done-requires-clause-within : goal.write_shared-done-requires-clause-within
+write_shared-done-requires-clause-within g c =
     let cells = g.S.TextStore.list c.kept.result.0.now in
     let n = length (visible_of c.self.inside.doc.cells) in
     let few : c.stretch-stretch.result.end ≤ n = omega (arith, c.stretch-stretch.ensures.within, as_visible c.kept.result.1.now cells c.self.inside.doc c.kept.ensures.cells) in
@@ -91,11 +95,30 @@ pub invariant_of-self-2 : goal.invariant_of-self-2
 invariant_of-self-2 g c =
     let old = c.self.inside.doc in
     let within = is_covered c.deref-2.result.now in
-    let text : text_of c.write_shared.new.self.cells ≡ text_of old.cells =
-    either_way c.write_shared.result
+    let text : text_of c.write_shared-done.new.self.cells ≡ text_of old.cells =
+    either_way c.write_shared-done.result
     (λ e. ap (λ (f : Flat). text_of f.cells) e ∙ listed_text c.args.on c.args.name.now (with_tag_at old within c.args.on c.args.name.now) ∙ tag_text old within c.args.on c.args.name.now)
-    (λ e. ap (λ (f : Flat). text_of f.cells) e) c.write_shared.ensures.ok c.write_shared.ensures.unchanged in
-    subst (λ n. AreOwnOf n c.self.inside.widget (map own_in c.self.inside.others.items)) (sym (ap length text)) c.self.invariant
+    (λ e. ap (λ (f : Flat). text_of f.cells) e) c.write_shared-done.ensures.ok c.write_shared-done.ensures.unchanged in
+    let others = map own_in c.self.inside.others.items in
+    let drafts = tag_drafts_at MOST_SPANS within c.args.on c.args.name.now old.cells in
+    let edited = listed_if c.args.on c.args.name.now (with_tag_at old within c.args.on c.args.name.now) in
+    let view = viewed old c.self.inside.widget others in
+    let made = on_ok_weaker c.write_shared-done.result (λ e. ap (λ (f : Flat). viewed f c.self.inside.widget others) e) c.write_shared-done.ensures.ok in
+    let same = on_err_weaker c.write_shared-done.result (λ e. ap (λ (f : Flat). viewed f c.self.inside.widget others) e) c.write_shared-done.ensures.unchanged in
+    record {
+      own = subst (λ n. IsOwnOf n c.self.inside.widget) (sym (ap length text)) c.self.invariant.own;
+      others = subst (λ n. AllByRecursion (IsOwnOf n) others) (sym (ap length text)) c.self.invariant.others;
+      limits = order_made c.write_shared-done.result view (viewed (logged old drafts edited) c.self.inside.widget others) (viewed c.write_shared-done.new.self c.self.inside.widget others)
+          c.kept.ensures.history c.kept.ensures.document.cells c.log.ensures.history c.log.ensures.cells (logged_grows view drafts edited) made same c.self.invariant.limits;
+    }
+
+pub invariant_of-self : goal.invariant_of-self
+invariant_of-self g c =
+    let others = map own_in c.self.inside.others.items in
+    let cells = c.self.inside.doc.cells in
+    either_way c.select.result
+    (λ e. subst (λ (w : Own). AreWidgetsOf cells w others) (sym e) (widgets_selecting cells c.self.inside.widget others _ c.self.invariant))
+    (λ e. subst (λ (w : Own). AreWidgetsOf cells w others) (sym e) c.self.invariant) c.select.ensures.ok c.select.ensures.unchanged
 
 pub returns-clause-ok : goal.returns-clause-ok
 returns-clause-ok g c =
@@ -113,12 +136,12 @@ returns-clause-ok g c =
     let places : (p : ℕ) → within p ≡ places_in_text view (is_covered ranges) p =
     places_are view ranges c.stretch-stretch.result within stretch few (λ p. ap (λ l. is_covered l p) c.deref-2.ensures.value ∙ c.in_ok-ranges.ensures.places p) in
     let named : bytes_eq name sel ≡ false = sym c.eq.ensures ∙ c.if-eq.false in
-    both_ok c.write_shared.result
+    both_ok c.write_shared-done.result
     (λ e fits. (
       ap (λ (v : Viewed). with_tag_in v on name ranges) (sym c.self.view_is) ∙ tag_shared view on name ranges within places named ∙ ap (λ (f : Flat). record view { doc = f }) (sym e),
-      clock_fine c.write_shared.new.self.count fits,
+      clock_fine c.write_shared-done.new.self.count fits,
     ))
-    c.write_shared.ensures.ok c.write_shared.ensures.within
+    c.write_shared-done.ensures.ok c.write_shared-done.ensures.within
 
 pub returns-clause-err : goal.returns-clause-err
 returns-clause-err g c =
@@ -137,10 +160,10 @@ returns-clause-err g c =
     places_are view ranges c.stretch-stretch.result within stretch few (λ p. ap (λ l. is_covered l p) c.deref-2.ensures.value ∙ c.in_ok-ranges.ensures.places p) in
     let named : bytes_eq name sel ≡ false = sym c.eq.ensures ∙ c.if-eq.false in
     let same = ap (λ (v : Viewed). with_tag_in v on name ranges) (sym c.self.view_is) ∙ tag_shared view on name ranges within places named in
-    IfErr-weaker c.write_shared.result _ _
+    IfErr-weaker c.write_shared-done.result _ _
     (λ fault h. elim h [
       | inl e ↦ inl e
       | inr p ↦ inr (ap (λ (x : Viewed). clock_check x.doc.count) same
           ∙ ap clock_check (listed_count on name (with_tag_at old within on name))
           ∙ clock_spent (with_tag_at old within on name).count p.1 ∙ ap (λ x. Some x) (sym p.0))
-    ]) c.write_shared.ensures.err
+    ]) c.write_shared-done.ensures.err

@@ -1,53 +1,65 @@
 -- The limits of a site's widgets stay in their order, whatever becomes of the text.
-use Rattle.std.proofs.Common.{◌≡◌, ◌∙◌, ℕ, ◌+◌, ◌≤◌, ◌<◌, ◌||◌, Bool, true, false, List, [], ◌∷◌, ◌++◌, Option, Some, None, append_assoc, cond, drop, map, ap, arith, refl, subst, sym, take}
-use Rattle.std.specs.Prelude.{IfSome, ◌&&◌, option_map, reverse, unwrap_or}
-use Rattle.std.specs.List.{AllByRecursion, position_or_len}
-use Rattle.std.proofs.lemmas.Bool.{both_ways, lt-ltb}
+use Rattle.std.proofs.Common.{◌≡◌, ◌∙◌, ℕ, zero, suc, ◌+◌, ◌≤◌, ◌<◌, ◌∷◌, ◌++◌, Bool, true, false, List, [], Option, Some, None, Ok, Err, Result, append_assoc, drop, length, map, ap, arith, refl, set, subst, sym, take}
+use Rattle.std.specs.Prelude.{OnErr, OnOk, if◌then◌else◌, is_some, nat_lt, option_map, reverse, slice_get, unwrap_or}
+use Rattle.std.specs.List.{AllByRecursion, position_or_len, remove}
+use Rattle.std.proofs.lemmas.Bool.{both_ways, lt-ltb, ltb-false}
+use Rattle.rt_stamps.specs.declared.fault.Fault.TheVariants.{ClockSpent}
 use Rattle.rt_stamps.specs.declared.limits.TheConstants.{GREATEST_COUNT, MOST_SPANS}
 use Rattle.rt_stamps.specs.declared.stamp.Stamp.{Stamp}
 use Rattle.rt_stamps.specs.declared.stamp.TheConstants.{ROOT}
-use Rattle.rt_stamps.specs.Places.{is_newline}
+use Rattle.rt_stamps.specs.Outcomes.{first_of}
 use Rattle.rt_stamps.specs.Stamps.{is_same}
 use Rattle.rt_stamps.specs.Words.{Word}
 use Rattle.rt_stamps.proofs.Order.{same_from_true}
-use Rattle.rt_ops.specs.Operations.{Body, Operation}
-use Rattle.rt_store.specs.declared.cell.Cell.{Cell}
-use Rattle.rt_store.specs.Cells.{after_element, cell_of, position_of, put_at, stamps_of}
+use Rattle.rt_marks.specs.declared.gravity.Gravity.{Gravity}
+use Rattle.rt_ops.specs.Operations.{Operation}
+use Rattle.rt_store.specs.Cells.{AreDistinct, EndsFinal, after_element, cell_of, position_of, put_at, stamps_of}
 use Rattle.rt_store.specs.Shown.{TaggedCell}
 use Rattle.rt_store.specs.Spans.{is_among}
+use Rattle.rt_store.specs.Written.{AreBelowNext}
 use Rattle.rt_store.proofs.Distinct.{new_apart, split}
+use Rattle.rt_store.proofs.Finding.{stamp_held}
 use Rattle.rt_store.proofs.Places.{found_within}
 use Rattle.rt_rga.specs.Cells.{cells_of}
 use Rattle.rt_rga.specs.Drafts.{with_drafts}
-use Rattle.rt_rga.specs.Histories.{IsHistory}
-use Rattle.rt_rga.specs.Orders.{AreIn}
+use Rattle.rt_rga.specs.Histories.{IsHistory, greatest_last_count}
 use Rattle.rt_rga.proofs.Appending.{drafts_append}
-use Rattle.rt_rga.proofs.Corollaries.{cells_distinct, root_absent}
+use Rattle.rt_rga.proofs.Corollaries.{cells_distinct, cells_older, root_absent}
 use Rattle.rt_rga.proofs.Final.{ends_final}
 use Rattle.rt_edits.specs.DraftLaws.{IsDocument}
 use Rattle.rt_edits.specs.Flat.{Flat, put_after}
 use Rattle.rt_edits.specs.Insertions.{new_state}
 use Rattle.rt_edits.specs.RemovalDrafts.{removal_drafts}
 use Rattle.rt_undo.specs.Actions.{Action, Removed}
-use Rattle.rt_revert.specs.Reverting.{Reversion, are_at, as_it_is, gone_cell_of, next_in, reversion, stamp_after, with_character, with_each_reverted, with_gone, with_return, with_returns, with_reverted}
+use Rattle.rt_revert.specs.declared.plan.Return.{Return}
+use Rattle.rt_revert.specs.Reverting.{Reversion, are_at, as_it_is, gone_cell_of, next_in, reversion, reverted, stamp_after, with_character, with_each_reverted, with_gone, with_return, with_returns, with_reverted}
 use Rattle.rt_revert.specs.ReversionLaws.{AreSound, IsSound, MayReturn}
-use Rattle.rt_revert.proofs.Stamps.{all_apart, found, gone_found}
+use Rattle.rt_revert.proofs.Stamps.{all_apart, gone_found}
 use Rattle.rt_revert.proofs.Steps.{IsOnWay, action_step, all_grow, all_reversed, gone_step, return_step, returns_grow}
+use Rattle.rt_text.specs.declared.own_mark.OwnMark.{OwnMark}
+use Rattle.rt_text.specs.declared.own_mark.OwnMark.TheVariants.{Current, Insert}
 use Rattle.rt_text.specs.Changes.{limits_after}
-use Rattle.rt_text.specs.Neighbours.{is_newline_of, limits_in}
-use Rattle.rt_text.specs.Reversions.{own_reverted, view_reverted}
-use Rattle.rt_text.specs.Widgets.{Own, Viewed}
+use Rattle.rt_text.specs.Commands.{cell_check}
+use Rattle.rt_text.specs.Reversions.{own_reverted, reversion_check, view_reverted}
+use Rattle.rt_text.specs.Widgets.{AreWidgetsOf, Own, Viewed, limits_of, own_set, own_with_gravity}
+use Rattle.rt_views.specs.declared.choice.Choice.{Choice}
 use Rattle.rt_views.specs.declared.limits.Limits.{Limits}
-use Rattle.rt_views.specs.Limits.{limits_renamed, no_limits}
-use Rattle.rt_views.specs.Ordered.{AreInOrder, IsNewline}
+use Rattle.rt_views.specs.Choices.{limits_chosen}
+use Rattle.rt_views.specs.Limits.{limits_renamed}
+use Rattle.rt_views.specs.Ordered.{AreInOrder}
+use Rattle.rt_views.proofs.ChosenOrder.{order_chosen}
 use Rattle.rt_views.proofs.InOrder.{order_grown, order_renamed, position_is}
-use Rattle.rt_editing.specs.Noting.{IsOfLog}
-use Rattle.rt_editing.specs.Returns.{Return}
-use Rattle.rt_editing.specs.Settled.{limits_of}
-use Rattle.rt_editing.proofs.Among.{cells_among}
-use Rattle.rt_editing.proofs.Gone.{found_gone, gone_known}
-use Rattle.rt_editing.proofs.Growing.{Grows, GrowsTo, grows_drafts}
-use Rattle.rt_editing.proofs.Told.{kept_on_way}
+use Rattle.rt_text.proofs.Among.{cells_among}
+use Rattle.rt_text.proofs.Growing.{Grows, GrowsTo, grows_drafts}
+use Rattle.rt_text.proofs.MarkLaws.{own_of_selecting}
+
+-- the limits of some widgets are in their order
+abbrev pub InOrder : List TaggedCell → List Own → Type 0
+InOrder cells widgets = AllByRecursion (AreInOrder cells) (map (λ (own : Own). own.limits) widgets)
+
+-- those of all widgets of a view
+abbrev pub HaveOrder : Viewed → Type 0
+HaveOrder view = AllByRecursion (AreInOrder view.doc.cells) (limits_of view)
 
 -- WHILE A LOG GROWS
 
@@ -61,13 +73,22 @@ all_more old new [] h k grows o = tt
 all_more old new (l ∷ limits) h k grows o = (order_more old new l h k grows o.0, all_more old new limits h k grows o.1)
 
 -- of a view that is that of its log
-pub limits_more : (view new : Viewed) → IsOfLog view.doc → IsOfLog new.doc → GrowsTo view new → AllByRecursion (AreInOrder view.doc.cells) (limits_of view)
-    → AllByRecursion (AreInOrder new.doc.cells) (limits_of new)
-limits_more view new kept same grows o =
+pub limits_more : (view new : Viewed) → IsHistory view.doc.log → view.doc.cells ≡ cells_of view.doc.log → IsHistory new.doc.log → new.doc.cells ≡ cells_of new.doc.log → GrowsTo view new
+    → HaveOrder view → HaveOrder new
+limits_more view new h cells k more grows o =
     subst (λ (limits : List Limits). AllByRecursion (AreInOrder new.doc.cells) limits) (sym grows.limits)
-    (subst (λ (cells : List TaggedCell). AllByRecursion (AreInOrder cells) (limits_of view)) (sym same.cells)
-    (all_more view.doc.log new.doc.log (limits_of view) kept.history same.history grows.log
-    (subst (λ (cells : List TaggedCell). AllByRecursion (AreInOrder cells) (limits_of view)) kept.cells o)))
+    (subst (λ (l : List TaggedCell). AllByRecursion (AreInOrder l) (limits_of view)) (sym more)
+    (all_more view.doc.log new.doc.log (limits_of view) h k grows.log
+    (subst (λ (l : List TaggedCell). AllByRecursion (AreInOrder l) (limits_of view)) cells o)))
+
+pub order_same : (view new : Viewed) → new ≡ view → HaveOrder view → HaveOrder new
+order_same view new e o = subst (λ (v : Viewed). HaveOrder v) (sym e) o
+
+-- of one that is made, or left as it is
+pub order_made : {T E : Type 0} (r : Result T E) (view made new : Viewed) → IsHistory view.doc.log → view.doc.cells ≡ cells_of view.doc.log → IsHistory new.doc.log → new.doc.cells ≡ cells_of new.doc.log
+    → GrowsTo view made → OnOk r (new ≡ made) → OnErr r (new ≡ view) → HaveOrder view → HaveOrder new
+order_made (Ok x) view made new h cells k more grows is same o = limits_more view new h cells k more (subst (GrowsTo view) (sym is) grows) o
+order_made (Err e) view made new h cells k more grows is same o = order_same view new same o
 
 -- WHILE A GROUP IS REVERTED
 
@@ -104,18 +125,28 @@ not_root log cells s h e m = split (is_same s ROOT)
 behind_it : (cells : List TaggedCell) (s : Stamp) (p : ℕ) → is_same s ROOT ≡ false → position_of cells s ≡ Some p → after_element cells s ≡ p + 1
 behind_it cells s p n f = rw n (ap (λ (o : Option ℕ). unwrap_or o 0 + 1) f)
 
+-- on the way no cell has a count to come, and the site is a site
+pub real_on_way : (site : ℕ) (log : List Operation) (r : Reversion) → 0 < site → IsOnWay site log r → 0 < r.doc.site
+real_on_way site log r p h = omega (arith, h.document.site, p)
+
+pub below_on_way : (site : ℕ) (log : List Operation) (r : Reversion) → IsOnWay site log r → AreBelowNext r.doc.count r.doc.cells
+below_on_way site log r h =
+    let more = with_drafts site r.drafts log in
+    subst (λ n. AreBelowNext n r.doc.cells) (sym h.document.count) (subst (AreBelowNext (greatest_last_count more)) (sym h.document.cells) (cells_older more h.history))
+
 -- a newline that comes back takes the place of its old cell as a limit
 character_order : (site : ℕ) (log : List Operation) (stamp : Stamp) (tags : List Word) (cell : TaggedCell) (r : Reversion) (limits : Limits) → 0 < site → IsOnWay site log r
     → gone_cell_of r.doc.cells stamp ≡ Some cell → HasOrder r limits → HasOrder (with_character stamp tags cell.ch r) limits
 character_order site log stamp tags cell r limits p h e o =
     let cells = r.doc.cells in
-    let kept = kept_on_way site log r p h in
     let this : TaggedCell = record { stamp = next_in r.doc; ch = cell.ch; gone = false; state = new_state r.doc.site (r.doc.count + 1) tags } in
-    let among = gone_known cells stamp (found_gone cells stamp cell e) in
+    let held : cell_of cells stamp ≡ Some cell = (gone_found cells stamp cell e).0 in
+    let among : is_among (stamps_of cells) stamp ≡ true = sym (stamp_held cells stamp) ∙ ap (λ (o : Option TaggedCell). is_some o) held in
     let (position, there) = stands cells stamp among in
-    let fresh : is_among (stamps_of cells) (next_in r.doc) ≡ false = new_apart r.doc.count (r.doc.count + 1) r.doc.site cells kept.below (omega arith) kept.site in
+    let fresh : is_among (stamps_of cells) (next_in r.doc) ≡ false =
+    new_apart r.doc.count (r.doc.count + 1) r.doc.site cells (below_on_way site log r h) (omega arith) (real_on_way site log r p h) in
     let at : after_element cells stamp ≡ position + 1 = behind_it cells stamp position (not_root (with_drafts site r.drafts log) cells stamp h.history h.document.cells among) there in
-    let alike : option_map (λ (c : TaggedCell). c.ch) (cell_of cells stamp) ≡ Some cell.ch = ap (option_map (λ (c : TaggedCell). c.ch)) (gone_found cells stamp cell e).0 in
+    let alike : option_map (λ (c : TaggedCell). c.ch) (cell_of cells stamp) ≡ Some cell.ch = ap (option_map (λ (c : TaggedCell). c.ch)) held in
     let renamed = order_renamed cells (limits_after r.returns limits) stamp position this (sym (position_is cells stamp) ∙ there) alike fresh o in
     let limits_are = after_one_more r.returns (record { former = stamp; newer = next_in r.doc }) limits in
     let put : put_after cells stamp (this ∷ []) ≡ put_at (after_element cells stamp) (this ∷ []) cells =
@@ -157,16 +188,15 @@ all_order site log (action ∷ actions) r limits p h c l o =
     let few : next.doc.count ≤ GREATEST_COUNT = omega (arith, all_grow actions next, l) in
     all_order site log actions next limits p (action_step site log action r p h c.0 few) c.1 l (action_order site log action r limits p h c.0 few o)
 
-pub reversion_order : (site : ℕ) (log : List Operation) (flat : Flat) (group : List (Action (List Word))) (limits : Limits) → 0 < site → IsHistory log → IsDocument site log flat
+reversion_order : (site : ℕ) (log : List Operation) (flat : Flat) (group : List (Action (List Word))) (limits : Limits) → 0 < site → IsHistory log → IsDocument site log flat
     → AreSound group → (reversion flat group).doc.count ≤ GREATEST_COUNT → AreInOrder flat.cells limits
     → AreInOrder (reversion flat group).doc.cells (limits_after (reversion flat group).returns limits)
 reversion_order site log flat group limits p h doc c l o =
     all_order site log (reverse group) (as_it_is flat) limits p (record { may = tt; history = h; document = doc; apart = tt; sound = tt }) (all_reversed IsSound group c) l o
 
 -- each widget's limits, in the view after a group was reverted
-pub reverted_order : (site : ℕ) (log : List Operation) (view : Viewed) (group : List (Action (List Word))) → 0 < site → IsHistory log → IsDocument site log view.doc
-    → AreSound group → (reversion view.doc group).doc.count ≤ GREATEST_COUNT → AllByRecursion (AreInOrder view.doc.cells) (limits_of view)
-    → AllByRecursion (AreInOrder (view_reverted view group).doc.cells) (limits_of (view_reverted view group))
+reverted_order : (site : ℕ) (log : List Operation) (view : Viewed) (group : List (Action (List Word))) → 0 < site → IsHistory log → IsDocument site log view.doc
+    → AreSound group → (reversion view.doc group).doc.count ≤ GREATEST_COUNT → HaveOrder view → HaveOrder (view_reverted view group)
 reverted_order site log view group p h doc c l o = each (view.own ∷ view.others) o
   where
     each : (widgets : List Own) → AllByRecursion (AreInOrder view.doc.cells) (map (λ (own : Own). own.limits) widgets)
@@ -174,22 +204,64 @@ reverted_order site log view group p h doc c l o = each (view.own ∷ view.other
     each [] k = tt
     each (own ∷ widgets) k = (reversion_order site log view.doc group own.limits p h doc c l k.0, each widgets k.1)
 
--- WHAT A TEXT KNOWS
-
-newline_known : (cells : List TaggedCell) (o : Option Stamp) → IfSome o (IsNewline cells) → is_newline_of cells o ≡ true
-newline_known cells None h = refl
-newline_known cells (Some s) h = by (cell_of cells s) h
+-- where the counts fit
+pub fits : (flat : Flat) (group : List (Action (List Word))) → reversion_check flat group ≡ None → (reversion flat group).doc.count ≤ GREATEST_COUNT
+fits flat group e = by (nat_lt GREATEST_COUNT count) refl e
   where
-    by : (found : Option TaggedCell) → option_map (λ (c : TaggedCell). c.ch) found ≡ Some 10 → unwrap_or (option_map (λ (c : TaggedCell). is_newline c.ch) found) false ≡ true
-    by None k = absurd (cc k)
-    by (Some c) k = let ch : c.ch ≡ 10 = cc in rw ch refl
+    count : ℕ
+    count = (reversion flat group).doc.count
 
--- limits in their order are passed over nowhere
-pub known_limits : (cells : List TaggedCell) (limits : Limits) → AreInOrder cells limits → limits_in cells limits ≡ limits
-known_limits cells limits o =
-    let start = newline_known cells limits.start o.start in
-    let end = newline_known cells limits.end o.end in
-    both (is_newline_of cells limits.start) (is_newline_of cells limits.end) start end
-  where
-    both : (a b : Bool) → a ≡ true → b ≡ true → cond (a && b) limits no_limits ≡ limits
-    both a b e f = rw (e, f) refl
+    by : (b : Bool) → nat_lt GREATEST_COUNT count ≡ b
+        → first_of ((if b then Some ClockSpent else None) ∷ cell_check flat.limit (length (reverted flat group).cells) ∷ []) ≡ None → count ≤ GREATEST_COUNT
+    by true lt f = absurd (cc f)
+    by false lt f = ltb-false GREATEST_COUNT count lt
+
+pub order_reverted : {T E : Type 0} (r : Result T E) (view new : Viewed) (group : List (Action (List Word))) → 0 < view.doc.site → IsHistory view.doc.log → IsDocument view.doc.site view.doc.log view.doc
+    → AreSound group → OnOk r (new ≡ view_reverted view group) → OnOk r (reversion_check view.doc group ≡ None) → OnErr r (new ≡ view) → HaveOrder view → HaveOrder new
+order_reverted (Ok x) view new group p h doc sound is checked same o =
+    order_same (view_reverted view group) new is (reverted_order view.doc.site view.doc.log view group p h doc sound (fits view.doc group checked) o)
+order_reverted (Err e) view new group p h doc sound is checked same o = order_same view new same o
+
+-- LIMITS THAT ARE ASKED FOR
+
+pub order_asked : (flat : Flat) (start end : Choice) (limits chosen : Limits) → IsHistory flat.log → IsDocument flat.site flat.log flat → AreInOrder flat.cells limits
+    → limits_chosen flat.cells start end limits ≡ Ok chosen → AreInOrder flat.cells chosen
+order_asked flat start end limits chosen h doc o e =
+    order_chosen flat.cells start end limits chosen (subst (λ (cells : List TaggedCell). AreDistinct cells) (sym doc.cells) (cells_distinct flat.log h))
+    (subst (λ (cells : List TaggedCell). EndsFinal cells) (sym doc.cells) (ends_final flat.log h)) o e
+
+-- WIDGETS
+
+pub order_append : (cells : List TaggedCell) (xs ys : List Own) → InOrder cells xs → InOrder cells ys → InOrder cells (xs ++ ys)
+order_append cells [] ys h k = k
+order_append cells (x ∷ xs) ys h k = (h.0, order_append cells xs ys h.1 k)
+
+pub order_at : (cells : List TaggedCell) (xs : List Own) (k : ℕ) (own : Own) → slice_get xs k ≡ Some own → InOrder cells xs → AreInOrder cells own.limits
+order_at cells [] k own e h = absurd (cc e)
+order_at cells (x ∷ xs) zero own e h =
+    let same : x ≡ own = cc e in
+    subst (λ (w : Own). AreInOrder cells w.limits) same h.0
+order_at cells (x ∷ xs) (suc k) own e h = order_at cells xs k own e h.1
+
+pub order_set : (cells : List TaggedCell) (xs : List Own) (k : ℕ) (own : Own) → InOrder cells xs → AreInOrder cells own.limits → InOrder cells (set xs k own)
+order_set cells [] k own h o = tt
+order_set cells (x ∷ xs) zero own h o = (o, h.1)
+order_set cells (x ∷ xs) (suc k) own h o = (h.0, order_set cells xs k own h.1 o)
+
+pub order_removed : (cells : List TaggedCell) (xs : List Own) (k : ℕ) → InOrder cells xs → InOrder cells (remove xs k)
+order_removed cells [] zero h = tt
+order_removed cells [] (suc k) h = tt
+order_removed cells (x ∷ xs) zero h = h.1
+order_removed cells (x ∷ xs) (suc k) h = (h.0, order_removed cells xs k h.1)
+
+pub set_limits : (which : OwnMark) (place : ℕ) (own : Own) → (own_set which place own).limits ≡ own.limits
+set_limits Insert place own = refl
+set_limits Current place own = refl
+
+pub gravity_limits : (which : OwnMark) (gravity : Gravity) (own : Own) → (own_with_gravity which gravity own).limits ≡ own.limits
+gravity_limits Insert gravity own = refl
+gravity_limits Current gravity own = refl
+
+-- a widget that has selected other characters
+pub widgets_selecting : (cells : List TaggedCell) (own : Own) (others : List Own) (sel : List Stamp) → AreWidgetsOf cells own others → AreWidgetsOf cells (record own { sel = sel }) others
+widgets_selecting cells own others sel h = record { own = own_of_selecting _ own sel h.own; others = h.others; limits = h.limits }

@@ -1,0 +1,140 @@
+-- The stamps of a run, and what is found by them.
+use Rattle.std.proofs.Common.{◌≡◌, ℕ, zero, suc, ◌+◌, ◌-◌, ◌<◌, ◌≤◌, Bool, true, false, refl, sym, ap, ◌∙◌, arith, Some, None, List, [], ◌∷◌, ◌++◌, ◌&&◌, ◌||◌, cond, not}
+use Rattle.std.specs.List.{list_any}
+use Rattle.std.specs.Option.{is_some}
+use Rattle.std.proofs.lemmas.List.Concat.{flat_map-append}
+use Rattle.std.proofs.lemmas.List.Folds.{list_any-append}
+use Rattle.std.proofs.lemmas.Bool.Decides.{nat_tests}
+use Rattle.rt_stamps.specs.declared.stamp.Stamp.{Stamp}
+use Rattle.rt_stamps.specs.declared.stamp.TheConstants.{FINAL}
+use Rattle.rt_stamps.specs.Stamps.{is_same}
+use Rattle.rt_ops.specs.Operations.{stamps_from}
+use Rattle.rt_store.specs.declared.cell.Cell.{Cell}
+use Rattle.rt_store.specs.Cells.{AreDistinct, GoOnTo, cell_of, stamps_of}
+use Rattle.rt_store.specs.Spans.{is_among}
+use Rattle.rt_store.proofs.Finding.{stamp_held}
+use Rattle.rt_store.proofs.Positions.{found_stamp, run_found, run_held}
+use Rattle.rt_tags.specs.Borders.{one_or_none}
+use Rattle.rt_rga.specs.Kept.{is_kept_character}
+use Rattle.rt_rga.specs.Removed.{place_of, places_of}
+use Rattle.rt_rga.specs.Runs.{cells_found}
+
+-- the stamps from a count on are some first ones and the rest
+parts : (site count n m : ℕ) → stamps_from site count (n + m) ≡ stamps_from site count n ++ stamps_from site (count + n) m
+parts site count zero m =
+    let a : count ≡ count + 0 = omega arith in
+    let b : 0 + m ≡ m = omega arith in
+    λ i. stamps_from site (a i) (b i)
+parts site count (suc n) m =
+    let more : suc n + m ≡ suc (n + m) = omega arith in
+    let one : count + 1 + n ≡ count + suc n = omega arith in
+    ap (stamps_from site count) more
+    ∙ ap (λ l. record { count = count; site = site } ∷ l) (parts site (count + 1) n m ∙ ap (λ k. stamps_from site (count + 1) n ++ stamps_from site k m) one)
+
+pub parted : (site count to last : ℕ) → count ≤ to → to ≤ last
+    → stamps_from site count (last + 1 - count) ≡ stamps_from site count (to + 1 - count) ++ stamps_from site (to + 1) (last + 1 - (to + 1))
+parted site count to last l m =
+    let n : last + 1 - count ≡ (to + 1 - count) + (last + 1 - (to + 1)) = omega (arith, l, m) in
+    let k : count + (to + 1 - count) ≡ to + 1 = omega (arith, l) in
+    ap (stamps_from site count) n
+    ∙ parts site count (to + 1 - count) (last + 1 - (to + 1))
+    ∙ ap (λ c. stamps_from site count (to + 1 - count) ++ stamps_from site c (last + 1 - (to + 1))) k
+
+-- none of some stamps from a count on passes a test
+none_from : (p : Stamp → Bool) (site count n : ℕ) → ((k : ℕ) → k < n → p (record { count = count + k; site = site }) ≡ false) → list_any p (stamps_from site count n) ≡ false
+none_from p site count zero h = refl
+none_from p site count (suc n) h =
+    let z : count + 0 ≡ count = omega arith in
+    let first : p (record { count = count; site = site }) ≡ false = ap (λ c. p (record { count = c; site = site })) (sym z) ∙ h 0 (omega arith) in
+    ap (λ b. b || list_any p (stamps_from site (count + 1) n)) first
+    ∙ none_from p site (count + 1) n (λ k lt. let e : count + 1 + k ≡ count + suc k = omega arith in ap (λ c. p (record { count = c; site = site })) e ∙ h (suc k) (omega (arith, lt)))
+
+-- where none passes up to a count, the rest tells
+pub none_to : (p : Stamp → Bool) (site count to last : ℕ) → count ≤ to → to ≤ last → ((n : ℕ) → count + n ≤ to → p (record { count = count + n; site = site }) ≡ false)
+    → list_any p (stamps_from site (to + 1) (last + 1 - (to + 1))) ≡ list_any p (stamps_from site count (last + 1 - count))
+none_to p site count to last l m h =
+    let none = none_from p site count (to + 1 - count) (λ k lt. h k (omega (arith, lt, l))) in
+    sym (
+    ap (list_any p) (parted site count to last l m)
+    ∙ list_any-append p (stamps_from site count (to + 1 - count)) (stamps_from site (to + 1) (last + 1 - (to + 1)))
+    ∙ ap (λ b. b || list_any p (stamps_from site (to + 1) (last + 1 - (to + 1)))) none
+    )
+
+-- and where that is all, none does
+pub none_left : (p : Stamp → Bool) (site count to last : ℕ) → count ≤ to → to ≡ last → ((n : ℕ) → count + n ≤ to → p (record { count = count + n; site = site }) ≡ false)
+    → false ≡ list_any p (stamps_from site count (last + 1 - count))
+none_left p site count to last l m h =
+    let z : last + 1 - (to + 1) ≡ 0 = omega (arith, m) in
+    ap (λ n. list_any p (stamps_from site (to + 1) n)) (sym z) ∙ none_to p site count to last l (omega (arith, m)) h
+
+-- CHARACTERS
+
+-- the stamps of a run are those of characters, but for the final newline's
+pub characters_on : (cells : List (Cell ℕ)) (first : Cell ℕ) (stamp : Stamp) (last n : ℕ) → Some first ≡ cell_of cells stamp → GoOnTo cells first last → stamp.count + n ≤ last
+    → is_same (record { count = stamp.count + n; site = stamp.site }) FINAL ≡ false → is_kept_character cells (record { count = stamp.count + n; site = stamp.site }) ≡ true
+characters_on cells first stamp last n found run le other =
+    let same = found_stamp cells stamp first (sym found) in
+    let count = ap (λ (s : Stamp). s.count) same in
+    let held = run_held cells first last n run (omega (arith, le, count)) in
+    let among = ap (λ (s : Stamp). is_among (stamps_of cells) (record { count = s.count + n; site = s.site })) (sym same) ∙ held in
+    λ i. not (other i) && among i
+
+-- where nothing is found is no character
+pub not_found : (cells : List (Cell ℕ)) (stamp : Stamp) → cell_of cells stamp ≡ None → is_kept_character cells stamp ≡ false
+not_found cells stamp none = ap (λ b. not (is_same stamp FINAL) && b) (sym (stamp_held cells stamp) ∙ ap is_some none) ∙ and_false (not (is_same stamp FINAL))
+  where
+    and_false : (b : Bool) → (b && false) ≡ false
+    and_false true = refl
+    and_false false = refl
+
+-- a stamp of a real site isn't the final newline's
+pub is_real : (count site : ℕ) → (site ≡ 0 → ⊥) → is_same (record { count = count; site = site }) FINAL ≡ false
+is_real count site h = grind (arith, nat_tests, h)
+
+-- PLACES
+
+-- the places of what some stamps find and of what the rest finds
+pub places_parted : (cells : List (Cell ℕ)) (site count to last : ℕ) → count ≤ to → to ≤ last
+    → places_of cells (cells_found cells (stamps_from site count (last + 1 - count)))
+    ≡ places_of cells (cells_found cells (stamps_from site count (to + 1 - count))) ++ places_of cells (cells_found cells (stamps_from site (to + 1) (last + 1 - (to + 1))))
+places_parted cells site count to last l m =
+    let front = stamps_from site count (to + 1 - count) in
+    let rest = stamps_from site (to + 1) (last + 1 - (to + 1)) in
+    ap (λ stamps. places_of cells (cells_found cells stamps)) (parted site count to last l m)
+    ∙ ap (places_of cells) (flat_map-append (λ stamp. one_or_none (cell_of cells stamp)) front rest)
+    ∙ flat_map-append (place_of cells) (cells_found cells front) (cells_found cells rest)
+
+none_of_gone : (cells : List (Cell ℕ)) (cell : Cell ℕ) → cell.gone ≡ true → place_of cells cell ≡ []
+none_of_gone cells cell gone = ap (λ b. cond b [] (place_of cells (record cell { gone = false }))) gone
+
+gone_from : (cells : List (Cell ℕ)) (site count n : ℕ) → ((k : ℕ) → k < n → (cell : Cell ℕ) × (cell_of cells (record { count = count + k; site = site }) ≡ Some cell) × (cell.gone ≡ true))
+    → places_of cells (cells_found cells (stamps_from site count n)) ≡ []
+gone_from cells site count zero h = refl
+gone_from cells site count (suc n) h =
+    let (cell, found, gone) = h 0 (omega arith) in
+    let z : count + 0 ≡ count = omega arith in
+    let first : cell_of cells (record { count = count; site = site }) ≡ Some cell = ap (λ c. cell_of cells (record { count = c; site = site })) (sym z) ∙ found in
+    let more = gone_from cells site (count + 1) n (λ k lt. let e : count + 1 + k ≡ count + suc k = omega arith in
+    let (c, f, g) = h (suc k) (omega (arith, lt)) in (c, ap (λ c. cell_of cells (record { count = c; site = site })) e ∙ f, g)) in
+    ap (λ o. places_of cells (one_or_none o ++ cells_found cells (stamps_from site (count + 1) n))) first
+    ∙ ap (λ l. l ++ places_of cells (cells_found cells (stamps_from site (count + 1) n))) (none_of_gone cells cell gone)
+    ∙ more
+
+-- a run of gone cells has no places
+pub none_in_run : (cells : List (Cell ℕ)) (first : Cell ℕ) (stamp : Stamp) (to : ℕ) → AreDistinct cells → first.stamp ≡ stamp → first.gone ≡ true → GoOnTo cells first to
+    → places_of cells (cells_found cells (stamps_from stamp.site stamp.count (to + 1 - stamp.count))) ≡ []
+none_in_run cells first stamp to distinct same gone run =
+    ap (λ (s : Stamp). places_of cells (cells_found cells (stamps_from s.site s.count (to + 1 - s.count)))) (sym same)
+    ∙ gone_from cells first.stamp.site first.stamp.count (to + 1 - first.stamp.count) (λ k lt.
+    let (cell, found, on) = run_found cells first to k distinct run (omega (arith, lt)) in (cell, found, on.gone ∙ gone))
+
+-- the places of what one stamp finds
+pub place_of_one : (cells : List (Cell ℕ)) (stamp : Stamp) → places_of cells (cells_found cells (stamps_from stamp.site stamp.count (stamp.count + 1 - stamp.count))) ≡ places_of cells (one_or_none (cell_of cells stamp))
+place_of_one cells stamp =
+    let n : stamp.count + 1 - stamp.count ≡ 1 = omega arith in
+    ap (λ n. places_of cells (cells_found cells (stamps_from stamp.site stamp.count n))) n
+    ∙ ap (places_of cells) (nil_behind (one_or_none (cell_of cells stamp)))
+  where
+    nil_behind : (l : List (Cell ℕ)) → l ++ [] ≡ l
+    nil_behind [] = refl
+    nil_behind (x ∷ l) = ap (λ m. x ∷ m) (nil_behind l)
