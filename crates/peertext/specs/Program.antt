@@ -24,7 +24,7 @@ BeginsFresh site file left result =
 abbrev pub RunsFresh : List NamedFile → State → Bool → Option (List ℕ) → Stream → Option (List ℕ) → Stream → Outcome → Type 0
 RunsFresh files site wants_log script left before after outcome = RunsScript files site wants_log (fresh script) left (fresh before) after outcome
 
--- The log's file was written, or it wasn't: it is tried where the log was told and is wanted.
+-- Where the log is told and wanted its file was written, or it wasn't. Where telling it found no memory, that is the failure.
 abbrev pub WritesLog : Option (Bor (List ℕ)) → Option (Result (Vec ℕ Global) Fault) → Option Failure → Type 0
 WritesLog out None written = written ≡ None
 WritesLog out (Some (Err fault)) written = written ≡ run_failure (Some fault)

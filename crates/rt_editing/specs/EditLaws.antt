@@ -71,7 +71,7 @@ ReplacementIsTakenBack =
     tagged_text (reverted new (action_of Replace view.doc new (lost_in view (range ∷ [])) ∷ [])).cells ≡ tagged_text view.doc.cells
 
 -- Where each character that a group took away was taken once and is gone, and the counts fit, just these come back when it is
--- reverted. They are told by their former stamps, in the order of reverting; each has a newer one then.
+-- reverted. They are told by their former stamps, in the order of reverting.
 abbrev pub AllComeBack : Type 0
 AllComeBack =
     (site : ℕ) (log : List Operation) (flat : Flat) (group : List (Action (List Word))) → 0 < site → IsHistory log → IsDocument site log flat

@@ -1,4 +1,4 @@
--- Where no memory was wanting, there is one way that things go.
+-- Where no memory was wanting, there is at most one way that things go.
 use Rattle.std.specs.Prelude.{◌≡◌, ◌≢◌, ℕ, List, [], ◌∷◌, Ok, Option}
 use mathlib.Core.Logic.{inl, inr}
 use Rattle.rt_stamps.specs.declared.fault.Fault.{Fault}
@@ -63,7 +63,7 @@ module _ {Site : Type 0} (log : Site → List Operation) (limit : Site → ℕ) 
       → Receives log limit after bytes old received new → Type 0
   FileFoundMemory bytes old received new h = OffersFoundMemory h.0 h.1 h.2 old received new h.4
 
-  -- then a file has one answer, and leaves one state
+  -- then a file has at most one answer, and leaves at most one state
   abbrev pub FilesGoOneWay : Type 0
   FilesGoOneWay =
       (bytes : List ℕ) (old : State Site) (received other : Received) (new left : State Site)

@@ -63,10 +63,9 @@ pub fn arrivals()
     ensures order { (arrived : List Operation) → AreRising (by_stamp arrived) }
 {}
 
-/// Where no memory was wanting, held operations settle in one way, and a received file has one answer and leaves one
-/// state. There is such a way: from each state held operations settle so. Of sites to whose log comes what is new when they
-/// take it, and whose limit stays (`TakesNew`; a `Taking` promises it of each operation that its `take` took), also each
-/// operation whose reply is no refusal can be offered so, and each file that is read as operations can be received so.
+/// Where no memory was wanting, there is at most one way in which held operations settle, and in which a file is received.
+/// From each state there is one in which held operations settle. Over sites to whose log comes what is new when they take it,
+/// and whose limit stays (`TakesNew`), there is also one for each offer that isn't refused, and for each file that is read.
 pub fn one_way<Site>()
     ensures settles { SettlesAlone }
     ensures found { SettledFindsMemory }

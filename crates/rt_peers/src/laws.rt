@@ -126,8 +126,8 @@ pub fn lives_on()
     ensures events { EventsLive }
 {}
 
-/// Where no memory was wanting, a call has one answer and leaves one state: two sites in the same state that are asked the
-/// same go on as one. So it is of any calls, one after the other. Each file that is read can be received so.
+/// Where no memory was wanting, a call has at most one answer and leaves at most one state: two sites in the same state that
+/// are asked the same go on as one. So it is of any calls, one after the other. Each file that is read can be received so.
 pub fn one_way()
     ensures requests { RequestsGoOneWay }
     ensures others { OthersGoOneWay }

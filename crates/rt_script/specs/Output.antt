@@ -65,7 +65,7 @@ BeginFoundMemory number (Some log) start h = ReceivingFoundMemory log.now (new_s
 
 -- ONE OUTPUT
 
--- Lines that are run one after the other have one answer each, and leave one site.
+-- Lines that are run one after the other have at most one answer each, and leave at most one site.
 abbrev pub LinesGoOneWay : Type 0
 LinesGoOneWay =
     (lines : List (List ℕ)) (one two : List Answer) (old new left : Session)
@@ -90,7 +90,7 @@ pub record IsWhole {number : ℕ} {end : State} (run : IsRun number end) (given 
   pub finds : LinesFoundMemory (record { site = run.start; files = run.files }) (answered (lines_of run.runs.0.read)) (run.runs.0.whole whole).2.answers
       (record { site = run.outcome.site; files = run.files }) (run.runs.0.whole whole).2.runs
 
--- Such a run writes one text, and leaves one site.
+-- Such runs write the same text, and leave the same site.
 abbrev pub RunsHaveOneOutput : Type 0
 RunsHaveOneOutput =
     (number : ℕ) (given : Given) (end other : State) (run : IsRun number end) (again : IsRun number other) (written rewritten : List ℕ)

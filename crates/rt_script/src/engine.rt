@@ -28,8 +28,8 @@ use std::{mem, str};
 pub struct Ended<C: Drop> {
     /// What ran the lines, as the last line that was run left it.
     pub site: C,
-    /// Why the run ended early: `ReadFault`, `WriteFault`, or `NoMemory`, as where a line can't be
-    /// stored.
+    /// Why the run ended early: `ReadFault`, `WriteFault`, or `NoMemory`, for instance where a line
+    /// can't be stored.
     pub fault: Option<Fault>,
 }
 

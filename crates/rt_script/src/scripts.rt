@@ -16,8 +16,8 @@ use std::alloc::Global;
 /// bytes; of one name the first counts.
 ///
 /// `ReadFault` where a read failed, or the script passed `MOST_BYTES` bytes (at most `MOST_READS` reads are taken, which
-/// suffice for so many bytes: `laws::reads_suffice`); `NoMemory`, as where a line can't be stored: then the lines were run
-/// that were complete before the last read, and perhaps more; `WriteFault` where a write failed or took nothing.
+/// suffice for so many bytes: `laws::reads_suffice`); `NoMemory`, for instance where a line can't be stored: then the lines
+/// were run that were complete before the last read, and perhaps more; `WriteFault` where a write failed or took nothing.
 pub fn run<R: Source, W: Sink>(
     alloc: Global,
     site: SiteState,

@@ -40,11 +40,12 @@ impl SiteState {
         receive(self.alloc, &mut self.text, &mut self.held, bytes)
     }
 
-    /// Receives the bytes of a file as `receive` does, and tells what changed on the visible text: operation by operation, in
-    /// an order in which they could be taken, those among them that had been held. Each change is of the text that those before it
-    /// left, so all of them, done one after the other to what was shown, with its tags, give what is shown now. Only what
-    /// changes is told: each place that a change names is one that its operation changes. An operation for whose telling
-    /// memory is wanting is refused as one that finds none itself.
+    /// Receives the bytes of a file as `receive` does, and tells what changed on the visible text, in an order in which the
+    /// operations could be taken, those among them that had been held. Each change is of the text that those before it left,
+    /// so all of them, done one after the other to what was shown, with its tags, give what is shown now. Only what changes is
+    /// told: each place that a change names is one that its operation changes. Telling takes memory too: where it is wanting
+    /// for an operation of the file, this ends with `NoMemory`; a held one stays held, which no fault tells. All changes are
+    /// kept until the file ends.
     pub fn receive_telling(&mut self, bytes: &[u8]) -> ReceivedChanges
         requires { length bytes.now ≤ MOST_BYTES }
         ensures receives { SiteReceives bytes.now self.old result.received self.new }

@@ -8,7 +8,7 @@ use rt_store::TextStore;
 use rt_views::Limits;
 
 impl<S: TextStore> View<S> {
-    /// The limits of what one of the other widgets shows.
+    /// The limits of what one of the other widgets shows; `other` counts from 0 the widgets behind the one that commands.
     pub fn other_limits(&self, other: usize) -> Limits
         requires { other < length self.now.others }
         ensures { option_map (λ own. own.limits) (slice_get self.now.others other) ≡ Some result }
