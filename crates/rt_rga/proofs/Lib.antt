@@ -20,6 +20,7 @@ pub mod Later
 pub mod Limits
 pub mod Making
 pub mod Merging
+pub mod NamedRuns
 pub mod Orders
 pub mod PlaceRuns
 pub mod PlacesAt

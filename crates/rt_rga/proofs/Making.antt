@@ -10,7 +10,7 @@ use Rattle.rt_rga.specs.Made.{refusal_of, unless_refused}
 use Rattle.rt_rga.proofs.Skipping.{split}
 use Rattle.rt_rga.specs.Cells.{cells_of}
 use Rattle.rt_rga.specs.Drafts.{AreDraftsFor, next_operation, operations_of, with_drafts}
-use Rattle.rt_rga.specs.Histories.{IsHistory, greatest_last_count}
+use Rattle.rt_rga.specs.Histories.{IsHistory, greatest_last_count, inserted}
 use Rattle.rt_oplog.specs.Logs.{known_end, with_operation}
 use Rattle.rt_stamps.specs.declared.limits.TheConstants.{GREATEST_COUNT}
 use Rattle.rt_stamps.specs.declared.fault.Fault.TheVariants.{ClockSpent, TextFull}
@@ -22,7 +22,7 @@ use Rattle.rt_rga.proofs.Putting.{length_fresh}
 use Rattle.rt_rga.specs.Requests.{MayBeMade, characters_in_all, last_count_after, made_within}
 use Rattle.rt_rga.specs.Making.{fresh_by, fresh_cells}
 use Rattle.rt_rga.proofs.Replicas.{all_from_states}
-use Rattle.rt_rga.proofs.Requests.{all_counted, drafts_for, not_less}
+use Rattle.rt_rga.proofs.Requests.{all_counted, drafts_for, inserted_length, not_less}
 use Rattle.rt_stamps.specs.declared.stamp.Stamp.{Stamp}
 use Rattle.rt_stamps.specs.declared.stamp.TheConstants.{ROOT}
 use Rattle.rt_store.specs.declared.cell.Cell.{Cell}
@@ -130,6 +130,17 @@ in_turn site (draft ∷ drafts) set p d = (draft_continues site set draft p d.0,
 pub are_newest : (site : ℕ) (drafts : List Body) (set : List Operation) → AreNewest set (operations_of site drafts set)
 are_newest site [] set = tt
 are_newest site (draft ∷ drafts) set = (omega arith, are_newest site drafts (with_operation (next_operation site draft set) set))
+
+-- one operation has so many new cells as it inserts characters
+pub one_counted : (ops : List Operation) (op : Operation) → length ops ≡ 1 → op ≡ get_or ops 0 op → length (fresh_cells ops) ≡ length (inserted op)
+one_counted [] op n e = absurd (cc n)
+one_counted (o ∷ []) op n e =
+    let m = length-append (fresh_by (stamp_of o) o.body) [] in
+    let fresh = length_fresh (stamp_of o) o.body in
+    let same : length (inserted o) ≡ length (inserted op) = ap (λ (x : Operation). length (inserted x)) (sym e) in
+    let one = inserted_length (stamp_of o) o.body in
+    omega (arith, m, fresh, same, one)
+one_counted (o ∷ p ∷ ops) op n e = (let bad : ⊥ = omega (arith, n) in absurd bad)
 
 pub fresh_counted : (site : ℕ) (drafts : List Body) (set : List Operation) → length (fresh_cells (operations_of site drafts set)) ≡ characters_in_all drafts
 fresh_counted site [] set = refl

@@ -16,7 +16,7 @@ use Rattle.rt_store.proofs.Finding.{stamp_held}
 use Rattle.rt_store.proofs.Positions.{found_stamp, run_found, run_held}
 use Rattle.rt_tags.specs.Borders.{one_or_none}
 use Rattle.rt_rga.specs.Kept.{is_kept_character}
-use Rattle.rt_rga.specs.Removed.{place_of, places_of}
+use Rattle.rt_rga.specs.NamedRuns.{place_of, places_of}
 use Rattle.rt_rga.specs.Runs.{cells_found}
 
 -- the stamps from a count on are some first ones and the rest
@@ -90,51 +90,3 @@ not_found cells stamp none = ap (λ b. not (is_same stamp FINAL) && b) (sym (sta
 -- a stamp of a real site isn't the final newline's
 pub is_real : (count site : ℕ) → (site ≡ 0 → ⊥) → is_same (record { count = count; site = site }) FINAL ≡ false
 is_real count site h = grind (arith, nat_tests, h)
-
--- PLACES
-
--- the places of what some stamps find and of what the rest finds
-pub places_parted : (cells : List (Cell ℕ)) (site count to last : ℕ) → count ≤ to → to ≤ last
-    → places_of cells (cells_found cells (stamps_from site count (last + 1 - count)))
-    ≡ places_of cells (cells_found cells (stamps_from site count (to + 1 - count))) ++ places_of cells (cells_found cells (stamps_from site (to + 1) (last + 1 - (to + 1))))
-places_parted cells site count to last l m =
-    let front = stamps_from site count (to + 1 - count) in
-    let rest = stamps_from site (to + 1) (last + 1 - (to + 1)) in
-    ap (λ stamps. places_of cells (cells_found cells stamps)) (parted site count to last l m)
-    ∙ ap (places_of cells) (flat_map-append (λ stamp. one_or_none (cell_of cells stamp)) front rest)
-    ∙ flat_map-append (place_of cells) (cells_found cells front) (cells_found cells rest)
-
-none_of_gone : (cells : List (Cell ℕ)) (cell : Cell ℕ) → cell.gone ≡ true → place_of cells cell ≡ []
-none_of_gone cells cell gone = ap (λ b. cond b [] (place_of cells (record cell { gone = false }))) gone
-
-gone_from : (cells : List (Cell ℕ)) (site count n : ℕ) → ((k : ℕ) → k < n → (cell : Cell ℕ) × (cell_of cells (record { count = count + k; site = site }) ≡ Some cell) × (cell.gone ≡ true))
-    → places_of cells (cells_found cells (stamps_from site count n)) ≡ []
-gone_from cells site count zero h = refl
-gone_from cells site count (suc n) h =
-    let (cell, found, gone) = h 0 (omega arith) in
-    let z : count + 0 ≡ count = omega arith in
-    let first : cell_of cells (record { count = count; site = site }) ≡ Some cell = ap (λ c. cell_of cells (record { count = c; site = site })) (sym z) ∙ found in
-    let more = gone_from cells site (count + 1) n (λ k lt. let e : count + 1 + k ≡ count + suc k = omega arith in
-    let (c, f, g) = h (suc k) (omega (arith, lt)) in (c, ap (λ c. cell_of cells (record { count = c; site = site })) e ∙ f, g)) in
-    ap (λ o. places_of cells (one_or_none o ++ cells_found cells (stamps_from site (count + 1) n))) first
-    ∙ ap (λ l. l ++ places_of cells (cells_found cells (stamps_from site (count + 1) n))) (none_of_gone cells cell gone)
-    ∙ more
-
--- a run of gone cells has no places
-pub none_in_run : (cells : List (Cell ℕ)) (first : Cell ℕ) (stamp : Stamp) (to : ℕ) → AreDistinct cells → first.stamp ≡ stamp → first.gone ≡ true → GoOnTo cells first to
-    → places_of cells (cells_found cells (stamps_from stamp.site stamp.count (to + 1 - stamp.count))) ≡ []
-none_in_run cells first stamp to distinct same gone run =
-    ap (λ (s : Stamp). places_of cells (cells_found cells (stamps_from s.site s.count (to + 1 - s.count)))) (sym same)
-    ∙ gone_from cells first.stamp.site first.stamp.count (to + 1 - first.stamp.count) (λ k lt.
-    let (cell, found, on) = run_found cells first to k distinct run (omega (arith, lt)) in (cell, found, on.gone ∙ gone))
-
--- the places of what one stamp finds
-pub place_of_one : (cells : List (Cell ℕ)) (stamp : Stamp) → places_of cells (cells_found cells (stamps_from stamp.site stamp.count (stamp.count + 1 - stamp.count))) ≡ places_of cells (one_or_none (cell_of cells stamp))
-place_of_one cells stamp =
-    let n : stamp.count + 1 - stamp.count ≡ 1 = omega arith in
-    ap (λ n. places_of cells (cells_found cells (stamps_from stamp.site stamp.count n))) n
-    ∙ ap (places_of cells) (nil_behind (one_or_none (cell_of cells stamp)))
-  where
-    nil_behind : (l : List (Cell ℕ)) → l ++ [] ≡ l
-    nil_behind [] = refl
-    nil_behind (x ∷ l) = ap (λ m. x ∷ m) (nil_behind l)

@@ -61,7 +61,7 @@ all_count_on site (draft ∷ drafts) set =
     let op = next_operation site draft set in
     all_count_on site drafts (with_operation op set) ∙ ap (λ n. last_count_after n drafts) (count_after op set (omega arith))
 
-inserted_length : (stamp : Stamp) (draft : Body) → length (inserted_by stamp draft) ≡ characters_in draft
+pub inserted_length : (stamp : Stamp) (draft : Body) → length (inserted_by stamp draft) ≡ characters_in draft
 inserted_length stamp (Insert after tags text) = length_text after stamp text
 inserted_length stamp (Delete spans) = refl
 inserted_length stamp (Tag on name spans) = refl

@@ -1,28 +1,28 @@
 -- The places at which a Tag changes whether its tag is on.
-use Rattle.std.proofs.Common.{◌≡◌, ℕ, ◌+◌, ◌<◌, List, [], ◌∷◌, ◌++◌, Bool, true, false, cond, not, ◌&&◌, ◌==◌, filter, get_or, length, map, take, refl, sym, ◌∙◌, ap, Option, Some, None}
+use Rattle.std.proofs.Common.{◌≡◌, ℕ, ◌+◌, ◌<◌, List, [], ◌∷◌, ◌++◌, Bool, true, false, cond, not, ◌&&◌, All, filter, get_or, length, map, take, refl, sym, ◌∙◌, ap, Option, Some, None}
 use Rattle.std.specs.Prelude.{option_map, slice_get, unwrap_or}
-use Rattle.std.specs.List.{list_any}
 use Rattle.std.proofs.lemmas.List.{take_more}
 use Rattle.std.proofs.lemmas.List.Elements.{filter-append}
 use Rattle.rt_stamps.specs.declared.stamp.Span.{Span}
 use Rattle.rt_stamps.specs.declared.stamp.Stamp.{Stamp}
 use Rattle.rt_stamps.specs.Stamps.{is_before}
-use Rattle.rt_ops.specs.Operations.{Body, Name, Tag, stamps_in}
+use Rattle.rt_ops.specs.Operations.{Name, Tag}
 use Rattle.rt_store.specs.declared.cell.Cell.{Cell}
-use Rattle.rt_store.specs.Cells.{AreDistinct, visible_of}
+use Rattle.rt_store.specs.declared.cell.CellRun.{CellRun}
+use Rattle.rt_store.specs.Cells.{AreDistinct, stamps_of, visible_of}
 use Rattle.rt_store.specs.Shown.{TaggedCell, shown}
-use Rattle.rt_store.specs.Spans.{is_in_spans}
+use Rattle.rt_store.specs.Spans.{is_among, is_in_spans}
 use Rattle.rt_store.proofs.Shown.{visible_at_shown}
 use Rattle.rt_tags.specs.States.{IsState, IsTag, KeepsIds, TagStates, Write, is_kept, is_on, is_settled, name_at, says_on, state_at, write_at, write_of, written}
 use Rattle.rt_tags.proofs.Greatest.{newer, write_of_written}
 use Rattle.rt_tags.proofs.Listing.{keeps_both}
 use Rattle.rt_tags.proofs.Places.{name_itself, split}
 use Rattle.rt_rga.specs.Changes.{with_write, written_in_any}
-use Rattle.rt_rga.specs.Removed.{changes_kept, places_of}
-use Rattle.rt_rga.specs.Runs.{cells_found}
+use Rattle.rt_rga.specs.NamedRuns.{IsRun, changes_kept, names_at, spans_of_runs}
 use Rattle.rt_rga.specs.Taken.{changes_tag, differ, retags}
-use Rattle.rt_rga.proofs.PlacesAt.{get_within}
-use Rattle.rt_rga.proofs.RemovedPlaces.{places_passing}
+use Rattle.rt_store.proofs.Positions.{among_at}
+use Rattle.rt_rga.proofs.NamedRuns.{passing}
+use Rattle.rt_rga.proofs.RemovedPlaces.{found_visible, visible_from}
 
 module _ (stamp : Stamp) (on : Bool) (name : Name) (spans : List Span) where
   abbrev w : Write
@@ -70,27 +70,28 @@ module _ (stamp : Stamp) (on : Bool) (name : Name) (spans : List Span) where
       ∙ ap (λ b. differ (is_on name (state_at table cell.state)) (is_on name (cond b (with_write w (shown table cell)) (shown table cell)).state)) t))
       (λ f. rw f refl)
 
-  -- The places of those cells that a Tag names and changes are those at which it changes the text.
-  pub places_retagged : (table : TagStates) (kept : List (Cell ℕ)) (place : ℕ) → AreDistinct kept
-      → list_any (λ other. other == place) (places_of kept (filter (changes_kept table w) (cells_found kept (stamps_in spans)))) ≡ retags stamp (Tag on name spans) (map (shown table) kept) place
-  places_retagged table kept place d =
-      places_passing (changes_kept table w) kept spans place d
-      ∙ by (slice_get (visible_of kept) place)
+  alike : (table : TagStates) (a b : Cell ℕ) → a.state ≡ b.state → changes_kept table w a ≡ changes_kept table w b
+  alike table a b e = ap (λ s. differ (is_on w.name (state_at table s)) (is_on w.name (written w (state_at table s)))) e
+
+  -- The runs of the cells that a Tag names, of which it changes the first ones, have the places at which it changes the text.
+  pub places_retagged : (table : TagStates) (kept : List (Cell ℕ)) (runs : List CellRun) (place : ℕ) → AreDistinct kept → All (IsRun kept) runs
+      → ((s : Stamp) → is_among (stamps_of kept) s ≡ true → is_in_spans (spans_of_runs runs) s ≡ is_in_spans spans s)
+      → names_at (spans_of_runs (filter (λ run. changes_kept table w run.cell) runs)) kept place ≡ retags stamp (Tag on name spans) (map (shown table) kept) place
+  places_retagged table kept runs place d rs named =
+      by (slice_get (visible_of kept) place) refl
       ∙ sym (ap (λ o. unwrap_or (option_map (changes_tag stamp (Tag on name spans)) o) false) (visible_at_shown (state_at table) kept place))
     where
-      by : (o : Option (Cell ℕ)) → unwrap_or (option_map (λ cell. is_in_spans spans cell.stamp && changes_kept table w cell) o) false ≡ unwrap_or (option_map (changes_tag stamp (Tag on name spans)) (option_map (shown table) o)) false
-      by None = refl
-      by (Some cell) = kept_test table cell
+      by : (o : Option (Cell ℕ)) → slice_get (visible_of kept) place ≡ o
+          → unwrap_or (option_map (λ cell. is_in_spans (spans_of_runs (filter (λ run. changes_kept table w run.cell) runs)) cell.stamp) o) false
+          ≡ unwrap_or (option_map (changes_tag stamp (Tag on name spans)) (option_map (shown table) o)) false
+      by None e = refl
+      by (Some cell) e =
+          let (n, v) = visible_from kept place cell e in
+          passing (changes_kept table w) kept runs cell (alike table) d rs (found_visible kept place cell d e).found
+          ∙ ap (λ b. b && changes_kept table w cell) (named cell.stamp (among_at kept n cell v.there))
+          ∙ kept_test table cell
 
--- a place that is tagged is one of the visible text
-pub retagged_within : (stamp : Stamp) (body : Body) (cells : List TaggedCell) (place : ℕ) → retags stamp body cells place ≡ true → place < length (visible_of cells)
-retagged_within stamp body cells place h = by (slice_get (visible_of cells) place) refl h
-  where
-    by : (o : Option TaggedCell) → slice_get (visible_of cells) place ≡ o → unwrap_or (option_map (changes_tag stamp body) o) false ≡ true → place < length (visible_of cells)
-    by None e t = absurd (cc t)
-    by (Some c) e t = get_within (visible_of cells) place c e
-
--- ONE CELL MORE IS LOOKED AT
+-- ONE RUN MORE IS LOOKED AT
 
 -- what the code compares, in the table with the state after the write
 pub changes_later : (old now new : TagStates) (cell : Cell ℕ) (tag : ℕ) (writer : Stamp) (on : Bool) (after : ℕ)

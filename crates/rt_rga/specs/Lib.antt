@@ -13,7 +13,7 @@ pub mod Names
 pub mod Few
 pub mod Orders
 pub mod Reading
-pub mod Removed
+pub mod NamedRuns
 pub mod Replicas
 pub mod Requests
 pub mod Runs

@@ -1,19 +1,12 @@
 -- Cells on the way to other states.
 use Rattle.std.specs.Prelude.{◌≡◌, ℕ, List, [], ◌∷◌, if◌then◌else◌}
-use Rattle.std.specs.List.{flat_map}
-use Rattle.rt_stamps.specs.declared.stamp.Stamp.{Stamp}
 use Rattle.rt_stamps.specs.Stamps.{is_same}
-use Rattle.rt_tags.specs.Borders.{one_or_none}
 use Rattle.rt_store.specs.declared.cell.Cell.{Cell}
-use Rattle.rt_store.specs.Cells.{cell_of, is_in_span, with_state}
+use Rattle.rt_store.specs.Cells.{is_in_span, with_state}
 pub use Rattle.rt_rga.specs.Changes.{with_write}
 use Rattle.rt_tags.specs.States.{IsState, TagStates, Write, state_at, written}
 use Rattle.rt_rga.specs.declared.tagging.StateChange.{StateChange}
 use Rattle.rt_rga.specs.declared.tagging.StateRun.{StateRun}
-
--- the cells of stamps, in the order of the stamps
-abbrev pub cells_found : {T : Type 0} → List (Cell T) → List Stamp → List (Cell T)
-cells_found cells stamps = flat_map (λ stamp. one_or_none (cell_of cells stamp)) stamps
 
 -- a cell with the state that its copy has, or as it is where it has none
 abbrev pub put_back : {T : Type 0} → List (Cell T) → Cell T → Cell T

@@ -18,7 +18,7 @@ ghost use Rattle.rt_rga.specs.Requests.{characters_in, last_count_after};
 ghost use Rattle.rt_rga.specs.Replicas.{IsReplica};
 
 use crate::Draft;
-use crate::edits::set_all_gone;
+use crate::edits::{change, set_all_gone};
 use crate::few::Few;
 use crate::new_cells::NewCells;
 use crate::plan::planned_states;
@@ -462,6 +462,10 @@ pub(crate) fn change_all<S: TextStore>(
     ensures same { OnErr result (S.list store.new ≡ S.list store.old) }
     ensures fault { IsOkUnless result Fault.NoMemory }
 {
+    // One operation is done as one that is received: a Tag goes from run to run.
+    if ops.len() == 1 {
+        return change(alloc, store, states, log, &ops[0]);
+    }
     let new = fresh(alloc, states, ops)?;
     let cells = new.as_slice();
     let runs = planned_states(alloc, store, states, cells, ops)?;

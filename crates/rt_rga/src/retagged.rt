@@ -1,19 +1,19 @@
 // The places at which a Tag changes whether its tag is on, as runs.
-ghost use Rattle.std.specs.Prelude.{◌≡◌, ◌+◌, ◌≤◌, IfOk, IsOkUnless, ℕ, filter, length, map};
+ghost use Rattle.std.specs.Prelude.{◌≡◌, ◌+◌, ◌≤◌, All, IfOk, IsOkUnless, ℕ, filter, length, map};
 ghost use Rattle.rt_stamps.specs.declared.limits.TheConstants.{MOST_CELLS};
 ghost use Rattle.rt_ops.specs.Operations.{Tag};
 ghost use Rattle.rt_store.specs.Cells.{AreDistinct, visible_of};
 ghost use Rattle.rt_store.specs.Shown.{shown};
-ghost use Rattle.rt_store.specs.Tagged.{AreStates};
 ghost use Rattle.rt_tags.specs.States.{IsState, IsTag, KeepsIds, is_on, name_at, state_at, write_at};
-ghost use Rattle.rt_rga.specs.Removed.{changes_kept};
+ghost use Rattle.rt_rga.specs.NamedRuns.{changes_kept};
 ghost use Rattle.rt_rga.specs.Taken.{AreFallingRuns, differ, is_in_runs, retags};
 
-use crate::removed::{places_of, runs_of, sort};
-use crate::tagging::{StateChange, named_cells, state_with};
+use crate::named::named_runs;
+use crate::places::places_of;
+use crate::tagging::{StateChange, state_with};
 use crate::taken::PlaceRun;
 use rt_stamps::{Fault, Span, Stamp};
-use rt_store::{Cell, TextStore};
+use rt_store::{CellRun, TextStore};
 use rt_tags::{StateId, StateTable, TagId};
 use std::alloc::Global;
 
@@ -27,39 +27,37 @@ fn do_differ(states: &StateTable, tag: TagId, before: StateId, after: StateId) -
     states.has(before, tag) != states.has(after, tag)
 }
 
-/// Those of some cells on which one more write of a tag changes whether it is on. Want of memory.
+/// Those of some runs of cells on which one more write of a tag changes whether it is on. Want of memory.
 #[tactic(auto, using(rt_tags::proofs::Listing::keeps_both))]
-fn changed_cells(
+fn changed_runs(
     alloc: Global,
     states: &mut StateTable,
-    cells: &[Cell<StateId>],
+    runs: &[CellRun],
     tag: TagId,
     writer: Stamp,
     on: bool,
-) -> Result<Vec<Cell<StateId>>, Fault>
-    requires states { AreStates states.old cells.now }
+) -> Result<Vec<CellRun>, Fault>
+    requires states { All (λ run. IsState states.old run.cell.state) runs.now }
     requires tag { IsTag states.old tag }
-    ensures cells { IfOk result (λ changed. changed.items ≡ filter (changes_kept states.old (write_at states.old tag writer on)) cells.now) }
+    ensures runs { IfOk result (λ changed. changed.items ≡ filter (λ run. changes_kept states.old (write_at states.old tag writer on) run.cell) runs.now) }
     ensures ids { KeepsIds states.old states.new }
     ensures fault { IsOkUnless result Fault.NoMemory }
 {
     let mut changed = Vec::new(alloc);
     let mut last = None;
-    for cell in cells {
-        let after = state_with(states, cell.state, tag, writer, on, last)?;
-        last = Some(StateChange {
-            before: cell.state,
-            after,
-        });
-        if do_differ(states, tag, cell.state, after) {
-            changed.push(*cell)?;
+    for run in runs {
+        let before = run.cell.state;
+        let after = state_with(states, before, tag, writer, on, last)?;
+        last = Some(StateChange { before, after });
+        if do_differ(states, tag, before, after) {
+            changed.push(*run)?;
         }
     }
     Ok(changed)
 }
 
 /// The places of the visible cells of spans at which a Tag changes whether its tag is on, as runs, the
-/// last one in the text first. Takes time and memory for the stamps of the spans. Want of memory.
+/// last one in the text first. Takes time and memory for the runs of cells that the spans name. Want of memory.
 pub(crate) fn retagged_in<S: TextStore>(
     alloc: Global,
     store: &S,
@@ -78,10 +76,8 @@ pub(crate) fn retagged_in<S: TextStore>(
     ensures ids { KeepsIds states.old states.new }
     ensures fault { IsOkUnless result Fault.NoMemory }
 {
-    let named = named_cells(alloc, store, spans)?;
+    let named = named_runs(alloc, store, spans)?;
     let tag = states.number(name)?;
-    let cells = changed_cells(alloc, states, &named, tag, writer, on)?;
-    let mut places = places_of(alloc, store, &cells)?;
-    sort(&mut places);
-    runs_of(alloc, &places)
+    let changed = changed_runs(alloc, states, &named, tag, writer, on)?;
+    places_of(alloc, store, &changed)
 }

@@ -8,14 +8,15 @@ ghost use Rattle.rt_store.specs.Shown.{shown};
 ghost use Rattle.rt_store.specs.Spans.{last_stamp, next_stamp};
 ghost use Rattle.rt_store.specs.Tagged.{AreStates};
 ghost use Rattle.rt_tags.specs.States.{IsState, IsTag, KeepsIds, TagStates, name_at, state_at, write_at, written};
-ghost use Rattle.rt_ops.specs.Operations.{stamps_in, stamps_of_span};
 ghost use Rattle.rt_rga.specs.Changes.{written_in_any};
 ghost use Rattle.rt_tags.specs.Borders.{one_or_none};
-ghost use Rattle.rt_rga.specs.Runs.{IsStateChange, cells_found, put_back, put_back_in_any, with_write};
+ghost use Rattle.rt_rga.specs.NamedRuns.{spans_of_runs};
+ghost use Rattle.rt_rga.specs.Runs.{IsStateChange, put_back, put_back_in_any};
 
 use crate::answer::span_of;
+use crate::named::named_runs;
 use rt_stamps::{Fault, Span, Stamp};
-use rt_store::{Cell, TextStore};
+use rt_store::{Cell, CellRun, TextStore};
 use rt_tags::{StateId, StateTable, TagId};
 use std::alloc::Global;
 
@@ -31,41 +32,6 @@ pub(crate) fn push_found(
         cells.push(cell)?;
     }
     Ok(())
-}
-
-/// Adds the cells of a span's stamps. Want of memory.
-fn push_cells<S: TextStore>(
-    store: &S,
-    span: Span,
-    cells: &mut Vec<Cell<StateId>>,
-) -> Result<(), Fault>
-    ensures ok { OnOk result (cells.new.items ≡ cells.old.items ++ cells_found (S.list store.now) (stamps_of_span span)) }
-    ensures fault { IsOkUnless result Fault.NoMemory }
-{
-    for count in span.first..=span.last {
-        let stamp = Stamp {
-            count,
-            site: span.site,
-        };
-        push_found(store.cell_of(stamp), cells)?;
-    }
-    Ok(())
-}
-
-/// The cells of the stamps of spans. Want of memory.
-pub(crate) fn named_cells<S: TextStore>(
-    alloc: Global,
-    store: &S,
-    spans: &[Span],
-) -> Result<Vec<Cell<StateId>>, Fault>
-    ensures ok { IfOk result (λ cells. cells.items ≡ cells_found (S.list store.now) (stamps_in spans.now)) }
-    ensures fault { IsOkUnless result Fault.NoMemory }
-{
-    let mut cells = Vec::new(alloc);
-    for span in spans {
-        push_cells(store, *span, &mut cells)?;
-    }
-    Ok(cells)
 }
 
 /// What a state came into by a write.
@@ -99,47 +65,49 @@ pub(crate) fn state_with(
     }
 }
 
-/// Cells with one more write of a tag. Want of memory.
-#[tactic(auto, using(rt_tags::proofs::Listing::keeps_both))]
-fn written_cells(
-    alloc: Global,
-    states: &mut StateTable,
-    cells: &[Cell<StateId>],
-    tag: TagId,
-    writer: Stamp,
-    on: bool,
-) -> Result<Vec<Cell<StateId>>, Fault>
-    requires states { AreStates states.old cells.now }
-    requires tag { IsTag states.old tag }
-    ensures cells { IfOk result (λ more. map (shown states.new) more.items
-        ≡ map (with_write (write_at states.old tag writer on)) (map (shown states.old) cells.now)) }
-    ensures given { IfOk result (λ more. AreStates states.new more.items) }
-    ensures ids { KeepsIds states.old states.new }
-    ensures fault { IsOkUnless result Fault.NoMemory }
-{
-    let mut more = Vec::new(alloc);
-    let mut last = None;
-    for cell in cells {
-        let state = state_with(states, cell.state, tag, writer, on, last)?;
-        last = Some(StateChange {
-            before: cell.state,
-            after: state,
-        });
-        more.push(Cell {
-            stamp: cell.stamp,
-            ch: cell.ch,
-            gone: cell.gone,
-            state,
-        })?;
-    }
-    Ok(more)
-}
-
 /// A span whose cells come into one state.
 #[derive(Clone, Copy, Debug, PartialEq, Eq)]
 pub(crate) struct StateRun {
     pub span: Span,
     pub state: StateId,
+}
+
+/// Runs of cells with the states that these come into by one more write of a tag. Want of memory.
+#[tactic(auto, using(rt_tags::proofs::Listing::keeps_both))]
+fn written_runs(
+    alloc: Global,
+    states: &mut StateTable,
+    runs: &[CellRun],
+    tag: TagId,
+    writer: Stamp,
+    on: bool,
+) -> Result<Vec<StateRun>, Fault>
+    requires states { All (λ run. IsState states.old run.cell.state) runs.now }
+    requires tag { IsTag states.old tag }
+    ensures spans { IfOk result (λ more. map (λ run. run.span) more.items ≡ spans_of_runs runs.now) }
+    ensures states { IfOk result (λ more. map (λ run. state_at states.new run.state) more.items
+        ≡ map (λ run. written (write_at states.old tag writer on) (state_at states.old run.cell.state)) runs.now) }
+    ensures given { IfOk result (λ more. All (λ run. IsState states.new run.state) more.items) }
+    ensures ids { KeepsIds states.old states.new }
+    ensures fault { IsOkUnless result Fault.NoMemory }
+{
+    let mut more = Vec::new(alloc);
+    let mut last = None;
+    for run in runs {
+        let before = run.cell.state;
+        let state = state_with(states, before, tag, writer, on, last)?;
+        last = Some(StateChange {
+            before,
+            after: state,
+        });
+        let span = Span {
+            site: run.cell.stamp.site,
+            first: run.cell.stamp.count,
+            last: run.last,
+        };
+        more.push(StateRun { span, state })?;
+    }
+    Ok(more)
 }
 
 /// Whether a cell goes on with a run.
@@ -218,10 +186,9 @@ pub(crate) fn tag_cells<S: TextStore>(
     ensures err { OnErr result (S.list store.new ≡ S.list store.old) }
     ensures fault { IsOkUnless result Fault.NoMemory }
 {
-    let named = named_cells(alloc, store, spans)?;
+    let named = named_runs(alloc, store, spans)?;
     let tag = states.number(name)?;
-    let cells = written_cells(alloc, states, &named, tag, writer, on)?;
-    let runs = state_runs(alloc, &cells)?;
+    let runs = written_runs(alloc, states, &named, tag, writer, on)?;
     store.reserve(0, 2 * runs.len(), states.tags())?;
     put_states(store, states, &runs);
     Ok(tag)

@@ -1,4 +1,4 @@
-use Rattle.std.proofs.Common.{◌∙◌, ◌++◌, ℕ, All, List, map, subst, sym, refl, arith, ap, length}
+use Rattle.std.proofs.Common.{◌∙◌, ◌+◌, ◌++◌, ℕ, All, List, map, subst, sym, refl, arith, ap, length}
 use Rattle.rt_ops.specs.Operations.{Operation}
 use Rattle.rt_store.specs.declared.cell.Cell.{Cell}
 use Rattle.rt_store.specs.Cells.{AreDistinct}
@@ -8,7 +8,8 @@ use Rattle.rt_rga.specs.Making.{CanAllBePut, kept_after}
 use Rattle.rt_rga.specs.Runs.{put_back_in_any}
 use Rattle.rt_rga.proofs.Batching.{ComesOut, batch_counts, batch_kept, batch_length, batch_placed}
 use Rattle.rt_rga.proofs.Fresh.{all_back, all_front, fresh_counts, fresh_distinct, fresh_states}
-use Rattle.std.proofs.lemmas.Result.{err_from_is_err_and}
+use Rattle.std.proofs.lemmas.Result.{err_from_is_err_and, on_ok_weaker}
+use Rattle.rt_rga.proofs.Making.{one_counted}
 use Rattle.rt_tags.proofs.Listing.{keeps_both}
 use Rattle.rt_store.proofs.GivenStates.{kept_states}
 use Rattle.rt_tags.specs.States.{IsState}
@@ -109,3 +110,14 @@ put_states-requires-clause-room g c =
 
 pub returns-clause-agrees : goal.returns-clause-agrees
 returns-clause-agrees g c = c.put_states.ensures.states
+
+-- one operation alone
+pub change-requires-clause-room : goal.change-requires-clause-room
+change-requires-clause-room g c =
+    let same = one_counted c.args.ops.now c.index-ops-0.result c.if-ops-eq1.true c.index-ops-0.is in
+    omega (arith, c.requires.room, same)
+
+pub returns-then-ops-eq1-clause-cells : goal.returns-then-ops-eq1-clause-cells
+returns-then-ops-eq1-clause-cells g c =
+    let kept : List (Cell ℕ) = g.S.TextStore.list c.args.store.now in
+    on_ok_weaker c.change.result (λ e. e ∙ ap (λ n. length kept + n) (sym (one_counted c.args.ops.now c.index-ops-0.result c.if-ops-eq1.true c.index-ops-0.is))) c.change.ensures.cells
