@@ -1,8 +1,7 @@
 -- The stamps of a run, and what is found by them.
-use Rattle.std.proofs.Common.{◌≡◌, ℕ, zero, suc, ◌+◌, ◌-◌, ◌<◌, ◌≤◌, Bool, true, false, refl, sym, ap, ◌∙◌, arith, Some, None, List, [], ◌∷◌, ◌++◌, ◌&&◌, ◌||◌, cond, not}
+use Rattle.std.proofs.Common.{◌≡◌, ℕ, zero, suc, ◌+◌, ◌-◌, ◌<◌, ◌≤◌, Bool, true, false, refl, sym, ap, ◌∙◌, arith, Some, None, List, ◌∷◌, ◌++◌, ◌&&◌, ◌||◌, not}
 use Rattle.std.specs.List.{list_any}
 use Rattle.std.specs.Option.{is_some}
-use Rattle.std.proofs.lemmas.List.Concat.{flat_map-append}
 use Rattle.std.proofs.lemmas.List.Folds.{list_any-append}
 use Rattle.std.proofs.lemmas.Bool.Decides.{nat_tests}
 use Rattle.rt_stamps.specs.declared.stamp.Stamp.{Stamp}
@@ -10,14 +9,11 @@ use Rattle.rt_stamps.specs.declared.stamp.TheConstants.{FINAL}
 use Rattle.rt_stamps.specs.Stamps.{is_same}
 use Rattle.rt_ops.specs.Operations.{stamps_from}
 use Rattle.rt_store.specs.declared.cell.Cell.{Cell}
-use Rattle.rt_store.specs.Cells.{AreDistinct, GoOnTo, cell_of, stamps_of}
+use Rattle.rt_store.specs.Cells.{GoOnTo, cell_of, stamps_of}
 use Rattle.rt_store.specs.Spans.{is_among}
 use Rattle.rt_store.proofs.Finding.{stamp_held}
-use Rattle.rt_store.proofs.Positions.{found_stamp, run_found, run_held}
-use Rattle.rt_tags.specs.Borders.{one_or_none}
+use Rattle.rt_store.proofs.Positions.{found_stamp, run_held}
 use Rattle.rt_rga.specs.Kept.{is_kept_character}
-use Rattle.rt_rga.specs.NamedRuns.{place_of, places_of}
-use Rattle.rt_rga.specs.Runs.{cells_found}
 
 -- the stamps from a count on are some first ones and the rest
 parts : (site count n m : ℕ) → stamps_from site count (n + m) ≡ stamps_from site count n ++ stamps_from site (count + n) m
