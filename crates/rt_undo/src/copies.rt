@@ -1,5 +1,5 @@
 // Copies of actions, with the stamps that their characters have now.
-ghost use Rattle.std.specs.Prelude.{◌≡◌, [], ◌∷◌, ◌++◌, ◌&&◌, map, IsOkUnless, IfOk, OnOk};
+ghost use Rattle.std.specs.Prelude.{◌≡◌, [], ◌∷◌, ◌++◌, ◌&&◌, map, IsOkUnless, IfOk, OnErr, OnOk};
 ghost use Rattle.rt_ops.specs.Operations.{stamps_in, stamps_of_span};
 ghost use Rattle.rt_undo.specs.Actions.{action_of, group_of, removed_in, removed_with, with_stamp, with_stamps};
 ghost use Rattle.rt_undo.specs.Groups.{AreStill};
@@ -23,22 +23,25 @@ fn is_next(span: Span, stamp: Stamp) -> bool
         && stamp.count - span.last == 1
 }
 
-/// Adds a stamp to those of spans, to the last span where it is the next one. Want of memory.
+/// Adds a stamp to those of spans, to the last span where it is the next one, and that takes no memory. Want of
+/// memory, and then the spans are as they were.
 pub fn push_stamp(spans: &mut Vec<Span>, stamp: Stamp) -> Result<(), Fault>
     ensures ok { OnOk result (stamps_in spans.new.items ≡ stamps_in spans.old.items ++ stamp ∷ []) }
+    ensures same { OnErr result (spans.new.items ≡ spans.old.items) }
     ensures fault { IsOkUnless result Fault.NoMemory }
 {
-    let mut span = Span {
+    let span = Span {
         site: stamp.site,
         first: stamp.count,
         last: stamp.count,
     };
     if let Some(last) = spans.pop() {
         if is_next(last, stamp) {
-            span.first = last.first;
-        } else {
-            spans.push(last)?;
+            let first = last.first;
+            spans.push_reserved(Span { first, ..span });
+            return Ok(());
         }
+        spans.push_reserved(last);
     }
     spans.push(span)?;
     Ok(())
@@ -71,13 +74,15 @@ pub fn spans_now(alloc: Global, renames: &Renames, spans: &[Span]) -> Result<Vec
     Ok(copy)
 }
 
-// Adds removed characters that had the same tags.
+// Adds removed characters that had the same tags. Want of memory, and then all is as it was.
 fn push_removed(spans: &[Span], state: StateId, removed: &mut Vec<RemovedSpan>) -> Result<(), Fault>
     ensures ok { OnOk result (removed_in removed.new.items ≡ removed_in removed.old.items ++ map (removed_with state) (stamps_in spans.now)) }
+    ensures same { OnErr result (removed.new.items ≡ removed.old.items) }
     ensures fault { IsOkUnless result Fault.NoMemory }
 {
+    removed.reserve(spans.len())?;
     for span in spans {
-        removed.push(RemovedSpan { span: *span, state })?;
+        removed.push_reserved(RemovedSpan { span: *span, state });
     }
     Ok(())
 }

@@ -136,13 +136,15 @@ fn asks_separator(current: &[Action], kind: Kind) -> bool
     }
 }
 
-// Adds the numbers of actions.
+// Adds the numbers of actions. Want of memory, and then the list is as it was.
 fn push_numbers(actions: &[Action], numbers: &mut Vec<u64>) -> Result<(), Fault>
     ensures ok { OnOk result (numbers.new.items ≡ numbers.old.items ++ numbers_of actions.now) }
+    ensures same { OnErr result (numbers.new.items ≡ numbers.old.items) }
     ensures fault { IsOkUnless result Fault.NoMemory }
 {
+    numbers.reserve(actions.len())?;
     for action in actions {
-        numbers.push(action.number)?;
+        numbers.push_reserved(action.number);
     }
     Ok(())
 }
