@@ -1,5 +1,5 @@
 // Lists that are mostly of one.
-ghost use Rattle.std.specs.Prelude.{◌≡◌, ◌++◌, ◌∷◌, [], IsOkUnless, OnOk};
+ghost use Rattle.std.specs.Prelude.{◌≡◌, ◌++◌, ◌∷◌, [], IsOkUnless, OnErr, OnOk};
 ghost use Rattle.rt_stamps.specs.declared.fault.Fault.{Fault};
 ghost use Rattle.rt_rga.specs.Few.{items_in};
 
@@ -22,9 +22,10 @@ impl<T: Drop> Few<T> {
         Few::Many(Vec::new(alloc))
     }
 
-    /// Adds the items behind those of a list. Want of memory, and then that list may be any.
+    /// Adds the items behind those of a list. Want of memory, and then that list has the items that it had.
     pub fn move_to(self, list: &mut Vec<T>) -> Result<(), Fault>
         ensures ok { OnOk result (list.new.items ≡ list.old.items ++ items_in self) }
+        ensures same { OnErr result (list.new.items ≡ list.old.items) }
         ensures err { IsOkUnless result Fault.NoMemory }
     {
         match self {
@@ -37,12 +38,13 @@ impl<T: Drop> Few<T> {
         Ok(())
     }
 
-    /// Adds an item behind the others: the first one takes no memory. Want of memory, and then the list may
-    /// be any.
+    /// Adds an item behind the others: the first one takes no memory. Want of memory, and then the items
+    /// are as they were.
     // It is compiled into its callers, as an item may be large.
     #[inline(always)]
     pub fn push(&mut self, alloc: Global, item: T) -> Result<(), Fault>
         ensures ok { OnOk result (items_in self.new ≡ items_in self.old ++ item ∷ []) }
+        ensures same { OnErr result (items_in self.new ≡ items_in self.old) }
         ensures err { IsOkUnless result Fault.NoMemory }
     {
         match self {
@@ -50,17 +52,35 @@ impl<T: Drop> Few<T> {
             Few::Many(items) => items.push(item)?,
             Few::One(_) => {
                 let mut items = Vec::new(alloc);
-                replace(self, Few::none(alloc)).move_to(&mut items)?;
-                items.push(item)?;
+                items.reserve(2)?;
+                let Few::One(first) = replace(self, Few::none(alloc)) else {
+                    unreachable!()
+                };
+                items.push_reserved(first);
+                items.push_reserved(item);
                 *self = Few::Many(items);
             }
         }
         Ok(())
     }
 
-    /// Adds the items of a list behind the others. Want of memory, and then the list may be any.
-    pub fn append(&mut self, alloc: Global, more: Vec<T>) -> Result<(), Fault>
+    /// Adds the items of another list behind the others; those of a list of one as `push` does. Want of memory,
+    /// and then the items are as they were.
+    pub fn append(&mut self, alloc: Global, more: Few<T>) -> Result<(), Fault>
+        ensures ok { OnOk result (items_in self.new ≡ items_in self.old ++ items_in more) }
+        ensures same { OnErr result (items_in self.new ≡ items_in self.old) }
+        ensures err { IsOkUnless result Fault.NoMemory }
+    {
+        match more {
+            Few::One(item) => self.push(alloc, item),
+            Few::Many(items) => self.append_list(alloc, items),
+        }
+    }
+
+    // Adds the items of a list behind the others. Want of memory, and then the items are as they were.
+    fn append_list(&mut self, alloc: Global, more: Vec<T>) -> Result<(), Fault>
         ensures ok { OnOk result (items_in self.new ≡ items_in self.old ++ more.items) }
+        ensures same { OnErr result (items_in self.new ≡ items_in self.old) }
         ensures err { IsOkUnless result Fault.NoMemory }
     {
         let mut more = more;
@@ -69,9 +89,14 @@ impl<T: Drop> Few<T> {
             Few::Many(items) => items.append(&mut more)?,
             Few::One(_) => {
                 let mut items = Vec::new(alloc);
-                replace(self, Few::none(alloc)).move_to(&mut items)?;
-                items.append(&mut more)?;
+                items.reserve(more.len().saturating_add(1))?;
+                let Few::One(first) = replace(self, Few::none(alloc)) else {
+                    unreachable!()
+                };
+                items.push_reserved(first);
+                let added = items.append(&mut more);
                 *self = Few::Many(items);
+                added?;
             }
         }
         Ok(())

@@ -223,7 +223,7 @@ pub(crate) fn fresh(alloc: Global, states: &mut StateTable, ops: &[Op]) -> Resul
     Ok(cells)
 }
 
-/// Adds the cells of the characters that an operation inserts. Want of memory.
+/// Adds the cells of the characters that an operation inserts. Want of memory, and then the cells are as they were.
 #[inline(always)]
 fn add_fresh(
     alloc: Global,
@@ -235,6 +235,7 @@ fn add_fresh(
     requires given { AreStates states.old cells.old }
     ensures cells { OnOk result (map (shown states.new) cells.new ≡ map (shown states.old) cells.old ++ fresh_by (stamp_of op.now) op.now.body) }
     ensures given { OnOk result (AreStates states.new cells.new) }
+    ensures same { OnErr result (cells.new ≡ cells.old) }
     ensures ids { KeepsIds states.old states.new }
     ensures fault { IsOkUnless result Fault.NoMemory }
 {

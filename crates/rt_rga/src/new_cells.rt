@@ -1,5 +1,5 @@
 // Cells of new characters.
-ghost use Rattle.std.specs.Prelude.{◌≡◌, ◌+◌, ◌≤◌, ◌++◌, [], false, OnOk, IsOkUnless, length};
+ghost use Rattle.std.specs.Prelude.{◌≡◌, ◌+◌, ◌≤◌, ◌++◌, [], false, OnErr, OnOk, IsOkUnless, length};
 ghost use Rattle.rt_stamps.specs.declared.limits.TheConstants.{GREATEST_COUNT};
 ghost use Rattle.rt_store.specs.Cells.{cells_from};
 
@@ -48,7 +48,7 @@ impl NewCells {
         }
     }
 
-    /// Adds cells of new characters in one state, from a stamp on. Want of memory.
+    /// Adds cells of new characters in one state, from a stamp on. Want of memory, and then the cells are as they were.
     #[inline(always)]
     pub(crate) fn add(
         &mut self,
@@ -59,6 +59,7 @@ impl NewCells {
     ) -> Result<(), Fault>
         requires { first.count + length text.now ≤ GREATEST_COUNT + 1 }
         ensures cells { OnOk result (self.new ≡ self.old ++ cells_from first.count first.site state text.now) }
+        ensures same { OnErr result (self.new ≡ self.old) }
         ensures fault { IsOkUnless result Fault.NoMemory }
     {
         match &mut self.kept {
@@ -92,7 +93,7 @@ pub(crate) fn new_cell(stamp: Stamp, state: StateId, ch: char) -> Cell<StateId>
     }
 }
 
-/// Adds cells of new characters in one state, from a stamp on. Want of memory.
+/// Adds cells of new characters in one state, from a stamp on. Want of memory, and then the list is as it was.
 fn push_new(
     cells: &mut Vec<Cell<StateId>>,
     first: Stamp,
@@ -101,6 +102,7 @@ fn push_new(
 ) -> Result<(), Fault>
     requires { first.count + length text.now ≤ GREATEST_COUNT + 1 }
     ensures cells { OnOk result (cells.new.items ≡ cells.old.items ++ cells_from first.count first.site state text.now) }
+    ensures same { OnErr result (cells.new.items ≡ cells.old.items) }
     ensures fault { IsOkUnless result Fault.NoMemory }
 {
     cells.reserve(text.len())?;

@@ -398,7 +398,7 @@ impl<S: TextStore> Replica<S> {
     }
 
     /// Makes one operation of the site's own, as `commit` does: the Insert of one character without tags behind
-    /// an element. Refused as `make` is.
+    /// an element. Refused as `make` is, and then all is as before: no name and no state gets a number.
     #[inline(always)]
     pub fn commit_character(&mut self, after: Stamp, character: char) -> Result<(), Fault>
         requires { MayBeMade self.old.site self.old.log (one_character after character) }
@@ -412,6 +412,7 @@ impl<S: TextStore> Replica<S> {
         ensures site { self.new.site ≡ self.old.site }
         ensures limit { self.new.limit ≡ self.old.limit }
         ensures ids { KeepsIds self.old.table self.new.table }
+        ensures table { self.new.table ≡ self.old.table }
     {
         match self.stamp_of_character() {
             Ok(stamp) => self.make_character(stamp, after, character),

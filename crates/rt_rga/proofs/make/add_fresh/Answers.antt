@@ -32,12 +32,12 @@ returns-in_ok-add-clause-given c =
 pub returns-in_err-state : goal.returns-in_err-state
 returns-in_err-state c =
     let (y, is, gives) = err_from_is_err_and c.from_residual.result c.from_residual.ensures.1 in
-    rw (is, gives) (record { cells = tt; given = tt; ids = c.state_of_list.ensures.ids; fault = c.in_err-state.ensures.fault })
+    rw (is, gives) (record { cells = tt; given = tt; same = refl; ids = c.state_of_list.ensures.ids; fault = c.in_err-state.ensures.fault })
 
 pub returns-in_err-add : goal.returns-in_err-add
 returns-in_err-add c =
     let (y, is, gives) = err_from_is_err_and c.from_residual-in_err-add.result c.from_residual-in_err-add.ensures.1 in
-    rw (is, gives) (record { cells = tt; given = tt; ids = c.state_of_list.ensures.ids; fault = c.in_err-add.ensures.fault })
+    rw (is, gives) (record { cells = tt; given = tt; same = c.in_err-add.ensures.same; ids = c.state_of_list.ensures.ids; fault = c.in_err-add.ensures.fault })
 
 pub returns-in_ok-add-clause-fault : goal.returns-in_ok-add-clause-fault
 returns-in_ok-add-clause-fault c = tt

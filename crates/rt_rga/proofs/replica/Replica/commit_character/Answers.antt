@@ -22,6 +22,7 @@ returns-in-Err g c = record {
   site = refl;
   limit = refl;
   ids = keeps_itself c.args.self.now.table;
+  table = refl;
 }
 
 pub returns-in-Ok-clause-fits : goal.returns-in-Ok-clause-fits
