@@ -1,5 +1,5 @@
 // The operations of one text with its tags.
-ghost use Rattle.std.specs.Prelude.{◌≡◌, ◌⊎◌, ◌+◌, ◌-◌, ◌<◌, ◌≤◌, ◌++◌, ◌∷◌, [], IfOk, IfErr, IsOkUnless, OnOk, true, length, map, take, drop};
+ghost use Rattle.std.specs.Prelude.{◌≡◌, ◌⊎◌, ◌+◌, ◌-◌, ◌<◌, ◌≤◌, ◌++◌, ◌∷◌, [], IfOk, IfErr, IsOkUnless, OnErr, OnOk, true, length, map, take, drop};
 ghost use Rattle.rt_stamps.specs.declared.limits.TheConstants.{GREATEST_COUNT, MOST_CHARACTERS, MOST_TAGS};
 ghost use Rattle.rt_stamps.specs.Words.{as_words};
 ghost use Rattle.rt_ops.specs.Edits.{body_of};
@@ -155,7 +155,40 @@ impl Inserts {
         Ok(())
     }
 
-    /// Adds a text with some tags. `ClockSpent`, or want of memory.
+    // A text with some tags, behind an element and a count. `ClockSpent`, or want of memory.
+    fn of_text(
+        alloc: Global,
+        site: Site,
+        count: u64,
+        after: Stamp,
+        names: &[String],
+        text: &[char],
+    ) -> Result<Inserts, Fault>
+        requires { count ≤ GREATEST_COUNT }
+        ensures drafts { IfOk result (λ texts. map body_of (items_in texts.drafts)
+            ≡ text_drafts MOST_CHARACTERS site.number count after (as_words names.now) text.now) }
+        ensures count { IfOk result (λ texts. texts.count ≡ count + counts_for (as_words names.now) text.now) }
+        ensures within { IfOk result (λ texts. texts.count ≤ GREATEST_COUNT) }
+        ensures behind { IfOk result (λ texts. texts.behind ≡ behind after (tagged_cells site.number count (as_words names.now) text.now)) }
+        ensures err { IfErr result (λ fault. (fault ≡ Fault.NoMemory)
+            ⊎ ((fault ≡ Fault.ClockSpent) × (GREATEST_COUNT < count + counts_for (as_words names.now) text.now))) }
+    {
+        last_count(count, names.len(), text.len())?;
+        let mut texts = Inserts {
+            drafts: Few::none(alloc),
+            count,
+            behind: after,
+        };
+        let mut rest = text;
+        while !rest.is_empty() {
+            let (part, more) = next_part(rest);
+            texts.push_part(alloc, site, names, part)?;
+            rest = more;
+        }
+        Ok(texts)
+    }
+
+    /// Adds a text with some tags. `ClockSpent`, or want of memory, and then all is as it was.
     pub fn push_text(
         &mut self,
         alloc: Global,
@@ -170,16 +203,19 @@ impl Inserts {
         ensures within { OnOk result (self.new.count ≤ GREATEST_COUNT) }
         ensures behind { OnOk result (self.new.behind
             ≡ behind self.old.behind (tagged_cells site.number self.old.count (as_words names.now) text.now)) }
+        ensures same { OnErr result ((items_in self.new.drafts ≡ items_in self.old.drafts)
+            × (self.new.count ≡ self.old.count) × (self.new.behind ≡ self.old.behind)) }
         ensures err { IfErr result (λ fault. (fault ≡ Fault.NoMemory)
             ⊎ ((fault ≡ Fault.ClockSpent) × (GREATEST_COUNT < self.old.count + counts_for (as_words names.now) text.now))) }
     {
-        last_count(self.count, names.len(), text.len())?;
-        let mut rest = text;
-        while !rest.is_empty() {
-            let (part, more) = next_part(rest);
-            self.push_part(alloc, site, names, part)?;
-            rest = more;
-        }
+        let Inserts {
+            drafts,
+            count,
+            behind,
+        } = Inserts::of_text(alloc, site, self.count, self.behind, names, text)?;
+        self.drafts.append(alloc, drafts)?;
+        self.count = count;
+        self.behind = behind;
         Ok(())
     }
 }

@@ -9,7 +9,7 @@ use Rattle.rt_edits.specs.InsertionDrafts.{behind, text_drafts}
 use Rattle.rt_edits.specs.Insertions.{counts_for, further_tags, tagged_cells}
 use Rattle.rt_edits.proofs.InsertTexts.{behind_more, counts_named, counts_part, drafts_joined, drafts_more, further_named}
 use Rattle.rt_edits.proofs.Planning.{fewer_behind, some_left}
-use Rattle.rt_edits.proofs.inserts.Inserts.push_text.Goals as goal
+use Rattle.rt_edits.proofs.inserts.Inserts.of_text.Goals as goal
 
 pub returns-in_err-last_count-clause-err : goal.returns-in_err-last_count-clause-err
 returns-in_err-last_count-clause-err c =
@@ -21,7 +21,7 @@ pub loop-rest-init : goal.loop-rest-init
 loop-rest-init c =
     let e = counts_named (λ w. string_bytes w) c.args.names.now c.args.text.now in
     record {
-      drafts = refl;
+      drafts = ap (λ l. map body_of l ++ text_drafts MOST_CHARACTERS c.args.site.number c.args.count c.args.after (as_words c.args.names.now) c.args.text.now) c.none.ensures;
       count = refl;
       within = omega (arith, e, c.in_ok-last_count.ensures.ok.0, c.in_ok-last_count.ensures.ok.1);
       behind = refl;
@@ -34,10 +34,10 @@ push_part-requires c =
     let part = c.next_part.result.0.now in
     let more = c.next_part.result.1.now in
     let h : 1 ≤ length rest = some_left c.is_empty.result (length rest) c.is_empty.ensures c.loop-rest-test.true in
-    let all = c.args.self.now.count + counts_for names c.args.text.now in
-    let counts : c.loop-rest.self.count + length part + length (further_tags names) + counts_for names more ≡ all =
-    counts_part names rest part more c.loop-rest.self.count all h c.next_part.ensures.part c.next_part.ensures.rest c.loop-rest.invariant.count in
-    few c.loop-rest.self.count (length part) (length (further_tags names)) (length c.args.names.now - MOST_TAGS) (counts_for names more) all GREATEST_COUNT (further_named (λ w. string_bytes w) c.args.names.now) counts c.loop-rest.invariant.within
+    let all = c.args.count + counts_for names c.args.text.now in
+    let counts : c.loop-rest.texts.count + length part + length (further_tags names) + counts_for names more ≡ all =
+    counts_part names rest part more c.loop-rest.texts.count all h c.next_part.ensures.part c.next_part.ensures.rest c.loop-rest.invariant.count in
+    few c.loop-rest.texts.count (length part) (length (further_tags names)) (length c.args.names.now - MOST_TAGS) (counts_for names more) all GREATEST_COUNT (further_named (λ w. string_bytes w) c.args.names.now) counts c.loop-rest.invariant.within
   where
     few : (now part further n more all most : ℕ) → further ≡ n → now + part + further + more ≡ all → all ≤ most → now + part + n ≤ most
     few now part further n more all most f e h = omega arith
@@ -54,7 +54,7 @@ loop-rest-preserved c =
     let rest = c.loop-rest.rest.now in
     let part = c.next_part.result.0.now in
     let more = c.next_part.result.1.now in
-    let old = c.loop-rest.self in
+    let old = c.loop-rest.texts in
     let new = c.push_part.new.self in
     let e = c.in_ok-push_part.ensures in
     let is_part = c.next_part.ensures.part in
@@ -67,7 +67,7 @@ loop-rest-preserved c =
           (drafts_more site old.count old.behind names rest part more h is_part is_more)
           ∙ c.loop-rest.invariant.drafts;
       count = ap (λ k. k + counts_for names more) n
-          ∙ counts_part names rest part more old.count (c.args.self.now.count + counts_for names c.args.text.now) h is_part is_more c.loop-rest.invariant.count;
+          ∙ counts_part names rest part more old.count (c.args.count + counts_for names c.args.text.now) h is_part is_more c.loop-rest.invariant.count;
       within = c.loop-rest.invariant.within;
       behind = (λ i. behind (e.behind i) (tagged_cells site (n i) names more))
           ∙ sym (behind_more site old.count old.behind names rest part more h is_part is_more)

@@ -5,19 +5,19 @@ use Rattle.rt_ops.specs.Edits.{body_of}
 use Rattle.rt_rga.specs.Few.{items_in}
 use Rattle.rt_edits.specs.InsertionDrafts.{behind, text_drafts}
 use Rattle.rt_edits.specs.Insertions.{counts_for, tagged_cells}
-use Rattle.rt_edits.proofs.inserts.Inserts.push_text.Given as goal
+use Rattle.rt_edits.proofs.inserts.Inserts.of_text.Given as goal
 
 abbrev pub invariant-loop-rest : goal.invariant-loop-rest
 invariant-loop-rest l =
     let names = as_words l.names in
-    let old = l.fn.self in
+    let now = l.texts in
     let site = l.site.number in
     record {
-      drafts : map body_of (items_in l.self.drafts) ++ text_drafts MOST_CHARACTERS site l.self.count l.self.behind names l.rest
-          ≡ map body_of (items_in old.drafts) ++ text_drafts MOST_CHARACTERS site old.count old.behind names l.text;
-      count : l.self.count + counts_for names l.rest ≡ old.count + counts_for names l.text;
-      within : old.count + counts_for names l.text ≤ GREATEST_COUNT;
-      behind : behind l.self.behind (tagged_cells site l.self.count names l.rest) ≡ behind old.behind (tagged_cells site old.count names l.text);
+      drafts : map body_of (items_in now.drafts) ++ text_drafts MOST_CHARACTERS site now.count now.behind names l.rest
+          ≡ text_drafts MOST_CHARACTERS site l.count l.fn.after names l.text;
+      count : now.count + counts_for names l.rest ≡ l.count + counts_for names l.text;
+      within : l.count + counts_for names l.text ≤ GREATEST_COUNT;
+      behind : behind now.behind (tagged_cells site now.count names l.rest) ≡ behind l.fn.after (tagged_cells site l.count names l.text);
     }
 
 abbrev pub decreases-loop-rest : goal.decreases-loop-rest
