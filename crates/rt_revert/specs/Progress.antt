@@ -47,6 +47,16 @@ pub record IsCopy (table : TagStates) (cells : List (Cell ℕ)) (count : ℕ) : 
   pub few : length cells ≤ MOST_CELLS
   pub older : AreUpTo count cells
 
+-- what a plan tells stays: its operations with the greatest count, the changes of the text, the tags, who came back, the actions
+pub record TellsTheSame (old new : Progress) : Type 0 where
+  pub drafts : items_in new.texts.drafts ≡ items_in old.texts.drafts
+  pub count : new.texts.count ≡ old.texts.count
+  pub changes : new.changes.items ≡ old.changes.items
+  pub names : new.names.items ≡ old.names.items
+  pub returns : new.returns.items ≡ old.returns.items
+  pub actions : new.actions.items ≡ old.actions.items
+  pub cells : new.cells ≡ old.cells
+
 -- what is known beside it: moved are only stamps up to the greatest count, to those that the characters have now
 pub record IsGoing (table : TagStates) (plan : Progress) : Type 0 where
   pub count : plan.texts.count ≤ GREATEST_COUNT

@@ -1,5 +1,5 @@
 // Removed characters by spans.
-ghost use Rattle.std.specs.Prelude.{◌≡◌, ◌∷◌, ◌++◌, [], IfOk, IsOkUnless, OnOk, map};
+ghost use Rattle.std.specs.Prelude.{◌≡◌, ◌∷◌, ◌++◌, [], IfOk, IsOkUnless, OnErr, OnOk, map};
 ghost use Rattle.rt_undo.specs.Actions.{removed_in};
 ghost use Rattle.rt_revert.specs.Keeping.{follows};
 ghost use Rattle.rt_revert.specs.Planning.{cell_removed};
@@ -22,28 +22,30 @@ fn follows(part: &RemovedSpan, stamp: Stamp, state: StateId) -> bool
         && stamp.count - part.span.last == 1
 }
 
-/// Adds a removed character to those of spans, to the last span where it stands behind it. Want of
-/// memory.
+/// Adds a removed character to those of spans, to the last span where it stands behind it, and that takes no
+/// memory. Want of memory, and then the spans are as they were.
 pub fn push_removed(
     removed: &mut Vec<RemovedSpan>,
     stamp: Stamp,
     state: StateId,
 ) -> Result<(), Fault>
     ensures ok { OnOk result (removed_in removed.new.items ≡ removed_in removed.old.items ++ record { stamp = stamp; tags = state } ∷ []) }
+    ensures same { OnErr result (removed.new.items ≡ removed.old.items) }
     ensures fault { IsOkUnless result Fault.NoMemory }
 {
-    let mut span = Span {
+    let span = Span {
         site: stamp.site,
         first: stamp.count,
         last: stamp.count,
     };
     if let Some(last) = removed.pop() {
-        let before = last.span;
         if follows(&last, stamp, state) {
-            span.first = before.first;
-        } else {
-            removed.push(last)?;
+            let first = last.span.first;
+            let span = Span { first, ..span };
+            removed.push_reserved(RemovedSpan { span, state });
+            return Ok(());
         }
+        removed.push_reserved(last);
     }
     removed.push(RemovedSpan { span, state })?;
     Ok(())

@@ -1,5 +1,5 @@
 // What reverting actions has come to.
-ghost use Rattle.std.specs.Prelude.{◌≡◌, ℕ, ◌⊎◌, ◌+◌, ◌<◌, ◌≤◌, ◌++◌, ◌∷◌, [], ◌||◌, false, if◌then◌else◌, IfErr, IsOkUnless, IfOk, OnOk, length, map};
+ghost use Rattle.std.specs.Prelude.{◌≡◌, ℕ, ◌⊎◌, ◌+◌, ◌<◌, ◌≤◌, ◌++◌, ◌∷◌, [], ◌||◌, false, if◌then◌else◌, IfErr, IsOkUnless, IfOk, OnErr, OnOk, length, map};
 ghost use Rattle.rt_stamps.specs.declared.limits.TheConstants.{GREATEST_COUNT, MOST_CELLS, MOST_CHARACTERS};
 ghost use Rattle.rt_stamps.specs.declared.stamp.Stamp.{Stamp};
 ghost use Rattle.rt_stamps.specs.Stamps.{is_same};
@@ -12,6 +12,7 @@ ghost use Rattle.rt_undo.specs.Actions.{group_of};
 ghost use Rattle.rt_undo.specs.Renames.{is_moved, now_of, replaced};
 ghost use Rattle.rt_undo.specs.Undo.{with_stamps_in};
 ghost use Rattle.rt_revert.specs.Portions.{AreSmall, offset_behind, offset_of};
+ghost use Rattle.rt_revert.specs.Progress.{TellsTheSame};
 
 use crate::offsets::{offset_behind, span_of};
 use crate::plan::{Return, Reversal, TextChange};
@@ -70,7 +71,8 @@ impl Progress {
         }
     }
 
-    /// Characters go that stood at some places, by some operations. `ClockSpent`, or want of memory.
+    /// Characters go that stood at some places, by some operations. `ClockSpent`, or want of memory, and then the
+    /// plan tells what it told.
     pub(crate) fn lose(
         &mut self,
         alloc: Global,
@@ -88,6 +90,7 @@ impl Progress {
         ensures actions { OnOk result (self.new.actions ≡ self.old.actions) }
         ensures offsets { OnOk result (self.new.offsets ≡ self.old.offsets) }
         ensures cells { OnOk result (self.new.cells ≡ self.old.cells) }
+        ensures same { OnErr result (TellsTheSame self.old self.new) }
         ensures err { IfErr result (λ fault. (fault ≡ Fault.NoMemory)
             ⊎ ((fault ≡ Fault.ClockSpent) × (GREATEST_COUNT < self.old.texts.count + length drafts.items))) }
     {
@@ -95,13 +98,15 @@ impl Progress {
         if counts > GREATEST_COUNT - self.texts.count {
             return Err(Fault::ClockSpent);
         }
-        self.texts.drafts.append(alloc, drafts)?;
-        self.changes.push(TextChange::Removed(places))?;
+        self.changes.reserve(1)?;
+        self.texts.drafts.append(alloc, Few::Many(drafts))?;
+        self.changes.push_reserved(TextChange::Removed(places));
         self.texts.count += counts;
         Ok(())
     }
 
-    /// A character is inserted behind an element, with some tags. `ClockSpent`, or want of memory.
+    /// A character is inserted behind an element, with some tags. `ClockSpent`, or want of memory, and then the plan
+    /// tells what it told.
     pub(crate) fn write(
         &mut self,
         alloc: Global,
@@ -122,6 +127,7 @@ impl Progress {
         ensures actions { OnOk result (self.new.actions ≡ self.old.actions) }
         ensures offsets { OnOk result (self.new.offsets ≡ self.old.offsets) }
         ensures cells { OnOk result (self.new.cells ≡ self.old.cells) }
+        ensures same { OnErr result (TellsTheSame self.old self.new) }
         ensures err { IfErr result (λ fault. (fault ≡ Fault.NoMemory) ⊎ ((fault ≡ Fault.ClockSpent)
             × (GREATEST_COUNT < self.old.texts.count + counts_for (as_words names.now) (ch ∷ [])))) }
     {
@@ -130,7 +136,7 @@ impl Progress {
     }
 
     /// A character came back at a place of the working copy, with some tags. Want of memory, as also
-    /// where the whole text would have more than the most cells.
+    /// where the whole text would have more than the most cells; then the plan tells what it told.
     pub(crate) fn come_back(
         &mut self,
         former: Stamp,
@@ -156,6 +162,7 @@ impl Progress {
             ≡ (if is_same s newer then offset_behind self.old.offsets former else offset_of self.old.offsets s)) }
         ensures cells { OnOk result (self.new.cells ≡ self.old.cells + 1) }
         ensures few { OnOk result (self.new.cells ≤ MOST_CELLS) }
+        ensures same { OnErr result (TellsTheSame self.old self.new) }
         ensures err { IsOkUnless result Fault.NoMemory }
     {
         if self.cells >= MOST_CELLS {
@@ -165,10 +172,12 @@ impl Progress {
         let whole = place + offset;
         self.renames.reserve(1)?;
         self.offsets.reserve(1)?;
+        self.changes.reserve(1)?;
+        self.returns.reserve(1)?;
         let mut more = names;
         self.names.append(&mut more)?;
-        self.changes.push(TextChange::Inserted(whole))?;
-        self.returns.push(Return { former, newer })?;
+        self.changes.push_reserved(TextChange::Inserted(whole));
+        self.returns.push_reserved(Return { former, newer });
         let span = Span {
             site: former.site,
             first: former.count,

@@ -1,5 +1,5 @@
 // The places of characters that are named by their stamps.
-ghost use Rattle.std.specs.Prelude.{◌≡◌, ℕ, ◌*◌, ◌≤◌, ◌<◌, ◌++◌, ◌||◌, List, All, IfOk, IsOkUnless, IfSome, OnOk, Some, length};
+ghost use Rattle.std.specs.Prelude.{◌≡◌, ℕ, ◌*◌, ◌≤◌, ◌<◌, ◌++◌, ◌||◌, List, All, IfOk, IsOkUnless, IfSome, OnErr, OnOk, Some, length};
 ghost use Rattle.rt_stamps.specs.declared.limits.TheConstants.{MOST_CELLS};
 ghost use Rattle.rt_ops.specs.Operations.{stamps_in, stamps_of_span};
 ghost use Rattle.rt_store.specs.Cells.{AreDistinct, visible_of};
@@ -32,34 +32,35 @@ fn is_behind(range: Range, place: usize) -> bool
     range.from <= range.to && range.to == place
 }
 
-/// Adds a place to ranges, to the last one where it is the one behind it.
+/// Adds a place to ranges, to the last one where it is the one behind it, and that takes no memory. Want of memory,
+/// and then the ranges are as they were.
 pub(crate) fn push_place(ranges: &mut Vec<Range>, place: usize) -> Result<(), Fault>
     requires { place ≤ 2 * MOST_CELLS }
     ensures ok { OnOk result ((at : ℕ) → is_covered ranges.new.items at ≡ (is_covered ranges.old.items at || is_covered (range_at (Some place)) at)) }
     ensures order { OnOk result ((more : List Range) → AreInOrder 0 (ranges.old.items ++ range_at (Some place) ++ more)
         → AreInOrder 0 (ranges.new.items ++ more)) }
+    ensures same { OnErr result (ranges.new.items ≡ ranges.old.items) }
     ensures err { IsOkUnless result Fault.NoMemory }
 {
-    let mut range = Range {
-        from: place,
-        to: place + 1,
-    };
+    let to = place + 1;
     if let Some(last) = ranges.pop() {
         if is_behind(last, place) {
-            range.from = last.from;
-        } else {
-            ranges.push(last)?;
+            let from = last.from;
+            ranges.push_reserved(Range { from, to });
+            return Ok(());
         }
+        ranges.push_reserved(last);
     }
-    ranges.push(range)?;
+    ranges.push(Range { from: place, to })?;
     Ok(())
 }
 
-// Adds the place of a stamp's character, if it is visible.
+// Adds the place of a stamp's character, if it is visible. Want of memory, and then the ranges are as they were.
 fn push_visible<S: TextStore>(store: &S, stamp: Stamp, ranges: &mut Vec<Range>) -> Result<(), Fault>
     requires few { length (S.list store.now) ≤ MOST_CELLS }
     ensures ok { OnOk result ((at : ℕ) → is_covered ranges.new.items at
         ≡ (is_covered ranges.old.items at || is_covered (range_at (visible_place (S.list store.now) stamp)) at)) }
+    ensures same { OnErr result (ranges.new.items ≡ ranges.old.items) }
     ensures err { IsOkUnless result Fault.NoMemory }
 {
     match visible_place(store, stamp) {
