@@ -14,11 +14,14 @@ use Rattle.rt_undo.specs.declared.renames.Move.{Move}
 use Rattle.rt_undo.specs.Actions.{Action, Removed, action_of, is_replace, removed_in}
 use Rattle.rt_undo.specs.Groups.{IsStill}
 use Rattle.rt_undo.specs.Renames.{Shown, is_moved}
+use Rattle.rt_undo.specs.Seen.{UndoStacks}
 use Rattle.rt_undo.specs.Undo.{History, added, as_group, asks_separator, differs_from, emptied, forced_on, is_modified, last, numbers, numbers_in, recorded, same_numbers, separated, to_undo, unmodified}
 use Rattle.rt_undo.proofs.Histories.{last_map}
 use Rattle.rt_editing.specs.declared.recorder.Prepared.{Prepared}
+use Rattle.rt_editing.specs.declared.recorder.Recorder.TheInside.{Inside}
 use Rattle.rt_editing.specs.Naming.{AreGiven, HistoryIsGiven, RemovedAreGiven, named_action, named_group, named_history, named_removed}
-use Rattle.rt_editing.specs.Recordings.{HasStayed, made}
+use Rattle.rt_editing.specs.Recordings.{HasStayed, Recording, made}
+use Rattle.rt_editing.specs.Seen.{IsKept, IsPrepared, shown}
 
 -- STACKS
 
@@ -147,6 +150,50 @@ history_stays t u k h given = record {
 
 abbrev pub prepared_removed : TagStates → Option Prepared → Option (List (Removed (List Word)))
 prepared_removed t next = option_map (λ n. map (named_removed t) (removed_in n.removed.items)) next
+
+prepared_kept : (t u : TagStates) → KeepsIds t u → (stacks : UndoStacks) (o : Option Prepared) → IfSome o (IsPrepared t stacks)
+    → prepared_removed u o ≡ prepared_removed t o
+prepared_kept t u k stacks None is = refl
+prepared_kept t u k stacks (Some next) is = ap Some (removed_kept t u k (removed_in next.removed.items) is.given)
+
+prepared_stays : (t u : TagStates) → KeepsIds t u → (stacks : UndoStacks) (o : Option Prepared) → IfSome o (IsPrepared t stacks)
+    → IfSome o (IsPrepared u stacks)
+prepared_stays t u k stacks None is = tt
+prepared_stays t u k stacks (Some next) is = record {
+  given = removed_stay t u k (removed_in next.removed.items) is.given;
+  empty = is.empty;
+  room = is.room;
+  ready = is.ready;
+}
+
+-- what a recorder keeps, where its table alone is another one
+pub still_kept : (s : Inside) (u : TagStates) → KeepsIds s.table u → IsKept s → (stacks : UndoStacks) → stacks ≡ s.stacks
+    → HistoryIsGiven u stacks.history × IfSome s.next (IsPrepared u stacks)
+still_kept s u k is stacks e =
+    subst (λ (now : UndoStacks). HistoryIsGiven u now.history × IfSome s.next (IsPrepared u now)) (sym e)
+    (history_stays s.table u k s.stacks.history is.given, prepared_stays s.table u k s.stacks s.next is.next)
+
+pub same_but_table : (s : Inside) (u : TagStates) → KeepsIds s.table u → IsKept s → (stacks : UndoStacks) → stacks ≡ s.stacks
+    → (old : Recording) → shown s ≡ old
+    → record {
+      history = named_history u stacks.history;
+      undo = s.undo;
+      auto = s.auto_separators;
+      pending = prepared_removed u s.next;
+      moves = stacks.moves;
+      ready = stacks.ready;
+      table = u;
+    } ≡ record old { table = u }
+same_but_table s u k is stacks e old view_is =
+    (λ i. record {
+      history = (ap (λ (now : UndoStacks). named_history u now.history) e ∙ history_kept s.table u k s.stacks.history is.given) i;
+      undo = s.undo;
+      auto = s.auto_separators;
+      pending = prepared_kept s.table u k s.stacks s.next is.next i;
+      moves = (e i).moves;
+      ready = (e i).ready;
+      table = u;
+    }) ∙ ap (λ (v : Recording). record v { table = u }) view_is
 
 removed_still : (t : TagStates) (moves : Shown Move) (removed : List (Removed ℕ)) → AllByRecursion (λ r. is_moved moves r.stamp ≡ false) (map (named_removed t) removed)
     → AllByRecursion (λ r. is_moved moves r.stamp ≡ false) removed

@@ -1,5 +1,5 @@
 // What is recorded of an edit.
-ghost use Rattle.std.specs.Prelude.{◌≡◌, ◌≤◌, true, List, [], None, Some, IfErr, IsOkUnless, IfOk, OnOk, map};
+ghost use Rattle.std.specs.Prelude.{◌≡◌, ◌≤◌, true, List, [], None, Some, IfErr, IsOkUnless, IfOk, OnErr, OnOk, map};
 ghost use Rattle.rt_stamps.specs.declared.limits.TheConstants.{GREATEST_COUNT};
 ghost use Rattle.rt_stamps.specs.Outcomes.{Refuses};
 ghost use Rattle.rt_stamps.specs.Words.{Word, as_words};
@@ -28,6 +28,7 @@ pub(crate) fn prepare_insertion<S: TextStore>(
 ) -> Result<(), Fault>
     ensures pending { OnOk result (recorder.old.undo ≡ true → recorder.new.pending ≡ Some []) }
     ensures kept { Keeps recorder.old recorder.new }
+    ensures same { OnErr result (recorder.new ≡ record recorder.old { table = recorder.new.table }) }
     ensures err { IsOkUnless result Fault.NoMemory }
 {
     if !recorder.is_undo_on() {
@@ -46,6 +47,7 @@ fn prepare<S: TextStore>(
 ) -> Result<(), Fault>
     ensures pending { OnOk result (recorder.new.pending ≡ Some (map as_removed (lost_in view.now ranges.now))) }
     ensures kept { Keeps recorder.old recorder.new }
+    ensures same { OnErr result (recorder.new ≡ record recorder.old { table = recorder.new.table }) }
     ensures err { IsOkUnless result Fault.NoMemory }
 {
     let (lost, states) = view.lost(ranges)?;
@@ -61,6 +63,7 @@ pub(crate) fn prepare_deletion<S: TextStore>(
     ensures pending { OnOk result (recorder.old.undo ≡ true
         → recorder.new.pending ≡ Some (map as_removed (lost_between view.now (as_words indices.now)))) }
     ensures kept { Keeps recorder.old recorder.new }
+    ensures same { OnErr result (recorder.new ≡ record recorder.old { table = recorder.new.table }) }
     ensures err { IfErr result (Refuses (deleted view.now (as_words indices.now))) }
 {
     if !recorder.is_undo_on() {
@@ -94,6 +97,7 @@ pub(crate) fn prepare_replacement<S: TextStore>(
     ensures pending { OnOk result (recorder.old.undo ≡ true → index_check (widget_of view.now) from.now ≡ None
         → index_check (widget_of view.now) to.now ≡ None → recorder.new.pending ≡ Some (map as_removed (lost_from view.now from.now to.now))) }
     ensures kept { Keeps recorder.old recorder.new }
+    ensures same { OnErr result (recorder.new ≡ record recorder.old { table = recorder.new.table }) }
     ensures err { IsOkUnless result Fault.NoMemory }
 {
     if !recorder.is_undo_on() {

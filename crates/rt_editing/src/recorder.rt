@@ -119,8 +119,8 @@ impl Recorder {
     }
 
     /// Makes ready for an action that takes some characters away, which have these states in a table.
-    /// All memory that `record` needs is taken here. After `NoMemory` nothing is prepared, and what was
-    /// recorded is as it was.
+    /// All memory that `record` needs is taken here. After `NoMemory` all is as it was, also what was prepared
+    /// before, but for states that the recorder's own table got.
     pub fn prepare(&mut self, lost: &[Cell<StateId>], states: &StateTable) -> Result<(), Fault>
         requires { AreStates states.now lost.now }
         ensures ok { OnOk result (self.new.pending ≡ Some (map as_removed (map (shown states.now) lost.now))) }
@@ -128,10 +128,9 @@ impl Recorder {
         ensures settings { (self.new.undo ≡ self.old.undo) × (self.new.auto ≡ self.old.auto) }
         ensures came_back { (stamp : Stamp) → came_back self.new stamp ≡ came_back self.old stamp }
         ensures ids { KeepsIds self.old.table self.new.table }
-        ensures none { OnErr result (self.new.pending ≡ None) }
+        ensures same { OnErr result (self.new ≡ record self.old { table = self.new.table }) }
         ensures err { IsOkUnless result Fault.NoMemory }
     {
-        self.next = None;
         let removed = own::removed_cells(self.alloc, states, lost, &mut self.table)?;
         let inserted = Vec::with_capacity(self.alloc, 1)?;
         self.stacks.reserve(0)?;
