@@ -94,9 +94,8 @@ impl<T: Drop> Few<T> {
                     unreachable!()
                 };
                 items.push_reserved(first);
-                let added = items.append(&mut more);
+                items.append(&mut more)?;
                 *self = Few::Many(items);
-                added?;
             }
         }
         Ok(())
