@@ -6,6 +6,7 @@ pub mod Came
 pub mod Drafts
 pub mod Due
 pub mod Exchanged
+pub mod Falling
 pub mod Finding
 pub mod Fronts
 pub mod Going
@@ -27,4 +28,5 @@ pub mod Sleeping
 pub mod Standing
 pub mod Steps
 pub mod Tries
+pub mod Waited
 pub mod Waiting

@@ -49,6 +49,18 @@ in_to span s i = tests s.site span.site span.first s.count span.last i.site i.fi
     tests : (a b first count last : ℕ) → a ≡ b → first ≤ count → count ≤ last → ((a == b) && (nat_le first count && nat_le count last)) ≡ true
     tests a b first count last e f g = grind (arith, nat_tests)
 
+-- what has no gap has none in a part
+pub gap_within : (log : List Operation) (a b : Span) → a.site ≡ b.site → b.first ≤ a.first → a.last ≤ b.last → has_gap log b ≡ false → has_gap log a ≡ false
+gap_within log a b e f l n = split (has_gap log a)
+    (λ t. let (s, m, c) = some_named (λ s. not (has_character log s)) (stamps_of_span a) t in
+    let i = in_from a s (sym (in_one a s) ∙ m) in
+    let j = i.first in
+    let k = i.last in
+    let u : has_gap log b ≡ true = any_named (λ s. not (has_character log s)) (stamps_of_span b) s
+        (in_one b s ∙ in_to b s (record { site = i.site ∙ e; first = omega (arith, f, j); last = omega (arith, l, k) })) c in
+    absurd (cc (u, n)))
+    (λ t. t)
+
 -- NEW GAPS
 
 -- a named stamp that became bad

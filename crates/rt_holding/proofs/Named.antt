@@ -36,25 +36,15 @@ pub none_of : (p : Span → Bool) (spans : List Span) → ((span : Span) → IsA
 none_of p [] f = refl
 none_of p (x ∷ spans) f = let e = f x (inl refl) in rw e (none_of p spans (λ s i. f s (inr i)))
 
-all_both : (p : Stamp → Bool) (xs ys : List Stamp) → list_all p (xs ++ ys) ≡ true → (list_all p xs ≡ true) × (list_all p ys ≡ true)
-all_both p [] ys h = (refl, h)
-all_both p (x ∷ xs) ys h =
-    let (i, j) = both (p x) (list_all p (xs ++ ys)) h in
-    let (k, l) = all_both p xs ys j in (rw i k, l)
+pub each_of : (p : Span → Bool) (spans : List Span) → list_all p spans ≡ true → (span : Span) → IsAmong spans span → p span ≡ true
+each_of p [] h span i = absurd i
+each_of p (x ∷ spans) h span i =
+    let (a, b) = both (p x) (list_all p spans) h in
+    elim i [ inl e ↦ ap p (sym e) ∙ a | inr j ↦ each_of p spans b span j ]
 
-all_join : (p : Stamp → Bool) (xs ys : List Stamp) → list_all p xs ≡ true → list_all p ys ≡ true → list_all p (xs ++ ys) ≡ true
-all_join p [] ys h k = k
-all_join p (x ∷ xs) ys h k = let (i, j) = both (p x) (list_all p xs) h in rw i (all_join p xs ys j k)
-
-pub each_all : (p : Stamp → Bool) (f : Span → List Stamp) (spans : List Span) → list_all p (flat_map f spans) ≡ true → (span : Span) → IsAmong spans span → list_all p (f span) ≡ true
-each_all p f [] h span i = absurd i
-each_all p f (x ∷ spans) h span i =
-    let (a, b) = all_both p (f x) (flat_map f spans) h in
-    elim i [ inl e ↦ ap (λ s. list_all p (f s)) (sym e) ∙ a | inr j ↦ each_all p f spans b span j ]
-
-pub all_each : (p : Stamp → Bool) (f : Span → List Stamp) (spans : List Span) → ((span : Span) → IsAmong spans span → list_all p (f span) ≡ true) → list_all p (flat_map f spans) ≡ true
-all_each p f [] g = refl
-all_each p f (x ∷ spans) g = all_join p (f x) (flat_map f spans) (g x (inl refl)) (all_each p f spans (λ s i. g s (inr i)))
+pub of_each : (p : Span → Bool) (spans : List Span) → ((span : Span) → IsAmong spans span → p span ≡ true) → list_all p spans ≡ true
+of_each p [] f = refl
+of_each p (x ∷ spans) f = let e = f x (inl refl) in rw e (of_each p spans (λ s i. f s (inr i)))
 
 -- ONE SPAN HAS A STAMP
 

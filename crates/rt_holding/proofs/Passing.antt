@@ -19,8 +19,9 @@ use Rattle.rt_stamps.specs.declared.stamp.Span.{Span}
 use Rattle.rt_stamps.specs.declared.stamp.Stamp.{Stamp}
 use Rattle.rt_rga.proofs.Skipping.{split}
 use Rattle.rt_holding.specs.declared.waits.Key.{Key}
+use Rattle.rt_holding.specs.declared.waits.Keys.{Keys}
 use Rattle.rt_holding.specs.Kept.{Place, by_stamp_and_arrival}
-use Rattle.rt_holding.specs.Waits.{KeepsOthers, by_key, by_later, least_key}
+use Rattle.rt_holding.specs.Waits.{HasLess, HasMore, KeepsOthers, by_key, by_later, least_key}
 use Rattle.rt_holding.proofs.Standing.{this_place}
 
 -- LISTS OF SPANS
@@ -28,31 +29,31 @@ use Rattle.rt_holding.proofs.Standing.{this_place}
 pub spans_from : (spans : List Span) (i : ℕ) (span : Span) → i < length spans → span ≡ get_or spans i span → drop i spans ≡ span ∷ drop (i + 1) spans
 spans_from spans i span h e = drop_more spans i span h ∙ ap (λ t. t ∷ drop (i + 1) spans) (sym e)
 
-all_append : (p : Stamp → Bool) (xs ys : List Stamp) → list_all p xs ≡ true → list_all p (xs ++ ys) ≡ list_all p ys
-all_append p [] ys h = refl
-all_append p (x ∷ xs) ys h = split (p x)
-    (λ e. let i : list_all p xs ≡ true = rw e at h in rw e (all_append p xs ys i))
-    (λ e. absurd (let i : false ≡ true = rw e at h in cc i))
+-- what is so of all spans from one on
+pub all_on : (p : Span → Bool) (spans : List Span) (i : ℕ) (d : Span) → i < length spans → p (get_or spans i d) ≡ true → list_all p (drop (i + 1) spans) ≡ true → list_all p (drop i spans) ≡ true
+all_on p spans i d h t r = ap (list_all p) (drop_more spans i d h) ∙ (rw t r)
 
-none_append : (p : Stamp → Bool) (xs ys : List Stamp) → list_all p xs ≡ false → list_all p (xs ++ ys) ≡ false
-none_append p [] ys h = absurd (cc h)
-none_append p (x ∷ xs) ys h = split (p x)
-    (λ e. let i : list_all p xs ≡ false = rw e at h in rw e (none_append p xs ys i))
-    (λ e. rw e refl)
-
--- the keys of spans from one on
-pub spans_on : (p : Stamp → Bool) (f : Span → List Stamp) (spans : List Span) (i : ℕ) (span : Span) → i < length spans → span ≡ get_or spans i span → list_all p (f span) ≡ true
-    → list_all p (flat_map f (drop (i + 1) spans)) ≡ list_all p (flat_map f (drop i spans))
-spans_on p f spans i span h e t = sym (ap (λ l. list_all p (flat_map f l)) (spans_from spans i span h e) ∙ all_append p (f span) (flat_map f (drop (i + 1) spans)) t)
-
-pub spans_stop : (p : Stamp → Bool) (f : Span → List Stamp) (spans : List Span) (i : ℕ) (span : Span) → i < length spans → span ≡ get_or spans i span → list_all p (f span) ≡ false
-    → list_all p (flat_map f (drop i spans)) ≡ false
-spans_stop p f spans i span h e t = ap (λ l. list_all p (flat_map f l)) (spans_from spans i span h e) ∙ none_append p (f span) (flat_map f (drop (i + 1) spans)) t
+pub none_on : (p : Span → Bool) (spans : List Span) (i : ℕ) (d : Span) → i < length spans → p (get_or spans i d) ≡ false → list_any p (drop (i + 1) spans) ≡ false → list_any p (drop i spans) ≡ false
+none_on p spans i d h t r = ap (list_any p) (drop_more spans i d h) ∙ (rw t r)
 
 -- KEYS OF OTHER PLACES
 
-pub others_on : (p : Place) (a b c : BTreeSet Key) → KeepsOthers p a b → KeepsOthers p b c → KeepsOthers p a c
-others_on p a b c f g k n = g k n ∙ f k n
+pub others_on : (p : Place) (a b c : Keys) → KeepsOthers p a b → KeepsOthers p b c → KeepsOthers p a c
+others_on p a b c f g = record {
+  alone = λ k n. g.alone k n ∙ f.alone k n;
+  begun = λ k n. g.begun k n ∙ f.begun k n;
+  ends = λ site count n. g.ends site count (f.ends site count n);
+}
+
+pub less_on : (a b c : Keys) → HasLess a b → HasLess b c → HasLess a c
+less_on a b c f g = record { alone = λ k h. f.alone k (g.alone k h); begun = λ k h. f.begun k (g.begun k h); ends = g.ends ∙ f.ends }
+
+pub more_on : (a b c : Keys) → HasMore a b → HasMore b c → HasMore a c
+more_on a b c f g = record {
+  alone = λ k n. g.alone k (f.alone k n);
+  begun = λ k n. g.begun k (f.begun k n);
+  ends = λ site count n. g.ends site count (f.ends site count n);
+}
 
 -- WHAT IS DUE
 
@@ -105,6 +106,13 @@ not_before k q site known a n e l b =
             | inr j ↦ n i j
           ])
     ]
+
+-- none of a site stands before the first
+pub no_later : (k q : Key) → k.site ≡ q.site → is_gt (by_key k q) ≡ false → k.count ≤ q.count
+no_later k q e b = elim (cases_lt q.count k.count) [
+  | inl l ↦ absurd (past_count k.site k.count q.count _ l (subst (λ z. is_gt (ordering_then (nat_cmp k.site z) (ordering_then (nat_cmp k.count q.count) (by_stamp_and_arrival k.place q.place))) ≡ false) (sym e) b))
+  | inr l ↦ l
+]
 
 pub in_front : (keys : List Key) (P Q : Key → Type 0) → ((x : Key) → Q x → P x) → IfSome (slice_get keys 0) Q → IfSome (slice_get keys 0) P
 in_front [] P Q f h = h

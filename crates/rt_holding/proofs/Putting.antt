@@ -1,21 +1,17 @@
 -- One more operation is held, or one is held no more: the others were tried as before.
 use Rattle.std.proofs.Common.{◌≡◌, ◌∙◌, ℕ, Bool, true, false, inl, inr, refl, ap, arith, List, [], ◌∷◌, Option, Some, None, ◌&&◌}
 use Rattle.std.specs.BTreeMap.{is_at}
-use Rattle.std.specs.BTreeSet.{BTreeSet}
 use Rattle.std.specs.List.{AllByRecursion, list_all}
 use Rattle.std.specs.Map.{remove_entry}
 use Rattle.std.specs.Option.{IfNone, IfSome}
 use Rattle.rt_ops.specs.Operations.{Operation}
-use Rattle.rt_rga.specs.Answers.{answer_within}
 use Rattle.rt_rga.proofs.Skipping.{split}
-use Rattle.rt_holding.specs.declared.waits.Key.{Key}
-use Rattle.rt_holding.specs.Holding.{stays}
+use Rattle.rt_holding.specs.declared.waits.Keys.{Keys}
 use Rattle.rt_holding.specs.Kept.{Entry, IsInPlace, Place, by_stamp_and_arrival}
-use Rattle.rt_holding.specs.Waiting.{keys_of}
 use Rattle.rt_holding.specs.Waits.{KeepsOthers, are_tried_at, is_listed, is_tried_at, sleeps}
 use Rattle.rt_holding.proofs.Going.{both, either, or_left, or_right, tried_less}
 use Rattle.rt_holding.proofs.Standing.{this_place}
-use Rattle.rt_holding.proofs.Steps.{kept_others}
+use Rattle.rt_holding.proofs.Steps.{sleeps_still}
 
 -- none stands so late
 earlier : (n : ℕ) (p : Place) (e : Entry) → p.1 ≡ n → IsInPlace n e → is_at (by_stamp_and_arrival p) e.0 ≡ false
@@ -23,16 +19,16 @@ earlier n p e i a = split (is_at (by_stamp_and_arrival p) e.0)
     (λ t. absurd (let s = ap (λ (q : Place). q.1) (this_place p e.0 t) in let l = a.came in omega (arith, s, l, i)))
     (λ t. t)
 
-entry_kept : (limit : ℕ) (log : List Operation) (p : Place) (old new : BTreeSet Key) (again more : List Place) → KeepsOthers p old new → ((q : Place) → is_listed q again ≡ true → is_listed q more ≡ true)
+entry_kept : (limit : ℕ) (log : List Operation) (p : Place) (old new : Keys) (again more : List Place) → KeepsOthers p old new → ((q : Place) → is_listed q again ≡ true → is_listed q more ≡ true)
     → (q : Place) (v : Option Operation) → is_at (by_stamp_and_arrival p) q ≡ false → is_tried_at limit log old again (q, v) ≡ true → is_tried_at limit log new more (q, v) ≡ true
 entry_kept limit log p old new again more k a q None n h = refl
 entry_kept limit log p old new again more k a q (Some x) n h = elim (either (is_listed q again) (sleeps limit old log q x) h) [
   | inl i ↦ or_left (is_listed q more) (sleeps limit new log q x) (a q i)
-  | inr i ↦ or_right (is_listed q more) (sleeps limit new log q x) (ap (λ b. stays (answer_within limit x log) && b) (kept_others p old new k q (keys_of log x) n) ∙ i)
+  | inr i ↦ or_right (is_listed q more) (sleeps limit new log q x) (sleeps_still limit log p old new k q x n i)
 ]
 
 -- where keys of a later place alone have changed, and more are looked at again
-pub tried_kept : (limit : ℕ) (log : List Operation) (n : ℕ) (p : Place) (old new : BTreeSet Key) (again more : List Place) → p.1 ≡ n → KeepsOthers p old new → ((q : Place) → is_listed q again ≡ true → is_listed q more ≡ true)
+pub tried_kept : (limit : ℕ) (log : List Operation) (n : ℕ) (p : Place) (old new : Keys) (again more : List Place) → p.1 ≡ n → KeepsOthers p old new → ((q : Place) → is_listed q again ≡ true → is_listed q more ≡ true)
     → (entries : List Entry) → AllByRecursion (IsInPlace n) entries → are_tried_at limit log old again entries ≡ true → are_tried_at limit log new more entries ≡ true
 tried_kept limit log n p old new again more i k a [] c h = refl
 tried_kept limit log n p old new again more i k a (e ∷ entries) c h =

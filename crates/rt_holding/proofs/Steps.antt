@@ -1,15 +1,13 @@
 -- How each try of a held operation goes on.
 use Rattle.std.proofs.Common.{◌≡◌, ℕ, suc, ◌+◌, ◌*◌, ◌<◌, ◌≤◌, Bool, true, false, ◌⊎◌, inl, inr, refl, sym, ap, subst, ◌∙◌, arith, List, [], ◌∷◌, ◌++◌, Option, Some, None, ◌&&◌, ◌||◌, ◌==◌, length, suc-mul}
 use Rattle.std.specs.BTreeMap.{BTreeMap, IsOrdered, get, is_at}
-use Rattle.std.specs.BTreeSet.{BTreeSet}
 use Rattle.std.specs.declared.alloc.Global.{Global}
 use Rattle.std.specs.declared.cmp.Reverse.{Reverse}
 use Rattle.std.specs.declared.collections.BinaryHeap.{BinaryHeap}
 use Rattle.std.specs.BinaryHeap.{heap_items}
-use Rattle.std.specs.List.{list_all, list_any}
+use Rattle.std.specs.List.{list_any}
 use Rattle.std.specs.Map.{lookup, remove_entry}
 use Rattle.rt_stamps.specs.declared.fault.Fault.TheVariants.{NotYet, TextFull}
-use Rattle.rt_stamps.specs.declared.stamp.Stamp.{Stamp}
 use Rattle.rt_ops.specs.Operations.{Operation, has_bad_stamp}
 use Rattle.rt_ops.specs.Rules.{keeps_rules}
 use Rattle.rt_oplog.specs.Logs.{Has, holds, known_end, same_operation, with_operation}
@@ -19,21 +17,21 @@ use Rattle.rt_rga.specs.Histories.{IsHistory}
 use Rattle.rt_rga.proofs.Skipping.{split}
 use Rattle.rt_holding.specs.declared.trying.Outcome.{Outcome}
 use Rattle.rt_holding.specs.declared.trying.Outcome.TheVariants.{Taken, Waits, Stays, Dropped, Absent}
-use Rattle.rt_holding.specs.declared.waits.Key.{Key}
+use Rattle.rt_holding.specs.declared.waits.Keys.{Keys}
 use Rattle.rt_holding.specs.declared.waits.Waits.{Waits as Table}
 use Rattle.rt_holding.specs.Grown.{HasGrownBy}
 use Rattle.rt_holding.specs.Holding.{Holding, is_left, is_new, stays}
 use Rattle.rt_holding.specs.Kept.{AreHeld, Entry, IsAt, IsNewAt, Place, by_stamp_and_arrival, ops_in, outcome_of}
 use Rattle.rt_holding.specs.Taken.{AreTried, holding}
-use Rattle.rt_holding.specs.Waiting.{keys_of}
-use Rattle.rt_holding.specs.Waits.{IfIsThere, IsFirstDue, IsSetAt, KeepsOthers, are_kept, are_tried_at, has_key, is_due, is_listed, key_at, outcome_there, sleeps}
+use Rattle.rt_holding.specs.Waits.{IfIsThere, IsFirstDue, IsSetAt, KeepsOthers, are_kept, are_tried_at, is_due, is_listed, key_at, outcome_there, sleeps}
 use Rattle.rt_holding.specs.Waking.{IsWoken}
 use Rattle.rt_holding.proofs.Due.{stays_waits}
-use Rattle.rt_holding.proofs.Going.{AreReady, IsLeftAt, either, left_if_stays, next_due, none_due, or_left, or_right, tried_in, tried_now}
+use Rattle.rt_holding.proofs.Going.{AreReady, IsLeftAt, both, either, left_if_stays, next_due, none_due, or_left, or_right, tried_in, tried_now}
 use Rattle.rt_holding.proofs.Keys.{other_end}
 use Rattle.rt_holding.proofs.Places.{get_at, in_append, taken_from}
 use Rattle.rt_holding.proofs.Standing.{at_found, own_place, there_before, this_place}
 use Rattle.rt_holding.proofs.Tries.{IsSettling, begins, ends, one_dropped, one_lacking, one_taken}
+use Rattle.rt_holding.proofs.Waited.{kept_more}
 use Rattle.rt_holding.proofs.Waiting.{waiting_from}
 
 -- all that were tried before are ready now
@@ -151,11 +149,13 @@ not_left true stay found n s = absurd (cc n)
 not_left false true found n s = absurd (cc s)
 not_left false false found n s = refl
 
--- keys of another place stay
-pub kept_others : (p : Place) (old new : BTreeSet Key) → KeepsOthers p old new → (q : Place) (keys : List Stamp) → is_at (by_stamp_and_arrival p) q ≡ false → list_all (has_key new q) keys ≡ list_all (has_key old q) keys
-kept_others p old new k q [] n = refl
-kept_others p old new k q (key ∷ keys) n =
-    ap (λ b. b && list_all (has_key new q) keys) (k (key_at key q) n) ∙ ap (λ b. has_key old q key && b) (kept_others p old new k q keys n)
+-- what is kept for another place stays
+pub sleeps_still : (limit : ℕ) (log : List Operation) (p : Place) (old new : Keys) → KeepsOthers p old new → (q : Place) (x : Operation) → is_at (by_stamp_and_arrival p) q ≡ false
+    → sleeps limit old log q x ≡ true → sleeps limit new log q x ≡ true
+sleeps_still limit log p old new k q x n h =
+    let (s, a) = both (stays (answer_within limit x log)) (are_kept old log q x) h in
+    let b = kept_more old new log q x (λ st i. k.alone (key_at st q) n ∙ i) (λ st i. k.begun (key_at st q) n ∙ i) k.ends a in
+    rw s b
 
 -- WHAT GOES ON
 
@@ -232,7 +232,7 @@ module _ {Site : Type 0} (log : Site → List Operation) (after : Operation → 
           | inl k ↦ inl (more q k.0, k.1)
           | inr k ↦ split (is_at (by_stamp_and_arrival p) q)
               (λ t. here q x (sym (this_place p q t)) f)
-              (λ t. inr (ap (λ b. stays (answer_within limit x (log now)) && b) (kept_others p old.keys new.keys others q (keys_of (log now) x) t) ∙ k))
+              (λ t. inr (sleeps_still limit (log now) p old.keys new.keys others q x t k))
         ])
       ];
       none = g.none;
@@ -264,7 +264,7 @@ module _ {Site : Type 0} (log : Site → List Operation) (after : Operation → 
       ]
       | inr j ↦ elim j [
         | inl i ↦ inr (inl (a q ∙ or_left (is_listed q old.again.items) (is_at (by_stamp_and_arrival q) p) i.0, on y i.1))
-        | inr s ↦ inr (inr (subst (λ (t : BTreeSet Key). sleeps limit t (log now) q y ≡ true) (sym k) s))
+        | inr s ↦ inr (inr (subst (λ (t : Keys). sleeps limit t (log now) q y ≡ true) (sym k) s))
       ]
     ]
 
@@ -300,7 +300,7 @@ module _ {Site : Type 0} (log : Site → List Operation) (after : Operation → 
       pub length : suc (length less.entries) ≡ length m.entries
 
     pub dropped : (o : Outcome) → o ≡ Dropped → o ≡ outcome_there lacks limit (log now) (get by_stamp_and_arrival m p) → IsOrdered by_stamp_and_arrival m
-        → (arrivals : ℕ) (less : BTreeMap Place (Option Operation)) (keys : BTreeSet Key) → AreHeld arrivals m.entries → IsSetAt p None m less → KeepsOthers p old.keys keys
+        → (arrivals : ℕ) (less : BTreeMap Place (Option Operation)) (keys : Keys) → AreHeld arrivals m.entries → IsSetAt p None m less → KeepsOthers p old.keys keys
         → less.entries ≡ remove_entry (is_at (by_stamp_and_arrival p)) m.entries → IsGone lacks now less (record { keys = keys; due = due; again = old.again }) arrivals count
     dropped o i e s arrivals less keys h set others r =
         let t = there_if lacks limit (log now) m p o e (λ j. let k : Absent ≡ Dropped = j ∙ i in cc k) in
@@ -316,7 +316,7 @@ module _ {Site : Type 0} (log : Site → List Operation) (after : Operation → 
               | inl u ↦ elim (due_on q u) [ inl j ↦ inl j | inr j ↦ absurd (other_place q n j) ]
               | inr u ↦ elim u [
                 | inl j ↦ inr (inl j)
-                | inr j ↦ inr (inr (ap (λ b. stays (answer_within limit x (log now)) && b) (kept_others p old.keys keys others q (keys_of (log now) x) n) ∙ j))
+                | inr j ↦ inr (inr (sleeps_still limit (log now) p old.keys keys others q x n j))
               ]
             ];
             none = g.none;

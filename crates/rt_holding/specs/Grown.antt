@@ -1,18 +1,17 @@
 -- What callers see of the operations that a site holds, and how its log has grown since they were last tried.
 use Rattle.std.specs.Prelude.{◌≡◌, ◌==◌, ℕ, true, false, List}
-use Rattle.std.specs.BTreeSet.{BTreeSet}
 use Rattle.rt_ops.specs.Operations.{Operation}
 use Rattle.rt_oplog.specs.Logs.{known_end}
 use Rattle.rt_rga.specs.Histories.{IsHistory}
 use Rattle.rt_rga.specs.Orders.{AreIn}
-use Rattle.rt_holding.specs.declared.waits.Key.{Key}
+use Rattle.rt_holding.specs.declared.waits.Keys.{Keys}
 use Rattle.rt_holding.specs.Kept.{Entry, Place}
 use Rattle.rt_holding.specs.Waits.{are_tried_at}
 
 -- how they are kept, by which code finds those that may be tried
 pub record Table : Type 0 where
   pub entries : List Entry
-  pub keys : BTreeSet Key
+  pub keys : Keys
   pub again : List Place
 
 -- the operations that are held, and how

@@ -1,5 +1,6 @@
 -- What held operations wait for, as the code keeps it. Public clauses cite these by `AreTriedAt` alone.
-use Rattle.std.specs.Prelude.{◌≡◌, ◌+◌, ◌≤◌, ℕ, Bool, true, false, cond, ◌&&◌, ◌||◌, List, length, Option, Some, None, vec_len, vec_capacity}
+use Rattle.std.specs.Prelude.{◌≡◌, ◌+◌, ◌≤◌, ℕ, Bool, true, false, cond, not, ◌&&◌, ◌||◌, nat_le, nat_lt, List, length, Option, Some, None, vec_len, vec_capacity}
+use Rattle.std.specs.Prelude.{if◌then◌else◌}
 use Rattle.std.specs.declared.cmp.Reverse.{Reverse}
 use Rattle.std.specs.declared.cmp.Ordering.{Ordering}
 use Rattle.std.specs.Ordering.{is_lt, nat_cmp, ordering_then}
@@ -8,16 +9,20 @@ use Rattle.std.specs.BinaryHeap.{IsHeap, heap_capacity, heap_items, heap_len}
 use Rattle.std.specs.BTreeMap.{BTreeMap, get, is_at}
 use Rattle.std.specs.BTreeSet.{BTreeSet, contains}
 use Rattle.std.specs.List.{list_all, list_any}
+use Rattle.rt_stamps.specs.declared.stamp.Span.{Span}
 use Rattle.rt_stamps.specs.declared.stamp.Stamp.{Stamp}
 use Rattle.rt_ops.specs.Operations.{Operation}
+use Rattle.rt_oplog.specs.Logs.{known_end}
 use Rattle.rt_rga.specs.Answers.{answer_within}
+use Rattle.rt_rga.specs.Kept.{goes_past}
 use Rattle.rt_holding.specs.declared.waits.Key.{Key}
+use Rattle.rt_holding.specs.declared.waits.Keys.{Keys}
 use Rattle.rt_holding.specs.declared.waits.Waits.{Waits}
 use Rattle.rt_holding.specs.declared.trying.Outcome.{Outcome}
 use Rattle.rt_holding.specs.declared.trying.Outcome.TheVariants.{Absent}
 use Rattle.rt_holding.specs.Holding.{stays}
 use Rattle.rt_holding.specs.Kept.{Entry, Place, by_stamp_and_arrival, outcome_of}
-use Rattle.rt_holding.specs.Waiting.{keys_of}
+use Rattle.rt_holding.specs.Waiting.{targets}
 
 -- keys in order: by site, then by count, then by where the operations stand
 abbrev pub by_key : Key → Key → Ordering
@@ -33,9 +38,44 @@ key_at stamp place = record { site = stamp.site; count = stamp.count; place = pl
 abbrev pub has_key : BTreeSet Key → Place → Stamp → Bool
 has_key keys place stamp = contains by_key keys (key_at stamp place)
 
--- all keys of an operation at a place are kept
-abbrev pub are_kept : BTreeSet Key → List Operation → Place → Operation → Bool
-are_kept keys log place op = list_all (has_key keys place) (keys_of log op)
+abbrev pub first_of : Span → Stamp
+first_of span = record { count = span.first; site = span.site }
+
+abbrev pub last_of : Span → Stamp
+last_of span = record { count = span.last; site = span.site }
+
+-- Of a site it is noted up to where it was looked through: no further than up to a count. What comes behind that is still to be
+-- looked through.
+abbrev pub is_noted : BTreeMap ℕ ℕ → ℕ → ℕ → Bool
+is_noted ends site count = elim (get nat_cmp ends site) [ None ↦ false | Some end ↦ nat_le end count ]
+
+-- a span has begun whose first stamp isn't past its site's known end
+abbrev pub has_begun : List Operation → Span → Bool
+has_begun log span = nat_le span.first (known_end log span.site)
+
+-- the key of a span is kept: of one that has begun at its last stamp, of another at its first
+abbrev pub is_keyed : Keys → List Operation → Place → Span → Bool
+is_keyed keys log place span =
+    if has_begun log span then has_key keys.begun place (last_of span) else has_key keys.alone place (first_of span)
+
+-- A span that goes past its site's known end is waited for. Once it has begun, a gap in what comes is looked for.
+abbrev pub is_waited_for : Keys → List Operation → Place → Span → Bool
+is_waited_for keys log place span =
+    not (goes_past log span) || (is_keyed keys log place span && (not (has_begun log span) || is_noted keys.ends span.site (known_end log span.site)))
+
+-- All keys of an operation at a place are kept: where the operation before it isn't there, that of it alone; else that of the next
+-- in its own place, and those of what it names.
+abbrev pub are_kept : Keys → List Operation → Place → Operation → Bool
+are_kept keys log place op =
+    if nat_lt (known_end log op.site) op.prev then has_key keys.alone place (record { count = op.prev; site = op.site })
+    else has_key keys.alone place (record { count = op.prev + 1; site = op.site }) && list_all (is_waited_for keys log place) (targets op.body)
+
+-- some key of an operation at a place is kept
+abbrev pub is_any_kept : Keys → List Operation → Place → Operation → Bool
+is_any_kept keys log place op =
+    if nat_lt (known_end log op.site) op.prev then has_key keys.alone place (record { count = op.prev; site = op.site })
+    else has_key keys.alone place (record { count = op.prev + 1; site = op.site })
+        || list_any (λ span. goes_past log span && is_keyed keys log place span) (targets op.body)
 
 -- the first place is the greatest
 abbrev pub by_later : Reverse Place → Reverse Place → Ordering
@@ -47,9 +87,12 @@ is_due place due = list_any (λ r. is_at (by_stamp_and_arrival place) r.0) (heap
 abbrev pub is_listed : Place → List Place → Bool
 is_listed place places = list_any (is_at (by_stamp_and_arrival place)) places
 
+abbrev pub key_count : Keys → ℕ
+key_count keys = length keys.alone.keys + length keys.begun.keys
+
 -- how many places and keys are kept
 abbrev pub all_listed : Waits → ℕ
-all_listed waits = heap_len waits.due + vec_len waits.again + length waits.keys.keys
+all_listed waits = heap_len waits.due + vec_len waits.again + key_count waits.keys
 
 -- There is room for all among those that are due, and among those that are looked at again, and for some more.
 pub record IsReady (more : ℕ) (waits : Waits) : Type 0 where
@@ -68,22 +111,58 @@ pub record IsPassedIn (keys : BTreeSet Key) (site known : ℕ) (key : Key) : Typ
   pub of_site : key.site ≡ site
   pub passed : key.count ≤ known
 
+-- the first key of a site
+pub record IsFirstOf (keys : BTreeSet Key) (site : ℕ) (key : Key) : Type 0 where
+  pub there : contains by_key keys key ≡ true
+  pub of_site : key.site ≡ site
+  pub first : (other : Key) → other.site ≡ site → contains by_key keys other ≡ true → key.count ≤ other.count
+
 -- there is none
+abbrev pub HasNoneOf : BTreeSet Key → ℕ → Type 0
+HasNoneOf keys site = (key : Key) → key.site ≡ site → contains by_key keys key ≡ false
+
+-- there is none to which it has come
 abbrev pub LeavesNone : BTreeSet Key → ℕ → ℕ → Type 0
 LeavesNone keys site known = (key : Key) → key.site ≡ site → key.count ≤ known → contains by_key keys key ≡ false
 
 -- keys of other places stay
-abbrev pub KeepsOthers : Place → BTreeSet Key → BTreeSet Key → Type 0
-KeepsOthers place old new = (key : Key) → is_at (by_stamp_and_arrival place) key.place ≡ false → contains by_key new key ≡ contains by_key old key
+abbrev pub KeepOthers : Place → BTreeSet Key → BTreeSet Key → Type 0
+KeepOthers place old new = (key : Key) → is_at (by_stamp_and_arrival place) key.place ≡ false → contains by_key new key ≡ contains by_key old key
+
+-- keys may have been put in
+abbrev pub IsMore : BTreeSet Key → BTreeSet Key → Type 0
+IsMore old new = (key : Key) → contains by_key old key ≡ true → contains by_key new key ≡ true
 
 -- keys may have been taken out
 abbrev pub IsLess : BTreeSet Key → BTreeSet Key → Type 0
-IsLess old new = (key : Key) → contains by_key new key ≡ true → contains by_key old key ≡ true
+IsLess old new = IsMore new old
+
+-- sites may have been noted, or a lesser count of one
+abbrev pub IsNotedMore : BTreeMap ℕ ℕ → BTreeMap ℕ ℕ → Type 0
+IsNotedMore old new = (site count : ℕ) → is_noted old site count ≡ true → is_noted new site count ≡ true
+
+-- what is kept for other places stays
+pub record KeepsOthers (place : Place) (old new : Keys) : Type 0 where
+  pub alone : KeepOthers place old.alone new.alone
+  pub begun : KeepOthers place old.begun new.begun
+  pub ends : IsNotedMore old.ends new.ends
+
+-- more may be kept
+pub record HasMore (old new : Keys) : Type 0 where
+  pub alone : IsMore old.alone new.alone
+  pub begun : IsMore old.begun new.begun
+  pub ends : IsNotedMore old.ends new.ends
+
+-- keys may have been taken out, and nothing else changed
+pub record HasLess (old new : Keys) : Type 0 where
+  pub alone : IsLess old.alone new.alone
+  pub begun : IsLess old.begun new.begun
+  pub ends : new.ends ≡ old.ends
 
 -- keys of a place may have been put in, and nothing else changed
 pub record IsKeyedMore (place : Place) (old new : Waits) : Type 0 where
   pub keys : KeepsOthers place old.keys new.keys
-  pub more : (key : Key) → contains by_key old.keys key ≡ true → contains by_key new.keys key ≡ true
+  pub more : HasMore old.keys new.keys
   pub due : heap_items new.due ≡ heap_items old.due
   pub again : new.again.items ≡ old.again.items
 
@@ -105,14 +184,14 @@ IfIsThere P (Some None) = Unit {0}
 IfIsThere P (Some (Some op)) = P op
 
 -- an operation would stay, and all its keys are kept
-abbrev pub sleeps : ℕ → BTreeSet Key → List Operation → Place → Operation → Bool
+abbrev pub sleeps : ℕ → Keys → List Operation → Place → Operation → Bool
 sleeps limit keys log place op = stays (answer_within limit op log) && are_kept keys log place op
 
 -- it sleeps, or is looked at again
-abbrev pub is_tried_at : ℕ → List Operation → BTreeSet Key → List Place → Entry → Bool
+abbrev pub is_tried_at : ℕ → List Operation → Keys → List Place → Entry → Bool
 is_tried_at limit log keys again (place, None) = true
 is_tried_at limit log keys again (place, Some op) = is_listed place again || sleeps limit keys log place op
 
 -- all were last tried at a log, within a limit
-abbrev pub are_tried_at : ℕ → List Operation → BTreeSet Key → List Place → List Entry → Bool
+abbrev pub are_tried_at : ℕ → List Operation → Keys → List Place → List Entry → Bool
 are_tried_at limit log keys again entries = list_all (is_tried_at limit log keys again) entries

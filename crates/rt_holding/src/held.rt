@@ -40,8 +40,12 @@ pub struct Held {
 
 impl Model for Held {
     ghost use Rattle.rt_holding.specs.Grown.{HeldValue};
+    ghost use Rattle.rt_holding.specs.contracts.waits.Keys as keys;
+    ghost use Rattle.std.specs.Coded.{codes};
 
     ghost Value = { HeldValue };
+
+    ghost coded = { Prim.hlevel (codes, keys.the_row.coded) };
 
     ghost use Rattle.rt_holding.specs.Kept.{AreHeld, ops_in};
     ghost use Rattle.rt_holding.specs.Waits.{IsReady};

@@ -1,5 +1,5 @@
 // Held operations are tried.
-ghost use Rattle.std.specs.Prelude.{◌≡◌, ◌≤◌, ◌||◌, false, true, length, IfNone, IfOk, IfSome, None, OnErr, OnOk, Some};
+ghost use Rattle.std.specs.Prelude.{◌≡◌, ◌≤◌, ◌||◌, false, true, IfNone, IfOk, IfSome, None, OnErr, OnOk, Some};
 ghost use Rattle.std.specs.Map.{remove_entry};
 ghost use Rattle.std.specs.BinaryHeap.{heap_items};
 ghost use Rattle.std.specs.BTreeMap.{IsOrdered, get, insert_entry, is_at};
@@ -8,7 +8,7 @@ ghost use Rattle.rt_ops.specs.Operations.{Operation, has_bad_stamp};
 ghost use Rattle.rt_oplog.specs.Logs.{holds, with_operation};
 ghost use Rattle.rt_rga.specs.Answers.{answer_within};
 ghost use Rattle.rt_holding.specs.Kept.{IsAt, IsInPlace, IsNewAt, Place, by_stamp_and_arrival, ops_in, outcome_of};
-ghost use Rattle.rt_holding.specs.Waits.{IfIsThere, IsReady, IsSetAt, KeepsOthers, are_kept, is_listed, outcome_there};
+ghost use Rattle.rt_holding.specs.Waits.{IfIsThere, IsReady, IsSetAt, KeepsOthers, are_kept, is_listed, key_count, outcome_there};
 
 use crate::taking::Taking;
 use crate::waits::{Keys, Waits, forget, keep, put_keys};
@@ -121,7 +121,7 @@ pub(crate) fn drop_at<T: Taking>(site: &T, ops: &mut Ops, keys: &mut Keys, place
     ensures others { IsSetAt place None ops.old ops.new }
     ensures ordered { IsOrdered by_stamp_and_arrival ops.new }
     ensures keys { KeepsOthers place keys.old keys.new }
-    ensures fewer { length keys.new.keys ≤ length keys.old.keys }
+    ensures fewer { key_count keys.new ≤ key_count keys.old }
 {
     if let Some(op) = ops.remove(&place).flatten() {
         forget(site, keys, &op, place);

@@ -1,13 +1,14 @@
 // Which of the held operations may be tried, and at which counts others may be.
-ghost use Rattle.std.specs.Prelude.{◌≡◌, ℕ, ◌+◌, ◌<◌, ◌≤◌, ◌==◌, ◌&&◌, ◌||◌, ◌∷◌, vec_len, Bool, true, false, [], length, IfNone, IfSome, OnOk, OnSome};
-ghost use Rattle.std.specs.List.{flat_map, list_all, list_any};
+ghost use Rattle.std.specs.Prelude.{◌≡◌, ℕ, ◌+◌, ◌<◌, ◌≤◌, ◌==◌, ◌&&◌, ◌||◌, ◌∷◌, vec_len, Bool, true, false, [], length, IfNone, IfSome, OnErr, OnOk, OnSome};
+ghost use Rattle.std.specs.List.{list_all, list_any};
 ghost use Rattle.std.specs.BinaryHeap.{IsHeap, KeepsHeap, heap_capacity, heap_items, heap_len};
 ghost use Rattle.std.specs.BTreeMap.{is_at};
 ghost use Rattle.std.specs.BTreeSet.{contains};
 ghost use Rattle.rt_ops.specs.Operations.{has_bad_stamp};
 ghost use Rattle.rt_holding.specs.Kept.{Place, by_stamp_and_arrival};
-ghost use Rattle.rt_holding.specs.Waiting.{key_in, keys_of};
-ghost use Rattle.rt_holding.specs.Waits.{IsFirstDue, IsKeyedMore, IsPassedIn, IsLess, IsReady, KeepsOthers, LeavesNone, are_kept, by_key, by_later, has_key, is_due, is_listed, least_key};
+ghost use Rattle.rt_rga.specs.Kept.{goes_past};
+ghost use Rattle.rt_holding.specs.Waits.{HasLess, HasMore, HasNoneOf, IsFirstDue, IsFirstOf, IsKeyedMore, IsLess, IsNotedMore, IsPassedIn, IsReady, KeepOthers, KeepsOthers, LeavesNone};
+ghost use Rattle.rt_holding.specs.Waits.{are_kept, by_key, by_later, has_key, is_any_kept, is_due, is_keyed, is_listed, is_noted, is_waited_for, key_count, least_key};
 
 use crate::taking::Taking;
 use crate::trying::Place;
@@ -15,7 +16,7 @@ use rt_oplog::{Edit, Op};
 use rt_stamps::{ROOT, Span, Stamp};
 use std::alloc::{AllocError, Global};
 use std::cmp::Reverse;
-use std::collections::{BTreeSet, BinaryHeap};
+use std::collections::{BTreeMap, BTreeSet, BinaryHeap};
 
 /// The known end of a site is to come to a count, and what for: where a held operation stands.
 #[derive(Clone, Copy, PartialEq, Eq, PartialOrd, Ord)]
@@ -25,7 +26,21 @@ pub(crate) struct Key {
     pub(crate) place: Place,
 }
 
-pub(crate) type Keys = BTreeSet<Key>;
+pub(crate) type KeySet = BTreeSet<Key>;
+
+/// Of a site up to where it was looked through.
+pub(crate) type Ends = BTreeMap<u16, u64>;
+
+/// The keys of held operations.
+#[derive(Drop)]
+pub(crate) struct Keys {
+    /// At the first stamp of a span that hasn't begun, and at what is waited for of an operation's own site.
+    pub(crate) alone: KeySet,
+    /// At the last stamp of a span that has begun, and goes past its site's known end.
+    pub(crate) begun: KeySet,
+    /// What comes behind it is still to be looked through for a gap, for all whose span of the site has begun.
+    pub(crate) ends: Ends,
+}
 
 /// Where those stand that may be tried, the first of them on top.
 pub(crate) type Due = BinaryHeap<Reverse<Place>>;
@@ -44,7 +59,11 @@ impl Waits {
         ensures { IsReady 0 result }
     {
         Waits {
-            keys: BTreeSet::new(alloc),
+            keys: Keys {
+                alone: BTreeSet::new(alloc),
+                begun: BTreeSet::new(alloc),
+                ends: BTreeMap::new(alloc),
+            },
             due: BinaryHeap::new(alloc),
             again: Vec::new(alloc),
         }
@@ -130,18 +149,22 @@ impl Key {
     }
 }
 
+/// The first key of a site.
+pub(crate) fn first_key(keys: &KeySet, site: u16) -> Option<Key>
+    ensures some { IfSome result (IsFirstOf keys.now site) }
+    ensures none { IfNone result (HasNoneOf keys.now site) }
+{
+    let first = keys.range(Key::least(site)..).next()?;
+    if first.site == site { Some(*first) } else { None }
+}
+
 /// The first key of a site to which its known end has come.
-pub(crate) fn first_passed(keys: &Keys, site: u16, known: u64) -> Option<Key>
+pub(crate) fn first_passed(keys: &KeySet, site: u16, known: u64) -> Option<Key>
     ensures some { IfSome result (IsPassedIn keys.now site known) }
     ensures none { IfNone result (LeavesNone keys.now site known) }
 {
-    let first = keys.range(Key::least(site)..).next()?;
-    let key = *first;
-    if key.site == site && key.count <= known {
-        Some(key)
-    } else {
-        None
-    }
+    let key = first_key(keys, site)?;
+    if key.count <= known { Some(key) } else { None }
 }
 
 /// All that are looked at again are due.
@@ -158,7 +181,7 @@ pub(crate) fn look_again(waits: &mut Waits)
 }
 
 /// Whether a key is kept.
-pub(crate) fn has_it(keys: &Keys, stamp: Stamp, place: Place) -> bool
+pub(crate) fn has_it(keys: &KeySet, stamp: Stamp, place: Place) -> bool
     ensures { result ≡ has_key keys.now place stamp }
 {
     keys.contains(&Key {
@@ -181,23 +204,11 @@ fn only(stamp: Stamp) -> Span
     }
 }
 
-/// The first stamp of a span past the known end of its site, if there is one.
-fn next_of<T: Taking>(site: &T, span: Span) -> Option<Stamp>
-    ensures some { IfSome result (λ stamp. key_in (T.log site.now) span ≡ stamp ∷ []) }
-    ensures none { IfNone result (key_in (T.log site.now) span ≡ []) }
+/// Whether a span goes past the known end of its site.
+pub(crate) fn is_open<T: Taking>(site: &T, span: Span) -> bool
+    ensures { result ≡ goes_past (T.log site.now) span }
 {
-    if span.site == 0 || span.last < span.first {
-        return None;
-    }
-    let known = site.known(span.site);
-    if span.last <= known {
-        return None;
-    }
-    let count = span.first.max(known + 1);
-    Some(Stamp {
-        count,
-        site: span.site,
-    })
+    span.site != 0 && span.first <= span.last && site.known(span.site) < span.last
 }
 
 /// Makes room for two more, among those that are due and those that are looked at again.
@@ -209,7 +220,7 @@ fn make_room(waits: &mut Waits) -> Result<(), AllocError>
     ensures due { heap_items waits.new.due ≡ heap_items waits.old.due }
     ensures again { waits.new.again.items ≡ waits.old.again.items }
 {
-    let keys = waits.keys.len() + 2;
+    let keys = waits.keys.alone.len() + waits.keys.begun.len() + 2;
     waits.due.reserve(waits.again.len() + keys)?;
     waits.again.reserve(waits.due.len() + keys)
 }
@@ -219,7 +230,7 @@ fn put_key(waits: &mut Waits, stamp: Stamp, place: Place) -> Result<(), AllocErr
     requires { IsReady 1 waits.old }
     ensures ready { IsReady 1 waits.new }
     ensures keyed { IsKeyedMore place waits.old waits.new }
-    ensures kept { OnOk result (has_key waits.new.keys place stamp ≡ true) }
+    ensures kept { OnOk result (has_key waits.new.keys.alone place stamp ≡ true) }
 {
     make_room(waits)?;
     let key = Key {
@@ -227,10 +238,75 @@ fn put_key(waits: &mut Waits, stamp: Stamp, place: Place) -> Result<(), AllocErr
         count: stamp.count,
         place,
     };
-    match waits.keys.insert(key) {
+    match waits.keys.alone.insert(key) {
         Ok(_) => Ok(()),
         Err(_) => Err(AllocError),
     }
+}
+
+/// What comes of a site behind a known end is to be looked through.
+fn note_end(ends: &mut Ends, site: u16, known: u64) -> Result<(), AllocError>
+    ensures noted { OnOk result (is_noted ends.new site known ≡ true) }
+    ensures more { IsNotedMore ends.old ends.new }
+{
+    if let Some(&end) = ends.get(&site) {
+        if end <= known {
+            return Ok(());
+        }
+    }
+    match ends.insert(site, known) {
+        Ok(_) => Ok(()),
+        Err(_) => Err(AllocError),
+    }
+}
+
+/// One more key, of a span that has begun.
+pub(crate) fn put_begun(keys: &mut Keys, key: Key, known: u64) -> Result<(), AllocError>
+    ensures kept { OnOk result (contains by_key keys.new.begun key ≡ true) }
+    ensures noted { OnOk result (is_noted keys.new.ends key.site known ≡ true) }
+    ensures alone { keys.new.alone ≡ keys.old.alone }
+    ensures others { KeepsOthers key.place keys.old keys.new }
+    ensures more { HasMore keys.old keys.new }
+    ensures len { key_count keys.new ≤ key_count keys.old + 1 }
+    ensures same { OnErr result (key_count keys.new ≡ key_count keys.old) }
+{
+    note_end(&mut keys.ends, key.site, known)?;
+    match keys.begun.insert(key) {
+        Ok(_) => Ok(()),
+        Err(_) => Err(AllocError),
+    }
+}
+
+/// That of a span that goes past the known end of its site: at its first stamp, or once that is known at its last.
+fn put_open<T: Taking>(
+    site: &T,
+    waits: &mut Waits,
+    span: Span,
+    place: Place,
+) -> Result<(), AllocError>
+    requires { IsReady 1 waits.old }
+    ensures ready { IsReady 1 waits.new }
+    ensures keyed { IsKeyedMore place waits.old waits.new }
+    ensures kept { OnOk result (is_waited_for waits.new.keys (T.log site.now) place span ≡ true) }
+{
+    let known = site.known(span.site);
+    if known < span.first {
+        return put_key(
+            waits,
+            Stamp {
+                count: span.first,
+                site: span.site,
+            },
+            place,
+        );
+    }
+    make_room(waits)?;
+    let key = Key {
+        site: span.site,
+        count: span.last,
+        place,
+    };
+    put_begun(&mut waits.keys, key, known)
 }
 
 /// That of a span, if it goes past the known end of its site.
@@ -243,11 +319,12 @@ fn put_span<T: Taking>(
     requires { IsReady 1 waits.old }
     ensures ready { IsReady 1 waits.new }
     ensures keyed { IsKeyedMore place waits.old waits.new }
-    ensures kept { OnOk result (list_all (has_key waits.new.keys place) (key_in (T.log site.now) span) ≡ true) }
+    ensures kept { OnOk result (is_waited_for waits.new.keys (T.log site.now) place span ≡ true) }
 {
-    match next_of(site, span) {
-        Some(stamp) => put_key(waits, stamp, place),
-        None => Ok(()),
+    if is_open(site, span) {
+        put_open(site, waits, span, place)
+    } else {
+        Ok(())
     }
 }
 
@@ -261,7 +338,7 @@ fn put_spans<T: Taking>(
     requires { IsReady 1 waits.old }
     ensures ready { IsReady 1 waits.new }
     ensures keyed { IsKeyedMore place waits.old waits.new }
-    ensures kept { OnOk result (list_all (has_key waits.new.keys place) (flat_map (key_in (T.log site.now)) spans.now) ≡ true) }
+    ensures kept { OnOk result (list_all (is_waited_for waits.new.keys (T.log site.now) place) spans.now ≡ true) }
 {
     for span in spans {
         put_span(site, waits, *span, place)?;
@@ -333,10 +410,10 @@ pub(crate) fn prepare<T: Taking>(
 }
 
 /// Takes a key out, if it is there.
-fn drop_key(keys: &mut Keys, stamp: Stamp, place: Place)
+fn drop_key(keys: &mut KeySet, stamp: Stamp, place: Place)
     ensures gone { has_key keys.new place stamp ≡ false }
     ensures less { IsLess keys.old keys.new }
-    ensures others { KeepsOthers place keys.old keys.new }
+    ensures others { KeepOthers place keys.old keys.new }
     ensures fewer { length keys.new.keys ≤ length keys.old.keys }
 {
     let _was_there = keys.remove(&Key {
@@ -346,54 +423,59 @@ fn drop_key(keys: &mut Keys, stamp: Stamp, place: Place)
     });
 }
 
-/// That of a span, as far as its site has come.
+/// That of a span that goes past the known end of its site.
 fn drop_span<T: Taking>(site: &T, keys: &mut Keys, span: Span, place: Place)
-    ensures gone { list_any (has_key keys.new place) (key_in (T.log site.now) span) ≡ false }
-    ensures less { IsLess keys.old keys.new }
+    ensures gone { (goes_past (T.log site.now) span && is_keyed keys.new (T.log site.now) place span) ≡ false }
+    ensures less { HasLess keys.old keys.new }
     ensures others { KeepsOthers place keys.old keys.new }
-    ensures fewer { length keys.new.keys ≤ length keys.old.keys }
+    ensures fewer { key_count keys.new ≤ key_count keys.old }
 {
-    if let Some(stamp) = next_of(site, span) {
-        drop_key(keys, stamp, place);
+    if !is_open(site, span) {
+        return;
+    }
+    if site.known(span.site) < span.first {
+        let first = Stamp { count: span.first, site: span.site };
+        drop_key(&mut keys.alone, first, place);
+    } else {
+        let last = Stamp { count: span.last, site: span.site };
+        drop_key(&mut keys.begun, last, place);
     }
 }
 
 fn drop_spans<T: Taking>(site: &T, keys: &mut Keys, spans: &[Span], place: Place)
-    ensures gone { list_any (has_key keys.new place) (flat_map (key_in (T.log site.now)) spans.now) ≡ false }
-    ensures less { IsLess keys.old keys.new }
+    ensures gone { list_any (λ span. goes_past (T.log site.now) span && is_keyed keys.new (T.log site.now) place span) spans.now ≡ false }
+    ensures less { HasLess keys.old keys.new }
     ensures others { KeepsOthers place keys.old keys.new }
-    ensures fewer { length keys.new.keys ≤ length keys.old.keys }
+    ensures fewer { key_count keys.new ≤ key_count keys.old }
 {
     for span in spans {
         drop_span(site, keys, *span, place);
     }
 }
 
-/// Takes out the keys of an operation at a place.
-pub(crate) fn forget<T: Taking>(site: &T, keys: &mut Keys, op: &Op, place: Place)
-    ensures gone { has_bad_stamp op.now ≡ false → list_any (has_key keys.new place) (keys_of (T.log site.now) op.now) ≡ false }
+/// Takes out those of an operation's own site: for the one before it, and for one in its own place.
+fn drop_own(keys: &mut KeySet, op: &Op, place: Place)
+    ensures before { has_key keys.new place (record { count = op.now.prev; site = op.now.site }) ≡ false }
+    ensures next { has_bad_stamp op.now ≡ false → has_key keys.new place (record { count = op.now.prev + 1; site = op.now.site }) ≡ false }
     ensures less { IsLess keys.old keys.new }
-    ensures others { KeepsOthers place keys.old keys.new }
+    ensures others { KeepOthers place keys.old keys.new }
     ensures fewer { length keys.new.keys ≤ length keys.old.keys }
 {
-    let own = op.site();
+    let site = op.site();
     let prev = op.prev();
-    drop_key(
-        keys,
-        Stamp {
-            count: prev,
-            site: own,
-        },
-        place,
-    );
-    drop_key(
-        keys,
-        Stamp {
-            count: prev.saturating_add(1),
-            site: own,
-        },
-        place,
-    );
+    drop_key(keys, Stamp { count: prev, site }, place);
+    let count = prev.saturating_add(1);
+    drop_key(keys, Stamp { count, site }, place);
+}
+
+/// Takes out the keys of an operation at a place.
+pub(crate) fn forget<T: Taking>(site: &T, keys: &mut Keys, op: &Op, place: Place)
+    ensures gone { has_bad_stamp op.now ≡ false → is_any_kept keys.new (T.log site.now) place op.now ≡ false }
+    ensures less { HasLess keys.old keys.new }
+    ensures others { KeepsOthers place keys.old keys.new }
+    ensures fewer { key_count keys.new ≤ key_count keys.old }
+{
+    drop_own(&mut keys.alone, op, place);
     match op.edit() {
         Edit::Insert { after, .. } => drop_span(site, keys, only(*after), place),
         Edit::Delete { spans } => drop_spans(site, keys, spans, place),

@@ -5,17 +5,17 @@ ghost use Rattle.std.specs.BTreeSet.{contains};
 ghost use Rattle.std.specs.List.{list_any};
 ghost use Rattle.rt_stamps.specs.Spans.{is_in_span};
 ghost use Rattle.rt_holding.specs.declared.waking.Passed.TheVariants.{Due};
-ghost use Rattle.rt_oplog.specs.Logs.{known_end};
 ghost use Rattle.rt_rga.specs.Histories.{IsHistory};
 ghost use Rattle.rt_holding.specs.Kept.{Place, by_stamp_and_arrival};
 ghost use Rattle.rt_rga.specs.Kept.{goes_past};
 ghost use Rattle.rt_holding.specs.Waiting.{targets};
-ghost use Rattle.rt_holding.specs.Waits.{IfIsThere, IsReady, KeepsOthers, by_key, is_due};
-ghost use Rattle.rt_holding.specs.Waking.{IsPassedOn, IsSeenTo, IsToCome, IsWoken, passed_keys, stamp_of_key};
+ghost use Rattle.rt_holding.specs.Waits.{HasMore, IfIsThere, IsReady, by_key, is_due};
+ghost use Rattle.rt_holding.specs.Waking.{AreAllDue, AreEndsPassed, IsLookedThrough, IsPassedOn, IsSeenTo, IsStillWaiting, IsToCome, IsWoken};
+ghost use Rattle.rt_holding.specs.Waking.{stamp_of_key};
 
 use crate::taking::Taking;
 use crate::trying::{Ops, Place};
-use crate::waits::{Key, Keys, Waits, first_passed, has_it, look_again, push_due};
+use crate::waits::{Key, KeySet, Waits, first_key, first_passed, has_it, is_open, look_again, push_due, put_begun};
 use rt_oplog::{Edit, Op};
 use rt_stamps::{Span, Stamp};
 
@@ -24,7 +24,7 @@ use rt_stamps::{Span, Stamp};
 enum Passed {
     /// It may be tried.
     Due,
-    /// It waits for the next stamp of the span, of that count.
+    /// It waits for the last stamp of the span, of that count.
     GoesOn(u64),
     /// It waits for other spans.
     Sleeps,
@@ -35,13 +35,6 @@ fn has_stamp(span: Span, key: Key) -> bool
     ensures { result ≡ is_in_span span (stamp_of_key key) }
 {
     key.site == span.site && span.first <= key.count && key.count <= span.last
-}
-
-/// Whether a span goes past the known end of its site.
-fn is_open<T: Taking>(site: &T, span: Span) -> bool
-    ensures { result ≡ goes_past (T.log site.now) span }
-{
-    span.site != 0 && span.first <= span.last && site.known(span.site) < span.last
 }
 
 /// Whether the span at an index, if there is one, goes past the known end of its site.
@@ -71,7 +64,7 @@ fn is_any_open<T: Taking>(site: &T, spans: &[Span], index: usize) -> bool
 }
 
 /// Whether the key of a span's first stamp is passed, and kept still.
-fn is_pending(keys: &Keys, spans: &[Span], index: usize, key: Key, known: u64) -> bool
+fn is_pending(keys: &KeySet, spans: &[Span], index: usize, key: Key, known: u64) -> bool
     ensures { IsTrue result → IsToCome known keys.now key spans.now }
 {
     let Some(&later) = spans.get(index) else {
@@ -94,7 +87,7 @@ fn is_pending(keys: &Keys, spans: &[Span], index: usize, key: Key, known: u64) -
 }
 
 /// What becomes of an operation that names spans, and of which a key is passed: only what became known of that span is looked at.
-fn passed_among<T: Taking>(site: &T, keys: &Keys, spans: &[Span], key: Key) -> Passed
+fn passed_among<T: Taking>(site: &T, keys: &KeySet, spans: &[Span], key: Key) -> Passed
     ensures { IsPassedOn (T.log site.now) keys.now key spans.now result }
 {
     if key.site == 0 {
@@ -114,7 +107,7 @@ fn passed_among<T: Taking>(site: &T, keys: &Keys, spans: &[Span], key: Key) -> P
         return Passed::Due;
     }
     if known < span.last {
-        return Passed::GoesOn(known + 1);
+        return Passed::GoesOn(span.last);
     }
     if is_pending(keys, spans, index + 1, key, known) {
         return Passed::Sleeps;
@@ -127,7 +120,7 @@ fn passed_among<T: Taking>(site: &T, keys: &Keys, spans: &[Span], key: Key) -> P
 }
 
 /// What becomes of an operation of which a key is passed. One that waits for its own site may be tried.
-fn passed_of<T: Taking>(site: &T, keys: &Keys, op: &Op, key: Key) -> Passed
+fn passed_of<T: Taking>(site: &T, keys: &KeySet, op: &Op, key: Key) -> Passed
     ensures { (result ≡ Due) ⊎ (((key.site == op.now.site) ≡ false) × IsPassedOn (T.log site.now) keys.now key (targets op.now.body) result) }
 {
     if key.site == op.site() {
@@ -145,26 +138,118 @@ fn pass<T: Taking>(site: &T, ops: &Ops, waits: &mut Waits, key: Key)
     requires { IsReady 1 waits.old }
     ensures ready { IsReady 0 waits.new }
     ensures due { (p : Place) → is_due p waits.old.due ≡ true → is_due p waits.new.due ≡ true }
-    ensures others { KeepsOthers key.place waits.old.keys waits.new.keys }
-    ensures more { (k : Key) → contains by_key waits.old.keys k ≡ true → contains by_key waits.new.keys k ≡ true }
+    ensures alone { waits.new.keys.alone ≡ waits.old.keys.alone }
+    ensures more { HasMore waits.old.keys waits.new.keys }
     ensures here { IfIsThere (λ op. (is_due key.place waits.new.due ≡ true) ⊎ IsSeenTo (T.log site.now) waits.new.keys key op)
         (get by_stamp_and_arrival ops.now key.place) }
-    ensures count { (known : ℕ) → known ≡ known_end (T.log site.now) key.site
-        → passed_keys key.site known waits.new.keys ≡ passed_keys key.site known waits.old.keys }
 {
     let Some(Some(op)) = ops.get(&key.place) else {
         return;
     };
-    match passed_of(site, &waits.keys, op, key) {
+    match passed_of(site, &waits.keys.alone, op, key) {
         Passed::Due => push_due(&mut waits.due, key.place),
-        Passed::GoesOn(count) => {
-            let next = Key { count, ..key };
-            match waits.keys.insert(next) {
-                Ok(_) => {}
+        Passed::GoesOn(last) => {
+            let end = Key { count: last, ..key };
+            let known = site.known(key.site);
+            match put_begun(&mut waits.keys, end, known) {
+                Ok(()) => {}
                 Err(_) => push_due(&mut waits.due, key.place),
             }
         }
         Passed::Sleeps => {}
+    }
+}
+
+/// Whether an operation of which a span has come to its end waits for others.
+fn is_waiting<T: Taking>(site: &T, keys: &KeySet, spans: &[Span], key: Key) -> bool
+    ensures { IsTrue result → IsStillWaiting (T.log site.now) keys.now key spans.now }
+{
+    let index = spans.partition_point(|span| (span.site, span.last) < (key.site, key.count));
+    if index >= spans.len() {
+        return false;
+    }
+    is_pending(keys, spans, index + 1, key, site.known(key.site)) || is_any_open(site, spans, index)
+}
+
+/// The same of an operation, which names spans.
+fn waits_on<T: Taking>(site: &T, keys: &KeySet, op: &Op, key: Key) -> bool
+    ensures { IsTrue result → IsStillWaiting (T.log site.now) keys.now key (targets op.now.body) }
+{
+    match op.edit() {
+        Edit::Insert { .. } => false,
+        Edit::Delete { spans } => is_waiting(site, keys, spans, key),
+        Edit::Tag { spans, .. } => is_waiting(site, keys, spans, key),
+    }
+}
+
+/// A span of the operation at a key's place came to its end: it is due, or waits for others.
+fn end_at<T: Taking>(site: &T, ops: &Ops, waits: &mut Waits, key: Key)
+    requires { IsReady 1 waits.old }
+    ensures ready { IsReady 0 waits.new }
+    ensures due { (p : Place) → is_due p waits.old.due ≡ true → is_due p waits.new.due ≡ true }
+    ensures keys { waits.new.keys ≡ waits.old.keys }
+    ensures here { (is_due key.place waits.new.due ≡ true)
+        ⊎ IfIsThere (λ op. IsStillWaiting (T.log site.now) waits.old.keys.alone key (targets op.body)) (get by_stamp_and_arrival ops.now key.place) }
+{
+    let Some(Some(op)) = ops.get(&key.place) else {
+        return;
+    };
+    if !waits_on(site, &waits.keys.alone, op, key) {
+        push_due(&mut waits.due, key.place);
+    }
+}
+
+/// All are due of which a span of a site has begun.
+fn wake_begun(waits: &mut Waits, made_by: u16)
+    requires { IsReady 0 waits.old }
+    ensures ready { IsReady 0 waits.new }
+    ensures due { (p : Place) → is_due p waits.old.due ≡ true → is_due p waits.new.due ≡ true }
+    ensures alone { waits.new.keys.alone ≡ waits.old.keys.alone }
+    ensures ends { waits.new.keys.ends ≡ waits.old.keys.ends }
+    ensures others { (key : Key) → (made_by == key.site) ≡ false → contains by_key waits.new.keys.begun key ≡ contains by_key waits.old.keys.begun key }
+    ensures all { AreAllDue made_by waits.old.keys.begun waits.new.due }
+{
+    while let Some(key) = first_key(&waits.keys.begun, made_by) {
+        let _was_there = waits.keys.begun.remove(&key);
+        push_due(&mut waits.due, key.place);
+    }
+}
+
+/// What came of a site is looked through, once for all of which a span of it has begun. With a gap, all of them are due: each
+/// names a stamp that can never be known.
+fn look_through<T: Taking>(site: &T, waits: &mut Waits, made_by: u16)
+    requires { IsReady 0 waits.old }
+    ensures ready { IsReady 0 waits.new }
+    ensures looked { IsLookedThrough made_by (T.log site.now) waits.old waits.new }
+{
+    let Some(&end) = waits.keys.ends.get(&made_by) else {
+        return;
+    };
+    let known = site.known(made_by);
+    if known <= end {
+        return;
+    }
+    let came = Span {
+        site: made_by,
+        first: end + 1,
+        last: known,
+    };
+    let noted: Result<_, _> = waits.keys.ends.insert(made_by, known);
+    if noted.is_err() || site.has_gap(came) {
+        wake_begun(waits, made_by);
+    }
+}
+
+/// Of a site's spans that had begun, those that have come to their end are seen to.
+fn pass_ends<T: Taking>(site: &T, ops: &Ops, waits: &mut Waits, made_by: u16)
+    requires { IsReady 0 waits.old }
+    ensures ready { IsReady 0 waits.new }
+    ensures passed { AreEndsPassed made_by (T.log site.now) ops.now waits.old waits.new }
+{
+    let known = site.known(made_by);
+    while let Some(key) = first_passed(&waits.keys.begun, made_by, known) {
+        let _was_there = waits.keys.begun.remove(&key);
+        end_at(site, ops, waits, key);
     }
 }
 
@@ -176,9 +261,11 @@ pub(crate) fn wake<T: Taking>(site: &T, ops: &Ops, waits: &mut Waits, made_by: u
     ensures history { IsHistory (T.log site.now) }
 {
     look_again(waits);
+    look_through(site, waits, made_by);
+    pass_ends(site, ops, waits, made_by);
     let known = site.known(made_by);
-    while let Some(key) = first_passed(&waits.keys, made_by, known) {
-        let _was_there = waits.keys.remove(&key);
+    while let Some(key) = first_passed(&waits.keys.alone, made_by, known) {
+        let _was_there = waits.keys.alone.remove(&key);
         pass(site, ops, waits, key);
     }
 }

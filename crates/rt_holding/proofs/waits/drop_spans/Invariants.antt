@@ -1,16 +1,16 @@
-use Rattle.std.proofs.Common.{◌≡◌, ◌≤◌, drop, false, length}
-use Rattle.std.specs.BTreeSet.{BTreeSet}
-use Rattle.std.specs.List.{flat_map, list_any}
-use Rattle.rt_holding.specs.declared.waits.Key.{Key}
-use Rattle.rt_holding.specs.Waiting.{key_in}
-use Rattle.rt_holding.specs.Waits.{IsLess, KeepsOthers, has_key}
+use Rattle.std.proofs.Common.{◌≡◌, ◌≤◌, ◌&&◌, drop, false}
+use Rattle.std.specs.List.{list_any}
+use Rattle.rt_rga.specs.Kept.{goes_past}
+use Rattle.rt_holding.specs.declared.waits.Keys.{Keys}
+use Rattle.rt_holding.specs.Waits.{HasLess, KeepsOthers, is_keyed, key_count}
 use Rattle.rt_holding.proofs.waits.drop_spans.Given as goal
 
 abbrev pub invariant-loop-span : goal.invariant-loop-span
 invariant-loop-span g l = record {
-  gone : (keys : BTreeSet Key) → IsLess l.keys keys → list_any (has_key keys l.place) (flat_map (key_in (g.T.Taking.log l.site)) (drop l.span-index l.spans)) ≡ false
-      → list_any (has_key keys l.place) (flat_map (key_in (g.T.Taking.log l.site)) l.spans) ≡ false;
-  less : IsLess l.initial.keys l.keys;
+  gone : (keys : Keys) → HasLess l.keys keys
+      → list_any (λ span. goes_past (g.T.Taking.log l.site) span && is_keyed keys (g.T.Taking.log l.site) l.place span) (drop l.span-index l.spans) ≡ false
+      → list_any (λ span. goes_past (g.T.Taking.log l.site) span && is_keyed keys (g.T.Taking.log l.site) l.place span) l.spans ≡ false;
+  less : HasLess l.initial.keys l.keys;
   others : KeepsOthers l.place l.initial.keys l.keys;
-  fewer : length l.keys.keys ≤ length l.initial.keys.keys;
+  fewer : key_count l.keys ≤ key_count l.initial.keys;
 }

@@ -1,62 +1,38 @@
-use Rattle.std.proofs.Common.{◌≡◌, ◌∙◌, ◌⊎◌, ◌+◌, ◌<◌, ◌==◌, ℕ, Bool, List, Some, ap, arith, cond, false, inl, inr, length, refl, subst, sym, true}
-use Rattle.std.proofs.lemmas.Bool.Decides.{nat_tests}
-use Rattle.std.specs.BTreeMap.{is_at}
+use Rattle.std.proofs.Common.{◌≡◌, ◌∙◌, ◌⊎◌, ◌==◌, ℕ, List, Some, ap, false, inl, inr, subst, sym, true}
 use Rattle.std.specs.BTreeSet.{BTreeSet, contains}
-use Rattle.std.specs.List.{filter}
 use Rattle.rt_ops.specs.Operations.{Operation}
 use Rattle.rt_oplog.specs.Logs.{known_end}
 use Rattle.rt_holding.specs.declared.waits.Key.{Key}
+use Rattle.rt_holding.specs.declared.waits.Keys.{Keys}
 use Rattle.rt_holding.specs.declared.waking.Passed.TheVariants.{Due, GoesOn}
 use Rattle.rt_holding.specs.Waiting.{targets}
-use Rattle.rt_holding.specs.Waits.{IfIsThere, by_key, is_due}
-use Rattle.rt_holding.specs.Waking.{IsPassedOn, IsSeenTo, is_passed_by}
+use Rattle.rt_holding.specs.Waits.{IfIsThere, by_key, is_due, is_noted}
+use Rattle.rt_holding.specs.Waking.{IsPassedOn, IsSeenTo}
 use Rattle.rt_holding.proofs.Sleeping.{came_goes_on}
-use Rattle.rt_holding.proofs.Standing.{count_inserted, own_key}
 use Rattle.rt_holding.proofs.waking.pass.Goals as goal
 
-abbrev next_key : Key → ℕ → Key
-next_key key count = record { site = key.site; count = count; place = key.place }
+abbrev end_key : Key → ℕ → Key
+end_key key count = record { site = key.site; count = count; place = key.place }
 
-either : (a b : Bool) → b ≡ true → cond a true b ≡ true
-either true b e = refl
-either false b e = e
-
--- a span goes on, and its next key was put in
-seen : (log : List Operation) (keys new : BTreeSet Key) (key : Key) (op : Operation) (count : ℕ)
-    → ((k : Key) → contains by_key new k ≡ cond (is_at (by_key (next_key key count)) k) true (contains by_key keys k))
-    → (GoesOn count ≡ Due) ⊎ (((key.site == op.site) ≡ false) × IsPassedOn log keys key (targets op.body) (GoesOn count)) → IsSeenTo log new key op
-seen log keys new key op count put (inl e) = absurd (cc e)
-seen log keys new key op count put (inr w) =
+-- a span has begun and goes on, and the key at its end was put in
+seen : (log : List Operation) (alone : BTreeSet Key) (new : Keys) (key : Key) (op : Operation) (last known : ℕ) → known ≡ known_end log key.site
+    → contains by_key new.begun (end_key key last) ≡ true → is_noted new.ends key.site known ≡ true
+    → (GoesOn last ≡ Due) ⊎ (((key.site == op.site) ≡ false) × IsPassedOn log alone key (targets op.body) (GoesOn last)) → IsSeenTo log new key op
+seen log alone new key op last known k kept noted (inl e) = absurd (cc e)
+seen log alone new key op last known k kept noted (inr w) =
     let (span, came, on, is) = w.1 in
     record {
       other = w.0;
       span = span;
       came = came;
-      next = λ l. ap (λ n. contains by_key new (next_key key n)) (sym is) ∙ put (next_key key count) ∙ (let e = own_key (next_key key count) in rw e refl);
+      next = λ l. (ap (λ n. contains by_key new.begun (end_key key n)) (sym is) ∙ kept, ap (is_noted new.ends key.site) (sym k) ∙ noted);
       waits = inl (came_goes_on log key (targets op.body) span came on);
     }
-
-not_passed : (key : Key) (count known : ℕ) → known < count → is_passed_by key.site known (next_key key count) ≡ false
-not_passed key count known l = grind (arith, nat_tests, l)
-
-pub returns-in-Ok-clause-more : goal.returns-in-Ok-clause-more
-returns-in-Ok-clause-more g c k h = c.in-Ok.ensures.updates.0 k ∙ either (is_at (by_key (next_key c.args.key c.in-GoesOn.count)) k) (contains by_key c.args.waits.now.keys k) h
 
 pub returns-in-Ok-clause-here : goal.returns-in-Ok-clause-here
 returns-in-Ok-clause-here g c =
     let log = g.T.Taking.log c.args.site.now in
-    subst (IfIsThere (λ op. (is_due c.args.key.place c.args.waits.now.due ≡ true) ⊎ IsSeenTo log c.insert.new.self c.args.key op))
+    subst (IfIsThere (λ op. (is_due c.args.key.place c.args.waits.now.due ≡ true) ⊎ IsSeenTo log c.put_begun.new.keys c.args.key op))
     (ap (λ v. Some v) (sym c.in-Some-Some.field-0-is) ∙ c.in-Some-Some.ensures.value)
-    (inr (seen log c.args.waits.now.keys c.insert.new.self c.args.key c.in-Some-Some.op c.in-GoesOn.count c.in-Ok.ensures.updates.0 c.in-GoesOn.ensures))
-
-pub returns-in-Ok-clause-count : goal.returns-in-Ok-clause-count
-returns-in-Ok-clause-count g c known k =
-    let log = g.T.Taking.log c.args.site.now in
-    let later = counts log c.args.waits.now.keys c.args.key c.in-Some-Some.op c.in-GoesOn.count c.in-GoesOn.ensures in
-    ap (λ ks. length (filter (is_passed_by c.args.key.site known) ks)) c.in-Ok.ensures.keys
-    ∙ count_inserted (is_passed_by c.args.key.site known) (next_key c.args.key c.in-GoesOn.count) c.args.waits.now.keys.keys (not_passed c.args.key c.in-GoesOn.count known (omega (arith, later, k)))
-  where
-    counts : (log : List Operation) (keys : BTreeSet Key) (key : Key) (op : Operation) (count : ℕ)
-        → (GoesOn count ≡ Due) ⊎ (((key.site == op.site) ≡ false) × IsPassedOn log keys key (targets op.body) (GoesOn count)) → count ≡ known_end log key.site + 1
-    counts log keys key op count (inl e) = absurd (cc e)
-    counts log keys key op count (inr w) = let (span, came, on, is) = w.1 in is
+    (inr (seen log c.args.waits.now.keys.alone c.put_begun.new.keys c.args.key c.in-Some-Some.op c.in-GoesOn.last c.known-known.result c.known-known.ensures.known
+    c.in-Ok.ensures.kept c.in-Ok.ensures.noted c.in-GoesOn.ensures))

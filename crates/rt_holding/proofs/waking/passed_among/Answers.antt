@@ -1,4 +1,4 @@
-use Rattle.std.proofs.Common.{◌≡◌, ◌∙◌, ◌+◌, ◌==◌, ℕ, List, ap, arith, false, inl, inr, min, subst, sym, true}
+use Rattle.std.proofs.Common.{◌≡◌, ◌∙◌, ◌+◌, ◌==◌, ℕ, List, ap, arith, false, inl, inr, min, refl, subst, sym, true}
 use Rattle.std.proofs.lemmas.Bool.Decides.{nat_tests}
 use Rattle.rt_stamps.specs.declared.stamp.Span.{Span}
 use Rattle.rt_stamps.specs.Spans.{is_in_span}
@@ -36,7 +36,7 @@ returns-then-known-span g c =
       came log c.args.key c.args.spans.now span c.min.result c.known-known.result c.if-key-eq0.false (among_at c.args.spans.now c.partition_point-index.result span c.in-Some.ensures.lookup.3.0 c.in-Some.ensures.lookup.1)
           (sym c.has_stamp.ensures ∙ c.if-not-has_stamp.false) c.min.ensures known (sym c.has_gap.ensures.gap ∙ c.if-has_gap.false),
       omega (arith, on, known),
-      ap (λ n. n + 1) known,
+      refl,
     )
 
 pub returns-then-is_pending : goal.returns-then-is_pending

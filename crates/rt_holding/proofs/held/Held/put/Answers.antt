@@ -1,10 +1,9 @@
 use Rattle.std.proofs.Common.{◌≡◌, ◌∙◌, ◌<◌, List, Some, ap, arith, false, length, refl, subst, sym, true}
 use Rattle.std.specs.BTreeMap.{insert_entry, is_at}
-use Rattle.std.specs.BTreeSet.{BTreeSet}
 use Rattle.std.specs.List.{list_all}
 use Rattle.rt_ops.specs.Operations.{Operation}
 use Rattle.rt_oplog.specs.Logs.{holds}
-use Rattle.rt_holding.specs.declared.waits.Key.{Key}
+use Rattle.rt_holding.specs.declared.waits.Keys.{Keys}
 use Rattle.rt_holding.specs.Grown.{AreTriedAt, HeldValue}
 use Rattle.rt_holding.specs.Holding.{most_held, put_held}
 use Rattle.rt_holding.specs.Kept.{AreHeld, Place, by_stamp_and_arrival, ops_in}
@@ -60,7 +59,7 @@ returns-in-Ok-insert-clause-tried g c limit log h =
     let here : is_tried_at limit log keys again (place, Some c.args.op) ≡ true = or_left (is_listed place again) (sleeps limit keys log place c.args.op) listed in
     ap (list_all (is_tried_at limit log keys again)) c.in-Ok-insert.ensures.entries
     ∙ tried_more (is_tried_at limit log keys again) old.ops.entries place (Some c.args.op) here
-    (subst (λ (k : BTreeSet Key). are_tried_at limit log k again old.ops.entries ≡ true) (sym c.keep.ensures.keys) others)
+    (subst (λ (k : Keys). are_tried_at limit log k again old.ops.entries ≡ true) (sym c.keep.ensures.keys) others)
 
 pub returns-in-Some-1₀-clause-tried : goal.returns-in-Some-1₀-clause-tried
 returns-in-Some-1₀-clause-tried g c limit log h =
