@@ -80,7 +80,7 @@ module _ (by : ℕ) (older log : List Operation) (ops : BTreeMap Place (Option O
 
   looked_here : (span : Span) → span.site ≡ by → has_key old.keys.begun p (last_of span) ≡ true → is_noted old.keys.ends span.site (known_end older span.site) ≡ true → IsLooked span
   looked_here span e k n = elim looked.here [
-    | inl all ↦ not_due (ended.due p (all (key_at (last_of span) p) e k))
+    | inl gap ↦ not_due (ended.due p (gap.all (key_at (last_of span) p) e k))
     | inr h ↦ (let (end, at, l) = noted_end old.keys.ends span.site (known_end older span.site) n in
         let m = end_stays older log grown.among span.site in
         let same = ap (known_end log) e in
@@ -118,17 +118,20 @@ module _ (by : ℕ) (older log : List Operation) (ops : BTreeMap Place (Option O
   looked_fine span g (inl i) =
       let (b, k, n) = i in
       let l = looked_at span g k n in
-      inr (no_new_gap older log span l.gap, waited_to new.keys log p span (λ h. inl (
-        stays_begun span b,
-        elim (ended.each (key_at (last_of span) p) l.begun) [
-          | inl c ↦ c
-          | inr d ↦ elim d [
-            | inl c ↦ not_due c
-            | inr a ↦ absurd (let m = (goes_from log span h).end in let u = a.passed in let w = ap (known_end log) a.site in omega (arith, m, u, w))
-          ]
-        ],
-        l.noted,
-      )))
+      inr (
+        no_new_gap older log span l.gap,
+        waited_to new.keys log p span (λ h. inl (
+          stays_begun span b,
+          elim (ended.each (key_at (last_of span) p) l.begun) [
+            | inl c ↦ c
+            | inr d ↦ elim d [
+              | inl c ↦ not_due c
+              | inr a ↦ absurd (let m = (goes_from log span h).end in let u = a.passed in let w = ap (known_end log) a.site in omega (arith, m, u, w))
+            ]
+          ],
+          l.noted,
+        )),
+      )
 
   fine_then : (span : Span) → is_waited_for old.keys older p span ≡ true → IsFine new.keys older log p span
   fine_then span w = split (goes_past older span)

@@ -57,7 +57,7 @@ gap_within log a b e f l n = split (has_gap log a)
     let j = i.first in
     let k = i.last in
     let u : has_gap log b ≡ true = any_named (λ s. not (has_character log s)) (stamps_of_span b) s
-        (in_one b s ∙ in_to b s (record { site = i.site ∙ e; first = omega (arith, f, j); last = omega (arith, l, k) })) c in
+    (in_one b s ∙ in_to b s (record { site = i.site ∙ e; first = omega (arith, f, j); last = omega (arith, l, k) })) c in
     absurd (cc (u, n)))
     (λ t. t)
 

@@ -287,8 +287,8 @@ module _ (keys : Keys) (by : ℕ) (older log : List Operation) (p : Place) (x : 
       let m = end_stays older log grown.among x.site in
       let now : nat_lt (known_end log x.site) x.prev ≡ false = not_lt (known_end older x.site) (known_end log x.site) x.prev l.prev m in
       let none : (span : Span) → IsAmong (targets x.body) span → is_waited_for keys log p span ≡ true = λ span i. waited_to keys log p span (λ g.
-          let t = any_of (goes_past older) (targets x.body) span i (went_on older log grown.among span g) in
-          let f = l.known in absurd (cc (t, f))) in
+      let t = any_of (goes_past older) (targets x.body) span i (went_on older log grown.among span g) in
+      let f = l.known in absurd (cc (t, f))) in
       let kept : are_kept keys log p x ≡ true = rw now (rw own (of_each (is_waited_for keys log p) (targets x.body) none)) in
       rw s kept
     where

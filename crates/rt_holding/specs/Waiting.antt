@@ -1,5 +1,5 @@
 -- The keys of a held operation: counts that known ends haven't come to, and at which its answer may change.
-use Rattle.std.specs.Prelude.{◌≡◌, ◌+◌, ◌==◌, Bool, true, false, not, ◌&&◌, ◌||◌, nat_le, nat_lt, max, min, List, [], ◌∷◌, if◌then◌else◌}
+use Rattle.std.specs.Prelude.{◌≡◌, ◌+◌, ◌≤◌, ◌==◌, ℕ, Bool, true, false, not, ◌&&◌, ◌||◌, nat_le, nat_lt, max, min, List, [], ◌∷◌, if◌then◌else◌}
 use Rattle.std.specs.List.{flat_map, list_any}
 use Rattle.rt_stamps.specs.declared.fault.Fault.TheVariants.{BadTarget, NotYet}
 use Rattle.rt_stamps.specs.declared.stamp.Span.{Span}
@@ -67,3 +67,14 @@ LooksAreEnough =
     (older log : List Operation) (op : Operation) → IsHistory older → IsHistory log → AreIn older log → WaitsAt older op
     → op.prev ≡ known_end older op.site → op.prev ≡ known_end log op.site
     → answer_to op log ≡ looked_again older log op
+
+-- what came of a site behind a count
+abbrev pub came_behind : ℕ → List Operation → ℕ → Span
+came_behind site log end = record { site = site; first = end + 1; last = known_end log site }
+
+-- Of spans of a site that have begun, and go past its known end still, each has a new gap just if there is one in what came of the
+-- site. So it is looked for once, and with one all of them are bad.
+abbrev pub GapsAreForAll : Type 0
+GapsAreForAll =
+    (older log : List Operation) (span : Span) → span.first ≤ known_end older span.site → goes_past log span ≡ true
+    → has_new_gap older log span ≡ has_gap log (came_behind span.site log (known_end older span.site))

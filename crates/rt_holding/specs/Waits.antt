@@ -75,7 +75,7 @@ abbrev pub is_any_kept : Keys → List Operation → Place → Operation → Boo
 is_any_kept keys log place op =
     if nat_lt (known_end log op.site) op.prev then has_key keys.alone place (record { count = op.prev; site = op.site })
     else has_key keys.alone place (record { count = op.prev + 1; site = op.site })
-        || list_any (λ span. goes_past log span && is_keyed keys log place span) (targets op.body)
+    || list_any (λ span. goes_past log span && is_keyed keys log place span) (targets op.body)
 
 -- the first place is the greatest
 abbrev pub by_later : Reverse Place → Reverse Place → Ordering

@@ -21,7 +21,7 @@ use Rattle.rt_holding.specs.declared.waking.Passed.TheVariants.{Due, GoesOn, Sle
 use Rattle.rt_holding.specs.Grown.{HasGrownBy}
 use Rattle.rt_holding.specs.Kept.{Place, by_stamp_and_arrival}
 use Rattle.rt_rga.specs.Kept.{goes_past}
-use Rattle.rt_holding.specs.Waiting.{targets}
+use Rattle.rt_holding.specs.Waiting.{came_behind, targets}
 use Rattle.rt_holding.specs.Waits.{IfIsThere, LeavesNone, by_key, first_of, has_key, is_due, is_listed, is_noted, sleeps}
 
 -- a span is one of others
@@ -75,11 +75,19 @@ pub record IsSeenTo (log : List Operation) (keys : Keys) (key : Key) (op : Opera
 abbrev pub AreAllDue : {Z : Type 0} → ℕ → BTreeSet Key → BinaryHeap (Reverse Place) Z → Type 0
 AreAllDue site begun due = (key : Key) → key.site ≡ site → contains by_key begun key ≡ true → is_due key.place due ≡ true
 
--- What came of a site since it was looked through has no gap, and that is noted.
-pub record HasNoGapSince (site : ℕ) (log : List Operation) (old new : Keys) : Type 0 where
-  pub begun : new.begun ≡ old.begun
-  pub noted : (end : ℕ) → get nat_cmp old.ends site ≡ Some end → end ≤ known_end log site
-      → (has_gap log (record { site = site; first = end + 1; last = known_end log site }) ≡ false) × (is_noted new.ends site (known_end log site) ≡ true)
+-- What came of a site since it was looked through has a gap, and all are due of which a span of it has begun.
+pub record HasGapSince {Z : Type 0} (site : ℕ) (log : List Operation) (old : Keys) (due : BinaryHeap (Reverse Place) Z) : Type 0 where
+  pub end : ℕ
+  pub noted : get nat_cmp old.ends site ≡ Some end
+  pub gap : has_gap log (came_behind site log end) ≡ true
+  pub all : AreAllDue site old.begun due
+
+-- What came of a site since it was looked through has no gap, and that is noted. No key is moved, and none comes due.
+pub record HasNoGapSince (site : ℕ) (log : List Operation) (old new : Waits) : Type 0 where
+  pub begun : new.keys.begun ≡ old.keys.begun
+  pub due : new.due ≡ old.due
+  pub noted : (end : ℕ) → get nat_cmp old.keys.ends site ≡ Some end → end ≤ known_end log site
+      → (has_gap log (came_behind site log end) ≡ false) × (is_noted new.keys.ends site (known_end log site) ≡ true)
 
 -- What came of a site is looked through, once for all of which a span of it has begun. With a gap, all of them are due.
 pub record IsLookedThrough (by : ℕ) (log : List Operation) (old new : Waits) : Type 0 where
@@ -87,7 +95,7 @@ pub record IsLookedThrough (by : ℕ) (log : List Operation) (old new : Waits) :
   pub alone : new.keys.alone ≡ old.keys.alone
   pub others : (key : Key) → (by == key.site) ≡ false → contains by_key new.keys.begun key ≡ contains by_key old.keys.begun key
   pub noted : (site count : ℕ) → (by == site) ≡ false → is_noted old.keys.ends site count ≡ true → is_noted new.keys.ends site count ≡ true
-  pub here : AreAllDue by old.keys.begun new.due ⊎ HasNoGapSince by log old.keys new.keys
+  pub here : HasGapSince by log old.keys new.due ⊎ HasNoGapSince by log old new
 
 -- a span of an operation at a key's place has come to its end, and the operation waits for others
 pub record IsAtEnd (by : ℕ) (log : List Operation) (ops : BTreeMap Place (Option Operation)) (alone : BTreeSet Key) (key : Key) : Type 0 where

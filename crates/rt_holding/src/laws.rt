@@ -4,7 +4,7 @@ ghost use Rattle.rt_ops.specs.Operations.{Operation};
 ghost use Rattle.rt_holding.specs.Arrivals.{ComesToTheSame, by_stamp};
 ghost use Rattle.rt_holding.specs.Memory.{FilesFindMemory, FilesGoOneWay, OffersFindMemory, SettledFindsMemory, SettlesAlone};
 ghost use Rattle.rt_holding.specs.Runs.{AreRising};
-ghost use Rattle.rt_holding.specs.Waiting.{LooksAreEnough, UnpassedStay};
+ghost use Rattle.rt_holding.specs.Waiting.{GapsAreForAll, LooksAreEnough, UnpassedStay};
 ghost use Rattle.rt_holding.specs.Due.{UnpassedAreKept, LeftOnesStay, TryingDueSettles, PassedAreFound};
 ghost use Rattle.rt_holding.specs.Laws.{AmpleIsGreatest, AmpleRuns, AmpleStay, CellsChangeInTurn, FullStays, GreatestIsAccepted, HistoriesAreAccepted, NothingIsTried, RefusedChangesNothing, RepeatChangesNothing, RequestsKeep, SettledLeavesNone, SettledSettles, SitesAgree, TakenInTurn};
 
@@ -46,10 +46,11 @@ pub fn settling()
 {}
 
 /// What a held operation waits for: until a key of it is passed its answer stays, so only those need be tried of which one
-/// was.
+/// was. What came of a site is looked through once for all spans of it that have begun.
 pub fn waiting()
     ensures unpassed { UnpassedStay }
     ensures looks { LooksAreEnough }
+    ensures gaps { GapsAreForAll }
     ensures left { LeftOnesStay }
     ensures due { TryingDueSettles }
     ensures found { PassedAreFound }

@@ -155,7 +155,11 @@ pub(crate) fn first_key(keys: &KeySet, site: u16) -> Option<Key>
     ensures none { IfNone result (HasNoneOf keys.now site) }
 {
     let first = keys.range(Key::least(site)..).next()?;
-    if first.site == site { Some(*first) } else { None }
+    if first.site == site {
+        Some(*first)
+    } else {
+        None
+    }
 }
 
 /// The first key of a site to which its known end has come.
@@ -434,10 +438,16 @@ fn drop_span<T: Taking>(site: &T, keys: &mut Keys, span: Span, place: Place)
         return;
     }
     if site.known(span.site) < span.first {
-        let first = Stamp { count: span.first, site: span.site };
+        let first = Stamp {
+            count: span.first,
+            site: span.site,
+        };
         drop_key(&mut keys.alone, first, place);
     } else {
-        let last = Stamp { count: span.last, site: span.site };
+        let last = Stamp {
+            count: span.last,
+            site: span.site,
+        };
         drop_key(&mut keys.begun, last, place);
     }
 }

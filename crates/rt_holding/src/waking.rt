@@ -15,7 +15,9 @@ ghost use Rattle.rt_holding.specs.Waking.{stamp_of_key};
 
 use crate::taking::Taking;
 use crate::trying::{Ops, Place};
-use crate::waits::{Key, KeySet, Waits, first_key, first_passed, has_it, is_open, look_again, push_due, put_begun};
+use crate::waits::{
+    Key, KeySet, Waits, first_key, first_passed, has_it, is_open, look_again, push_due, put_begun,
+};
 use rt_oplog::{Edit, Op};
 use rt_stamps::{Span, Stamp};
 
@@ -235,7 +237,8 @@ fn look_through<T: Taking>(site: &T, waits: &mut Waits, made_by: u16)
         last: known,
     };
     let noted: Result<_, _> = waits.keys.ends.insert(made_by, known);
-    if noted.is_err() || site.has_gap(came) {
+    let _end = noted.unwrap();
+    if site.has_gap(came) {
         wake_begun(waits, made_by);
     }
 }

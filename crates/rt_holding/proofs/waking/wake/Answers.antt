@@ -71,11 +71,11 @@ returns-clause-woken g c =
           (λ d. inl d)
           (λ n. inr (falls_to_rest c.args.made_by older log c.args.ops.now grown c.look_again.new.waits c.look_through.new.waits c.pass_ends.new.waits looked ended p x f n limit grown.history r
           (subst (λ (keys : Keys). sleeps limit keys older p x ≡ true) (sym c.look_again.ensures.keys) s))))) [
-        | inl d ↦ or_left (is_due p c.loop-key.waits.due) (sleeps limit c.loop-key.waits.keys log p x) d
-        | inr a ↦ or_right (is_due p c.loop-key.waits.due) (sleeps limit c.loop-key.waits.keys log p x)
-            (rests_on c.loop-key.waits.keys c.args.made_by older log p x grown c.known-known.ensures.history (λ st h e. late (key_at st p) (known_end log c.args.made_by) h
-            (λ l. c.in_default.ensures.none (key_at st p) e (omega (arith, l, known)))) limit a)
-      ];
+            | inl d ↦ or_left (is_due p c.loop-key.waits.due) (sleeps limit c.loop-key.waits.keys log p x) d
+            | inr a ↦ or_right (is_due p c.loop-key.waits.due) (sleeps limit c.loop-key.waits.keys log p x)
+                (rests_on c.loop-key.waits.keys c.args.made_by older log p x grown c.known-known.ensures.history (λ st h e. late (key_at st p) (known_end log c.args.made_by) h
+                (λ l. c.in_default.ensures.none (key_at st p) e (omega (arith, l, known)))) limit a)
+          ];
     }
   where
     late : (k : Key) (end : ℕ) → contains by_key c.loop-key.waits.keys.alone k ≡ true → (k.count ≤ end → contains by_key c.loop-key.waits.keys.alone k ≡ false) → end < k.count
