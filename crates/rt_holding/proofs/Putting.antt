@@ -1,5 +1,5 @@
 -- One more operation is held, or one is held no more: the others were tried as before.
-use Rattle.std.proofs.Common.{◌≡◌, ◌∙◌, ℕ, Bool, true, false, inl, inr, refl, ap, arith, List, [], ◌∷◌, Option, Some, None, ◌&&◌}
+use Rattle.std.proofs.Common.{◌≡◌, ◌∙◌, ℕ, Bool, true, false, inl, inr, refl, ap, arith, List, [], ◌∷◌, Option, Some, None}
 use Rattle.std.specs.BTreeMap.{is_at}
 use Rattle.std.specs.List.{AllByRecursion, list_all}
 use Rattle.std.specs.Map.{remove_entry}

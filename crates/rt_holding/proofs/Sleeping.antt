@@ -1,41 +1,34 @@
 -- Held operations sleep on while what they wait for comes, span by span.
-use Rattle.std.proofs.Common.{length, ◌≡◌, ℕ, ◌+◌, ◌-◌, ◌<◌, ◌≤◌, Bool, true, false, cond, not, ◌⊎◌, inl, inr, refl, sym, ap, subst, ◌∙◌, arith, List, [], ◌∷◌, ◌&&◌, ◌||◌, ◌==◌, max, min, nat_le, nat_lt, Option, Some, None}
+use Rattle.std.proofs.Common.{length, ◌≡◌, ℕ, ◌+◌, ◌<◌, ◌≤◌, Bool, true, false, ◌⊎◌, inl, inr, refl, sym, ap, subst, ◌∙◌, arith, List, [], ◌&&◌, ◌||◌, ◌==◌, max, nat_le, nat_lt}
 use Rattle.std.proofs.lemmas.Bool.{cases_lt}
 use Rattle.std.proofs.lemmas.Bool.Decides.{nat_tests}
-use Rattle.std.specs.BTreeMap.{BTreeMap, get}
-use Rattle.std.specs.Ordering.{nat_cmp}
-use Rattle.std.specs.List.{flat_map, list_all, list_any}
-use Rattle.rt_stamps.specs.declared.fault.Fault.TheVariants.{BadTarget, NotYet}
+use Rattle.std.specs.List.{list_any}
 use Rattle.rt_stamps.specs.declared.stamp.Span.{Span}
 use Rattle.rt_stamps.specs.declared.stamp.Stamp.{Stamp}
 use Rattle.rt_stamps.specs.Spans.{is_in_span}
 use Rattle.rt_ops.specs.Operations.{Operation}
 use Rattle.rt_ops.specs.Rules.{keeps_rules}
 use Rattle.rt_oplog.specs.Logs.{known_end}
-use Rattle.rt_rga.specs.Answers.{Answer, New, Repeat, Refused, answer_to, answer_within, has_gap, passes_end, refused_if_full}
+use Rattle.rt_rga.specs.Answers.{Answer, New, Repeat, Refused, answer_to, answer_within, has_gap, refused_if_full}
 use Rattle.rt_rga.specs.Cells.{cells_of}
 use Rattle.rt_rga.specs.Histories.{IsHistory, inserted}
-use Rattle.rt_rga.specs.Orders.{AreIn}
-use Rattle.rt_rga.proofs.Accepting.{continues_if_new}
 use Rattle.rt_rga.proofs.Skipping.{split}
 use Rattle.rt_holding.specs.declared.waits.Key.{Key}
 use Rattle.rt_holding.specs.declared.waits.Keys.{Keys}
-use Rattle.rt_holding.specs.declared.waits.Waits.{Waits}
 use Rattle.rt_holding.specs.Grown.{HasGrownBy}
 use Rattle.rt_holding.specs.Holding.{is_early, is_new, stays}
-use Rattle.rt_holding.specs.Kept.{Place, by_stamp_and_arrival}
+use Rattle.rt_holding.specs.Kept.{Place}
 use Rattle.rt_rga.specs.Kept.{goes_past}
-use Rattle.rt_holding.specs.Waiting.{WaitsAt, came_in, has_new_gap, is_passed, key_in, keys_of, targets}
-use Rattle.rt_holding.specs.Waits.{IfIsThere, IsMore, IsNotedMore, are_kept, first_of, has_begun, has_key, is_due, is_noted, is_waited_for, key_at, last_of, sleeps}
-use Rattle.rt_holding.specs.Waking.{AreEndsPassed, HasComeIn, IsAmong, IsLookedThrough, IsSeenTo, IsStillWaiting, stamp_of_key}
+use Rattle.rt_holding.specs.Waiting.{WaitsAt, came_in, has_new_gap, is_passed, keys_of, targets}
+use Rattle.rt_holding.specs.Waits.{IsMore, IsNotedMore, are_kept, first_of, has_begun, has_key, is_noted, is_waited_for, key_at, last_of, sleeps}
+use Rattle.rt_holding.specs.Waking.{HasComeIn, IsAmong, IsSeenTo, stamp_of_key}
 use Rattle.rt_holding.proofs.Going.{both, left_if_stays, or_left}
-use Rattle.rt_holding.proofs.Keeping.{is_new_true}
 use Rattle.rt_holding.proofs.Larger.{no_fewer_cells}
-use Rattle.rt_holding.proofs.Due.{left_ones_stay, stays_waits}
-use Rattle.rt_holding.proofs.Looking.{gap_within, looks_are_enough}
+use Rattle.rt_holding.proofs.Due.{left_ones_stay}
+use Rattle.rt_holding.proofs.Looking.{looks_are_enough}
 use Rattle.rt_holding.proofs.Waiting.{end_stays, unpassed_stay, waiting_from}
-use Rattle.rt_holding.proofs.Named.{any_of, each_of, none_of, of_each, one_of, target_has}
-use Rattle.rt_holding.proofs.Waited.{IsAlone, IsAsleep, IsFine, IsResting, IsWaitedFor, LacksRoom, GoesOn, SleepsOn, begun_from, begun_to, goes_from, goes_to, no_new_gap, none_begun, none_came, not_begun, noted_end, pends, pends_from, pends_to, since, stamp, waited_from, waited_more, waited_to, went_on}
+use Rattle.rt_holding.proofs.Named.{any_of, none_of, of_each, one_of, target_has}
+use Rattle.rt_holding.proofs.Waited.{IsAsleep, IsFine, IsResting, begun_from, begun_to, goes_from, goes_to, no_new_gap, none_begun, none_came, not_begun, pends, pends_from, pends_to, since, stamp, waited_more, waited_to, went_on}
 
 -- MORE KEYS
 

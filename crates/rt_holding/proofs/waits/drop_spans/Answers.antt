@@ -1,4 +1,4 @@
-use Rattle.std.proofs.Common.{◌≡◌, ◌∙◌, ◌≤◌, ◌&&◌, ap, arith, get_or, refl}
+use Rattle.std.proofs.Common.{◌&&◌, ap, arith, get_or, refl}
 use Rattle.std.proofs.lemmas.List.{drop_all}
 use Rattle.std.specs.List.{list_any}
 use Rattle.rt_stamps.specs.declared.stamp.Span.{Span}

@@ -1,4 +1,4 @@
-use Rattle.std.proofs.Common.{◌≡◌, ◌∙◌, ◌+◌, ◌==◌, ℕ, List, ap, arith, false, inl, inr, min, refl, subst, sym, true}
+use Rattle.std.proofs.Common.{◌≡◌, ◌∙◌, ◌==◌, ℕ, List, ap, arith, false, inl, inr, min, refl, subst, sym, true}
 use Rattle.std.proofs.lemmas.Bool.Decides.{nat_tests}
 use Rattle.rt_stamps.specs.declared.stamp.Span.{Span}
 use Rattle.rt_stamps.specs.Spans.{is_in_span}
