@@ -11,4 +11,5 @@ pub mod Spelled
 pub mod Spells
 pub mod Taken
 pub mod Told
+mod Unseen
 pub mod Unique

@@ -1,6 +1,6 @@
 -- Operations read from a file, record by record.
 use Rattle.std.proofs.Common.{◌≡◌, ℕ, ◌+◌, ◌<◌, ◌≤◌, Bool, true, false, suc, List, [], ◌∷◌, ◌++◌, length, take, Option, Some, None, Result, Ok, Err, IfOk, IfErr, cond, refl, sym, ap, subst, ◌∙◌, append_assoc, append-nil, arith, inl, inr}
-use Rattle.std.specs.Prelude.{◌⊎◌, min, not, nat_lt}
+use Rattle.std.specs.Prelude.{◌⊎◌, min, not, nat_lt, IfSome}
 use Rattle.std.specs.Str.{bytes_eq}
 use Rattle.std.specs.List.{flat_map, AllByRecursion}
 use Rattle.std.specs.Int.{w32}
@@ -163,6 +163,16 @@ kinds_of_head false b c fault e is = cc
 kinds_of_head true true c fault e is = cc
 kinds_of_head true false true fault e is = cc
 kinds_of_head true false false fault e is = cc
+
+no_read_of_head : (a b c : Bool) (fault : Fault) → cond (not a) (Some BadMagic) (cond b (Some Truncated) (cond c None (Some BadVersion))) ≡ Some fault → fault ≡ ReadFault → ⊥
+no_read_of_head false b c fault e is = cc
+no_read_of_head true true c fault e is = cc
+no_read_of_head true false true fault e is = cc
+no_read_of_head true false false fault e is = cc
+
+-- the fault of the first eight bytes isn't that a read failed
+pub not_read : (front : List ℕ) (fault : Fault) → head_fault front ≡ Some fault → fault ≡ ReadFault → ⊥
+not_read front fault e = no_read_of_head (bytes_eq (take 7 front) (take (length front) file_name)) (nat_lt (length front) 8) (bytes_eq front magic) fault e
 
 -- the fault of the first eight bytes isn't want of memory
 not_memory : (front : List ℕ) (fault : Fault) → head_fault front ≡ Some fault → fault ≡ NoMemory → ⊥
@@ -332,6 +342,12 @@ pub ended_memory : {R : Type 0} (result : Result R Fault) (x : Bounds) (a c : St
     → IfErr result (λ refused. (refused ≡ NoMemory) × LacksMemory x a c)
 ended_memory (Ok r) x a c fault h lacks = tt
 ended_memory (Err refused) x a c fault h lacks = (h.0, lacks h.1)
+
+-- what is known of a fault is known of what was read up to it
+pub ended_by : {R : Type 0} (result : Result R Fault) (found : R → Option (Fault × ℕ)) (P : Fault → Type 0) (fault : Fault) (at : ℕ) → IfOk result (λ r. (found r ≡ Some (fault, at)) × (fault ≡ NoMemory → ⊥)) → P fault
+    → IfOk result (λ r. IfSome (found r) (λ f. P f.0))
+ended_by (Ok r) found P fault at f p = rw f.0 p
+ended_by (Err refused) found P fault at f p = tt
 
 -- one more record is read
 pub records_more : (a b c : Stream) (x y z : Bounds) (ops : List Operation) (offsets : List ℕ) (op : Operation) (at : ℕ) → Takes a b x y (spelling ops) → AreInFile ops → offsets ≡ offsets_from 8 ops → Takes b c y z (record_of op) → HasRecord op

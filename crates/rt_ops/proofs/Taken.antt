@@ -64,12 +64,12 @@ stopped_then a b c x y s t h k = record {
       over.2 ∙ h.failures,
       omega (arith, over.3, h.room, length-append s t),
     ))
-    | inr (inr used) ↦ inr (inr (
-      consumes_then a.bytes b.bytes c.bytes s t h.consumed used.0,
-      used.1 ∙ h.failures,
-      omega (arith, used.2, h.reads),
-      omega (arith, used.3, h.reads, h.calls, length-append s t),
-    ))
+    | inr (inr up) ↦ inr (inr (record {
+      consumed = consumes_then a.bytes b.bytes c.bytes s t h.consumed up.consumed;
+      failures = up.failures ∙ h.failures;
+      calls = omega (arith, up.calls, h.reads);
+      some = omega (arith, up.some, h.reads, h.calls, length-append s t);
+    }))
   ];
 }
 

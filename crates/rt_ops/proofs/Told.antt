@@ -59,13 +59,13 @@ none_more (Some all) (Some rest) bytes front e eaten =
     omega (arith, ap length same, ap length eaten, length-append front rest)
 
 pub enough_reads : (bounds : Bounds) (old new : Stream) (bytes : List ℕ) → bounds.bytes < bounds.reads → IsStopped old new bounds bytes → FailsAfter old new bytes ⊎ PassesBytes old new bounds bytes
-enough_reads bounds old new bytes lt h = elim h.cause [ inl failed ↦ inl failed | inr (inl past) ↦ inr past | inr (inr used) ↦ absurd (omega (arith, used.3, h.within, lt)) ]
+enough_reads bounds old new bytes lt h = elim h.cause [ inl failed ↦ inl failed | inr (inl past) ↦ inr past | inr (inr up) ↦ absurd (omega (arith, up.some, h.within, lt)) ]
 
 not_stopped : (bounds : Bounds) (old new : Stream) (bytes front : List ℕ) → old.bytes ≡ Some bytes → length bytes ≤ bounds.bytes → length bytes < bounds.reads → new.failures ≡ old.failures → IsStopped old new bounds front → ⊥
 not_stopped bounds old new bytes front e short few same h = elim h.cause [
   | inl failed ↦ omega (arith, failed.1, same)
   | inr (inl past) ↦ omega (arith, past.3, short, none_more old.bytes new.bytes bytes (front ++ past.0 ∷ []) e past.1, length-append front (past.0 ∷ []))
-  | inr (inr used) ↦ omega (arith, used.3, few, none_more old.bytes new.bytes bytes front e used.0)
+  | inr (inr up) ↦ omega (arith, up.some, few, none_more old.bytes new.bytes bytes front e up.consumed)
 ]
 
 pub whole_is_read : (bounds : Bounds) (old new : Stream) (bytes : List ℕ) (ops : List Operation) (offsets : List ℕ) (fault : Option (Fault × ℕ)) → old.bytes ≡ Some bytes → length bytes ≤ bounds.bytes → length bytes < bounds.reads

@@ -1,5 +1,5 @@
 -- Bytes taken from a reader, within bounds.
-use Rattle.std.specs.Prelude.{◌≡◌, ◌⊎◌, ℕ, ◌+◌, ◌<◌, ◌≤◌, List, [], ◌∷◌, ◌++◌, length, take, Option, Some, Result, MatchResult, MatchOption, Vec}
+use Rattle.std.specs.Prelude.{◌≡◌, ◌≢◌, ◌⊎◌, ℕ, ◌+◌, ◌<◌, ◌≤◌, List, [], ◌∷◌, ◌++◌, length, take, Option, Some, Result, MatchResult, MatchOption, Vec}
 use Rattle.std.specs.declared.alloc.Global.{Global}
 use Rattle.std.specs.Int.{w32}
 use Rattle.std.specs.Io.KnownBytes.{Consumes, IsAtEnd}
@@ -39,17 +39,40 @@ abbrev pub PassesBytes : Stream → Stream → Bounds → List ℕ → Type 0
 PassesBytes old new had bytes =
     (byte : ℕ) × Consumes old.bytes new.bytes (bytes ++ byte ∷ []) × (new.failures ≡ old.failures) × (length bytes ≡ had.bytes)
 
--- as many reads as the bounds allow gave these bytes, of which there are no fewer, and the end was not found
-abbrev pub UsesReads : Stream → Stream → Bounds → List ℕ → Type 0
-UsesReads old new had bytes =
-    Consumes old.bytes new.bytes bytes × (new.failures ≡ old.failures) × (new.calls ≡ old.calls + had.reads) × (had.reads ≤ length bytes)
+-- As many reads as the bounds allow gave these bytes, of which there are no fewer, and none failed.
+pub record IsReadUp (bounds : Bounds) (old new : Stream) (bytes : List ℕ) : Type 0 where
+  pub consumed : Consumes old.bytes new.bytes bytes
+  pub failures : new.failures ≡ old.failures
+  pub calls : new.calls ≡ old.calls + bounds.reads
+  pub some : bounds.reads ≤ length bytes
+
+-- The last read of a reader gave a piece, and up to it the reader had given a front.
+pub record LastGave {R : Type 0} (stream : R → Stream) (old new : R) (front piece : List ℕ) : Type 0 where
+  -- The reader as it was before that read. It is a value of the reader's own type, which may be any type, so a proof has no values of it
+  -- but those that the reader went through; a `Stream` that is made up wouldn't do.
+  pub before : R
+  pub gave : Consumes (stream old).bytes (stream before).bytes front
+  pub calls : (stream new).calls ≡ (stream before).calls + 1
+  pub last : Consumes (stream before).bytes (stream new).bytes piece
+
+-- the last read gave some bytes, so it didn't find the end
+abbrev pub GaveSome : {R : Type 0} → (R → Stream) → R → R → Type 0
+GaveSome stream old new = (front piece : List ℕ) × (piece ≢ []) × LastGave stream old new front piece
+
+-- The end wasn't found: no read is allowed, and the reader is as it was; or the last read gave some bytes.
+abbrev pub EndIsUnseen : {R : Type 0} → (R → Stream) → Bounds → R → R → Type 0
+EndIsUnseen stream bounds old new = ((bounds.reads ≡ 0) × (new ≡ old)) ⊎ GaveSome stream old new
+
+-- Where reading was stopped though no read failed, the end wasn't found.
+abbrev pub StopsUnseen : {R : Type 0} → (R → Stream) → Bounds → R → R → Fault → Type 0
+StopsUnseen stream bounds old new fault = fault ≡ ReadFault → (stream new).failures ≡ (stream old).failures → EndIsUnseen stream bounds old new
 
 -- These bytes were taken, and then a read failed, or one more byte came than is allowed, or no more reads were.
 pub record IsStopped (old new : Stream) (had : Bounds) (bytes : List ℕ) : Type 0 where
   pub within : length bytes ≤ had.bytes
   pub calls : new.calls ≤ old.calls + length bytes + 1
   pub reads : new.calls ≤ old.calls + had.reads
-  pub cause : FailsAfter old new bytes ⊎ (PassesBytes old new had bytes ⊎ UsesReads old new had bytes)
+  pub cause : FailsAfter old new bytes ⊎ (PassesBytes old new had bytes ⊎ IsReadUp had old new bytes)
 
 -- a read of at most so many bytes, none only at the end
 abbrev pub GetsSome : Stream → Stream → Bounds → Bounds → ℕ → Result ℕ Fault → List ℕ → Type 0

@@ -1,8 +1,8 @@
 // The operation file, read.
-ghost use Rattle.std.specs.Prelude.{◌≡◌, Some, IfOk, IfErr};
+ghost use Rattle.std.specs.Prelude.{◌≡◌, Some, IfOk, IfErr, IfSome};
 ghost use Rattle.rt_stamps.specs.declared.fault.Fault.TheVariants.{NoMemory};
 ghost use Rattle.rt_stamps.specs.Streams.{FILE_BOUNDS};
-ghost use Rattle.rt_ops.specs.Intake.{GetsHead, ReadsFile, ReadsWhole, LacksMemory};
+ghost use Rattle.rt_ops.specs.Intake.{GetsHead, GaveSome, StopsUnseen, ReadsFile, ReadsWhole, LacksMemory};
 
 use crate::Op;
 use crate::head::{HEAD_BYTES, head_fault};
@@ -30,7 +30,9 @@ fn read_head<R: Source>(
     bounds: &mut Bounds,
     buffer: &mut Vec<u8>,
 ) -> Result<(), Fault>
-    ensures { GetsHead (R.stream reader.old) (R.stream reader.new) bounds.old bounds.new result }
+    ensures gets { GetsHead (R.stream reader.old) (R.stream reader.new) bounds.old bounds.new result }
+    ensures gave { IfOk result (λ _. GaveSome R.stream reader.old reader.new) }
+    ensures unseen { IfErr result (StopsUnseen R.stream bounds.old reader.old reader.new) }
 {
     gather(reader, bounds, buffer, HEAD_BYTES)?;
     match head_fault(buffer) {
@@ -67,8 +69,8 @@ pub(crate) fn ended(
 /// The operations of all records before the first fault are given, each with the offset of its
 /// record. A file of just `max_bytes` bytes is whole, and a read of no bytes is its end. A failed
 /// read, one more byte, or the want of one more read is a `ReadFault` at the offset of the record in
-/// which it came, 0 in the first eight bytes. Each read takes at most `PIECE_BYTES` bytes, and the last
-/// one finds the end; so a file of n bytes is read in n + 1 reads at most.
+/// which it came, 0 in the first eight bytes. Then the end was not found: unless a read failed or none is
+/// allowed, the last read gave some bytes. A file of n bytes is read in n + 1 reads at most.
 pub fn read_file_bounded<R: Source>(
     alloc: Global,
     reader: &mut R,
@@ -79,6 +81,8 @@ pub fn read_file_bounded<R: Source>(
         (R.stream reader.old) (R.stream reader.new) reading.ops.items reading.offsets.items reading.fault) }
     ensures memory { IfErr result (λ fault. (fault ≡ NoMemory)
         × LacksMemory (record { bytes = max_bytes; reads = max_reads }) (R.stream reader.old) (R.stream reader.new)) }
+    ensures unseen { IfOk result (λ reading. IfSome reading.fault (λ found.
+        StopsUnseen R.stream (record { bytes = max_bytes; reads = max_reads }) reader.old reader.new found.0)) }
 {
     let mut ops = Vec::new(alloc);
     let mut offsets = Vec::new(alloc);
@@ -123,14 +127,16 @@ pub fn read_file<R: Source>(alloc: Global, reader: &mut R) -> Result<Reading, Fa
     ensures reads { IfOk result (λ reading. ReadsFile FILE_BOUNDS
         (R.stream reader.old) (R.stream reader.new) reading.ops.items reading.offsets.items reading.fault) }
     ensures memory { IfErr result (λ fault. (fault ≡ NoMemory) × LacksMemory FILE_BOUNDS (R.stream reader.old) (R.stream reader.new)) }
+    ensures unseen { IfOk result (λ reading. IfSome reading.fault (λ found. StopsUnseen R.stream FILE_BOUNDS reader.old reader.new found.0)) }
 {
     read_file_bounded(alloc, reader, MOST_BYTES, MOST_READS)
 }
 
 /// Reads all bytes of a file, to its end. `ReadFault` where a read failed, or the file has more than
-/// `MOST_BYTES` bytes; `NoMemory` where a growth was refused.
+/// `MOST_BYTES` bytes, so where the end was not found; `NoMemory` where a growth was refused.
 pub fn read_whole<R: Source>(alloc: Global, reader: &mut R) -> Result<Vec<u8>, Fault>
-    ensures { ReadsWhole FILE_BOUNDS (R.stream reader.old) (R.stream reader.new) result }
+    ensures reads { ReadsWhole FILE_BOUNDS (R.stream reader.old) (R.stream reader.new) result }
+    ensures unseen { IfErr result (StopsUnseen R.stream FILE_BOUNDS reader.old reader.new) }
 {
     let mut bounds = Bounds::of_file();
     let mut bytes = Vec::new(alloc);

@@ -1,6 +1,6 @@
 // Records, taken from a reader within bounds.
-ghost use Rattle.std.specs.Prelude.{◌≡◌, ◌+◌, ◌<◌, ◌≤◌, length, max, IfOk};
-ghost use Rattle.rt_ops.specs.Intake.{GetsSome, Gathers, GetsLength, GetsRecord};
+ghost use Rattle.std.specs.Prelude.{◌≡◌, ◌+◌, ◌<◌, ◌≤◌, length, max, IfOk, IfErr, IfSome};
+ghost use Rattle.rt_ops.specs.Intake.{GetsSome, Gathers, GetsLength, GetsRecord, GaveSome, StopsUnseen};
 
 use crate::Op;
 use crate::decode::decode;
@@ -20,7 +20,9 @@ fn read_some<R: Source>(
 ) -> Result<usize, Fault>
     requires buffer { 0 < length buf.old }
     requires most { 0 < most }
-    ensures { GetsSome (R.stream reader.old) (R.stream reader.new) bounds.old bounds.new most result buf.new }
+    ensures gets { GetsSome (R.stream reader.old) (R.stream reader.new) bounds.old bounds.new most result buf.new }
+    ensures gave { IfOk result (λ n. 0 < n → GaveSome R.stream reader.old reader.new) }
+    ensures unseen { IfErr result (StopsUnseen R.stream bounds.old reader.old reader.new) }
 {
     if bounds.reads == 0 {
         return Err(Fault::ReadFault);
@@ -45,7 +47,9 @@ pub fn gather<R: Source>(
     buffer: &mut Vec<u8>,
     wanted: usize,
 ) -> Result<(), Fault>
-    ensures { Gathers (R.stream reader.old) (R.stream reader.new) bounds.old bounds.new wanted result buffer.new.items }
+    ensures gathers { Gathers (R.stream reader.old) (R.stream reader.new) bounds.old bounds.new wanted result buffer.new.items }
+    ensures gave { IfOk result (λ _. 0 < wanted → wanted ≤ length buffer.new.items → GaveSome R.stream reader.old reader.new) }
+    ensures unseen { IfErr result (StopsUnseen R.stream bounds.old reader.old reader.new) }
 {
     buffer.clear();
     let mut piece = [0; PIECE_BYTES];
@@ -66,7 +70,9 @@ fn next_length<R: Source>(
     bounds: &mut Bounds,
     buffer: &mut Vec<u8>,
 ) -> Result<Option<usize>, Fault>
-    ensures { GetsLength (R.stream reader.old) (R.stream reader.new) bounds.old bounds.new result }
+    ensures gets { GetsLength (R.stream reader.old) (R.stream reader.new) bounds.old bounds.new result }
+    ensures gave { IfOk result (λ found. IfSome found (λ _. GaveSome R.stream reader.old reader.new)) }
+    ensures unseen { IfErr result (StopsUnseen R.stream bounds.old reader.old reader.new) }
 {
     gather(reader, bounds, buffer, LENGTH_BYTES)?;
     if buffer.is_empty() {
@@ -85,7 +91,9 @@ pub fn next_op<R: Source>(
     bounds: &mut Bounds,
     buffer: &mut Vec<u8>,
 ) -> Result<Option<Op>, Fault>
-    ensures { GetsRecord (R.stream reader.old) (R.stream reader.new) bounds.old bounds.new result }
+    ensures gets { GetsRecord (R.stream reader.old) (R.stream reader.new) bounds.old bounds.new result }
+    ensures gave { IfOk result (λ found. IfSome found (λ _. GaveSome R.stream reader.old reader.new)) }
+    ensures unseen { IfErr result (StopsUnseen R.stream bounds.old reader.old reader.new) }
 {
     let length = match next_length(reader, bounds, buffer)? {
         Some(length) => length,
