@@ -11,7 +11,8 @@ use Rattle.rt_script.specs.Lines.{cut, complete_of, rest_of, last_of, lines_of}
 use Rattle.rt_stamps.specs.Words.{Word}
 use Rattle.rt_stamps.specs.Streams.{Stream}
 use Rattle.rt_script.specs.declared.answer.Answer.{Answer}
-use Rattle.rt_script.specs.Run.{Point, IsReadUp, Ran, RanFront, RanPast, RanUnwritten, StopsInLast, Ends}
+use Rattle.rt_ops.specs.Intake.{EndIsUnseen, GaveSome, IsReadUp}
+use Rattle.rt_script.specs.Run.{Point, Ran, RanFront, RanPast, RanUnwritten, StopsInLast, Ends}
 use Rattle.rt_script.specs.Pieces.{kept, RanLines}
 use Rattle.rt_script.proofs.LinesLaws.{complete_append, rest_append, cut_rest}
 use Rattle.rt_script.proofs.RunLaws.{ran_then, unwritten_then, lines_append}
@@ -97,14 +98,15 @@ write_not_memory e = cc
 
 -- the run ends with what was read before, since a read failed, a byte came past the bound, or no read is left
 ends_unread : {S : Type 0} (gives : S → List Word → Answer → S → Type 0) (bounds : Bounds) (old new : Point S) (script left : Stream) (read over : List ℕ)
-    → Consumes script.bytes left.bytes (read ++ over) → length read ≤ bounds.bytes → (over ≢ [] → length read ≡ bounds.bytes) → left.calls ≤ script.calls + bounds.reads → Ran gives old new (complete_of read)
+    → Consumes script.bytes left.bytes (read ++ over) → length read ≤ bounds.bytes → length over ≤ 1 → (over ≢ [] → length read ≡ bounds.bytes) → left.calls ≤ script.calls + bounds.reads → Ran gives old new (complete_of read)
     → ((left.failures ≡ script.failures + 1) ⊎ (over ≢ []) ⊎ IsReadUp bounds script left read)
     → new.out.failures ≡ old.out.failures → Ends gives bounds old new script left (Some ReadFault)
-ends_unread gives bounds old new script left read over eaten few past reads ran why same = record {
+ends_unread gives bounds old new script left read over eaten few one past reads ran why same = record {
   read = read;
   over = over;
   consumes = eaten;
   bounded = few;
+  over_one = one;
   past = λ n. (refl, past n);
   reads_bounded = reads;
   whole = λ f. absurd (none_not ReadFault f);
@@ -126,18 +128,18 @@ ends_failed gives bounds old new script middle left pending room turns g few kee
     let bounded = g.bounded in
     let called = g.calls in
     let failed : left.failures ≡ script.failures + 1 = failures ∙ ap (λ n. n + 1) g.reads in
-    ends_unread gives bounds old new script left g.read [] (rw (append-nil g.read) (consumes_keeps _ _ _ g.read g.consumes keeps)) (omega arith) (λ n. absurd (n refl)) (omega arith) g.ran (inl failed) g.writes
+    ends_unread gives bounds old new script left g.read [] (rw (append-nil g.read) (consumes_keeps _ _ _ g.read g.consumes keeps)) (omega arith) (omega arith) (λ n. absurd (n refl)) (omega arith) g.ran (inl failed) g.writes
 
 -- the bound of bytes was passed
 pub ends_over : {S : Type 0} (gives : S → List Word → Answer → S → Type 0) (bounds : Bounds) (old new : Point S) (script middle left : Stream) (pending : List ℕ) (n : ℕ) (buf : List ℕ) (room turns : ℕ)
     → Goes gives bounds old new script middle pending room turns → turns < bounds.reads → room ≡ 0
-    → Consumes middle.bytes left.bytes (take n buf) → n ≤ length buf → n ≢ 0 → left.calls ≡ middle.calls + 1 → Ends gives bounds old new script left (Some ReadFault)
-ends_over gives bounds old new script middle left pending n buf room turns g few full eaten within some calls =
+    → Consumes middle.bytes left.bytes (take n buf) → n ≤ length buf → n ≤ 1 → n ≢ 0 → left.calls ≡ middle.calls + 1 → Ends gives bounds old new script left (Some ReadFault)
+ends_over gives bounds old new script middle left pending n buf room turns g few full eaten within one some calls =
     let bounded = g.bounded in
     let called = g.calls in
     let all : length g.read ≡ bounds.bytes = omega arith in
     let over : take n buf ≢ [] = λ e. some (sym (length_front n buf within) ∙ ap length e) in
-    ends_unread gives bounds old new script left g.read (take n buf) (consumes_then _ _ _ g.read (take n buf) g.consumes eaten) (omega arith) (λ n. all) (omega arith) g.ran (inr (inl over)) g.writes
+    ends_unread gives bounds old new script left g.read (take n buf) (consumes_then _ _ _ g.read (take n buf) g.consumes eaten) (omega arith) (omega (arith, one, length_front n buf within)) (λ n. all) (omega arith) g.ran (inr (inl over)) g.writes
 
 -- no read is left, and the end wasn't found
 pub ends_turns : {S : Type 0} (gives : S → List Word → Answer → S → Type 0) (bounds : Bounds) (old new : Point S) (script left : Stream) (pending : List ℕ) (room turns : ℕ)
@@ -146,8 +148,8 @@ ends_turns gives bounds old new script left pending room turns g all =
     let bounded = g.bounded in
     let called = g.calls in
     let some = g.some in
-    ends_unread gives bounds old new script left g.read [] (rw (append-nil g.read) g.consumes) (omega arith) (λ n. absurd (n refl)) (omega arith) g.ran
-    (inr (inr (omega arith, omega arith))) g.writes
+    ends_unread gives bounds old new script left g.read [] (rw (append-nil g.read) g.consumes) (omega arith) (omega arith) (λ n. absurd (n refl)) (omega arith) g.ran
+    (inr (inr (record { consumed = g.consumes; failures = g.reads; calls = omega arith; some = omega arith }))) g.writes
 
 -- a write failed
 ends_unwritten : {S : Type 0} (gives : S → List Word → Answer → S → Type 0) (bounds : Bounds) (old new : Point S) (script left : Stream) (read : List ℕ)
@@ -159,6 +161,7 @@ ends_unwritten gives bounds old new script left read eaten few reads ran why sam
   over = [];
   consumes = rw (append-nil read) eaten;
   bounded = few;
+  over_one = omega arith;
   past = λ n. absurd (n refl);
   reads_bounded = reads;
   whole = λ f. absurd (none_not WriteFault f);
@@ -181,6 +184,7 @@ ends_unstored gives bounds old new script left read eaten few reads ran same sam
   over = [];
   consumes = rw (append-nil read) eaten;
   bounded = few;
+  over_one = omega arith;
   past = λ n. absurd (n refl);
   reads_bounded = reads;
   whole = λ f. absurd (none_not NoMemory f);
@@ -203,6 +207,7 @@ ends_complete gives bounds old new script left read eaten few reads end ran same
   over = [];
   consumes = rw (append-nil read) eaten;
   bounded = few;
+  over_one = omega arith;
   past = λ n. absurd (n refl);
   reads_bounded = reads;
   whole = λ f. (end, refl, ran);
@@ -305,3 +310,19 @@ unread_is_stored fault is e = not_memory (sym is ∙ e)
 pub finished_is_stored : (r : Result (Unit {0}) Fault) → IfErr r (λ fault. fault ≡ WriteFault) → result_err r ≡ Some NoMemory → ⊥
 finished_is_stored (Ok x) h e = none_not NoMemory (sym e)
 finished_is_stored (Err x) h e = write_not_memory (ap Is (sym h) ∙ e)
+
+-- the last read gave a front of a buffer
+gave_front : {R : Type 0} (stream : R → Stream) (script middle left : R) (read : List ℕ) (n : ℕ) (buf : List ℕ) → Consumes (stream script).bytes (stream middle).bytes read
+    → Consumes (stream middle).bytes (stream left).bytes (take n buf) → n ≤ length buf → n ≢ 0 → (stream left).calls ≡ (stream middle).calls + 1 → GaveSome stream script left
+gave_front stream script middle left read n buf gave eaten within given calls =
+    (read, take n buf, λ e. given (sym (length_front n buf within) ∙ ap length e), record { before = middle; gave = gave; calls = calls; last = eaten })
+
+pub gave_piece : {S R : Type 0} (gives : S → List Word → Answer → S → Type 0) (stream : R → Stream) (bounds : Bounds) (old mid : Point S) (script middle left : R) (pending : List ℕ) (n : ℕ) (buf : List ℕ) (room turns : ℕ)
+    → Goes gives bounds old mid (stream script) (stream middle) pending room turns → Consumes (stream middle).bytes (stream left).bytes (take n buf) → n ≤ length buf → n ≢ 0
+    → (stream left).calls ≡ (stream middle).calls + 1 → GaveSome stream script left
+gave_piece gives stream bounds old mid script middle left pending n buf room turns g eaten within given calls = gave_front stream script middle left g.read n buf g.consumes eaten within given calls
+
+-- no turn was taken yet, or the last one gave some bytes
+pub unseen_at_last : {R : Type 0} (stream : R → Stream) (bounds : Bounds) (script left : R) (turns : ℕ) → ((turns ≡ 0) × (left ≡ script)) ⊎ GaveSome stream script left → turns ≡ bounds.reads → EndIsUnseen stream bounds script left
+unseen_at_last stream bounds script left turns (inl same) all = inl (sym all ∙ same.0, same.1)
+unseen_at_last stream bounds script left turns (inr g) all = inr g

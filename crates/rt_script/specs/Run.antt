@@ -13,6 +13,7 @@ use Rattle.rt_stamps.specs.Written.{AppendsPart}
 use Rattle.rt_script.specs.declared.answer.Answer.{Answer}
 use Rattle.rt_script.specs.declared.answer.Answer.TheVariants.{Refused}
 use Rattle.rt_script.specs.Replies.{reply_line}
+use Rattle.rt_ops.specs.Intake.{IsReadUp, LastGave}
 
 -- A line is answered what its words are. One that can't be read, or spells no words, is answered that it is badly quoted, and one
 -- whose words found no memory that memory was wanting; then the state stays.
@@ -68,17 +69,7 @@ pub record RanPast {S : Type 0} (gives : S → List Word → Answer → S → Ty
   pub split : lines_of read ≡ (complete_of front ++ run) ++ line ∷ more
   pub ran : Ran gives old new (complete_of front ++ run)
 
--- The last read of a reader gave a piece, and up to it the reader had given a front.
-pub record LastGave {R : Type 0} (stream : R → Stream) (script left : R) (front piece : List ℕ) : Type 0 where
-  -- the reader as it was before that read
-  pub before : R
-  pub gave : Consumes (stream script).bytes (stream before).bytes front
-  pub calls : (stream left).calls ≡ (stream before).calls + 1
-  pub last : Consumes (stream before).bytes (stream left).bytes piece
-
--- The piece is what the last read gave: all lines that were complete before that read were run. The reader before it is a value of the
--- reader's own type. That may be any type, so a proof has no values of it but those that the reader went through; a `Stream` that is
--- made up wouldn't do.
+-- The piece is what the last read gave: all lines that were complete before that read were run.
 abbrev pub StopsInLast : {S R : Type 0} → (S → List Word → Answer → S → Type 0) → (R → Stream) → Point S → Point S → R → R → Type 0
 StopsInLast gives stream old new script left =
     (read : List ℕ) × (past : RanPast gives old new (stream script) (stream left) read) × LastGave stream script left past.front past.piece
@@ -96,18 +87,15 @@ pub record RanUnwritten {S : Type 0} (gives : S → List Word → Answer → S �
   pub wrote : Appends old.out.bytes here (flat_map reply_line answers)
   pub part : AppendsPart here new.out.bytes (reply_line last)
 
--- all reads that are allowed were made, and there are no fewer bytes
-abbrev pub IsReadUp : Bounds → Stream → Stream → List ℕ → Type 0
-IsReadUp bounds script left read = (left.calls ≡ script.calls + bounds.reads) × (bounds.reads ≤ length read)
-
 -- A run of a script within bounds ended: what was read of it, what was run and written, and when each fault comes.
 pub record Ends {S : Type 0} (gives : S → List Word → Answer → S → Type 0) (bounds : Bounds)
     (old new : Point S) (script left : Stream) (fault : Option Fault) : Type 0 where
-  -- the bytes that were read, and those past the bound of bytes
+  -- the bytes that were read, and the one past the bound of bytes, where one more was read
   pub read : List ℕ
   pub over : List ℕ
   pub consumes : Consumes script.bytes left.bytes (read ++ over)
   pub bounded : length read ≤ bounds.bytes
+  pub over_one : length over ≤ 1
   pub past : over ≢ [] → (fault ≡ Some ReadFault) × (length read ≡ bounds.bytes)
   pub reads_bounded : left.calls ≤ script.calls + bounds.reads
   -- with no fault all lines were run, the last one with or without its newline

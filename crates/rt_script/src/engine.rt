@@ -8,6 +8,7 @@ ghost use Rattle.rt_stamps.specs.Written.{Wrote};
 ghost use Rattle.rt_words.specs.declared.spare.TheConstants.{MOST_WORDS};
 ghost use Rattle.rt_script.specs.Pieces.{is_inner, kept, RanLine, RanLines};
 ghost use Rattle.rt_script.specs.Replies.{reply_line};
+ghost use Rattle.rt_ops.specs.Intake.{StopsUnseen};
 ghost use Rattle.rt_script.specs.Run.{LineGives, Ends, StopsInLast, point};
 
 use crate::reply::{push_bare, reply_line};
@@ -324,7 +325,7 @@ fn finish<C: Commands, W: Sink>(
 /// memory, it is answered `NoMemory`, and not run.
 ///
 /// After each read all lines that are then complete are run, each answer in one write where there
-/// is memory for it. At a failed read, past the bound of bytes, and where no read is left before the end is found, the
+/// is memory for it. At a failed read, at one byte past the bound of bytes, and where no read is left before the end is found, the
 /// run ends with `ReadFault`, and what follows the last newline isn't run. After a failed write nothing more is run or
 /// written, and the run ends with `WriteFault`. It may end with `NoMemory`, where a line can't be stored; then all lines
 /// were run that were complete before the last read, which gave at most `PIECE_BYTES` bytes, and perhaps some of those.
@@ -339,6 +340,7 @@ pub fn run_lines<C: Commands + Drop, R: Source, W: Sink>(
         (R.stream script.old) (R.stream script.new) result.fault }
     ensures last { result.fault ≡ Some Fault.NoMemory → StopsInLast C.gives R.stream (point (C.state site) (W.stream out.old))
         (point (C.state result.site) (W.stream out.new)) script.old script.new }
+    ensures unseen { IfSome result.fault (StopsUnseen R.stream bounds script.old script.new) }
 {
     let mut memory = Memory::new(alloc);
     let mut pending = Vec::new(alloc);

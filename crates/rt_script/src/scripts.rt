@@ -1,6 +1,7 @@
 // The run of a script by a site.
 ghost use Rattle.rt_stamps.specs.Streams.{FILE_BOUNDS};
-ghost use Rattle.std.specs.Prelude.{◌≡◌, Some};
+ghost use Rattle.std.specs.Prelude.{◌≡◌, Some, IfSome};
+ghost use Rattle.rt_ops.specs.Intake.{StopsUnseen};
 ghost use Rattle.rt_script.specs.Run.{Ends, StopsInLast, point};
 ghost use Rattle.rt_script.specs.Site.{AreWithin, SiteGives, named_files};
 
@@ -33,13 +34,14 @@ pub fn run<R: Source, W: Sink>(
     ensures last { result.fault ≡ Some Fault.NoMemory → StopsInLast SiteGives R.stream
         (point (record { site = site; files = named_files files.now }) (W.stream out.old))
         (point (record { site = result.site; files = named_files files.now }) (W.stream out.new)) script.old script.new }
+    ensures unseen { IfSome result.fault (StopsUnseen R.stream FILE_BOUNDS script.old script.new) }
 {
     run_bounded(alloc, site, script, files, out, MOST_BYTES, MOST_READS)
 }
 
 /// Runs a script of at most `max_bytes` bytes in at most `max_reads` reads, as `run` does. A script of just `max_bytes`
-/// bytes is whole; at the next byte the run ends with `ReadFault`, and so it does where no read is left before the
-/// script's end is found, which takes one too. Then the complete lines were run that were read before. `NoMemory` and
+/// bytes is whole; at the next byte, past which none is read, the run ends with `ReadFault`, and so it does where no read
+/// is left before the script's end is found, which takes one too. Then the complete lines were run that were read before. `NoMemory` and
 /// `WriteFault` as of `run`.
 pub fn run_bounded<R: Source, W: Sink>(
     alloc: Global,
@@ -58,6 +60,7 @@ pub fn run_bounded<R: Source, W: Sink>(
     ensures last { result.fault ≡ Some Fault.NoMemory → StopsInLast SiteGives R.stream
         (point (record { site = site; files = named_files files.now }) (W.stream out.old))
         (point (record { site = result.site; files = named_files files.now }) (W.stream out.new)) script.old script.new }
+    ensures unseen { IfSome result.fault (StopsUnseen R.stream (record { bytes = max_bytes; reads = max_reads }) script.old script.new) }
 {
     let bounds = Bounds {
         bytes: max_bytes,

@@ -9,7 +9,7 @@ returns c = λ old new script left fault ends is. elim (ends.why_unread is) [
     | inl over ↦ inr over
     | inr up ↦
         let few : length ends.read ≤ MOST_BYTES = ends.bounded in
-        let many : MOST_READS ≤ length ends.read = up.1 in
+        let many : MOST_READS ≤ length ends.read = up.some in
         absurd (omega (arith, few, many))
   ]
 ]
