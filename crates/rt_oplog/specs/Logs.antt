@@ -16,7 +16,7 @@ abbrev pub Has : List Operation → Operation → Type 0
 Has [] op = ⊥
 Has (q ∷ older) op = (q ≡ op) ⊎ Has older op
 
--- some operations, in whatever order and with repeats, are those of a set
+-- two lists have the same operations, in whatever order and with whatever repeats
 abbrev pub AreOf : List Operation → List Operation → Type 0
 AreOf ops set = (op : Operation) → Has ops op ↔ Has set op
 
