@@ -1,5 +1,6 @@
 -- What reading makes of the bytes of a file.
-use Rattle.std.specs.Prelude.{◌≡◌, ◌⊎◌, ℕ, ◌+◌, ◌<◌, ◌≤◌, Bool, true, not, nat_lt, List, [], ◌∷◌, ◌++◌, length, take, Option, Some, None, codes, if◌then◌else◌}
+use Rattle.std.specs.Prelude.{◌≡◌, ◌⊎◌, ℕ, ◌+◌, ◌<◌, ◌≤◌, Bool, true, not, nat_lt, List, [], ◌∷◌, ◌++◌, length, take, Option, Some, None, option_map, codes, if◌then◌else◌}
+use Rattle.std.specs.List.{last_or}
 use Rattle.std.specs.Int.{w32}
 use Rattle.std.specs.Str.{bytes_eq}
 use Rattle.rt_stamps.specs.declared.limits.TheConstants.{FEWEST_RECORD_BYTES, MOST_RECORD_BYTES}
@@ -88,9 +89,7 @@ Stops front ops offsets at =
 
 -- the stamp of the last operation, if there is any
 abbrev pub last_stamp : List Operation → Option Stamp
-last_stamp [] = None
-last_stamp (op ∷ []) = Some (stamp_of op)
-last_stamp (op ∷ (other ∷ ops)) = last_stamp (other ∷ ops)
+last_stamp ops = option_map stamp_of (last_or None ops)
 
 -- whether an operation's stamp is after the last one, if there is any
 abbrev pub may_follow : Option Stamp → Operation → Bool
