@@ -61,7 +61,7 @@ word_start_within t p = by (is_word_character (slice_index t p))
     by true = omega arith
     by false = omega arith
 
-word_end_within : (t : List ℕ) (p : ℕ) → p < length t → word_end t p ≤ length t
+pub word_end_within : (t : List ℕ) (p : ℕ) → p < length t → word_end t p ≤ length t
 word_end_within t p h = by (is_word_character (slice_index t p))
   where
     by : (b : Bool) → cond b (p + prefix_len is_word_character (drop p t)) (p + 1) ≤ length t

@@ -4,6 +4,7 @@ pub mod Digits
 pub mod Hope
 pub mod Dots
 pub mod Kept
+pub mod KeptWords
 pub mod Modifiers
 pub mod Places
 pub mod Spelling

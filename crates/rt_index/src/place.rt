@@ -2,19 +2,31 @@
 ghost use Rattle.std.specs.Prelude.{◌≡◌, ◌≤◌, length, take, Ok, true, is_some, IfOk, IfErr};
 ghost use Rattle.rt_index.specs.Index.{index_of, moved_from};
 ghost use Rattle.rt_index.specs.Reading.{fixed_of, modifiers_of, token_length};
+ghost use Rattle.rt_index.specs.KeptWords.{AreWords};
 ghost use Rattle.rt_stamps.specs.Outcomes.{Refuses};
 
 use crate::Ground;
 use crate::expression::{fixed_place, parse_named, resolve};
 use crate::reading::{first_modifier, fixed_of, is_blank, token_length};
 use crate::values::moved;
+use crate::words::{Word, no_words};
 use rt_stamps::Fault;
 use std::alloc::Global;
 
-/// A place moved by the modifiers that a text is. `BadIndex` where it isn't modifiers.
+// The few modifiers of so many bytes go through words without keeping any.
+const FEW_BYTES: usize = 64;
+
+/// A place moved by the modifiers that a text is, with words of the text that are kept. `BadIndex` where it isn't
+/// modifiers.
 #[inline(always)]
-fn moved_by<G: Ground>(ground: &G, start: usize, text: &[u8]) -> Result<usize, Fault>
-    requires { start ≤ length (G.widget ground.now).text }
+fn moved_with<G: Ground>(
+    ground: &G,
+    words: &mut [Word],
+    start: usize,
+    text: &[u8],
+) -> Result<usize, Fault>
+    requires start { start ≤ length (G.widget ground.now).text }
+    requires words { AreWords (G.widget ground.now).text words.old }
     ensures value { result ≡ moved_from (G.widget ground.now).text (Ok start) (modifiers_of text.now) }
     ensures within { IfOk result (λ place. place ≤ length (G.widget ground.now).text) }
 {
@@ -23,13 +35,37 @@ fn moved_by<G: Ground>(ground: &G, start: usize, text: &[u8]) -> Result<usize, F
     while !is_blank(rest) {
         match first_modifier(rest) {
             Some((modifier, more)) => {
-                place = moved(ground, place, modifier);
+                place = moved(ground, words, place, modifier);
                 rest = more;
             }
             None => return Err(Fault::BadIndex),
         }
     }
     Ok(place)
+}
+
+/// A place moved by the modifiers that a text is, which may be many: a long word is gone through once.
+#[inline(never)]
+fn moved_by_many<G: Ground>(ground: &G, start: usize, text: &[u8]) -> Result<usize, Fault>
+    requires { start ≤ length (G.widget ground.now).text }
+    ensures value { result ≡ moved_from (G.widget ground.now).text (Ok start) (modifiers_of text.now) }
+    ensures within { IfOk result (λ place. place ≤ length (G.widget ground.now).text) }
+{
+    moved_with(ground, &mut no_words(), start, text)
+}
+
+/// A place moved by the modifiers that a text is. `BadIndex` where it isn't modifiers.
+#[inline(always)]
+fn moved_by<G: Ground>(ground: &G, start: usize, text: &[u8]) -> Result<usize, Fault>
+    requires { start ≤ length (G.widget ground.now).text }
+    ensures value { result ≡ moved_from (G.widget ground.now).text (Ok start) (modifiers_of text.now) }
+    ensures within { IfOk result (λ place. place ≤ length (G.widget ground.now).text) }
+{
+    if text.len() <= FEW_BYTES {
+        moved_with(ground, &mut [], start, text)
+    } else {
+        moved_by_many(ground, start, text)
+    }
 }
 
 /// The place that a word names, from 0 to the number of characters (Tk text manual, "Indices"):

@@ -2,10 +2,14 @@
 ghost use Rattle.std.specs.Prelude.{◌≡◌, ◌+◌, ◌<◌, ◌≤◌, IsTrue, length};
 ghost use Rattle.rt_stamps.specs.Places.{newlines, line_end};
 ghost use Rattle.rt_index.specs.Values.{character_place, line_end_place, lines_forward, lines_back, keyword_place, moved, all_moved};
+ghost use Rattle.rt_index.specs.KeptWords.{AreWords};
 
 use crate::Ground;
 use crate::parts::{Keyword, Modifier, Step};
-use crate::words::{word_end, word_start};
+use crate::words::{Word, no_words, word_end, word_start};
+
+// So few modifiers go through words without keeping any.
+const FEW_MODIFIERS: usize = 4;
 
 /// The place of the newline that ends a line.
 fn line_end<G: Ground>(ground: &G, line: usize) -> usize
@@ -85,18 +89,20 @@ fn lines_back<G: Ground>(ground: &G, place: usize, count: usize) -> usize
 }
 
 /// A keyword, at the place of a character.
-fn keyword_place<G: Ground>(ground: &G, place: usize, keyword: Keyword) -> usize
-    requires { place < length (G.widget ground.now).text }
+fn keyword_place<G: Ground>(ground: &G, words: &mut [Word], place: usize, keyword: Keyword) -> usize
+    requires place { place < length (G.widget ground.now).text }
+    requires words { AreWords (G.widget ground.now).text words.old }
     ensures value { result ≡ keyword_place (G.widget ground.now).text place keyword }
     ensures within { result ≤ length (G.widget ground.now).text }
+    ensures words { AreWords (G.widget ground.now).text words.new }
 {
     match keyword {
         Keyword::LineStart => ground.line_start(ground.line_of(place)),
         Keyword::LineEnd => line_end(ground, ground.line_of(place)),
-        Keyword::WordStart => word_start(ground, place),
+        Keyword::WordStart => word_start(ground, words, place),
         Keyword::WordEnd => {
             if place + 1 < ground.len() {
-                word_end(ground, place)
+                word_end(ground, words, place)
             } else {
                 place
             }
@@ -104,12 +110,19 @@ fn keyword_place<G: Ground>(ground: &G, place: usize, keyword: Keyword) -> usize
     }
 }
 
-/// What a modifier makes of a place.
+/// What a modifier makes of a place, with words of the text that are kept.
 #[inline(always)]
-pub(crate) fn moved<G: Ground>(ground: &G, place: usize, modifier: Modifier) -> usize
-    requires { place ≤ length (G.widget ground.now).text }
+pub(crate) fn moved<G: Ground>(
+    ground: &G,
+    words: &mut [Word],
+    place: usize,
+    modifier: Modifier,
+) -> usize
+    requires place { place ≤ length (G.widget ground.now).text }
+    requires words { AreWords (G.widget ground.now).text words.old }
     ensures value { result ≡ moved (G.widget ground.now).text place modifier }
     ensures within { result ≤ length (G.widget ground.now).text }
+    ensures words { AreWords (G.widget ground.now).text words.new }
 {
     match modifier {
         Modifier::Forward(count, Step::Characters) => place.saturating_add(count).min(ground.len()),
@@ -118,12 +131,41 @@ pub(crate) fn moved<G: Ground>(ground: &G, place: usize, modifier: Modifier) -> 
         Modifier::Back(count, Step::Lines) => lines_back(ground, place, count),
         Modifier::To(keyword) => {
             if place < ground.len() {
-                keyword_place(ground, place, keyword)
+                keyword_place(ground, words, place, keyword)
             } else {
                 place
             }
         }
     }
+}
+
+/// What modifiers make of a place, one after another, with words of the text that are kept.
+fn moved_with<G: Ground>(
+    ground: &G,
+    words: &mut [Word],
+    place: usize,
+    modifiers: &[Modifier],
+) -> usize
+    requires place { place ≤ length (G.widget ground.now).text }
+    requires words { AreWords (G.widget ground.now).text words.old }
+    ensures value { result ≡ all_moved (G.widget ground.now).text place modifiers.now }
+    ensures within { result ≤ length (G.widget ground.now).text }
+{
+    let mut reached = place;
+    for modifier in modifiers {
+        reached = moved(ground, words, reached, *modifier);
+    }
+    reached
+}
+
+/// What many modifiers make of a place: a long word is gone through once.
+#[inline(never)]
+fn many_moved<G: Ground>(ground: &G, place: usize, modifiers: &[Modifier]) -> usize
+    requires { place ≤ length (G.widget ground.now).text }
+    ensures value { result ≡ all_moved (G.widget ground.now).text place modifiers.now }
+    ensures within { result ≤ length (G.widget ground.now).text }
+{
+    moved_with(ground, &mut no_words(), place, modifiers)
 }
 
 /// What modifiers make of a place, one after another.
@@ -132,9 +174,9 @@ pub(crate) fn all_moved<G: Ground>(ground: &G, place: usize, modifiers: &[Modifi
     ensures value { result ≡ all_moved (G.widget ground.now).text place modifiers.now }
     ensures within { result ≤ length (G.widget ground.now).text }
 {
-    let mut reached = place;
-    for modifier in modifiers {
-        reached = moved(ground, reached, *modifier);
+    if modifiers.len() <= FEW_MODIFIERS {
+        moved_with(ground, &mut [], place, modifiers)
+    } else {
+        many_moved(ground, place, modifiers)
     }
-    reached
 }

@@ -1,10 +1,10 @@
 use Rattle.std.proofs.Common.{◌+◌, ◌∙◌, ap, drop, refl, sym}
 use Rattle.std.proofs.lemmas.List.{at_drop_more, drop_all}
 use Rattle.rt_index.specs.Values.{all_moved}
-use Rattle.rt_index.proofs.values.all_moved.Goals as goal
+use Rattle.rt_index.proofs.values.moved_with.Goals as goal
 
 pub loop-modifier-init : goal.loop-modifier-init
-loop-modifier-init g c = record { within = c.requires; same = refl }
+loop-modifier-init g c = record { within = c.requires.place; words = c.requires.words; same = refl }
 
 pub loop-modifier-preserved : goal.loop-modifier-preserved
 loop-modifier-preserved g c =
@@ -13,6 +13,7 @@ loop-modifier-preserved g c =
     let index = c.loop-modifier.modifier-index in
     record {
       within = c.moved-reached.ensures.within;
+      words = c.moved-reached.ensures.words;
       same = ap (λ place. all_moved text place (drop (index + 1) modifiers)) c.moved-reached.ensures.value
           ∙ sym (at_drop_more (all_moved text c.loop-modifier.reached) modifiers index _ c.loop-modifier-test.true)
           ∙ c.loop-modifier.invariant.same;

@@ -2,7 +2,7 @@ use Rattle.std.proofs.Common.{◌≡◌, ◌+◌, ◌-◌, ◌<◌, ◌≤◌, l
 use Rattle.std.specs.List.{prefix_len}
 use Rattle.rt_index.specs.Characters.{is_word_character}
 use Rattle.rt_index.specs.declared.words.TheConstants.{READ_CHARACTERS}
-use Rattle.rt_index.proofs.words.word_end.Given as goal
+use Rattle.rt_index.proofs.words.run_end.Given as goal
 
 abbrev pub invariant-loop-found : goal.invariant-loop-found
 invariant-loop-found g l = let text = (g.G.Ground.widget l.ground).text in record {

@@ -9,7 +9,7 @@ use Rattle.rt_index.specs.Reading.{after_spaces, first_modifier, modifiers_of}
 use Rattle.rt_index.specs.Values.{moved}
 use Rattle.rt_index.proofs.Kept.{moved_kept}
 use Rattle.rt_index.proofs.Modifiers.{map_none, map_some, next, no_more, none_next}
-use Rattle.rt_index.proofs.place.moved_by.Goals as goal
+use Rattle.rt_index.proofs.place.moved_with.Goals as goal
 
 -- the first modifier moves the place, and the others what it makes of it
 moved_on : (text : List ℕ) (place reached : ℕ) (t rest : List ℕ) (m : Modifier) → length text ≤ MOST_CELLS → place ≤ length text → (length (after_spaces t) == 0) ≡ false
@@ -42,6 +42,7 @@ returns-in-None-clause-value g c =
 pub loop-rest-preserved : goal.loop-rest-preserved
 loop-rest-preserved g c = record {
   within = c.moved-place.ensures.within;
+  words = c.moved-place.ensures.words;
   same = moved_on (g.G.Ground.widget c.args.ground.now).text c.loop-rest.place c.moved-place.result c.loop-rest.rest.now c.in-Some.more.now c.in-Some.modifier
       (g.met.G.Ground.proper c.args.ground.now).bounded c.loop-rest.invariant.within (sym c.is_blank.ensures ∙ c.loop-rest-test.true) (sym c.in-Some.ensures.value) c.moved-place.ensures.value
       ∙ c.loop-rest.invariant.same;
