@@ -9,11 +9,11 @@ use crate::Ground;
 use crate::expression::{fixed_place, parse_named, resolve};
 use crate::reading::{first_modifier, fixed_of, is_blank, token_length};
 use crate::values::moved;
-use crate::words::{Word, no_words};
+use crate::words::{Word, few_words, many_words};
 use rt_stamps::Fault;
 use std::alloc::Global;
 
-// The few modifiers of so many bytes go through words without keeping any.
+// The modifiers of so few bytes keep a few words only.
 const FEW_BYTES: usize = 64;
 
 /// A place moved by the modifiers that a text is, with words of the text that are kept. `BadIndex` where it isn't
@@ -51,7 +51,7 @@ fn moved_by_many<G: Ground>(ground: &G, start: usize, text: &[u8]) -> Result<usi
     ensures value { result ≡ moved_from (G.widget ground.now).text (Ok start) (modifiers_of text.now) }
     ensures within { IfOk result (λ place. place ≤ length (G.widget ground.now).text) }
 {
-    moved_with(ground, &mut no_words(), start, text)
+    moved_with(ground, &mut many_words(), start, text)
 }
 
 /// A place moved by the modifiers that a text is. `BadIndex` where it isn't modifiers.
@@ -62,7 +62,7 @@ fn moved_by<G: Ground>(ground: &G, start: usize, text: &[u8]) -> Result<usize, F
     ensures within { IfOk result (λ place. place ≤ length (G.widget ground.now).text) }
 {
     if text.len() <= FEW_BYTES {
-        moved_with(ground, &mut [], start, text)
+        moved_with(ground, &mut few_words(), start, text)
     } else {
         moved_by_many(ground, start, text)
     }

@@ -6,9 +6,9 @@ ghost use Rattle.rt_index.specs.KeptWords.{AreWords};
 
 use crate::Ground;
 use crate::parts::{Keyword, Modifier, Step};
-use crate::words::{Word, no_words, word_end, word_start};
+use crate::words::{Word, few_words, many_words, word_end, word_start};
 
-// So few modifiers go through words without keeping any.
+// So few modifiers keep a few words only.
 const FEW_MODIFIERS: usize = 4;
 
 /// The place of the newline that ends a line.
@@ -165,7 +165,7 @@ fn many_moved<G: Ground>(ground: &G, place: usize, modifiers: &[Modifier]) -> us
     ensures value { result ≡ all_moved (G.widget ground.now).text place modifiers.now }
     ensures within { result ≤ length (G.widget ground.now).text }
 {
-    moved_with(ground, &mut no_words(), place, modifiers)
+    moved_with(ground, &mut many_words(), place, modifiers)
 }
 
 /// What modifiers make of a place, one after another.
@@ -175,7 +175,7 @@ pub(crate) fn all_moved<G: Ground>(ground: &G, place: usize, modifiers: &[Modifi
     ensures within { result ≤ length (G.widget ground.now).text }
 {
     if modifiers.len() <= FEW_MODIFIERS {
-        moved_with(ground, &mut [], place, modifiers)
+        moved_with(ground, &mut few_words(), place, modifiers)
     } else {
         many_moved(ground, place, modifiers)
     }

@@ -11,8 +11,10 @@ use unicode::properties::{GeneralCategory, is_alphabetic};
 // How many characters are read at a time.
 const READ_CHARACTERS: usize = 64;
 
-// How many long words are kept while the modifiers of one expression are applied.
-const KEPT_WORDS: usize = 256;
+// How many long words are kept while a few modifiers are applied, and while many are.
+const FEW_WORDS: usize = 4;
+
+const MANY_WORDS: usize = 256;
 
 /// A stretch of a text, from its first character to the place after its last one.
 #[derive(Clone, Copy)]
@@ -21,11 +23,18 @@ pub(crate) struct Word {
     end: usize,
 }
 
-/// Room for the words of a text that are gone through; none is kept yet.
-pub(crate) fn no_words() -> [Word; KEPT_WORDS]
+/// Room for a few words of a text that are gone through; none is kept yet.
+pub(crate) fn few_words() -> [Word; FEW_WORDS]
     ensures { (text : List ℕ) → AreWords text result }
 {
-    [Word { first: 0, end: 0 }; KEPT_WORDS]
+    [Word { first: 0, end: 0 }; FEW_WORDS]
+}
+
+/// Room for many of them.
+pub(crate) fn many_words() -> [Word; MANY_WORDS]
+    ensures { (text : List ℕ) → AreWords text result }
+{
+    [Word { first: 0, end: 0 }; MANY_WORDS]
 }
 
 // Whether words run through a character: a letter, a digit or an underscore.

@@ -1,4 +1,4 @@
 use Rattle.rt_index.proofs.values.many_moved.Goals as goal
 
 pub moved_with-requires-clause-words : goal.moved_with-requires-clause-words
-moved_with-requires-clause-words g c = c.no_words.ensures (g.G.Ground.widget c.args.ground.now).text
+moved_with-requires-clause-words g c = c.many_words.ensures (g.G.Ground.widget c.args.ground.now).text

@@ -1,0 +1,6 @@
+use Rattle.std.proofs.Common.{refl}
+use Rattle.rt_index.proofs.KeptWords.{no_words}
+use Rattle.rt_index.proofs.words.few_words.Goals as goal
+
+pub returns : goal.returns
+returns c = λ text. no_words text 4 _ refl
