@@ -1,5 +1,5 @@
 // The marks of a site.
-ghost use Rattle.std.specs.Prelude.{◌≡◌, ◌+◌, ◌≤◌, ◌⊎◌, ◌↔◌, [], List, ℕ, IsSome, OnOk, OnErr, IfOk, IfErr, IsOkUnless, Ok, Err, None, Some, is_some, option_map, option_copied, map, Contains, if◌then◌else◌, find as first_passing};
+ghost use Rattle.std.specs.Prelude.{◌≡◌, ◌+◌, ◌≤◌, ◌⊎◌, ◌↔◌, [], List, ℕ, IsSome, OnOk, OnErr, IfOk, IfErr, IsOkUnless, Ok, Err, None, Some, is_some, option_map, option_copied, map, Contains, length, slice_get, if◌then◌else◌, find as first_passing};
 ghost use Rattle.std.specs.List.{AllByRecursion};
 ghost use Rattle.rt_stamps.specs.Words.{as_words};
 ghost use Rattle.rt_marks.specs.Marks.{AreAscending, AreInOrder, HaveOwnNames, IsName, comes_before, find_last, first_mark_at, last_mark_before, mark_after, mark_before, marks_inserted, marks_removed, marks_set, marks_with_gravity, named, without, without_all};
@@ -16,8 +16,8 @@ use std::marker::Model;
 /// gravity first, then by the bytes of the names.
 ///
 /// `inserted` and `removed` read each mark a few times. `unset_all` is binary searches for each name
-/// and goes through two lists of numbers once. Every other call but `names` is binary searches and
-/// the shift of numbers in these lists.
+/// and goes through two lists of numbers once. `len` and `at` are one step. Every other call but `names`
+/// is binary searches and the shift of numbers in these lists.
 pub struct Marks {
     alloc: Global,
     table: Table,
@@ -166,6 +166,20 @@ impl Marks {
         ensures { option_map spotted result ≡ named name.now self.now }
     {
         self.table.find(name).map(Mark::spot)
+    }
+
+    /// How many marks there are.
+    pub fn len(&self) -> usize
+        ensures { result ≡ length self.now }
+    {
+        self.table.len()
+    }
+
+    /// The mark at an index of the order, from 0 up; none where there are no more.
+    pub fn at(&self, index: usize) -> Option<Spot<'_>>
+        ensures { option_map spotted result ≡ slice_get self.now index }
+    {
+        self.table.mark_at(index).map(Mark::spot)
     }
 
     /// The first mark after a spot in the order of marks. There may be a mark at the spot, or none.

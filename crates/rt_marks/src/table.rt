@@ -128,8 +128,15 @@ impl Table {
             .partition_point(|slot| self.is_below(*slot, place))
     }
 
+    /// How many marks there are.
+    pub fn len(&self) -> usize
+        ensures { result ≡ length (marks_of self.now) }
+    {
+        self.in_order.len()
+    }
+
     /// The mark at an index of the order.
-    fn mark_at(&self, at: usize) -> Option<&Mark>
+    pub fn mark_at(&self, at: usize) -> Option<&Mark>
         requires { IsOrder (slots_of self.now) self.now.in_order.items }
         ensures { option_map seen (option_copied result) ≡ slice_get (marks_of self.now) at }
     {

@@ -1,5 +1,5 @@
 -- The marks of a widget, at their places among the characters that it shows.
-use Rattle.std.proofs.Common.{◌≡◌, ℕ, ◌≤◌, ◌<◌, ◌&&◌, List, [], ◌∷◌, true, false, refl, sym, ap, ◌∙◌, Bool, cond, subst, arith, Option, Some, None, map, option_map}
+use Rattle.std.proofs.Common.{◌≡◌, ℕ, ◌≤◌, ◌&&◌, List, [], ◌∷◌, true, false, refl, sym, ap, ◌∙◌, Bool, cond, subst, arith, Option, Some, None, map, option_map}
 use Rattle.std.specs.List.{AllByRecursion}
 use Rattle.std.specs.Prelude.{◌==◌, codes}
 use Rattle.std.proofs.lemmas.Bool.Decides.{nat_tests}
@@ -129,11 +129,6 @@ unmoved n stretch (m ∷ marks) b e h =
 -- the marks stand where they stand in the text
 pub all_shown : (n : ℕ) (stretch : Stretch) (marks : List Mark) → stretch.begin ≡ 0 → stretch.end ≡ n → AreSiteMarks n marks → AreInOrder marks → in_order (map (mark_seen stretch) marks) ≡ marks
 all_shown n stretch marks b e h o = ap in_order (unmoved n stretch marks b e h) ∙ in_order_same marks o
-
--- and no place is so great that no number is greater
-pub few_places : (n most : ℕ) (marks : List Mark) → n < most → AreSiteMarks n marks → AllByRecursion (λ m. m.place < most) marks
-few_places n most [] l h = tt
-few_places n most (m ∷ marks) l h = (omega (arith, l, h.0.place), few_places n most marks l h.1)
 
 -- both tests of that pass
 pub both_ends : (begin end n : ℕ) → (begin == 0 && end == n) ≡ true → (begin ≡ 0) × (end ≡ n)

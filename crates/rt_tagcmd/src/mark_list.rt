@@ -1,13 +1,12 @@
 // The marks of a stretch of a text.
-ghost use Rattle.std.specs.Prelude.{◌≡◌, ◌≤◌, ◌<◌, ◌∷◌, [], List, IsOkUnless, IfOk, IfSome, None, OnOk, map};
-ghost use Rattle.std.specs.List.{AllByRecursion};
+ghost use Rattle.std.specs.Prelude.{◌≡◌, ◌≤◌, ◌∷◌, [], List, IsOkUnless, IfOk, IfSome, None, OnOk, map};
 ghost use Rattle.std.specs.Ordering.{is_lt};
 ghost use Rattle.rt_marks.specs.Marks.{Mark, comes_before, in_order};
 ghost use Rattle.rt_marks.specs.Seen.{spotted};
 ghost use Rattle.rt_tagcmd.specs.MarkLists.{marks_from, marks_ahead};
 ghost use Rattle.rt_text.specs.Widgets.{mark_seen, marks_of};
 
-use crate::nearest::{behind_all, first_after, shows_all};
+use crate::nearest::{first_after, last_of, shows_all};
 use crate::seen::{order, own_spot, seen};
 use rt_marks::{Gravity, Marks, Spot};
 use rt_stamps::Fault;
@@ -86,18 +85,16 @@ fn gathered<'a>(
     from: usize,
     behind: usize,
 ) -> Result<Vec<Spot<'a>>, Fault>
-    requires order { stretch.begin ≤ stretch.end }
-    requires within { AllByRecursion (λ m. m.place < usize.MAX) marks.now }
+    requires { stretch.begin ≤ stretch.end }
     ensures ok { IfOk result (λ spots. in_order (map spotted spots.items)
         ≡ marks_from from behind (in_order (map (mark_seen stretch) marks.now))) }
     ensures err { IsOkUnless result Fault.NoMemory }
 {
-    marks.order();
     let mut spots = Vec::new(alloc);
-    let mut last = behind_all();
-    while let Some(mark) = marks.last_until(&last) {
+    let mut left = marks.len();
+    while let Some(mark) = last_of(marks, left) {
         push_within(&mut spots, seen(stretch, mark), from, behind)?;
-        last = mark;
+        left -= 1;
     }
     Ok(spots)
 }
@@ -128,7 +125,6 @@ fn sorted<'a, S: TextStore>(
     ensures err { IsOkUnless result Fault.NoMemory }
 {
     let marks = view.doc().marks();
-    let _ = view.store();
     let mut spots = gathered(alloc, marks, view.stretch(), from, behind)?;
     push_within(&mut spots, own_spot(view, OwnMark::Current), from, behind)?;
     push_within(&mut spots, own_spot(view, OwnMark::Insert), from, behind)?;

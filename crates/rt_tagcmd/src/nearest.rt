@@ -1,13 +1,12 @@
 // The marks of a widget about a spot: those of its site as the widget sees them, and its own two.
-ghost use Rattle.std.specs.Prelude.{◌≡◌, ◌≤◌, ◌<◌, ◌==◌, ◌&&◌, [], List, find, length, map, option_map};
-ghost use Rattle.std.specs.List.{AllByRecursion};
+ghost use Rattle.std.specs.Prelude.{◌≡◌, ◌-◌, ◌≤◌, ◌<◌, ◌==◌, ◌&&◌, ◌∷◌, IfSome, List, None, drop, find, length, map, option_map};
 ghost use Rattle.rt_marks.specs.Marks.{AreInOrder, Mark, comes_before, find_last, in_order, with_mark};
 ghost use Rattle.rt_marks.specs.Seen.{spotted};
 ghost use Rattle.rt_store.specs.Cells.{text_of};
 ghost use Rattle.rt_text.specs.Widgets.{mark_seen, marks_of, marks_shown, stretch_by};
 
 use crate::seen::{order, own_spot, seen};
-use rt_marks::{Gravity, Marks, Spot};
+use rt_marks::{Marks, Spot};
 use rt_store::TextStore;
 use rt_text::{OwnMark, View};
 use rt_views::Stretch;
@@ -40,45 +39,45 @@ fn nearer_before<'a>(here: &Spot<'_>, found: Option<Spot<'a>>, own: Spot<'a>) ->
     }
 }
 
-/// A spot behind all marks of a text.
-pub(crate) fn behind_all() -> Spot<'static>
-    ensures { spotted result ≡ record { name = []; place = usize.MAX; gravity = Gravity.Right } }
+/// The last of so many marks at the front of the order.
+pub(crate) fn last_of(marks: &Marks, count: usize) -> Option<Spot<'_>>
+    requires { count ≤ length marks.now }
+    ensures some { IfSome result (λ mark. (0 < count) × (drop (count - 1) marks.now ≡ spotted mark ∷ drop count marks.now)) }
+    ensures none { result ≡ None → count ≡ 0 }
 {
-    Spot {
-        place: usize::MAX,
-        gravity: Gravity::Right,
-        name: "",
+    if count == 0 {
+        None
+    } else {
+        marks.at(count - 1)
     }
 }
 
 /// The first mark after a spot, of marks at their places among the characters of a stretch: each of them is looked at.
 fn first_seen<'a>(marks: &'a Marks, stretch: Stretch, here: &Spot<'_>) -> Option<Spot<'a>>
-    requires order { stretch.begin ≤ stretch.end }
-    requires within { AllByRecursion (λ m. m.place < usize.MAX) marks.now }
+    requires { stretch.begin ≤ stretch.end }
     ensures { option_map spotted result ≡ find (comes_before (spotted here.now)) (in_order (map (mark_seen stretch) marks.now)) }
 {
     marks.order();
     let mut found = None;
-    let mut last = behind_all();
-    while let Some(mark) = marks.last_until(&last) {
+    let mut left = marks.len();
+    while let Some(mark) = last_of(marks, left) {
         found = nearer_after(here, found, seen(stretch, mark));
-        last = mark;
+        left -= 1;
     }
     found
 }
 
 /// The last mark before a spot, of marks at their places among the characters of a stretch: each of them is looked at.
 fn last_seen<'a>(marks: &'a Marks, stretch: Stretch, here: &Spot<'_>) -> Option<Spot<'a>>
-    requires order { stretch.begin ≤ stretch.end }
-    requires within { AllByRecursion (λ m. m.place < usize.MAX) marks.now }
+    requires { stretch.begin ≤ stretch.end }
     ensures { option_map spotted result ≡ find_last (λ m. comes_before m (spotted here.now)) (in_order (map (mark_seen stretch) marks.now)) }
 {
     marks.order();
     let mut found = None;
-    let mut last = behind_all();
-    while let Some(mark) = marks.last_until(&last) {
+    let mut left = marks.len();
+    while let Some(mark) = last_of(marks, left) {
         found = nearer_before(here, found, seen(stretch, mark));
-        last = mark;
+        left -= 1;
     }
     found
 }
@@ -97,7 +96,6 @@ fn first_shown<'a, S: TextStore>(view: &'a View<S>, here: &Spot<'_>) -> Option<S
 {
     let marks = view.doc().marks();
     marks.order();
-    let _ = view.store();
     if shows_all(view) {
         marks.first_after(here)
     } else {
@@ -111,7 +109,6 @@ fn last_shown<'a, S: TextStore>(view: &'a View<S>, here: &Spot<'_>) -> Option<Sp
 {
     let marks = view.doc().marks();
     marks.order();
-    let _ = view.store();
     if shows_all(view) {
         marks.last_until(here)
     } else {

@@ -1,37 +1,39 @@
-use Rattle.std.proofs.Common.{◌≡◌, ◌∙◌, List, Some, None, ap, arith, length, map, option_map, sym}
+use Rattle.std.proofs.Common.{◌∙◌, List, ap, arith, drop, map, sym}
+use Rattle.std.proofs.lemmas.List.{drop_all}
 use Rattle.rt_marks.specs.Marks.{Mark, in_order, with_mark}
 use Rattle.rt_marks.specs.Seen.{spotted}
 use Rattle.rt_text.specs.Widgets.{mark_seen}
 use Rattle.rt_tagcmd.specs.MarkLists.{marks_from}
-use Rattle.rt_tagcmd.proofs.Walking.{all_passed, before, fewer, none_passed, one_passed, passed, passed_seen, seen_more}
+use Rattle.rt_tagcmd.proofs.Walking.{passed_seen}
 use Rattle.rt_tagcmd.proofs.mark_list.gathered.Goals as goal
 
+pub overflow_sub-left : goal.overflow_sub-left
+overflow_sub-left c = omega (arith, c.in-Some.ensures.some.0)
+
 pub loop-mark-init : goal.loop-mark-init
-loop-mark-init c =
-    let marks = c.args.marks.now in
-    ap (λ v. in_order (map spotted v)) c.new-spots.ensures.items
-    ∙ sym (ap (λ l. marks_from c.args.from c.args.behind (passed_seen c.args.stretch l marks)) c.behind_all-last.ensures
-    ∙ ap (λ (v : List Mark). marks_from c.args.from c.args.behind (in_order (map (mark_seen c.args.stretch) v))) (none_passed _ marks c.requires.within))
+loop-mark-init c = record {
+  within = omega (arith, c.len-left.ensures);
+  same = ap (λ v. in_order (map spotted v)) c.new-spots.ensures.items
+      ∙ sym (ap (λ (v : List Mark). marks_from c.args.from c.args.behind (in_order (map (mark_seen c.args.stretch) v)))
+      (drop_all c.len-left.result c.args.marks.now (omega (arith, c.len-left.ensures))));
+}
 
 pub loop-mark-smaller : goal.loop-mark-smaller
-loop-mark-smaller c =
-    let marks = c.args.marks.now in
-    let found : before (spotted c.loop-mark.last) marks ≡ Some (spotted c.in-Some.mark) = sym c.last_until.ensures ∙ ap (option_map spotted) c.in-Some.is in
-    omega (arith, ap length (one_passed (spotted c.loop-mark.last) (spotted c.in-Some.mark) marks c.order.ensures.in_order found), fewer (spotted c.in-Some.mark) marks)
+loop-mark-smaller c = omega (arith, c.in-Some.ensures.some.0)
 
 pub loop-mark-preserved : goal.loop-mark-preserved
 loop-mark-preserved c =
     let marks = c.args.marks.now in
     let stretch = c.args.stretch in
-    let last = spotted c.loop-mark.last in
-    let found : before last marks ≡ Some (spotted c.in-Some.mark) = sym c.last_until.ensures ∙ ap (option_map spotted) c.in-Some.is in
-    c.in_ok-push_within.ensures.ok (map (mark_seen stretch) (passed last marks)) c.loop-mark.invariant
-    ∙ ap (λ (x : Mark). marks_from c.args.from c.args.behind (with_mark x (passed_seen stretch last marks))) c.seen.ensures
-    ∙ ap (λ (v : List Mark). marks_from c.args.from c.args.behind v) (sym (seen_more stretch last (spotted c.in-Some.mark) marks c.order.ensures.in_order found))
+    let left = c.loop-mark.left in
+    record {
+      within = omega (arith, c.loop-mark.invariant.within);
+      same = c.in_ok-push_within.ensures.ok (map (mark_seen stretch) (drop left marks)) c.loop-mark.invariant.same
+          ∙ ap (λ (x : Mark). marks_from c.args.from c.args.behind (with_mark x (passed_seen stretch left marks))) c.seen.ensures
+          ∙ ap (λ (v : List Mark). marks_from c.args.from c.args.behind (in_order (map (mark_seen stretch) v))) (sym c.in-Some.ensures.some.1);
+    }
 
 pub returns-clause-ok : goal.returns-clause-ok
 returns-clause-ok c =
-    let marks = c.args.marks.now in
-    let none : before (spotted c.loop-mark.last) marks ≡ None = sym c.last_until.ensures ∙ ap (option_map spotted) c.in_default.is in
-    c.loop-mark.invariant
-    ∙ ap (λ (v : List Mark). marks_from c.args.from c.args.behind (in_order (map (mark_seen c.args.stretch) v))) (all_passed (spotted c.loop-mark.last) marks none)
+    c.loop-mark.invariant.same
+    ∙ ap (λ n. marks_from c.args.from c.args.behind (passed_seen c.args.stretch n c.args.marks.now)) (c.last_of.ensures.none c.in_default.is)

@@ -1,23 +1,11 @@
-use Rattle.std.proofs.Common.{◌≡◌, ◌∙◌, ◌∷◌, List, ap, arith, length, map, subst, sym}
-use Rattle.std.specs.List.{AllByRecursion}
+use Rattle.std.proofs.Common.{◌≡◌, ◌∙◌, ◌∷◌, List, ap, map}
 use Rattle.rt_edits.specs.Flat.{Flat}
-use Rattle.rt_edits.proofs.PlaceLaws.{text_within}
 use Rattle.rt_marks.specs.Marks.{Mark, in_order, with_mark}
 use Rattle.rt_marks.specs.Seen.{spotted}
-use Rattle.rt_store.specs.Cells.{text_of}
 use Rattle.rt_text.specs.Widgets.{mark_seen, own_shown, stretch_by}
 use Rattle.rt_views.specs.declared.stretch.Stretch.{Stretch}
 use Rattle.rt_tagcmd.specs.MarkLists.{marks_from}
-use Rattle.rt_tagcmd.proofs.ShownMarks.{few_places}
 use Rattle.rt_tagcmd.proofs.mark_list.sorted.Goals as goal
-
-pub gathered-requires-clause-within : goal.gathered-requires-clause-within
-gathered-requires-clause-within g c =
-    let cells = g.S.TextStore.list c.store.result.now in
-    let doc = c.doc.result.now in
-    let few : length (text_of doc.cells) ≡ length (text_of cells) = ap (λ (d : Flat). length (text_of d.cells)) c.doc.ensures ∙ sym (ap length c.store.ensures.text) in
-    let all = few_places (length (text_of doc.cells)) _ doc.marks (omega (arith, few, c.store.ensures.few, text_within cells)) c.marks-marks.ensures.site in
-    subst (AllByRecursion (λ (m : Mark). _)) (sym c.marks-marks.ensures.value) all
 
 pub returns-clause-ok : goal.returns-clause-ok
 returns-clause-ok g c =

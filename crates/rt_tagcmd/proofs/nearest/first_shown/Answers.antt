@@ -1,21 +1,11 @@
-use Rattle.std.proofs.Common.{◌≡◌, ◌∙◌, List, ap, arith, find, length, subst, sym}
-use Rattle.std.specs.List.{AllByRecursion}
+use Rattle.std.proofs.Common.{◌≡◌, ◌∙◌, List, ap, find, length, subst, sym}
 use Rattle.rt_edits.specs.Flat.{Flat}
-use Rattle.rt_edits.proofs.PlaceLaws.{text_within}
 use Rattle.rt_marks.specs.Marks.{AreInOrder, Mark, comes_before}
 use Rattle.rt_marks.specs.Seen.{spotted}
 use Rattle.rt_store.specs.Cells.{text_of}
 use Rattle.rt_text.specs.Widgets.{AreSiteMarks, stretch_by}
-use Rattle.rt_tagcmd.proofs.ShownMarks.{all_shown, both_ends, few_places}
+use Rattle.rt_tagcmd.proofs.ShownMarks.{all_shown, both_ends}
 use Rattle.rt_tagcmd.proofs.nearest.first_shown.Goals as goal
-
-pub first_seen-requires-clause-within : goal.first_seen-requires-clause-within
-first_seen-requires-clause-within g c =
-    let cells = g.S.TextStore.list c.store.result.now in
-    let doc = c.doc.result.now in
-    let few : length (text_of doc.cells) ≡ length (text_of cells) = ap (λ (d : Flat). length (text_of d.cells)) c.doc.ensures ∙ sym (ap length c.store.ensures.text) in
-    let all = few_places (length (text_of doc.cells)) _ doc.marks (omega (arith, few, c.store.ensures.few, text_within cells)) c.marks-marks.ensures.site in
-    subst (AllByRecursion (λ (m : Mark). _)) (sym c.marks-marks.ensures.value) all
 
 pub returns-then-shows_all : goal.returns-then-shows_all
 returns-then-shows_all g c =
