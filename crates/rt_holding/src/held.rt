@@ -40,12 +40,19 @@ pub struct Held {
 
 impl Model for Held {
     ghost use Rattle.rt_holding.specs.Grown.{HeldValue};
+    ghost use Rattle.std.specs.Prelude.{refl};
+    ghost use Rattle.std.specs.Coded.{code_by, coded_list, coded_option, coded_ℕ, coded×};
+    ghost use Rattle.rt_stamps.specs.contracts.stamp.Stamp as stamp;
+    ghost use Rattle.rt_ops.specs.contracts.op.Op as op;
     ghost use Rattle.rt_holding.specs.contracts.waits.Keys as keys;
-    ghost use Rattle.std.specs.Coded.{codes};
 
     ghost Value = { HeldValue };
 
-    ghost coded = { Prim.hlevel (codes, keys.the_row.coded) };
+    ghost coded = { code_by _ (coded× (coded_list op.the_row.coded)
+        (coded× (coded_list (coded× (coded× stamp.the_row.coded coded_ℕ) (coded_option op.the_row.coded)))
+        (coded× keys.the_row.coded (coded_list (coded× stamp.the_row.coded coded_ℕ)))))
+        (λ v. (v.held, (v.table.entries, (v.table.keys, v.table.again))))
+        (λ p. record { held = p.0; table = record { entries = p.1.0; keys = p.1.1.0; again = p.1.1.1 } }) (λ _. refl) };
 
     ghost use Rattle.rt_holding.specs.Kept.{AreHeld, ops_in};
     ghost use Rattle.rt_holding.specs.Waits.{IsReady};
