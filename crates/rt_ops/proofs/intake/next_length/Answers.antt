@@ -1,4 +1,4 @@
-use Rattle.std.proofs.Common.{◌++◌, [], length, ap, sym, ◌∙◌, arith}
+use Rattle.std.proofs.Common.{[], length, ap, sym, ◌∙◌, arith}
 use Rattle.std.specs.Int.{w32}
 use Rattle.std.proofs.lemmas.List.{length-append}
 use Rattle.rt_ops.specs.File.{number}
