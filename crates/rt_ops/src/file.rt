@@ -69,8 +69,8 @@ pub(crate) fn ended(
 /// The operations of all records before the first fault are given, each with the offset of its
 /// record. A file of just `max_bytes` bytes is whole, and a read of no bytes is its end. A failed
 /// read, one more byte, or the want of one more read is a `ReadFault` at the offset of the record in
-/// which it came, 0 in the first eight bytes. Then the end was not found: unless a read failed or none is
-/// allowed, the last read gave some bytes. A file of n bytes is read in n + 1 reads at most.
+/// which it came, 0 in the first eight bytes. Where no read failed, the end was not found then: the last read
+/// gave some bytes, or none is allowed. A file of n bytes is read in n + 1 reads at most.
 pub fn read_file_bounded<R: Source>(
     alloc: Global,
     reader: &mut R,
@@ -133,7 +133,7 @@ pub fn read_file<R: Source>(alloc: Global, reader: &mut R) -> Result<Reading, Fa
 }
 
 /// Reads all bytes of a file, to its end. `ReadFault` where a read failed, or the file has more than
-/// `MOST_BYTES` bytes, so where the end was not found; `NoMemory` where a growth was refused.
+/// `MOST_BYTES` bytes; `NoMemory` where a growth was refused.
 pub fn read_whole<R: Source>(alloc: Global, reader: &mut R) -> Result<Vec<u8>, Fault>
     ensures reads { ReadsWhole FILE_BOUNDS (R.stream reader.old) (R.stream reader.new) result }
     ensures unseen { IfErr result (StopsUnseen R.stream FILE_BOUNDS reader.old reader.new) }
