@@ -24,3 +24,4 @@ pub use Rattle.rt_edits.specs.Flat
 pub use Rattle.rt_text.specs.Index
 pub use Rattle.rt_text.specs.Commands
 pub use Rattle.rt_holding.specs.Receiving
+pub use Rattle.rt_ops.specs.Intake
