@@ -1,5 +1,5 @@
 -- What a text tells that receives a file.
-use Rattle.std.proofs.Common.{◌≡◌, ◌∙◌, ◌++◌, ℕ, List, [], ◌∷◌, ap, append_assoc, inl, inr, refl, subst, sym, true}
+use Rattle.std.proofs.Common.{◌≡◌, ◌∙◌, ◌++◌, ℕ, List, [], ◌∷◌, ap, append_assoc, inl, inr, map, refl, subst, sym, true}
 use Rattle.rt_ops.specs.Operations.{Operation}
 use Rattle.rt_ops.specs.Rules.{keeps_rules}
 use Rattle.rt_oplog.specs.Logs.{Has, with_operation}
@@ -11,8 +11,9 @@ use Rattle.rt_rga.proofs.Histories.{history_with}
 use Rattle.rt_rga.proofs.Orders.{rules_in}
 use Rattle.rt_rga.proofs.Within.{continues_new}
 use Rattle.rt_store.specs.Shown.{TaggedCell}
+use Rattle.rt_changes.specs.declared.change.ToldChange.{ToldChange}
 use Rattle.rt_changes.specs.Replays.{AreInText, VisibleChange, changes_in_turn, changes_of, replayed}
-use Rattle.rt_changes.specs.Telling.{AreChangesBetween, ContinueInTurn}
+use Rattle.rt_changes.specs.Telling.{AreChangesBetween, ContinueInTurn, all_changes_in, changes_in}
 use Rattle.rt_changes.proofs.Telling.{taken_exact, taken_replay, taken_within}
 use Rattle.rt_holding.specs.declared.receiving.Received.{Received}
 use Rattle.rt_holding.specs.Receiving.{Receives, State as Holder}
@@ -25,12 +26,12 @@ use Rattle.rt_editing.specs.Edited.{Edited}
 use Rattle.rt_editing.specs.Edits.{text_with_new}
 use Rattle.rt_peers.specs.declared.text.telling.TellingText.{TellingText}
 use Rattle.rt_peers.specs.SiteStep.{text_limit, text_log}
-use Rattle.rt_peers.specs.Telling.{HasToldMore, telling_with_new}
+use Rattle.rt_peers.specs.Telling.{AreToldBetween, HasToldMore, changes_each, telling_with_new}
 
 abbrev text_in : TellingText → Edited
 text_in t = t.text.now
 
-abbrev told_in : TellingText → List VisibleChange
+abbrev told_in : TellingText → List (List VisibleChange)
 told_in t = t.told.now
 
 abbrev log_in : TellingText → List Operation
@@ -46,11 +47,11 @@ append_none : {X : Type 0} (xs : List X) → xs ++ [] ≡ xs
 append_none [] = refl
 append_none (x ∷ xs) = ap (λ ys. x ∷ ys) (append_none xs)
 
-all_told : (ops : List Operation) (t : TellingText) → told_in (all_after telling_with_new ops t) ≡ told_in t ++ changes_in_turn ops (log_in t)
+all_told : (ops : List Operation) (t : TellingText) → told_in (all_after telling_with_new ops t) ≡ told_in t ++ changes_each ops (log_in t)
 all_told [] t = sym (append_none (told_in t))
 all_told (op ∷ ops) t =
     all_told ops (telling_with_new op t)
-    ∙ append_assoc (told_in t) (changes_of op (cells_of (log_in t))) (changes_in_turn ops (with_operation op (log_in t)))
+    ∙ append_assoc (told_in t) (changes_of op (cells_of (log_in t)) ∷ []) (changes_each ops (with_operation op (log_in t)))
 
 all_logged : (ops : List Operation) (t : TellingText) → log_in (all_after telling_with_new ops t) ≡ with_operations ops (log_in t)
 all_logged [] t = refl
@@ -92,31 +93,47 @@ continue_in_turn limit (op ∷ ops) log h rules turn =
     (k, continue_in_turn limit ops (with_operation op log) (history_with op log h k) (λ x i. rules x (inr i)) turn.1)
 
 -- what is told behind nothing is all that is told
-pub only_told : (old new : Edited) (before after changes : List VisibleChange) → before ≡ [] → changes ≡ after → HasToldMore old new before after
+pub only_told : (old new : Edited) (before after changes : List (List VisibleChange)) → before ≡ [] → changes ≡ after → HasToldMore old new before after
     → HasToldMore old new [] changes
 only_told old new before after changes none all more =
-    subst (HasToldMore old new []) (sym all) (subst (λ (l : List VisibleChange). HasToldMore old new l after) none more)
+    subst (HasToldMore old new []) (sym all) (subst (λ (l : List (List VisibleChange)). HasToldMore old new l after) none more)
 
-module _ (old new : Edited) (changes : List VisibleChange) (before : IsHistory (text_log old)) (after : IsHistory (text_log new))
-    (t : HasToldMore old new [] changes) where
+-- what each operation changes is together what all change
+together : (told : List ToldChange) (ops log : List Operation) → map changes_in told ≡ changes_each ops log → all_changes_in told ≡ changes_in_turn ops log
+together [] [] log h = refl
+together [] (op ∷ ops) log h = absurd (cc h)
+together (t ∷ told) [] log h = absurd (cc h)
+together (t ∷ told) (op ∷ ops) log h =
+    let one : changes_in t ≡ changes_of op (cells_of log) = cc h in
+    let rest : map changes_in told ≡ changes_each ops (with_operation op log) = cc h in
+    (λ i. one i ++ together told ops (with_operation op log) rest i)
+
+module _ (old new : Edited) (told : List ToldChange) (before : IsHistory (text_log old)) (after : IsHistory (text_log new))
+    (t : HasToldMore old new [] (map changes_in told)) where
   in_turn : ContinueInTurn t.ops (text_log old)
   in_turn =
       continue_in_turn (text_limit old) t.ops (text_log old) before
       (λ x i. rules_in (with_operations t.ops (text_log old)) (subst IsHistory t.log after) x (with_all t.ops (text_log old) x (inr i))) t.turn
 
-  pub changes_between : AreChangesBetween (text_log old) (text_log new) changes
-  changes_between = record { ops = t.ops; turn = in_turn; taken = t.log; told = t.told; exact = taken_exact t.ops (text_log old) before in_turn }
+  all_told_in : all_changes_in told ≡ changes_in_turn t.ops (text_log old)
+  all_told_in = together told t.ops (text_log old) t.told
+
+  pub told_between : AreToldBetween (text_log old) (text_log new) told
+  told_between = record {
+    between = record { ops = t.ops; turn = in_turn; taken = t.log; told = all_told_in; exact = taken_exact t.ops (text_log old) before in_turn };
+    each = t.told;
+  }
 
   pub changes_replay : old.view.doc.cells ≡ cells_of (text_log old) → new.view.doc.cells ≡ cells_of (text_log new)
-      → replayed changes (tagged_text old.view.doc.cells) ≡ tagged_text new.view.doc.cells
+      → replayed (all_changes_in told) (tagged_text old.view.doc.cells) ≡ tagged_text new.view.doc.cells
   changes_replay first last =
-      ap (λ (cells : List TaggedCell). replayed changes (tagged_text cells)) first
-      ∙ ap (λ (l : List VisibleChange). replayed l (tagged_text (cells_of (text_log old)))) t.told
+      ap (λ (cells : List TaggedCell). replayed (all_changes_in told) (tagged_text cells)) first
+      ∙ ap (λ (l : List VisibleChange). replayed l (tagged_text (cells_of (text_log old)))) all_told_in
       ∙ taken_replay t.ops (text_log old) before in_turn
       ∙ ap (λ (log : List Operation). tagged_text (cells_of log)) (sym t.log) ∙ ap tagged_text (sym last)
 
-  pub changes_in_text : old.view.doc.cells ≡ cells_of (text_log old) → AreInText changes (tagged_text old.view.doc.cells)
+  pub changes_in_text : old.view.doc.cells ≡ cells_of (text_log old) → AreInText (all_changes_in told) (tagged_text old.view.doc.cells)
   changes_in_text first =
-      subst (λ (cells : List TaggedCell). AreInText changes (tagged_text cells)) (sym first)
-      (subst (λ (l : List VisibleChange). AreInText l (tagged_text (cells_of (text_log old)))) (sym t.told)
+      subst (λ (cells : List TaggedCell). AreInText (all_changes_in told) (tagged_text cells)) (sym first)
+      (subst (λ (l : List VisibleChange). AreInText l (tagged_text (cells_of (text_log old)))) (sym all_told_in)
       (taken_within t.ops (text_log old) before in_turn))

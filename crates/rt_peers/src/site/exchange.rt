@@ -8,13 +8,14 @@ ghost use Rattle.rt_rga.specs.Cells.{cells_of};
 ghost use Rattle.rt_rga.specs.Histories.{IsHistory, greatest_last_count};
 ghost use Rattle.rt_rga.specs.Texts.{tagged_text};
 ghost use Rattle.rt_changes.specs.Replays.{AreInText, replayed};
-ghost use Rattle.rt_changes.specs.Telling.{AreChangesBetween, all_changes_in};
+ghost use Rattle.rt_changes.specs.Telling.{all_changes_in};
 ghost use Rattle.rt_oplog.specs.Logs.{known_end};
 ghost use Rattle.rt_text.specs.Widgets.{limits_of};
 ghost use Rattle.rt_views.specs.Ordered.{AreInOrder};
 ghost use Rattle.rt_peers.specs.Exchange.{IsFileOf};
 ghost use Rattle.rt_peers.specs.Lacking.{known_in, since};
 ghost use Rattle.rt_peers.specs.SiteStep.{SiteReceives, log_of};
+ghost use Rattle.rt_peers.specs.Telling.{AreToldBetween};
 
 use super::SiteState;
 use crate::sending::{ends_of, lacking};
@@ -40,8 +41,8 @@ impl SiteState {
         receive(self.alloc, &mut self.text, &mut self.held, bytes)
     }
 
-    /// Receives the bytes of a file as `receive` does, and tells what changed on the visible text, in an order in which the
-    /// operations could be taken, those among them that had been held. Each change is of the text that those before it left,
+    /// Receives the bytes of a file as `receive` does, and tells what changed on the visible text, operation by operation, in an
+    /// order in which they could be taken, those among them that had been held. Each change is of the text that those before it left,
     /// so all of them, done one after the other to what was shown, with its tags, give what is shown now. Only what changes is
     /// told: each place that a change names is one that its operation changes. Telling takes memory too: where it is wanting
     /// for an operation of the file, this ends with `NoMemory`; a held one stays held, which no fault tells. All changes are
@@ -49,7 +50,7 @@ impl SiteState {
     pub fn receive_telling(&mut self, bytes: &[u8]) -> ReceivedChanges
         requires { length bytes.now ≤ MOST_BYTES }
         ensures receives { SiteReceives bytes.now self.old result.received self.new }
-        ensures told { AreChangesBetween (log_of self.old) (log_of self.new) (all_changes_in result.changes.items) }
+        ensures told { AreToldBetween (log_of self.old) (log_of self.new) result.changes.items }
         ensures replayed { replayed (all_changes_in result.changes.items) (tagged_text self.old.text.view.doc.cells)
             ≡ tagged_text self.new.text.view.doc.cells }
         ensures within { AreInText (all_changes_in result.changes.items) (tagged_text self.old.text.view.doc.cells) }

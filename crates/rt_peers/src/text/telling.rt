@@ -1,17 +1,17 @@
 // A text that tells what the operations change that it takes.
-ghost use Rattle.std.specs.Prelude.{◌≡◌, ◌≤◌, ◌++◌, [], IfErr, OnErr, OnOk, length};
+ghost use Rattle.std.specs.Prelude.{◌≡◌, ◌≤◌, ◌++◌, ◌∷◌, [], IfErr, OnErr, OnOk, length, map};
 ghost use Rattle.rt_stamps.specs.declared.limits.TheConstants.{MOST_BYTES};
 ghost use Rattle.rt_rga.specs.Answers.{New};
 ghost use Rattle.rt_rga.specs.Cells.{cells_of};
 ghost use Rattle.rt_rga.specs.Texts.{tagged_text};
 ghost use Rattle.rt_changes.specs.Replays.{AreInText, changes_of, replayed};
-ghost use Rattle.rt_changes.specs.Telling.{AreChangesBetween, all_changes_in};
+ghost use Rattle.rt_changes.specs.Telling.{all_changes_in, changes_in};
 ghost use Rattle.rt_text.specs.Accepted.{answer_of};
 ghost use Rattle.rt_editing.specs.Edits.{text_with_new};
 ghost use Rattle.rt_holding.specs.Grown.{AreTriedAt};
 ghost use Rattle.rt_holding.specs.Receiving.{Receives};
 ghost use Rattle.rt_peers.specs.SiteStep.{text_limit, text_log};
-ghost use Rattle.rt_peers.specs.Telling.{HasToldMore, telling_with_new};
+ghost use Rattle.rt_peers.specs.Telling.{AreToldBetween, HasToldMore, telling_with_new};
 
 use super::EditedText;
 use crate::told::ReceivedChanges;
@@ -30,13 +30,13 @@ pub(crate) struct Told {
 }
 
 impl Model for Told {
-    ghost use Rattle.std.specs.Prelude.{List};
+    ghost use Rattle.std.specs.Prelude.{List, map};
     ghost use Rattle.rt_changes.specs.Replays.{VisibleChange};
-    ghost use Rattle.rt_changes.specs.Telling.{all_changes_in};
+    ghost use Rattle.rt_changes.specs.Telling.{changes_in};
 
-    ghost Value = { List VisibleChange };
+    ghost Value = { List (List VisibleChange) };
 
-    ghost view = { λ t. all_changes_in t.changes.items };
+    ghost view = { λ t. map changes_in t.changes.items };
 }
 
 impl Told {
@@ -54,7 +54,7 @@ impl Told {
     fn take(&mut self, alloc: Global, text: &mut EditedText, op: Op) -> Result<(), Op>
         requires { answer_of text.old.view.doc op ≡ New }
         ensures taken { OnOk result (text.new ≡ text_with_new op text.old) }
-        ensures told { OnOk result (self.new ≡ self.old ++ changes_of op (cells_of (text_log text.old))) }
+        ensures told { OnOk result (self.new ≡ self.old ++ changes_of op (cells_of (text_log text.old)) ∷ []) }
         ensures same { OnErr result (text.new ≡ text.old) }
         ensures untold { OnErr result (self.new ≡ self.old) }
         ensures back { IfErr result (λ back. back ≡ op) }
@@ -77,7 +77,7 @@ impl Told {
 
     // All of it.
     fn changes(self) -> Vec<ToldChange>
-        ensures { all_changes_in result.items ≡ self }
+        ensures { map changes_in result.items ≡ self }
     {
         let Told { changes } = self;
         changes
@@ -163,7 +163,7 @@ impl EditedText {
         ensures receives { Receives text_log text_limit text_with_new bytes.now (record { site = self.old; held = held.old.held })
             result.received (record { site = self.new; held = held.new.held }) }
         ensures tried { AreTriedAt (text_limit self.new) (text_log self.new) held.new }
-        ensures told { AreChangesBetween (text_log self.old) (text_log self.new) (all_changes_in result.changes.items) }
+        ensures told { AreToldBetween (text_log self.old) (text_log self.new) result.changes.items }
         ensures replayed { replayed (all_changes_in result.changes.items) (tagged_text self.old.view.doc.cells)
             ≡ tagged_text self.new.view.doc.cells }
         ensures within { AreInText (all_changes_in result.changes.items) (tagged_text self.old.view.doc.cells) }

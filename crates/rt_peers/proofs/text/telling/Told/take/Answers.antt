@@ -1,9 +1,10 @@
-use Rattle.std.proofs.Common.{◌≡◌, ◌∙◌, ◌++◌, List, [], ◌∷◌, ap}
+use Rattle.std.proofs.Common.{◌≡◌, ◌∙◌, ◌++◌, List, [], ◌∷◌, ap, map}
 use Rattle.rt_rga.specs.Cells.{cells_of}
 use Rattle.rt_changes.specs.declared.change.ToldChange.{ToldChange}
 use Rattle.rt_changes.specs.Replays.{VisibleChange, changes_of}
-use Rattle.rt_changes.specs.Telling.{all_changes_in, changes_in}
-use Rattle.rt_changes.proofs.Telling.{one_more_told, placed_changes}
+use Rattle.std.proofs.lemmas.List.{map-append}
+use Rattle.rt_changes.specs.Telling.{changes_in}
+use Rattle.rt_changes.proofs.Telling.{placed_changes}
 use Rattle.rt_peers.specs.SiteStep.{text_log}
 use Rattle.rt_peers.proofs.text.telling.Told.take.Goals as goal
 
@@ -19,4 +20,4 @@ returns-in-Ok-take_new-clause-told c =
     let one : changes_in told ≡ new =
     c.at.ensures ∙ placed_changes op text.view.doc.cells c.in-Ok.to_tell c.in-Ok-take_new.change c.in-Ok.ensures.ok c.in-Ok-take_new.ensures.change
     ∙ ap (changes_of op) c.log.ensures.cells in
-    ap all_changes_in items ∙ one_more_told before told new one ∙ ap (λ (l : List VisibleChange). l ++ new) c.self.view_is
+    ap (map changes_in) items ∙ map-append changes_in before (told ∷ []) ∙ (λ i. c.self.view_is i ++ one i ∷ [])
