@@ -1,6 +1,8 @@
 // The run of a script by a site.
-ghost use Rattle.std.specs.Prelude.{◌≡◌, ◌≤◌, None, Some, MatchResult, length};
+ghost use Rattle.std.specs.Prelude.{◌≡◌, ◌≤◌, None, Some, IfSome, MatchResult, length};
 ghost use Rattle.rt_stamps.specs.declared.limits.TheConstants.{MOST_BYTES};
+ghost use Rattle.rt_stamps.specs.Streams.{FILE_BOUNDS};
+ghost use Rattle.rt_ops.specs.Intake.{StopsUnseen};
 ghost use Rattle.rt_script.specs.Run.{StopsInLast, point};
 ghost use Rattle.rt_script.specs.Site.{AreWithin, SiteGives, named_files};
 ghost use Rattle.rt_script.specs.SiteRun.{Begins, RunsScript, TellsLog, WithinBytes};
@@ -74,6 +76,7 @@ pub fn run_site<R: Source, W: Sink>(
     ensures last { result.fault ≡ Some Fault.NoMemory → StopsInLast SiteGives R.stream
         (point (record { site = site; files = named_files files.now }) (W.stream out.old))
         (point (record { site = result.site; files = named_files files.now }) (W.stream out.new)) script.old script.new }
+    ensures unseen { IfSome result.fault (StopsUnseen R.stream FILE_BOUNDS script.old script.new) }
 {
     let Ended { site, fault } = run(alloc, site, script, files, out);
     let log = log_of(&site, wants_log);
