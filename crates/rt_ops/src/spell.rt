@@ -1,5 +1,5 @@
 // Operations as the bytes of a file.
-ghost use Rattle.std.specs.Prelude.{◌≡◌, ◌∷◌, [], ◌++◌, drop, ◌<◌, ◌≤◌, ◌^◌, length, string_bytes, encode_utf8_all, true, IsOkUnless, OnOk};
+ghost use Rattle.std.specs.Prelude.{◌≡◌, ◌∷◌, [], ◌++◌, drop, ◌<◌, ◌≤◌, ◌^◌, length, string_bytes, encode_utf8_all, true, IsOkUnless, OnErr, OnOk};
 ghost use Rattle.std.specs.List.{AllByRecursion};
 ghost use Rattle.std.specs.Int.{w16, w32, w64};
 ghost use Rattle.rt_stamps.specs.declared.fault.Fault.TheVariants.{NoMemory};
@@ -181,15 +181,29 @@ fn write_length(buffer: &mut [u8], n: u32)
     BigEndian::write_u32(buffer, n);
 }
 
-/// Makes a buffer the record of an operation. After want of memory it has some bytes.
-pub fn spell(buffer: &mut Vec<u8>, op: &Op) -> Result<(), Fault>
-    ensures ok { OnOk result (buffer.new.items ≡ record_of op.now) }
+// Adds a length field that isn't written yet, and what stands behind it.
+fn push_record(buffer: &mut Vec<u8>, op: &Op) -> Result<(), Fault>
+    ensures ok { OnOk result (buffer.new.items ≡ buffer.old.items ++ ((0 ∷ 0 ∷ 0 ∷ 0 ∷ []) ++ content_of op.now)) }
+    ensures short { OnOk result (length (content_of op.now) ≤ MOST_RECORD_BYTES) }
     ensures record { OnOk result (HasRecord op.now) }
     ensures fault { IsOkUnless result NoMemory }
 {
-    buffer.clear();
     buffer.extend_from_slice(&[0; LENGTH_BYTES])?;
-    push_content(buffer, op)?;
+    push_content(buffer, op)
+}
+
+/// Makes a buffer the record of an operation. After want of memory it is empty.
+pub fn spell(buffer: &mut Vec<u8>, op: &Op) -> Result<(), Fault>
+    ensures ok { OnOk result (buffer.new.items ≡ record_of op.now) }
+    ensures record { OnOk result (HasRecord op.now) }
+    ensures empty { OnErr result (buffer.new.items ≡ []) }
+    ensures fault { IsOkUnless result NoMemory }
+{
+    buffer.clear();
+    if let Err(fault) = push_record(buffer, op) {
+        buffer.clear();
+        return Err(fault);
+    }
     let length = buffer.len() - LENGTH_BYTES;
     write_length(buffer, length as u32);
     Ok(())
