@@ -268,6 +268,7 @@ impl Stacks {
         requires still { IsStill self.old.moves (action_of action) }
         ensures history { self.new.history ≡ added auto_separators (action_of action) self.old.history }
         ensures moves { self.new.moves ≡ self.old.moves }
+        ensures used { self.new.ready ≡ false }
     {
         self.ready = false;
         if auto_separators && asks_separator(&self.current, action.kind) {
@@ -278,11 +279,12 @@ impl Stacks {
         self.undone.clear();
     }
 
-    /// Places a separator: the next action begins a group ("edit separator"). It takes no memory, and
-    /// may take away the room that was made.
+    /// Places a separator: the next action begins a group ("edit separator"). It takes no memory. Where room was
+    /// made, more has to be made before the next action.
     pub fn separate(&mut self)
         ensures history { self.new.history ≡ separated self.old.history }
         ensures moves { self.new.moves ≡ self.old.moves }
+        ensures used { self.new.ready ≡ false }
     {
         self.ready = false;
         close(&mut self.closed, &mut self.current, Vec::new(self.alloc));
@@ -338,6 +340,7 @@ impl Stacks {
         requires still { AreStill self.old.moves (group_of reverted.items) }
         ensures history { self.new.history ≡ undo_done (group_of reverted.items) self.old.history }
         ensures moves { self.new.moves ≡ self.old.moves }
+        ensures used { self.new.ready ≡ false }
     {
         self.ready = false;
         drop_last(&mut self.closed, &mut self.current);
@@ -352,6 +355,7 @@ impl Stacks {
         requires still { AreStill self.old.moves (group_of reverted.items) }
         ensures history { self.new.history ≡ redo_done (group_of reverted.items) self.old.history }
         ensures moves { self.new.moves ≡ self.old.moves }
+        ensures used { self.new.ready ≡ false }
     {
         self.ready = false;
         drop_group(&mut self.undone);
@@ -437,6 +441,7 @@ impl Stacks {
     pub fn reset(&mut self)
         ensures history { self.new.history ≡ emptied self.old.history }
         ensures moves { (stamp : Stamp) → is_moved self.new.moves stamp ≡ false }
+        ensures used { (self.new.ready ≡ false) × (self.new.moves.room ≡ 0) }
     {
         self.forced = self.modified();
         self.ready = false;
