@@ -5,7 +5,7 @@ use Rattle.rt_ops.specs.Operations.{Operation}
 use Rattle.rt_oplog.specs.Logs.{with_operation}
 use Rattle.rt_store.specs.Shown.{TaggedCell}
 use Rattle.rt_rga.specs.Cells.{cells_of}
-use Rattle.rt_rga.specs.Drafts.{with_operations}
+use Rattle.rt_rga.specs.Drafts.{ContinueInTurn, with_operations}
 use Rattle.rt_rga.specs.Histories.{IsHistory}
 use Rattle.rt_rga.specs.Taken.{IsChange}
 use Rattle.rt_rga.specs.Texts.{TaggedCharacter, tagged_text}
@@ -14,7 +14,7 @@ use Rattle.rt_rga.proofs.Histories.{history_with}
 use Rattle.rt_changes.specs.declared.change.ToldChange.{ToldChange}
 use Rattle.rt_changes.specs.declared.change.ToTell.{ToTell}
 use Rattle.rt_changes.specs.Replays.{AreInText, VisibleChange, changes_in_turn, changes_of, replayed, with_change}
-use Rattle.rt_changes.specs.Telling.{AreExactInTurn, ContinueInTurn, IsToTell, all_changes_in, changes_in, placed}
+use Rattle.rt_changes.specs.Telling.{AreExactInTurn, IsToTell, all_changes_in, changes_in, placed}
 use Rattle.rt_changes.proofs.Exact.{changes_exact}
 use Rattle.rt_changes.proofs.Texts.{changes_replay}
 use Rattle.rt_changes.proofs.Told.{told_changes_are}
@@ -45,7 +45,7 @@ within_append : (changes more : List VisibleChange) (t : List TaggedCharacter) �
 within_append [] more t h k = k
 within_append (c ∷ changes) more t h k = (h.0, within_append changes more (with_change c t) h.1 k)
 
-pub taken_replay : (ops log : List Operation) → IsHistory log → ContinueInTurn ops log
+pub taken_replay : (ops log : List Operation) → IsHistory log → ContinueInTurn log ops
     → replayed (changes_in_turn ops log) (tagged_text (cells_of log)) ≡ tagged_text (cells_of (with_operations ops log))
 taken_replay [] log h k = refl
 taken_replay (op ∷ ops) log h k =
@@ -54,13 +54,13 @@ taken_replay (op ∷ ops) log h k =
     ∙ ap (replayed (changes_in_turn ops more)) (changes_replay log op h k.0)
     ∙ taken_replay ops more (history_with op log h k.0) k.1
 
-pub taken_within : (ops log : List Operation) → IsHistory log → ContinueInTurn ops log → AreInText (changes_in_turn ops log) (tagged_text (cells_of log))
+pub taken_within : (ops log : List Operation) → IsHistory log → ContinueInTurn log ops → AreInText (changes_in_turn ops log) (tagged_text (cells_of log))
 taken_within [] log h k = tt
 taken_within (op ∷ ops) log h k =
     let more = with_operation op log in
     within_append (changes_of op (cells_of log)) (changes_in_turn ops more) (tagged_text (cells_of log)) (changes_within log op h k.0)
     (subst (AreInText (changes_in_turn ops more)) (sym (changes_replay log op h k.0)) (taken_within ops more (history_with op log h k.0) k.1))
 
-pub taken_exact : (ops log : List Operation) → IsHistory log → ContinueInTurn ops log → AreExactInTurn ops log
+pub taken_exact : (ops log : List Operation) → IsHistory log → ContinueInTurn log ops → AreExactInTurn ops log
 taken_exact [] log h k = tt
 taken_exact (op ∷ ops) log h k = (changes_exact log op h k.0, taken_exact ops (with_operation op log) (history_with op log h k.0) k.1)

@@ -14,7 +14,7 @@ use Rattle.rt_tags.specs.Writers.{is_shared}
 use Rattle.rt_tags.specs.Tags.{is_listed}
 use Rattle.rt_rga.specs.Answers.{all_taken}
 use Rattle.rt_rga.specs.Cells.{cells_of, stamped_writes_on}
-use Rattle.rt_rga.specs.Drafts.{AreDraftsFor, operations_of, with_drafts, with_operations}
+use Rattle.rt_rga.specs.Drafts.{AreDraftsFor, ContinueInTurn, operations_of, with_drafts, with_operations}
 use Rattle.rt_rga.specs.Histories.{Continues, IsHistory}
 use Rattle.rt_rga.specs.Requests.{AllMayBeAsked, Request, after_requests}
 use Rattle.rt_rga.specs.Taken.{AreFallingRuns, IsChange, differ, is_in_runs, place_in, retags, takes_away}
@@ -23,7 +23,7 @@ use Rattle.rt_rga.specs.declared.taken.Change.{Change}
 use Rattle.rt_rga.specs.declared.taken.PlaceRun.{PlaceRun}
 use Rattle.rt_changes.specs.Exact.{IsExact}
 use Rattle.rt_changes.specs.Replays.{AreInText, all_changes, all_under, changed_at, changes_by_requests, changes_in_turn, changes_of, left_at, replayed, runs_of, tagged_with, tags_with, told_by}
-use Rattle.rt_changes.specs.Telling.{AreExactInTurn, ContinueInTurn}
+use Rattle.rt_changes.specs.Telling.{AreExactInTurn}
 
 -- THE VISIBLE TEXT
 
@@ -150,18 +150,18 @@ RequestsAreReplayed =
 -- The changes of operations that continue a log one after the other, replayed on the text before all, give the text after all.
 abbrev pub TakenAreReplayed : Type 0
 TakenAreReplayed =
-    (ops log : List Operation) → IsHistory log → ContinueInTurn ops log
+    (ops log : List Operation) → IsHistory log → ContinueInTurn log ops
     → replayed (changes_in_turn ops log) (tagged_text (cells_of log)) ≡ tagged_text (cells_of (with_operations ops log))
 
 -- Each of these changes is within the text that those before it leave,
 abbrev pub TakenAreInText : Type 0
 TakenAreInText =
-    (ops log : List Operation) → IsHistory log → ContinueInTurn ops log
+    (ops log : List Operation) → IsHistory log → ContinueInTurn log ops
     → AreInText (changes_in_turn ops log) (tagged_text (cells_of log))
 
 -- and each place that one names is one that its operation changes.
 abbrev pub TakenAreExact : Type 0
-TakenAreExact = (ops log : List Operation) → IsHistory log → ContinueInTurn ops log → AreExactInTurn ops log
+TakenAreExact = (ops log : List Operation) → IsHistory log → ContinueInTurn log ops → AreExactInTurn ops log
 
 -- NO MORE THAN CHANGES
 

@@ -5,8 +5,7 @@ use Rattle.rt_stamps.specs.Words.{as_words}
 use Rattle.rt_ops.specs.Operations.{Body, Operation}
 use Rattle.rt_oplog.specs.Logs.{with_operation}
 use Rattle.rt_rga.specs.Cells.{cells_of}
-use Rattle.rt_rga.specs.Drafts.{with_operations}
-use Rattle.rt_rga.specs.Histories.{Continues}
+use Rattle.rt_rga.specs.Drafts.{ContinueInTurn, with_operations}
 use Rattle.rt_rga.specs.Taken.{lists_of}
 use Rattle.rt_rga.specs.declared.taken.Change.{Change}
 use Rattle.rt_changes.specs.declared.change.ToldChange.{ToldChange}
@@ -38,11 +37,6 @@ IsToTell body t = (change : Change) → as_words change.lists.items ≡ lists_of
 
 -- OPERATIONS THAT ARE TAKEN IN TURN
 
--- each continues a log with those before it
-abbrev pub ContinueInTurn : List Operation → List Operation → Type 0
-ContinueInTurn [] log = Unit {0}
-ContinueInTurn (op ∷ ops) log = Continues log op × ContinueInTurn ops (with_operation op log)
-
 -- each place that a change of one of them names is one that changes, by this operation
 abbrev pub AreExactInTurn : List Operation → List Operation → Type 0
 AreExactInTurn [] log = Unit {0}
@@ -52,7 +46,7 @@ AreExactInTurn (op ∷ ops) log =
 -- One log became another by operations each of which continued it in turn; these are their changes, in this order, and each is exact.
 pub record AreChangesBetween (old new : List Operation) (changes : List VisibleChange) : Type 0 where
   pub ops : List Operation
-  pub turn : ContinueInTurn ops old
+  pub turn : ContinueInTurn old ops
   pub taken : new ≡ with_operations ops old
   pub told : changes ≡ changes_in_turn ops old
   pub exact : AreExactInTurn ops old

@@ -4,7 +4,7 @@ use Rattle.rt_ops.specs.Operations.{Operation}
 use Rattle.rt_ops.specs.Rules.{keeps_rules}
 use Rattle.rt_oplog.specs.Logs.{Has, with_operation}
 use Rattle.rt_rga.specs.Cells.{cells_of}
-use Rattle.rt_rga.specs.Drafts.{with_operations}
+use Rattle.rt_rga.specs.Drafts.{ContinueInTurn, with_operations}
 use Rattle.rt_rga.specs.Histories.{IsHistory}
 use Rattle.rt_rga.specs.Texts.{tagged_text}
 use Rattle.rt_rga.proofs.Histories.{history_with}
@@ -13,7 +13,7 @@ use Rattle.rt_rga.proofs.Within.{continues_new}
 use Rattle.rt_store.specs.Shown.{TaggedCell}
 use Rattle.rt_changes.specs.declared.change.ToldChange.{ToldChange}
 use Rattle.rt_changes.specs.Replays.{AreInText, VisibleChange, changes_in_turn, changes_of, replayed}
-use Rattle.rt_changes.specs.Telling.{AreChangesBetween, ContinueInTurn, all_changes_in, changes_in}
+use Rattle.rt_changes.specs.Telling.{AreChangesBetween, all_changes_in, changes_in}
 use Rattle.rt_changes.proofs.Telling.{taken_exact, taken_replay, taken_within}
 use Rattle.rt_holding.specs.declared.receiving.Received.{Received}
 use Rattle.rt_holding.specs.Receiving.{Receives, State as Holder}
@@ -86,7 +86,7 @@ module _ (bytes : List ℕ) (old : Holder TellingText) (received : Received) (ne
 
 -- operations that are new in turn continue the log in turn
 continue_in_turn : (limit : ℕ) (ops log : List Operation) → IsHistory log → ((op : Operation) → Has ops op → keeps_rules op.body ≡ true)
-    → AreTakenInTurn limit log ops → ContinueInTurn ops log
+    → AreTakenInTurn limit log ops → ContinueInTurn log ops
 continue_in_turn limit [] log h rules turn = tt
 continue_in_turn limit (op ∷ ops) log h rules turn =
     let k = (continues_new limit op log h (rules op (inl refl)) turn.0).0 in
@@ -110,7 +110,7 @@ together (t ∷ told) (op ∷ ops) log h =
 
 module _ (old new : Edited) (told : List ToldChange) (before : IsHistory (text_log old)) (after : IsHistory (text_log new))
     (t : HasToldMore old new [] (map changes_in told)) where
-  in_turn : ContinueInTurn t.ops (text_log old)
+  in_turn : ContinueInTurn (text_log old) t.ops
   in_turn =
       continue_in_turn (text_limit old) t.ops (text_log old) before
       (λ x i. rules_in (with_operations t.ops (text_log old)) (subst IsHistory t.log after) x (with_all t.ops (text_log old) x (inr i))) t.turn

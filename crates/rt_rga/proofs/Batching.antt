@@ -15,8 +15,8 @@ use Rattle.rt_store.proofs.Shown.{shown_later, stamps_shown}
 use Rattle.rt_tags.specs.States.{IsState, KeepsIds, TagStates, state_at}
 use Rattle.rt_rga.specs.Batches.{after_tags, all_put}
 use Rattle.rt_rga.specs.Cells.{cells_of}
-use Rattle.rt_rga.specs.Drafts.{with_operations}
-use Rattle.rt_rga.specs.Making.{AreNewest, CanAllBePut, ContinueInTurn, fresh_cells, kept_after}
+use Rattle.rt_rga.specs.Drafts.{ContinueInTurn, with_operations}
+use Rattle.rt_rga.specs.Making.{AreNewest, CanAllBePut, fresh_cells, kept_after}
 use Rattle.rt_rga.specs.Replicas.{IsReplica}
 use Rattle.rt_rga.specs.Runs.{put_back_in_any}
 use Rattle.rt_rga.specs.declared.tagging.StateRun.{StateRun}

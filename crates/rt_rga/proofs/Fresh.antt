@@ -24,8 +24,9 @@ use Rattle.rt_tags.proofs.Sorted.{every_append}
 use Rattle.rt_rga.specs.Batches.{CountsRise}
 use Rattle.rt_rga.specs.Cells.{cells_of}
 use Rattle.rt_rga.specs.Histories.{greatest_last_count}
-use Rattle.rt_rga.specs.Making.{AreNewest, ContinueInTurn, fresh_by, fresh_cells}
+use Rattle.rt_rga.specs.Making.{AreNewest, fresh_by, fresh_cells}
 use Rattle.rt_rga.specs.Replicas.{IsReplica}
+use Rattle.rt_rga.specs.Drafts.{ContinueInTurn}
 use Rattle.rt_rga.proofs.Continuing.{sound_of}
 use Rattle.rt_rga.proofs.Skipping.{split}
 use Rattle.rt_rga.proofs.Corollaries.{cells_older}

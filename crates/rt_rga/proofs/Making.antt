@@ -5,11 +5,11 @@ use Rattle.rt_ops.specs.Edits.{body_of}
 use Rattle.rt_ops.specs.Operations.{Operation, Body, Insert, Name, last_count, last_of, stamp_of}
 use Rattle.rt_ops.specs.Rules.{keeps_rules}
 use Rattle.rt_ops.specs.declared.op.Edit.{Edit}
-use Rattle.rt_rga.specs.Making.{AreNewest, ContinueInTurn, operations_from, refusal_from}
+use Rattle.rt_rga.specs.Making.{AreNewest, operations_from, refusal_from}
 use Rattle.rt_rga.specs.Made.{refusal_of, unless_refused}
 use Rattle.rt_rga.proofs.Skipping.{split}
 use Rattle.rt_rga.specs.Cells.{cells_of}
-use Rattle.rt_rga.specs.Drafts.{AreDraftsFor, next_operation, operations_of, with_drafts}
+use Rattle.rt_rga.specs.Drafts.{AreDraftsFor, ContinueInTurn, next_operation, operations_of, with_drafts}
 use Rattle.rt_rga.specs.Histories.{IsHistory, greatest_last_count, inserted}
 use Rattle.rt_oplog.specs.Logs.{known_end, with_operation}
 use Rattle.rt_stamps.specs.declared.limits.TheConstants.{GREATEST_COUNT}

@@ -22,11 +22,11 @@ use Rattle.std.proofs.lemmas.Bool.Decides.{nat_tests}
 use Rattle.std.specs.List.{AllByRecursion}
 use Rattle.rt_ops.specs.Operations.{last_count}
 use Rattle.rt_rga.specs.Batches.{all_put, AreRising, AreSound, put_by}
-use Rattle.rt_rga.specs.Drafts.{all_changed, with_operations}
+use Rattle.rt_rga.specs.Drafts.{ContinueInTurn, all_changed, with_operations}
 use Rattle.rt_rga.specs.Cells.{cells_of}
 use Rattle.rt_rga.specs.Changes.{changed_by, written_in_any}
 use Rattle.rt_rga.specs.Histories.{Continues, IsHistory, greatest_last_count}
-use Rattle.rt_rga.specs.Making.{AreNewest, CanAllBePut, CanBePut, ContinueInTurn, fresh_by, fresh_cells, kept_after, put_by_kept}
+use Rattle.rt_rga.specs.Making.{AreNewest, CanAllBePut, CanBePut, fresh_by, fresh_cells, kept_after, put_by_kept}
 use Rattle.rt_rga.specs.Requests.{characters_in}
 use Rattle.rt_rga.proofs.Final.{final_stays, placed_insert}
 use Rattle.rt_rga.proofs.Drafting.{count_after}

@@ -6,7 +6,7 @@ use Rattle.rt_stamps.specs.declared.stamp.Stamp.{Stamp}
 use Rattle.rt_ops.specs.Operations.{Operation, Body, Insert, last_of, named}
 use Rattle.rt_oplog.specs.Logs.{known_end, with_operation}
 use Rattle.rt_ops.specs.Rules.{keeps_rules}
-use Rattle.rt_rga.specs.Histories.{greatest_last_count, is_known}
+use Rattle.rt_rga.specs.Histories.{Continues, greatest_last_count, is_known}
 use Rattle.rt_store.specs.Shown.{TaggedCell}
 use Rattle.rt_rga.specs.Changes.{changed}
 
@@ -32,6 +32,11 @@ with_operations (op ∷ ops) set = with_operations ops (with_operation op set)
 
 abbrev pub with_drafts : ℕ → List Body → List Operation → List Operation
 with_drafts site drafts set = with_operations (operations_of site drafts set) set
+
+-- each operation continues a set with those before it
+abbrev pub ContinueInTurn : List Operation → List Operation → Type 0
+ContinueInTurn set [] = Unit {0}
+ContinueInTurn set (op ∷ ops) = Continues set op × ContinueInTurn (with_operation op set) ops
 
 -- what operations do to cells, one after the other
 abbrev pub all_changed : List Operation → List TaggedCell → List TaggedCell

@@ -13,15 +13,10 @@ use Rattle.rt_store.specs.Shown.{TaggedCell}
 use Rattle.rt_store.specs.Spans.{gone_in_any, is_in_spans}
 use Rattle.rt_tags.specs.Writers.{listed_by, state_after}
 use Rattle.rt_rga.specs.Drafts.{next_operation}
-use Rattle.rt_rga.specs.Histories.{Continues, greatest_last_count}
+use Rattle.rt_rga.specs.Histories.{greatest_last_count}
 use Rattle.rt_rga.specs.Requests.{characters_in, characters_in_all, last_count_after}
 
 -- Operations are listed here as they are made, the oldest first.
-
--- each continues a set with those before it
-abbrev pub ContinueInTurn : List Operation → List Operation → Type 0
-ContinueInTurn set [] = Unit {0}
-ContinueInTurn set (op ∷ ops) = Continues set op × ContinueInTurn (with_operation op set) ops
 
 -- each has greater counts than all before it
 abbrev pub AreNewest : List Operation → List Operation → Type 0

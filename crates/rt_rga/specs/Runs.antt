@@ -3,7 +3,6 @@ use Rattle.std.specs.Prelude.{◌≡◌, ℕ, List, [], ◌∷◌, if◌then◌e
 use Rattle.rt_stamps.specs.Stamps.{is_same}
 use Rattle.rt_store.specs.declared.cell.Cell.{Cell}
 use Rattle.rt_store.specs.Cells.{is_in_span, with_state}
-pub use Rattle.rt_rga.specs.Changes.{with_write}
 use Rattle.rt_tags.specs.States.{IsState, TagStates, Write, state_at, written}
 use Rattle.rt_rga.specs.declared.tagging.StateChange.{StateChange}
 use Rattle.rt_rga.specs.declared.tagging.StateRun.{StateRun}

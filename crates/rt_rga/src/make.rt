@@ -10,10 +10,10 @@ ghost use Rattle.rt_store.specs.Shown.{shown};
 ghost use Rattle.rt_store.specs.Tagged.{AreStates};
 ghost use Rattle.rt_tags.specs.States.{KeepsIds, TagStates};
 ghost use Rattle.rt_oplog.specs.Logs.{with_operation};
-ghost use Rattle.rt_rga.specs.Drafts.{with_operations};
+ghost use Rattle.rt_rga.specs.Drafts.{ContinueInTurn, with_operations};
 ghost use Rattle.rt_rga.specs.Few.{items_in};
 ghost use Rattle.rt_rga.specs.Histories.{Continues, greatest_last_count};
-ghost use Rattle.rt_rga.specs.Making.{AreNewest, CanAllBePut, CanBePut, ContinueInTurn, cuts_by, cuts_of, fresh_by, fresh_cells, kept_after, operations_from, put_by_kept, refusal_from};
+ghost use Rattle.rt_rga.specs.Making.{AreNewest, CanAllBePut, CanBePut, cuts_by, cuts_of, fresh_by, fresh_cells, kept_after, operations_from, put_by_kept, refusal_from};
 ghost use Rattle.rt_rga.specs.Requests.{characters_in, last_count_after};
 ghost use Rattle.rt_rga.specs.Replicas.{IsReplica};
 
@@ -87,7 +87,7 @@ fn check_limits(last: u64, left: usize, drafts: &[Draft]) -> Result<(), Fault>
     Ok(())
 }
 
-// The same, in a list of its own.
+// The operations of drafts, as `stamped` makes them, in a list of their own. Want of memory.
 #[tactic(auto, using(crate::proofs::Requests::not_less))]
 fn all_stamped(
     alloc: Global,
@@ -116,7 +116,7 @@ fn all_stamped(
     Ok(ops)
 }
 
-// The same of a list, that of one in no list.
+// The operations of a list of drafts, as `stamped` makes them, that of one in no list. Want of memory.
 #[tactic(auto, using(crate::proofs::Requests::not_less))]
 fn stamped_list(
     alloc: Global,

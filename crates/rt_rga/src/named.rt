@@ -59,7 +59,8 @@ fn push_runs<S: TextStore>(store: &S, span: Span, runs: &mut Vec<CellRun>) -> Re
     Ok(())
 }
 
-/// The cells that spans name, as runs in the order of the spans. Takes time and memory for the runs. Want of memory.
+/// The cells that spans name, as runs. Asks the store once for each run, and once for each stamp that no cell has; takes
+/// memory for the runs. Want of memory.
 pub(crate) fn named_runs<S: TextStore>(
     alloc: Global,
     store: &S,

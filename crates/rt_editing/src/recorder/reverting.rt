@@ -4,6 +4,7 @@ ghost use Rattle.std.specs.List.{AllByRecursion};
 ghost use Rattle.rt_stamps.specs.declared.stamp.Stamp.{Stamp};
 ghost use Rattle.rt_stamps.specs.Outcomes.{Refuses};
 ghost use Rattle.rt_store.specs.Cells.{final_cell};
+ghost use Rattle.rt_tags.specs.States.{KeepsIds};
 ghost use Rattle.rt_undo.specs.Actions.{group_of};
 ghost use Rattle.rt_revert.specs.Reverting.{reversion, reverted_group};
 ghost use Rattle.rt_revert.specs.ReversionLaws.{AreSound};
@@ -23,8 +24,7 @@ use rt_undo::Action;
 
 impl Recorder {
     // A group, by the stamps of now, is reverted in a view, and there is room for what comes back.
-    // Nothing is prepared then. `ClockSpent`, `TextFull`, or want of memory, and then the view, and what
-    // was recorded, are as they were.
+    // `ClockSpent`, `TextFull`, or want of memory, and then the view is as it was.
     fn revert<S: TextStore, C: TextStore>(
         &mut self,
         view: &mut View<S>,
@@ -58,12 +58,12 @@ impl Recorder {
         ensures history { self.new.history ≡ self.old.history }
         ensures came_back { (stamp : Stamp) → came_back self.new stamp ≡ came_back self.old stamp }
         ensures settings { (self.new.undo ≡ self.old.undo) × (self.new.auto ≡ self.old.auto) }
-        ensures pending { self.new.pending ≡ None }
+        ensures pending { self.new.pending ≡ self.old.pending }
+        ensures ids { KeepsIds self.old.table self.new.table }
         ensures err { IfErr result (λ fault. (fault ≡ Fault.NoMemory)
             ⊎ (reversion_check view.old.doc (named_group self.old.table (group_of group.now)) ≡ Some fault)) }
         ensures unchanged { OnErr result (view.new ≡ view.old) }
     {
-        self.next = None;
         let _ = view.doc().log();
         let _ = view.doc().site();
         let most = most_returns(group)?;
@@ -75,9 +75,9 @@ impl Recorder {
     /// stack are reverted in the site's view, the last one first. Of the characters that they put in
     /// those go that are still visible, and those that they took away come back, each directly after
     /// where it was, with the tags that it had; marks move for that. The group leaves its stack, and its
-    /// reverted actions are the next group to redo. `NothingToUndo`, `ClockSpent`, `TextFull`, or want of
-    /// memory, and then the text, and what was recorded, are as they were. `copy` is an empty store, in
-    /// which this is tried first.
+    /// reverted actions are the next group to redo; nothing is prepared then. `NothingToUndo`, `ClockSpent`,
+    /// `TextFull`, or want of memory, and then the text, what was recorded and what is prepared are as they
+    /// were. `copy` is an empty store, in which this is tried first.
     pub fn undo<S: TextStore, C: TextStore>(
         &mut self,
         view: &mut View<S>,
@@ -88,6 +88,10 @@ impl Recorder {
         ensures ok { OnOk result (undone view.old self.old.history ≡ Ok (view.new, self.new.history)) }
         ensures err { IfErr result (Refuses (undone view.old self.old.history)) }
         ensures unchanged { OnErr result ((view.new ≡ view.old) × (self.new.history ≡ self.old.history)) }
+        ensures prepared { OnErr result (self.new.pending ≡ self.old.pending) }
+        ensures stayed { OnErr result ((stamp : Stamp) → came_back self.new stamp ≡ came_back self.old stamp) }
+        ensures used { OnOk result (self.new.pending ≡ None) }
+        ensures ids { KeepsIds self.old.table self.new.table }
         ensures settings { (self.new.undo ≡ self.old.undo) × (self.new.auto ≡ self.old.auto) }
         ensures settled { IsSettled view.new self.new }
     {
@@ -99,9 +103,9 @@ impl Recorder {
 
     /// `edit redo` (Tk text manual, "The undo mechanism"): the group that was undone last is reverted
     /// in turn, in the same way. It leaves the redo stack, and its reverted actions are the next group to
-    /// undo, which is closed. `NothingToRedo`, `ClockSpent`, `TextFull`, or want of memory, and then the
-    /// text, and what was recorded, are as they were. `copy` is an empty store, in which this is tried
-    /// first.
+    /// undo, which is closed; nothing is prepared then. `NothingToRedo`, `ClockSpent`, `TextFull`, or want of
+    /// memory, and then the text, what was recorded and what is prepared are as they were. `copy` is an
+    /// empty store, in which this is tried first.
     pub fn redo<S: TextStore, C: TextStore>(
         &mut self,
         view: &mut View<S>,
@@ -112,6 +116,10 @@ impl Recorder {
         ensures ok { OnOk result (redone view.old self.old.history ≡ Ok (view.new, self.new.history)) }
         ensures err { IfErr result (Refuses (redone view.old self.old.history)) }
         ensures unchanged { OnErr result ((view.new ≡ view.old) × (self.new.history ≡ self.old.history)) }
+        ensures prepared { OnErr result (self.new.pending ≡ self.old.pending) }
+        ensures stayed { OnErr result ((stamp : Stamp) → came_back self.new stamp ≡ came_back self.old stamp) }
+        ensures used { OnOk result (self.new.pending ≡ None) }
+        ensures ids { KeepsIds self.old.table self.new.table }
         ensures settings { (self.new.undo ≡ self.old.undo) × (self.new.auto ≡ self.old.auto) }
         ensures settled { IsSettled view.new self.new }
     {

@@ -2,8 +2,8 @@ use Rattle.std.proofs.Common.{◌≡◌, ◌∙◌, ◌∷◌, List, ap, arith, 
 use Rattle.std.specs.Vec.Iter.{into_iter_items}
 use Rattle.rt_ops.specs.Operations.{Operation}
 use Rattle.rt_oplog.specs.Logs.{with_operation}
-use Rattle.rt_rga.specs.Drafts.{with_operations}
-use Rattle.rt_rga.specs.Making.{AreNewest, ContinueInTurn}
+use Rattle.rt_rga.specs.Drafts.{ContinueInTurn, with_operations}
+use Rattle.rt_rga.specs.Making.{AreNewest}
 use Rattle.rt_rga.proofs.make.push_all.Goals as goal
 
 pub push_newest-requires-clause-continues : goal.push_newest-requires-clause-continues

@@ -1,8 +1,8 @@
 use Rattle.std.proofs.Common.{◌≡◌, ◌≤◌, length}
 use Rattle.std.specs.Vec.Iter.{into_iter_items}
-use Rattle.rt_rga.specs.Drafts.{with_operations}
+use Rattle.rt_rga.specs.Drafts.{ContinueInTurn, with_operations}
 use Rattle.rt_rga.specs.Histories.{greatest_last_count}
-use Rattle.rt_rga.specs.Making.{AreNewest, ContinueInTurn}
+use Rattle.rt_rga.specs.Making.{AreNewest}
 use Rattle.rt_rga.proofs.make.push_all.Given as goal
 
 abbrev pub invariant-loop-op : goal.invariant-loop-op

@@ -11,7 +11,8 @@ use Rattle.rt_rga.specs.Cells.{cells_of}
 use Rattle.rt_rga.specs.Few.{items_in}
 use Rattle.rt_rga.specs.Histories.{greatest_last_count}
 use Rattle.rt_rga.specs.Kept.{ReplicaValue}
-use Rattle.rt_rga.specs.Making.{AreNewest, ContinueInTurn, fresh_cells}
+use Rattle.rt_rga.specs.Making.{AreNewest, fresh_cells}
+use Rattle.rt_rga.specs.Drafts.{ContinueInTurn}
 use Rattle.rt_rga.proofs.Making.{made_of, ready, refusal_is, rules_of}
 use Rattle.rt_stamps.specs.declared.fault.Fault.{Fault}
 use Rattle.rt_stamps.specs.declared.fault.Fault.TheVariants.{NoMemory}
