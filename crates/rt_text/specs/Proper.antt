@@ -29,7 +29,8 @@ place_in o = option_map (λ (m : Mark). m.place) o
 abbrev mark_by : Bool → Bool → Own → Option Mark → Option Mark
 mark_by insert current own site = own_or (cond insert (Some Insert) (cond current (Some Current) None)) own site
 
-place_within : (n : ℕ) (a b : Bool) (own : Own) (site : Option Mark) → own.insert.place ≤ n → own.current.place ≤ n → ((place : ℕ) → place_in site ≡ Some place → place ≤ n)
+place_within : (n : ℕ) (a b : Bool) (own : Own) (site : Option Mark) → own.insert.place ≤ n → own.current.place ≤ n
+    → ((place : ℕ) → place_in site ≡ Some place → place ≤ n)
     → (place : ℕ) → place_in (mark_by a b own site) ≡ Some place → place ≤ n
 place_within n true b own site h k s place e = let q : own.insert.place ≡ place = cc in omega arith
 place_within n false true own site h k s place e = let q : own.current.place ≡ place = cc in omega arith
@@ -39,7 +40,8 @@ some_mark : (o : Option Mark) → IsSome (place_in o) → IsSome o
 some_mark None h = h
 some_mark (Some m) h = h
 
-mark_named : (name : List ℕ) (a b : Bool) (own : Own) (site : Option Mark) → bytes_eq name (codes "insert") ≡ a → bytes_eq name (codes "current") ≡ b → (IsSome site → IsName name)
+mark_named : (name : List ℕ) (a b : Bool) (own : Own) (site : Option Mark) → bytes_eq name (codes "insert") ≡ a
+    → bytes_eq name (codes "current") ≡ b → (IsSome site → IsName name)
     → IsSome (place_in (mark_by a b own site)) → IsName name
 mark_named name true b own site e f s h = named_as name (codes "insert") (omega arith, omega arith) e
 mark_named name false true own site e f s h = named_as name (codes "current") (omega arith, omega arith) f
@@ -57,7 +59,9 @@ first_few test (x ∷ xs) = by (not (test x)) (position_or_len test xs) (length 
     by false n m h = omega arith
 
 next_within : {A : Type 0} (test : A → Bool) (xs : List A) (place : ℕ) → next_place test xs 0 ≡ Some place → place ≤ length xs
-next_within test xs place e = omega (arith, by (nat_lt (position_or_len test (drop 0 xs)) (length (drop 0 xs))) (position_or_len test (drop 0 xs)) e, first_few test (drop 0 xs), length-drop 0 xs)
+next_within test xs place e =
+    omega (arith, by (nat_lt (position_or_len test (drop 0 xs)) (length (drop 0 xs))) (position_or_len test (drop 0 xs)) e,
+    first_few test (drop 0 xs), length-drop 0 xs)
   where
     by : (b : Bool) (n : ℕ) → option_map (λ k. 0 + k) (cond b (Some n) None) ≡ Some place → place ≡ n
     by true n h = let q : 0 + n ≡ place = cc in omega arith
@@ -111,15 +115,18 @@ seen_within stretch place h = omega arith
 cursor_within : (stretch : Stretch) (place : ℕ) → seen_cursor stretch place ≤ stretch.end - stretch.begin
 cursor_within stretch place = omega arith
 
-one_seen : (n : ℕ) (b : Bool) (m : Mark) (o : Option Mark) → m.place ≤ n → ((place : ℕ) → place_in o ≡ Some place → place ≤ n) → (place : ℕ) → place_in (cond b (Some m) o) ≡ Some place → place ≤ n
+one_seen : (n : ℕ) (b : Bool) (m : Mark) (o : Option Mark) → m.place ≤ n → ((place : ℕ) → place_in o ≡ Some place → place ≤ n)
+    → (place : ℕ) → place_in (cond b (Some m) o) ≡ Some place → place ≤ n
 one_seen n true m o h k place e = let q : m.place ≡ place = cc in omega arith
 one_seen n false m o h k place e = k place e
 
 -- each is seen in the stretch
-all_seen : (stretch : Stretch) (name : List ℕ) (marks : List Mark) → stretch.begin ≤ stretch.end → (place : ℕ) → place_in (named name (map (mark_seen stretch) marks)) ≡ Some place → place ≤ stretch.end - stretch.begin
+all_seen : (stretch : Stretch) (name : List ℕ) (marks : List Mark) → stretch.begin ≤ stretch.end → (place : ℕ)
+    → place_in (named name (map (mark_seen stretch) marks)) ≡ Some place → place ≤ stretch.end - stretch.begin
 all_seen stretch name [] h place e = let bad : ⊥ = cc in absurd bad
 all_seen stretch name (m ∷ marks) h place e =
-    one_seen (stretch.end - stretch.begin) (is_named name m) (mark_seen stretch m) (named name (map (mark_seen stretch) marks)) (seen_within stretch m.place h) (all_seen stretch name marks h) place e
+    one_seen (stretch.end - stretch.begin) (is_named name m) (mark_seen stretch m) (named name (map (mark_seen stretch) marks))
+        (seen_within stretch m.place h) (all_seen stretch name marks h) place e
 
 one_there : (b : Bool) (m n : Mark) (o p : Option Mark) → (IsSome o → IsSome p) → IsSome (cond b (Some m) o) → IsSome (cond b (Some n) p)
 one_there true m n o p h k = k
@@ -154,14 +161,18 @@ lines_end t stretch lines =
 
 -- whole lines, marks seen in them, and listed tags
 pub proper_over : (stretch : Stretch) (cells : List TaggedCell) (marks : List Mark) (tags : List Word) (own : Own) → AreLines (text_of cells) stretch
-    → length (text_of cells) ≤ MOST_CELLS → ((name : List ℕ) → IsSome (named name marks) → IsName name) → AreListed tags cells → IsProper (widget_over stretch cells marks tags own)
+    → length (text_of cells) ≤ MOST_CELLS → ((name : List ℕ) → IsSome (named name marks) → IsName name) → AreListed tags cells
+    → IsProper (widget_over stretch cells marks tags own)
 proper_over stretch cells marks tags own lines few names listed =
     let size = stretch.end - stretch.begin in
     let n = length (part stretch (text_of cells)) in
     let chars : List TaggedCell = part stretch (visible_of cells) in
     let whole : length (text_of cells) ≡ length (visible_of cells) = length-map (visible_of cells) (λ (cell : TaggedCell). cell.ch) in
-    let long : n ≡ size = omega (arith, lines.some, lines.within, length-take size (drop stretch.begin (text_of cells)), length-drop stretch.begin (text_of cells)) in
-    let same : length chars ≡ size = omega (arith, whole, lines.some, lines.within, length-take size (drop stretch.begin (visible_of cells)), length-drop stretch.begin (visible_of cells)) in
+    let long : n ≡ size =
+        omega (arith, lines.some, lines.within, length-take size (drop stretch.begin (text_of cells)), length-drop stretch.begin (text_of cells)) in
+    let same : length chars ≡ size =
+        omega (arith, whole, lines.some, lines.within, length-take size (drop stretch.begin (visible_of cells)),
+        length-drop stretch.begin (visible_of cells)) in
     let seen : Own = own_seen stretch own in
     let found : List ℕ → Option Mark = λ name. named name (map (mark_seen stretch) marks) in
     let order : stretch.begin ≤ stretch.end = omega (arith, lines.some) in
@@ -178,7 +189,9 @@ proper_over stretch cells marks tags own lines few names listed =
           (λ p q. omega (arith, long, same, next_within (is_tagged own name) chars p q)) place e;
       last_within = λ name place e. last_by n (is_listed name tags) (next_place (is_tagged own name) chars 0) (last_place (is_tagged own name) chars)
           (λ p q. omega (arith, long, same, last_within (is_tagged own name) chars p q)) place e;
-      mark_names = λ name h. mark_named name (bytes_eq name (codes "insert")) (bytes_eq name (codes "current")) seen (found name) refl refl (λ s. names name (names_seen stretch name marks s)) h;
+      mark_names =
+          λ name h. mark_named name (bytes_eq name (codes "insert")) (bytes_eq name (codes "current")) seen (found name) refl refl
+          (λ s. names name (names_seen stretch name marks s)) h;
       tag_names = λ name h. listed_name name tags listed.names (is_tag (is_listed name tags) (ends_of (is_tagged own name) chars) h);
       insert = refl;
       current = refl;
