@@ -12,8 +12,9 @@ use rt_store::TextStore;
 use rt_text::View;
 
 /// `edit undo` (Tk text manual): reverts the last group of the undo stack, and moves it to the redo stack;
-/// nothing where edits aren't recorded. The group is reverted in a copy of the text first, for which an empty
-/// store is given. `NothingToUndo`, `ClockSpent`, `TextFull`, or want of memory, and then all is as it was.
+/// nothing where edits aren't recorded. The group is reverted in a copy of the cells that it names first, for which
+/// an empty store is given. `NothingToUndo`, `ClockSpent`, `TextFull`, or want of memory, as also where this store
+/// would have more than the most cells, and then all is as it was.
 pub fn undo<S: TextStore, C: TextStore>(
     view: &mut View<S>,
     recorder: &mut Recorder,
@@ -34,7 +35,7 @@ pub fn undo<S: TextStore, C: TextStore>(
 
 /// `edit redo` (Tk text manual): reverts the group that was undone last, and moves it back to the undo
 /// stack, closed; nothing where edits aren't recorded. `NothingToRedo`, `ClockSpent`, `TextFull`, or want
-/// of memory, and then all is as it was.
+/// of memory, as also where the copy would have more than the most cells, and then all is as it was.
 pub fn redo<S: TextStore, C: TextStore>(
     view: &mut View<S>,
     recorder: &mut Recorder,

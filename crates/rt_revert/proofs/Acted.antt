@@ -94,7 +94,7 @@ module _ (table : TagStates) (number : ℕ) (old : List (Cell ℕ)) (before : Pr
           offsets = k.within.offsets;
           distinct = k.within.distinct;
           older = k.within.older;
-          length = k.within.length;
+          few = k.within.few;
         };
         site = k.site;
         count = k.count;

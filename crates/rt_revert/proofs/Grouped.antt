@@ -88,7 +88,7 @@ group_given table f (a ∷ group) h = (given_stamped table f a.removed h.0, grou
 -- THE BEGINNING
 
 -- nothing was reverted yet
-pub record IsNew (count all : ℕ) (known : Shown ℕ) (plan : Progress) : Type 0 where
+pub record IsNew (count : ℕ) (known : Shown ℕ) (plan : Progress) : Type 0 where
   pub drafts : items_in plan.texts.drafts ≡ []
   pub greatest : plan.texts.count ≡ count
   pub now : (stamp : Stamp) → now_of plan.renames stamp ≡ stamp
@@ -98,7 +98,6 @@ pub record IsNew (count all : ℕ) (known : Shown ℕ) (plan : Progress) : Type 
   pub returns : plan.returns.items ≡ []
   pub actions : plan.actions.items ≡ []
   pub offsets : plan.offsets ≡ known
-  pub cells : plan.cells ≡ all
 
 -- what the working copy of a group has: the cells that the group names, and all newer ones
 abbrev pub has_of : ℕ → List (Action ℕ) → Stamp → Bool
@@ -128,7 +127,7 @@ only_named count group (c ∷ cs) h =
 
 -- how a group begins: the working copy looks like the cells that the group names, and their offsets are known
 pub record IsBegun (kept states : TagStates) (copy store : List (Cell ℕ)) (count : ℕ) (offsets : Shown ℕ) (group : List (Action ℕ)) (plan : Progress) : Type 0 where
-  pub new : IsNew count (length store) offsets plan
+  pub new : IsNew count offsets plan
   pub alike : LookAlike (map (shown kept) copy) (map (shown states) (only (is_named group) store))
   pub given : AreStates kept copy
   pub distinct : AreDistinct store
@@ -201,7 +200,6 @@ module _ (kept states : TagStates) (copy store : List (Cell ℕ)) (number count 
         names = ap (λ l. list_all is_name (as_words l)) n.names;
         given = subst (λ l. AreGiven kept (group_of l)) (sym n.actions) tt;
         offsets = subst AreSmall (sym n.offsets) b.small;
-        few = omega (arith, n.cells, b.few);
       }
 
   pub begun_so_far : IsBegun kept states copy store count offsets group plan → (flat : Flat) → IsOf states store number count flat
@@ -227,7 +225,7 @@ module _ (kept states : TagStates) (copy store : List (Cell ℕ)) (number count 
               omega (arith, ap (λ m. offset_of m s) n.offsets, b.at s there, whole, part, place_law has flat.cells s h a);
           distinct = subst (IsDistinct is_same) (sym stamps) b.distinct;
           older = subst (λ (m : ℕ). AreUpTo m flat.cells) (sym n.greatest) (up_to_stamps count flat.cells store stamps b.older);
-          length = ap length of.cells ∙ length_shown (state_at states) store ∙ sym n.cells;
+          few = omega (arith, ap length of.cells ∙ length_shown (state_at states) store, b.few);
         };
         site = of.site;
         count = of.count ∙ sym n.greatest;

@@ -79,8 +79,6 @@ pub record Came (site : ℕ) (table : TagStates) (old new : List (Cell ℕ)) (be
   pub names : as_words after.names.items ≡ as_words before.names.items ++ words
   pub actions : after.actions ≡ before.actions
   pub offsets : (s : Stamp) → offset_of after.offsets s ≡ cond (is_same s (new_of site before cell).stamp) (offset_behind before.offsets cell.stamp) (offset_of before.offsets s)
-  pub cells : after.cells ≡ before.cells + 1
-  pub most_cells : after.cells ≤ MOST_CELLS
 
 -- what is known of the character
 pub record IsThere (table : TagStates) (old : List (Cell ℕ)) (cell : Cell ℕ) : Type 0 where
@@ -135,7 +133,6 @@ module _ (site : ℕ) (table : TagStates) (old new : List (Cell ℕ)) (before af
             ∙ and_from _ _ g.names (ap (list_all is_name) h.is ∙ t.names.each);
         given = subst (λ v. AreGiven table (group_of v.items)) (sym h.actions) g.given;
         offsets = λ s. subst (λ n. n ≤ MOST_CELLS) (sym (h.offsets s)) (small (is_same s this.stamp) (is_same cell.stamp ROOT) (offset_of before.offsets cell.stamp) (offset_of before.offsets s) (g.offsets cell.stamp) (g.offsets s));
-        few = h.most_cells;
       }
 
   -- the new cell of the document
@@ -149,9 +146,9 @@ module _ (site : ℕ) (table : TagStates) (old new : List (Cell ℕ)) (before af
       let state : names_on (state_at table cell.state) ≡ names_on (new_state r.doc.site (r.doc.count + 1) tags) = sym e ∙ sym (new_names r.doc.site (r.doc.count + 1) tags rise) in
       record { names = λ i. record { stamp = record { count = sym n i + 1; site = sym s i }; ch = cell.ch; gone = false; state = state i } ∷ [] }
 
-  pub came_so_far : Came site table old new before after cell place words → IsThere table old cell → before.cells ≤ MOST_CELLS → (part : Portion) (r : Reversion) → part.has cell.stamp ≡ true
+  pub came_so_far : Came site table old new before after cell place words → IsThere table old cell → (part : Portion) (r : Reversion) → part.has cell.stamp ≡ true
       → IsSoFar table site old before part r → IsSoFar table site new after part (with_character cell.stamp (names_on (state_at table cell.state)) cell.ch r)
-  came_so_far h t few part r had s =
+  came_so_far h t part r had s =
       let tags = names_on (state_at table cell.state) in
       let all : List TaggedCell = map (shown table) old in
       let whole = r.doc.cells in
@@ -172,7 +169,7 @@ module _ (site : ℕ) (table : TagStates) (old new : List (Cell ℕ)) (before af
       let spot : visible_before whole (after_element whole cell.stamp) ≡ place + offset_behind before.offsets cell.stamp =
       spot_law part.has whole cell.stamp had there ∙ (λ i. ours_at i + offset i) in
       let change : IsChange (Inserted (place + offset_behind before.offsets cell.stamp)) =
-      omega (arith, spot, fewer (take (after_element whole cell.stamp) whole), length-take (after_element whole cell.stamp) whole, s.within.length, few) in
+      omega (arith, spot, fewer (take (after_element whole cell.stamp) whole), length-take (after_element whole cell.stamp) whole, s.within.few, h.count, h.most) in
       let up : before.texts.count + 1 ≤ after.texts.count = omega (arith, h.count) in
       record {
         cells = subst (λ (l : List TaggedCell). LookAlike (map (shown table) new) l) (sym (only_put part.has whole cell.stamp more had there (only_has part.has next [] has)))
@@ -194,7 +191,7 @@ module _ (site : ℕ) (table : TagStates) (old new : List (Cell ℕ)) (before af
           distinct = put_distinct whole cell.stamp next s.within.distinct fresh;
           older = put_up_to after.texts.count whole cell.stamp more (later_cells before.texts.count after.texts.count whole (omega arith) s.within.older)
               (new_up_to after.texts.count next (omega (arith, s.count, up)));
-          length = ap length (append_assoc (take (after_element whole cell.stamp) whole) more (drop (after_element whole cell.stamp) whole)) ∙ length_put (after_element whole cell.stamp) more whole ∙ omega (arith, s.within.length, h.cells);
+          few = omega (arith, ap length (append_assoc (take (after_element whole cell.stamp) whole) more (drop (after_element whole cell.stamp) whole)) ∙ length_put (after_element whole cell.stamp) more whole, s.within.few, up);
         };
         site = s.site;
         count = (λ i. s.count i + counts_for (sym h.is i) (cell.ch ∷ [])) ∙ sym h.count;

@@ -10,7 +10,7 @@ use Rattle.std.specs.declared.vec.Vec.{Vec}
 use Rattle.std.specs.List.{AllByRecursion, IsDistinct, list_all}
 use Rattle.std.specs.Prelude.{option_map, slice_get, unwrap_or}
 use Rattle.rt_ops.specs.Rules.{is_name}
-use Rattle.rt_stamps.specs.declared.limits.TheConstants.{GREATEST_COUNT, MOST_CELLS, MOST_SPANS}
+use Rattle.rt_stamps.specs.declared.limits.TheConstants.{GREATEST_COUNT, MOST_SPANS}
 use Rattle.rt_stamps.specs.declared.stamp.Span.{Span}
 use Rattle.rt_stamps.specs.declared.stamp.Stamp.{Stamp}
 use Rattle.rt_stamps.specs.declared.stamp.TheConstants.{FINAL}
@@ -47,7 +47,7 @@ use Rattle.rt_revert.specs.declared.losses.Losses.{Losses}
 use Rattle.rt_revert.specs.declared.plan.TextChange.{TextChange}
 use Rattle.rt_revert.specs.declared.plan.TextChange.TheVariants.{Removed as Gone}
 use Rattle.rt_revert.specs.declared.progress.Progress.{Progress}
-use Rattle.rt_revert.specs.Plans.{AreGiven, AreUpTo, IsChange, IsUpTo, marks_after, marks_changed, named_group, named_removed}
+use Rattle.rt_revert.specs.Plans.{AreGiven, AreUpTo, IsChange, IsUpTo, marks_after, marks_changed, most_places, named_group, named_removed}
 use Rattle.rt_revert.specs.Portions.{AreSmall, Has, Portion, offset_of, only, place_in, whole_ranges}
 use Rattle.rt_revert.specs.Progress.{IsCopy, IsGoing, IsOther, IsSoFar, LookAlike, spans_of}
 use Rattle.rt_revert.specs.Reverting.{Reversion, are_at, as_removed, stamp_after, still_visible, with_gone}
@@ -156,7 +156,6 @@ pub record Took (table : TagStates) (stamps : List Stamp) (old new : List (Cell 
   pub returns : after.returns ≡ before.returns
   pub actions : after.actions ≡ before.actions
   pub offsets : after.offsets ≡ before.offsets
-  pub cells : after.cells ≡ before.cells
 
 module _ (table : TagStates) (stamps : List Stamp) (old new : List (Cell ℕ)) (before after : Progress) (losses : Losses) (whole : Vec Range Global) where
   abbrev places : ℕ → Bool
@@ -204,7 +203,6 @@ module _ (table : TagStates) (stamps : List Stamp) (old new : List (Cell ℕ)) (
     names = subst (λ v. list_all is_name (as_words v.items) ≡ true) (sym h.names) k.names;
     given = subst (λ v. AreGiven table (group_of v.items)) (sym h.actions) k.given;
     offsets = subst AreSmall (sym h.offsets) k.offsets;
-    few = omega (arith, h.cells, k.few);
   }
 
   -- the characters that go are those that go from the whole text
@@ -257,9 +255,9 @@ module _ (table : TagStates) (stamps : List Stamp) (old new : List (Cell ℕ)) (
       by (inl x) = omega (arith, x.1, fewer cells)
       by (inr x) = absurd (let n : are_at stamps cells place ≡ false = ap (λ o. unwrap_or (option_map (λ (cell : TaggedCell). is_among stamps cell.stamp) o) false) x.1 in cc (n, e))
 
-  pub took_so_far : Took table stamps old new before after losses whole → IsDistinct is_same (stamps_of old) → before.cells ≤ MOST_CELLS → (number : ℕ) (part : Portion) (r : Reversion)
+  pub took_so_far : Took table stamps old new before after losses whole → IsDistinct is_same (stamps_of old) → (number : ℕ) (part : Portion) (r : Reversion)
       → Has part stamps → IsSoFar table number old before part r → IsSoFar table number new after part (with_gone stamps r)
-  took_so_far h d few number part r has s =
+  took_so_far h d number part r has s =
       let had = had_all part stamps has in
       let cells = r.doc.cells in
       let ours = only part.has cells in
@@ -271,7 +269,7 @@ module _ (table : TagStates) (stamps : List Stamp) (old new : List (Cell ℕ)) (
       λ place. h.covered place ∙ ap (λ l. is_covered l place) ranges ∙ singles_covered stamps cells place in
       let ordered : AreInOrder 0 whole.items = h.order (subst (AreInOrder 0) (sym ranges) (singles_order theirs 0 0 cells (omega arith))) in
       let change : IsChange (Gone whole) =
-      (ordered, ends_within whole.items 0 MOST_CELLS ordered (λ place e. omega (arith, at_within cells place (sym (covers place) ∙ e), s.within.length, few))) in
+      (ordered, ends_within whole.items 0 most_places ordered (λ place e. omega (arith, at_within cells place (sym (covers place) ∙ e), s.within.few, h.count, h.most))) in
       let copied : map (shown table) new ≡ gone_at (are_at stamps ours) 0 all =
       ap (map (shown table)) (went h d) ∙ sym (gone_at_shown (state_at table) places 0 old) ∙ ap (λ (p : ℕ → Bool). gone_at p 0 all) same in
       let stays : stamps_of left ≡ stamps_of cells = gone_stamps stamps cells in
@@ -284,7 +282,7 @@ module _ (table : TagStates) (stamps : List Stamp) (old new : List (Cell ℕ)) (
           offsets = λ t k a. ap (λ m. offset_of m t) h.offsets ∙ s.within.offsets t k (ap (λ l. is_among l t) (sym stays) ∙ a) ∙ sym (others_gone part.has stamps cells t had);
           distinct = subst (IsDistinct is_same) (sym stays) s.within.distinct;
           older = up_to_stamps after.texts.count left cells stays (later_cells before.texts.count after.texts.count cells (omega (arith, h.count)) s.within.older);
-          length = sym (length-map left (λ (c : TaggedCell). c.stamp)) ∙ ap length stays ∙ length-map cells (λ (c : TaggedCell). c.stamp) ∙ s.within.length ∙ sym h.cells;
+          few = omega (arith, sym (length-map left (λ (c : TaggedCell). c.stamp)) ∙ ap length stays ∙ length-map cells (λ (c : TaggedCell). c.stamp), s.within.few, h.count);
         };
         site = s.site;
         count = lost_count number part r h.drafts d has s ∙ sym h.count;

@@ -1,7 +1,7 @@
 -- What the plans of reverted groups stand for.
-use Rattle.std.specs.Prelude.{◌≡◌, ℕ, ◌≤◌, List, [], ◌∷◌, false, map, All}
+use Rattle.std.specs.Prelude.{◌≡◌, ℕ, ◌+◌, ◌≤◌, List, [], ◌∷◌, false, map, All}
 use Rattle.std.specs.List.{AllByRecursion}
-use Rattle.rt_stamps.specs.declared.limits.TheConstants.{MOST_CELLS}
+use Rattle.rt_stamps.specs.declared.limits.TheConstants.{GREATEST_COUNT, MOST_CELLS}
 use Rattle.rt_stamps.specs.declared.stamp.Stamp.{Stamp}
 use Rattle.rt_stamps.specs.declared.stamp.TheConstants.{FINAL}
 use Rattle.rt_stamps.specs.Stamps.{is_same}
@@ -67,7 +67,11 @@ abbrev pub marks_after : List TextChange → List Mark → List Mark
 marks_after [] marks = marks
 marks_after (change ∷ changes) marks = marks_after changes (marks_changed change marks)
 
--- a change of a text: removed ranges stand in order, and no place is past the most characters that a text may have
+-- a text has at most so many places while a group is reverted, before its limit is asked: each character that comes back takes a count
+abbrev pub most_places : ℕ
+most_places = MOST_CELLS + GREATEST_COUNT
+
+-- a change of a text: removed ranges stand in order, and no place is past these
 abbrev pub IsChange : TextChange → Type 0
-IsChange (Gone ranges) = AreInOrder 0 ranges.items × All (λ range. range.to ≤ MOST_CELLS) ranges.items
-IsChange (Inserted place) = place ≤ MOST_CELLS
+IsChange (Gone ranges) = AreInOrder 0 ranges.items × All (λ range. range.to ≤ most_places) ranges.items
+IsChange (Inserted place) = place ≤ most_places

@@ -1,5 +1,5 @@
 -- What reverting actions has come to, in the working copy of a text and beside it.
-use Rattle.std.specs.Prelude.{◌≡◌, ℕ, ◌<◌, ◌≤◌, List, true, false, length, map}
+use Rattle.std.specs.Prelude.{◌≡◌, ℕ, ◌+◌, ◌<◌, ◌≤◌, List, true, false, length, map}
 use Rattle.std.specs.List.{AllByRecursion, list_all}
 use Rattle.rt_stamps.specs.declared.limits.TheConstants.{GREATEST_COUNT, MOST_CELLS}
 use Rattle.rt_stamps.specs.declared.stamp.Span.{Span}
@@ -55,7 +55,6 @@ pub record TellsTheSame (old new : Progress) : Type 0 where
   pub names : new.names.items ≡ old.names.items
   pub returns : new.returns.items ≡ old.returns.items
   pub actions : new.actions.items ≡ old.actions.items
-  pub cells : new.cells ≡ old.cells
 
 -- what is known beside it: moved are only stamps up to the greatest count, to those that the characters have now
 pub record IsGoing (table : TagStates) (plan : Progress) : Type 0 where
@@ -66,7 +65,6 @@ pub record IsGoing (table : TagStates) (plan : Progress) : Type 0 where
   pub names : list_all is_name (as_words plan.names.items) ≡ true
   pub given : AreGiven table (group_of plan.actions.items)
   pub offsets : AreSmall plan.offsets
-  pub few : plan.cells ≤ MOST_CELLS
 
 -- The working copy has some of the document's cells, and all that are newer; the plan knows how many others stand before each.
 pub record IsWithin (plan : Progress) (part : Portion) (r : Reversion) : Type 0 where
@@ -75,7 +73,7 @@ pub record IsWithin (plan : Progress) (part : Portion) (r : Reversion) : Type 0 
   pub offsets : AreOffsets plan.offsets part.has r.doc.cells
   pub distinct : AreDistinct r.doc.cells
   pub older : AreUpTo plan.texts.count r.doc.cells
-  pub length : length r.doc.cells ≡ plan.cells
+  pub few : length r.doc.cells ≤ MOST_CELLS + plan.texts.count
 
 -- both are what a reversion in a document of a site has come to
 pub record IsSoFar (table : TagStates) (number : ℕ) (copy : List (Cell ℕ)) (plan : Progress) (part : Portion) (r : Reversion) : Type 0 where

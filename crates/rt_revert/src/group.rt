@@ -30,10 +30,11 @@ use std::alloc::Global;
 /// Plans that a group is reverted, the last action first, and changes nothing of the document. The group
 /// is by the stamps of now, and the author has the document's site and greatest count. The tags of
 /// removed characters are states of `kept`, a table of the undo stacks' own: it gets the states that the
-/// plan needs, also where that is refused. `ClockSpent`, or want of memory, as also where the text would
-/// grow past the most cells. The actions are reverted in a working copy of the cells that they name:
-/// `copy` is the empty store for it. The cost goes by the characters that the group names, in the calls
-/// of both stores, and by a sort; not by the cells of the text.
+/// plan needs, also where that is refused. The text may come to more cells than it may have: that is left to
+/// the call that commits the operations. The actions are reverted in a working copy of the cells that they
+/// name, which has those that come back too: `copy` is the empty store for it. `ClockSpent`, or want of
+/// memory, as also where this copy would have more than the most cells. The cost goes by the characters that
+/// the group names, in the calls of both stores, and by a sort; not by the cells of the text.
 pub fn planned_reversion<S: TextStore, C: TextStore>(
     alloc: Global,
     store: &S,
@@ -69,7 +70,7 @@ pub fn planned_reversion<S: TextStore, C: TextStore>(
     let cells = kept_cells(alloc, store, states, &positions, kept)?;
     fill(kept, &mut work, cells)?;
     let offsets = offsets_of(alloc, store, &work)?;
-    let mut plan = Progress::new(alloc, count, store.cells(), offsets);
+    let mut plan = Progress::new(alloc, count, offsets);
     revert_all(alloc, site, kept, &mut work, group, &mut plan)?;
     let reversal = plan.done(alloc)?;
     Ok(reversal)

@@ -20,15 +20,14 @@ use rt_edits::Range;
 use rt_edits::inserts::Inserts;
 use rt_rga::{Draft, Few};
 use rt_spans::SpanMap;
-use rt_stamps::limits::{GREATEST_COUNT, MOST_CELLS};
+use rt_stamps::limits::GREATEST_COUNT;
 use rt_stamps::{Fault, ROOT, Site, Span, Stamp};
 use rt_undo::{Action, Renames, group_now};
 use std::alloc::Global;
 
 /// What reverting actions has come to: the operations with the greatest count, the stamps that
 /// characters have now, the tags that operations put on them, the changes of the text, the characters
-/// that came back, and the reverted actions; the offsets of the cells of the working copy, and how many
-/// cells the whole text has.
+/// that came back, and the reverted actions; and the offsets of the cells of the working copy.
 #[derive(Drop)]
 pub(crate) struct Progress {
     pub texts: Inserts,
@@ -38,12 +37,11 @@ pub(crate) struct Progress {
     pub returns: Vec<Return>,
     pub actions: Vec<Action>,
     pub offsets: SpanMap<usize>,
-    pub cells: usize,
 }
 
 impl Progress {
     /// Nothing was reverted yet.
-    pub(crate) fn new(alloc: Global, count: u64, cells: usize, offsets: SpanMap<usize>) -> Progress
+    pub(crate) fn new(alloc: Global, count: u64, offsets: SpanMap<usize>) -> Progress
         ensures drafts { items_in result.texts.drafts ≡ [] }
         ensures count { result.texts.count ≡ count }
         ensures now { (stamp : Stamp) → now_of result.renames stamp ≡ stamp }
@@ -53,7 +51,6 @@ impl Progress {
         ensures returns { result.returns.items ≡ [] }
         ensures actions { result.actions.items ≡ [] }
         ensures offsets { result.offsets ≡ offsets }
-        ensures cells { result.cells ≡ cells }
     {
         Progress {
             texts: Inserts {
@@ -67,7 +64,6 @@ impl Progress {
             returns: Vec::new(alloc),
             actions: Vec::new(alloc),
             offsets,
-            cells,
         }
     }
 
@@ -89,7 +85,6 @@ impl Progress {
         ensures returns { OnOk result (self.new.returns ≡ self.old.returns) }
         ensures actions { OnOk result (self.new.actions ≡ self.old.actions) }
         ensures offsets { OnOk result (self.new.offsets ≡ self.old.offsets) }
-        ensures cells { OnOk result (self.new.cells ≡ self.old.cells) }
         ensures same { OnErr result (TellsTheSame self.old self.new) }
         ensures err { IfErr result (λ fault. (fault ≡ Fault.NoMemory)
             ⊎ ((fault ≡ Fault.ClockSpent) × (GREATEST_COUNT < self.old.texts.count + length drafts.items))) }
@@ -126,7 +121,6 @@ impl Progress {
         ensures returns { OnOk result (self.new.returns ≡ self.old.returns) }
         ensures actions { OnOk result (self.new.actions ≡ self.old.actions) }
         ensures offsets { OnOk result (self.new.offsets ≡ self.old.offsets) }
-        ensures cells { OnOk result (self.new.cells ≡ self.old.cells) }
         ensures same { OnErr result (TellsTheSame self.old self.new) }
         ensures err { IfErr result (λ fault. (fault ≡ Fault.NoMemory) ⊎ ((fault ≡ Fault.ClockSpent)
             × (GREATEST_COUNT < self.old.texts.count + counts_for (as_words names.now) (ch ∷ [])))) }
@@ -135,8 +129,8 @@ impl Progress {
         self.texts.push_text(alloc, site, names, &[ch])
     }
 
-    /// A character came back at a place of the working copy, with some tags. Want of memory, as also
-    /// where the whole text would have more than the most cells; then the plan tells what it told.
+    /// A character came back at a place of the working copy, with some tags. Want of memory, and then the plan tells
+    /// what it told.
     pub(crate) fn come_back(
         &mut self,
         former: Stamp,
@@ -160,14 +154,9 @@ impl Progress {
         ensures actions { OnOk result (self.new.actions ≡ self.old.actions) }
         ensures offsets { OnOk result ((s : Stamp) → offset_of self.new.offsets s
             ≡ (if is_same s newer then offset_behind self.old.offsets former else offset_of self.old.offsets s)) }
-        ensures cells { OnOk result (self.new.cells ≡ self.old.cells + 1) }
-        ensures few { OnOk result (self.new.cells ≤ MOST_CELLS) }
         ensures same { OnErr result (TellsTheSame self.old self.new) }
         ensures err { IsOkUnless result Fault.NoMemory }
     {
-        if self.cells >= MOST_CELLS {
-            return Err(Fault::NoMemory);
-        }
         let offset = offset_behind(&self.offsets, former);
         let whole = place + offset;
         self.renames.reserve(1)?;
@@ -185,7 +174,6 @@ impl Progress {
         };
         self.renames.rename(span, newer);
         self.offsets.set(span_of(newer), offset);
-        self.cells += 1;
         Ok(())
     }
 
@@ -206,7 +194,6 @@ impl Progress {
             returns,
             actions,
             offsets: _,
-            cells: _,
         } = self;
         let Inserts {
             drafts,

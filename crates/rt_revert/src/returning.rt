@@ -43,7 +43,8 @@ pub(crate) fn names_of(
     Ok(names)
 }
 
-// Puts a new cell directly behind another one, and answers its place. Want of memory.
+// Puts a new cell directly behind another one, and answers its place. Want of memory, as also where the copy has the
+// most cells that a store may have.
 fn put_in<S: TextStore>(
     kept: &StateTable,
     copy: &mut S,

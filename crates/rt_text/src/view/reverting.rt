@@ -21,9 +21,10 @@ impl<S: TextStore> View<S> {
     /// back with their tags, each directly after its old cell. All marks move for that, those of each widget too; what comes back is
     /// selected nowhere. The group is by the stamps of now, and the tags of removed characters are states
     /// of `kept`, which gets those of the group for the other stack, also where the call is refused. `copy`
-    /// is an empty store, for the text in which the group is planned. `ClockSpent`, `TextFull`, or want of
-    /// memory, and then nothing else changes. It takes one count for each character that comes back and for
-    /// each of its tags above 64, and for each action one for each 65,536 spans of what goes.
+    /// is an empty store, for the cells that the group names and those that come back. `ClockSpent`, `TextFull`,
+    /// or want of memory, as also where this store would have more than the most cells, and then nothing else
+    /// changes. It takes one count for each character that comes back and for each of its tags above 64, and for
+    /// each action one for each 65,536 spans of what goes.
     pub fn revert<C: TextStore>(
         &mut self,
         copy: C,

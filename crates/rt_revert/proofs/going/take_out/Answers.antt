@@ -40,7 +40,6 @@ returns-clause-copy g c =
       returns = c.in_ok-lose.ensures.returns;
       actions = c.in_ok-lose.ensures.actions;
       offsets = c.in_ok-lose.ensures.offsets;
-      cells = c.in_ok-lose.ensures.cells;
     } in
     took_copy c.args.kept.now (stamps_in c.args.spans.now) old new c.args.plan.now c.lose.new.self losses whole took c.requires.copy
 
@@ -67,7 +66,6 @@ returns-clause-going g c =
       returns = c.in_ok-lose.ensures.returns;
       actions = c.in_ok-lose.ensures.actions;
       offsets = c.in_ok-lose.ensures.offsets;
-      cells = c.in_ok-lose.ensures.cells;
     } in
     took_going c.args.kept.now (stamps_in c.args.spans.now) old new c.args.plan.now c.lose.new.self losses whole took c.requires.going
 
@@ -94,9 +92,8 @@ returns-clause-so_far g c =
       returns = c.in_ok-lose.ensures.returns;
       actions = c.in_ok-lose.ensures.actions;
       offsets = c.in_ok-lose.ensures.offsets;
-      cells = c.in_ok-lose.ensures.cells;
     } in
-    took_so_far c.args.kept.now (stamps_in c.args.spans.now) old new c.args.plan.now c.lose.new.self losses whole took c.requires.copy.distinct c.requires.going.few
+    took_so_far c.args.kept.now (stamps_in c.args.spans.now) old new c.args.plan.now c.lose.new.self losses whole took c.requires.copy.distinct
 
 pub returns-clause-removed : goal.returns-clause-removed
 returns-clause-removed g c number part r had s =

@@ -76,7 +76,6 @@ revert_all-requires-clause-copy g c =
         returns = c.new-plan.ensures.returns;
         actions = c.new-plan.ensures.actions;
         offsets = c.new-plan.ensures.offsets;
-        cells = c.new-plan.ensures.cells ∙ c.cells.ensures;
       };
       alike = subst (λ (l : List (Cell ℕ)). LookAlike (map (shown kept) l) (map (shown states) (only (is_named group) store))) (sym c.in_ok-fill.ensures.list)
           (c.in_ok-cells.ensures.alike (only (is_named group) store) (subst (λ (l : List ℕ). AreAt store l (only (is_named group) store)) (sym c.deref.ensures.value) c.in_ok-positions.ensures.cells));
@@ -113,7 +112,6 @@ revert_all-requires-clause-going g c =
         returns = c.new-plan.ensures.returns;
         actions = c.new-plan.ensures.actions;
         offsets = c.new-plan.ensures.offsets;
-        cells = c.new-plan.ensures.cells ∙ c.cells.ensures;
       };
       alike = subst (λ (l : List (Cell ℕ)). LookAlike (map (shown kept) l) (map (shown states) (only (is_named group) store))) (sym c.in_ok-fill.ensures.list)
           (c.in_ok-cells.ensures.alike (only (is_named group) store) (subst (λ (l : List ℕ). AreAt store l (only (is_named group) store)) (sym c.deref.ensures.value) c.in_ok-positions.ensures.cells));
@@ -157,7 +155,6 @@ returns-in_err-revert_all-clause-err g c =
         returns = c.new-plan.ensures.returns;
         actions = c.new-plan.ensures.actions;
         offsets = c.new-plan.ensures.offsets;
-        cells = c.new-plan.ensures.cells ∙ c.cells.ensures;
       };
       alike = subst (λ (l : List (Cell ℕ)). LookAlike (map (shown kept) l) (map (shown states) (only (is_named group) store))) (sym c.in_ok-fill.ensures.list)
           (c.in_ok-cells.ensures.alike (only (is_named group) store) (subst (λ (l : List ℕ). AreAt store l (only (is_named group) store)) (sym c.deref.ensures.value) c.in_ok-positions.ensures.cells));
@@ -198,7 +195,6 @@ returns-clause-plan g c flat of =
         returns = c.new-plan.ensures.returns;
         actions = c.new-plan.ensures.actions;
         offsets = c.new-plan.ensures.offsets;
-        cells = c.new-plan.ensures.cells ∙ c.cells.ensures;
       };
       alike = subst (λ (l : List (Cell ℕ)). LookAlike (map (shown kept) l) (map (shown states) (only (is_named group) store))) (sym c.in_ok-fill.ensures.list)
           (c.in_ok-cells.ensures.alike (only (is_named group) store) (subst (λ (l : List ℕ). AreAt store l (only (is_named group) store)) (sym c.deref.ensures.value) c.in_ok-positions.ensures.cells));
@@ -248,7 +244,6 @@ returns-clause-fits g c flat of =
         returns = c.new-plan.ensures.returns;
         actions = c.new-plan.ensures.actions;
         offsets = c.new-plan.ensures.offsets;
-        cells = c.new-plan.ensures.cells ∙ c.cells.ensures;
       };
       alike = subst (λ (l : List (Cell ℕ)). LookAlike (map (shown kept) l) (map (shown states) (only (is_named group) store))) (sym c.in_ok-fill.ensures.list)
           (c.in_ok-cells.ensures.alike (only (is_named group) store) (subst (λ (l : List ℕ). AreAt store l (only (is_named group) store)) (sym c.deref.ensures.value) c.in_ok-positions.ensures.cells));
@@ -295,7 +290,6 @@ returns-clause-changes g c =
         returns = c.new-plan.ensures.returns;
         actions = c.new-plan.ensures.actions;
         offsets = c.new-plan.ensures.offsets;
-        cells = c.new-plan.ensures.cells ∙ c.cells.ensures;
       };
       alike = subst (λ (l : List (Cell ℕ)). LookAlike (map (shown kept) l) (map (shown states) (only (is_named group) store))) (sym c.in_ok-fill.ensures.list)
           (c.in_ok-cells.ensures.alike (only (is_named group) store) (subst (λ (l : List ℕ). AreAt store l (only (is_named group) store)) (sym c.deref.ensures.value) c.in_ok-positions.ensures.cells));

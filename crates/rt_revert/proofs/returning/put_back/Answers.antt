@@ -102,8 +102,6 @@ returns-clause-copy g c =
           ∙ map-append (λ w. string_bytes w) before.names.items c.in_ok-names.names.items;
       actions = back.actions ∙ wrote.actions;
       offsets = λ s. back.offsets s ∙ ap (λ m. cond (is_same s (new_of site before cell).stamp) (offset_behind m cell.stamp) (offset_of m s)) wrote.offsets;
-      cells = back.cells ∙ ap (λ n. n + 1) wrote.cells;
-      most_cells = back.few;
     }) in
     came_copy c.args.site.number table old new before after cell place words came there c.requires.copy
 
@@ -147,8 +145,6 @@ returns-clause-going g c =
           ∙ map-append (λ w. string_bytes w) before.names.items c.in_ok-names.names.items;
       actions = back.actions ∙ wrote.actions;
       offsets = λ s. back.offsets s ∙ ap (λ m. cond (is_same s (new_of site before cell).stamp) (offset_behind m cell.stamp) (offset_of m s)) wrote.offsets;
-      cells = back.cells ∙ ap (λ n. n + 1) wrote.cells;
-      most_cells = back.few;
     }) in
     came_going c.args.site.number table old new before after cell place words came there c.requires.copy c.requires.going
 
@@ -192,7 +188,5 @@ returns-clause-so_far g c =
           ∙ map-append (λ w. string_bytes w) before.names.items c.in_ok-names.names.items;
       actions = back.actions ∙ wrote.actions;
       offsets = λ s. back.offsets s ∙ ap (λ m. cond (is_same s (new_of site before cell).stamp) (offset_behind m cell.stamp) (offset_of m s)) wrote.offsets;
-      cells = back.cells ∙ ap (λ n. n + 1) wrote.cells;
-      most_cells = back.few;
     }) in
-    came_so_far c.args.site.number table old new before after cell place words came there c.requires.going.few
+    came_so_far c.args.site.number table old new before after cell place words came there
