@@ -3,7 +3,7 @@
 operations that are joined and shown, and those that a run reads and writes.
 
 Usage: tests/drive.py [PROGRAM]; without a program it takes ./peertext, which builds it where it is missing.
-The last line is 'N passed, M failed'.
+The last lines are 'N refusals of M commands', of the failing allocations that were seen, and 'N passed, M failed'.
 """
 import os
 import random
@@ -12,7 +12,7 @@ import sys
 
 from driving.joins import joins, many_operations, outs_that_fail, outs_with_modes, shows
 from driving.lists import long_lists
-from driving.memory import failing_allocations, failing_allocations_of_files, failing_allocations_of_held, failing_allocations_of_receive, failing_allocations_of_undo
+from driving.memory import failing_allocations, failing_allocations_of_files, failing_allocations_of_held, failing_allocations_of_receive, failing_allocations_of_undo, refusals
 from driving.program import CHECKED, PROGRAM, called, check, run
 from driving.runs import early_logs, exchanges, faults_before_the_script, logs_of_runs, outs_after_faults, outs_of_runs, received
 from driving.samples import with_files
@@ -114,5 +114,6 @@ for part in PARTS:
     part()
 for part in IN_FILES:
     with_files(part)
+print("{} refusals of {} commands".format(*refusals()))
 print("{} passed, {} failed".format(*CHECKED))
 sys.exit(1 if CHECKED[1] else 0)

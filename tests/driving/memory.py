@@ -1,6 +1,8 @@
 """Each allocation failing in turn, by a small library that is loaded before the program's own allocator."""
+import collections
 import os
 import re
+import shutil
 import subprocess
 import tempfile
 
@@ -9,12 +11,38 @@ from driving.samples import AB, AB_LINE, FILES, HEAD, OLD, TAKE_B, Y, contents, 
 from modelled.sites import Insert, Site, spelling
 from modelled.words import words_of
 
+# how often each command was seen to be refused; `run` where a run ended
+REFUSED = collections.Counter()
+
+
+def command_of(line):
+    """The command of a line, of marks and undo with the word behind it."""
+    words = line.split()
+    if not line.startswith("."):
+        return words[0]
+    return " ".join(words[1:3] if words[1] in ("edit", "mark", "tag") else words[1:2])
+
+
+def refusals():
+    """How many refusals were seen, and of how many commands."""
+    return sum(REFUSED.values()), len(+REFUSED)
+
 
 def failing_library(folder):
     """The library by which the allocation of a number fails, where there is a C compiler."""
+    if shutil.which("cc") is None:
+        return None
     shim = os.path.join(folder, "fail_alloc.so")
     made = subprocess.run(["cc", "-shared", "-fPIC", "-o", shim, os.path.join(ROOT, "tests", "fail_alloc.c"), "-ldl"], capture_output=True)
     return None if made.returncode else shim
+
+
+def library_for(part, folder="."):
+    """The same for a part of these tests, which says that it is left out where there is none."""
+    shim = failing_library(folder)
+    if shim is None:
+        print(f"no C compiler, left out: {part}")
+    return shim
 
 
 def without_an_allocation(shim, number, *words, script=b""):
@@ -25,11 +53,10 @@ def without_an_allocation(shim, number, *words, script=b""):
 def failing_allocations_of_files():
     """Each allocation fails in turn, those of the words of the command line too: a join is written whole, or OUT stays as it
     was; lines are shown, or none or a front of them; and the program says that memory was wanting."""
-    shim = failing_library(".")
+    shim = library_for("join and show with failing allocations")
     if shim is None:
         return
     want = AB_LINE + b"delete 3.1 prev 2 spans 1:2-2\n"
-    refused = 0
     for number in range(1, 300):
         with open("out", "wb") as file:
             file.write(OLD)
@@ -37,12 +64,12 @@ def failing_allocations_of_files():
         whole = (status, contents("out")) == (0, HEAD + AB + TAKE_B + Y)
         none = (status, contents("out")) == (1, OLD) and err == b"peertext: 1 NoMemory\n"
         check(f"join without allocation {number}: {status} {err}", out == b"" and (whole or none), True)
-        refused += none
+        REFUSED["join"] += none
         out, err, status = without_an_allocation(shim, number, "show", "deleted")
         none = (status, err) == (1, b"peertext: 1 NoMemory\n")
         check(f"show without allocation {number}: {status} {err}", (status, out) == (0, want) or (none and want.startswith(out)), True)
-        refused += none
-    check("some allocations were refused", refused > 10, True)
+        REFUSED["show"] += none
+    check("some allocations were refused", REFUSED["join"] + REFUSED["show"] > 10, True)
     check("the last of them is behind us", status, 0)
 
 
@@ -71,7 +98,7 @@ def failing_allocations_of_receive():
     """Each allocation fails in turn, those of the command line, the log and the files too: a file is received up to the record
     that found no memory, and the log at the end is that of what is held; or the run ends for want of memory, and --out has
     the log, or stays."""
-    shim = failing_library(".")
+    shim = library_for("receive with failing allocations")
     if shim is None:
         return
     asks = ["receive deleted", ".t get 1.0 end"] * 3
@@ -87,6 +114,7 @@ def failing_allocations_of_receive():
         out, err, status = without_an_allocation(shim, (number + 1) // 2, *words, script=script)
         lines, known, good = out.decode().splitlines(), begin, True
         for ask, line in zip(asks, lines):
+            REFUSED[command_of(ask)] += line.startswith("! 1 NoMemory")
             if ask.startswith("receive"):
                 after = held_after(line, known)
                 good &= after is not None
@@ -98,6 +126,7 @@ def failing_allocations_of_receive():
         whole = len(lines) == len(asks) and (err, status, left) == (b"", 0, logs[known])
         ended = (err, status) == (b"peertext: 1 NoMemory\n", 1) and (left == OLD or left == logs[known])
         check(f"receive without allocation {number}: {lines} {err} {status}", good and (whole or ended), True)
+        REFUSED["run"] += ended
         early += ended
         quiet = quiet + 1 if whole and not any("NoMemory" in line for line in lines) else 0
     check("some allocations ended the run", early > 0, True)
@@ -127,7 +156,7 @@ def after_one(name, line, has_ab, y):
 def failing_allocations_of_held():
     """Each allocation fails in turn while an operation is held and tried: what finds no memory stays held, and is taken later.
     It has many tags, so that taking it asks for memory."""
-    shim = failing_library(".")
+    shim = library_for("held operations with failing allocations")
     if shim is None:
         return
     put("y", spelling([Insert(3, 2, 0, (1, 1), "Y", frozenset(f"tag {i}" for i in range(60)))]))
@@ -140,6 +169,7 @@ def failing_allocations_of_held():
         out, err, status = without_an_allocation(shim, number, "run", "--site", "3", "ab", "y", script=script)
         lines, known, good, kept = out.decode().splitlines(), (False, "none"), True, False
         for ask, line in zip(asks, lines):
+            REFUSED[command_of(ask)] += line.startswith("! 1 NoMemory")
             if ask.startswith("receive"):
                 after = after_one(ask.split()[1], line, *known)
                 good &= after is not None
@@ -150,6 +180,7 @@ def failing_allocations_of_held():
                 good &= line in ("! 1 NoMemory", texts[known])
         left_held += kept
         ended = (err, status) == (b"peertext: 1 NoMemory\n", 1)
+        REFUSED["run"] += ended
         check(f"held without allocation {number}: {lines} {err} {status}", good and (ended or (len(lines) == len(asks) and status == 0)), True)
         quiet = quiet + 1 if not any("NoMemory" in line for line in lines) and not kept and not ended else 0
     check("some held operation found no memory and stayed", left_held > 0, True)
@@ -196,7 +227,7 @@ UNDO_LINES = """.t configure -undo 1
 def failing_allocations_of_undo():
     """Each allocation fails in turn: a line is answered as the plain model answers it, or `1 NoMemory`, and then it changed
     nothing: the lines behind it are answered by the model that hasn't met it, and the log is the model's."""
-    shim = failing_library(".")
+    shim = library_for("undo with failing allocations")
     if shim is None:
         return
     script = "".join(line + "\n" for line in UNDO_LINES).encode()
@@ -209,13 +240,15 @@ def failing_allocations_of_undo():
         lines, site, good = out.decode().splitlines(), Site(1), True
         for ask, line in zip(UNDO_LINES, lines):
             if line == "! 1 NoMemory":
-                refused.add(" ".join(ask.split()[1:3] if ".t edit" in ask else ask.split()[1:2]))
+                refused.add(command_of(ask))
+                REFUSED[command_of(ask)] += 1
             else:
                 good &= line == site.answer(words_of(ask)[1:])
         left, log = contents("out"), spelling(site.ops)
         whole = len(lines) == len(UNDO_LINES) and (err, status, left) == (b"", 0, log)
         ended = (err, status) == (b"peertext: 1 NoMemory\n", 1) and left in (OLD, log)
         check(f"undo without allocation {number}: {lines} {err} {status}", good and (whole or ended), True)
+        REFUSED["run"] += ended
         quiet = quiet + 1 if whole and "! 1 NoMemory" not in lines else 0
     check("allocations were refused to undo and redo", {"insert", "delete", "replace", "edit undo", "edit redo"} <= refused, True)
     check("the last of them is behind us", number < 8000, True)
@@ -224,9 +257,8 @@ def failing_allocations_of_undo():
 def failing_allocations():
     """Each allocation fails in turn: a line is answered as the text then is, or `1 NoMemory` and the text is as it was."""
     with tempfile.TemporaryDirectory() as folder:
-        shim = failing_library(folder)
+        shim = library_for("lines with failing allocations", folder)
         if shim is None:
-            print("no C compiler: the failing allocations were not tried")
             return
         asks = [
             (".t insert 1.0 a t b u", lambda text: ("ab" + text, "=")),
@@ -254,15 +286,17 @@ def failing_allocations():
                                   env={**os.environ, "LD_PRELOAD": shim, "FAIL_ALLOC": str(number)})
             lines = done.stdout.decode().splitlines()
             text, good = "", True
-            for (_, answer), line in zip(asks, lines):
+            for (ask, answer), line in zip(asks, lines):
                 if line == "! 1 NoMemory":
                     refused += 1
+                    REFUSED[command_of(ask)] += 1
                     continue
                 text, want = answer(text)
                 good &= line == want
             whole = len(lines) == len(asks) and done.returncode == 0
             early = len(lines) < len(asks) and (done.returncode, done.stderr) == (1, b"peertext: 1 NoMemory\n")
             check(f"allocation {number} fails: {lines}", good and (whole or early), True)
+            REFUSED["run"] += early
             quiet = quiet + 1 if whole and "! 1 NoMemory" not in lines else 0
         check("some allocations were refused to a line", refused > 0, True)
         check("the last of them is behind us", number < 4000, True)
