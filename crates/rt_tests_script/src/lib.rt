@@ -46,6 +46,8 @@ mod options;
 #[cfg(test)]
 mod peers;
 #[cfg(test)]
+mod refused;
+#[cfg(test)]
 mod replacements;
 #[cfg(test)]
 mod replies;
@@ -57,6 +59,8 @@ mod searches;
 mod seen;
 #[cfg(test)]
 mod sites;
+#[cfg(test)]
+mod sparing;
 #[cfg(test)]
 mod spent;
 #[cfg(test)]
