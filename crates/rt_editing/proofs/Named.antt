@@ -151,7 +151,7 @@ history_stays t u k h given = record {
 abbrev pub prepared_removed : TagStates → Option Prepared → Option (List (Removed (List Word)))
 prepared_removed t next = option_map (λ n. map (named_removed t) (removed_in n.removed.items)) next
 
-prepared_kept : (t u : TagStates) → KeepsIds t u → (stacks : UndoStacks) (o : Option Prepared) → IfSome o (IsPrepared t stacks)
+pub prepared_kept : (t u : TagStates) → KeepsIds t u → (stacks : UndoStacks) (o : Option Prepared) → IfSome o (IsPrepared t stacks)
     → prepared_removed u o ≡ prepared_removed t o
 prepared_kept t u k stacks None is = refl
 prepared_kept t u k stacks (Some next) is = ap Some (removed_kept t u k (removed_in next.removed.items) is.given)
@@ -164,6 +164,17 @@ prepared_stays t u k stacks (Some next) is = record {
   empty = is.empty;
   room = is.room;
   ready = is.ready;
+}
+
+-- where room was made beside it
+pub prepared_ready : (t u : TagStates) → KeepsIds t u → (stacks now : UndoStacks) → now.ready ≡ true → (o : Option Prepared)
+    → IfSome o (IsPrepared t stacks) → IfSome o (IsPrepared u now)
+prepared_ready t u k stacks now ready None is = tt
+prepared_ready t u k stacks now ready (Some next) is = record {
+  given = removed_stay t u k (removed_in next.removed.items) is.given;
+  empty = is.empty;
+  room = is.room;
+  ready = ready;
 }
 
 -- what a recorder keeps, where its table alone is another one

@@ -17,7 +17,7 @@ use Rattle.rt_editing.specs.Recordings.{HaveStayed, Recording, came_back}
 use Rattle.rt_editing.specs.Returns.{AreReturns, IsOther, Return, back_after, stamp_after}
 use Rattle.rt_editing.specs.Settled.{AreGoneOnce, is_gone, taken_by}
 use Rattle.rt_editing.proofs.Counted.{count_named, reversion_few}
-use Rattle.rt_editing.proofs.Named.{history_kept, history_stays}
+use Rattle.rt_editing.proofs.Named.{history_kept, history_stays, prepared_kept, prepared_ready}
 use Rattle.rt_editing.proofs.Settling.{if_both, if_checked, on_both, once_told, told}
 use Rattle.rt_editing.proofs.Told.{IsReturned}
 use Rattle.rt_editing.proofs.recorder.Recorder.revert.Given.{Over}
@@ -64,7 +64,7 @@ invariant_of-self-2 g c =
     let table = c.revert.new.kept in
     record {
       given = subst (HistoryIsGiven table) (sym c.reserve.ensures.history) (history_stays s.table table c.revert.ensures.ids s.stacks.history c.self.invariant.given);
-      next = tt;
+      next = prepared_ready s.table table c.revert.ensures.ids s.stacks c.reserve.new.self c.in_ok-reserve.ensures.ready s.next c.self.invariant.next;
     }
 
 pub returns-clause-first_times : goal.returns-clause-first_times
@@ -133,6 +133,11 @@ returns-clause-history g c =
     ap (named_history table) c.reserve.ensures.history
     ∙ history_kept s.table table c.revert.ensures.ids s.stacks.history c.self.invariant.given
     ∙ ap (λ (v : Recording). v.history) c.self.view_is
+
+pub returns-clause-pending : goal.returns-clause-pending
+returns-clause-pending g c =
+    let s = c.self.inside in
+    prepared_kept s.table c.revert.new.kept c.revert.ensures.ids s.stacks s.next c.self.invariant.next ∙ ap (λ (v : Recording). v.pending) c.self.view_is
 
 pub returns-clause-taken : goal.returns-clause-taken
 returns-clause-taken g c =
