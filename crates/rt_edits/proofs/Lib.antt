@@ -1,6 +1,8 @@
 pub mod CellLaws
+pub mod ChangedPlaces
 pub mod CharacterCounts
 pub mod ChosenLaws
+pub mod ClearSpans
 pub mod Cutting
 pub mod DeletedNames
 pub mod DeletionDraftLaws
@@ -15,6 +17,7 @@ pub mod InsertDraftLaws
 pub mod InsertRules
 pub mod InsertTexts
 pub mod InsertedText
+pub mod JoinedSpans
 pub mod LastNames
 pub mod ListedLaws
 pub mod ListedWrites
@@ -23,6 +26,7 @@ pub mod NamedSpanLaws
 pub mod NewlineDrafts
 pub mod NewlineTags
 pub mod PartLaws
+pub mod PassingPlaces
 pub mod PieceDraftLaws
 pub mod PieceLaws
 pub mod PlaceLaws
@@ -37,8 +41,8 @@ pub mod RestLaws
 pub mod Selecting
 pub mod SelectionLaws
 pub mod Shown
-pub mod SortedStamps
 pub mod SpanLaws
+pub mod SpanRuns
 pub mod SparingLaws
 pub mod StampLaws
 pub mod StateChanges

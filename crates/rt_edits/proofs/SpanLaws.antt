@@ -19,57 +19,6 @@ use Rattle.rt_edits.specs.Removals.{span_count}
 use Rattle.rt_store.specs.Spans.{each_next, is_span, is_clear_of, precedes, next_stamp, last_stamp, is_in_spans, is_among}
 use Rattle.rt_store.proofs.Distinct.{split}
 
--- THE LOOP
-
-extended_step : (span : Span) (s : Stamp) (next : Span) (spans : List Span) (b : Bool) → is_same (first_stamp next) (next_stamp s) ≡ b → is_same s (next_stamp (last_stamp span)) ≡ true
-    → attached span (cond b (record next { first = s.count } ∷ spans) (span_of s ∷ next ∷ spans)) ≡ cond b (record next { first = span.first } ∷ spans) (record span { last = s.count } ∷ next ∷ spans)
-extended_step span s next spans true e h =
-    let site : next.site ≡ s.site = grind (arith, nat_tests) in
-    let t : is_same (record { count = s.count; site = next.site }) (next_stamp (last_stamp span)) ≡ true = ap (λ n. is_same (record { count = s.count; site = n }) (next_stamp (last_stamp span))) site ∙ h in
-    cond-true _ _ _ t
-extended_step span s next spans false e h =
-    let site : s.site ≡ span.site = grind (arith, nat_tests) in
-    cond-true _ _ _ h ∙ (λ i. record { site = site i; first = span.first; last = s.count } ∷ next ∷ spans)
-
--- the next stamp makes a span longer
-pub extended : (span : Span) (s : Stamp) (spans : List Span) → is_same s (next_stamp (last_stamp span)) ≡ true → attached span (attached (span_of s) spans) ≡ attached (record span { last = s.count }) spans
-extended span s [] h =
-    let site : s.site ≡ span.site = grind (arith, nat_tests) in
-    cond-true _ _ _ h ∙ (λ i. record { site = site i; first = span.first; last = s.count } ∷ [])
-extended span s (next ∷ spans) h =
-    let site : s.site ≡ span.site = grind (arith, nat_tests) in
-    extended_step span s next spans (is_same (first_stamp next) (next_stamp s)) refl h
-    ∙ ap (λ n. cond (is_same (first_stamp next) (record { count = s.count + 1; site = n })) (record next { first = span.first } ∷ spans) (record span { last = s.count } ∷ next ∷ spans)) site
-
-begun_step : (span : Span) (s : Stamp) (next : Span) (spans : List Span) (b : Bool) → is_same (first_stamp next) (next_stamp s) ≡ b → is_same s (next_stamp (last_stamp span)) ≡ false
-    → attached span (cond b (record next { first = s.count } ∷ spans) (span_of s ∷ next ∷ spans)) ≡ span ∷ cond b (record next { first = s.count } ∷ spans) (span_of s ∷ next ∷ spans)
-begun_step span s next spans true e h =
-    let site : next.site ≡ s.site = grind (arith, nat_tests) in
-    let t : is_same (record { count = s.count; site = next.site }) (next_stamp (last_stamp span)) ≡ false = ap (λ n. is_same (record { count = s.count; site = n }) (next_stamp (last_stamp span))) site ∙ h in
-    cond-false _ _ _ t
-begun_step span s next spans false e h = cond-false _ _ _ h
-
--- another stamp begins a span
-pub begun : (span : Span) (s : Stamp) (spans : List Span) → is_same s (next_stamp (last_stamp span)) ≡ false → attached span (attached (span_of s) spans) ≡ span ∷ attached (span_of s) spans
-begun span s [] h = cond-false _ _ _ h
-begun span s (next ∷ spans) h = begun_step span s next spans (is_same (first_stamp next) (next_stamp s)) refl h
-
-pub extended_more : (done : List Span) (span : Span) (stamps : List Stamp) (i : ℕ) (d : Stamp) → i < length stamps → is_same (get_or stamps i d) (next_stamp (last_stamp span)) ≡ true
-    → done ++ attached span (runs (drop i stamps)) ≡ done ++ attached (record span { last = (get_or stamps i d).count }) (runs (drop (i + 1) stamps))
-extended_more done span stamps i d h e =
-    ap (λ l. done ++ attached span (runs l)) (drop_more stamps i d h) ∙ ap (λ l. done ++ l) (extended span (get_or stamps i d) (runs (drop (i + 1) stamps)) e)
-
-pub begun_more : (done : List Span) (span : Span) (stamps : List Stamp) (i : ℕ) (d : Stamp) → i < length stamps → is_same (get_or stamps i d) (next_stamp (last_stamp span)) ≡ false
-    → done ++ attached span (runs (drop i stamps)) ≡ (done ++ span ∷ []) ++ attached (span_of (get_or stamps i d)) (runs (drop (i + 1) stamps))
-begun_more done span stamps i d h e =
-    ap (λ l. done ++ attached span (runs l)) (drop_more stamps i d h) ∙ ap (λ l. done ++ l) (begun span (get_or stamps i d) (runs (drop (i + 1) stamps)) e)
-    ∙ sym (append_assoc done (span ∷ []) (attached (span_of (get_or stamps i d)) (runs (drop (i + 1) stamps))))
-
--- after the last stamp
-pub runs_end : (items done : List Span) (span : Span) (others stamps : List Stamp) (i : ℕ) → items ≡ done ++ span ∷ [] → length others ≤ i
-    → done ++ attached span (runs (drop i others)) ≡ runs stamps → items ≡ runs stamps
-runs_end items done span others stamps i e h k = e ∙ ap (λ l. done ++ attached span (runs l)) (sym (drop_all i others h)) ∙ k
-
 -- WHAT THE RUNS HOLD
 
 forward_step : (b : Bool) (span next : Span) (spans : List Span) → is_same (first_stamp next) (next_stamp (last_stamp span)) ≡ b → is_span span ≡ true → is_span next && list_all is_span spans ≡ true
@@ -253,25 +202,6 @@ each_next_from e (x ∷ []) h = refl
 each_next_from e (x ∷ y ∷ xs) h =
     let rest : each_next e (y ∷ xs) ≡ true = each_next_from e (y ∷ xs) (λ k d l. h (suc k) d (omega arith)) in
     and_from (e x y) _ (h 0 x (omega arith)) rest
-
-in_order : (a b : Stamp) → is_lt (ordering_then (nat_cmp b.site a.site) (nat_cmp b.count a.count)) ≡ false → is_same a b ≡ false → precedes a b ≡ true
-in_order a b h k = split (nat_lt b.site a.site)
-    (λ e. absurd (both_ways true (sym (ap (λ t. is_lt (ordering_then (cond t Less (cond (b.site == a.site) Equal Greater)) (nat_cmp b.count a.count))) e) ∙ h) refl))
-    (λ e. split (b.site == a.site)
-    (λ f. let g : is_lt (nat_cmp b.count a.count) ≡ false = ap (λ t. is_lt (ordering_then t (nat_cmp b.count a.count))) (sym (cond-false _ _ _ e ∙ cond-true _ _ _ f)) ∙ h in
-    split (nat_lt b.count a.count)
-    (λ i. absurd (both_ways true (sym (ap (λ t. is_lt (cond t Less (cond (b.count == a.count) Equal Greater))) i) ∙ g) refl))
-    (λ i. grind (arith, nat_tests)))
-    (λ f. grind (arith, nat_tests)))
-
--- sorted stamps that differ are in order
-pub sorted_next : (xs : List Stamp) → IsDistinct is_same xs
-    → ((k : ℕ) (d : Stamp) → 0 ≤ k → k + 1 < length xs → is_lt (ordering_then (nat_cmp (get_or xs (k + 1) d).site (get_or xs k d).site) (nat_cmp (get_or xs (k + 1) d).count (get_or xs k d).count)) ≡ false)
-    → each_next precedes xs ≡ true
-sorted_next xs d h = each_next_from precedes xs (λ k x l.
-    let e : k + 1 ≡ suc k = add-one k in
-    let up = ap (λ n. is_lt (ordering_then (nat_cmp (get_or xs n x).site (get_or xs k x).site) (nat_cmp (get_or xs n x).count (get_or xs k x).count))) (sym e) ∙ h k x (omega arith) (omega arith) in
-    in_order (get_or xs k x) (get_or xs (suc k) x) up (apart_from_distinct is_same xs k (suc k) x d (omega arith) l))
 
 -- stamps in another order are as many runs
 pub counted_alike : (xs ys : List Stamp) → IsPermutation xs ys → span_count xs ≡ span_count ys

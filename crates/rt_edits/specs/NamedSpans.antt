@@ -1,6 +1,6 @@
 -- The spans that operations name: stamps by their sites, those of consecutive counts as one span, and cut for several
 -- operations.
-use Rattle.std.specs.Prelude.{ℕ, zero, suc, ◌+◌, ◌-◌, ◌/◌, List, [], ◌∷◌, length, take, drop, if◌then◌else◌}
+use Rattle.std.specs.Prelude.{ℕ, zero, suc, ◌+◌, ◌-◌, ◌/◌, ◌==◌, ◌&&◌, ◌||◌, nat_le, nat_lt, Bool, List, [], ◌∷◌, length, take, drop, if◌then◌else◌}
 use Rattle.rt_stamps.specs.declared.stamp.Span.{Span}
 use Rattle.rt_stamps.specs.declared.stamp.Stamp.{Stamp}
 use Rattle.rt_stamps.specs.Stamps.{is_same}
@@ -33,6 +33,10 @@ attached span (next ∷ spans) =
 abbrev pub runs : List Stamp → List Span
 runs [] = []
 runs (s ∷ ss) = attached (span_of s) (runs ss)
+
+-- a span is of a lesser site than another one, or of the same site and begins no later
+abbrev pub begins_by : Span → Span → Bool
+begins_by a b = nat_lt a.site b.site || ((a.site == b.site) && nat_le a.first b.first)
 
 -- the spans of stamps
 abbrev pub spans_in : List Stamp → List Span

@@ -1,5 +1,5 @@
 -- Tag operations: which characters they name, under which stamps, and what they leave on them.
-use Rattle.std.specs.Prelude.{◌≡◌, ℕ, ◌+◌, ◌/◌, ◌&&◌, not, Bool, true, false, List, [], ◌∷◌, length, map, filter, All, Option, if◌then◌else◌}
+use Rattle.std.specs.Prelude.{◌≡◌, ℕ, ◌+◌, ◌/◌, ◌&&◌, not, Bool, true, false, List, [], ◌∷◌, length, map, filter, All, Option, option_map, slice_get, unwrap_or, if◌then◌else◌}
 use Rattle.std.specs.List.{list_any}
 use Rattle.std.specs.Str.{bytes_eq}
 use Rattle.rt_stamps.specs.declared.limits.TheConstants.{MOST_SPANS}
@@ -17,6 +17,10 @@ use Rattle.rt_store.specs.Spans.{precedes, next_stamp, is_among}
 -- a character to put a tag on hasn't it, and one to take it off has it
 abbrev pub is_changed : Word → Bool → TaggedCell → Bool
 is_changed name on cell = if on then not (is_on name cell.state) else is_on name cell.state
+
+-- the character at a place passes a test
+abbrev pub passes_at : {A : Type 0} → (A → Bool) → List A → ℕ → Bool
+passes_at test characters place = unwrap_or (option_map test (slice_get characters place)) false
 
 -- the stamps of those characters
 abbrev pub changed_stamps : Word → Bool → List TaggedCell → List Stamp

@@ -18,15 +18,15 @@ ghost use Rattle.rt_edits.specs.RemovalDrafts.{removal_drafts};
 ghost use Rattle.rt_edits.specs.TagDrafts.{deletion_drafts, newline_drafts, tag_drafts_at};
 
 use crate::Range;
-use crate::cells::cells_in;
 use crate::changes::push_changes;
 use crate::parts::{push_deletes, push_tags};
 use crate::removal::removed_ranges;
-use crate::span::{span_of, spans_of, stamps_in};
+use crate::runs::spans_in;
+use crate::span::span_of;
 use rt_rga::Draft;
 use rt_stamps::Fault;
-use rt_store::{Cell, TextStore};
-use rt_tags::{StateId, StateTable, TagTable};
+use rt_store::TextStore;
+use rt_tags::{StateTable, TagTable};
 use rt_views::Stretch;
 use std::alloc::Global;
 
@@ -60,8 +60,7 @@ pub fn removals<S: TextStore>(
     ensures ok { IfOk result (λ drafts. map body_of drafts.items ≡ removal_drafts MOST_SPANS (is_covered removed.now) (S.list store.now)) }
     ensures err { IsOkUnless result Fault.NoMemory }
 {
-    let stamps = stamps_in(alloc, store, removed)?;
-    let spans = spans_of(alloc, stamps)?;
+    let spans = spans_in(alloc, store, removed)?;
     let mut drafts = Vec::new(alloc);
     push_deletes(alloc, &mut drafts, &spans)?;
     Ok(drafts)
@@ -142,16 +141,15 @@ pub fn planned_tag<S: TextStore>(
     on: bool,
 ) -> Result<Vec<Draft>, Fault>
     requires distinct { AreDistinct (S.list store.now) }
-    requires states { AreStates states.now (S.list store.now) }
+    requires states { S.agrees store.now states.now }
     requires order { AreInOrder 0 ranges.now }
     requires within { All (λ range. range.to ≤ length (visible_of (S.list store.now))) ranges.now }
     ensures ok { IfOk result (λ drafts. map body_of drafts.items
         ≡ tag_drafts_at MOST_SPANS (is_covered ranges.now) on name.now (map (shown states.now) (S.list store.now))) }
     ensures err { IsOkUnless result Fault.NoMemory }
 {
-    let cells = cells_in(alloc, store, ranges)?;
     let mut drafts = Vec::new(alloc);
-    push_changes(alloc, &mut drafts, states, &cells, name, on)?;
+    push_changes(alloc, &mut drafts, store, states, ranges, name, on)?;
     Ok(drafts)
 }
 
@@ -160,34 +158,6 @@ fn is_new(tags: &TagTable, seen: &TagTable, name: &str) -> bool
     ensures { result ≡ (is_listed name.now tags.now.names && not (is_listed name.now seen.now.names)) }
 {
     tags.has(name) && !seen.has(name)
-}
-
-// The Tags that take tags off the characters of a text.
-fn taken_off(
-    alloc: Global,
-    states: &StateTable,
-    tags: &TagTable,
-    cells: &[Cell<StateId>],
-    names: &[String],
-) -> Result<Vec<Draft>, Fault>
-    requires distinct { AreDistinct cells.now }
-    requires states { AreStates states.now cells.now }
-    requires names { All IsName tags.now.names }
-    ensures ok { IfOk result (λ drafts. (flat : Flat) → AreWritten flat.count flat.cells → AreListed tags.now.names flat.cells
-        → visible_of flat.cells ≡ map (shown states.now) cells.now
-        → map body_of drafts.items ≡ deletion_drafts MOST_SPANS flat (as_words names.now)) }
-    ensures err { IsOkUnless result Fault.NoMemory }
-{
-    // `sel` is seen from the start
-    let mut seen = TagTable::new(alloc)?;
-    let mut drafts = Vec::new(alloc);
-    for name in names {
-        if is_new(tags, &seen, name) {
-            seen.ensure(name)?;
-            push_changes(alloc, &mut drafts, states, cells, name, false)?;
-        }
-    }
-    Ok(drafts)
 }
 
 /// The operations that take tags off all characters, `sel` passed over: those of a name that comes
@@ -201,7 +171,7 @@ pub fn planned_tag_deletion<S: TextStore>(
     names: &[String],
 ) -> Result<Vec<Draft>, Fault>
     requires distinct { AreDistinct (S.list store.now) }
-    requires states { AreStates states.now (S.list store.now) }
+    requires states { S.agrees store.now states.now }
     requires listed { AreListed tags.now.names (map (shown states.now) (S.list store.now)) }
     ensures ok { IfOk result (λ drafts. (flat : Flat) → AreWritten flat.count flat.cells
         → flat.cells ≡ map (shown states.now) (S.list store.now)
@@ -212,6 +182,14 @@ pub fn planned_tag_deletion<S: TextStore>(
         from: 0,
         to: store.visible(),
     }];
-    let cells = cells_in(alloc, store, &all)?;
-    taken_off(alloc, states, tags, &cells, names)
+    // `sel` is seen from the start
+    let mut seen = TagTable::new(alloc)?;
+    let mut drafts = Vec::new(alloc);
+    for name in names {
+        if is_new(tags, &seen, name) {
+            seen.ensure(name)?;
+            push_changes(alloc, &mut drafts, store, states, &all, name, false)?;
+        }
+    }
+    Ok(drafts)
 }

@@ -19,6 +19,7 @@ mod pieces;
 mod plain;
 pub mod range;
 pub mod removal;
+mod runs;
 pub mod selection;
 mod span;
 pub mod stamps;

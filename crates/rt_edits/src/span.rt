@@ -1,12 +1,7 @@
-// Spans of removed stamps.
-ghost use Rattle.std.specs.Prelude.{◌≡◌, ◌+◌, ◌*◌, ◌<◌, ◌≤◌, ◌++◌, All, IfOk, IsOkUnless, OnOk, true, map, take, drop, ◌-◌, length, IsPermutation};
-ghost use Rattle.std.specs.List.{list_all, IsDistinct};
-ghost use Rattle.rt_stamps.specs.declared.stamp.Stamp.{Stamp};
-ghost use Rattle.rt_stamps.specs.Stamps.{is_same};
+// Stamps of visible cells in ranges, and the span of one.
+ghost use Rattle.std.specs.Prelude.{◌≡◌, ◌-◌, ◌≤◌, ◌++◌, All, IfOk, IsOkUnless, OnOk, drop, length, map, take};
 ghost use Rattle.rt_store.specs.Cells.{visible_of};
-ghost use Rattle.rt_edits.specs.NamedSpans.{runs, spans_in};
-ghost use Rattle.rt_edits.specs.Removals.{is_covered, stamps_at, span_count, AreInOrder};
-ghost use Rattle.rt_store.specs.Spans.{each_next, is_span, is_clear_of, precedes, next_stamp, last_stamp, is_in_spans, is_among};
+ghost use Rattle.rt_edits.specs.Removals.{AreInOrder, is_covered, stamps_at};
 
 use crate::Range;
 use rt_stamps::{Fault, Span, Stamp};
@@ -45,15 +40,6 @@ pub(crate) fn stamps_in<S: TextStore>(
     Ok(stamps)
 }
 
-// Stamps in the order of their sites and counts.
-fn sort(stamps: &mut Vec<Stamp>)
-    requires { IsDistinct is_same stamps.old.items }
-    ensures same { IsPermutation stamps.old.items stamps.new.items }
-    ensures sorted { each_next precedes stamps.new.items ≡ true }
-{
-    stamps.sort_unstable_by_key(|stamp| (stamp.site, stamp.count));
-}
-
 /// The span of one stamp.
 pub(crate) fn span_of(stamp: Stamp) -> Span
     ensures { result ≡ record { site = stamp.site; first = stamp.count; last = stamp.count } }
@@ -63,54 +49,4 @@ pub(crate) fn span_of(stamp: Stamp) -> Span
         first: stamp.count,
         last: stamp.count,
     }
-}
-
-/// Whether a stamp is the next one after a span.
-pub(crate) fn is_next(span: Span, stamp: Stamp) -> bool
-    ensures { result ≡ is_same stamp (next_stamp (last_stamp span)) }
-{
-    stamp.site == span.site && stamp.count > span.last && stamp.count - span.last == 1
-}
-
-// The longest runs of stamps that are in order.
-fn runs_of(alloc: Global, stamps: &[Stamp]) -> Result<Vec<Span>, Fault>
-    requires { each_next precedes stamps.now ≡ true }
-    ensures ok { IfOk result (λ spans. spans.items ≡ runs stamps.now) }
-    ensures same { IfOk result (λ spans. (stamp : Stamp) → is_in_spans spans.items stamp ≡ is_among stamps.now stamp) }
-    ensures count { IfOk result (λ spans. length spans.items ≡ span_count stamps.now) }
-    ensures forward { IfOk result (λ spans. list_all is_span spans.items ≡ true) }
-    ensures clear { IfOk result (λ spans. each_next is_clear_of spans.items ≡ true) }
-    ensures err { IsOkUnless result Fault.NoMemory }
-{
-    let mut spans = Vec::new(alloc);
-    let Some((first, others)) = stamps.split_first() else {
-        return Ok(spans);
-    };
-    let mut span = span_of(*first);
-    for stamp in others {
-        if is_next(span, *stamp) {
-            span.last = stamp.count;
-        } else {
-            spans.push(span)?;
-            span = span_of(*stamp);
-        }
-    }
-    spans.push(span)?;
-    Ok(spans)
-}
-
-/// The spans of distinct stamps: the longest runs of consecutive counts of one site, by site and
-/// first count.
-pub(crate) fn spans_of(alloc: Global, stamps: Vec<Stamp>) -> Result<Vec<Span>, Fault>
-    requires { IsDistinct is_same stamps.items }
-    ensures ok { IfOk result (λ spans. spans.items ≡ spans_in stamps.items) }
-    ensures same { IfOk result (λ spans. (stamp : Stamp) → is_in_spans spans.items stamp ≡ is_among stamps.items stamp) }
-    ensures count { IfOk result (λ spans. length spans.items ≡ span_count stamps.items) }
-    ensures forward { IfOk result (λ spans. list_all is_span spans.items ≡ true) }
-    ensures clear { IfOk result (λ spans. each_next is_clear_of spans.items ≡ true) }
-    ensures err { IsOkUnless result Fault.NoMemory }
-{
-    let mut sorted = stamps;
-    sort(&mut sorted);
-    runs_of(alloc, &sorted)
 }

@@ -2,15 +2,13 @@ use Rattle.std.proofs.Common.{◌≡◌, drop, map}
 use Rattle.rt_stamps.specs.declared.limits.TheConstants.{MOST_SPANS}
 use Rattle.rt_stamps.specs.Words.{as_words}
 use Rattle.rt_ops.specs.Edits.{body_of}
-use Rattle.rt_store.specs.Cells.{visible_of}
 use Rattle.rt_store.specs.Shown.{shown}
 use Rattle.rt_store.specs.Written.{AreWritten}
 use Rattle.rt_edits.specs.Flat.{Flat}
-use Rattle.rt_edits.specs.Listed.{AreListed}
 use Rattle.rt_edits.proofs.DeletionsInTurn.{Stands}
-use Rattle.rt_edits.proofs.drafting.taken_off.Given as goal
+use Rattle.rt_edits.proofs.drafting.planned_tag_deletion.Given as goal
 
 abbrev pub invariant-loop-name : goal.invariant-loop-name
-invariant-loop-name l =
-    (flat : Flat) → AreWritten flat.count flat.cells → AreListed l.tags.names flat.cells → visible_of flat.cells ≡ map (shown l.states) l.cells
+invariant-loop-name g l =
+    (flat : Flat) → AreWritten flat.count flat.cells → flat.cells ≡ map (shown l.states) (g.S.TextStore.list l.store)
     → Stands MOST_SPANS flat l.seen.names (map body_of l.drafts.items) (as_words (drop l.name-index l.names)) (as_words l.names)
