@@ -178,17 +178,17 @@ module _ {Site : Type 0} (log : Site → List Operation) (limit : Site → ℕ) 
   offers_go : (site : ℕ) (ops : List Operation) (offsets : List ℕ) (behind : Behind) (old : State Site) (received : Received) (new : State Site)
       → (h : Offers log limit after ops offsets behind old received new) → 0 < site → ((op : Operation) → Has ops op → keeps_rules op.body ≡ true)
       → IsHolding (limit old.site) (state_of old) → Goes site old new (offered_in log limit after ops offsets behind old received new h)
-  offers_go site [] offsets behind old received new h p rules k = stays_so site old new k h.3
+  offers_go site [] offsets behind old received new h p rules k = stays_so site old new k h.same
   offers_go site (op ∷ ops) [] behind old received new h p rules k = absurd h
-  offers_go site (op ∷ ops) (offset ∷ offsets) behind old received new (inl h) p rules k = refused_goes site op h.0 old new (rules op (inl refl)) k h.1 h.3
+  offers_go site (op ∷ ops) (offset ∷ offsets) behind old received new (inl h) p rules k = refused_goes site op h.fault old new (rules op (inl refl)) k h.refused h.same
   offers_go site (op ∷ ops) (offset ∷ offsets) behind old received new (inr h) p rules k =
-      let mid = h.1 in
-      let (more, leads) = offered_leads site op h.0 old mid k h.3 h.4 in
-      let stays = offered_limit op h.0 old mid h.4 in
+      let mid = h.next in
+      let (more, leads) = offered_leads site op h.offered old mid k h.reply h.is_offered in
+      let stays = offered_limit op h.offered old mid h.is_offered in
       let kept = requests_keep site (limit old.site) (Offer op) (state_of old) (state_of mid) more p k (rules op (inl refl)) leads in
-      goes_past site op more (offered_in log limit after ops offsets behind mid h.2 new h.6) h.0 old mid new (rules op (inl refl)) h.3 leads stays
-      (offers_go site ops offsets behind mid h.2 new h.6 p (λ x i. rules x (inr i)) (subst (λ l. IsHolding l (state_of mid)) (sym stays) kept))
+      goes_past site op more (offered_in log limit after ops offsets behind mid h.rest new h.others) h.offered old mid new (rules op (inl refl)) h.reply leads stays
+      (offers_go site ops offsets behind mid h.rest new h.others p (λ x i. rules x (inr i)) (subst (λ l. IsHolding l (state_of mid)) (sym stays) kept))
 
   pub file_goes : (site : ℕ) (bytes : List ℕ) (old : State Site) (received : Received) (new : State Site) → (h : Receives log limit after bytes old received new) → 0 < site
       → IsHolding (limit old.site) (state_of old) → Goes site old new (came_with log limit after bytes old received new h)
-  file_goes site bytes old received new h p k = offers_go site h.0 h.1 h.2 old received new h.4 p (read_rules bytes h.0 h.1 h.2 h.3) k
+  file_goes site bytes old received new h p k = offers_go site h.ops h.offsets h.behind old received new h.offers p (read_rules bytes h.ops h.offsets h.behind h.read) k

@@ -140,15 +140,15 @@ module _ {Site : Type 0} (log : Site → List Operation) (limit : Site → ℕ) 
   offers_go : (all : List Operation) → IsHistory all → (ops : List Operation) (offsets : List ℕ) (behind : Behind) (old : State Site) (received : Received) (new : State Site) (seen set : List Operation)
       → Offers log limit after ops offsets behind old received new → received.fault ≡ None → HasLog set old → IsHistory set → ((x : Operation) → Has set x → Has seen x) → ((x : Operation) → Has seen x → Has set x)
       → AreIn set all → AreIn ops all → ComeInTime all seen ops → HasLog (all_taken ops set) new
-  offers_go all h [] offsets behind old received new seen set f e l k a b sub o t = subst (λ s. HasLog set s) (sym f.3) l
+  offers_go all h [] offsets behind old received new seen set f e l k a b sub o t = subst (λ s. HasLog set s) (sym f.same) l
   offers_go all h (op ∷ ops) [] behind old received new seen set f e l k a b sub o t = absurd f
-  offers_go all h (op ∷ ops) (offset ∷ offsets) behind old received new seen set (inl f) e l k a b sub o t = absurd (let q = ap (λ (r : Received). r.fault) f.2 in let n : ⊥ = cc (q, e) in n)
+  offers_go all h (op ∷ ops) (offset ∷ offsets) behind old received new seen set (inl f) e l k a b sub o t = absurd (let q = ap (λ (r : Received). r.fault) f.counted in let n : ⊥ = cc (q, e) in n)
   offers_go all h (op ∷ ops) (offset ∷ offsets) behind old received new seen set (inr f) e l k a b sub o t =
       let bases : HasBasesIn all op set = λ base i u. b base (t.0 base i u) in
       let one = one_taken all set op h k sub (o op (inl refl)) bases in
-      let next = one_goes op f.0 all set old f.1 h k sub (o op (inl refl)) bases l f.3 f.4 in
-      let fault : f.2.fault ≡ None = sym (fault_of f.0 f.2) ∙ sym (ap (λ (r : Received). r.fault) f.5) ∙ e in
-      offers_go all h ops offsets behind f.1 f.2 new (op ∷ seen) (taken op set) f.6 fault next one.history
+      let next = one_goes op f.offered all set old f.next h k sub (o op (inl refl)) bases l f.reply f.is_offered in
+      let fault : f.rest.fault ≡ None = sym (fault_of f.offered f.rest) ∙ sym (ap (λ (r : Received). r.fault) f.counted) ∙ e in
+      offers_go all h ops offsets behind f.next f.rest new (op ∷ seen) (taken op set) f.others fault next one.history
       (λ x i. elim ((one.members x).0 i) [ inl j ↦ inr (a x j) | inr q ↦ inl q ])
       (λ x i. (one.members x).1 (elim i [ inl q ↦ inr q | inr j ↦ inl (b x j) ]))
       (λ x i. elim ((one.members x).0 i) [ inl j ↦ sub x j | inr q ↦ subst (Has all) q (o op (inl refl)) ])
@@ -171,18 +171,18 @@ module _ {Site : Type 0} (log : Site → List Operation) (limit : Site → ℕ) 
       → Offers log limit after ops offsets behind old received new → EndsWell behind → HasLog set old → IsHistory set → ((x : Operation) → Has set x → Has seen x) → ((x : Operation) → Has seen x → Has set x)
       → AreIn set all → AreIn ops all → ComeInTime all seen ops → IfSome received.fault (λ found. (found.0 ≡ NoMemory) ⊎ (found.0 ≡ TextFull))
   offers_end all h [] offsets behind old received new seen set f w l k a b sub o t =
-      subst (λ (r : Received). IfSome r.fault (λ found. (found.0 ≡ NoMemory) ⊎ (found.0 ≡ TextFull))) (sym f.2)
-      (well_told (λ found. (found.0 ≡ NoMemory) ⊎ (found.0 ≡ TextFull)) behind f.0 w f.1 (λ at. inl refl))
+      subst (λ (r : Received). IfSome r.fault (λ found. (found.0 ≡ NoMemory) ⊎ (found.0 ≡ TextFull))) (sym f.counted)
+      (well_told (λ found. (found.0 ≡ NoMemory) ⊎ (found.0 ≡ TextFull)) behind f.told w f.ends (λ at. inl refl))
   offers_end all h (op ∷ ops) [] behind old received new seen set f w l k a b sub o t = absurd f
   offers_end all h (op ∷ ops) (offset ∷ offsets) behind old received new seen set (inl f) w l k a b sub o t =
-      subst (λ (r : Received). IfSome r.fault (λ found. (found.0 ≡ NoMemory) ⊎ (found.0 ≡ TextFull))) (sym f.2)
-      (refused_goes op f.0 all set old h k sub (o op (inl refl)) (λ base i u. b base (t.0 base i u)) l f.1)
+      subst (λ (r : Received). IfSome r.fault (λ found. (found.0 ≡ NoMemory) ⊎ (found.0 ≡ TextFull))) (sym f.counted)
+      (refused_goes op f.fault all set old h k sub (o op (inl refl)) (λ base i u. b base (t.0 base i u)) l f.refused)
   offers_end all h (op ∷ ops) (offset ∷ offsets) behind old received new seen set (inr f) w l k a b sub o t =
       let bases : HasBasesIn all op set = λ base i u. b base (t.0 base i u) in
       let one = one_taken all set op h k sub (o op (inl refl)) bases in
-      let next = one_goes op f.0 all set old f.1 h k sub (o op (inl refl)) bases l f.3 f.4 in
-      subst (λ fault. IfSome fault (λ found. (found.0 ≡ NoMemory) ⊎ (found.0 ≡ TextFull))) (sym (ap (λ (r : Received). r.fault) f.5 ∙ fault_of f.0 f.2))
-      (offers_end all h ops offsets behind f.1 f.2 new (op ∷ seen) (taken op set) f.6 w next one.history
+      let next = one_goes op f.offered all set old f.next h k sub (o op (inl refl)) bases l f.reply f.is_offered in
+      subst (λ fault. IfSome fault (λ found. (found.0 ≡ NoMemory) ⊎ (found.0 ≡ TextFull))) (sym (ap (λ (r : Received). r.fault) f.counted ∙ fault_of f.offered f.rest))
+      (offers_end all h ops offsets behind f.next f.rest new (op ∷ seen) (taken op set) f.others w next one.history
       (λ x i. elim ((one.members x).0 i) [ inl j ↦ inr (a x j) | inr q ↦ inl q ])
       (λ x i. (one.members x).1 (elim i [ inl q ↦ inr q | inr j ↦ inl (b x j) ]))
       (λ x i. elim ((one.members x).0 i) [ inl j ↦ sub x j | inr q ↦ subst (Has all) q (o op (inl refl)) ])
@@ -193,15 +193,15 @@ module _ {Site : Type 0} (log : Site → List Operation) (limit : Site → ℕ) 
       → Reads bytes ops offsets None → Receives log limit after bytes old received new → received.fault ≡ None → HasLog set old → IsHistory all → IsHistory set
       → ((x : Operation) → Has all x ↔ (Has set x ⊎ Has ops x)) → ComeInTime all set ops → HasLog all new
   part_joins bytes offsets all set ops old received new reads f e l h k same t =
-      let read : ops ≡ f.0 = all_offered log limit after bytes ops f.0 offsets f.1 f.2 old received new reads f.3 f.4 e in
-      let offers : Offers log limit after ops f.1 f.2 old received new = subst (λ ops. Offers log limit after ops f.1 f.2 old received new) (sym read) f.4 in
+      let read : ops ≡ f.ops = all_offered log limit after bytes ops f.ops offsets f.offsets f.behind old received new reads f.read f.offers e in
+      let offers : Offers log limit after ops f.offsets f.behind old received new = subst (λ ops. Offers log limit after ops f.offsets f.behind old received new) (sym read) f.offers in
       subst (λ s. HasLog s new) (whole all set ops h k same t)
-      (offers_go all h ops f.1 f.2 old received new set set offers e l k (λ x i. i) (λ x i. i) (λ x i. (same x).1 (inl i)) (λ x i. (same x).1 (inr i)) t)
+      (offers_go all h ops f.offsets f.behind old received new set set offers e l k (λ x i. i) (λ x i. i) (λ x i. (same x).1 (inl i)) (λ x i. (same x).1 (inr i)) t)
 
   pub part_ends : (bytes : List ℕ) (offsets : List ℕ) (all set ops : List Operation) (old : State Site) (received : Received) (new : State Site)
       → Reads bytes ops offsets None → Receives log limit after bytes old received new → HasLog set old → IsHistory all → IsHistory set
       → ((x : Operation) → Has all x ↔ (Has set x ⊎ Has ops x)) → ComeInTime all set ops → IfSome received.fault (λ found. (found.0 ≡ NoMemory) ⊎ (found.0 ≡ TextFull))
   part_ends bytes offsets all set ops old received new reads f l h k same t =
-      let front = front_read bytes ops f.0 offsets f.1 f.2 reads f.3 in
-      offers_end all h f.0 f.1 f.2 old received new set set f.4 front.well l k (λ x i. i) (λ x i. i) (λ x i. (same x).1 (inl i))
-      (λ x i. (same x).1 (inr (subst (λ l. Has l x) (sym front.is) (before f.0 front.more x i)))) (come_front all set f.0 front.more (subst (ComeInTime all set) front.is t))
+      let front = front_read bytes ops f.ops offsets f.offsets f.behind reads f.read in
+      offers_end all h f.ops f.offsets f.behind old received new set set f.offers front.well l k (λ x i. i) (λ x i. i) (λ x i. (same x).1 (inl i))
+      (λ x i. (same x).1 (inr (subst (λ l. Has l x) (sym front.is) (before f.ops front.more x i)))) (come_front all set f.ops front.more (subst (ComeInTime all set) front.is t))

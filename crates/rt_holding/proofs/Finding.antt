@@ -149,15 +149,23 @@ module _ {Site : Type 0} (log : Site → List Operation) (limit : Site → ℕ) 
       → length offsets ≡ length ops
       → (received : Received) × (new : State Site) × (h : Offers log limit after ops offsets (Ended ending) old received new)
       × OffersFoundMemory log limit after ops offsets (Ended ending) old received new h
-  all_find t [] offsets ending old l = (none_accepted ending old.held, old, (ending, refl, refl, refl), tt)
+  all_find t [] offsets ending old l = (none_accepted ending old.held, old, record { told = ending; ends = refl; counted = refl; same = refl }, tt)
   all_find t (op ∷ ops) [] ending old l = absurd (omega (arith, l))
   all_find t (op ∷ ops) (offset ∷ offsets) ending old l = elim (either t op old (reply_at log limit after op old) refl) [
-    | inl r ↦ (none_accepted (Some (r.0, offset)) old.held, old, inl (r.0, inl r.1, refl, refl), r.2)
+    | inl r ↦ (none_accepted (Some (r.0, offset)) old.held, old, inl (record { fault = r.0; refused = inl r.1; counted = refl; same = refl }), r.2)
     | inr g ↦ (let behind = all_find t ops offsets ending g.1 (omega (arith, l)) in
-        (one_more g.0 behind.0, behind.1, inr (g.0, g.1, behind.0, g.2, g.3, refl, behind.2), (g.4, behind.3)))
+        (one_more g.0 behind.0, behind.1, inr (record {
+          offered = g.0;
+          next = g.1;
+          rest = behind.0;
+          reply = g.2;
+          is_offered = g.3;
+          counted = refl;
+          others = behind.2;
+        }), (g.4, behind.3)))
   ]
 
   pub files_find : FilesFindMemory log limit after
   files_find t bytes ops offsets ending old reads =
       let k = all_find t ops offsets ending old (reads_length bytes ops offsets ending reads) in
-      (k.0, k.1, (ops, offsets, Ended ending, reads, k.2), k.3)
+      (k.0, k.1, record { ops = ops; offsets = offsets; behind = Ended ending; read = reads; offers = k.2 }, k.3)

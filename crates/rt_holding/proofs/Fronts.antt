@@ -133,14 +133,14 @@ module _ {Site : Type 0} (log : Site → List Operation) (limit : Site → ℕ) 
   -- where no fault is told, the file was read to its end
   pub read_to_end : (ops : List Operation) (offsets : List ℕ) (behind : Behind) (old : State Site) (received : Received) (new : State Site)
       → Offers log limit after ops offsets behind old received new → received.fault ≡ None → behind ≡ Ended None
-  read_to_end [] offsets (Ended ending) old received new h e = let same : ending ≡ None = sym h.1 ∙ sym (ap (λ (r : Received). r.fault) h.2) ∙ e in ap (λ x. Ended x) same
+  read_to_end [] offsets (Ended ending) old received new h e = let same : ending ≡ None = sym h.ends ∙ sym (ap (λ (r : Received). r.fault) h.counted) ∙ e in ap (λ x. Ended x) same
   read_to_end [] offsets (Wanting offset) old received new h e =
-      let same : ◌≡◌ {A = Option (Fault × ℕ)} None (Some (_, offset)) = sym e ∙ ap (λ (r : Received). r.fault) h.2 ∙ h.1 in absurd (cc same)
-  read_to_end [] offsets Unread old received new h e = absurd h.1
+      let same : ◌≡◌ {A = Option (Fault × ℕ)} None (Some (_, offset)) = sym e ∙ ap (λ (r : Received). r.fault) h.counted ∙ h.ends in absurd (cc same)
+  read_to_end [] offsets Unread old received new h e = absurd h.ends
   read_to_end (op ∷ ops) [] behind old received new h e = absurd h
-  read_to_end (op ∷ ops) (offset ∷ offsets) behind old received new (inl h) e = absurd (let q = ap (λ (r : Received). r.fault) h.2 in let n : ⊥ = cc (q, e) in n)
+  read_to_end (op ∷ ops) (offset ∷ offsets) behind old received new (inl h) e = absurd (let q = ap (λ (r : Received). r.fault) h.counted in let n : ⊥ = cc (q, e) in n)
   read_to_end (op ∷ ops) (offset ∷ offsets) behind old received new (inr h) e =
-      read_to_end ops offsets behind h.1 h.2 new h.6 (sym (same_fault log limit after h.0 h.2) ∙ sym (ap (λ (r : Received). r.fault) h.5) ∙ e)
+      read_to_end ops offsets behind h.next h.rest new h.others (sym (same_fault log limit after h.offered h.rest) ∙ sym (ap (λ (r : Received). r.fault) h.counted) ∙ e)
 
   -- so of a file that is read as some operations all of them were offered
   pub all_offered : (bytes : List ℕ) (all ops : List Operation) (places offsets : List ℕ) (behind : Behind) (old : State Site) (received : Received) (new : State Site)

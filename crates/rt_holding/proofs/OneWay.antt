@@ -84,28 +84,28 @@ module _ {Site : Type 0} (log : Site → List Operation) (limit : Site → ℕ) 
       → OffersFoundMemory log limit after (ops ++ more) (offsets_from at (ops ++ more)) beyond old other left k
       → (received ≡ other) × (new ≡ left)
   one_run [] more at (Wanting m) beyond old received other new left a h k f g = absurd f
-  one_run [] more at Unread beyond old received other new left a h k f g = absurd h.1
+  one_run [] more at Unread beyond old received other new left a h k f g = absurd h.ends
   one_run [] more at (Ended x) (Wanting n) old received other new left a h k f g = absurd a
   one_run [] more at (Ended x) Unread old received other new left a h k f g = absurd a
   one_run [] (op ∷ more) at (Ended x) (Ended y) old received other new left a h k f g = absurd (let e = a.0 in cc e)
   one_run [] [] at (Ended x) (Ended y) old received other new left a h k f g =
-      let same : h.0 ≡ k.0 = h.1 ∙ a.1 ∙ sym k.1 in
-      (h.2 ∙ ap (λ told. none_accepted told old.held) same ∙ sym k.2, h.3 ∙ sym k.3)
+      let same : h.told ≡ k.told = h.ends ∙ a.1 ∙ sym k.ends in
+      (h.counted ∙ ap (λ told. none_accepted told old.held) same ∙ sym k.counted, h.same ∙ sym k.same)
   one_run (op ∷ ops) more at behind beyond old received other new left a (inl h) (inl k) f g =
-      let same = one_fault (reply_at log limit after op old) h.0 k.0 (refused_by (reply_at log limit after op old) h.0 h.1 f) (refused_by (reply_at log limit after op old) k.0 k.1 g) in
-      (h.2 ∙ ap (λ fault. none_accepted (Some (fault, at)) old.held) same ∙ sym k.2, h.3 ∙ sym k.3)
+      let same = one_fault (reply_at log limit after op old) h.fault k.fault (refused_by (reply_at log limit after op old) h.fault h.refused f) (refused_by (reply_at log limit after op old) k.fault k.refused g) in
+      (h.counted ∙ ap (λ fault. none_accepted (Some (fault, at)) old.held) same ∙ sym k.counted, h.same ∙ sym k.same)
   one_run (op ∷ ops) more at behind beyond old received other new left a (inl h) (inr k) f g =
-      absurd (not_refused k.0 h.0 (reply_at log limit after op old) k.3 (refused_by (reply_at log limit after op old) h.0 h.1 f))
+      absurd (not_refused k.offered h.fault (reply_at log limit after op old) k.reply (refused_by (reply_at log limit after op old) h.fault h.refused f))
   one_run (op ∷ ops) more at behind beyond old received other new left a (inr h) (inl k) f g =
-      absurd (not_refused h.0 k.0 (reply_at log limit after op old) h.3 (refused_by (reply_at log limit after op old) k.0 k.1 g))
+      absurd (not_refused h.offered k.fault (reply_at log limit after op old) h.reply (refused_by (reply_at log limit after op old) k.fault k.refused g))
   one_run (op ∷ ops) more at behind beyond old received other new left a (inr h) (inr k) f g =
       let next = at + length (record_of op) in
       let all = ops ++ more in
-      let here = one_offer op h.0 k.0 old h.1 k.1 (sym h.3 ∙ k.3) h.4 k.4 f.0 g.0 in
-      let later : (h.2 ≡ k.2) × (new ≡ left) = subst (λ (s : State Site). (l : Offers log limit after all (offsets_from next all) beyond s k.2 left)
-      → OffersFoundMemory log limit after all (offsets_from next all) beyond s k.2 left l → (h.2 ≡ k.2) × (new ≡ left)) here.1
-      (λ l e. one_run ops more next behind beyond h.1 h.2 k.2 new left a h.6 l f.1 e) k.6 g.1 in
-      (h.5 ∙ (λ i. one_more (here.0 i) (later.0 i)) ∙ sym k.5, later.1)
+      let here = one_offer op h.offered k.offered old h.next k.next (sym h.reply ∙ k.reply) h.is_offered k.is_offered f.0 g.0 in
+      let later : (h.rest ≡ k.rest) × (new ≡ left) = subst (λ (s : State Site). (l : Offers log limit after all (offsets_from next all) beyond s k.rest left)
+      → OffersFoundMemory log limit after all (offsets_from next all) beyond s k.rest left l → (h.rest ≡ k.rest) × (new ≡ left)) here.1
+      (λ l e. one_run ops more next behind beyond h.next h.rest k.rest new left a h.others l f.1 e) k.others g.1 in
+      (h.counted ∙ (λ i. one_more (here.0 i) (later.0 i)) ∙ sym k.counted, later.1)
 
   -- a file in which a front was read, and in which all
   one_read : (ops other : List Operation) (offsets places : List ℕ) (behind beyond : Behind) (old : State Site) (received again : Received) (new left : State Site)
@@ -127,9 +127,9 @@ module _ {Site : Type 0} (log : Site → List Operation) (limit : Site → ℕ) 
   -- a file, however far it is read
   pub files_go : FilesGoOneWay log limit after
   files_go bytes old received other new left h k f g =
-      let one = offsets_are bytes h.0 h.1 h.2 h.3 in
-      let two = offsets_are bytes k.0 k.1 k.2 k.3 in
-      elim (one_or_other bytes h.0 k.0 h.1 k.1 h.2 k.2 h.3 k.3) [
-        | inl front ↦ one_read h.0 k.0 h.1 k.1 h.2 k.2 old received other new left front one two h.4 k.4 f g
-        | inr front ↦ (let same = one_read k.0 h.0 k.1 h.1 k.2 h.2 old other received left new front two one k.4 h.4 g f in (sym same.0, sym same.1))
+      let one = offsets_are bytes h.ops h.offsets h.behind h.read in
+      let two = offsets_are bytes k.ops k.offsets k.behind k.read in
+      elim (one_or_other bytes h.ops k.ops h.offsets k.offsets h.behind k.behind h.read k.read) [
+        | inl front ↦ one_read h.ops k.ops h.offsets k.offsets h.behind k.behind old received other new left front one two h.offers k.offers f g
+        | inr front ↦ (let same = one_read k.ops h.ops k.offsets h.offsets k.behind h.behind old other received left new front two one k.offers h.offers g f in (sym same.0, sym same.1))
       ]

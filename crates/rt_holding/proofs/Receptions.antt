@@ -135,7 +135,15 @@ module _ {Site : Type 0} (log : Site → List Operation) (limit : Site → ℕ) 
         let at = length (spelling h.ops) in
         let next : Offers log limit after more (offsets_from (at + length (record_of op)) more) behind mid received new =
         subst (λ (n : ℕ). Offers log limit after more (offsets_from n more) behind mid received new) (one_longer h.ops op) k in
-        let whole = h.past (op ∷ more) behind (one_more o received) new (inr (o, mid, received, reply, taken, refl, next)) in
+        let whole = h.past (op ∷ more) behind (one_more o received) new (inr (record {
+          offered = o;
+          next = mid;
+          rest = received;
+          reply = reply;
+          is_offered = taken;
+          counted = refl;
+          others = next;
+        })) in
         subst (λ (r : Received). Offers log limit after ((h.ops ++ op ∷ []) ++ more) (offsets_from 8 ((h.ops ++ op ∷ []) ++ more)) behind start r new)
         (sym (added_more o before received))
         (subst (λ (ops : List Operation). Offers log limit after ops (offsets_from 8 ops) behind start (added before (one_more o received)) new)
@@ -152,14 +160,14 @@ module _ {Site : Type 0} (log : Site → List Operation) (limit : Site → ℕ) 
       → (h : HasOffered left start before now) → EndsWith behind told → ReadsUpTo bytes h.ops (offsets_from 8 h.ops) behind
       → Receives log limit after bytes start (record before { held = length now.held; fault = told }) now
   ends_so bytes left start before now behind told h is reads =
-      let whole = h.past [] behind (none_accepted told now.held) now (told, is, refl, refl) in (
-        h.ops,
-        offsets_from 8 h.ops,
-        behind,
-        reads,
-        subst (λ (r : Received). Offers log limit after h.ops (offsets_from 8 h.ops) behind start r now) (added_nothing before told now.held)
-            (subst (λ (ops : List Operation). Offers log limit after ops (offsets_from 8 ops) behind start (added before (none_accepted told now.held)) now) (append-nil h.ops) whole),
-      )
+      let whole = h.past [] behind (none_accepted told now.held) now (record { told = told; ends = is; counted = refl; same = refl }) in record {
+        ops = h.ops;
+        offsets = offsets_from 8 h.ops;
+        behind = behind;
+        read = reads;
+        offers = subst (λ (r : Received). Offers log limit after h.ops (offsets_from 8 h.ops) behind start r now) (added_nothing before told now.held)
+            (subst (λ (ops : List Operation). Offers log limit after ops (offsets_from 8 ops) behind start (added before (none_accepted told now.held)) now) (append-nil h.ops) whole);
+      }
 
   -- at the end of the file
   pub receives_whole : (bytes : List ℕ) (left : Left) (start : State Site) (before : Received) (now : State Site) → left.bytes ≡ bytes → left.rest ≡ []
@@ -190,17 +198,27 @@ module _ {Site : Type 0} (log : Site → List Operation) (limit : Site → ℕ) 
       let taken = read.taken h.ops h.taken in
       let told : Option (Fault × ℕ) = Some (fault, offset) in
       let place : Some (fault, length (spelling h.ops)) ≡ told = ap (λ n. Some (fault, n)) (sym (at h.ops h.taken)) in
-      let whole = h.past (op ∷ []) Unread (none_accepted told now.held) new (inl (fault, why, ap (λ t. none_accepted t now.held) (sym place), same)) in (
-        ops,
-        offsets_from 8 ops,
-        Unread,
-        ((later.rest, sym e ∙ sym read.bytes ∙ taken.bytes, taken.are), refl),
-        subst (λ (r : Received). Offers log limit after ops (offsets_from 8 ops) Unread start r new)
-            (added_nothing before told now.held ∙ (λ i. record before { held = length (sym same i).held; fault = told })) whole,
-      )
+      let whole = h.past (op ∷ []) Unread (none_accepted told now.held) new (inl (record {
+        fault = fault;
+        refused = why;
+        counted = ap (λ t. none_accepted t now.held) (sym place);
+        same = same;
+      })) in record {
+        ops = ops;
+        offsets = offsets_from 8 ops;
+        behind = Unread;
+        read = ((later.rest, sym e ∙ sym read.bytes ∙ taken.bytes, taken.are), refl);
+        offers = subst (λ (r : Received). Offers log limit after ops (offsets_from 8 ops) Unread start r new)
+            (added_nothing before told now.held ∙ (λ i. record before { held = length (sym same i).held; fault = told })) whole;
+      }
 
   -- at the file's first eight bytes
   pub receives_none : (bytes : List ℕ) (start : State Site) (fault : Fault) → head_fault (take 8 bytes) ≡ Some fault
       → Receives log limit after bytes start (none_accepted (Some (fault, 0)) start.held) start
-  receives_none bytes start fault e =
-      ([], [], Ended (Some (fault, 0)), subst (λ found. ReadsAs found bytes [] [] (Some (fault, 0))) (sym e) (refl, refl, refl), (Some (fault, 0), refl, refl, refl))
+  receives_none bytes start fault e = record {
+    ops = [];
+    offsets = [];
+    behind = Ended (Some (fault, 0));
+    read = subst (λ found. ReadsAs found bytes [] [] (Some (fault, 0))) (sym e) (refl, refl, refl);
+    offers = record { told = Some (fault, 0); ends = refl; counted = refl; same = refl };
+  }

@@ -46,24 +46,30 @@ module _ {Site Seen : Type 0} (see : Site → Seen) (log : Seen → List Operati
   offers_seen : (ops : List Operation) (offsets : List ℕ) (behind : Behind) (old : State Site) (received : Received) (new : State Site)
       → Offers log_of limit_of after ops offsets behind old received new
       → Offers log limit seen_after ops offsets behind (seen_as see old) received (seen_as see new)
-  offers_seen [] offsets behind old received new h = (h.0, h.1, h.2, ap (seen_as see) h.3)
+  offers_seen [] offsets behind old received new h = record { told = h.told; ends = h.ends; counted = h.counted; same = ap (seen_as see) h.same }
   offers_seen (op ∷ ops) [] behind old received new h = absurd h
-  offers_seen (op ∷ ops) (offset ∷ offsets) behind old received new (inl h) = inl (h.0, h.1, h.2, ap (seen_as see) h.3)
+  offers_seen (op ∷ ops) (offset ∷ offsets) behind old received new (inl h) =
+      inl (record { fault = h.fault; refused = h.refused; counted = h.counted; same = ap (seen_as see) h.same })
   offers_seen (op ∷ ops) (offset ∷ offsets) behind old received new (inr h) =
-      inr (
-        h.0,
-        seen_as see h.1,
-        h.2,
-        h.3,
-        offered_seen (limit_of old.site) op h.0 old.site old.held h.1.site h.1.held h.4,
-        h.5,
-        offers_seen ops offsets behind h.1 h.2 new h.6,
-      )
+      inr (record {
+        offered = h.offered;
+        next = seen_as see h.next;
+        rest = h.rest;
+        reply = h.reply;
+        is_offered = offered_seen (limit_of old.site) op h.offered old.site old.held h.next.site h.next.held h.is_offered;
+        counted = h.counted;
+        others = offers_seen ops offsets behind h.next h.rest new h.others;
+      })
 
 pub files_seen : {Site Seen : Type 0} (see : Site → Seen) (log : Seen → List Operation) (limit : Seen → ℕ)
     (after : Operation → Site → Site) (seen_after : Operation → Seen → Seen) → FilesAreSeen see log limit after seen_after
-files_seen see log limit after seen_after same bytes old received new h =
-    (h.0, h.1, h.2, h.3, offers_seen see log limit after seen_after same h.0 h.1 h.2 old received new h.4)
+files_seen see log limit after seen_after same bytes old received new h = record {
+  ops = h.ops;
+  offsets = h.offsets;
+  behind = h.behind;
+  read = h.read;
+  offers = offers_seen see log limit after seen_after same h.ops h.offsets h.behind old received new h.offers;
+}
 
 -- WHICH ARE TAKEN
 
@@ -122,13 +128,13 @@ module _ {Site : Type 0} (log : Site → List Operation) (limit : Site → ℕ) 
 
   offers_took : (ops : List Operation) (offsets : List ℕ) (behind : Behind) (old : State Site) (received : Received) (new : State Site)
       → Offers log limit after ops offsets behind old received new → Took old.site new.site
-  offers_took [] offsets behind old received new h = took_none old.site new.site (ap (λ (s : State Site). s.site) h.3)
+  offers_took [] offsets behind old received new h = took_none old.site new.site (ap (λ (s : State Site). s.site) h.same)
   offers_took (op ∷ ops) [] behind old received new h = absurd h
-  offers_took (op ∷ ops) (offset ∷ offsets) behind old received new (inl h) = took_none old.site new.site (ap (λ (s : State Site). s.site) h.3)
+  offers_took (op ∷ ops) (offset ∷ offsets) behind old received new (inl h) = took_none old.site new.site (ap (λ (s : State Site). s.site) h.same)
   offers_took (op ∷ ops) (offset ∷ offsets) behind old received new (inr h) =
-      took_then old.site h.1.site new.site (offered_took op h.0 old.site old.held h.1.site h.1.held h.3 h.4)
-      (offers_took ops offsets behind h.1 h.2 new h.6)
+      took_then old.site h.next.site new.site (offered_took op h.offered old.site old.held h.next.site h.next.held h.reply h.is_offered)
+      (offers_took ops offsets behind h.next h.rest new h.others)
 
 pub files_taken : {Site : Type 0} (log : Site → List Operation) (limit : Site → ℕ) (after : Operation → Site → Site) → FilesAreTaken log limit after
 files_taken log limit after takes bytes old received new h =
-    offers_took log limit after takes h.0 h.1 h.2 old received new h.4
+    offers_took log limit after takes h.ops h.offsets h.behind old received new h.offers

@@ -20,11 +20,11 @@ module _ {Site : Type 0} (log : Site → List Operation) (limit : Site → ℕ) 
       → Offers log limit after ops offsets behind old received new → List Operation
   offered_in [] offsets behind old received new h = []
   offered_in (op ∷ ops) [] behind old received new h = []
-  offered_in (op ∷ ops) (offset ∷ offsets) behind old received new (inl refused) = if is_want refused.0 then [] else op ∷ []
-  offered_in (op ∷ ops) (offset ∷ offsets) behind old received new (inr offered) =
-      op ∷ offered_in ops offsets behind offered.1 offered.2 new offered.6
+  offered_in (op ∷ ops) (offset ∷ offsets) behind old received new (inl refused) = if is_want refused.fault then [] else op ∷ []
+  offered_in (op ∷ ops) (offset ∷ offsets) behind old received new (inr more) =
+      op ∷ offered_in ops offsets behind more.next more.rest new more.others
 
   -- so with a file; an operation whose record found no memory when it was read was never offered
   abbrev pub came_with : (bytes : List ℕ) (old : State Site) (received : Received) (new : State Site)
       → Receives log limit after bytes old received new → List Operation
-  came_with bytes old received new h = offered_in h.0 h.1 h.2 old received new h.4
+  came_with bytes old received new h = offered_in h.ops h.offsets h.behind old received new h.offers

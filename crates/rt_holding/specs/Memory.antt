@@ -53,15 +53,15 @@ module _ {Site : Type 0} (log : Site → List Operation) (limit : Site → ℕ) 
       → Offers log limit after ops offsets behind old received new → Type 0
   OffersFoundMemory [] offsets behind old received new h = WasRead behind
   OffersFoundMemory (op ∷ ops) [] behind old received new h = ⊥
-  OffersFoundMemory (op ∷ ops) (offset ∷ offsets) behind old received new (inl refused) = refused.0 ≢ NoMemory
-  OffersFoundMemory (op ∷ ops) (offset ∷ offsets) behind old received new (inr each) =
-      OfferFoundMemory (limit old.site) op each.0 old.site old.held each.1.site each.1.held each.4
-      × OffersFoundMemory ops offsets behind each.1 each.2 new each.6
+  OffersFoundMemory (op ∷ ops) (offset ∷ offsets) behind old received new (inl refused) = refused.fault ≢ NoMemory
+  OffersFoundMemory (op ∷ ops) (offset ∷ offsets) behind old received new (inr more) =
+      OfferFoundMemory (limit old.site) op more.offered old.site old.held more.next.site more.next.held more.is_offered
+      × OffersFoundMemory ops offsets behind more.next more.rest new more.others
 
   -- so for a file
   abbrev pub FileFoundMemory : (bytes : List ℕ) (old : State Site) (received : Received) (new : State Site)
       → Receives log limit after bytes old received new → Type 0
-  FileFoundMemory bytes old received new h = OffersFoundMemory h.0 h.1 h.2 old received new h.4
+  FileFoundMemory bytes old received new h = OffersFoundMemory h.ops h.offsets h.behind old received new h.offers
 
   -- then a file has at most one answer, and leaves at most one state
   abbrev pub FilesGoOneWay : Type 0

@@ -61,21 +61,45 @@ module _ {Site : Type 0} (log : Site → List Operation) (limit : Site → ℕ) 
   abbrev pub reply_at : Operation → State Site → Reply
   reply_at op s = reply_to (limit s.site) op (holding log s.site s.held)
 
-  -- Operations are offered one after the other, each with the offset of its record, up to the first that is refused: its fault is
-  -- told with its offset. Where none is, what came behind them is told. Want of memory may refuse one that is new, or that is to be
-  -- held. What is refused changes nothing, and those before it stay accepted or held.
+  -- None of the operations was refused: what came behind them is told.
+  pub record AllAreOffered (behind : Behind) (old : State Site) (received : Received) (new : State Site) : Type 0 where
+    pub told : Option (Fault × ℕ)
+    pub ends : EndsWith behind told
+    pub counted : received ≡ none_accepted told old.held
+    pub same : new ≡ old
+
+  -- An operation is refused: its fault is told with the offset of its record. Nothing changes, and none behind it is offered.
+  pub record EndsRefused (op : Operation) (offset : ℕ) (old : State Site) (received : Received) (new : State Site) : Type 0 where
+    pub fault : Fault
+    pub refused : IsRefused (reply_at op old) fault
+    pub counted : received ≡ none_accepted (Some (fault, offset)) old.held
+    pub same : new ≡ old
+
+  -- An operation isn't refused, and the others are offered behind it.
+  pub record OffersOneMore (Others : State Site → Received → Type 0) (op : Operation) (old : State Site) (received : Received) : Type 0 where
+    pub offered : Offered
+    -- the state after it
+    pub next : State Site
+    -- what is received with the others
+    pub rest : Received
+    pub reply : reply_at op old ≡ replied (Ok offered)
+    pub is_offered : IsOffered log after (limit old.site) op offered old.site old.held next.site next.held
+    pub counted : received ≡ one_more offered rest
+    pub others : Others next rest
+
+  -- Operations are offered one after the other, each with the offset of its record, up to the first that is refused. Want of memory
+  -- may refuse one that is new, or that is to be held. Those before it stay accepted or held.
   abbrev pub Offers : List Operation → List ℕ → Behind → State Site → Received → State Site → Type 0
-  Offers [] offsets behind old received new =
-      (told : Option (Fault × ℕ)) × EndsWith behind told × (received ≡ none_accepted told old.held) × (new ≡ old)
+  Offers [] offsets behind old received new = AllAreOffered behind old received new
   Offers (op ∷ ops) [] behind old received new = ⊥
   Offers (op ∷ ops) (offset ∷ offsets) behind old received new =
-      ((fault : Fault) × IsRefused (reply_at op old) fault × (received ≡ none_accepted (Some (fault, offset)) old.held) × (new ≡ old))
-      ⊎ ((offered : Offered) × (next : State Site) × (rest : Received) × (reply_at op old ≡ replied (Ok offered))
-      × IsOffered log after (limit old.site) op offered old.site old.held next.site next.held
-      × (received ≡ one_more offered rest) × Offers ops offsets behind next rest new)
+      EndsRefused op offset old received new ⊎ OffersOneMore (λ next rest. Offers ops offsets behind next rest new) op old received
 
   -- A file is read, and each operation offered before what is behind it is looked at.
-  abbrev pub Receives : List ℕ → State Site → Received → State Site → Type 0
-  Receives bytes old received new =
-      (ops : List Operation) × (offsets : List ℕ) × (behind : Behind) × ReadsUpTo bytes ops offsets behind
-      × Offers ops offsets behind old received new
+  pub record Receives (bytes : List ℕ) (old : State Site) (received : Received) (new : State Site) : Type 0 where
+    -- those that are read, each with the offset of its record
+    pub ops : List Operation
+    pub offsets : List ℕ
+    pub behind : Behind
+    pub read : ReadsUpTo bytes ops offsets behind
+    pub offers : Offers ops offsets behind old received new

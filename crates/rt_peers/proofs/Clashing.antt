@@ -187,28 +187,28 @@ module _ {Site : Type 0} (log : Site → List Operation) (limit : Site → ℕ) 
       → Offers log limit after ops offsets behind old received new → EndsWell behind → Logs set old → IsAmong one other set → AreIn seen set → AreIn ops other → ComeInTime other seen ops
       → Ends one other set ops received new
   offers_end one other h [] offsets behind old received new seen set f w l m a o t = (
-    λ e. record { result = set; has = subst (λ s. Logs set s) (sym f.3) l; history = m.history; some = m.some; all = λ x i. elim i [ inl j ↦ j | inr j ↦ absurd j ] },
-    subst (λ (r : Received). IfSome r.fault (λ found. IsWantOrConflict one other found.0)) (sym f.2) (well_told (λ found. IsWantOrConflict one other found.0) behind f.0 w f.1 (λ at. inl refl)),
+    λ e. record { result = set; has = subst (λ s. Logs set s) (sym f.same) l; history = m.history; some = m.some; all = λ x i. elim i [ inl j ↦ j | inr j ↦ absurd j ] },
+    subst (λ (r : Received). IfSome r.fault (λ found. IsWantOrConflict one other found.0)) (sym f.counted) (well_told (λ found. IsWantOrConflict one other found.0) behind f.told w f.ends (λ at. inl refl)),
   )
   offers_end one other h (op ∷ ops) [] behind old received new seen set f w l m a o t = absurd f
   offers_end one other h (op ∷ ops) (offset ∷ offsets) behind old received new seen set (inl f) w l m a o t =
       let bases : HasBasesIn other op set = λ base i u. a base (t.0 base i u) in
       let is = answered other set op h m.history (o op (inl refl)) bases in (
-        λ e. absurd (let q = ap (λ (r : Received). r.fault) f.2 in let n : ⊥ = cc (q, e) in n),
-        subst (λ (r : Received). IfSome r.fault (λ found. IsWantOrConflict one other found.0)) (sym f.2) (ended op f.0 one other set old m is l (o op (inl refl)) f.1),
+        λ e. absurd (let q = ap (λ (r : Received). r.fault) f.counted in let n : ⊥ = cc (q, e) in n),
+        subst (λ (r : Received). IfSome r.fault (λ found. IsWantOrConflict one other found.0)) (sym f.counted) (ended op f.fault one other set old m is l (o op (inl refl)) f.refused),
       )
   offers_end one other h (op ∷ ops) (offset ∷ offsets) behind old received new seen set (inr f) w l m a o t =
       let bases : HasBasesIn other op set = λ base i u. a base (t.0 base i u) in
       let is = answered other set op h m.history (o op (inl refl)) bases in
-      let next = goes op f.0 set old f.1 m.history is l f.3 f.4 in
+      let next = goes op f.offered set old f.next m.history is l f.reply f.is_offered in
       let among : IsAmong one other next.result = record {
         history = next.history;
         some = λ x j. elim ((next.members x).0 j) [ inl k ↦ m.some x k | inr e ↦ inr (subst (Has other) e (o op (inl refl))) ];
       } in
-      let rest = offers_end one other h ops offsets behind f.1 f.2 new (op ∷ seen) next.result f.6 w next.has among
+      let rest = offers_end one other h ops offsets behind f.next f.rest new (op ∷ seen) next.result f.others w next.has among
       (λ x j. (next.members x).1 (elim j [ inl e ↦ inr e | inr k ↦ inl (a x k) ]))
       (λ x j. o x (inr j)) t.1 in
-      let fault : received.fault ≡ f.2.fault = ap (λ (r : Received). r.fault) f.5 ∙ fault_of f.0 f.2 in (
+      let fault : received.fault ≡ f.rest.fault = ap (λ (r : Received). r.fault) f.counted ∙ fault_of f.offered f.rest in (
         λ e. let r = rest.0 (sym fault ∙ e) in record {
           result = r.result;
           has = r.has;
@@ -227,10 +227,10 @@ module _ {Site : Type 0} (log : Site → List Operation) (limit : Site → ℕ) 
       → Reads bytes (reverse other) offsets None → Receives log limit after bytes old received new → HasLog log limit after one old → IsHistory one → IsHistory other
       → Ends one other one (reverse other) received new
   file_ends bytes offsets one other old received new reads f l h k =
-      let front = front_read bytes (reverse other) f.0 offsets f.1 f.2 reads f.3 in
-      let ends = offers_end one other k f.0 f.1 f.2 old received new [] one f.4 front.well l (record { history = h; some = λ x i. inl i })
-      (λ x i. absurd i) (λ x i. of_reverse other x (subst (λ l. Has l x) (sym front.is) (before f.0 front.more x i)))
-      (come_front other [] f.0 front.more (subst (ComeInTime other []) front.is (by_stamp other other [] k k (λ x i. i)))) in (
-        λ e. subst (λ ops. HasAll one other one ops new) (sym (all_offered log limit after bytes (reverse other) f.0 offsets f.1 f.2 old received new reads f.3 f.4 e)) (ends.0 e),
+      let front = front_read bytes (reverse other) f.ops offsets f.offsets f.behind reads f.read in
+      let ends = offers_end one other k f.ops f.offsets f.behind old received new [] one f.offers front.well l (record { history = h; some = λ x i. inl i })
+      (λ x i. absurd i) (λ x i. of_reverse other x (subst (λ l. Has l x) (sym front.is) (before f.ops front.more x i)))
+      (come_front other [] f.ops front.more (subst (ComeInTime other []) front.is (by_stamp other other [] k k (λ x i. i)))) in (
+        λ e. subst (λ ops. HasAll one other one ops new) (sym (all_offered log limit after bytes (reverse other) f.ops offsets f.offsets f.behind old received new reads f.read f.offers e)) (ends.0 e),
         ends.1,
       )

@@ -35,16 +35,16 @@ offered_among : (ops : List Operation) (offsets : List ℕ) (behind : Behind) (o
     → Has (offered_in text_log text_limit text_with_new ops offsets behind old received new h) x → Has ops x
 offered_among [] offsets behind old received new h x i = absurd i
 offered_among (op ∷ ops) [] behind old received new h x i = absurd h
-offered_among (op ∷ ops) (offset ∷ offsets) behind old received new (inl refused) x i = one_of (is_want refused.0) op x ops i
-offered_among (op ∷ ops) (offset ∷ offsets) behind old received new (inr offered) x (inl e) = inl e
-offered_among (op ∷ ops) (offset ∷ offsets) behind old received new (inr offered) x (inr i) =
-    inr (offered_among ops offsets behind offered.1 offered.2 new offered.6 x i)
+offered_among (op ∷ ops) (offset ∷ offsets) behind old received new (inl refused) x i = one_of (is_want refused.fault) op x ops i
+offered_among (op ∷ ops) (offset ∷ offsets) behind old received new (inr more) x (inl e) = inl e
+offered_among (op ∷ ops) (offset ∷ offsets) behind old received new (inr more) x (inr i) =
+    inr (offered_among ops offsets behind more.next more.rest new more.others x i)
 
 came_of : (bytes : List ℕ) (old : Holder Edited) (received : Received) (new : Holder Edited) (h : Receives text_log text_limit text_with_new bytes old received new) (x : Operation)
     → Has (came_with text_log text_limit text_with_new bytes old received new h) x → IsOfFile bytes x
 came_of bytes old received new h x i =
-    let among = offered_among h.0 h.1 h.2 old received new h.4 x i in
-    (h.0, begun_with bytes h.0 h.1 h.2 h.3 x among, among)
+    let among = offered_among h.ops h.offsets h.behind old received new h.offers x i in
+    (h.ops, begun_with bytes h.ops h.offsets h.behind h.read x among, among)
 
 pub file_of : (bytes : List ℕ) (old new : State) (received : Received) (h : SiteReceives bytes old received new) (x : Operation)
     → Has (came_to bytes old received new h) x → IsOfFile bytes x

@@ -287,15 +287,15 @@ module _ (P : Edited → Type 0) (keeps : (op : Operation) (text : Edited) → P
 
   offers_keep : (ops : List Operation) (offsets : List ℕ) (behind : Behind) (old : Holder Edited) (received : Received) (new : Holder Edited)
       → Offers text_log text_limit text_with_new ops offsets behind old received new → P old.site → P new.site
-  offers_keep [] offsets behind old received new h p = subst (λ (s : Holder Edited). P s.site) (sym h.3) p
+  offers_keep [] offsets behind old received new h p = subst (λ (s : Holder Edited). P s.site) (sym h.same) p
   offers_keep (op ∷ ops) [] behind old received new h p = absurd h
-  offers_keep (op ∷ ops) (offset ∷ offsets) behind old received new (inl h) p = subst (λ (s : Holder Edited). P s.site) (sym h.3) p
+  offers_keep (op ∷ ops) (offset ∷ offsets) behind old received new (inl h) p = subst (λ (s : Holder Edited). P s.site) (sym h.same) p
   offers_keep (op ∷ ops) (offset ∷ offsets) behind old received new (inr h) p =
-      offers_keep ops offsets behind h.1 h.2 new h.6 (offered_keeps (text_limit old.site) op h.0 old.site old.held h.1.site h.1.held h.4 p)
+      offers_keep ops offsets behind h.next h.rest new h.others (offered_keeps (text_limit old.site) op h.offered old.site old.held h.next.site h.next.held h.is_offered p)
 
   pub received_keep : (bytes : List ℕ) (old : Holder Edited) (received : Received) (new : Holder Edited)
       → Receives text_log text_limit text_with_new bytes old received new → P old.site → P new.site
-  received_keep bytes old received new h p = offers_keep h.0 h.1 h.2 old received new h.4 p
+  received_keep bytes old received new h p = offers_keep h.ops h.offsets h.behind old received new h.offers p
 
 -- how many widgets there are
 taken_stays : (old : Viewed) (op : Operation) (text : Edited) → Stay old text.view → Stay old (text_with_new op text).view
