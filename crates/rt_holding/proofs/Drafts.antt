@@ -6,7 +6,7 @@ use Rattle.rt_rga.specs.Drafts.{next_operation, operations_of, with_drafts}
 use Rattle.rt_rga.specs.Histories.{IsHistory}
 use Rattle.rt_holding.specs.Grown.{HasGrownBy}
 use Rattle.rt_holding.proofs.Keeping.{with_all}
-use Rattle.rt_holding.proofs.Keys.{other_end}
+use Rattle.rt_holding.proofs.Ends.{other_end}
 
 others_stay : (site : ℕ) (drafts : List Body) (log : List Operation) (other : ℕ) → (site == other) ≡ false → known_end (with_drafts site drafts log) other ≡ known_end log other
 others_stay site [] log other e = refl

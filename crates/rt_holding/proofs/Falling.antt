@@ -20,7 +20,7 @@ use Rattle.rt_holding.specs.Grown.{HasGrownBy}
 use Rattle.rt_holding.specs.Holding.{is_early, is_new, stays}
 use Rattle.rt_holding.specs.Kept.{Place, by_stamp_and_arrival}
 use Rattle.rt_rga.specs.Kept.{goes_past}
-use Rattle.rt_holding.specs.Waiting.{WaitsAt, came_in, has_new_gap, key_in, keys_of, targets}
+use Rattle.rt_holding.specs.Waiting.{WaitsAt, awaited_by, awaited_in, came_in, has_new_gap, targets}
 use Rattle.rt_holding.specs.Waits.{IfIsThere, are_kept, first_of, has_begun, has_key, is_due, is_noted, is_waited_for, key_at, last_of, sleeps}
 use Rattle.rt_holding.specs.Waking.{AreEndsPassed, IsAmong, IsLookedThrough, IsStillWaiting}
 use Rattle.rt_holding.proofs.Going.{both, or_left}
@@ -51,7 +51,7 @@ early_goes_on log x h e d =
     not_yet false false e = absurd (cc e)
 
 -- nothing goes on
-no_keys : (log : List Operation) (spans : List Span) → list_any (goes_past log) spans ≡ false → flat_map (key_in log) spans ≡ []
+no_keys : (log : List Operation) (spans : List Span) → list_any (goes_past log) spans ≡ false → flat_map (awaited_in log) spans ≡ []
 no_keys log [] n = refl
 no_keys log (span ∷ spans) n = split (goes_past log span)
     (λ e. absurd (let m : true ≡ false = rw e at n in cc m))
@@ -210,7 +210,7 @@ module _ (by : ℕ) (older log : List Operation) (ops : BTreeMap Place (Option O
       let d : nat_lt (known_end older x.site) x.prev ≡ false = not_lt (known_end older x.site) x.prev at in
       let l = looks_are_enough older older x h h (λ y j. j) w at at in
       let g = none_on (list_any (has_new_gap older older) (targets x.body)) (list_any (goes_past older) (targets x.body)) (ap is_new (sym l) ∙ n) in
-      let alone : keys_of older x ≡ stamp (x.prev + 1) x.site ∷ [] = rw d (ap (λ r. stamp (x.prev + 1) x.site ∷ r) (no_keys older (targets x.body) g)) in
+      let alone : awaited_by older x ≡ stamp (x.prev + 1) x.site ∷ [] = rw d (ap (λ r. stamp (x.prev + 1) x.site ∷ r) (no_keys older (targets x.body) g)) in
       let m : (has_key old.keys.alone p (stamp (x.prev + 1) x.site) && list_all (is_waited_for old.keys older p) (targets x.body)) ≡ true = rw d at k in
       record {
         full = s;

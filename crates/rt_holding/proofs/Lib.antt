@@ -5,6 +5,7 @@ pub mod Arriving
 pub mod Came
 pub mod Drafts
 pub mod Due
+pub mod Ends
 pub mod Exchanged
 pub mod Falling
 pub mod Finding
@@ -12,7 +13,6 @@ pub mod Fronts
 pub mod Going
 pub mod Greatest
 pub mod Keeping
-pub mod Keys
 pub mod Larger
 pub mod Looking
 pub mod Named

@@ -19,7 +19,7 @@ use Rattle.rt_holding.specs.Grown.{HasGrownBy}
 use Rattle.rt_holding.specs.Holding.{is_early, is_new, stays}
 use Rattle.rt_holding.specs.Kept.{Place}
 use Rattle.rt_rga.specs.Kept.{goes_past}
-use Rattle.rt_holding.specs.Waiting.{WaitsAt, came_in, has_new_gap, is_passed, keys_of, targets}
+use Rattle.rt_holding.specs.Waiting.{WaitsAt, awaited_by, came_in, has_new_gap, is_passed, targets}
 use Rattle.rt_holding.specs.Waits.{IsMore, IsNotedMore, are_kept, first_of, has_begun, has_key, is_noted, is_waited_for, key_at, last_of, sleeps}
 use Rattle.rt_holding.specs.Waking.{HasComeIn, IsAmong, IsSeenTo, stamp_of_key}
 use Rattle.rt_holding.proofs.Going.{both, left_if_stays, or_left}
@@ -221,7 +221,7 @@ module _ (keys : Keys) (by : ℕ) (older log : List Operation) (p : Place) (x : 
       let k = b.1 in
       let w : WaitsAt older x = or_left (is_early (answer_to x older)) (is_new (answer_to x older)) e in
       let l = unpassed (record { count = x.prev; site = x.site }) k (before x.prev (known_end older x.site) d) in
-      let n : list_any (is_passed log) (keys_of older x) ≡ false = rw d (late x.prev (known_end log x.site) l) in
+      let n : list_any (is_passed log) (awaited_by older x) ≡ false = rw d (late x.prev (known_end log x.site) l) in
       let same = unpassed_stay older log x grown.history history grown.among w n in
       let early : is_early (answer_to x log) ≡ true = ap is_early same.0 ∙ e in
       let now : nat_lt (known_end log x.site) x.prev ≡ true = is_lt (known_end log x.site) x.prev l in
@@ -273,7 +273,7 @@ module _ (keys : Keys) (by : ℕ) (older log : List Operation) (p : Place) (x : 
       let c = (waiting_from older x l.waits).prev in
       let own = l.own in
       let u = unpassed (record { count = x.prev + 1; site = x.site }) own (within x.prev (known_end older x.site) c) in
-      let n : list_any (is_passed log) (keys_of older x) ≡ false = ap (list_any (is_passed log)) l.alone ∙ late (x.prev + 1) (known_end log x.site) u in
+      let n : list_any (is_passed log) (awaited_by older x) ≡ false = ap (list_any (is_passed log)) l.alone ∙ late (x.prev + 1) (known_end log x.site) u in
       let same = unpassed_stay older log x grown.history history grown.among l.waits n in
       let left = left_ones_stay limit [] older log x grown.history history grown.among (no_fewer_cells older log grown.history history grown.among) (left_if_stays limit [] older x l.full) n in
       let s : stays (answer_within limit x log) ≡ true = stays_if_left (stays (answer_within limit x log)) (is_new (answer_within limit x log)) left in

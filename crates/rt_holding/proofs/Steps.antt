@@ -27,7 +27,7 @@ use Rattle.rt_holding.specs.Waits.{IfIsThere, IsFirstDue, IsSetAt, KeepsOthers, 
 use Rattle.rt_holding.specs.Waking.{IsWoken}
 use Rattle.rt_holding.proofs.Due.{stays_waits}
 use Rattle.rt_holding.proofs.Going.{AreReady, IsLeftAt, both, either, left_if_stays, next_due, none_due, or_left, or_right, tried_in, tried_now}
-use Rattle.rt_holding.proofs.Keys.{other_end}
+use Rattle.rt_holding.proofs.Ends.{other_end}
 use Rattle.rt_holding.proofs.Places.{get_at, in_append, taken_from}
 use Rattle.rt_holding.proofs.Standing.{at_found, own_place, there_before, this_place}
 use Rattle.rt_holding.proofs.Tries.{IsSettling, begins, ends, one_dropped, one_lacking, one_taken}

@@ -16,7 +16,7 @@ use Rattle.rt_holding.specs.declared.waits.Keys.{Keys}
 use Rattle.rt_holding.specs.Holding.{is_early, stays}
 use Rattle.rt_holding.specs.Kept.{Place}
 use Rattle.rt_rga.specs.Kept.{goes_past}
-use Rattle.rt_holding.specs.Waiting.{WaitsAt, came_behind, came_in, has_new_gap, keys_of, targets}
+use Rattle.rt_holding.specs.Waiting.{WaitsAt, awaited_by, came_in, has_new_gap, targets}
 use Rattle.rt_holding.specs.Waits.{HasLess, HasMore, IsNotedMore, are_kept, first_of, has_begun, has_key, is_keyed, is_noted, is_waited_for, key_at, last_of}
 use Rattle.rt_holding.specs.Waking.{IsAmong}
 use Rattle.rt_holding.proofs.Going.{both}
@@ -129,7 +129,7 @@ pub record LacksRoom (limit : ℕ) (keys : Keys) (older : List Operation) (p : P
   pub full : stays (answer_within limit x older) ≡ true
   pub waits : WaitsAt older x
   pub prev : nat_lt (known_end older x.site) x.prev ≡ false
-  pub alone : keys_of older x ≡ record { count = x.prev + 1; site = x.site } ∷ []
+  pub alone : awaited_by older x ≡ record { count = x.prev + 1; site = x.site } ∷ []
   pub known : list_any (goes_past older) (targets x.body) ≡ false
   pub own : has_key keys.alone p (record { count = x.prev + 1; site = x.site }) ≡ true
 
@@ -211,15 +211,3 @@ no_new_gap older log span g = and_false (not (span.site == 0)) (has_gap log (cam
     and_false : (a b : Bool) → b ≡ false → (a && b) ≡ false
     and_false true b e = e
     and_false false b e = refl
-
--- a span that has begun and goes on has all that came
-pub gaps_for_all : (older log : List Operation) (span : Span) → span.first ≤ known_end older span.site → goes_past log span ≡ true
-    → has_new_gap older log span ≡ has_gap log (came_behind span.site log (known_end older span.site))
-gaps_for_all older log span b g =
-    let f = goes_from log span g in
-    let site = f.site in
-    let end = f.end in
-    let from : max span.first (known_end older span.site + 1) ≡ known_end older span.site + 1 = omega (arith, b) in
-    let to : min span.last (known_end log span.site) ≡ known_end log span.site = omega (arith, end) in
-    let came : came_in older log span ≡ came_behind span.site log (known_end older span.site) = cc (from, to) in
-    rw site (ap (has_gap log) came)

@@ -24,7 +24,7 @@ use Rattle.rt_rga.proofs.Orders.{character_of, end_reached, insert_of}
 use Rattle.rt_rga.proofs.Writes.{spans_name}
 use Rattle.rt_holding.specs.Holding.{is_early, is_new}
 use Rattle.rt_rga.specs.Kept.{goes_past}
-use Rattle.rt_holding.specs.Waiting.{NoneIsPassed, WaitsAt, is_passed, key_in, keys_of, targets}
+use Rattle.rt_holding.specs.Waiting.{NoneIsPassed, WaitsAt, awaited_by, awaited_in, is_passed, targets}
 
 -- LISTS
 
@@ -148,7 +148,7 @@ stays_so older log op sub s e f = split (s.site == 0)
 -- KEYS
 
 -- a span's key that isn't passed
-key_first : (older log : List Operation) (span : Span) → goes_past older span ≡ true → list_any (is_passed log) (key_in older span) ≡ false
+key_first : (older log : List Operation) (span : Span) → goes_past older span ≡ true → list_any (is_passed log) (awaited_in older span) ≡ false
     → known_end log span.site < max span.first (known_end older span.site + 1)
 key_first older log span g n =
     let m : list_any (is_passed log) (record { count = max span.first (known_end older span.site + 1); site = span.site } ∷ []) ≡ false = rw g at n in
@@ -174,11 +174,11 @@ past_in older span s i z l =
     least : (first count end : ℕ) → first ≤ count → end < count → max first (end + 1) ≤ count
     least first count end a b = omega arith
 
-unpassed_at : (older log : List Operation) (spans : List Span) (s : Stamp) → list_any (is_passed log) (flat_map (key_in older) spans) ≡ false → is_in_spans spans s ≡ true
+unpassed_at : (older log : List Operation) (spans : List Span) (s : Stamp) → list_any (is_passed log) (flat_map (awaited_in older) spans) ≡ false → is_in_spans spans s ≡ true
     → (s.site == 0) ≡ false → known_end older s.site < s.count → known_end log s.site < s.count
 unpassed_at older log [] s n i z l = absurd (cc i)
 unpassed_at older log (span ∷ spans) s n i z l =
-    let b = any_both (is_passed log) (key_in older span) (flat_map (key_in older) spans) n in
+    let b = any_both (is_passed log) (awaited_in older span) (flat_map (awaited_in older) spans) n in
     split (is_in_span span s)
     (λ e. let p = past_in older span s e z l in
     let k = key_first older log span p.0 b.0 in
@@ -187,7 +187,7 @@ unpassed_at older log (span ∷ spans) s n i z l =
     (λ e. unpassed_at older log spans s b.1 (grind (arith, i, e)) z l)
 
 -- a span's keys stay
-pub key_stays : (older log : List Operation) → AreIn older log → (span : Span) → list_any (is_passed log) (key_in older span) ≡ false → key_in log span ≡ key_in older span
+pub key_stays : (older log : List Operation) → AreIn older log → (span : Span) → list_any (is_passed log) (awaited_in older span) ≡ false → awaited_in log span ≡ awaited_in older span
 key_stays older log sub span n =
     let g = end_stays older log sub span.site in
     split (goes_past older span)
@@ -203,17 +203,17 @@ key_stays older log sub span n =
     none : (zero : Bool) (first last old new : ℕ) → old ≤ new → (not zero && (nat_le first last && nat_lt old last)) ≡ false → (not zero && (nat_le first last && nat_lt new last)) ≡ false
     none zero first last old new g e = grind (arith, nat_tests)
 
-keys_stay : (older log : List Operation) → AreIn older log → (spans : List Span) → list_any (is_passed log) (flat_map (key_in older) spans) ≡ false
-    → flat_map (key_in log) spans ≡ flat_map (key_in older) spans
+keys_stay : (older log : List Operation) → AreIn older log → (spans : List Span) → list_any (is_passed log) (flat_map (awaited_in older) spans) ≡ false
+    → flat_map (awaited_in log) spans ≡ flat_map (awaited_in older) spans
 keys_stay older log sub [] n = refl
 keys_stay older log sub (span ∷ spans) n =
-    let b = any_both (is_passed log) (key_in older span) (flat_map (key_in older) spans) n in
-    ap (λ k. k ++ flat_map (key_in log) spans) (key_stays older log sub span b.0) ∙ ap (λ k. key_in older span ++ k) (keys_stay older log sub spans b.1)
+    let b = any_both (is_passed log) (awaited_in older span) (flat_map (awaited_in older) spans) n in
+    ap (λ k. k ++ flat_map (awaited_in log) spans) (key_stays older log sub span b.0) ∙ ap (λ k. awaited_in older span ++ k) (keys_stay older log sub spans b.1)
 
 -- UNTIL A KEY IS PASSED
 
 pub unpassed_stay : (older log : List Operation) (op : Operation) → IsHistory older → IsHistory log → AreIn older log → WaitsAt older op → NoneIsPassed older log op
-    → (answer_to op log ≡ answer_to op older) × (keys_of log op ≡ keys_of older op)
+    → (answer_to op log ≡ answer_to op older) × (awaited_by log op ≡ awaited_by older op)
 unpassed_stay older log op h m sub w n =
     let o = waiting_from older op w in
     let b = o.stamp in
@@ -231,9 +231,9 @@ unpassed_stay older log op h m sub w n =
       | inr de ↦ (
           let d = de.0 in
           let e = de.1 in
-          let k : list_any (is_passed log) (record { count = op.prev + 1; site = op.site } ∷ flat_map (key_in older) (targets op.body)) ≡ false = rw d at n in
+          let k : list_any (is_passed log) (record { count = op.prev + 1; site = op.site } ∷ flat_map (awaited_in older) (targets op.body)) ≡ false = rw d at n in
           let own : known_end log op.site < op.prev + 1 = first op.prev (known_end log op.site) _ k in
-          let ks : list_any (is_passed log) (flat_map (key_in older) (targets op.body)) ≡ false = others (nat_le (op.prev + 1) (known_end log op.site)) _ k in
+          let ks : list_any (is_passed log) (flat_map (awaited_in older) (targets op.body)) ≡ false = others (nat_le (op.prev + 1) (known_end log op.site)) _ k in
           let g = end_stays older log sub op.site in
           let a' = not_yet_there log op b (omega (arith, own)) in
           let same : known_end older op.site ≡ op.prev = grind (arith, nat_tests, c, d) in

@@ -1,6 +1,5 @@
 pub mod Arrivals
 pub mod Came
-pub mod Due
 pub mod Examples
 pub mod Grown
 pub mod Holding

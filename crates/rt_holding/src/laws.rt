@@ -4,8 +4,7 @@ ghost use Rattle.rt_ops.specs.Operations.{Operation};
 ghost use Rattle.rt_holding.specs.Arrivals.{ComesToTheSame, by_stamp};
 ghost use Rattle.rt_holding.specs.Memory.{FilesFindMemory, FilesGoOneWay, OffersFindMemory, SettledFindsMemory, SettlesAlone};
 ghost use Rattle.rt_holding.specs.Runs.{AreRising};
-ghost use Rattle.rt_holding.specs.Waiting.{GapsAreForAll, LooksAreEnough, UnpassedStay};
-ghost use Rattle.rt_holding.specs.Due.{UnpassedAreKept, LeftOnesStay, TryingDueSettles, PassedAreFound};
+ghost use Rattle.rt_holding.specs.Waiting.{LeftOnesStay, LooksAreEnough, UnpassedStay};
 ghost use Rattle.rt_holding.specs.Laws.{AmpleIsGreatest, AmpleRuns, AmpleStay, CellsChangeInTurn, FullStays, GreatestIsAccepted, HistoriesAreAccepted, NothingIsTried, RefusedChangesNothing, RepeatChangesNothing, RequestsKeep, SettledLeavesNone, SettledSettles, SitesAgree, TakenInTurn};
 
 /// In whatever order operations come, if no two clash and in the end none is held that could be taken, the greatest
@@ -45,16 +44,12 @@ pub fn settling()
     ensures nothing { NothingIsTried }
 {}
 
-/// What a held operation waits for: until a key of it is passed its answer stays, so only those need be tried of which one
-/// was. What came of a site is looked through once for all spans of it that have begun.
+/// What a held operation awaits: until a stamp of these is passed its answer stays, and one that isn't tried needn't be. Then
+/// what came alone decides its answer.
 pub fn waiting()
     ensures unpassed { UnpassedStay }
     ensures looks { LooksAreEnough }
-    ensures gaps { GapsAreForAll }
     ensures left { LeftOnesStay }
-    ensures due { TryingDueSettles }
-    ensures found { PassedAreFound }
-    ensures kept { UnpassedAreKept }
 {}
 
 /// Held operations by rising stamp are as good as in order of arrival, where the least stamp is sought that may be tried, and of
