@@ -21,7 +21,8 @@ use Rattle.rt_oplog.specs.Logs.{Has, holds, same_operation}
 use Rattle.rt_oplog.proofs.Sets.{operation_refl, operation_sym, operation_true}
 use Rattle.rt_rga.proofs.Skipping.{split}
 use Rattle.std.proofs.lemmas.List.{take-append-drop}
-use Rattle.rt_holding.specs.Holding.{most_held, put_held, without}
+use Rattle.rt_holding.specs.declared.held.TheConstants.{MOST_HELD}
+use Rattle.rt_holding.specs.Holding.{put_held, without}
 use Rattle.rt_holding.specs.Kept.{AreHeld, Entry, IsAt, IsInPlace, Place, by_stamp_and_arrival, ops_in, put_in_front}
 use Rattle.rt_holding.specs.Runs.{AreOnce, AreRising}
 use Rattle.rt_holding.proofs.Keeping.{has_put, without_has}
@@ -313,7 +314,7 @@ length_put_in n op entries a =
     sym (length_in (n + 1) (insert_entry by_stamp_and_arrival entries (stamp_of op, n) (Some op)) (put_places n op entries a))
     ∙ ap length (put_in n op entries a) ∙ length_put op (ops_in entries) ∙ ap suc (length_in n entries a)
 
-pub put_held_in : (n : ℕ) (op : Operation) (entries new : List Entry) → AreHeld n entries → holds (ops_in entries) op ≡ false → length entries < most_held → keeps_rules op.body ≡ true → has_bad_stamp op ≡ false
+pub put_held_in : (n : ℕ) (op : Operation) (entries new : List Entry) → AreHeld n entries → holds (ops_in entries) op ≡ false → length entries < MOST_HELD → keeps_rules op.body ≡ true → has_bad_stamp op ≡ false
     → new ≡ insert_entry by_stamp_and_arrival entries (stamp_of op, n) (Some op) → AreHeld (n + 1) new
 put_held_in n op entries new h f l r b e =
     let ops = put_in n op entries h.places in

@@ -19,7 +19,8 @@ use Rattle.rt_rga.proofs.Orders.{rules_in}
 use Rattle.rt_rga.proofs.Room.{taken_within}
 use Rattle.rt_holding.specs.Replies.{Reply}
 use Rattle.rt_holding.specs.Replies as replies
-use Rattle.rt_holding.specs.Holding.{Holding, Settles, after_answer, has_no_room, hold, is_early, is_full, is_new, most_held, no_more_held, put_held, reply_for, reply_to, rest, takes, drops, lacks, stays, waits, with_taken, without}
+use Rattle.rt_holding.specs.declared.held.TheConstants.{MOST_HELD}
+use Rattle.rt_holding.specs.Holding.{Holding, Settles, after_answer, has_no_room, hold, is_early, is_full, is_new, no_more_held, put_held, reply_for, reply_to, rest, takes, drops, lacks, stays, waits, with_taken, without}
 use Rattle.rt_holding.specs.Runs.{AreOnce, AreRising, IsHolding, Leads, at_first}
 use Rattle.rt_holding.proofs.Keeping.{IsKept, dropped_is, dropped_kept, is_new_true, kept_but, left_not, next_is, taken_kept}
 use Rattle.rt_holding.proofs.Arriving.{Bringing, Keeps, first_kept, leads_keeps}
@@ -29,7 +30,7 @@ use Rattle.rt_holding.proofs.Settling.{without_le}
 
 record IsNeat (limit : ℕ) (s : Holding) : Type 0 where
   room : length (cells_of s.log) ≤ limit
-  few : length s.held ≤ most_held
+  few : length s.held ≤ MOST_HELD
   once : AreOnce s.held
   order : AreRising s.held
 
@@ -149,12 +150,12 @@ neat_held limit op s n = split (holds s.held op)
     (λ g. let q : hold op s ≡ record { log = s.log; held = put_held op s.held } = rw (h, g) refl in
     subst (IsNeat limit) (sym q) (record {
       room = n.room;
-      few = (let l = length_put op s.held in let m : nat_le most_held (length s.held) ≡ false = g in below (length s.held) (length (put_held op s.held)) l m);
+      few = (let l = length_put op s.held in let m : nat_le MOST_HELD (length s.held) ≡ false = g in below (length s.held) (length (put_held op s.held)) l m);
       once = put_once op s.held h n.once;
       order = put_order op s.held n.order;
     })))
   where
-    below : (a b : ℕ) → b ≡ suc a → nat_le most_held a ≡ false → b ≤ most_held
+    below : (a b : ℕ) → b ≡ suc a → nat_le MOST_HELD a ≡ false → b ≤ MOST_HELD
     below a b l m = grind (arith, nat_tests)
 
 neat_offer : (limit : ℕ) (a : Answer) (op : Operation) (s : Holding) → (is_new a ≡ true → IsNeat limit (with_taken op s)) → IsNeat limit s → IsNeat limit (after_answer a op s)

@@ -6,6 +6,7 @@ use Rattle.rt_stamps.specs.Stamps.{is_before}
 use Rattle.rt_ops.specs.Operations.{Operation, stamp_of}
 use Rattle.rt_oplog.specs.Logs.{holds, same_operation, with_operation}
 use Rattle.rt_rga.specs.Answers.{Answer, New, Repeat, Refused, answer_within}
+use Rattle.rt_holding.specs.declared.held.TheConstants.{MOST_HELD}
 use Rattle.rt_holding.specs.Replies.{Reply}
 use Rattle.rt_holding.specs.Replies as replies
 
@@ -17,10 +18,6 @@ pub record Holding : Type 0 where
 
 abbrev pub nothing : Holding
 nothing = record { log = []; held = [] }
-
--- the most operations that are held
-abbrev pub most_held : ℕ
-most_held = 65536
 
 -- WHAT IS ANSWERED
 
@@ -45,7 +42,7 @@ is_new (Refused fault) = false
 
 -- there is no place for one more among the held ones
 abbrev pub is_full : List Operation → Bool
-is_full held = nat_le most_held (length held)
+is_full held = nat_le MOST_HELD (length held)
 
 abbrev pub as_reply : Answer → Reply
 as_reply New = replies.New

@@ -12,7 +12,8 @@ use Rattle.rt_oplog.specs.Logs.{Has}
 use Rattle.rt_rga.specs.Answers.{Answer, New, answer_within}
 use Rattle.rt_holding.specs.declared.trying.Outcome.{Outcome}
 use Rattle.rt_holding.specs.declared.trying.Outcome.TheVariants.{Taken, Waits, Stays, Dropped}
-use Rattle.rt_holding.specs.Holding.{is_new, most_held, stays}
+use Rattle.rt_holding.specs.declared.held.TheConstants.{MOST_HELD}
+use Rattle.rt_holding.specs.Holding.{is_new, stays}
 use Rattle.rt_holding.specs.Runs.{AreOnce, AreRising}
 
 -- where a held operation stands: by its stamp, and of equal stamps by when it came
@@ -42,7 +43,7 @@ pub record IsInPlace (arrivals : ℕ) (e : Entry) : Type 0 where
 -- what a map of held operations keeps to
 pub record AreHeld (arrivals : ℕ) (entries : List Entry) : Type 0 where
   pub places : AllByRecursion (IsInPlace arrivals) entries
-  pub few : length entries ≤ most_held
+  pub few : length entries ≤ MOST_HELD
   pub once : AreOnce (ops_in entries)
   pub order : AreRising (ops_in entries)
   pub rules : (op : Operation) → Has (ops_in entries) op → keeps_rules op.body ≡ true

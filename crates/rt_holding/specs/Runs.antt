@@ -12,7 +12,8 @@ use Rattle.rt_rga.specs.Drafts.{operations_of, with_drafts}
 use Rattle.rt_rga.specs.Histories.{IsHistory}
 use Rattle.rt_rga.specs.Orders.{AreIn}
 use Rattle.rt_rga.specs.Requests.{MayBeAsked, Make, Offer, Request, fit}
-use Rattle.rt_holding.specs.Holding.{Holding, Settles, after_answer, has_no_room, is_new, most_held, reply_to, settled, stays, waits}
+use Rattle.rt_holding.specs.declared.held.TheConstants.{MOST_HELD}
+use Rattle.rt_holding.specs.Holding.{Holding, Settles, after_answer, has_no_room, is_new, reply_to, settled, stays, waits}
 use Rattle.rt_holding.specs.Replies.{Reply}
 use Rattle.rt_holding.specs.Replies as replies
 
@@ -101,7 +102,7 @@ AreRising (op ∷ ops) = AllByRecursion (λ later. is_before (stamp_of later) (s
 pub record IsHolding (limit : ℕ) (s : Holding) : Type 0 where
   pub history : IsHistory s.log
   pub room : length (cells_of s.log) ≤ limit
-  pub few : length s.held ≤ most_held
+  pub few : length s.held ≤ MOST_HELD
   pub once : AreOnce s.held
   pub order : AreRising s.held
   pub rules : (op : Operation) → Has s.held op → keeps_rules op.body ≡ true

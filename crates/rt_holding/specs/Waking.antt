@@ -1,11 +1,11 @@
 -- What becomes of held operations that wait when a log has grown. Public clauses cite none of this.
-use Rattle.std.specs.Prelude.{◌≡◌, ◌<◌, ◌≤◌, ◌⊎◌, ◌==◌, ◌&&◌, ◌||◌, ℕ, Bool, true, false, min, nat_le, List, [], ◌∷◌, Option, Some, length}
+use Rattle.std.specs.Prelude.{◌≡◌, ◌<◌, ◌≤◌, ◌⊎◌, ◌==◌, ◌||◌, ℕ, true, false, min, List, [], ◌∷◌, Option, Some}
 use Rattle.std.specs.BTreeMap.{BTreeMap, get}
 use Rattle.std.specs.BTreeSet.{BTreeSet, contains}
 use Rattle.std.specs.Ordering.{nat_cmp}
 use Rattle.std.specs.declared.cmp.Reverse.{Reverse}
 use Rattle.std.specs.declared.collections.BinaryHeap.{BinaryHeap}
-use Rattle.std.specs.List.{filter, list_any}
+use Rattle.std.specs.List.{list_any}
 use Rattle.rt_stamps.specs.declared.stamp.Span.{Span}
 use Rattle.rt_stamps.specs.declared.stamp.Stamp.{Stamp}
 use Rattle.rt_stamps.specs.Spans.{is_in_span}
@@ -111,14 +111,6 @@ pub record AreEndsPassed (by : ℕ) (log : List Operation) (ops : BTreeMap Place
   pub left : LeavesNone new.keys.begun by (known_end log by)
   pub each : (key : Key) → contains by_key old.keys.begun key ≡ true
       → (contains by_key new.keys.begun key ≡ true) ⊎ (is_due key.place new.due ≡ true) ⊎ IsAtEnd by log ops old.keys.alone key
-
--- a key of a site to which its known end has come
-abbrev pub is_passed_by : ℕ → ℕ → Key → Bool
-is_passed_by site known key = (key.site == site) && nat_le key.count known
-
--- how many there are
-abbrev pub passed_keys : ℕ → ℕ → BTreeSet Key → ℕ
-passed_keys site known keys = length (filter (is_passed_by site known) keys.keys)
 
 -- Since the log has grown: those that were due stay so, and those are due that were looked at again; of those that slept each is due,
 -- or sleeps on.

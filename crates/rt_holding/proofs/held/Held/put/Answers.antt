@@ -5,7 +5,8 @@ use Rattle.rt_ops.specs.Operations.{Operation}
 use Rattle.rt_oplog.specs.Logs.{holds}
 use Rattle.rt_holding.specs.declared.waits.Keys.{Keys}
 use Rattle.rt_holding.specs.Grown.{AreTriedAt, HeldValue}
-use Rattle.rt_holding.specs.Holding.{most_held, put_held}
+use Rattle.rt_holding.specs.declared.held.TheConstants.{MOST_HELD}
+use Rattle.rt_holding.specs.Holding.{put_held}
 use Rattle.rt_holding.specs.Kept.{AreHeld, Place, by_stamp_and_arrival, ops_in}
 use Rattle.rt_holding.specs.Waits.{are_tried_at, is_listed, is_tried_at, sleeps}
 use Rattle.rt_holding.proofs.Going.{or_left, or_right, tried_more}
@@ -29,7 +30,7 @@ invariant_of-self-in-Ok-insert g c =
     let op = c.args.op in
     let held = ap (λ (v : HeldValue). v.held) (sym c.self.view_is) in
     let none : holds (ops_in entries) op ≡ false = subst (λ (l : List Operation). holds l op ≡ false) held c.requires.new in
-    let few : length (ops_in entries) < most_held = subst (λ (l : List Operation). length l < most_held) held c.requires.room in
+    let few : length (ops_in entries) < MOST_HELD = subst (λ (l : List Operation). length l < MOST_HELD) held c.requires.room in
     let same = length_in n entries c.self.invariant.held.places in
     let put = c.in-Ok-insert.ensures.entries ∙ ap (λ s. insert_entry by_stamp_and_arrival entries (s, n) (Some op)) c.stamp.ensures in
     record {
