@@ -20,7 +20,7 @@ use Rattle.rt_holding.specs.declared.waits.Key.{Key}
 use Rattle.rt_holding.specs.declared.waits.Keys.{Keys}
 use Rattle.rt_holding.specs.Kept.{Place, by_stamp_and_arrival}
 use Rattle.rt_holding.specs.Waits.{HasLess, HasMore, KeepsOthers, by_key, by_later, least_key}
-use Rattle.rt_holding.proofs.Standing.{this_place}
+use Rattle.rt_holding.proofs.Standing.{own_place, this_place}
 
 -- LISTS OF SPANS
 
@@ -138,6 +138,41 @@ popped (Some x) (y ∷ old) new top place t s e m n p h =
     either true b false e i = absurd (cc e)
     either false true c e i = refl
     either false false c e i = absurd (cc i)
+
+-- those that are due behind one were due
+pub due_behind : (x : Reverse Place) (old mid : List (Reverse Place)) → IsPermutation old (x ∷ mid) → (p : Place) → among mid p ≡ true → among old p ≡ true
+due_behind x old mid m p h = sym (moved old (x ∷ mid) m p) ∙ right (is_at (by_stamp_and_arrival p) x.0) (among mid p) h
+  where
+    right : (a b : Bool) → b ≡ true → (a || b) ≡ true
+    right true b e = refl
+    right false b e = e
+
+pub due_after : (r : Option (Reverse Place)) (old new : List (Reverse Place)) → IfSome r (λ x. IsPermutation old (x ∷ new)) → IfNone r (new ≡ old)
+    → (p : Place) → among new p ≡ true → among old p ≡ true
+due_after None old new m n p h = ap (λ l. among l p) (sym n) ∙ h
+due_after (Some x) old new m n p h = due_behind x old new m p h
+
+-- and the one was
+pub first_was : (x : Reverse Place) (old mid : List (Reverse Place)) → IsPermutation old (x ∷ mid) → among old x.0 ≡ true
+first_was x old mid m = sym (moved old (x ∷ mid) m x.0) ∙ (rw (own_place x.0) refl)
+
+-- a place that none goes before, and that isn't on top, isn't due
+pub not_on_top : (items : List (Reverse Place)) (top : Reverse Place) (place : Place) (b : Bool) → top ≡ slice_index_or items 0 top → IsUpperBound by_later top items
+    → ((p : Place) → among items p ≡ true → is_lt (by_stamp_and_arrival p place) ≡ false)
+    → b ≡ not (((top.0.0.count == place.0.count) && (top.0.0.site == place.0.site)) && (top.0.1 == place.1)) → b ≡ true → among items place ≡ false
+not_on_top [] top place b s u f i e = refl
+not_on_top (x ∷ items) top place b s u f i e = split (among (x ∷ items) place)
+    (λ t. absurd (apart top.0.0.count place.0.count top.0.0.site place.0.site top.0.1 place.1 (f top.0 there) (none_before top (x ∷ items) u place t) (sym i ∙ e)))
+    (λ t. t)
+  where
+    there : among (x ∷ items) top.0 ≡ true
+    there =
+        let here : is_at (by_stamp_and_arrival top.0) x.0 ≡ true = subst (λ (r : Reverse Place). is_at (by_stamp_and_arrival top.0) r.0 ≡ true) s (own_place top.0) in
+        rw here refl
+
+    apart : (a b c d x y : ℕ) → is_lt (ordering_then (ordering_then (nat_cmp a b) (nat_cmp c d)) (nat_cmp x y)) ≡ false
+        → is_lt (ordering_then (ordering_then (nat_cmp b a) (nat_cmp d c)) (nat_cmp y x)) ≡ false → not (((a == b) && (c == d)) && (x == y)) ≡ true → ⊥
+    apart a b c d x y e f g = grind (arith, nat_tests, common_steps, e, f, g)
 
 -- the first is popped
 pub first_popped : (x : Reverse Place) (old mid new : List (Reverse Place)) → IsPermutation old (x ∷ mid)

@@ -100,9 +100,15 @@ pub record IsReady (more : ℕ) (waits : Waits) : Type 0 where
   pub due : all_listed waits + more ≤ heap_capacity waits.due
   pub again : all_listed waits + more ≤ vec_capacity waits.again
 
--- a place is taken out that no other goes before
+-- no place that is due goes before this one
+abbrev pub NoneIsBefore : {Z : Type 0} → Place → BinaryHeap (Reverse Place) Z → Type 0
+NoneIsBefore place due = (p : Place) → is_due p due ≡ true → is_lt (by_stamp_and_arrival p place) ≡ false
+
+-- a place was due before all others, and is taken out
 pub record IsFirstDue {Z : Type 0} (place : Place) (old new : BinaryHeap (Reverse Place) Z) : Type 0 where
-  pub first : (p : Place) → is_due p old ≡ true → is_lt (by_stamp_and_arrival p place) ≡ false
+  pub was : is_due place old ≡ true
+  pub first : NoneIsBefore place old
+  pub gone : is_due place new ≡ false
   pub others : (p : Place) → is_due p old ≡ true → (is_due p new || is_at (by_stamp_and_arrival p) place) ≡ true
 
 -- a key of a site to which its known end has come

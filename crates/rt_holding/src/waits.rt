@@ -7,7 +7,7 @@ ghost use Rattle.std.specs.BTreeSet.{contains};
 ghost use Rattle.rt_ops.specs.Operations.{has_bad_stamp};
 ghost use Rattle.rt_holding.specs.Kept.{Place, by_stamp_and_arrival};
 ghost use Rattle.rt_rga.specs.Kept.{goes_past};
-ghost use Rattle.rt_holding.specs.Waits.{HasLess, HasMore, HasNoneOf, IsFirstDue, IsFirstOf, IsKeyedMore, IsLess, IsNotedMore, IsPassedIn, IsReady, KeepOthers, KeepsOthers, LeavesNone};
+ghost use Rattle.rt_holding.specs.Waits.{HasLess, HasMore, HasNoneOf, IsFirstDue, IsFirstOf, IsKeyedMore, IsLess, IsNotedMore, IsPassedIn, IsReady, KeepOthers, KeepsOthers, LeavesNone, NoneIsBefore};
 ghost use Rattle.rt_holding.specs.Waits.{are_kept, by_key, by_later, has_key, is_any_kept, is_due, is_keyed, is_listed, is_noted, is_waited_for, key_count, least_key};
 
 use crate::taking::Taking;
@@ -91,11 +91,12 @@ pub(crate) fn push_due(due: &mut Due, place: Place)
     pushed.unwrap();
 }
 
-/// Takes a place out for as long as it stands on top.
+/// Takes a place out for as long as it stands on top: altogether, where none goes before it.
 fn drop_same(due: &mut Due, place: Place)
     requires { IsHeap by_later (heap_items due.old) }
     ensures heap { IsHeap by_later (heap_items due.new) }
     ensures due { (p : Place) → is_due p due.old ≡ true → (is_due p due.new || is_at (by_stamp_and_arrival p) place) ≡ true }
+    ensures gone { NoneIsBefore place due.old → is_due place due.new ≡ false }
     ensures len { heap_len due.new ≤ heap_len due.old }
     ensures capacity { heap_capacity due.new ≡ heap_capacity due.old }
 {

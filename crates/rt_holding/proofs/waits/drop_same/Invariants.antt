@@ -9,6 +9,7 @@ abbrev pub invariant-loop-top : goal.invariant-loop-top
 invariant-loop-top l = record {
   heap : IsHeap by_later (heap_items l.due);
   due : (p : Place) → is_due p l.initial.due ≡ true → (is_due p l.due || is_at (by_stamp_and_arrival p) l.place) ≡ true;
+  fewer : (p : Place) → is_due p l.due ≡ true → is_due p l.initial.due ≡ true;
   len : heap_len l.due ≤ heap_len l.initial.due;
   capacity : heap_capacity l.due ≡ heap_capacity l.initial.due;
 }
