@@ -8,7 +8,7 @@ ghost use Rattle.rt_ops.specs.Operations.{Operation, has_bad_stamp};
 ghost use Rattle.rt_oplog.specs.Logs.{holds, with_operation};
 ghost use Rattle.rt_rga.specs.Answers.{answer_within};
 ghost use Rattle.rt_holding.specs.Kept.{IsAt, IsInPlace, IsNewAt, Place, by_stamp_and_arrival, ops_in, outcome_of};
-ghost use Rattle.rt_holding.specs.Waits.{IfIsThere, IsReady, IsSetAt, KeepsOthers, are_kept, is_listed, key_count, outcome_there};
+ghost use Rattle.rt_holding.specs.Waits.{HasLess, IfIsThere, IsReady, IsSetAt, KeepsOthers, are_kept, is_any_kept, is_listed, key_count, outcome_there};
 
 use crate::taking::Taking;
 use crate::waits::{Keys, Waits, forget, keep, put_keys};
@@ -121,6 +121,9 @@ pub(crate) fn drop_at<T: Taking>(site: &T, ops: &mut Ops, keys: &mut Keys, place
     ensures others { IsSetAt place None ops.old ops.new }
     ensures ordered { IsOrdered by_stamp_and_arrival ops.new }
     ensures keys { KeepsOthers place keys.old keys.new }
+    ensures gone { IfIsThere (λ op. has_bad_stamp op ≡ false → is_any_kept keys.new (T.log site.now) place op ≡ false)
+        (get by_stamp_and_arrival ops.old place) }
+    ensures less { HasLess keys.old keys.new }
     ensures fewer { key_count keys.new ≤ key_count keys.old }
 {
     if let Some(op) = ops.remove(&place).flatten() {
