@@ -18,7 +18,7 @@ use Rattle.rt_rga.proofs.Skipping.{split}
 use Rattle.rt_holding.specs.declared.waits.Waits.{Waits}
 use Rattle.rt_holding.specs.Grown.{HasGrownBy}
 use Rattle.rt_holding.specs.Holding.{is_early, is_new, stays}
-use Rattle.rt_holding.specs.Kept.{Place, by_stamp_and_arrival}
+use Rattle.rt_holding.specs.Kept.{Standing, by_stamp_and_arrival}
 use Rattle.rt_rga.specs.Kept.{goes_past}
 use Rattle.rt_holding.specs.Waiting.{WaitsAt, awaited_by, awaited_in, came_in, has_new_gap, targets}
 use Rattle.rt_holding.specs.Waits.{IfIsThere, are_kept, first_of, has_begun, has_key, is_due, is_noted, is_waited_for, key_at, last_of, sleeps}
@@ -58,8 +58,8 @@ no_keys log (span ∷ spans) n = split (goes_past log span)
     (λ e. rw e (no_keys log spans (rw e at n)))
 
 -- what it waits for is looked through, and the spans that have come to their end are seen to
-module _ (by : ℕ) (older log : List Operation) (ops : BTreeMap Place (Option Operation)) (grown : HasGrownBy by older log) (old mid new : Waits) (looked : IsLookedThrough by log old mid)
-    (ended : AreEndsPassed by log ops mid new) (p : Place) (x : Operation) (found : get by_stamp_and_arrival ops p ≡ Some (Some x)) (sleeping : is_due p new.due ≡ false) where
+module _ (by : ℕ) (older log : List Operation) (ops : BTreeMap Standing (Option Operation)) (grown : HasGrownBy by older log) (old mid new : Waits) (looked : IsLookedThrough by log old mid)
+    (ended : AreEndsPassed by log ops mid new) (p : Standing) (x : Operation) (found : get by_stamp_and_arrival ops p ≡ Some (Some x)) (sleeping : is_due p new.due ≡ false) where
   not_due : {A : Type 0} → is_due p new.due ≡ true → A
   not_due d = absurd (cc (d, sleeping))
 

@@ -15,7 +15,7 @@ use Rattle.rt_rga.specs.Answers.{answer_within}
 use Rattle.rt_rga.proofs.Skipping.{split}
 use Rattle.rt_holding.specs.declared.waits.Waits.{Waits as Table}
 use Rattle.rt_holding.specs.Holding.{is_left, is_new, next_of, stays}
-use Rattle.rt_holding.specs.Kept.{Entry, Place, by_stamp_and_arrival, ops_in, put_in_front}
+use Rattle.rt_holding.specs.Kept.{Entry, Standing, by_stamp_and_arrival, ops_in, put_in_front}
 use Rattle.rt_holding.specs.Waits.{are_kept, are_tried_at, is_due, is_listed, is_tried_at, sleeps}
 use Rattle.rt_holding.proofs.Places.{places_total}
 use Rattle.rt_holding.proofs.Standing.{at_found, each_found, found_all, this_place}
@@ -58,15 +58,15 @@ pub left_if_stays : (limit : ℕ) (wanting log : List Operation) (x : Operation)
 left_if_stays limit wanting log x e = or_left (stays (answer_within limit x log)) (is_new (answer_within limit x log) && holds wanting x) e
 
 -- it is looked at again, or sleeps
-abbrev pub IsLeftAt : ℕ → List Operation → List Operation → Table → Place → Operation → Type 0
+abbrev pub IsLeftAt : ℕ → List Operation → List Operation → Table → Standing → Operation → Type 0
 IsLeftAt limit wanting log waits p x = ((is_listed p waits.again.items ≡ true) × (is_left limit wanting log x ≡ true)) ⊎ (sleeps limit waits.keys log p x ≡ true)
 
 -- all that isn't due is left
-abbrev pub AreReady : ℕ → List Operation → List Operation → BTreeMap Place (Option Operation) → Table → Type 0
+abbrev pub AreReady : ℕ → List Operation → List Operation → BTreeMap Standing (Option Operation) → Table → Type 0
 AreReady limit wanting log m waits =
-    (p : Place) (x : Operation) → get by_stamp_and_arrival m p ≡ Some (Some x) → (is_due p waits.due ≡ true) ⊎ IsLeftAt limit wanting log waits p x
+    (p : Standing) (x : Operation) → get by_stamp_and_arrival m p ≡ Some (Some x) → (is_due p waits.due ≡ true) ⊎ IsLeftAt limit wanting log waits p x
 
-left_at : (limit : ℕ) (wanting log : List Operation) (waits : Table) (p : Place) (x : Operation) → IsLeftAt limit wanting log waits p x → is_left limit wanting log x ≡ true
+left_at : (limit : ℕ) (wanting log : List Operation) (waits : Table) (p : Standing) (x : Operation) → IsLeftAt limit wanting log waits p x → is_left limit wanting log x ≡ true
 left_at limit wanting log waits p x i = elim i [
   | inl j ↦ j.1
   | inr s ↦ left_if_stays limit wanting log x (both (stays (answer_within limit x log)) (are_kept waits.keys log p x) s).0
@@ -100,8 +100,8 @@ append_none [] = refl
 append_none (e ∷ entries) = ap (λ l. e ∷ l) (append_none entries)
 
 -- the first that is due is next, if it isn't left
-pub next_due : (limit : ℕ) (wanting log : List Operation) (m : BTreeMap Place (Option Operation)) (waits : Table) (p : Place) (op : Operation) → AreReady limit wanting log m waits
-    → ((q : Place) → is_due q waits.due ≡ true → is_lt (by_stamp_and_arrival q p) ≡ false) → IsOrdered by_stamp_and_arrival m → get by_stamp_and_arrival m p ≡ Some (Some op)
+pub next_due : (limit : ℕ) (wanting log : List Operation) (m : BTreeMap Standing (Option Operation)) (waits : Table) (p : Standing) (op : Operation) → AreReady limit wanting log m waits
+    → ((q : Standing) → is_due q waits.due ≡ true → is_lt (by_stamp_and_arrival q p) ≡ false) → IsOrdered by_stamp_and_arrival m → get by_stamp_and_arrival m p ≡ Some (Some op)
     → is_left limit wanting log op ≡ false → next_of limit wanting log (ops_in m.entries) ≡ Some op
 next_due limit wanting log m waits p op r f s g l =
     let i = at_found m.entries p op s g in
@@ -114,8 +114,8 @@ next_due limit wanting log m waits p op r f s g l =
     ap (λ es. next_of limit wanting log (ops_in es)) i.is ∙ next_behind limit wanting log i.front ((p, Some op) ∷ i.behind) b ∙ (rw l refl)
 
 -- none is due
-pub none_due : (limit : ℕ) (wanting log : List Operation) (m : BTreeMap Place (Option Operation)) (waits : Table) → AreReady limit wanting log m waits
-    → ((q : Place) → is_due q waits.due ≡ false) → IsOrdered by_stamp_and_arrival m → next_of limit wanting log (ops_in m.entries) ≡ None
+pub none_due : (limit : ℕ) (wanting log : List Operation) (m : BTreeMap Standing (Option Operation)) (waits : Table) → AreReady limit wanting log m waits
+    → ((q : Standing) → is_due q waits.due ≡ false) → IsOrdered by_stamp_and_arrival m → next_of limit wanting log (ops_in m.entries) ≡ None
 none_due limit wanting log m waits r f s =
     let a = each_found m.entries s in
     let b = all_weaker (λ e. lookup (is_at (by_stamp_and_arrival e.0)) m.entries ≡ Some e.1) (LeftEntry limit wanting log)
@@ -132,13 +132,13 @@ all_tried P [] a = refl
 all_tried P (e ∷ entries) a = let h = a.0 in rw h (all_tried P entries a.1)
 
 -- all were tried at the log at which none is due
-pub tried_now : (limit : ℕ) (wanting log : List Operation) (m : BTreeMap Place (Option Operation)) (waits : Table) → AreReady limit wanting log m waits
-    → ((q : Place) → is_due q waits.due ≡ false) → IsOrdered by_stamp_and_arrival m → are_tried_at limit log waits.keys waits.again.items m.entries ≡ true
+pub tried_now : (limit : ℕ) (wanting log : List Operation) (m : BTreeMap Standing (Option Operation)) (waits : Table) → AreReady limit wanting log m waits
+    → ((q : Standing) → is_due q waits.due ≡ false) → IsOrdered by_stamp_and_arrival m → are_tried_at limit log waits.keys waits.again.items m.entries ≡ true
 tried_now limit wanting log m waits r f s =
     all_tried (is_tried_at limit log waits.keys waits.again.items) m.entries
     (all_weaker (λ e. lookup (is_at (by_stamp_and_arrival e.0)) m.entries ≡ Some e.1) (λ e. is_tried_at limit log waits.keys waits.again.items e ≡ true) (λ e h. one e.0 e.1 (r e.0) h (f e.0)) m.entries (each_found m.entries s))
   where
-    one : (p : Place) (v : Option Operation) → ((x : Operation) → get by_stamp_and_arrival m p ≡ Some (Some x) → (is_due p waits.due ≡ true) ⊎ IsLeftAt limit wanting log waits p x)
+    one : (p : Standing) (v : Option Operation) → ((x : Operation) → get by_stamp_and_arrival m p ≡ Some (Some x) → (is_due p waits.due ≡ true) ⊎ IsLeftAt limit wanting log waits p x)
         → lookup (is_at (by_stamp_and_arrival p)) m.entries ≡ Some v → is_due p waits.due ≡ false → is_tried_at limit log waits.keys waits.again.items (p, v) ≡ true
     one p None k h n = refl
     one p (Some x) k h n = elim (k x h) [
@@ -150,7 +150,7 @@ tried_now limit wanting log m waits r f s =
     ]
 
 pub tried_in : (limit : ℕ) (log : List Operation) (waits : Table) (entries : List Entry) → are_tried_at limit log waits.keys waits.again.items entries ≡ true
-    → (p : Place) (x : Operation) → lookup (is_at (by_stamp_and_arrival p)) entries ≡ Some (Some x) → is_tried_at limit log waits.keys waits.again.items (p, Some x) ≡ true
+    → (p : Standing) (x : Operation) → lookup (is_at (by_stamp_and_arrival p)) entries ≡ Some (Some x) → is_tried_at limit log waits.keys waits.again.items (p, Some x) ≡ true
 tried_in limit log waits [] a p x g = absurd (cc g)
 tried_in limit log waits (e ∷ entries) a p x g =
     let (i, j) = both (is_tried_at limit log waits.keys waits.again.items e) (are_tried_at limit log waits.keys waits.again.items entries) a in
@@ -158,18 +158,18 @@ tried_in limit log waits (e ∷ entries) a p x g =
     (λ t. let h : Some e.1 ≡ Some (Some x) = rw t at g in
     let is : e.1 ≡ Some x = cc in
     let s = this_place p e.0 t in
-    subst (λ (q : Place). is_tried_at limit log waits.keys waits.again.items (q, Some x) ≡ true) (sym s) (subst (λ (v : Option Operation). is_tried_at limit log waits.keys waits.again.items (e.0, v) ≡ true) is i))
+    subst (λ (q : Standing). is_tried_at limit log waits.keys waits.again.items (q, Some x) ≡ true) (sym s) (subst (λ (v : Option Operation). is_tried_at limit log waits.keys waits.again.items (e.0, v) ≡ true) is i))
     (λ t. tried_in limit log waits entries j p x (rw t at g))
 
 -- fewer were tried too
-pub tried_less : (P : Entry → Bool) (t : Place → Bool) (entries : List Entry) → list_all P entries ≡ true → list_all P (remove_entry t entries) ≡ true
+pub tried_less : (P : Entry → Bool) (t : Standing → Bool) (entries : List Entry) → list_all P entries ≡ true → list_all P (remove_entry t entries) ≡ true
 tried_less P t [] a = refl
 tried_less P t (e ∷ entries) a =
     let (i, j) = both (P e) (list_all P entries) a in
     elim (t e.0) as (λ b. list_all P (cond b entries (e ∷ remove_entry t entries)) ≡ true) [ true ↦ j | false ↦ rw i (tried_less P t entries j) ]
 
 -- one more that was tried is put in
-pub tried_more : (P : Entry → Bool) (entries : List Entry) (p : Place) (v : Option Operation) → P (p, v) ≡ true → list_all P entries ≡ true → list_all P (insert_entry by_stamp_and_arrival entries p v) ≡ true
+pub tried_more : (P : Entry → Bool) (entries : List Entry) (p : Standing) (v : Option Operation) → P (p, v) ≡ true → list_all P entries ≡ true → list_all P (insert_entry by_stamp_and_arrival entries p v) ≡ true
 tried_more P [] p v h a = rw h refl
 tried_more P (e ∷ entries) p v h a = one (by_stamp_and_arrival p e.0) refl (tried_more P entries p v h (both (P e) (list_all P entries) a).1)
   where
@@ -178,6 +178,6 @@ tried_more P (e ∷ entries) p v h a = one (by_stamp_and_arrival p e.0) refl (tr
     one Less is k = rw is (rw h a)
     one Equal is k =
         let s = this_place p e.0 (ap is_eq is) in
-        let j : P (e.0, v) ≡ true = subst (λ (q : Place). P (q, v) ≡ true) s h in
+        let j : P (e.0, v) ≡ true = subst (λ (q : Standing). P (q, v) ≡ true) s h in
         rw is (rw j (both (P e) (list_all P entries) a).1)
     one Greater is k = let i = (both (P e) (list_all P entries) a).0 in rw is (rw i k)

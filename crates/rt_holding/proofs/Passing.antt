@@ -18,7 +18,7 @@ use Rattle.rt_stamps.specs.declared.stamp.Span.{Span}
 use Rattle.rt_rga.proofs.Skipping.{split}
 use Rattle.rt_holding.specs.declared.waits.Key.{Key}
 use Rattle.rt_holding.specs.declared.waits.Keys.{Keys}
-use Rattle.rt_holding.specs.Kept.{Place, by_stamp_and_arrival}
+use Rattle.rt_holding.specs.Kept.{Standing, by_stamp_and_arrival}
 use Rattle.rt_holding.specs.Waits.{HasLess, HasMore, KeepsOthers, by_key, by_later, least_key}
 use Rattle.rt_holding.proofs.Standing.{own_place, this_place}
 
@@ -36,7 +36,7 @@ none_on p spans i d h t r = ap (list_any p) (drop_more spans i d h) ∙ (rw t r)
 
 -- KEYS OF OTHER PLACES
 
-pub others_on : (p : Place) (a b c : Keys) → KeepsOthers p a b → KeepsOthers p b c → KeepsOthers p a c
+pub others_on : (p : Standing) (a b c : Keys) → KeepsOthers p a b → KeepsOthers p b c → KeepsOthers p a c
 others_on p a b c f g = record {
   alone = λ k n. g.alone k n ∙ f.alone k n;
   begun = λ k n. g.begun k n ∙ f.begun k n;
@@ -56,22 +56,22 @@ more_on a b c f g = record {
 -- WHAT IS DUE
 
 -- whether a place is among others
-abbrev pub among : List (Reverse Place) → Place → Bool
-among items p = list_any (λ (r : Reverse Place). is_at (by_stamp_and_arrival p) r.0) items
+abbrev pub among : List (Reverse Standing) → Standing → Bool
+among items p = list_any (λ (r : Reverse Standing). is_at (by_stamp_and_arrival p) r.0) items
 
-pub moved : (xs ys : List (Reverse Place)) → IsPermutation xs ys → (p : Place) → among ys p ≡ among xs p
-moved xs ys s p = sym (list_any-IsPermutation (λ (r : Reverse Place). is_at (by_stamp_and_arrival p) r.0) xs ys s)
+pub moved : (xs ys : List (Reverse Standing)) → IsPermutation xs ys → (p : Standing) → among ys p ≡ among xs p
+moved xs ys s p = sym (list_any-IsPermutation (λ (r : Reverse Standing). is_at (by_stamp_and_arrival p) r.0) xs ys s)
 
 -- none goes before one that is no less than any
-pub none_before : (x : Reverse Place) (xs : List (Reverse Place)) → IsUpperBound by_later x xs → (p : Place) → among xs p ≡ true → is_lt (by_stamp_and_arrival p x.0) ≡ false
+pub none_before : (x : Reverse Standing) (xs : List (Reverse Standing)) → IsUpperBound by_later x xs → (p : Standing) → among xs p ≡ true → is_lt (by_stamp_and_arrival p x.0) ≡ false
 none_before x [] u p e = absurd (cc e)
 none_before x (y ∷ xs) u p e = split (is_at (by_stamp_and_arrival p) y.0)
-    (λ t. subst (λ (q : Place). is_lt (by_stamp_and_arrival q x.0) ≡ false) (sym (this_place p y.0 t)) u.0)
+    (λ t. subst (λ (q : Standing). is_lt (by_stamp_and_arrival q x.0) ≡ false) (sym (this_place p y.0 t)) u.0)
     (λ t. none_before x xs u.1 p (rw t at e))
 
 -- KEYS OF A SITE
 
-pub from_least : (site count : ℕ) (place : Place) → is_gt (by_key (least_key site) (record { site = site; count = count; place = place })) ≡ false
+pub from_least : (site count : ℕ) (place : Standing) → is_gt (by_key (least_key site) (record { site = site; count = count; place = place })) ≡ false
 from_least site count place = by place.0.count place.0.site place.1
   where
     by : (a b c : ℕ) → is_gt (ordering_then (nat_cmp site site) (ordering_then (nat_cmp 0 count) (ordering_then (ordering_then (nat_cmp 0 a) (nat_cmp 0 b)) (nat_cmp 0 c)))) ≡ false
@@ -123,13 +123,13 @@ from_ok (Ok a) i p = p
 from_ok (Err e) i p = absurd (cc i)
 
 -- what is due when the top, which is at a place, was popped
-pub popped : (r : Option (Reverse Place)) (old new : List (Reverse Place)) (top : Reverse Place) (place : Place) → top ≡ slice_index_or old 0 top → top.0 ≡ place
+pub popped : (r : Option (Reverse Standing)) (old new : List (Reverse Standing)) (top : Reverse Standing) (place : Standing) → top ≡ slice_index_or old 0 top → top.0 ≡ place
     → IfSome r (λ x. x ≡ slice_index_or old 0 x) → IfSome r (λ x. IsPermutation old (x ∷ new)) → IfNone r (new ≡ old)
-    → (p : Place) → among old p ≡ true → (among new p || is_at (by_stamp_and_arrival p) place) ≡ true
+    → (p : Standing) → among old p ≡ true → (among new p || is_at (by_stamp_and_arrival p) place) ≡ true
 popped r [] new top place t s e m n p h = absurd (cc h)
 popped None (y ∷ old) new top place t s e m n p h = let i : among new p ≡ true = ap (λ l. among l p) n ∙ h in rw i refl
 popped (Some x) (y ∷ old) new top place t s e m n p h =
-    let same : x.0 ≡ place = ap (λ (r : Reverse Place). r.0) (e ∙ sym t) ∙ s in
+    let same : x.0 ≡ place = ap (λ (r : Reverse Standing). r.0) (e ∙ sym t) ∙ s in
     let i : (is_at (by_stamp_and_arrival p) x.0 || among new p) ≡ true = moved (y ∷ old) (x ∷ new) m p ∙ h in
     either (is_at (by_stamp_and_arrival p) x.0) (among new p) (is_at (by_stamp_and_arrival p) place) (ap (is_at (by_stamp_and_arrival p)) same) i
   where
@@ -140,25 +140,25 @@ popped (Some x) (y ∷ old) new top place t s e m n p h =
     either false false c e i = absurd (cc i)
 
 -- those that are due behind one were due
-pub due_behind : (x : Reverse Place) (old mid : List (Reverse Place)) → IsPermutation old (x ∷ mid) → (p : Place) → among mid p ≡ true → among old p ≡ true
+pub due_behind : (x : Reverse Standing) (old mid : List (Reverse Standing)) → IsPermutation old (x ∷ mid) → (p : Standing) → among mid p ≡ true → among old p ≡ true
 due_behind x old mid m p h = sym (moved old (x ∷ mid) m p) ∙ right (is_at (by_stamp_and_arrival p) x.0) (among mid p) h
   where
     right : (a b : Bool) → b ≡ true → (a || b) ≡ true
     right true b e = refl
     right false b e = e
 
-pub due_after : (r : Option (Reverse Place)) (old new : List (Reverse Place)) → IfSome r (λ x. IsPermutation old (x ∷ new)) → IfNone r (new ≡ old)
-    → (p : Place) → among new p ≡ true → among old p ≡ true
+pub due_after : (r : Option (Reverse Standing)) (old new : List (Reverse Standing)) → IfSome r (λ x. IsPermutation old (x ∷ new)) → IfNone r (new ≡ old)
+    → (p : Standing) → among new p ≡ true → among old p ≡ true
 due_after None old new m n p h = ap (λ l. among l p) (sym n) ∙ h
 due_after (Some x) old new m n p h = due_behind x old new m p h
 
 -- and the one was
-pub first_was : (x : Reverse Place) (old mid : List (Reverse Place)) → IsPermutation old (x ∷ mid) → among old x.0 ≡ true
+pub first_was : (x : Reverse Standing) (old mid : List (Reverse Standing)) → IsPermutation old (x ∷ mid) → among old x.0 ≡ true
 first_was x old mid m = sym (moved old (x ∷ mid) m x.0) ∙ (rw (own_place x.0) refl)
 
 -- a place that none goes before, and that isn't on top, isn't due
-pub not_on_top : (items : List (Reverse Place)) (top : Reverse Place) (place : Place) (b : Bool) → top ≡ slice_index_or items 0 top → IsUpperBound by_later top items
-    → ((p : Place) → among items p ≡ true → is_lt (by_stamp_and_arrival p place) ≡ false)
+pub not_on_top : (items : List (Reverse Standing)) (top : Reverse Standing) (place : Standing) (b : Bool) → top ≡ slice_index_or items 0 top → IsUpperBound by_later top items
+    → ((p : Standing) → among items p ≡ true → is_lt (by_stamp_and_arrival p place) ≡ false)
     → b ≡ not (((top.0.0.count == place.0.count) && (top.0.0.site == place.0.site)) && (top.0.1 == place.1)) → b ≡ true → among items place ≡ false
 not_on_top [] top place b s u f i e = refl
 not_on_top (x ∷ items) top place b s u f i e = split (among (x ∷ items) place)
@@ -167,7 +167,7 @@ not_on_top (x ∷ items) top place b s u f i e = split (among (x ∷ items) plac
   where
     there : among (x ∷ items) top.0 ≡ true
     there =
-        let here : is_at (by_stamp_and_arrival top.0) x.0 ≡ true = subst (λ (r : Reverse Place). is_at (by_stamp_and_arrival top.0) r.0 ≡ true) s (own_place top.0) in
+        let here : is_at (by_stamp_and_arrival top.0) x.0 ≡ true = subst (λ (r : Reverse Standing). is_at (by_stamp_and_arrival top.0) r.0 ≡ true) s (own_place top.0) in
         rw here refl
 
     apart : (a b c d x y : ℕ) → is_lt (ordering_then (ordering_then (nat_cmp a b) (nat_cmp c d)) (nat_cmp x y)) ≡ false
@@ -175,16 +175,16 @@ not_on_top (x ∷ items) top place b s u f i e = split (among (x ∷ items) plac
     apart a b c d x y e f g = grind (arith, nat_tests, common_steps, e, f, g)
 
 -- the first is popped
-pub first_popped : (x : Reverse Place) (old mid new : List (Reverse Place)) → IsPermutation old (x ∷ mid)
-    → ((p : Place) → among mid p ≡ true → (among new p || is_at (by_stamp_and_arrival p) x.0) ≡ true)
-    → (p : Place) → among old p ≡ true → (among new p || is_at (by_stamp_and_arrival p) x.0) ≡ true
+pub first_popped : (x : Reverse Standing) (old mid new : List (Reverse Standing)) → IsPermutation old (x ∷ mid)
+    → ((p : Standing) → among mid p ≡ true → (among new p || is_at (by_stamp_and_arrival p) x.0) ≡ true)
+    → (p : Standing) → among old p ≡ true → (among new p || is_at (by_stamp_and_arrival p) x.0) ≡ true
 first_popped x old mid new m f p h =
     let i : (is_at (by_stamp_and_arrival p) x.0 || among mid p) ≡ true = moved old (x ∷ mid) m p ∙ h in
     split (is_at (by_stamp_and_arrival p) x.0)
     (λ t. rw t (elim (among new p) as (λ b. (b || true) ≡ true) [ true ↦ refl | false ↦ refl ]))
     (λ t. f p (rw t at i))
 
-pub same_place : (p q : Place) (b : Bool) → b ≡ not (((p.0.count == q.0.count) && (p.0.site == q.0.site)) && (p.1 == q.1)) → b ≡ false → p ≡ q
+pub same_place : (p q : Standing) (b : Bool) → b ≡ not (((p.0.count == q.0.count) && (p.0.site == q.0.site)) && (p.1 == q.1)) → b ≡ false → p ≡ q
 same_place p q b i e =
     let (c, s, a) = parts p.0.count q.0.count p.0.site q.0.site p.1 q.1 (sym i ∙ e) in
     ap (λ n. (record { count = n; site = p.0.site }, p.1)) c ∙ ap (λ n. (record { count = q.0.count; site = n }, p.1)) s ∙ ap (λ n. (q.0, n)) a
@@ -192,15 +192,15 @@ same_place p q b i e =
     parts : (a b c d x y : ℕ) → not (((a == b) && (c == d)) && (x == y)) ≡ false → (a ≡ b) × (c ≡ d) × (x ≡ y)
     parts a b c d x y e = (grind (arith, nat_tests, e), grind (arith, nat_tests, e), grind (arith, nat_tests, e))
 
-pub heap_popped : (r : Option (Reverse Place)) (old new : List (Reverse Place)) → IsHeap by_later old → IfSome r (λ x. PopsGreatest by_later old x new) → IfNone r (new ≡ old) → IsHeap by_later new
+pub heap_popped : (r : Option (Reverse Standing)) (old new : List (Reverse Standing)) → IsHeap by_later old → IfSome r (λ x. PopsGreatest by_later old x new) → IfNone r (new ≡ old) → IsHeap by_later new
 heap_popped None old new h s n = subst (IsHeap by_later) (sym n) h
 heap_popped (Some x) old new h s n = (s h).0
 
-pub shorter_popped : (r : Option (Reverse Place)) (old new : ℕ) → OnSome r (new + 1 ≡ old) → IfNone r (new ≡ old) → new ≤ old
+pub shorter_popped : (r : Option (Reverse Standing)) (old new : ℕ) → OnSome r (new + 1 ≡ old) → IfNone r (new ≡ old) → new ≤ old
 shorter_popped None old new s n = omega (arith, n)
 shorter_popped (Some x) old new s n = omega (arith, s)
 
-pub none_popped : (P Q : Type 0) (r : Option (Reverse Place)) → IfNone r (P × Q) → IfNone r P × IfNone r Q
+pub none_popped : (P Q : Type 0) (r : Option (Reverse Standing)) → IfNone r (P × Q) → IfNone r P × IfNone r Q
 none_popped P Q None k = k
 none_popped P Q (Some x) k = (tt, tt)
 

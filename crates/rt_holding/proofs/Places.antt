@@ -23,7 +23,7 @@ use Rattle.rt_rga.proofs.Skipping.{split}
 use Rattle.std.proofs.lemmas.List.{take-append-drop}
 use Rattle.rt_holding.specs.declared.held.TheConstants.{MOST_HELD}
 use Rattle.rt_holding.specs.Holding.{put_held, without}
-use Rattle.rt_holding.specs.Kept.{AreHeld, Entry, IsAt, IsInPlace, Place, by_stamp_and_arrival, ops_in, put_in_front}
+use Rattle.rt_holding.specs.Kept.{AreHeld, Entry, IsAt, IsInPlace, Standing, by_stamp_and_arrival, ops_in, put_in_front}
 use Rattle.rt_holding.specs.Runs.{AreOnce, AreRising}
 use Rattle.rt_holding.proofs.Keeping.{has_put, without_has}
 use Rattle.rt_holding.proofs.Sites.{length_put, put_once, put_order, without_none, without_once, without_order}
@@ -33,7 +33,7 @@ use Rattle.rt_holding.proofs.Sites.{length_put, put_once, put_order, without_non
 nat_same : (n : ℕ) → nat_cmp n n ≡ Equal
 nat_same n = grind (arith, nat_tests)
 
-pub place_same : (p : Place) → by_stamp_and_arrival p p ≡ Equal
+pub place_same : (p : Standing) → by_stamp_and_arrival p p ≡ Equal
 place_same p = rw (nat_same p.0.count, nat_same p.0.site, nat_same p.1) refl
 
 -- an operation stands before those with greater stamps, and behind all others that came before it
@@ -48,12 +48,12 @@ placed op q n m l = compared op.count q.count op.site q.site
     compared a b c d = rw last (grind (arith, nat_tests))
 
 pub places_total : IsTotalOrder by_stamp_and_arrival
-places_total = then_total (then_total (on_total (λ (p : Place). p.0.count) nat_cmp_total) (on_total (λ (p : Place). p.0.site) nat_cmp_total)) (on_total (λ (p : Place). p.1) nat_cmp_total)
+places_total = then_total (then_total (on_total (λ (p : Standing). p.0.count) nat_cmp_total) (on_total (λ (p : Standing). p.0.site) nat_cmp_total)) (on_total (λ (p : Standing). p.1) nat_cmp_total)
 
-greater : (p q : Place) → by_stamp_and_arrival q p ≡ Less → by_stamp_and_arrival p q ≡ Greater
+greater : (p q : Standing) → by_stamp_and_arrival q p ≡ Less → by_stamp_and_arrival p q ≡ Greater
 greater p q e = places_total.antisymm p q ∙ ap ordering_reverse e
 
-one_of : (P : Place → Type 0) (front behind : List Entry) (e : Entry) → AllByRecursion P (keys_of (front ++ e ∷ behind)) → P e.0
+one_of : (P : Standing → Type 0) (front behind : List Entry) (e : Entry) → AllByRecursion P (keys_of (front ++ e ∷ behind)) → P e.0
 one_of P [] behind e a = a.0
 one_of P (x ∷ front) behind e a = one_of P front behind e a.1
 
@@ -67,7 +67,7 @@ all_before (x ∷ front) behind e s =
 
 -- A PLACE
 
-pub in_append : (front behind : List Entry) (p : Place) (op : Operation) → ops_in (front ++ (p, Some op) ∷ behind) ≡ ops_in front ++ op ∷ ops_in behind
+pub in_append : (front behind : List Entry) (p : Standing) (op : Operation) → ops_in (front ++ (p, Some op) ∷ behind) ≡ ops_in front ++ op ∷ ops_in behind
 in_append [] behind p op = refl
 in_append (e ∷ front) behind p op =
     elim e.1 as (λ v. put_in_front v (ops_in (front ++ (p, Some op) ∷ behind)) ≡ put_in_front v (ops_in front) ++ op ∷ ops_in behind) [
@@ -83,42 +83,42 @@ in_both (e ∷ front) behind =
       | Some q ↦ ap (λ l. q ∷ l) (in_both front behind)
     ]
 
-pub set_at : (front behind : List Entry) (p : Place) (v w : Option Operation) → AllByRecursion (λ e. by_stamp_and_arrival p e.0 ≡ Greater) front
+pub set_at : (front behind : List Entry) (p : Standing) (v w : Option Operation) → AllByRecursion (λ e. by_stamp_and_arrival p e.0 ≡ Greater) front
     → insert_entry by_stamp_and_arrival (front ++ (p, v) ∷ behind) p w ≡ front ++ (p, w) ∷ behind
 set_at [] behind p v w a = let e = place_same p in rw e refl
 set_at (x ∷ front) behind p v w a = let e = a.0 in rw e (ap (λ l. x ∷ l) (set_at front behind p v w a.1))
 
-pub out_at : (front behind : List Entry) (p : Place) (v : Option Operation) → AllByRecursion (λ e. by_stamp_and_arrival p e.0 ≡ Greater) front
+pub out_at : (front behind : List Entry) (p : Standing) (v : Option Operation) → AllByRecursion (λ e. by_stamp_and_arrival p e.0 ≡ Greater) front
     → remove_entry (is_at (by_stamp_and_arrival p)) (front ++ (p, v) ∷ behind) ≡ front ++ behind
 out_at [] behind p v a = let e = place_same p in rw e refl
 out_at (x ∷ front) behind p v a = let e = a.0 in rw e (ap (λ l. x ∷ l) (out_at front behind p v a.1))
 
-pub found_at : (front behind : List Entry) (p : Place) (v : Option Operation) → AllByRecursion (λ e. by_stamp_and_arrival p e.0 ≡ Greater) front
+pub found_at : (front behind : List Entry) (p : Standing) (v : Option Operation) → AllByRecursion (λ e. by_stamp_and_arrival p e.0 ≡ Greater) front
     → lookup (is_at (by_stamp_and_arrival p)) (front ++ (p, v) ∷ behind) ≡ Some v
 found_at [] behind p v a = let e = place_same p in rw e refl
 found_at (x ∷ front) behind p v a = let e = a.0 in rw e (found_at front behind p v a.1)
 
-pub get_at : (m : BTreeMap Place (Option Operation)) (p : Place) (op : Operation) → IsAt p op m.entries → get by_stamp_and_arrival m p ≡ Some (Some op)
+pub get_at : (m : BTreeMap Standing (Option Operation)) (p : Standing) (op : Operation) → IsAt p op m.entries → get by_stamp_and_arrival m p ≡ Some (Some op)
 get_at m p op i = ap (λ es. lookup (is_at (by_stamp_and_arrival p)) es) i.is ∙ found_at i.front i.behind p (Some op) i.before
 
 -- what stands at a place is told when another is put there
-pub was_there : {E : Type 0} (r : Result (Option (Option Operation)) E) (m : BTreeMap Place (Option Operation)) (p : Place) (op : Operation) → IsAt p op m.entries
+pub was_there : {E : Type 0} (r : Result (Option (Option Operation)) E) (m : BTreeMap Standing (Option Operation)) (p : Standing) (op : Operation) → IsAt p op m.entries
     → IfOk r (λ old. old ≡ get by_stamp_and_arrival m p) → OnErr r (get by_stamp_and_arrival m p ≡ None) → r ≡ Ok (Some (Some op))
 was_there (Ok old) m p op i e f = ap (λ v. Ok v) (e ∙ get_at m p op i)
 was_there (Err x) m p op i e f = let g = get_at m p op i in cc
 
 -- and only one stands there
-pub same_at : (m : BTreeMap Place (Option Operation)) (p : Place) (op q : Operation) → IsAt p op m.entries → IsAt p q m.entries → op ≡ q
+pub same_at : (m : BTreeMap Standing (Option Operation)) (p : Standing) (op q : Operation) → IsAt p op m.entries → IsAt p q m.entries → op ≡ q
 same_at m p op q i j = let g = get_at m p op i in let h = get_at m p q j in cc
 
 -- at a place that stands no memory is wanting
-pub puts : {A E : Type 0} (r : Result A E) (m : BTreeMap Place (Option Operation)) (p : Place) (v : Option Operation) (new old : List Entry)
+pub puts : {A E : Type 0} (r : Result A E) (m : BTreeMap Standing (Option Operation)) (p : Standing) (v : Option Operation) (new old : List Entry)
     → OnOk r (new ≡ old) → OnErr r (get by_stamp_and_arrival m p ≡ None) → get by_stamp_and_arrival m p ≡ Some v → new ≡ old
 puts (Ok x) m p v new old e n g = e
 puts (Err x) m p v new old e n g = cc
 
 -- taken out, and put back
-pub back_at : (entries : List Entry) (p : Place) (op : Operation) → IsAt p op entries
+pub back_at : (entries : List Entry) (p : Standing) (op : Operation) → IsAt p op entries
     → insert_entry by_stamp_and_arrival (insert_entry by_stamp_and_arrival entries p None) p (Some op) ≡ entries
 back_at entries p op i =
     ap (λ es. insert_entry by_stamp_and_arrival (insert_entry by_stamp_and_arrival es p None) p (Some op)) i.is
@@ -126,7 +126,7 @@ back_at entries p op i =
     ∙ set_at i.front i.behind p None (Some op) i.before
     ∙ sym i.is
 
-pub out_of : (entries : List Entry) (p : Place) (op : Operation) → IsAt p op entries
+pub out_of : (entries : List Entry) (p : Standing) (op : Operation) → IsAt p op entries
     → remove_entry (is_at (by_stamp_and_arrival p)) (insert_entry by_stamp_and_arrival entries p None) ≡ remove_entry (is_at (by_stamp_and_arrival p)) entries
 out_of entries p op i =
     ap (λ es. remove_entry (is_at (by_stamp_and_arrival p)) (insert_entry by_stamp_and_arrival es p None)) i.is
@@ -136,7 +136,7 @@ out_of entries p op i =
     ∙ ap (remove_entry (is_at (by_stamp_and_arrival p))) (sym i.is)
 
 -- a place that has none still stands
-pub stands : (m : BTreeMap Place (Option Operation)) (entries : List Entry) (p : Place) (op : Operation) → IsAt p op entries
+pub stands : (m : BTreeMap Standing (Option Operation)) (entries : List Entry) (p : Standing) (op : Operation) → IsAt p op entries
     → m.entries ≡ insert_entry by_stamp_and_arrival entries p None → get by_stamp_and_arrival m p ≡ Some None
 stands m entries p op i e =
     ap (λ es. lookup (is_at (by_stamp_and_arrival p)) es) (e ∙ ap (λ es. insert_entry by_stamp_and_arrival es p None) i.is ∙ set_at i.front i.behind p (Some op) None i.before)
@@ -182,7 +182,7 @@ pub record IsTakenOut (arrivals : ℕ) (op : Operation) (entries less : List Ent
   pub held : AreHeld arrivals less
   pub length : suc (length less) ≡ length entries
 
-out_between : (arrivals : ℕ) (p : Place) (op : Operation) (front behind : List Entry) → AreHeld arrivals (front ++ (p, Some op) ∷ behind)
+out_between : (arrivals : ℕ) (p : Standing) (op : Operation) (front behind : List Entry) → AreHeld arrivals (front ++ (p, Some op) ∷ behind)
     → IsTakenOut arrivals op (front ++ (p, Some op) ∷ behind) (front ++ behind)
 out_between arrivals p op front behind h =
     let all = front ++ (p, Some op) ∷ behind in
@@ -203,7 +203,7 @@ out_between arrivals p op front behind h =
       length = sym l;
     }
 
-pub taken_from : (arrivals : ℕ) (p : Place) (op : Operation) (entries less : List Entry) → AreHeld arrivals entries → IsAt p op entries
+pub taken_from : (arrivals : ℕ) (p : Standing) (op : Operation) (entries less : List Entry) → AreHeld arrivals entries → IsAt p op entries
     → less ≡ remove_entry (is_at (by_stamp_and_arrival p)) entries → IsTakenOut arrivals op entries less
 taken_from arrivals p op entries less h i e =
     let r = out_between arrivals p op i.front i.behind (subst (AreHeld arrivals) i.is h) in
@@ -228,7 +228,7 @@ pub among_stamp : (n : ℕ) (op : Operation) (entries : List Entry) → AllByRec
 among_stamp n op [] a = refl
 among_stamp n op (e ∷ entries) a = one (among_stamp n op entries a.1) e.1 e.0 (range_contains by_stamp_and_arrival (Included (stamp_of op, 0)) (Excluded (stamp_of op, n)) e.0) refl a.0.op a.0.came
   where
-    one : holds (ops_in (between n op entries)) op ≡ holds (ops_in entries) op → (v : Option Operation) (p : Place) (b : Bool) → range_contains by_stamp_and_arrival (Included (stamp_of op, 0)) (Excluded (stamp_of op, n)) p ≡ b
+    one : holds (ops_in (between n op entries)) op ≡ holds (ops_in entries) op → (v : Option Operation) (p : Standing) (b : Bool) → range_contains by_stamp_and_arrival (Included (stamp_of op, 0)) (Excluded (stamp_of op, n)) p ≡ b
         → IsSomeAnd v (λ q. p.0 ≡ stamp_of q) → p.1 < n → holds (ops_in (cond b ((p, v) ∷ between n op entries) (between n op entries))) op ≡ holds (put_in_front v (ops_in entries)) op
     one i None p b e k l = absurd k
     one i (Some q) p true e k l = ap (λ t. same_operation q op || t) i
@@ -248,7 +248,7 @@ run_in entries es i n e =
 pub looked : (entries front old new behind : List Entry) (e : Entry) → entries ≡ front ++ (old ++ behind) → old ≡ e ∷ new → entries ≡ (front ++ e ∷ []) ++ (new ++ behind)
 looked entries front old new behind e i o = i ∙ ap (λ l. front ++ (l ++ behind)) o ∙ sym (append_assoc front (e ∷ []) (new ++ behind))
 
-pub place_found : (entries front old new behind : List Entry) (p : Place) (v : Option Operation) (q op : Operation) → entries ≡ front ++ (old ++ behind) → old ≡ (p, v) ∷ new
+pub place_found : (entries front old new behind : List Entry) (p : Standing) (v : Option Operation) (q op : Operation) → entries ≡ front ++ (old ++ behind) → old ≡ (p, v) ∷ new
     → v ≡ Some q → same_operation q op ≡ true → IsStrictlySortedBy by_stamp_and_arrival (keys_of entries) → IsAt p op entries
 place_found entries front old new behind p v q op i o w t s =
     let is : entries ≡ front ++ (p, Some op) ∷ (new ++ behind) =
@@ -268,7 +268,7 @@ none_at_place e op new w = rw w refl
 
 -- ONE MORE
 
-placed_at : (op q : Operation) (n : ℕ) (p : Place) → p.0 ≡ stamp_of q → p.1 < n → by_stamp_and_arrival (stamp_of op, n) p ≡ cond (is_before (stamp_of op) (stamp_of q)) Less Greater
+placed_at : (op q : Operation) (n : ℕ) (p : Standing) → p.0 ≡ stamp_of q → p.1 < n → by_stamp_and_arrival (stamp_of op, n) p ≡ cond (is_before (stamp_of op) (stamp_of q)) Less Greater
 placed_at op q n p k l = subst (λ x. by_stamp_and_arrival (stamp_of op, n) (x, p.1) ≡ cond (is_before (stamp_of op) (stamp_of q)) Less Greater) (sym k) (placed op q n p.1 l)
 
 pub put_in : (n : ℕ) (op : Operation) (entries : List Entry) → AllByRecursion (IsInPlace n) entries
@@ -276,7 +276,7 @@ pub put_in : (n : ℕ) (op : Operation) (entries : List Entry) → AllByRecursio
 put_in n op [] a = refl
 put_in n op (e ∷ entries) a = one (put_in n op entries a.1) e.1 e.0 a.0.op a.0.came
   where
-    one : ops_in (insert_entry by_stamp_and_arrival entries (stamp_of op, n) (Some op)) ≡ put_held op (ops_in entries) → (v : Option Operation) (p : Place) → IsSomeAnd v (λ q. p.0 ≡ stamp_of q) → p.1 < n
+    one : ops_in (insert_entry by_stamp_and_arrival entries (stamp_of op, n) (Some op)) ≡ put_held op (ops_in entries) → (v : Option Operation) (p : Standing) → IsSomeAnd v (λ q. p.0 ≡ stamp_of q) → p.1 < n
         → ops_in (insert_entry by_stamp_and_arrival ((p, v) ∷ entries) (stamp_of op, n) (Some op)) ≡ put_held op (put_in_front v (ops_in entries))
     one i None p k l = absurd k
     one i (Some q) p k l =
@@ -297,7 +297,7 @@ put_places : (n : ℕ) (op : Operation) (entries : List Entry) → AllByRecursio
 put_places n op [] a = (record { op = refl; came = omega arith }, tt)
 put_places n op (e ∷ entries) a = one (put_places n op entries a.1) e.1 e.0 a.0.op a.0.came
   where
-    one : AllByRecursion (IsInPlace (n + 1)) (insert_entry by_stamp_and_arrival entries (stamp_of op, n) (Some op)) → (v : Option Operation) (p : Place) → IsSomeAnd v (λ q. p.0 ≡ stamp_of q) → p.1 < n
+    one : AllByRecursion (IsInPlace (n + 1)) (insert_entry by_stamp_and_arrival entries (stamp_of op, n) (Some op)) → (v : Option Operation) (p : Standing) → IsSomeAnd v (λ q. p.0 ≡ stamp_of q) → p.1 < n
         → AllByRecursion (IsInPlace (n + 1)) (insert_entry by_stamp_and_arrival ((p, v) ∷ entries) (stamp_of op, n) (Some op))
     one i None p k l = absurd k
     one i (Some q) p k l =
@@ -332,7 +332,7 @@ pub record IsForgotten (arrivals : ℕ) (op : Operation) (entries less : List En
   pub ops : ops_in less ≡ without op (ops_in entries)
   pub held : AreHeld arrivals less
 
-pub forgotten : (arrivals : ℕ) (op : Operation) (place : Option Place) (entries less : List Entry) → AreHeld arrivals entries
+pub forgotten : (arrivals : ℕ) (op : Operation) (place : Option Standing) (entries less : List Entry) → AreHeld arrivals entries
     → IfSome place (λ p. IsAt p op entries) → IfNone place (holds (ops_in entries) op ≡ false)
     → IfSome place (λ p. less ≡ remove_entry (is_at (by_stamp_and_arrival p)) entries) → IfNone place (less ≡ entries) → IsForgotten arrivals op entries less
 forgotten arrivals op None entries less h i n e f = record {
@@ -342,7 +342,7 @@ forgotten arrivals op None entries less h i n e f = record {
 forgotten arrivals op (Some p) entries less h i n e f = let r = taken_from arrivals p op entries less h i e in record { ops = r.ops; held = r.held }
 
 -- a place is found exactly where one is held
-pub found_if : (entries : List Entry) (op : Operation) (place : Option Place) → IfSome place (λ p. IsAt p op entries) → IfNone place (holds (ops_in entries) op ≡ false)
+pub found_if : (entries : List Entry) (op : Operation) (place : Option Standing) → IfSome place (λ p. IsAt p op entries) → IfNone place (holds (ops_in entries) op ≡ false)
     → is_some place ≡ holds (ops_in entries) op
 found_if entries op None i n = sym n
 found_if entries op (Some p) i n = sym (ap (λ es. holds (ops_in es) op) i.is ∙ ap (λ l. holds l op) (in_append i.front i.behind p op) ∙ there (ops_in i.front))

@@ -17,7 +17,7 @@ use Rattle.rt_holding.specs.declared.waits.Key.{Key}
 use Rattle.rt_holding.specs.declared.waits.Keys.{Keys}
 use Rattle.rt_holding.specs.Grown.{HasGrownBy}
 use Rattle.rt_holding.specs.Holding.{is_early, is_new, stays}
-use Rattle.rt_holding.specs.Kept.{Place}
+use Rattle.rt_holding.specs.Kept.{Standing}
 use Rattle.rt_rga.specs.Kept.{goes_past}
 use Rattle.rt_holding.specs.Waiting.{WaitsAt, awaited_by, came_in, has_new_gap, is_passed, targets}
 use Rattle.rt_holding.specs.Waits.{IsMore, IsNotedMore, are_kept, first_of, has_begun, has_key, is_noted, is_waited_for, key_at, last_of, sleeps}
@@ -35,7 +35,7 @@ use Rattle.rt_holding.proofs.Waited.{IsAsleep, IsFine, IsResting, begun_from, be
 any_more : (p q : Span → Bool) (xs : List Span) → ((s : Span) → p s ≡ true → q s ≡ true) → list_any p xs ≡ true → list_any q xs ≡ true
 any_more p q xs f h = let o = one_of p xs h in any_of q xs o.span o.among (f o.span o.is)
 
-module _ (keys new : Keys) (older log : List Operation) (p : Place) (x : Operation) (f : (s : Stamp) → has_key keys.alone p s ≡ true → has_key new.alone p s ≡ true)
+module _ (keys new : Keys) (older log : List Operation) (p : Standing) (x : Operation) (f : (s : Stamp) → has_key keys.alone p s ≡ true → has_key new.alone p s ≡ true)
     (begun : IsMore keys.begun new.begun) (ends : IsNotedMore keys.ends new.ends) where
   more_asleep : IsAsleep keys older log p x → IsAsleep new older log p x
   more_asleep (inl b) = inl (b.0, f (stamp x.prev x.site) b.1)
@@ -174,7 +174,7 @@ came_goes_on log key spans span came l =
 
 -- IN THE END
 
-module _ (keys : Keys) (by : ℕ) (older log : List Operation) (p : Place) (x : Operation) (grown : HasGrownBy by older log) (history : IsHistory log)
+module _ (keys : Keys) (by : ℕ) (older log : List Operation) (p : Standing) (x : Operation) (grown : HasGrownBy by older log) (history : IsHistory log)
     (none : (s : Stamp) → has_key keys.alone p s ≡ true → s.site ≡ by → known_end log by < s.count) where
   -- what is kept and wasn't passed before isn't passed
   unpassed : (s : Stamp) → has_key keys.alone p s ≡ true → known_end older s.site < s.count → known_end log s.site < s.count

@@ -16,7 +16,7 @@ use Rattle.std.specs.declared.cmp.Ordering.TheVariants.{Equal, Greater, Less}
 use Rattle.rt_ops.specs.Operations.{Operation}
 use Rattle.rt_rga.proofs.Skipping.{split}
 use Rattle.rt_holding.specs.declared.waits.Key.{Key}
-use Rattle.rt_holding.specs.Kept.{Entry, IsAt, IsInPlace, Place, by_stamp_and_arrival}
+use Rattle.rt_holding.specs.Kept.{Entry, IsAt, IsInPlace, Standing, by_stamp_and_arrival}
 use Rattle.rt_holding.specs.Waits.{IsSetAt, by_key}
 use Rattle.rt_holding.proofs.Places.{all_before, found_at, place_same, places_total}
 
@@ -30,7 +30,7 @@ both_equal Greater b e = absurd (cc e)
 nat_equal : (a b : ℕ) → nat_cmp a b ≡ Equal → a ≡ b
 nat_equal a b e = grind (arith, nat_tests, e)
 
-place_equal : (p q : Place) → by_stamp_and_arrival p q ≡ Equal → p ≡ q
+place_equal : (p q : Standing) → by_stamp_and_arrival p q ≡ Equal → p ≡ q
 place_equal p q e =
     let (s, a) = both_equal _ _ e in
     let (c, t) = both_equal _ _ s in
@@ -43,10 +43,10 @@ is_equal Less e = absurd (cc e)
 is_equal Equal e = refl
 is_equal Greater e = absurd (cc e)
 
-pub this_place : (p q : Place) → is_at (by_stamp_and_arrival p) q ≡ true → p ≡ q
+pub this_place : (p q : Standing) → is_at (by_stamp_and_arrival p) q ≡ true → p ≡ q
 this_place p q e = place_equal p q (is_equal (by_stamp_and_arrival p q) e)
 
-pub own_place : (p : Place) → is_at (by_stamp_and_arrival p) p ≡ true
+pub own_place : (p : Standing) → is_at (by_stamp_and_arrival p) p ≡ true
 own_place p = ap is_eq (place_same p)
 
 pub keys_total : IsTotalOrder by_key
@@ -79,7 +79,7 @@ pub other_key : (a b : Key) → is_at (by_stamp_and_arrival a.place) b.place ≡
 other_key a b n = split (is_at (by_key a) b)
     (λ t. absurd (let s = ap (λ (x : Key). x.place) (key_equal a b t) in
     let o = own_place a.place in
-    let w : is_at (by_stamp_and_arrival a.place) a.place ≡ false = subst (λ (q : Place). is_at (by_stamp_and_arrival a.place) q ≡ false) (sym s) n in cc (o, w)))
+    let w : is_at (by_stamp_and_arrival a.place) a.place ≡ false = subst (λ (q : Standing). is_at (by_stamp_and_arrival a.place) q ≡ false) (sym s) n in cc (o, w)))
     (λ t. t)
 
 -- KEYS ARE COUNTED
@@ -105,24 +105,24 @@ count_inserted P k (x ∷ keys) e = one (by_key k x) (count_inserted P k keys e)
 
 -- WHAT STANDS AT A PLACE
 
-pub updated : {X E : Type 0} (r : Result X E) (x : X) (old new : BTreeMap Place (Option Operation)) (p : Place) (v : Option Operation) → OnOk r (Updates by_stamp_and_arrival old new p (Some v)) → r ≡ Ok x → IsSetAt p (Some v) old new
+pub updated : {X E : Type 0} (r : Result X E) (x : X) (old new : BTreeMap Standing (Option Operation)) (p : Standing) (v : Option Operation) → OnOk r (Updates by_stamp_and_arrival old new p (Some v)) → r ≡ Ok x → IsSetAt p (Some v) old new
 updated (Ok y) x old new p v u e = u.0
 updated (Err y) x old new p v u e = absurd (cc e)
 
-pub set_twice : (old mid new : BTreeMap Place (Option Operation)) (p : Place) (v w : Option (Option Operation)) → IsSetAt p v old mid → IsSetAt p w mid new → IsSetAt p w old new
+pub set_twice : (old mid new : BTreeMap Standing (Option Operation)) (p : Standing) (v w : Option (Option Operation)) → IsSetAt p v old mid → IsSetAt p w mid new → IsSetAt p w old new
 set_twice old mid new p v w a b q = b q ∙ split (is_at (by_stamp_and_arrival p) q)
     (λ t. rw t refl)
     (λ t. ap (λ c. cond c w (get by_stamp_and_arrival mid q)) t ∙ a q ∙ ap (λ c. cond c v (get by_stamp_and_arrival old q)) t ∙ sym (ap (λ c. cond c w (get by_stamp_and_arrival old q)) t))
 
 -- none came so late
-pub none_so_late : (n : ℕ) (entries : List Entry) → AllByRecursion (IsInPlace n) entries → (p : Place) → p.1 ≡ n → lookup (is_at (by_stamp_and_arrival p)) entries ≡ None
+pub none_so_late : (n : ℕ) (entries : List Entry) → AllByRecursion (IsInPlace n) entries → (p : Standing) → p.1 ≡ n → lookup (is_at (by_stamp_and_arrival p)) entries ≡ None
 none_so_late n [] a p e = refl
 none_so_late n (x ∷ entries) a p e = split (is_at (by_stamp_and_arrival p) x.0)
-    (λ t. absurd (let s = ap (λ (q : Place). q.1) (this_place p x.0 t) in let l = a.0.came in omega (arith, s, l, e)))
+    (λ t. absurd (let s = ap (λ (q : Standing). q.1) (this_place p x.0 t) in let l = a.0.came in omega (arith, s, l, e)))
     (λ t. rw t (none_so_late n entries a.1 p e))
 
 -- what is there when one was taken out was there before
-pub there_before : (ops less : BTreeMap Place (Option Operation)) (q p : Place) (v : Option Operation) → IsSetAt q None ops less → get by_stamp_and_arrival less p ≡ Some v
+pub there_before : (ops less : BTreeMap Standing (Option Operation)) (q p : Standing) (v : Option Operation) → IsSetAt q None ops less → get by_stamp_and_arrival less p ≡ Some v
     → (is_at (by_stamp_and_arrival q) p ≡ false) × (get by_stamp_and_arrival ops p ≡ Some v)
 there_before ops less q p v s g = split (is_at (by_stamp_and_arrival q) p)
     (λ t. absurd (let n : get by_stamp_and_arrival less p ≡ None = s p ∙ (rw t refl) in cc (n, g)))
@@ -146,24 +146,24 @@ pub each_found : (all : List Entry) → IsStrictlySortedBy by_stamp_and_arrival 
 each_found all s = found_all all [] all [] (sym (append_none all)) s
 
 -- where a place is found
-record IsFound (entries : List Entry) (p : Place) (v : Option Operation) : Type 0 where
+record IsFound (entries : List Entry) (p : Standing) (v : Option Operation) : Type 0 where
   front : List Entry
   behind : List Entry
   is : entries ≡ front ++ (p, v) ∷ behind
 
-found_in : (entries : List Entry) (p : Place) (v : Option Operation) → lookup (is_at (by_stamp_and_arrival p)) entries ≡ Some v → IsFound entries p v
+found_in : (entries : List Entry) (p : Standing) (v : Option Operation) → lookup (is_at (by_stamp_and_arrival p)) entries ≡ Some v → IsFound entries p v
 found_in [] p v e = absurd (cc e)
 found_in (x ∷ entries) p v e = split (is_at (by_stamp_and_arrival p) x.0)
     (λ t. let f : Some x.1 ≡ Some v = rw t at e in
     let is : x.1 ≡ v = cc in
     let same = this_place p x.0 t in
-    record { front = []; behind = entries; is = ap (λ (q : Place). (q, x.1) ∷ entries) (sym same) ∙ ap (λ (w : Option Operation). (p, w) ∷ entries) is })
+    record { front = []; behind = entries; is = ap (λ (q : Standing). (q, x.1) ∷ entries) (sym same) ∙ ap (λ (w : Option Operation). (p, w) ∷ entries) is })
     (λ t. let f : lookup (is_at (by_stamp_and_arrival p)) entries ≡ Some v = rw t at e in
     let i = found_in entries p v f in
     record { front = x ∷ i.front; behind = i.behind; is = ap (λ l. x ∷ l) i.is })
 
 -- an operation that is found at a place stands there
-pub at_found : (entries : List Entry) (p : Place) (op : Operation) → IsStrictlySortedBy by_stamp_and_arrival (keys_of entries) → lookup (is_at (by_stamp_and_arrival p)) entries ≡ Some (Some op) → IsAt p op entries
+pub at_found : (entries : List Entry) (p : Standing) (op : Operation) → IsStrictlySortedBy by_stamp_and_arrival (keys_of entries) → lookup (is_at (by_stamp_and_arrival p)) entries ≡ Some (Some op) → IsAt p op entries
 at_found entries p op s g =
     let f = found_in entries p (Some op) g in
     record { front = f.front; behind = f.behind; is = f.is; before = all_before f.front f.behind (p, Some op) (subst (λ x. IsStrictlySortedBy by_stamp_and_arrival (keys_of x)) f.is s) }

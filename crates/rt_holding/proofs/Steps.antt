@@ -21,7 +21,7 @@ use Rattle.rt_holding.specs.declared.waits.Keys.{Keys}
 use Rattle.rt_holding.specs.declared.waits.Waits.{Waits as Table}
 use Rattle.rt_holding.specs.Grown.{HasGrownBy}
 use Rattle.rt_holding.specs.Holding.{Holding, is_left, is_new, stays}
-use Rattle.rt_holding.specs.Kept.{AreHeld, Entry, IsAt, IsNewAt, Place, by_stamp_and_arrival, ops_in, outcome_of}
+use Rattle.rt_holding.specs.Kept.{AreHeld, Entry, IsAt, IsNewAt, Standing, by_stamp_and_arrival, ops_in, outcome_of}
 use Rattle.rt_holding.specs.Taken.{AreTried, holding}
 use Rattle.rt_holding.specs.Waits.{IfIsThere, IsFirstDue, IsSetAt, KeepsOthers, are_kept, are_tried_at, is_due, is_listed, key_at, outcome_there, sleeps}
 use Rattle.rt_holding.specs.Waking.{IsWoken}
@@ -35,8 +35,8 @@ use Rattle.rt_holding.proofs.Waited.{kept_more}
 use Rattle.rt_holding.proofs.Waiting.{waiting_from}
 
 -- all that were tried before are ready now
-pub started : (limit by : ℕ) (wanting older log : List Operation) (m : BTreeMap Place (Option Operation)) (old new : Table) → HasGrownBy by older log → IsWoken by log m old new
-    → ((p : Place) (x : Operation) → get by_stamp_and_arrival m p ≡ Some (Some x) → keeps_rules x.body ≡ true)
+pub started : (limit by : ℕ) (wanting older log : List Operation) (m : BTreeMap Standing (Option Operation)) (old new : Table) → HasGrownBy by older log → IsWoken by log m old new
+    → ((p : Standing) (x : Operation) → get by_stamp_and_arrival m p ≡ Some (Some x) → keeps_rules x.body ≡ true)
     → are_tried_at limit older old.keys old.again.items m.entries ≡ true → AreReady limit wanting log m new
 started limit by wanting older log m old new g w rules a p x f =
     elim (either (is_listed p old.again.items) (sleeps limit old.keys older p x) (tried_in limit older old m.entries a p x f)) [
@@ -45,7 +45,7 @@ started limit by wanting older log m old new g w rules a p x f =
     ]
 
 -- each keeps the rules
-pub each_keeps : (arrivals : ℕ) (m : BTreeMap Place (Option Operation)) → AreHeld arrivals m.entries → IsOrdered by_stamp_and_arrival m → (p : Place) (x : Operation)
+pub each_keeps : (arrivals : ℕ) (m : BTreeMap Standing (Option Operation)) → AreHeld arrivals m.entries → IsOrdered by_stamp_and_arrival m → (p : Standing) (x : Operation)
     → get by_stamp_and_arrival m p ≡ Some (Some x) → keeps_rules x.body ≡ true
 each_keeps arrivals m h s p x f = h.rules x (at_has p x m.entries (at_found m.entries p x s f))
   where
@@ -53,7 +53,7 @@ each_keeps arrivals m h s p x f = h.rules x (at_has p x m.entries (at_found m.en
     in_middle [] behind x = inl refl
     in_middle (y ∷ front) behind x = inr (in_middle front behind x)
 
-    at_has : (p : Place) (x : Operation) (entries : List Entry) → IsAt p x entries → Has (ops_in entries) x
+    at_has : (p : Standing) (x : Operation) (entries : List Entry) → IsAt p x entries → Has (ops_in entries) x
     at_has p x entries i = subst (λ ops. Has ops x) (sym (ap ops_in i.is ∙ in_append i.front i.behind p x)) (in_middle (ops_in i.front) (ops_in i.behind) x)
 
 -- a log grows by one operation
@@ -107,11 +107,11 @@ dropped_if lacks (Refused TextFull) e = absurd (cc e)
 dropped_if lacks (Refused _) e = (refl, refl)
 
 -- an operation stands at a place
-pub record IsThere (m : BTreeMap Place (Option Operation)) (p : Place) : Type 0 where
+pub record IsThere (m : BTreeMap Standing (Option Operation)) (p : Standing) : Type 0 where
   pub op : Operation
   pub found : get by_stamp_and_arrival m p ≡ Some (Some op)
 
-pub there_if : (lacks : Bool) (limit : ℕ) (log : List Operation) (m : BTreeMap Place (Option Operation)) (p : Place) (o : Outcome) → o ≡ outcome_there lacks limit log (get by_stamp_and_arrival m p)
+pub there_if : (lacks : Bool) (limit : ℕ) (log : List Operation) (m : BTreeMap Standing (Option Operation)) (p : Standing) (o : Outcome) → o ≡ outcome_there lacks limit log (get by_stamp_and_arrival m p)
     → (Absent ≡ o → ⊥) → IsThere m p
 there_if lacks limit log m p o e n = one (get by_stamp_and_arrival m p) refl
   where
@@ -121,15 +121,15 @@ there_if lacks limit log m p o e n = one (get by_stamp_and_arrival m p) refl
     one (Some (Some op)) f = record { op = op; found = f }
 
 -- one that waits on could be taken, but memory is wanting
-pub record WaitsOn (lacks : Bool) (limit : ℕ) (log : List Operation) (m : BTreeMap Place (Option Operation)) (p : Place) : Type 0 where
+pub record WaitsOn (lacks : Bool) (limit : ℕ) (log : List Operation) (m : BTreeMap Standing (Option Operation)) (p : Standing) : Type 0 where
   pub there : IsThere m p
   pub why : (is_new (answer_within limit there.op log) ≡ true) × (lacks ≡ true)
 
-pub outcome_here : (lacks : Bool) (limit : ℕ) (log : List Operation) (m : BTreeMap Place (Option Operation)) (p : Place) (o : Outcome) (x : Operation) → o ≡ outcome_there lacks limit log (get by_stamp_and_arrival m p)
+pub outcome_here : (lacks : Bool) (limit : ℕ) (log : List Operation) (m : BTreeMap Standing (Option Operation)) (p : Standing) (o : Outcome) (x : Operation) → o ≡ outcome_there lacks limit log (get by_stamp_and_arrival m p)
     → get by_stamp_and_arrival m p ≡ Some (Some x) → o ≡ outcome_of lacks (answer_within limit x log)
 outcome_here lacks limit log m p o x e f = e ∙ ap (outcome_there lacks limit log) f
 
-pub waits_there : (lacks : Bool) (limit : ℕ) (log : List Operation) (m : BTreeMap Place (Option Operation)) (p : Place) (o : Outcome) → o ≡ Waits → o ≡ outcome_there lacks limit log (get by_stamp_and_arrival m p)
+pub waits_there : (lacks : Bool) (limit : ℕ) (log : List Operation) (m : BTreeMap Standing (Option Operation)) (p : Standing) (o : Outcome) → o ≡ Waits → o ≡ outcome_there lacks limit log (get by_stamp_and_arrival m p)
     → WaitsOn lacks limit log m p
 waits_there lacks limit log m p o i e =
     let t = there_if lacks limit log m p o e (λ j. let k : Absent ≡ Waits = j ∙ i in cc k) in
@@ -150,7 +150,7 @@ not_left false true found n s = absurd (cc s)
 not_left false false found n s = refl
 
 -- what is kept for another place stays
-pub sleeps_still : (limit : ℕ) (log : List Operation) (p : Place) (old new : Keys) → KeepsOthers p old new → (q : Place) (x : Operation) → is_at (by_stamp_and_arrival p) q ≡ false
+pub sleeps_still : (limit : ℕ) (log : List Operation) (p : Standing) (old new : Keys) → KeepsOthers p old new → (q : Standing) (x : Operation) → is_at (by_stamp_and_arrival p) q ≡ false
     → sleeps limit old log q x ≡ true → sleeps limit new log q x ≡ true
 sleeps_still limit log p old new k q x n h =
     let (s, a) = both (stays (answer_within limit x log)) (are_kept old log q x) h in
@@ -176,13 +176,13 @@ left_now limit wanting log op n =
 
 module _ {Site : Type 0} (log : Site → List Operation) (after : Operation → Site → Site) where
   -- The tries have come so far, and all that isn't due needn't be tried. None is left for want of memory before that is wanting.
-  pub record IsGoing (lacks : Bool) (limit : ℕ) (state : Holding) (then_site now : Site) (m : BTreeMap Place (Option Operation)) (waits : Table) (count : ℕ) : Type 0 where
+  pub record IsGoing (lacks : Bool) (limit : ℕ) (state : Holding) (then_site now : Site) (m : BTreeMap Standing (Option Operation)) (waits : Table) (count : ℕ) : Type 0 where
     pub wanting : List Operation
     pub far : IsSettling log after limit wanting state then_site now (ops_in m.entries) count
     pub ready : AreReady limit wanting (log now) m waits
     pub none : lacks ≡ false → wanting ≡ []
 
-  pub going : (limit by arrivals : ℕ) (older : List Operation) (site : Site) (m : BTreeMap Place (Option Operation)) (old new : Table) → HasGrownBy by older (log site)
+  pub going : (limit by arrivals : ℕ) (older : List Operation) (site : Site) (m : BTreeMap Standing (Option Operation)) (old new : Table) → HasGrownBy by older (log site)
       → IsWoken by (log site) m old new → AreHeld arrivals m.entries → IsOrdered by_stamp_and_arrival m
       → are_tried_at limit older old.keys old.again.items m.entries ≡ true → IsGoing false limit (holding log site (ops_in m.entries)) site site m new 0
   going limit by arrivals older site m old new g w h s a = record {
@@ -192,10 +192,10 @@ module _ {Site : Type 0} (log : Site → List Operation) (after : Operation → 
     none = λ e. refl;
   }
 
-  module _ (lacks : Bool) (limit : ℕ) (state : Holding) (then_site now : Site) (m : BTreeMap Place (Option Operation)) (old : Table) (count : ℕ) (g : IsGoing lacks limit state then_site now m old count)
-      (due : BinaryHeap (Reverse Place) Global) (p : Place) (first : IsFirstDue p old.due due) where
+  module _ (lacks : Bool) (limit : ℕ) (state : Holding) (then_site now : Site) (m : BTreeMap Standing (Option Operation)) (old : Table) (count : ℕ) (g : IsGoing lacks limit state then_site now m old count)
+      (due : BinaryHeap (Reverse Standing) Global) (p : Standing) (first : IsFirstDue p old.due due) where
     -- one that was due before is, or is the one that is tried
-    due_on : (q : Place) → is_due q old.due ≡ true → (is_due q due ≡ true) ⊎ (q ≡ p)
+    due_on : (q : Standing) → is_due q old.due ≡ true → (is_due q due ≡ true) ⊎ (q ≡ p)
     due_on q d = elim (either (is_due q due) (is_at (by_stamp_and_arrival q) p) (first.others q d)) [ inl i ↦ inl i | inr i ↦ inr (this_place q p i) ]
 
     -- none stands there
@@ -207,7 +207,7 @@ module _ {Site : Type 0} (log : Site → List Operation) (after : Operation → 
       ready = λ q x f. elim (g.ready q x f) [
         | inl d ↦ elim (due_on q d) [
           | inl j ↦ inl j
-          | inr s ↦ (let h = outcome_here lacks limit (log now) m p o x e (subst (λ (r : Place). get by_stamp_and_arrival m r ≡ Some (Some x)) s f) in
+          | inr s ↦ (let h = outcome_here lacks limit (log now) m p o x e (subst (λ (r : Standing). get by_stamp_and_arrival m r ≡ Some (Some x)) s f) in
               absurd (never_absent lacks (answer_within limit x (log now)) (sym i ∙ h)))
         ]
         | inr j ↦ inr j
@@ -217,7 +217,7 @@ module _ {Site : Type 0} (log : Site → List Operation) (after : Operation → 
 
     -- it sleeps, or is looked at again
     pub slept : (o : Outcome) → o ≡ Stays → o ≡ outcome_there lacks limit (log now) (get by_stamp_and_arrival m p)
-        → (new : Table) → KeepsOthers p old.keys new.keys → heap_items new.due ≡ heap_items due → ((q : Place) → is_listed q old.again.items ≡ true → is_listed q new.again.items ≡ true)
+        → (new : Table) → KeepsOthers p old.keys new.keys → heap_items new.due ≡ heap_items due → ((q : Standing) → is_listed q old.again.items ≡ true → is_listed q new.again.items ≡ true)
         → IfIsThere (λ x. (is_listed p new.again.items || are_kept new.keys (log now) p x) ≡ true) (get by_stamp_and_arrival m p)
         → IsGoing lacks limit state then_site now m new count
     slept o i e new others same more asleep = record {
@@ -238,20 +238,20 @@ module _ {Site : Type 0} (log : Site → List Operation) (after : Operation → 
       none = g.none;
     }
       where
-        here : (q : Place) (x : Operation) → q ≡ p → get by_stamp_and_arrival m q ≡ Some (Some x) → IsLeftAt limit g.wanting (log now) new q x
+        here : (q : Standing) (x : Operation) → q ≡ p → get by_stamp_and_arrival m q ≡ Some (Some x) → IsLeftAt limit g.wanting (log now) new q x
         here q x s f =
-            let found : get by_stamp_and_arrival m p ≡ Some (Some x) = subst (λ (r : Place). get by_stamp_and_arrival m r ≡ Some (Some x)) s f in
+            let found : get by_stamp_and_arrival m p ≡ Some (Some x) = subst (λ (r : Standing). get by_stamp_and_arrival m r ≡ Some (Some x)) s f in
             let stay = stays_here lacks limit (log now) o x i (outcome_here lacks limit (log now) m p o x e found) in
             let there : (is_listed p new.again.items || are_kept new.keys (log now) p x) ≡ true =
             subst (IfIsThere (λ y. (is_listed p new.again.items || are_kept new.keys (log now) p y) ≡ true)) found asleep in
-            subst (λ (r : Place). IsLeftAt limit g.wanting (log now) new r x) (sym s) (elim (either (is_listed p new.again.items) (are_kept new.keys (log now) p x) there) [
+            subst (λ (r : Standing). IsLeftAt limit g.wanting (log now) new r x) (sym s) (elim (either (is_listed p new.again.items) (are_kept new.keys (log now) p x) there) [
               | inl l ↦ inl (l, left_if_stays limit g.wanting (log now) x stay)
               | inr k ↦ inr (rw stay k)
             ])
 
     -- one that was left, or is the one that is tried, is looked at again
     ready_again : (later : List Operation) (new : Table) (x : Operation) → get by_stamp_and_arrival m p ≡ Some (Some x) → new.keys ≡ old.keys → new.due ≡ due
-        → ((q : Place) → is_listed q new.again.items ≡ (is_listed q old.again.items || is_at (by_stamp_and_arrival q) p))
+        → ((q : Standing) → is_listed q new.again.items ≡ (is_listed q old.again.items || is_at (by_stamp_and_arrival q) p))
         → ((y : Operation) → is_left limit g.wanting (log now) y ≡ true → is_left limit later (log now) y ≡ true) → is_left limit later (log now) x ≡ true
         → AreReady limit later (log now) m new
     ready_again later new x there k d a on l q y f = elim (g.ready q y f) [
@@ -259,7 +259,7 @@ module _ {Site : Type 0} (log : Site → List Operation) (after : Operation → 
         | inl j ↦ inl (ap (is_due q) d ∙ j)
         | inr s ↦ (let same : Some (Some x) ≡ Some (Some y) = sym there ∙ ap (get by_stamp_and_arrival m) (sym s) ∙ f in
             let is : x ≡ y = cc in
-            let here : is_at (by_stamp_and_arrival q) p ≡ true = subst (λ (r : Place). is_at (by_stamp_and_arrival q) r ≡ true) s (own_place q) in
+            let here : is_at (by_stamp_and_arrival q) p ≡ true = subst (λ (r : Standing). is_at (by_stamp_and_arrival q) r ≡ true) s (own_place q) in
             inr (inl (a q ∙ or_right (is_listed q old.again.items) (is_at (by_stamp_and_arrival q) p) here, subst (λ (z : Operation). is_left limit later (log now) z ≡ true) is l)))
       ]
       | inr j ↦ elim j [
@@ -270,7 +270,7 @@ module _ {Site : Type 0} (log : Site → List Operation) (after : Operation → 
 
     -- it could be taken, but memory is wanting
     pub stayed : (lacking : Bool) (new : Table) (t : IsThere m p) → IsOrdered by_stamp_and_arrival m → new.keys ≡ old.keys → new.due ≡ due
-        → ((q : Place) → is_listed q new.again.items ≡ (is_listed q old.again.items || is_at (by_stamp_and_arrival q) p))
+        → ((q : Standing) → is_listed q new.again.items ≡ (is_listed q old.again.items || is_at (by_stamp_and_arrival q) p))
         → (lacking ≡ false → lacks ≡ false)
         → (is_new (answer_within limit t.op (log now)) ≡ true) × (lacking ≡ true)
         → IsGoing lacking limit state then_site now m new count
@@ -290,17 +290,17 @@ module _ {Site : Type 0} (log : Site → List Operation) (after : Operation → 
         })
 
     -- what stays where another was taken out
-    other_place : (q : Place) → is_at (by_stamp_and_arrival p) q ≡ false → q ≡ p → ⊥
-    other_place q t s = let o : is_at (by_stamp_and_arrival p) q ≡ true = subst (λ (r : Place). is_at (by_stamp_and_arrival p) r ≡ true) (sym s) (own_place p) in cc (o, t)
+    other_place : (q : Standing) → is_at (by_stamp_and_arrival p) q ≡ false → q ≡ p → ⊥
+    other_place q t s = let o : is_at (by_stamp_and_arrival p) q ≡ true = subst (λ (r : Standing). is_at (by_stamp_and_arrival p) r ≡ true) (sym s) (own_place p) in cc (o, t)
 
     -- one is tried no more
-    pub record IsGone (lacking : Bool) (site : Site) (less : BTreeMap Place (Option Operation)) (new : Table) (arrivals more : ℕ) : Type 0 where
+    pub record IsGone (lacking : Bool) (site : Site) (less : BTreeMap Standing (Option Operation)) (new : Table) (arrivals more : ℕ) : Type 0 where
       pub goes : IsGoing lacking limit state then_site site less new more
       pub held : AreHeld arrivals less.entries
       pub length : suc (length less.entries) ≡ length m.entries
 
     pub dropped : (o : Outcome) → o ≡ Dropped → o ≡ outcome_there lacks limit (log now) (get by_stamp_and_arrival m p) → IsOrdered by_stamp_and_arrival m
-        → (arrivals : ℕ) (less : BTreeMap Place (Option Operation)) (keys : Keys) → AreHeld arrivals m.entries → IsSetAt p None m less → KeepsOthers p old.keys keys
+        → (arrivals : ℕ) (less : BTreeMap Standing (Option Operation)) (keys : Keys) → AreHeld arrivals m.entries → IsSetAt p None m less → KeepsOthers p old.keys keys
         → less.entries ≡ remove_entry (is_at (by_stamp_and_arrival p)) m.entries → IsGone lacks now less (record { keys = keys; due = due; again = old.again }) arrivals count
     dropped o i e s arrivals less keys h set others r =
         let t = there_if lacks limit (log now) m p o e (λ j. let k : Absent ≡ Dropped = j ∙ i in cc k) in
@@ -334,7 +334,7 @@ module _ {Site : Type 0} (log : Site → List Operation) (after : Operation → 
         (record { op = t.op; there = at_found m.entries p t.op s t.found; new = d.0 }, d.1)
 
     pub took : IsNewAt limit (log now) m.entries p → lacks ≡ false → IsOrdered by_stamp_and_arrival m → IsHistory (log now)
-        → (site : Site) (arrivals by : ℕ) (less : BTreeMap Place (Option Operation)) (new : Table) → AreHeld arrivals m.entries
+        → (site : Site) (arrivals by : ℕ) (less : BTreeMap Standing (Option Operation)) (new : Table) → AreHeld arrivals m.entries
         → ((op : Operation) → IsAt p op m.entries → site ≡ after op now) → ((op : Operation) → IsAt p op m.entries → log site ≡ with_operation op (log now))
         → ((op : Operation) → IsAt p op m.entries → by ≡ op.site)
         → IsWoken by (log site) less (record { keys = old.keys; due = due; again = old.again }) new
@@ -366,7 +366,7 @@ module _ {Site : Type 0} (log : Site → List Operation) (after : Operation → 
         }
 
   -- in a map of the same entries
-  pub same_entries : (lacks : Bool) (limit : ℕ) (state : Holding) (then_site now : Site) (m other : BTreeMap Place (Option Operation)) (waits : Table) (count : ℕ) → IsGoing lacks limit state then_site now m waits count
+  pub same_entries : (lacks : Bool) (limit : ℕ) (state : Holding) (then_site now : Site) (m other : BTreeMap Standing (Option Operation)) (waits : Table) (count : ℕ) → IsGoing lacks limit state then_site now m waits count
       → other.entries ≡ m.entries → IsGoing lacks limit state then_site now other waits count
   same_entries lacks limit state then_site now m other waits count g e = record {
     wanting = g.wanting;
@@ -376,8 +376,8 @@ module _ {Site : Type 0} (log : Site → List Operation) (after : Operation → 
   }
 
   -- none is due
-  pub done_in : (lacks : Bool) (limit : ℕ) (state : Holding) (then_site now : Site) (m : BTreeMap Place (Option Operation)) (waits : Table) (count : ℕ) → IsGoing lacks limit state then_site now m waits count
-      → ((q : Place) → is_due q waits.due ≡ false) → IsOrdered by_stamp_and_arrival m
+  pub done_in : (lacks : Bool) (limit : ℕ) (state : Holding) (then_site now : Site) (m : BTreeMap Standing (Option Operation)) (waits : Table) (count : ℕ) → IsGoing lacks limit state then_site now m waits count
+      → ((q : Standing) → is_due q waits.due ≡ false) → IsOrdered by_stamp_and_arrival m
       → AreTried log after limit state then_site now (ops_in m.entries) count × (are_tried_at limit (log now) waits.keys waits.again.items m.entries ≡ true)
   done_in lacks limit state then_site now m waits count g f s = (
     ends log after limit g.wanting state then_site now (ops_in m.entries) count g.far (none_due limit g.wanting (log now) m waits g.ready f s),

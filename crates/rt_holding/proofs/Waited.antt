@@ -14,7 +14,7 @@ use Rattle.rt_rga.proofs.Skipping.{split}
 use Rattle.rt_holding.specs.declared.waits.Key.{Key}
 use Rattle.rt_holding.specs.declared.waits.Keys.{Keys}
 use Rattle.rt_holding.specs.Holding.{is_early, stays}
-use Rattle.rt_holding.specs.Kept.{Place}
+use Rattle.rt_holding.specs.Kept.{Standing}
 use Rattle.rt_rga.specs.Kept.{goes_past}
 use Rattle.rt_holding.specs.Waiting.{WaitsAt, awaited_by, came_in, has_new_gap, targets}
 use Rattle.rt_holding.specs.Waits.{HasLess, HasMore, IsNotedMore, are_kept, first_of, has_begun, has_key, is_keyed, is_noted, is_waited_for, key_at, last_of}
@@ -26,12 +26,12 @@ use Rattle.rt_holding.proofs.Named.{each_of, of_each}
 -- A SPAN IS WAITED FOR
 
 -- one that has begun, at its last stamp; another at its first
-abbrev pub IsWaitedFor : Keys → List Operation → Place → Span → Type 0
+abbrev pub IsWaitedFor : Keys → List Operation → Standing → Span → Type 0
 IsWaitedFor keys log p span =
     ((has_begun log span ≡ true) × (has_key keys.begun p (last_of span) ≡ true) × (is_noted keys.ends span.site (known_end log span.site) ≡ true))
     ⊎ ((has_begun log span ≡ false) × (has_key keys.alone p (first_of span) ≡ true))
 
-pub waited_from : (keys : Keys) (log : List Operation) (p : Place) (span : Span) → is_waited_for keys log p span ≡ true → goes_past log span ≡ true → IsWaitedFor keys log p span
+pub waited_from : (keys : Keys) (log : List Operation) (p : Standing) (span : Span) → is_waited_for keys log p span ≡ true → goes_past log span ≡ true → IsWaitedFor keys log p span
 waited_from keys log p span w g =
     tests (goes_past log span) (has_begun log span) (has_key keys.begun p (last_of span)) (has_key keys.alone p (first_of span)) (is_noted keys.ends span.site (known_end log span.site)) w g
   where
@@ -43,7 +43,7 @@ waited_from keys log p span w g =
     tests true false kb true n w g = inr (refl, refl)
     tests true false kb false n w g = absurd (cc w)
 
-pub waited_to : (keys : Keys) (log : List Operation) (p : Place) (span : Span) → (goes_past log span ≡ true → IsWaitedFor keys log p span) → is_waited_for keys log p span ≡ true
+pub waited_to : (keys : Keys) (log : List Operation) (p : Standing) (span : Span) → (goes_past log span ≡ true → IsWaitedFor keys log p span) → is_waited_for keys log p span ≡ true
 waited_to keys log p span f =
     tests (goes_past log span) (has_begun log span) (has_key keys.begun p (last_of span)) (has_key keys.alone p (first_of span)) (is_noted keys.ends span.site (known_end log span.site)) f
   where
@@ -55,7 +55,7 @@ waited_to keys log p span f =
     ]
 
 -- more is kept
-pub waited_more : (keys new : Keys) (log : List Operation) (p : Place) (span : Span)
+pub waited_more : (keys new : Keys) (log : List Operation) (p : Standing) (span : Span)
     → (goes_past log span ≡ true → has_begun log span ≡ false → has_key keys.alone p (first_of span) ≡ true → has_key new.alone p (first_of span) ≡ true)
     → ((s : Stamp) → has_key keys.begun p s ≡ true → has_key new.begun p s ≡ true) → IsNotedMore keys.ends new.ends → is_waited_for keys log p span ≡ true → is_waited_for new log p span ≡ true
 waited_more keys new log p span alone begun ends w = waited_to new log p span (λ g. elim (waited_from keys log p span w g) [
@@ -63,11 +63,11 @@ waited_more keys new log p span alone begun ends w = waited_to new log p span (�
   | inr i ↦ inr (i.0, alone g i.0 i.1)
 ])
 
-pub waited_grown : (keys new : Keys) (log : List Operation) (p : Place) (span : Span) → HasMore keys new → is_waited_for keys log p span ≡ true → is_waited_for new log p span ≡ true
+pub waited_grown : (keys new : Keys) (log : List Operation) (p : Standing) (span : Span) → HasMore keys new → is_waited_for keys log p span ≡ true → is_waited_for new log p span ≡ true
 waited_grown keys new log p span m w = waited_more keys new log p span (λ g b k. m.alone (key_at (first_of span) p) k) (λ s. m.begun (key_at s p)) m.ends w
 
 -- a key that was taken out stays out
-pub keyed_less : (keys new : Keys) (log : List Operation) (p : Place) (span : Span) → HasLess keys new → (goes_past log span && is_keyed keys log p span) ≡ false
+pub keyed_less : (keys new : Keys) (log : List Operation) (p : Standing) (span : Span) → HasLess keys new → (goes_past log span && is_keyed keys log p span) ≡ false
     → (goes_past log span && is_keyed new log p span) ≡ false
 keyed_less keys new log p span l n = split (goes_past log span && is_keyed new log p span)
     (λ t. let (g, k) = both (goes_past log span) (is_keyed new log p span) t in
@@ -81,7 +81,7 @@ keyed_less keys new log p span l n = split (goes_past log span && is_keyed new l
         (λ e. let m : has_key new.alone p (first_of span) ≡ true = rw e at k in let j = l.alone (key_at (first_of span) p) m in rw e j)
 
 -- where more is kept for a place
-pub kept_more : (keys new : Keys) (log : List Operation) (p : Place) (x : Operation) → ((s : Stamp) → has_key keys.alone p s ≡ true → has_key new.alone p s ≡ true)
+pub kept_more : (keys new : Keys) (log : List Operation) (p : Standing) (x : Operation) → ((s : Stamp) → has_key keys.alone p s ≡ true → has_key new.alone p s ≡ true)
     → ((s : Stamp) → has_key keys.begun p s ≡ true → has_key new.begun p s ≡ true) → IsNotedMore keys.ends new.ends → are_kept keys log p x ≡ true → are_kept new log p x ≡ true
 kept_more keys new log p x f begun ends h = split (nat_lt (known_end log x.site) x.prev)
     (λ d. let m : has_key keys.alone p (record { count = x.prev; site = x.site }) ≡ true = rw d at h in rw d (f (record { count = x.prev; site = x.site }) m))
@@ -102,30 +102,30 @@ noted_end ends site count n = one (get nat_cmp ends site) refl n
 -- WHAT A SLEEPER WAITS FOR
 
 -- a span that goes on hasn't begun, and its key is kept
-abbrev pub IsAlone : Keys → List Operation → Place → Span → Type 0
+abbrev pub IsAlone : Keys → List Operation → Standing → Span → Type 0
 IsAlone keys older p span = goes_past older span ≡ true → (has_begun older span ≡ false) × (has_key keys.alone p (first_of span) ≡ true)
 
 -- it hasn't begun; or what became known of it has no gap, and what is left is waited for
-abbrev pub IsFine : Keys → List Operation → List Operation → Place → Span → Type 0
+abbrev pub IsFine : Keys → List Operation → List Operation → Standing → Span → Type 0
 IsFine keys older log p span = IsAlone keys older p span ⊎ ((has_new_gap older log span ≡ false) × (is_waited_for keys log p span ≡ true))
 
 -- a span that hadn't begun has, and its key is kept still
-abbrev pub pends : Keys → List Operation → List Operation → Place → Span → Bool
+abbrev pub pends : Keys → List Operation → List Operation → Standing → Span → Bool
 pends keys older log p span = (goes_past older span && not (has_begun older span)) && (has_begun log span && has_key keys.alone p (first_of span))
 
-pub record SleepsOn (keys : Keys) (older log : List Operation) (p : Place) (x : Operation) : Type 0 where
+pub record SleepsOn (keys : Keys) (older log : List Operation) (p : Standing) (x : Operation) : Type 0 where
   pub prev : nat_lt (known_end older x.site) x.prev ≡ false
   pub own : has_key keys.alone p (record { count = x.prev + 1; site = x.site }) ≡ true
   pub fine : (span : Span) → IsAmong (targets x.body) span → IsFine keys older log p span
   pub waits : (list_any (goes_past log) (targets x.body) ≡ true) ⊎ (list_any (pends keys older log p) (targets x.body) ≡ true)
 
 -- it waits for the operation before it, or for what it names
-abbrev pub IsAsleep : Keys → List Operation → List Operation → Place → Operation → Type 0
+abbrev pub IsAsleep : Keys → List Operation → List Operation → Standing → Operation → Type 0
 IsAsleep keys older log p x =
     ((nat_lt (known_end older x.site) x.prev ≡ true) × (has_key keys.alone p (record { count = x.prev; site = x.site }) ≡ true)) ⊎ SleepsOn keys older log p x
 
 -- It could be taken if there were room, and waits for one in its own place alone.
-pub record LacksRoom (limit : ℕ) (keys : Keys) (older : List Operation) (p : Place) (x : Operation) : Type 0 where
+pub record LacksRoom (limit : ℕ) (keys : Keys) (older : List Operation) (p : Standing) (x : Operation) : Type 0 where
   pub full : stays (answer_within limit x older) ≡ true
   pub waits : WaitsAt older x
   pub prev : nat_lt (known_end older x.site) x.prev ≡ false
@@ -134,7 +134,7 @@ pub record LacksRoom (limit : ℕ) (keys : Keys) (older : List Operation) (p : P
   pub own : has_key keys.alone p (record { count = x.prev + 1; site = x.site }) ≡ true
 
 -- it came too early, or finds no room
-abbrev pub IsResting : ℕ → Keys → List Operation → List Operation → Place → Operation → Type 0
+abbrev pub IsResting : ℕ → Keys → List Operation → List Operation → Standing → Operation → Type 0
 IsResting limit keys older log p x = ((is_early (answer_to x older) ≡ true) × IsAsleep keys older log p x) ⊎ LacksRoom limit keys older p x
 
 abbrev pub stamp : ℕ → ℕ → Stamp
@@ -186,7 +186,7 @@ not_begun log span b = grind (arith, nat_tests, b)
 pub none_begun : (log : List Operation) (span : Span) → known_end log span.site < span.first → has_begun log span ≡ false
 none_begun log span l = grind (arith, nat_tests, l)
 
-pub pends_from : (keys : Keys) (older log : List Operation) (p : Place) (span : Span) → pends keys older log p span ≡ true
+pub pends_from : (keys : Keys) (older log : List Operation) (p : Standing) (span : Span) → pends keys older log p span ≡ true
     → (goes_past older span ≡ true) × (has_begun older span ≡ false) × (has_begun log span ≡ true) × (has_key keys.alone p (first_of span) ≡ true)
 pends_from keys older log p span h = tests (goes_past older span) (has_begun older span) (has_begun log span) (has_key keys.alone p (first_of span)) h
   where
@@ -197,7 +197,7 @@ pends_from keys older log p span h = tests (goes_past older span) (has_begun old
     tests true true n k h = absurd (cc h)
     tests false b n k h = absurd (cc h)
 
-pub pends_to : (keys : Keys) (older log : List Operation) (p : Place) (span : Span) → goes_past older span ≡ true → has_begun older span ≡ false → has_begun log span ≡ true
+pub pends_to : (keys : Keys) (older log : List Operation) (p : Standing) (span : Span) → goes_past older span ≡ true → has_begun older span ≡ false → has_begun log span ≡ true
     → has_key keys.alone p (first_of span) ≡ true → pends keys older log p span ≡ true
 pends_to keys older log p span g b n k = rw (g, b) (rw (n, k) refl)
 

@@ -17,15 +17,15 @@ use Rattle.rt_holding.specs.Holding.{is_new, stays}
 use Rattle.rt_holding.specs.Runs.{AreOnce, AreRising}
 
 -- where a held operation stands: by its stamp, and of equal stamps by when it came
-abbrev pub Place : Type 0
-Place = Stamp × ℕ
+abbrev pub Standing : Type 0
+Standing = Stamp × ℕ
 
-abbrev pub by_stamp_and_arrival : Place → Place → Ordering
+abbrev pub by_stamp_and_arrival : Standing → Standing → Ordering
 by_stamp_and_arrival a b = ordering_then (ordering_then (nat_cmp a.0.count b.0.count) (nat_cmp a.0.site b.0.site)) (nat_cmp a.1 b.1)
 
 -- at a place an operation; or none, while it is being tried
 abbrev pub Entry : Type 0
-Entry = Place × Option Operation
+Entry = Standing × Option Operation
 
 abbrev pub put_in_front : Option Operation → List Operation → List Operation
 put_in_front None ops = ops
@@ -50,7 +50,7 @@ pub record AreHeld (arrivals : ℕ) (entries : List Entry) : Type 0 where
   pub sound : (op : Operation) → Has (ops_in entries) op → has_bad_stamp op ≡ false
 
 -- an operation stands at a place, behind those of lesser places
-pub record IsAt (place : Place) (op : Operation) (entries : List Entry) : Type 0 where
+pub record IsAt (place : Standing) (op : Operation) (entries : List Entry) : Type 0 where
   pub front : List Entry
   pub behind : List Entry
   pub is : entries ≡ front ++ (place, Some op) ∷ behind
@@ -64,7 +64,7 @@ outcome_of lacks answer =
     else Dropped
 
 -- at a place stands one that is new
-pub record IsNewAt (limit : ℕ) (log : List Operation) (entries : List Entry) (place : Place) : Type 0 where
+pub record IsNewAt (limit : ℕ) (log : List Operation) (entries : List Entry) (place : Standing) : Type 0 where
   pub op : Operation
   pub there : IsAt place op entries
   pub new : answer_within limit op log ≡ New

@@ -21,7 +21,7 @@ use Rattle.rt_holding.specs.declared.waits.Waits.{Waits}
 use Rattle.rt_holding.specs.declared.trying.Outcome.{Outcome}
 use Rattle.rt_holding.specs.declared.trying.Outcome.TheVariants.{Absent}
 use Rattle.rt_holding.specs.Holding.{stays}
-use Rattle.rt_holding.specs.Kept.{Entry, Place, by_stamp_and_arrival, outcome_of}
+use Rattle.rt_holding.specs.Kept.{Entry, Standing, by_stamp_and_arrival, outcome_of}
 use Rattle.rt_holding.specs.Waiting.{targets}
 
 -- keys in order: by site, then by count, then by where the operations stand
@@ -32,10 +32,10 @@ by_key a b = ordering_then (nat_cmp a.site b.site) (ordering_then (nat_cmp a.cou
 abbrev pub least_key : ℕ → Key
 least_key site = record { site = site; count = 0; place = (record { count = 0; site = 0 }, 0) }
 
-abbrev pub key_at : Stamp → Place → Key
+abbrev pub key_at : Stamp → Standing → Key
 key_at stamp place = record { site = stamp.site; count = stamp.count; place = place }
 
-abbrev pub has_key : BTreeSet Key → Place → Stamp → Bool
+abbrev pub has_key : BTreeSet Key → Standing → Stamp → Bool
 has_key keys place stamp = contains by_key keys (key_at stamp place)
 
 abbrev pub first_of : Span → Stamp
@@ -54,37 +54,37 @@ abbrev pub has_begun : List Operation → Span → Bool
 has_begun log span = nat_le span.first (known_end log span.site)
 
 -- the key of a span is kept: of one that has begun at its last stamp, of another at its first
-abbrev pub is_keyed : Keys → List Operation → Place → Span → Bool
+abbrev pub is_keyed : Keys → List Operation → Standing → Span → Bool
 is_keyed keys log place span =
     if has_begun log span then has_key keys.begun place (last_of span) else has_key keys.alone place (first_of span)
 
 -- A span that goes past its site's known end is waited for. Once it has begun, a gap in what comes is looked for.
-abbrev pub is_waited_for : Keys → List Operation → Place → Span → Bool
+abbrev pub is_waited_for : Keys → List Operation → Standing → Span → Bool
 is_waited_for keys log place span =
     not (goes_past log span) || (is_keyed keys log place span && (not (has_begun log span) || is_noted keys.ends span.site (known_end log span.site)))
 
 -- All keys of an operation at a place are kept: where the operation before it isn't there, that of it alone; else that of the next
 -- in its own place, and those of what it names.
-abbrev pub are_kept : Keys → List Operation → Place → Operation → Bool
+abbrev pub are_kept : Keys → List Operation → Standing → Operation → Bool
 are_kept keys log place op =
     if nat_lt (known_end log op.site) op.prev then has_key keys.alone place (record { count = op.prev; site = op.site })
     else has_key keys.alone place (record { count = op.prev + 1; site = op.site }) && list_all (is_waited_for keys log place) (targets op.body)
 
 -- some key of an operation at a place is kept
-abbrev pub is_any_kept : Keys → List Operation → Place → Operation → Bool
+abbrev pub is_any_kept : Keys → List Operation → Standing → Operation → Bool
 is_any_kept keys log place op =
     if nat_lt (known_end log op.site) op.prev then has_key keys.alone place (record { count = op.prev; site = op.site })
     else has_key keys.alone place (record { count = op.prev + 1; site = op.site })
     || list_any (λ span. goes_past log span && is_keyed keys log place span) (targets op.body)
 
 -- the first place is the greatest
-abbrev pub by_later : Reverse Place → Reverse Place → Ordering
+abbrev pub by_later : Reverse Standing → Reverse Standing → Ordering
 by_later a b = by_stamp_and_arrival b.0 a.0
 
-abbrev pub is_due : {Z : Type 0} → Place → BinaryHeap (Reverse Place) Z → Bool
+abbrev pub is_due : {Z : Type 0} → Standing → BinaryHeap (Reverse Standing) Z → Bool
 is_due place due = list_any (λ r. is_at (by_stamp_and_arrival place) r.0) (heap_items due)
 
-abbrev pub is_listed : Place → List Place → Bool
+abbrev pub is_listed : Standing → List Standing → Bool
 is_listed place places = list_any (is_at (by_stamp_and_arrival place)) places
 
 abbrev pub key_count : Keys → ℕ
@@ -101,15 +101,15 @@ pub record IsReady (more : ℕ) (waits : Waits) : Type 0 where
   pub again : all_listed waits + more ≤ vec_capacity waits.again
 
 -- no place that is due goes before this one
-abbrev pub NoneIsBefore : {Z : Type 0} → Place → BinaryHeap (Reverse Place) Z → Type 0
-NoneIsBefore place due = (p : Place) → is_due p due ≡ true → is_lt (by_stamp_and_arrival p place) ≡ false
+abbrev pub NoneIsBefore : {Z : Type 0} → Standing → BinaryHeap (Reverse Standing) Z → Type 0
+NoneIsBefore place due = (p : Standing) → is_due p due ≡ true → is_lt (by_stamp_and_arrival p place) ≡ false
 
 -- a place was due before all others, and is taken out
-pub record IsFirstDue {Z : Type 0} (place : Place) (old new : BinaryHeap (Reverse Place) Z) : Type 0 where
+pub record IsFirstDue {Z : Type 0} (place : Standing) (old new : BinaryHeap (Reverse Standing) Z) : Type 0 where
   pub was : is_due place old ≡ true
   pub first : NoneIsBefore place old
   pub gone : is_due place new ≡ false
-  pub others : (p : Place) → is_due p old ≡ true → (is_due p new || is_at (by_stamp_and_arrival p) place) ≡ true
+  pub others : (p : Standing) → is_due p old ≡ true → (is_due p new || is_at (by_stamp_and_arrival p) place) ≡ true
 
 -- a key of a site to which its known end has come
 pub record IsPassedIn (keys : BTreeSet Key) (site known : ℕ) (key : Key) : Type 0 where
@@ -132,7 +132,7 @@ abbrev pub LeavesNone : BTreeSet Key → ℕ → ℕ → Type 0
 LeavesNone keys site known = (key : Key) → key.site ≡ site → key.count ≤ known → contains by_key keys key ≡ false
 
 -- keys of other places stay
-abbrev pub KeepOthers : Place → BTreeSet Key → BTreeSet Key → Type 0
+abbrev pub KeepOthers : Standing → BTreeSet Key → BTreeSet Key → Type 0
 KeepOthers place old new = (key : Key) → is_at (by_stamp_and_arrival place) key.place ≡ false → contains by_key new key ≡ contains by_key old key
 
 -- keys may have been put in
@@ -148,7 +148,7 @@ abbrev pub IsNotedMore : BTreeMap ℕ ℕ → BTreeMap ℕ ℕ → Type 0
 IsNotedMore old new = (site count : ℕ) → is_noted old site count ≡ true → is_noted new site count ≡ true
 
 -- what is kept for other places stays
-pub record KeepsOthers (place : Place) (old new : Keys) : Type 0 where
+pub record KeepsOthers (place : Standing) (old new : Keys) : Type 0 where
   pub alone : KeepOthers place old.alone new.alone
   pub begun : KeepOthers place old.begun new.begun
   pub ends : IsNotedMore old.ends new.ends
@@ -166,16 +166,16 @@ pub record HasLess (old new : Keys) : Type 0 where
   pub ends : new.ends ≡ old.ends
 
 -- keys of a place may have been put in, and nothing else changed
-pub record IsKeyedMore (place : Place) (old new : Waits) : Type 0 where
+pub record IsKeyedMore (place : Standing) (old new : Waits) : Type 0 where
   pub keys : KeepsOthers place old.keys new.keys
   pub more : HasMore old.keys new.keys
   pub due : heap_items new.due ≡ heap_items old.due
   pub again : new.again.items ≡ old.again.items
 
 -- at a place stands what is said, and at all others what stood there
-abbrev pub IsSetAt : Place → Option (Option Operation) → BTreeMap Place (Option Operation) → BTreeMap Place (Option Operation) → Type 0
+abbrev pub IsSetAt : Standing → Option (Option Operation) → BTreeMap Standing (Option Operation) → BTreeMap Standing (Option Operation) → Type 0
 IsSetAt place kept old new =
-    (at : Place) → get by_stamp_and_arrival new at ≡ cond (is_at (by_stamp_and_arrival place) at) kept (get by_stamp_and_arrival old at)
+    (at : Standing) → get by_stamp_and_arrival new at ≡ cond (is_at (by_stamp_and_arrival place) at) kept (get by_stamp_and_arrival old at)
 
 -- what becomes of the operation at a place; nothing does where there is none
 abbrev pub outcome_there : Bool → ℕ → List Operation → Option (Option Operation) → Outcome
@@ -190,14 +190,14 @@ IfIsThere P (Some None) = Unit {0}
 IfIsThere P (Some (Some op)) = P op
 
 -- an operation would stay, and all its keys are kept
-abbrev pub sleeps : ℕ → Keys → List Operation → Place → Operation → Bool
+abbrev pub sleeps : ℕ → Keys → List Operation → Standing → Operation → Bool
 sleeps limit keys log place op = stays (answer_within limit op log) && are_kept keys log place op
 
 -- it sleeps, or is looked at again
-abbrev pub is_tried_at : ℕ → List Operation → Keys → List Place → Entry → Bool
+abbrev pub is_tried_at : ℕ → List Operation → Keys → List Standing → Entry → Bool
 is_tried_at limit log keys again (place, None) = true
 is_tried_at limit log keys again (place, Some op) = is_listed place again || sleeps limit keys log place op
 
 -- all were last tried at a log, within a limit
-abbrev pub are_tried_at : ℕ → List Operation → Keys → List Place → List Entry → Bool
+abbrev pub are_tried_at : ℕ → List Operation → Keys → List Standing → List Entry → Bool
 are_tried_at limit log keys again entries = list_all (is_tried_at limit log keys again) entries

@@ -19,7 +19,7 @@ use Rattle.rt_holding.specs.declared.waits.Waits.{Waits}
 use Rattle.rt_holding.specs.declared.waking.Passed.{Passed}
 use Rattle.rt_holding.specs.declared.waking.Passed.TheVariants.{Due, GoesOn, Sleeps}
 use Rattle.rt_holding.specs.Grown.{HasGrownBy}
-use Rattle.rt_holding.specs.Kept.{Place, by_stamp_and_arrival}
+use Rattle.rt_holding.specs.Kept.{Standing, by_stamp_and_arrival}
 use Rattle.rt_rga.specs.Kept.{goes_past}
 use Rattle.rt_holding.specs.Waiting.{came_behind, targets}
 use Rattle.rt_holding.specs.Waits.{IfIsThere, LeavesNone, by_key, first_of, has_key, is_due, is_listed, is_noted, sleeps}
@@ -72,11 +72,11 @@ pub record IsSeenTo (log : List Operation) (keys : Keys) (key : Key) (op : Opera
   pub waits : IsStillWaiting log keys.alone key (targets op.body)
 
 -- all are due of which a span of a site has begun
-abbrev pub AreAllDue : {Z : Type 0} → ℕ → BTreeSet Key → BinaryHeap (Reverse Place) Z → Type 0
+abbrev pub AreAllDue : {Z : Type 0} → ℕ → BTreeSet Key → BinaryHeap (Reverse Standing) Z → Type 0
 AreAllDue site begun due = (key : Key) → key.site ≡ site → contains by_key begun key ≡ true → is_due key.place due ≡ true
 
 -- What came of a site since it was looked through has a gap, and all are due of which a span of it has begun.
-pub record HasGapSince {Z : Type 0} (site : ℕ) (log : List Operation) (old : Keys) (due : BinaryHeap (Reverse Place) Z) : Type 0 where
+pub record HasGapSince {Z : Type 0} (site : ℕ) (log : List Operation) (old : Keys) (due : BinaryHeap (Reverse Standing) Z) : Type 0 where
   pub end : ℕ
   pub noted : get nat_cmp old.ends site ≡ Some end
   pub gap : has_gap log (came_behind site log end) ≡ true
@@ -91,21 +91,21 @@ pub record HasNoGapSince (site : ℕ) (log : List Operation) (old new : Waits) :
 
 -- What came of a site is looked through, once for all of which a span of it has begun. With a gap, all of them are due.
 pub record IsLookedThrough (by : ℕ) (log : List Operation) (old new : Waits) : Type 0 where
-  pub due : (place : Place) → is_due place old.due ≡ true → is_due place new.due ≡ true
+  pub due : (place : Standing) → is_due place old.due ≡ true → is_due place new.due ≡ true
   pub alone : new.keys.alone ≡ old.keys.alone
   pub others : (key : Key) → (by == key.site) ≡ false → contains by_key new.keys.begun key ≡ contains by_key old.keys.begun key
   pub noted : (site count : ℕ) → (by == site) ≡ false → is_noted old.keys.ends site count ≡ true → is_noted new.keys.ends site count ≡ true
   pub here : HasGapSince by log old.keys new.due ⊎ HasNoGapSince by log old new
 
 -- a span of an operation at a key's place has come to its end, and the operation waits for others
-pub record IsAtEnd (by : ℕ) (log : List Operation) (ops : BTreeMap Place (Option Operation)) (alone : BTreeSet Key) (key : Key) : Type 0 where
+pub record IsAtEnd (by : ℕ) (log : List Operation) (ops : BTreeMap Standing (Option Operation)) (alone : BTreeSet Key) (key : Key) : Type 0 where
   pub site : key.site ≡ by
   pub passed : key.count ≤ known_end log by
   pub waits : IfIsThere (λ op. IsStillWaiting log alone key (targets op.body)) (get by_stamp_and_arrival ops key.place)
 
 -- those are seen to of which a span that had begun has come to its end
-pub record AreEndsPassed (by : ℕ) (log : List Operation) (ops : BTreeMap Place (Option Operation)) (old new : Waits) : Type 0 where
-  pub due : (place : Place) → is_due place old.due ≡ true → is_due place new.due ≡ true
+pub record AreEndsPassed (by : ℕ) (log : List Operation) (ops : BTreeMap Standing (Option Operation)) (old new : Waits) : Type 0 where
+  pub due : (place : Standing) → is_due place old.due ≡ true → is_due place new.due ≡ true
   pub alone : new.keys.alone ≡ old.keys.alone
   pub ends : new.keys.ends ≡ old.keys.ends
   pub left : LeavesNone new.keys.begun by (known_end log by)
@@ -114,9 +114,9 @@ pub record AreEndsPassed (by : ℕ) (log : List Operation) (ops : BTreeMap Place
 
 -- Since the log has grown: those that were due stay so, and those are due that were looked at again; of those that slept each is due,
 -- or sleeps on.
-pub record IsWoken (made_by : ℕ) (log : List Operation) (ops : BTreeMap Place (Option Operation)) (old new : Waits) : Type 0 where
-  pub due : (place : Place) → is_due place old.due ≡ true → is_due place new.due ≡ true
-  pub again : (place : Place) → is_listed place old.again.items ≡ true → is_due place new.due ≡ true
-  pub asleep : (limit : ℕ) (older : List Operation) → HasGrownBy made_by older log → (place : Place) (op : Operation)
+pub record IsWoken (made_by : ℕ) (log : List Operation) (ops : BTreeMap Standing (Option Operation)) (old new : Waits) : Type 0 where
+  pub due : (place : Standing) → is_due place old.due ≡ true → is_due place new.due ≡ true
+  pub again : (place : Standing) → is_listed place old.again.items ≡ true → is_due place new.due ≡ true
+  pub asleep : (limit : ℕ) (older : List Operation) → HasGrownBy made_by older log → (place : Standing) (op : Operation)
       → get by_stamp_and_arrival ops place ≡ Some (Some op) → keeps_rules op.body ≡ true → sleeps limit old.keys older place op ≡ true
       → (is_due place new.due || sleeps limit new.keys log place op) ≡ true

@@ -7,7 +7,7 @@ ghost use Rattle.std.specs.List.{AllByRecursion};
 ghost use Rattle.rt_ops.specs.Operations.{Operation, has_bad_stamp};
 ghost use Rattle.rt_oplog.specs.Logs.{holds, with_operation};
 ghost use Rattle.rt_rga.specs.Answers.{answer_within};
-ghost use Rattle.rt_holding.specs.Kept.{IsAt, IsInPlace, IsNewAt, Place, by_stamp_and_arrival, ops_in, outcome_of};
+ghost use Rattle.rt_holding.specs.Kept.{IsAt, IsInPlace, IsNewAt, Standing, by_stamp_and_arrival, ops_in, outcome_of};
 ghost use Rattle.rt_holding.specs.Waits.{HasLess, IfIsThere, IsReady, IsSetAt, KeepsOthers, are_kept, is_any_kept, is_listed, key_count, outcome_there};
 
 use crate::taking::Taking;
@@ -19,10 +19,10 @@ use std::alloc::AllocError;
 use std::collections::BTreeMap;
 
 /// Where a held operation stands: by its stamp, and of equal stamps by when it came.
-pub(crate) type Place = (Stamp, u64);
+pub(crate) type Standing = (Stamp, u64);
 
 /// The held operations in order; none at the place of the one that is being tried.
-pub(crate) type Ops = BTreeMap<Place, Option<Op>>;
+pub(crate) type Ops = BTreeMap<Standing, Option<Op>>;
 
 /// What becomes of a held operation that is tried.
 #[derive(Clone, Copy, Debug, PartialEq, Eq)]
@@ -59,7 +59,7 @@ fn outcome_for<T: Taking>(site: &T, op: &Op, lacks: bool) -> Outcome
 }
 
 /// What becomes of the operation at a place that is tried.
-pub(crate) fn outcome_at<T: Taking>(site: &T, ops: &Ops, place: Place, lacks: bool) -> Outcome
+pub(crate) fn outcome_at<T: Taking>(site: &T, ops: &Ops, place: Standing, lacks: bool) -> Outcome
     ensures { result ≡ outcome_there lacks (T.limit site.now) (T.log site.now) (get by_stamp_and_arrival ops.now place) }
 {
     match ops.get(&place) {
@@ -69,13 +69,13 @@ pub(crate) fn outcome_at<T: Taking>(site: &T, ops: &Ops, place: Place, lacks: bo
 }
 
 /// The operation at a place would stay: it sleeps, with all its keys kept. It is looked at again where they find no memory.
-pub(crate) fn sleep<T: Taking>(site: &T, ops: &Ops, waits: &mut Waits, place: Place)
+pub(crate) fn sleep<T: Taking>(site: &T, ops: &Ops, waits: &mut Waits, place: Standing)
     requires ready { IsReady 1 waits.old }
     requires sound { IfIsThere (λ op. has_bad_stamp op ≡ false) (get by_stamp_and_arrival ops.now place) }
     ensures ready { IsReady 0 waits.new }
     ensures keys { KeepsOthers place waits.old.keys waits.new.keys }
     ensures due { heap_items waits.new.due ≡ heap_items waits.old.due }
-    ensures again { (p : Place) → is_listed p waits.old.again.items ≡ true → is_listed p waits.new.again.items ≡ true }
+    ensures again { (p : Standing) → is_listed p waits.old.again.items ≡ true → is_listed p waits.new.again.items ≡ true }
     ensures asleep { IfIsThere (λ op. (is_listed place waits.new.again.items || are_kept waits.new.keys (T.log site.now) place op) ≡ true)
         (get by_stamp_and_arrival ops.now place) }
 {
@@ -88,7 +88,7 @@ pub(crate) fn sleep<T: Taking>(site: &T, ops: &Ops, waits: &mut Waits, place: Pl
 }
 
 /// Where an operation is held, if it is: looks at those of its stamp.
-pub(crate) fn place_of(ops: &Ops, arrivals: u64, op: &Op) -> Option<Place>
+pub(crate) fn place_of(ops: &Ops, arrivals: u64, op: &Op) -> Option<Standing>
     requires { AllByRecursion (IsInPlace arrivals) ops.now.entries }
     ensures some { IfSome result (λ place. IsAt place op.now ops.now.entries) }
     ensures none { IfNone result (holds (ops_in ops.now.entries) op.now ≡ false) }
@@ -105,7 +105,7 @@ pub(crate) fn place_of(ops: &Ops, arrivals: u64, op: &Op) -> Option<Place>
 }
 
 /// Takes out the operation at a place, which stays.
-fn take_out(ops: &mut Ops, place: Place) -> Op
+fn take_out(ops: &mut Ops, place: Standing) -> Op
     requires { (op : Operation) × IsAt place op ops.old.entries }
     ensures there { IsAt place result ops.old.entries }
     ensures entries { ops.new.entries ≡ insert_entry by_stamp_and_arrival ops.old.entries place None }
@@ -116,7 +116,7 @@ fn take_out(ops: &mut Ops, place: Place) -> Op
 }
 
 /// Drops the place, with the operation at it and its keys, if there is one.
-pub(crate) fn drop_at<T: Taking>(site: &T, ops: &mut Ops, keys: &mut Keys, place: Place)
+pub(crate) fn drop_at<T: Taking>(site: &T, ops: &mut Ops, keys: &mut Keys, place: Standing)
     ensures entries { ops.new.entries ≡ remove_entry (is_at (by_stamp_and_arrival place)) ops.old.entries }
     ensures others { IsSetAt place None ops.old ops.new }
     ensures ordered { IsOrdered by_stamp_and_arrival ops.new }
@@ -132,7 +132,7 @@ pub(crate) fn drop_at<T: Taking>(site: &T, ops: &mut Ops, keys: &mut Keys, place
 }
 
 /// Takes out the operation at a place, if there is one, of which all keys are passed.
-pub(crate) fn take_away(ops: &mut Ops, place: Option<Place>)
+pub(crate) fn take_away(ops: &mut Ops, place: Option<Standing>)
     ensures some { IfSome place (λ p. ops.new.entries ≡ remove_entry (is_at (by_stamp_and_arrival p)) ops.old.entries) }
     ensures others { IfSome place (λ p. IsSetAt p None ops.old ops.new) }
     ensures none { IfNone place (ops.new.entries ≡ ops.old.entries) }
@@ -146,7 +146,7 @@ pub(crate) fn take_away(ops: &mut Ops, place: Option<Place>)
 pub(crate) fn take_at<T: Taking>(
     site: &mut T,
     ops: &mut Ops,
-    place: Place,
+    place: Standing,
 ) -> Result<u16, AllocError>
     requires { IsNewAt (T.limit site.old) (T.log site.old) ops.old.entries place }
     ensures site { OnOk result ((op : Operation) → IsAt place op ops.old.entries → site.new ≡ T.after op site.old) }

@@ -5,13 +5,13 @@ ghost use Rattle.std.specs.BinaryHeap.{IsHeap, KeepsHeap, heap_capacity, heap_it
 ghost use Rattle.std.specs.BTreeMap.{is_at};
 ghost use Rattle.std.specs.BTreeSet.{contains};
 ghost use Rattle.rt_ops.specs.Operations.{has_bad_stamp};
-ghost use Rattle.rt_holding.specs.Kept.{Place, by_stamp_and_arrival};
+ghost use Rattle.rt_holding.specs.Kept.{Standing, by_stamp_and_arrival};
 ghost use Rattle.rt_rga.specs.Kept.{goes_past};
 ghost use Rattle.rt_holding.specs.Waits.{HasLess, HasMore, HasNoneOf, IsFirstDue, IsFirstOf, IsKeyedMore, IsLess, IsNotedMore, IsPassedIn, IsReady, KeepOthers, KeepsOthers, LeavesNone, NoneIsBefore};
 ghost use Rattle.rt_holding.specs.Waits.{are_kept, by_key, by_later, has_key, is_any_kept, is_due, is_keyed, is_listed, is_noted, is_waited_for, key_count, least_key};
 
 use crate::taking::Taking;
-use crate::trying::Place;
+use crate::trying::Standing;
 use rt_oplog::{Edit, Op};
 use rt_stamps::{ROOT, Span, Stamp};
 use std::alloc::{AllocError, Global};
@@ -23,7 +23,7 @@ use std::collections::{BTreeMap, BTreeSet, BinaryHeap};
 pub(crate) struct Key {
     pub(crate) site: u16,
     pub(crate) count: u64,
-    pub(crate) place: Place,
+    pub(crate) place: Standing,
 }
 
 pub(crate) type KeySet = BTreeSet<Key>;
@@ -43,7 +43,7 @@ pub(crate) struct Keys {
 }
 
 /// Where those stand that may be tried, the first of them on top.
-pub(crate) type Due = BinaryHeap<Reverse<Place>>;
+pub(crate) type Due = BinaryHeap<Reverse<Standing>>;
 
 /// What held operations wait for. There is room for all of them among those that are due, and among those that are looked at again.
 #[derive(Drop)]
@@ -51,7 +51,7 @@ pub(crate) struct Waits {
     pub(crate) keys: Keys,
     pub(crate) due: Due,
     /// Those that are looked at after each operation that is taken.
-    pub(crate) again: Vec<Place>,
+    pub(crate) again: Vec<Standing>,
 }
 
 impl Waits {
@@ -80,9 +80,9 @@ impl Waits {
 // WHAT IS DUE
 
 /// One more is due.
-pub(crate) fn push_due(due: &mut Due, place: Place)
+pub(crate) fn push_due(due: &mut Due, place: Standing)
     requires { heap_len due.old < heap_capacity due.old }
-    ensures due { (p : Place) → is_due p due.new ≡ is_at (by_stamp_and_arrival p) place || is_due p due.old }
+    ensures due { (p : Standing) → is_due p due.new ≡ is_at (by_stamp_and_arrival p) place || is_due p due.old }
     ensures len { heap_len due.new ≡ heap_len due.old + 1 }
     ensures capacity { heap_capacity due.old ≤ heap_capacity due.new }
     ensures heap { KeepsHeap by_later (heap_items due.old) (heap_items due.new) }
@@ -92,10 +92,10 @@ pub(crate) fn push_due(due: &mut Due, place: Place)
 }
 
 /// Takes a place out for as long as it stands on top: altogether, where none goes before it.
-fn drop_same(due: &mut Due, place: Place)
+fn drop_same(due: &mut Due, place: Standing)
     requires { IsHeap by_later (heap_items due.old) }
     ensures heap { IsHeap by_later (heap_items due.new) }
-    ensures due { (p : Place) → is_due p due.old ≡ true → (is_due p due.new || is_at (by_stamp_and_arrival p) place) ≡ true }
+    ensures due { (p : Standing) → is_due p due.old ≡ true → (is_due p due.new || is_at (by_stamp_and_arrival p) place) ≡ true }
     ensures gone { NoneIsBefore place due.old → is_due place due.new ≡ false }
     ensures len { heap_len due.new ≤ heap_len due.old }
     ensures capacity { heap_capacity due.new ≡ heap_capacity due.old }
@@ -109,11 +109,11 @@ fn drop_same(due: &mut Due, place: Place)
 }
 
 /// Takes out the first of those that are due.
-pub(crate) fn pop_first(due: &mut Due) -> Option<Place>
+pub(crate) fn pop_first(due: &mut Due) -> Option<Standing>
     requires { IsHeap by_later (heap_items due.old) }
     ensures heap { IsHeap by_later (heap_items due.new) }
     ensures some { IfSome result (λ place. IsFirstDue place due.old due.new) }
-    ensures none { IfNone result ((p : Place) → is_due p due.old ≡ false) }
+    ensures none { IfNone result ((p : Standing) → is_due p due.old ≡ false) }
     ensures len { OnSome result (heap_len due.new < heap_len due.old) }
     ensures fewer { heap_len due.new ≤ heap_len due.old }
     ensures capacity { heap_capacity due.new ≡ heap_capacity due.old }
@@ -124,10 +124,10 @@ pub(crate) fn pop_first(due: &mut Due) -> Option<Place>
 }
 
 /// One more is looked at again.
-pub(crate) fn keep(waits: &mut Waits, place: Place)
+pub(crate) fn keep(waits: &mut Waits, place: Standing)
     requires { IsReady 1 waits.old }
     ensures ready { IsReady 0 waits.new }
-    ensures listed { (p : Place) → is_listed p waits.new.again.items ≡ is_listed p waits.old.again.items || is_at (by_stamp_and_arrival p) place }
+    ensures listed { (p : Standing) → is_listed p waits.new.again.items ≡ is_listed p waits.old.again.items || is_at (by_stamp_and_arrival p) place }
     ensures keys { waits.new.keys ≡ waits.old.keys }
     ensures due { waits.new.due ≡ waits.old.due }
 {
@@ -177,8 +177,8 @@ pub(crate) fn look_again(waits: &mut Waits)
     requires { IsReady 0 waits.old }
     ensures ready { IsReady 0 waits.new }
     ensures keys { waits.new.keys ≡ waits.old.keys }
-    ensures due { (p : Place) → is_due p waits.old.due ≡ true → is_due p waits.new.due ≡ true }
-    ensures again { (p : Place) → is_listed p waits.old.again.items ≡ true → is_due p waits.new.due ≡ true }
+    ensures due { (p : Standing) → is_due p waits.old.due ≡ true → is_due p waits.new.due ≡ true }
+    ensures again { (p : Standing) → is_listed p waits.old.again.items ≡ true → is_due p waits.new.due ≡ true }
 {
     while let Some(place) = waits.again.pop() {
         push_due(&mut waits.due, place);
@@ -186,7 +186,7 @@ pub(crate) fn look_again(waits: &mut Waits)
 }
 
 /// Whether a key is kept.
-pub(crate) fn has_it(keys: &KeySet, stamp: Stamp, place: Place) -> bool
+pub(crate) fn has_it(keys: &KeySet, stamp: Stamp, place: Standing) -> bool
     ensures { result ≡ has_key keys.now place stamp }
 {
     keys.contains(&Key {
@@ -231,7 +231,7 @@ fn make_room(waits: &mut Waits) -> Result<(), AllocError>
 }
 
 /// One more key.
-fn put_key(waits: &mut Waits, stamp: Stamp, place: Place) -> Result<(), AllocError>
+fn put_key(waits: &mut Waits, stamp: Stamp, place: Standing) -> Result<(), AllocError>
     requires { IsReady 1 waits.old }
     ensures ready { IsReady 1 waits.new }
     ensures keyed { IsKeyedMore place waits.old waits.new }
@@ -287,7 +287,7 @@ fn put_open<T: Taking>(
     site: &T,
     waits: &mut Waits,
     span: Span,
-    place: Place,
+    place: Standing,
 ) -> Result<(), AllocError>
     requires { IsReady 1 waits.old }
     ensures ready { IsReady 1 waits.new }
@@ -319,7 +319,7 @@ fn put_span<T: Taking>(
     site: &T,
     waits: &mut Waits,
     span: Span,
-    place: Place,
+    place: Standing,
 ) -> Result<(), AllocError>
     requires { IsReady 1 waits.old }
     ensures ready { IsReady 1 waits.new }
@@ -338,7 +338,7 @@ fn put_spans<T: Taking>(
     site: &T,
     waits: &mut Waits,
     spans: &[Span],
-    place: Place,
+    place: Standing,
 ) -> Result<(), AllocError>
     requires { IsReady 1 waits.old }
     ensures ready { IsReady 1 waits.new }
@@ -356,7 +356,7 @@ pub(crate) fn put_keys<T: Taking>(
     site: &T,
     waits: &mut Waits,
     op: &Op,
-    place: Place,
+    place: Standing,
 ) -> Result<(), AllocError>
     requires sound { has_bad_stamp op.now ≡ false }
     requires ready { IsReady 1 waits.old }
@@ -396,7 +396,7 @@ pub(crate) fn prepare<T: Taking>(
     site: &T,
     waits: &mut Waits,
     op: &Op,
-    place: Place,
+    place: Standing,
 ) -> Result<(), AllocError>
     requires sound { has_bad_stamp op.now ≡ false }
     requires ready { IsReady 0 waits.old }
@@ -415,7 +415,7 @@ pub(crate) fn prepare<T: Taking>(
 }
 
 /// Takes a key out, if it is there.
-fn drop_key(keys: &mut KeySet, stamp: Stamp, place: Place)
+fn drop_key(keys: &mut KeySet, stamp: Stamp, place: Standing)
     ensures gone { has_key keys.new place stamp ≡ false }
     ensures less { IsLess keys.old keys.new }
     ensures others { KeepOthers place keys.old keys.new }
@@ -429,7 +429,7 @@ fn drop_key(keys: &mut KeySet, stamp: Stamp, place: Place)
 }
 
 /// That of a span that goes past the known end of its site.
-fn drop_span<T: Taking>(site: &T, keys: &mut Keys, span: Span, place: Place)
+fn drop_span<T: Taking>(site: &T, keys: &mut Keys, span: Span, place: Standing)
     ensures gone { (goes_past (T.log site.now) span && is_keyed keys.new (T.log site.now) place span) ≡ false }
     ensures less { HasLess keys.old keys.new }
     ensures others { KeepsOthers place keys.old keys.new }
@@ -453,7 +453,7 @@ fn drop_span<T: Taking>(site: &T, keys: &mut Keys, span: Span, place: Place)
     }
 }
 
-fn drop_spans<T: Taking>(site: &T, keys: &mut Keys, spans: &[Span], place: Place)
+fn drop_spans<T: Taking>(site: &T, keys: &mut Keys, spans: &[Span], place: Standing)
     ensures gone { list_any (λ span. goes_past (T.log site.now) span && is_keyed keys.new (T.log site.now) place span) spans.now ≡ false }
     ensures less { HasLess keys.old keys.new }
     ensures others { KeepsOthers place keys.old keys.new }
@@ -465,7 +465,7 @@ fn drop_spans<T: Taking>(site: &T, keys: &mut Keys, spans: &[Span], place: Place
 }
 
 /// Takes out those of an operation's own site: for the one before it, and for one in its own place.
-fn drop_own(keys: &mut KeySet, op: &Op, place: Place)
+fn drop_own(keys: &mut KeySet, op: &Op, place: Standing)
     ensures before { has_key keys.new place (record { count = op.now.prev; site = op.now.site }) ≡ false }
     ensures next { has_bad_stamp op.now ≡ false → has_key keys.new place (record { count = op.now.prev + 1; site = op.now.site }) ≡ false }
     ensures less { IsLess keys.old keys.new }
@@ -480,7 +480,7 @@ fn drop_own(keys: &mut KeySet, op: &Op, place: Place)
 }
 
 /// Takes out the keys of an operation at a place.
-pub(crate) fn forget<T: Taking>(site: &T, keys: &mut Keys, op: &Op, place: Place)
+pub(crate) fn forget<T: Taking>(site: &T, keys: &mut Keys, op: &Op, place: Standing)
     ensures gone { has_bad_stamp op.now ≡ false → is_any_kept keys.new (T.log site.now) place op.now ≡ false }
     ensures less { HasLess keys.old keys.new }
     ensures others { KeepsOthers place keys.old keys.new }

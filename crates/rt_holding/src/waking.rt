@@ -6,7 +6,7 @@ ghost use Rattle.std.specs.List.{list_any};
 ghost use Rattle.rt_stamps.specs.Spans.{is_in_span};
 ghost use Rattle.rt_holding.specs.declared.waking.Passed.TheVariants.{Due};
 ghost use Rattle.rt_rga.specs.Histories.{IsHistory};
-ghost use Rattle.rt_holding.specs.Kept.{Place, by_stamp_and_arrival};
+ghost use Rattle.rt_holding.specs.Kept.{Standing, by_stamp_and_arrival};
 ghost use Rattle.rt_rga.specs.Kept.{goes_past};
 ghost use Rattle.rt_holding.specs.Waiting.{targets};
 ghost use Rattle.rt_holding.specs.Waits.{HasMore, IfIsThere, IsReady, by_key, is_due};
@@ -14,7 +14,7 @@ ghost use Rattle.rt_holding.specs.Waking.{AreAllDue, AreEndsPassed, IsLookedThro
 ghost use Rattle.rt_holding.specs.Waking.{stamp_of_key};
 
 use crate::taking::Taking;
-use crate::trying::{Ops, Place};
+use crate::trying::{Ops, Standing};
 use crate::waits::{
     Key, KeySet, Waits, first_key, first_passed, has_it, is_open, look_again, push_due, put_begun,
 };
@@ -139,7 +139,7 @@ fn passed_of<T: Taking>(site: &T, keys: &KeySet, op: &Op, key: Key) -> Passed
 fn pass<T: Taking>(site: &T, ops: &Ops, waits: &mut Waits, key: Key)
     requires { IsReady 1 waits.old }
     ensures ready { IsReady 0 waits.new }
-    ensures due { (p : Place) → is_due p waits.old.due ≡ true → is_due p waits.new.due ≡ true }
+    ensures due { (p : Standing) → is_due p waits.old.due ≡ true → is_due p waits.new.due ≡ true }
     ensures alone { waits.new.keys.alone ≡ waits.old.keys.alone }
     ensures more { HasMore waits.old.keys waits.new.keys }
     ensures here { IfIsThere (λ op. (is_due key.place waits.new.due ≡ true) ⊎ IsSeenTo (T.log site.now) waits.new.keys key op)
@@ -188,7 +188,7 @@ fn waits_on<T: Taking>(site: &T, keys: &KeySet, op: &Op, key: Key) -> bool
 fn end_at<T: Taking>(site: &T, ops: &Ops, waits: &mut Waits, key: Key)
     requires { IsReady 1 waits.old }
     ensures ready { IsReady 0 waits.new }
-    ensures due { (p : Place) → is_due p waits.old.due ≡ true → is_due p waits.new.due ≡ true }
+    ensures due { (p : Standing) → is_due p waits.old.due ≡ true → is_due p waits.new.due ≡ true }
     ensures keys { waits.new.keys ≡ waits.old.keys }
     ensures here { (is_due key.place waits.new.due ≡ true)
         ⊎ IfIsThere (λ op. IsStillWaiting (T.log site.now) waits.old.keys.alone key (targets op.body)) (get by_stamp_and_arrival ops.now key.place) }
@@ -205,7 +205,7 @@ fn end_at<T: Taking>(site: &T, ops: &Ops, waits: &mut Waits, key: Key)
 fn wake_begun(waits: &mut Waits, made_by: u16)
     requires { IsReady 0 waits.old }
     ensures ready { IsReady 0 waits.new }
-    ensures due { (p : Place) → is_due p waits.old.due ≡ true → is_due p waits.new.due ≡ true }
+    ensures due { (p : Standing) → is_due p waits.old.due ≡ true → is_due p waits.new.due ≡ true }
     ensures alone { waits.new.keys.alone ≡ waits.old.keys.alone }
     ensures ends { waits.new.keys.ends ≡ waits.old.keys.ends }
     ensures others { (key : Key) → (made_by == key.site) ≡ false → contains by_key waits.new.keys.begun key ≡ contains by_key waits.old.keys.begun key }

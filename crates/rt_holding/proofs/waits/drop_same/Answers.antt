@@ -24,3 +24,9 @@ loop-top-preserved c =
       len = omega (arith, less, least);
       capacity = e.capacity ∙ before.capacity;
     }
+
+pub returns-then-ne-clause-gone : goal.returns-then-ne-clause-gone
+returns-then-ne-clause-gone c first =
+    let before = c.loop-top.invariant in
+    not_on_top (heap_items c.loop-top.due) c.in-Some.field-0.now c.args.place c.ne.result c.in-Some.ensures.lookup (c.in-Some.ensures.greatest before.heap)
+    (λ p h. first p (before.fewer p h)) c.ne.ensures c.if-ne.true

@@ -1,7 +1,7 @@
 use Rattle.std.proofs.Common.{◌≡◌, ◌⊎◌, length, true}
 use Rattle.std.specs.BTreeSet.{contains}
 use Rattle.rt_holding.specs.declared.waits.Key.{Key}
-use Rattle.rt_holding.specs.Kept.{Place}
+use Rattle.rt_holding.specs.Kept.{Standing}
 use Rattle.rt_holding.specs.Waits.{IsReady, by_key, is_due}
 use Rattle.rt_holding.specs.Waking.{IsAtEnd}
 use Rattle.rt_holding.proofs.waking.pass_ends.Given as goal
@@ -9,7 +9,7 @@ use Rattle.rt_holding.proofs.waking.pass_ends.Given as goal
 abbrev pub invariant-loop-key : goal.invariant-loop-key
 invariant-loop-key g l = record {
   ready : IsReady 0 l.waits;
-  due : (p : Place) → is_due p l.initial.waits.due ≡ true → is_due p l.waits.due ≡ true;
+  due : (p : Standing) → is_due p l.initial.waits.due ≡ true → is_due p l.waits.due ≡ true;
   alone : l.waits.keys.alone ≡ l.initial.waits.keys.alone;
   ends : l.waits.keys.ends ≡ l.initial.waits.keys.ends;
   each : (key : Key) → contains by_key l.initial.waits.keys.begun key ≡ true

@@ -7,7 +7,7 @@ use Rattle.rt_oplog.specs.Logs.{known_end}
 use Rattle.rt_rga.proofs.Skipping.{split}
 use Rattle.rt_holding.specs.declared.waits.Key.{Key}
 use Rattle.rt_holding.specs.declared.waits.Keys.{Keys}
-use Rattle.rt_holding.specs.Kept.{Place, by_stamp_and_arrival}
+use Rattle.rt_holding.specs.Kept.{Standing, by_stamp_and_arrival}
 use Rattle.rt_holding.specs.Waits.{IfIsThere, by_key, has_key, is_due, key_at, sleeps}
 use Rattle.rt_holding.specs.Waking.{IsSeenTo, stamp_of_key}
 use Rattle.rt_holding.proofs.Falling.{falls_to_rest}
@@ -38,10 +38,10 @@ loop-key-preserved g c =
             (λ t. let at = this_place key.place p t in
             let here : (is_due key.place c.pass.new.waits.due ≡ true) ⊎ IsSeenTo log new key x =
             subst (IfIsThere (λ y. (is_due key.place c.pass.new.waits.due ≡ true) ⊎ IsSeenTo log new key y)) (ap (get by_stamp_and_arrival c.args.ops.now) at ∙ f) c.pass.ensures.here in
-            subst (λ (q : Place). (is_due q c.pass.new.waits.due ≡ true) ⊎ IsResting limit new older log q x) at (elim here [
+            subst (λ (q : Standing). (is_due q c.pass.new.waits.due ≡ true) ⊎ IsResting limit new older log q x) at (elim here [
               | inl d ↦ inl d
               | inr seen ↦ inr (seen_at_rest old new older log key x r (omega (arith, passed, known)) (rest key old.alone less new.alone c.remove-was_there.ensures.updates.0 c.pass.ensures.alone)
-                  more.begun more.ends seen limit (subst (λ (q : Place). IsResting limit old older log q x) (sym at) a))
+                  more.begun more.ends seen limit (subst (λ (q : Standing). IsResting limit old older log q x) (sym at) a))
             ]))
             (λ t. inr (more_at_rest old new older log p x
             (λ st h. ap (λ s. contains by_key s (key_at st p)) c.pass.ensures.alone ∙ c.remove-was_there.ensures.updates.0 (key_at st p) ∙ other key (key_at st p) old.alone t h) more.begun more.ends limit a))

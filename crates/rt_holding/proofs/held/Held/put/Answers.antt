@@ -7,7 +7,7 @@ use Rattle.rt_holding.specs.declared.waits.Keys.{Keys}
 use Rattle.rt_holding.specs.Grown.{AreTriedAt, HeldValue}
 use Rattle.rt_holding.specs.declared.held.TheConstants.{MOST_HELD}
 use Rattle.rt_holding.specs.Holding.{put_held}
-use Rattle.rt_holding.specs.Kept.{AreHeld, Place, by_stamp_and_arrival, ops_in}
+use Rattle.rt_holding.specs.Kept.{AreHeld, Standing, by_stamp_and_arrival, ops_in}
 use Rattle.rt_holding.specs.Waits.{are_tried_at, is_listed, is_tried_at, sleeps}
 use Rattle.rt_holding.proofs.Going.{or_left, or_right, tried_more}
 use Rattle.rt_holding.proofs.Passing.{others_on}
@@ -52,7 +52,7 @@ returns-in-Ok-insert-clause-tried g c limit log h =
     let keyed = c.prepare.ensures in
     let keys = c.keep.new.waits.keys in
     let again = c.keep.new.waits.again.items in
-    let place : Place = (c.stamp.result, old.arrivals) in
+    let place : Standing = (c.stamp.result, old.arrivals) in
     let others = tried_kept limit log old.arrivals place old.waits.keys c.prepare.new.waits.keys old.waits.again.items again refl keyed.others
     (λ q i. c.keep.ensures.listed q ∙ or_left (is_listed q c.prepare.new.waits.again.items) (is_at (by_stamp_and_arrival q) place) (ap (is_listed q) keyed.again ∙ i))
     old.ops.entries c.self.invariant.held.places (subst (AreTriedAt limit log) (sym c.self.view_is) h) in
@@ -66,7 +66,7 @@ pub returns-in-Some-1₀-clause-tried : goal.returns-in-Some-1₀-clause-tried
 returns-in-Some-1₀-clause-tried g c limit log h =
     let old = c.self.inside in
     let keyed = c.prepare.ensures in
-    let place : Place = (c.stamp.result, old.arrivals) in
+    let place : Standing = (c.stamp.result, old.arrivals) in
     ap (list_all (is_tried_at limit log c.forget.new.keys c.prepare.new.waits.again.items)) c.in-Err.ensures.err
     ∙ tried_kept limit log old.arrivals place old.waits.keys c.forget.new.keys old.waits.again.items c.prepare.new.waits.again.items refl
     (others_on place old.waits.keys c.prepare.new.waits.keys c.forget.new.keys keyed.others c.forget.ensures.others) (λ q i. ap (is_listed q) keyed.again ∙ i)
