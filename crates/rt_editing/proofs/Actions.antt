@@ -21,7 +21,7 @@ use Rattle.rt_rga.proofs.Skipping.{split}
 use Rattle.rt_edits.specs.declared.range.Range.{Range}
 use Rattle.rt_edits.specs.DraftLaws.{AreTagNames, IsDocument, SparesLast}
 use Rattle.rt_edits.specs.Deletions.{loss_in}
-use Rattle.rt_edits.specs.Flat.{Flat}
+use Rattle.rt_edits.specs.DocValue.{DocValue}
 use Rattle.rt_edits.specs.Removals.{cells_at, stamps_at}
 use Rattle.rt_edits.proofs.RemovalDraftLaws.{last_spared}
 use Rattle.rt_edits.proofs.TagNames.{cells_have_names}
@@ -30,7 +30,7 @@ use Rattle.rt_revert.specs.ReversionLaws.{IsSound, MayReturn}
 use Rattle.rt_editing.specs.Recordings.{HasStayed, made}
 use Rattle.rt_editing.specs.Settled.{is_gone as has_gone}
 use Rattle.rt_text.specs.Commands.{lost_in}
-use Rattle.rt_text.specs.Widgets.{Viewed, begin_of, text_shown}
+use Rattle.rt_text.specs.Widgets.{ViewValue, begin_of, text_shown}
 use Rattle.rt_text.proofs.LimitedDeletions.{spared}
 use Rattle.rt_undo.specs.declared.action.Kind.{Kind}
 use Rattle.rt_undo.specs.Actions.{Removed}
@@ -58,7 +58,7 @@ not_final s site h e = let p : 0 < s.site = omega (arith, h, e) in grind (arith,
 pub counts_spare_final : (site before after : ℕ) → 0 < site → is_among (stamps_of_span (counts_between site before after)) FINAL ≡ false
 counts_spare_final site before after h = none_among FINAL (stamps_of_span (counts_between site before after)) (counts_all (λ s. is_same s FINAL ≡ false) site before after (λ s l e. not_final s site h e))
 
-module _ (flat : Flat) (kept : IsOfLog flat) (back : Stamp → Bool) (gone : (s : Stamp) → back s ≡ true → has_gone flat.cells s ≡ true) where
+module _ (flat : DocValue) (kept : IsOfLog flat) (back : Stamp → Bool) (gone : (s : Stamp) → back s ≡ true → has_gone flat.cells s ≡ true) where
   -- who came back is gone in the log
   pub back_gone : (s : Stamp) → back s ≡ true → is_gone flat.log s ≡ true
   back_gone s h = gone_in_log flat.log s (sym (ap (λ (cells : List TaggedCell). has_gone cells s) kept.cells) ∙ gone s h)
@@ -140,7 +140,7 @@ taken_sound places place (cell ∷ cells) h spared = by cell.gone (places place)
     )
     by false false here next s = next s
 
-pub lost_sound : (view : Viewed) (ranges : List Range) → IsOfLog view.doc → AllByRecursion MayReturn (map as_removed (lost_in view ranges))
+pub lost_sound : (view : ViewValue) (ranges : List Range) → IsOfLog view.doc → AllByRecursion MayReturn (map as_removed (lost_in view ranges))
 lost_sound view ranges kept =
     let flat = view.doc in
     let places = (loss_in (text_shown view) (begin_of view) ranges).places in
@@ -155,5 +155,5 @@ pub action_sound : (kind : Kind) (site before after : ℕ) (removed : List (Remo
 action_sound kind site before after removed h k = record { inserted = counts_spare_final site before after h; removed = k }
 
 -- an edit's action, where it is the site's own
-pub edit_sound : (kind : Kind) (site : ℕ) (old new : Flat) (lost : List TaggedCell) → site ≡ old.site → 0 < site → AllByRecursion MayReturn (map as_removed lost) → IsSound (action_of kind old new lost)
+pub edit_sound : (kind : Kind) (site : ℕ) (old new : DocValue) (lost : List TaggedCell) → site ≡ old.site → 0 < site → AllByRecursion MayReturn (map as_removed lost) → IsSound (action_of kind old new lost)
 edit_sound kind site old new lost e h k = action_sound kind old.site old.count new.count (map as_removed lost) (subst (λ n. 0 < n) e h) k

@@ -9,7 +9,7 @@ use Rattle.rt_stamps.specs.Words.{Word}
 use Rattle.rt_ops.specs.Operations.{stamps_from, stamps_of_span}
 use Rattle.rt_store.specs.Shown.{TaggedCell}
 use Rattle.rt_tags.specs.States.{TagStates}
-use Rattle.rt_edits.specs.Flat.{Flat}
+use Rattle.rt_edits.specs.DocValue.{DocValue}
 use Rattle.rt_undo.specs.declared.action.Action.{Action as KeptAction}
 use Rattle.rt_undo.specs.declared.action.RemovedSpan.{RemovedSpan}
 use Rattle.rt_undo.specs.Actions.{Action, Removed, group_of, removed_in, removed_of, removed_with}
@@ -49,7 +49,7 @@ count_reverse (a ∷ group) =
     let one : removed_count (a ∷ []) ≡ length a.removed = omega arith in
     omega (arith, whole, count_append (reverse group) (a ∷ []), one, count_reverse group)
 
-pub reversion_few : (flat : Flat) (group : List (Action (List Word))) → length (reversion flat group).returns ≤ removed_count group
+pub reversion_few : (flat : DocValue) (group : List (Action (List Word))) → length (reversion flat group).returns ≤ removed_count group
 reversion_few flat group = omega (arith, all_few (reverse group) (as_it_is flat), count_reverse group)
 
 pub count_named : (t : TagStates) (group : List (Action ℕ)) → removed_count (named_group t group) ≡ removed_count group

@@ -10,7 +10,7 @@ use Rattle.rt_store.specs.Cells.{AreDistinct, after_element, cell_of, stamps_of,
 use Rattle.rt_store.specs.Shown.{TaggedCell}
 use Rattle.rt_store.specs.Spans.{is_among}
 use Rattle.rt_store.proofs.Distinct.{differs, first_apart, others_distinct, split}
-use Rattle.rt_edits.specs.Flat.{put_after}
+use Rattle.rt_edits.specs.DocValue.{put_after}
 use Rattle.rt_edits.specs.Removals.{gone_at}
 use Rattle.rt_revert.specs.Reverting.{gone_cell_of}
 use Rattle.rt_editing.specs.Settled.{is_gone}

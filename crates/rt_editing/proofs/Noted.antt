@@ -14,11 +14,11 @@ use Rattle.rt_editing.specs.Settled.{AreGoneOnce, IsSettled, all_taken, is_gone}
 use Rattle.rt_edits.specs.declared.range.Range.{Range}
 use Rattle.rt_edits.specs.Deletions.{loss_in}
 use Rattle.rt_text.specs.Commands.{lost_in}
-use Rattle.rt_text.specs.Widgets.{Viewed, begin_of, text_shown}
+use Rattle.rt_text.specs.Widgets.{ViewValue, begin_of, text_shown}
 use Rattle.rt_undo.specs.declared.action.Kind.{Kind}
 use Rattle.rt_undo.specs.Actions.{Action, Removed}
 use Rattle.rt_undo.specs.Undo.{History, added, as_group, asks_separator, forced_on, recorded, separated}
-use Rattle.rt_editing.specs.Edited.{edited}
+use Rattle.rt_editing.specs.EditedValue.{edited}
 use Rattle.rt_editing.specs.Edits.{action_of, counts_between, has_changed, noted, noted_by, recorded_edit}
 use Rattle.rt_editing.specs.Noting.{IsOfLog, Keeps}
 use Rattle.rt_editing.proofs.Actions.{action_stays, places_stay}
@@ -66,18 +66,18 @@ noted_sound true true auto action h k sound = added_sound auto action h k sound
 noted_sound true false auto action h k sound = forced_sound h sound
 noted_sound false undo auto action h k sound = sound
 
-pub history_of : (view : Viewed) (recording : Recording) → IsSettled view recording → IsSoundHistory recording.history
+pub history_of : (view : ViewValue) (recording : Recording) → IsSettled view recording → IsSoundHistory recording.history
 history_of view recording settled = record { closed = settled.closed; current = settled.current; undone = settled.undone }
 
 -- SETTLED SITES
 
 -- who is gone stays so while the log grows
-pub stay_gone : (view new : Viewed) → IsOfLog view.doc → IsOfLog new.doc → Grows view.doc.log new.doc.log → (s : Stamp) → is_gone view.doc.cells s ≡ true → is_gone new.doc.cells s ≡ true
+pub stay_gone : (view new : ViewValue) → IsOfLog view.doc → IsOfLog new.doc → Grows view.doc.log new.doc.log → (s : Stamp) → is_gone view.doc.cells s ≡ true → is_gone new.doc.cells s ≡ true
 stay_gone view new kept same grows s h =
     ap (λ (cells : List TaggedCell). is_gone cells s) same.cells
     ∙ cells_stay_gone view.doc.log new.doc.log same.history grows s (sym (ap (λ (cells : List TaggedCell). is_gone cells s) kept.cells) ∙ h)
 
-pub settled_after : (view new : Viewed) (old next : Recording) → IsSettled view old → IsOfLog view.doc → IsOfLog new.doc → Grows view.doc.log new.doc.log
+pub settled_after : (view new : ViewValue) (old next : Recording) → IsSettled view old → IsOfLog view.doc → IsOfLog new.doc → Grows view.doc.log new.doc.log
     → ((s : Stamp) → came_back next s ≡ came_back old s) → IsSoundHistory next.history → AreGoneOnce new.doc.cells (all_taken next.history) → IsSettled new next
 settled_after view new old next settled kept same grows back sound once = record {
   gone = λ s h. stay_gone view new kept same grows s (settled.gone s (sym (back s) ∙ h));
@@ -92,7 +92,7 @@ keeps_itself old = record { history = refl; undo = refl; auto = refl; back = λ 
 
 -- AN EDIT THAT IS MADE
 
-module _ (kind : Kind) (lost : List TaggedCell) (view new : Viewed) (old mid next : Recording) (cells visible count site : ℕ)
+module _ (kind : Kind) (lost : List TaggedCell) (view new : ViewValue) (old mid next : Recording) (cells visible count site : ℕ)
     (same_cells : cells ≡ length view.doc.cells) (same_visible : visible ≡ length (text_of view.doc.cells)) (same_count : count ≡ view.doc.count) (same_site : site ≡ view.doc.site)
     (keeps : Keeps old mid)
     (history : next.history ≡ noted_by (has_changed cells visible new.doc) mid.undo mid.auto (made kind (counts_between site count new.doc.count) (map as_removed lost)) mid.history)
@@ -101,7 +101,7 @@ module _ (kind : Kind) (lost : List TaggedCell) (view new : Viewed) (old mid nex
   noted_history = history ∙ (λ i. noted_by (has_changed (same_cells i) (same_visible i) new.doc) (keeps.undo i) (keeps.auto i)
       (made kind (counts_between (same_site i) (same_count i) new.doc.count) (map as_removed lost)) (keeps.history i))
 
-  pub edit_done : (said : Result Viewed Fault) → said ≡ Ok new → recorded_edit kind lost (edited view old) said ≡ Ok (edited new next)
+  pub edit_done : (said : Result ViewValue Fault) → said ≡ Ok new → recorded_edit kind lost (edited view old) said ≡ Ok (edited new next)
   edit_done said e =
       ap (recorded_edit kind lost (edited view old)) e
       ∙ (λ i. Ok (record { view = new; history = sym noted_history i; undo = sym (settings.0 ∙ keeps.undo) i; auto = sym (settings.1 ∙ keeps.auto) i }))
@@ -120,7 +120,7 @@ module _ (kind : Kind) (lost : List TaggedCell) (view new : Viewed) (old mid nex
       (once_more view.doc.cells new.doc.cells (all_taken old.history) (map (λ (r : Removed (List Word)). r.stamp) (map as_removed lost)) (stay_gone view new kept same grows) settled.taken went)))
 
 -- who came back under another stamp is none of the edit's characters
-pub edit_stays : (kind : Kind) (view : Viewed) (old mid : Recording) (count site after : ℕ) (removed : List (Removed (List Word)))
+pub edit_stays : (kind : Kind) (view : ViewValue) (old mid : Recording) (count site after : ℕ) (removed : List (Removed (List Word)))
     → count ≡ view.doc.count → site ≡ view.doc.site → IsSettled view old → IsOfLog view.doc → Keeps old mid
     → AllByRecursion (λ (r : Removed (List Word)). came_back mid r.stamp ≡ false) removed → HasStayed (came_back mid) (made kind (counts_between site count after) removed)
 edit_stays kind view old mid count site after removed c s settled kept keeps h =
@@ -128,7 +128,7 @@ edit_stays kind view old mid count site after removed c s settled kept keeps h =
     action_stays view.doc kept (came_back mid) (λ t back. settled.gone t (sym (keeps.back t) ∙ back)) kind after removed h in
     subst (λ (x : _). x) (λ i. HasStayed (came_back mid) (made kind (counts_between (sym s i) (sym c i) after) removed)) stays
 
-pub lost_stay : (view : Viewed) (old mid : Recording) (ranges : List Range) → IsSettled view old → IsOfLog view.doc → Keeps old mid
+pub lost_stay : (view : ViewValue) (old mid : Recording) (ranges : List Range) → IsSettled view old → IsOfLog view.doc → Keeps old mid
     → AllByRecursion (λ (r : Removed (List Word)). came_back mid r.stamp ≡ false) (map as_removed (lost_in view ranges))
 lost_stay view old mid ranges settled kept keeps =
     places_stay view.doc kept (came_back mid) (λ t back. settled.gone t (sym (keeps.back t) ∙ back)) (loss_in (text_shown view) (begin_of view) ranges).places
@@ -136,14 +136,14 @@ lost_stay view old mid ranges settled kept keeps =
 -- WHAT IS ACCEPTED
 
 -- the flag may be forced, where it is of no action
-pub settled_forced : (view new : Viewed) (old next : Recording) → next ≡ record old { history = forced_on old.history } → IsSettled view old → IsOfLog view.doc → IsOfLog new.doc
+pub settled_forced : (view new : ViewValue) (old next : Recording) → next ≡ record old { history = forced_on old.history } → IsSettled view old → IsOfLog view.doc → IsOfLog new.doc
     → Grows view.doc.log new.doc.log → IsSettled new next
 settled_forced view new old next e settled kept same grows =
     subst (IsSettled new) (sym e)
     (settled_after view new old (record old { history = forced_on old.history }) settled kept same grows (λ s. refl) (forced_sound old.history (history_of view old settled))
     (once_grown view.doc.cells new.doc.cells (all_taken old.history) (stay_gone view new kept same grows) settled.taken))
 
-pub settled_same : (view new : Viewed) (old next : Recording) → next ≡ old → IsSettled view old → IsOfLog view.doc → IsOfLog new.doc → Grows view.doc.log new.doc.log → IsSettled new next
+pub settled_same : (view new : ViewValue) (old next : Recording) → next ≡ old → IsSettled view old → IsOfLog view.doc → IsOfLog new.doc → Grows view.doc.log new.doc.log → IsSettled new next
 settled_same view new old next e settled kept same grows =
     subst (IsSettled new) (sym e) (settled_after view new old old settled kept same grows (λ s. refl) (history_of view old settled)
     (once_grown view.doc.cells new.doc.cells (all_taken old.history) (stay_gone view new kept same grows) settled.taken))

@@ -14,7 +14,7 @@ use Rattle.rt_store.specs.Cells.{AreDistinct, cell_of, stamps_of}
 use Rattle.rt_store.specs.Shown.{TaggedCell}
 use Rattle.rt_rga.specs.Histories.{IsHistory}
 use Rattle.rt_edits.specs.DraftLaws.{IsDocument}
-use Rattle.rt_edits.specs.Flat.{Flat}
+use Rattle.rt_edits.specs.DocValue.{DocValue}
 use Rattle.rt_edits.specs.Removals.{cells_at}
 use Rattle.rt_undo.specs.Actions.{Action, Removed, with_stamp}
 use Rattle.rt_undo.specs.Undo.{History, as_group, but_last, last, redo_done, renamed_by, to_undo, undo_done, with_stamps_in}
@@ -276,11 +276,11 @@ taken_now f (action ∷ group) =
 
 -- after a group was reverted those are gone once that the group for the other stack takes away, and others that were, by the stamps
 -- that they have then; and just those came back that the group took away, in the order of reverting
-pub record IsOnce (flat : Flat) (group : List (Action (List Word))) (others : List Stamp) : Type 0 where
+pub record IsOnce (flat : DocValue) (group : List (Action (List Word))) (others : List Stamp) : Type 0 where
   pub once : AreGoneOnce (reversion flat group).doc.cells (map (stamp_after (reversion flat group).returns) others ++ taken_by (reverted_group flat group))
   pub formers : map (λ (r : Return). r.former) (reversion flat group).returns ≡ taken_by (reverse group)
 
-pub reversion_once : (site : ℕ) (log : List Operation) (flat : Flat) (group : List (Action (List Word))) (others : List Stamp) → 0 < site → IsHistory log
+pub reversion_once : (site : ℕ) (log : List Operation) (flat : DocValue) (group : List (Action (List Word))) (others : List Stamp) → 0 < site → IsHistory log
     → IsDocument site log flat → AreSound group → (reversion flat group).doc.count ≤ GREATEST_COUNT → AreGoneOnce flat.cells (taken_by group ++ others)
     → IsOnce flat group others
 reversion_once site log flat group others p h doc c l once =

@@ -16,7 +16,7 @@ use Rattle.rt_store.proofs.Distinct.{first_apart, others_distinct, split}
 use Rattle.rt_rga.proofs.Corollaries.{cells_distinct}
 use Rattle.rt_edits.specs.declared.range.Range.{Range}
 use Rattle.rt_edits.specs.Deletions.{Loss, loss_in, newline_of, without_places, without_text}
-use Rattle.rt_edits.specs.Flat.{Flat, left_of, put_after}
+use Rattle.rt_edits.specs.DocValue.{DocValue, left_of, put_after}
 use Rattle.rt_edits.specs.Insertions.{Piece, insertion_of, left_neighbour}
 use Rattle.rt_edits.specs.Removals.{cells_at, gone_at}
 use Rattle.rt_edits.specs.TagWrites.{bared, tag_write, tagged, with_tag}
@@ -25,7 +25,7 @@ use Rattle.rt_tags.specs.States.{names_on, written}
 use Rattle.rt_text.specs.Commands.{deleted, lost_in, none_inserted, replaced, right_behind, with_range_replaced, without_ranges}
 use Rattle.rt_text.specs.Index.{place_at_index}
 use Rattle.rt_text.specs.Ranges.{ranges_of}
-use Rattle.rt_text.specs.Widgets.{Viewed, begin_of, in_text, length_shown, shown_by, text_shown, widget_of}
+use Rattle.rt_text.specs.Widgets.{ViewValue, begin_of, in_text, length_shown, shown_by, text_shown, widget_of}
 use Rattle.rt_revert.specs.Reverting.{as_removed}
 use Rattle.rt_undo.specs.Actions.{Removed}
 use Rattle.rt_editing.specs.Edits.{lost_between, lost_from}
@@ -159,15 +159,15 @@ tagged_gone site count name on stamps (c ∷ cs) s =
     by true = refl
     by false = refl
 
-bared_gone : (flat : Flat) (stamp : Stamp) (names : List Word) (s : Stamp) → is_gone (bared flat stamp names).cells s ≡ is_gone flat.cells s
+bared_gone : (flat : DocValue) (stamp : Stamp) (names : List Word) (s : Stamp) → is_gone (bared flat stamp names).cells s ≡ is_gone flat.cells s
 bared_gone flat stamp [] s = refl
 bared_gone flat stamp (name ∷ names) s =
     bared_gone (with_tag flat name false (stamp ∷ [])) stamp names s ∙ tagged_gone flat.site flat.count name false (stamp ∷ []) flat.cells s
 
-text_gone : (flat : Flat) (loss : Loss) (s : Stamp) → is_gone (without_text flat loss).cells s ≡ is_gone (gone_at loss.places 0 flat.cells) s
+text_gone : (flat : DocValue) (loss : Loss) (s : Stamp) → is_gone (without_text flat loss).cells s ≡ is_gone (gone_at loss.places 0 flat.cells) s
 text_gone flat loss s = by (newline_of flat loss)
   where
-    left : Flat
+    left : DocValue
     left = without_places flat loss.places
 
     by : (o : Option TaggedCell) → is_gone (unwrap_or (option_map (λ (cell : TaggedCell). bared left cell.stamp (names_on cell.state)) o) left).cells s ≡ is_gone left.cells s
@@ -175,7 +175,7 @@ text_gone flat loss s = by (newline_of flat loss)
     by (Some cell) = bared_gone left cell.stamp (names_on cell.state) s
 
 -- what a deletion takes is gone
-without_gone : (view : Viewed) (ranges : List Range) → AreDistinct view.doc.cells
+without_gone : (view : ViewValue) (ranges : List Range) → AreDistinct view.doc.cells
     → HaveGone view.doc.cells (without_ranges view ranges).doc.cells (map (λ (r : Removed (List Word)). r.stamp) (map as_removed (lost_in view ranges)))
 without_gone view ranges d =
     let loss = loss_in (text_shown view) (begin_of view) ranges in
@@ -241,17 +241,17 @@ some_put cells left new s h =
 pub none_lost : (old new : List TaggedCell) → HaveGone old new []
 none_lost old new = λ s. omega arith
 
-distinct_of : (flat : Flat) → IsOfLog flat → AreDistinct flat.cells
+distinct_of : (flat : DocValue) → IsOfLog flat → AreDistinct flat.cells
 distinct_of flat kept = subst AreDistinct (sym kept.cells) (cells_distinct flat.log kept.history)
 
-pub deleted_gone : (view new : Viewed) (indices : List Word) → IsOfLog view.doc → deleted view indices ≡ Ok new
+pub deleted_gone : (view new : ViewValue) (indices : List Word) → IsOfLog view.doc → deleted view indices ≡ Ok new
     → HaveGone view.doc.cells new.doc.cells (map (λ (r : Removed (List Word)). r.stamp) (map as_removed (lost_between view indices)))
 deleted_gone view new indices kept h =
     let ranges = ranges_of (map (place_at_index (widget_of view)) indices) in
-    subst (λ (v : Viewed). HaveGone view.doc.cells v.doc.cells (map (λ (r : Removed (List Word)). r.stamp) (map as_removed (lost_between view indices))))
+    subst (λ (v : ViewValue). HaveGone view.doc.cells v.doc.cells (map (λ (r : Removed (List Word)). r.stamp) (map as_removed (lost_between view indices))))
     (given _ (without_ranges view ranges) new h) (without_gone view ranges (distinct_of view.doc kept))
 
-pub replaced_gone : (view new : Viewed) (from to : Word) (pieces : List Piece) (rest : Word) → IsOfLog view.doc → IsOfLog new.doc → replaced view from to pieces rest ≡ Ok new
+pub replaced_gone : (view new : ViewValue) (from to : Word) (pieces : List Piece) (rest : Word) → IsOfLog view.doc → IsOfLog new.doc → replaced view from to pieces rest ≡ Ok new
     → HaveGone view.doc.cells new.doc.cells (map (λ (r : Removed (List Word)). r.stamp) (map as_removed (lost_from view from to)))
 replaced_gone view new from to pieces rest kept same h =
     let range : Range = record { from = place_at_index (widget_of view) from; to = place_at_index (widget_of view) to } in
@@ -261,7 +261,7 @@ replaced_gone view new from to pieces rest kept same h =
     let at = in_text left place in
     let behind = left_of left.doc.cells at in
     let put = insertion_of left.doc.site (left_neighbour (shown_by left) place) (right_behind left place pieces) pieces rest (none_inserted left) in
-    let cells : put_after left.doc.cells behind put.cells ≡ new.doc.cells = ap (λ (v : Viewed). v.doc.cells) is in
+    let cells : put_after left.doc.cells behind put.cells ≡ new.doc.cells = ap (λ (v : ViewValue). v.doc.cells) is in
     have_gone_on view.doc.cells left.doc.cells new.doc.cells (map (λ (r : Removed (List Word)). r.stamp) (map as_removed (lost_from view from to)))
     (λ s e. some_is new.doc.cells s (distinct_of new.doc same)
     (ap (λ (l : List TaggedCell). some_gone l s) (sym cells) ∙ some_put left.doc.cells behind put.cells s (gone_some left.doc.cells s e)))

@@ -22,14 +22,14 @@ use Rattle.rt_rga.specs.Histories.{IsHistory}
 use Rattle.rt_rga.specs.Texts.{TaggedCharacter, tagged_text}
 use Rattle.rt_rga.proofs.Skipping.{split}
 use Rattle.rt_edits.specs.DraftLaws.{IsDocument}
-use Rattle.rt_edits.specs.Flat.{Flat, left_of, put_after}
+use Rattle.rt_edits.specs.DocValue.{DocValue, left_of, put_after}
 use Rattle.rt_edits.specs.Insertions.{Insertion, Piece, cells_of_inserts, counts_for, further_tags, insertion_of, inserts_for, last_of, left_neighbour, new_state, shared_names, tagged_cells, tags_between, with_listed, with_pieces, with_unlisted}
 use Rattle.rt_edits.specs.Removals.{gone_at}
 use Rattle.rt_undo.specs.declared.action.Kind.TheVariants.{Insert}
 use Rattle.rt_undo.specs.Actions.{Action}
 use Rattle.rt_revert.specs.Reverting.{are_at, as_it_is, reverted, stamp_after, with_each_reverted, with_gone, with_returns}
 use Rattle.rt_text.specs.Commands.{none_inserted, right_behind, with_pieces_at}
-use Rattle.rt_text.specs.Widgets.{Viewed, in_text, shown_by}
+use Rattle.rt_text.specs.Widgets.{ViewValue, in_text, shown_by}
 use Rattle.rt_editing.specs.Edits.{action_of, counts_between}
 use Rattle.rt_editing.proofs.TakenBack.{counts_apart}
 
@@ -221,7 +221,7 @@ pub one_reversed : {X : Type 0} (x : X) → reverse (x ∷ []) ≡ x ∷ []
 one_reversed x = reverse-cons x []
 
 -- after an action was reverted that took nothing away, the text is that of the cells that it has not put in
-text_reverted : (flat : Flat) (action : Action (List Word)) → action.removed ≡ [] → tagged_text (reverted flat (action ∷ [])).cells ≡ tagged_text (beside action.inserted flat.cells)
+text_reverted : (flat : DocValue) (action : Action (List Word)) → action.removed ≡ [] → tagged_text (reverted flat (action ∷ [])).cells ≡ tagged_text (beside action.inserted flat.cells)
 text_reverted flat action none =
     let r = as_it_is flat in
     let stamps = map (stamp_after []) action.inserted in
@@ -231,7 +231,7 @@ text_reverted flat action none =
     ∙ text_beside action.inserted (are_at action.inserted flat.cells) 0 flat.cells (λ k. ap (are_at action.inserted flat.cells) (omega arith))
 
 -- an insertion that is undone at once leaves the text as it was
-pub insertion_back : (site : ℕ) (log : List Operation) (view : Viewed) (place : ℕ) (pieces : List Piece) (rest : Word) → 0 < site → IsHistory log → IsDocument site log view.doc
+pub insertion_back : (site : ℕ) (log : List Operation) (view : ViewValue) (place : ℕ) (pieces : List Piece) (rest : Word) → 0 < site → IsHistory log → IsDocument site log view.doc
     → let new = (with_pieces_at view place pieces rest).doc in
     tagged_text (reverted new (action_of Insert view.doc new [] ∷ [])).cells ≡ tagged_text view.doc.cells
 insertion_back site log view place pieces rest p h doc =

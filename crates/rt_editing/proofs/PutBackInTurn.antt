@@ -17,7 +17,7 @@ use Rattle.rt_rga.specs.Histories.{IsHistory}
 use Rattle.rt_rga.specs.Texts.{tagged_text}
 use Rattle.rt_rga.proofs.Skipping.{split}
 use Rattle.rt_edits.specs.DraftLaws.{IsDocument}
-use Rattle.rt_edits.specs.Flat.{left_of}
+use Rattle.rt_edits.specs.DocValue.{left_of}
 use Rattle.rt_edits.specs.Insertions.{Insertion, insertion_of, left_neighbour}
 use Rattle.rt_edits.specs.Removals.{gone_at}
 use Rattle.rt_edits.proofs.CellLaws.{known_put}
@@ -25,7 +25,7 @@ use Rattle.rt_undo.specs.declared.action.Kind.TheVariants.{Insert}
 use Rattle.rt_undo.specs.Actions.{Action}
 use Rattle.rt_revert.specs.Reverting.{Reversion, are_at, as_it_is, stamp_after, reverted, with_each_reverted, with_gone, with_returns, with_reverted}
 use Rattle.rt_text.specs.Commands.{none_inserted, right_behind}
-use Rattle.rt_text.specs.Widgets.{Viewed, in_text, shown_by}
+use Rattle.rt_text.specs.Widgets.{ViewValue, in_text, shown_by}
 use Rattle.rt_editing.specs.EditLaws.{Put, after_put, after_puts, put_actions}
 use Rattle.rt_editing.specs.Edits.{action_of, counts_between}
 use Rattle.rt_editing.proofs.PutBack.{AreBetween, IsNew, all_beside, beside, beside_put, new_insertion, none_beside, tagged_as}
@@ -90,7 +90,7 @@ one_more (first ∷ actions) action so_far = one_more actions action (with_rever
 -- ONE INSERTION
 
 -- no cell is newer than a document's greatest count, and its site is no 0
-record IsNewest (view : Viewed) : Type 0 where
+record IsNewest (view : ViewValue) : Type 0 where
   pub site : 1 ≤ view.doc.site
   pub below : AreBelowNext view.doc.count view.doc.cells
 
@@ -103,8 +103,8 @@ between_below : (site low high : ℕ) (cells : List TaggedCell) → AreBetween s
 between_below site low high [] h = tt
 between_below site low high (c ∷ cs) h = ((omega (arith, h.0.within), λ e. absurd (omega (arith, h.0.within, e))), between_below site low high cs h.1)
 
-module _ (view : Viewed) (put : Put) where
-  abbrev new : Viewed
+module _ (view : ViewValue) (put : Put) where
+  abbrev new : ViewValue
   new = after_put view put
 
   abbrev inserted : Insertion
@@ -142,12 +142,12 @@ module _ (view : Viewed) (put : Put) where
 -- ALL OF THEM
 
 -- reverting has come back to a document: what is visible is what was, and nothing was taken away that would have come back
-record IsBack (view : Viewed) (so_far : Reversion) : Type 0 where
+record IsBack (view : ViewValue) (so_far : Reversion) : Type 0 where
   pub shown : visible_of so_far.doc.cells ≡ visible_of view.doc.cells
   pub returns : so_far.returns ≡ []
 
 -- so it is once the actions of all insertions are reverted, from the last to the first
-each_back : (view : Viewed) (puts : List Put) → IsNewest view → IsBack view (with_each_reverted (reverse (put_actions view puts)) (as_it_is (after_puts view puts).doc))
+each_back : (view : ViewValue) (puts : List Put) → IsNewest view → IsBack view (with_each_reverted (reverse (put_actions view puts)) (as_it_is (after_puts view puts).doc))
 each_back view [] h = record { shown = refl; returns = refl }
 each_back view (put ∷ puts) h =
     let next = new view put in
@@ -168,7 +168,7 @@ each_back view (put ∷ puts) h =
     })
 
 -- insertions one after the other, undone at once as one group, leave the text as it was
-pub insertions_back : (site : ℕ) (log : List Operation) (view : Viewed) (puts : List Put) → 0 < site → IsHistory log → IsDocument site log view.doc
+pub insertions_back : (site : ℕ) (log : List Operation) (view : ViewValue) (puts : List Put) → 0 < site → IsHistory log → IsDocument site log view.doc
     → tagged_text (reverted (after_puts view puts).doc (put_actions view puts)).cells ≡ tagged_text view.doc.cells
 insertions_back site log view puts p h doc =
     ap (map tagged_as) (each_back view puts (record { site = omega (arith, doc.site, p); below = document_below site log view.doc h doc })).shown

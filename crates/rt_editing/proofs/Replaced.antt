@@ -24,7 +24,7 @@ use Rattle.rt_rga.proofs.Skipping.{split}
 use Rattle.rt_edits.specs.declared.range.Range.{Range}
 use Rattle.rt_edits.specs.Deletions.{loss_in, newline_of, without_places}
 use Rattle.rt_edits.specs.DraftLaws.{IsDocument}
-use Rattle.rt_edits.specs.Flat.{Flat, left_of, put_after}
+use Rattle.rt_edits.specs.DocValue.{DocValue, left_of, put_after}
 use Rattle.rt_edits.specs.Insertions.{Piece, insertion_of, left_neighbour, new_state}
 use Rattle.rt_edits.specs.Removals.{cells_at, gone_at}
 use Rattle.rt_edits.specs.TagWrites.{bared}
@@ -38,7 +38,7 @@ use Rattle.rt_undo.specs.Renames.{replaced}
 use Rattle.rt_revert.specs.Reverting.{Reversion, are_at, as_it_is, as_removed, gone_cell_of, reverted, stamp_after, with_character, with_each_reverted, with_gone, with_return, with_returns}
 use Rattle.rt_revert.proofs.TakenBack.{stamp_after_more}
 use Rattle.rt_text.specs.Commands.{lost_in, none_inserted, right_behind, with_pieces_at, with_range_replaced, without_ranges}
-use Rattle.rt_text.specs.Widgets.{Viewed, begin_of, in_text, length_shown, shown_by, text_shown}
+use Rattle.rt_text.specs.Widgets.{ViewValue, begin_of, in_text, length_shown, shown_by, text_shown}
 use Rattle.rt_editing.specs.EditLaws.{tags_lost}
 use Rattle.rt_editing.specs.Edits.{action_of, counts_between}
 use Rattle.rt_editing.proofs.PutBack.{AreBetween, IsNew, all_beside, beside, beside_put, between_wider, new_insertion, none_beside, one_reversed, tagged_as}
@@ -295,14 +295,14 @@ back stamps places (x ∷ xs) (c ∷ cs) p pre r h =
 -- UNDONE
 
 -- a document that lacks the characters at some places of another one
-record Lacks (places : ℕ → Bool) (flat less : Flat) : Type 0 where
+record Lacks (places : ℕ → Bool) (flat less : DocValue) : Type 0 where
   pub cells : less.cells ≡ gone_at places 0 flat.cells
   pub site : less.site ≡ flat.site
   pub count : flat.count ≤ less.count
 
 -- An edit took away the characters at some places, and put in others whose stamps have counts of its own. It is undone: the text is as
 -- it was.
-edit_back : (site : ℕ) (log : List Operation) (flat : Flat) (places : ℕ → Bool) (kind : Kind) (new : Flat) → 0 < site → IsHistory log → IsDocument site log flat
+edit_back : (site : ℕ) (log : List Operation) (flat : DocValue) (places : ℕ → Bool) (kind : Kind) (new : DocValue) → 0 < site → IsHistory log → IsDocument site log flat
     → new.site ≡ flat.site → flat.count ≤ new.count
     → beside (stamps_of_span (counts_between flat.site flat.count new.count)) new.cells ≡ gone_at places 0 flat.cells
     → tagged_text (reverted new (action_of kind flat new (cells_at places 0 flat.cells) ∷ [])).cells ≡ tagged_text flat.cells
@@ -332,14 +332,14 @@ edit_back site log flat places kind new p h doc same later old =
     ∙ back stamps places start.doc.cells flat.cells 0 [] start part
 
 -- what a document has that lacks some characters is apart from the counts of an edit
-less_apart : (site : ℕ) (log : List Operation) (flat less : Flat) (places : ℕ → Bool) (after : ℕ) → 0 < site → IsHistory log → IsDocument site log flat → Lacks places flat less
+less_apart : (site : ℕ) (log : List Operation) (flat less : DocValue) (places : ℕ → Bool) (after : ℕ) → 0 < site → IsHistory log → IsDocument site log flat → Lacks places flat less
     → HaveNone (stamps_of_span (counts_between flat.site flat.count after)) less.cells
 less_apart site log flat less places after p h doc lacks =
     subst (HaveNone (stamps_of_span (counts_between flat.site flat.count after))) (sym lacks.cells) (λ s k.
     counts_apart site log flat after p h doc s (subst (λ (l : List Stamp). is_among l s ≡ true) (stamps_gone places 0 flat.cells) k))
 
 -- characters are taken away, and that is undone
-removed_back : (site : ℕ) (log : List Operation) (flat : Flat) (places : ℕ → Bool) (less : Flat) → 0 < site → IsHistory log → IsDocument site log flat → Lacks places flat less
+removed_back : (site : ℕ) (log : List Operation) (flat : DocValue) (places : ℕ → Bool) (less : DocValue) → 0 < site → IsHistory log → IsDocument site log flat → Lacks places flat less
     → tagged_text (reverted less (action_of Delete flat less (cells_at places 0 flat.cells) ∷ [])).cells ≡ tagged_text flat.cells
 removed_back site log flat places less p h doc lacks =
     let stamps = stamps_of_span (counts_between flat.site flat.count less.count) in
@@ -347,7 +347,7 @@ removed_back site log flat places less p h doc lacks =
     (all_beside stamps less.cells (less_apart site log flat less places less.count p h doc lacks) ∙ lacks.cells)
 
 -- text is inserted into such a document, and that is undone together with the removal
-replaced_back : (site : ℕ) (log : List Operation) (flat : Flat) (places : ℕ → Bool) (view : Viewed) (place : ℕ) (pieces : List Piece) (rest : Word) → 0 < site → IsHistory log
+replaced_back : (site : ℕ) (log : List Operation) (flat : DocValue) (places : ℕ → Bool) (view : ViewValue) (place : ℕ) (pieces : List Piece) (rest : Word) → 0 < site → IsHistory log
     → IsDocument site log flat → Lacks places flat view.doc
     → let new = (with_pieces_at view place pieces rest).doc in
     tagged_text (reverted new (action_of Replace flat new (cells_at places 0 flat.cells) ∷ [])).cells ≡ tagged_text flat.cells
@@ -369,27 +369,27 @@ replaced_back site log flat places view place pieces rest p h doc lacks =
     ∙ lacks.cells)
 
 -- where a deletion takes no tags off the newline that stays, it does no more than to take characters away
-only_places : (flat : Flat) (places : ℕ → Bool) (newline : Option TaggedCell) → unwrap_or (option_map (λ (cell : TaggedCell). names_on cell.state) newline) [] ≡ []
+only_places : (flat : DocValue) (places : ℕ → Bool) (newline : Option TaggedCell) → unwrap_or (option_map (λ (cell : TaggedCell). names_on cell.state) newline) [] ≡ []
     → let left = without_places flat places in
     unwrap_or (option_map (λ (cell : TaggedCell). bared left cell.stamp (names_on cell.state)) newline) left ≡ left
 only_places flat places None e = refl
 only_places flat places (Some cell) e = ap (bared (without_places flat places) cell.stamp) e
 
 -- ranges are deleted, with no tags taken off the newline that stays: the document lacks the characters at their places
-lacks_ranges : (view : Viewed) (ranges : List Range) → tags_lost view ranges ≡ []
+lacks_ranges : (view : ViewValue) (ranges : List Range) → tags_lost view ranges ≡ []
     → Lacks (loss_in (text_shown view) (begin_of view) ranges).places view.doc (without_ranges view ranges).doc
 lacks_ranges view ranges none =
     let flat = view.doc in
     let loss = loss_in (text_shown view) (begin_of view) ranges in
     let less = only_places flat loss.places (newline_of flat loss) none in
     record {
-      cells = ap (λ (d : Flat). d.cells) less;
-      site = ap (λ (d : Flat). d.site) less;
-      count = subst (λ (d : Flat). flat.count ≤ d.count) (sym less) (omega arith);
+      cells = ap (λ (d : DocValue). d.cells) less;
+      site = ap (λ (d : DocValue). d.site) less;
+      count = subst (λ (d : DocValue). flat.count ≤ d.count) (sym less) (omega arith);
     }
 
 -- a deletion that is undone at once leaves the text as it was
-pub deletion_back : (site : ℕ) (log : List Operation) (view : Viewed) (ranges : List Range) → 0 < site → IsHistory log
+pub deletion_back : (site : ℕ) (log : List Operation) (view : ViewValue) (ranges : List Range) → 0 < site → IsHistory log
     → IsDocument site log view.doc → tags_lost view ranges ≡ []
     → let new = (without_ranges view ranges).doc in
     tagged_text (reverted new (action_of Delete view.doc new (lost_in view ranges) ∷ [])).cells ≡ tagged_text view.doc.cells
@@ -397,7 +397,7 @@ deletion_back site log view ranges p h doc none =
     removed_back site log view.doc (loss_in (text_shown view) (begin_of view) ranges).places (without_ranges view ranges).doc p h doc (lacks_ranges view ranges none)
 
 -- a replacement that is undone at once leaves the text as it was
-pub replacement_back : (site : ℕ) (log : List Operation) (view : Viewed) (range : Range) (pieces : List Piece) (rest : Word) → 0 < site → IsHistory log
+pub replacement_back : (site : ℕ) (log : List Operation) (view : ViewValue) (range : Range) (pieces : List Piece) (rest : Word) → 0 < site → IsHistory log
     → IsDocument site log view.doc → tags_lost view (range ∷ []) ≡ []
     → let new = (with_range_replaced view range pieces rest).doc in
     tagged_text (reverted new (action_of Replace view.doc new (lost_in view (range ∷ [])) ∷ [])).cells ≡ tagged_text view.doc.cells

@@ -7,7 +7,7 @@ use Rattle.rt_stamps.specs.Words.{Word}
 use Rattle.rt_tags.proofs.Sorted.{every_append}
 use Rattle.rt_rga.specs.Cells.{cells_of}
 use Rattle.rt_rga.specs.Histories.{IsHistory, greatest_last_count}
-use Rattle.rt_edits.specs.Flat.{Flat}
+use Rattle.rt_edits.specs.DocValue.{DocValue}
 use Rattle.rt_undo.specs.Actions.{Action}
 use Rattle.rt_undo.specs.Undo.{History, as_group, redo_done, renamed_by, to_undo, undo_done, with_stamps_in}
 use Rattle.rt_revert.specs.Reverting.{reversion, reverted, reverted_group}
@@ -24,7 +24,7 @@ use Rattle.rt_editing.proofs.Told.{IsReturned, reversion_told}
 -- WHERE THE COUNTS FIT
 
 -- a document of a history, by which none of those who came back is visible, and a group of those who stayed
-pub told : (flat : Flat) (group : List (Action (List Word))) (back : Stamp → Bool) (number : ℕ) → 0 < number → number ≡ flat.site → IsHistory flat.log
+pub told : (flat : DocValue) (group : List (Action (List Word))) (back : Stamp → Bool) (number : ℕ) → 0 < number → number ≡ flat.site → IsHistory flat.log
     → flat.cells ≡ cells_of flat.log → flat.count ≡ greatest_last_count flat.log → AreSound group → ((s : Stamp) → back s ≡ true → is_gone flat.cells s ≡ true)
     → HaveStayed back group → reversion_check flat group ≡ None → IsReturned back flat group
 told flat group back number p site history cells count sound gone stay checked =
@@ -32,7 +32,7 @@ told flat group back number p site history cells count sound gone stay checked =
     reversion_told flat.site flat.log flat group back positive history (record { cells = cells; site = refl; count = count }) sound (fits flat group checked) gone stay
 
 -- and who was taken away is gone once, by the stamps of then
-pub once_told : (flat : Flat) (group : List (Action (List Word))) (others : List Stamp) (number : ℕ) → 0 < number → number ≡ flat.site → IsHistory flat.log
+pub once_told : (flat : DocValue) (group : List (Action (List Word))) (others : List Stamp) (number : ℕ) → 0 < number → number ≡ flat.site → IsHistory flat.log
     → flat.cells ≡ cells_of flat.log → flat.count ≡ greatest_last_count flat.log → AreSound group → reversion_check flat group ≡ None → AreGoneOnce flat.cells (taken_by group ++ others)
     → AreGoneOnce (reversion flat group).doc.cells (map (stamp_after (reversion flat group).returns) others ++ taken_by (reverted_group flat group))
 once_told flat group others number p site history cells count sound checked once =

@@ -14,7 +14,7 @@ use Rattle.rt_rga.proofs.Corollaries.{cells_older}
 use Rattle.rt_rga.proofs.Skipping.{split}
 use Rattle.rt_edits.specs.Deletions.{without_places}
 use Rattle.rt_edits.specs.DraftLaws.{IsDocument}
-use Rattle.rt_edits.specs.Flat.{Flat}
+use Rattle.rt_edits.specs.DocValue.{DocValue}
 use Rattle.rt_edits.specs.Removals.{cells_at}
 use Rattle.rt_undo.specs.declared.action.Kind.TheVariants.{Delete}
 use Rattle.rt_revert.specs.Reverting.{reverted}
@@ -23,7 +23,7 @@ use Rattle.rt_editing.specs.Edits.{action_of, counts_between}
 use Rattle.rt_editing.proofs.Actions.{counts_all, none_among}
 
 -- where no cell is newer than the greatest count, none has one of the counts that an edit takes
-pub below_apart : (flat : Flat) (after : ℕ) → 1 ≤ flat.site → AreBelowNext flat.count flat.cells → (s : Stamp) → is_among (stamps_of flat.cells) s ≡ true
+pub below_apart : (flat : DocValue) (after : ℕ) → 1 ≤ flat.site → AreBelowNext flat.count flat.cells → (s : Stamp) → is_among (stamps_of flat.cells) s ≡ true
     → is_among (stamps_of_span (counts_between flat.site flat.count after)) s ≡ false
 below_apart flat after real below s there =
     none_among s (stamps_of_span (counts_between flat.site flat.count after))
@@ -36,10 +36,10 @@ below_apart flat after real below s there =
     (λ e. e)))
 
 -- no cell of a document is
-pub document_below : (site : ℕ) (log : List Operation) (flat : Flat) → IsHistory log → IsDocument site log flat → AreBelowNext flat.count flat.cells
+pub document_below : (site : ℕ) (log : List Operation) (flat : DocValue) → IsHistory log → IsDocument site log flat → AreBelowNext flat.count flat.cells
 document_below site log flat h doc = subst (λ (q : _). q) (λ i. AreBelowNext (sym doc.count i) (sym doc.cells i)) (cells_older log h)
 
 -- no character that was there has one of the counts that an edit takes
-pub counts_apart : (site : ℕ) (log : List Operation) (flat : Flat) (after : ℕ) → 0 < site → IsHistory log → IsDocument site log flat → (s : Stamp)
+pub counts_apart : (site : ℕ) (log : List Operation) (flat : DocValue) (after : ℕ) → 0 < site → IsHistory log → IsDocument site log flat → (s : Stamp)
     → is_among (stamps_of flat.cells) s ≡ true → is_among (stamps_of_span (counts_between flat.site flat.count after)) s ≡ false
 counts_apart site log flat after p h doc = below_apart flat after (omega (arith, doc.site, p)) (document_below site log flat h doc)

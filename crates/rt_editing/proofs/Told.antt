@@ -21,7 +21,7 @@ use Rattle.rt_rga.specs.Drafts.{with_drafts}
 use Rattle.rt_rga.specs.Histories.{IsHistory, has_character}
 use Rattle.rt_rga.proofs.Corollaries.{cells_distinct, cells_have, character_count}
 use Rattle.rt_edits.specs.DraftLaws.{IsDocument}
-use Rattle.rt_edits.specs.Flat.{Flat}
+use Rattle.rt_edits.specs.DocValue.{DocValue}
 use Rattle.rt_edits.specs.Insertions.{new_state}
 use Rattle.rt_undo.specs.Actions.{Action, Removed, with_stamp, with_stamps}
 use Rattle.rt_undo.specs.Undo.{with_stamps_in}
@@ -263,13 +263,13 @@ group_now back f (action ∷ group) h = (action_now back f action h.0, group_now
 -- GROUPS
 
 -- what a group's reversion tells
-pub record IsReturned (back : Stamp → Bool) (flat : Flat) (group : List (Action (List Word))) : Type 0 where
+pub record IsReturned (back : Stamp → Bool) (flat : DocValue) (group : List (Action (List Word))) : Type 0 where
   pub returns : AreReturns back (reversion flat group).returns
   pub others : AllByRecursion IsApart (reversion flat group).returns
   pub stay : HaveStayed (back_after (reversion flat group).returns back) (reverted_group flat group)
   pub gone : (s : Stamp) → back_after (reversion flat group).returns back s ≡ true → is_gone (reversion flat group).doc.cells s ≡ true
 
-pub reversion_told : (site : ℕ) (log : List Operation) (flat : Flat) (group : List (Action (List Word))) (back : Stamp → Bool) → 0 < site → IsHistory log
+pub reversion_told : (site : ℕ) (log : List Operation) (flat : DocValue) (group : List (Action (List Word))) (back : Stamp → Bool) → 0 < site → IsHistory log
     → IsDocument site log flat → AreSound group → (reversion flat group).doc.count ≤ GREATEST_COUNT → ((s : Stamp) → back s ≡ true → is_gone flat.cells s ≡ true)
     → HaveStayed back group → IsReturned back flat group
 reversion_told site log flat group back p h doc c l g st =

@@ -9,19 +9,19 @@ use Rattle.rt_rga.specs.Texts.{tagged_text}
 use Rattle.rt_edits.specs.declared.range.Range.{Range}
 use Rattle.rt_edits.specs.Deletions.{loss_in, newline_of}
 use Rattle.rt_edits.specs.DraftLaws.{IsDocument}
-use Rattle.rt_edits.specs.Flat.{Flat}
+use Rattle.rt_edits.specs.DocValue.{DocValue}
 use Rattle.rt_edits.specs.Insertions.{Piece}
 use Rattle.rt_undo.specs.Actions.{Action}
 use Rattle.rt_undo.specs.declared.action.Kind.TheVariants.{Delete, Insert, Replace}
 use Rattle.rt_revert.specs.Reverting.{reversion, reverted}
 use Rattle.rt_revert.specs.ReversionLaws.{AreSound}
 use Rattle.rt_text.specs.Commands.{lost_in, with_pieces_at, with_range_replaced, without_ranges}
-use Rattle.rt_text.specs.Widgets.{Viewed, begin_of, text_shown}
+use Rattle.rt_text.specs.Widgets.{ViewValue, begin_of, text_shown}
 use Rattle.rt_editing.specs.Edits.{action_of}
 use Rattle.rt_editing.specs.Settled.{AreGoneOnce, taken_by}
 
 -- the tags that a deletion takes off the last newline that the widget shows, which stays
-abbrev pub tags_lost : Viewed → List Range → List Word
+abbrev pub tags_lost : ViewValue → List Range → List Word
 tags_lost view ranges =
     let loss = loss_in (text_shown view) (begin_of view) ranges in unwrap_or (option_map (λ cell. names_on cell.state) (newline_of view.doc loss)) []
 
@@ -29,7 +29,7 @@ tags_lost view ranges =
 -- character with its tags. It is said of deletions that take no tags off the last newline.
 abbrev pub DeletionIsTakenBack : Type 0
 DeletionIsTakenBack =
-    (site : ℕ) (log : List Operation) (view : Viewed) (ranges : List Range) → 0 < site → IsHistory log
+    (site : ℕ) (log : List Operation) (view : ViewValue) (ranges : List Range) → 0 < site → IsHistory log
     → IsDocument site log view.doc → tags_lost view ranges ≡ []
     → let new = (without_ranges view ranges).doc in
     tagged_text (reverted new (action_of Delete view.doc new (lost_in view ranges) ∷ [])).cells ≡ tagged_text view.doc.cells
@@ -41,16 +41,16 @@ pub record Put : Type 0 where
   pub rest : Word
 
 -- a text once it is inserted; and once several are, one after the other, each into what the one before it has left
-abbrev pub after_put : Viewed → Put → Viewed
+abbrev pub after_put : ViewValue → Put → ViewValue
 after_put view put = with_pieces_at view put.place put.pieces put.rest
 
-abbrev pub after_puts : Viewed → List Put → Viewed
+abbrev pub after_puts : ViewValue → List Put → ViewValue
 after_puts view [] = view
 after_puts view (put ∷ puts) = after_puts (after_put view put) puts
 
 -- the actions that `insert` records of them, the oldest first, as a group of the undo stack has them; for an insertion of no
 -- characters, of which nothing is recorded, one that put none in
-abbrev pub put_actions : Viewed → List Put → List (Action (List Word))
+abbrev pub put_actions : ViewValue → List Put → List (Action (List Word))
 put_actions view [] = []
 put_actions view (put ∷ puts) = let new = after_put view put in action_of Insert view.doc new.doc [] ∷ put_actions new puts
 
@@ -58,14 +58,14 @@ put_actions view (put ∷ puts) = let new = after_put view put in action_of Inse
 -- at once, as one group: the text is again what it was, each character with its tags.
 abbrev pub InsertedTextsAreTakenBack : Type 0
 InsertedTextsAreTakenBack =
-    (site : ℕ) (log : List Operation) (view : Viewed) (puts : List Put) → 0 < site → IsHistory log → IsDocument site log view.doc
+    (site : ℕ) (log : List Operation) (view : ViewValue) (puts : List Put) → 0 < site → IsHistory log → IsDocument site log view.doc
     → tagged_text (reverted (after_puts view puts).doc (put_actions view puts)).cells ≡ tagged_text view.doc.cells
 
 -- Characters are removed and text is inserted in their stead, with the one action that `replace` records of it, and this is undone at
 -- once: the text is again what it was, each character with its tags. It is said of replacements that take no tags off the last newline.
 abbrev pub ReplacementIsTakenBack : Type 0
 ReplacementIsTakenBack =
-    (site : ℕ) (log : List Operation) (view : Viewed) (range : Range) (pieces : List Piece) (rest : Word) → 0 < site → IsHistory log
+    (site : ℕ) (log : List Operation) (view : ViewValue) (range : Range) (pieces : List Piece) (rest : Word) → 0 < site → IsHistory log
     → IsDocument site log view.doc → tags_lost view (range ∷ []) ≡ []
     → let new = (with_range_replaced view range pieces rest).doc in
     tagged_text (reverted new (action_of Replace view.doc new (lost_in view (range ∷ [])) ∷ [])).cells ≡ tagged_text view.doc.cells
@@ -74,6 +74,6 @@ ReplacementIsTakenBack =
 -- reverted. They are told by their former stamps, in the order of reverting.
 abbrev pub AllComeBack : Type 0
 AllComeBack =
-    (site : ℕ) (log : List Operation) (flat : Flat) (group : List (Action (List Word))) → 0 < site → IsHistory log → IsDocument site log flat
+    (site : ℕ) (log : List Operation) (flat : DocValue) (group : List (Action (List Word))) → 0 < site → IsHistory log → IsDocument site log flat
     → AreSound group → (reversion flat group).doc.count ≤ GREATEST_COUNT → AreGoneOnce flat.cells (taken_by group)
     → map (λ r. r.former) (reversion flat group).returns ≡ taken_by (reverse group)

@@ -1,5 +1,5 @@
 pub mod EditLaws
-pub mod Edited
+pub mod EditedValue
 pub mod Edits
 pub mod Naming
 pub mod Noting

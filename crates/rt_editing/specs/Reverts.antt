@@ -3,19 +3,19 @@ use Rattle.std.specs.Prelude.{List, Result, Ok, Err, if◌then◌else◌}
 use Rattle.rt_stamps.specs.declared.fault.Fault.{Fault}
 use Rattle.rt_stamps.specs.Words.{Word}
 use Rattle.rt_editing.specs.Reversals.{redone, undone}
-use Rattle.rt_text.specs.Widgets.{Viewed}
+use Rattle.rt_text.specs.Widgets.{ViewValue}
 use Rattle.rt_undo.specs.Undo.{History}
-use Rattle.rt_editing.specs.Edited.{Edited}
+use Rattle.rt_editing.specs.EditedValue.{EditedValue}
 
 -- a text after another view and history
-abbrev pub with_history : Edited → Result (Viewed × History (List Word)) Fault → Result Edited Fault
+abbrev pub with_history : EditedValue → Result (ViewValue × History (List Word)) Fault → Result EditedValue Fault
 with_history text (Ok left) = Ok (record text { view = left.0; history = left.1 })
 with_history text (Err fault) = Err fault
 
 -- `edit undo`
-abbrev pub text_undone : Edited → Result Edited Fault
+abbrev pub text_undone : EditedValue → Result EditedValue Fault
 text_undone text = if text.undo then with_history text (undone text.view text.history) else Ok text
 
 -- `edit redo`
-abbrev pub text_redone : Edited → Result Edited Fault
+abbrev pub text_redone : EditedValue → Result EditedValue Fault
 text_redone text = if text.undo then with_history text (redone text.view text.history) else Ok text

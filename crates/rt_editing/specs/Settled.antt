@@ -9,7 +9,7 @@ use Rattle.rt_undo.specs.Actions.{Action}
 use Rattle.rt_undo.specs.Undo.{History}
 use Rattle.rt_revert.specs.ReversionLaws.{AreSound}
 use Rattle.rt_editing.specs.Recordings.{Recording, came_back}
-use Rattle.rt_text.specs.Widgets.{Viewed}
+use Rattle.rt_text.specs.Widgets.{ViewValue}
 pub use Rattle.rt_views.specs.Limits.{is_gone}
 
 -- the stamps of the characters that actions took away; and those of both stacks
@@ -29,7 +29,7 @@ AreGoneOnce cells stamps = (stamp : Stamp) → times stamp stamps ≤ (if is_gon
 
 -- Who came back under another stamp is gone: it is another character since. Who was taken away is gone, and no other action took it
 -- away. Each action of the history may be reverted: it names no final newline, and its tags are names as operations list them.
-pub record IsSettled (view : Viewed) (recording : Recording) : Type 0 where
+pub record IsSettled (view : ViewValue) (recording : Recording) : Type 0 where
   pub gone : (stamp : Stamp) → came_back recording stamp ≡ true → is_gone view.doc.cells stamp ≡ true
   pub taken : AreGoneOnce view.doc.cells (all_taken recording.history)
   pub closed : AllByRecursion AreSound recording.history.closed

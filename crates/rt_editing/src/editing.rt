@@ -6,7 +6,7 @@ ghost use Rattle.rt_rga.specs.Answers.{New};
 ghost use Rattle.rt_rga.specs.Taken.{IsChange};
 ghost use Rattle.rt_editing.specs.Settled.{IsSettled};
 ghost use Rattle.rt_text.specs.Accepted.{answer_of};
-ghost use Rattle.rt_editing.specs.Edited.{edited};
+ghost use Rattle.rt_editing.specs.EditedValue.{edited};
 ghost use Rattle.rt_editing.specs.Edits.{text_deleted, text_inserted, text_replaced, text_with_new};
 
 use crate::Recorder;

@@ -3,7 +3,7 @@ ghost use Rattle.std.specs.Prelude.{◌≡◌, ◌∷◌, [], Ok, IfErr, OnErr, 
 ghost use Rattle.rt_stamps.specs.Outcomes.{Refuses};
 ghost use Rattle.rt_store.specs.Cells.{final_cell};
 ghost use Rattle.rt_editing.specs.Settled.{IsSettled};
-ghost use Rattle.rt_editing.specs.Edited.{edited};
+ghost use Rattle.rt_editing.specs.EditedValue.{edited};
 ghost use Rattle.rt_editing.specs.Reverts.{text_redone, text_undone};
 
 use crate::Recorder;

@@ -9,7 +9,7 @@ use Rattle.rt_store.specs.declared.cell.Cell.{Cell}
 use Rattle.rt_stamps.specs.declared.stamp.TheConstants.{FINAL}
 use Rattle.rt_stamps.specs.Stamps.{is_before, is_same}
 use Rattle.rt_store.specs.Cells.{EndsFinal, final_cell, skip_from, visible_of, after_element, with_state, cells_from}
-use Rattle.rt_edits.specs.Flat.{put_after}
+use Rattle.rt_edits.specs.DocValue.{put_after}
 use Rattle.rt_store.specs.Written.{IsBelowNext, AreBelowNext}
 use Rattle.rt_stamps.proofs.Order.{same_refl}
 

@@ -17,7 +17,7 @@ use Rattle.rt_tags.specs.Tags.{sel}
 use Rattle.rt_rga.specs.Requests.{characters_in_all}
 use Rattle.rt_rga.proofs.Appending.{characters_append}
 use Rattle.rt_edits.specs.Deletions.{Loss, delete_drafts, newline_of}
-use Rattle.rt_edits.specs.Flat.{Flat}
+use Rattle.rt_edits.specs.DocValue.{DocValue}
 use Rattle.rt_edits.specs.InsertionDrafts.{behind, insertion_drafts, inserts_of, pieces_drafts, tags_on, text_drafts}
 use Rattle.rt_edits.specs.Insertions.{Insertion, Piece, cells_of_inserts, further_tags, insertion_of, inserts_for, last_of, new_state, shared_names, tagged_cells, tags_between, with_listed, with_pieces, with_unlisted}
 use Rattle.rt_edits.specs.NamedSpans.{first_parts, parts_of, spans_in}
@@ -52,13 +52,13 @@ both_none xs ys h k = omega (arith, characters_append xs ys, h, k)
 at_none : (places : ℕ → Bool) (on : Bool) (name : Word) (cells : List TaggedCell) → characters_in_all (tag_drafts_at MOST_SPANS places on name cells) ≡ 0
 at_none places on name cells = tags_none on name (parts_of MOST_SPANS (spans_in (changed_stamps name on (cells_at places 0 cells))))
 
-pub tags_insert_none : (names : List Word) (flat : Flat) (places : ℕ → Bool) (on : Bool) → characters_in_all (tags_drafts_at MOST_SPANS flat places on names) ≡ 0
+pub tags_insert_none : (names : List Word) (flat : DocValue) (places : ℕ → Bool) (on : Bool) → characters_in_all (tags_drafts_at MOST_SPANS flat places on names) ≡ 0
 tags_insert_none [] flat places on = refl
 tags_insert_none (name ∷ names) flat places on =
     both_none (tag_drafts_at MOST_SPANS places on name flat.cells) (tags_drafts_at MOST_SPANS (with_tag_at flat places on name) places on names) (at_none places on name flat.cells)
     (tags_insert_none names (with_tag_at flat places on name) places on)
 
-pub deletions_insert_none : (names : List Word) (flat : Flat) → characters_in_all (deletion_drafts MOST_SPANS flat names) ≡ 0
+pub deletions_insert_none : (names : List Word) (flat : DocValue) → characters_in_all (deletion_drafts MOST_SPANS flat names) ≡ 0
 deletions_insert_none [] flat = refl
 deletions_insert_none (name ∷ names) flat =
     let off = tag_drafts_at MOST_SPANS (λ _. true) false name flat.cells in
@@ -66,7 +66,7 @@ deletions_insert_none (name ∷ names) flat =
     (elim (bytes_eq name sel) as (λ b. characters_in_all (cond b [] off) ≡ 0) [ true ↦ refl | false ↦ at_none (λ _. true) false name flat.cells ])
     (deletions_insert_none names (without_tag flat name))
 
-pub loss_inserts_none : (flat : Flat) (loss : Loss) → characters_in_all (delete_drafts MOST_SPANS flat loss) ≡ 0
+pub loss_inserts_none : (flat : DocValue) (loss : Loss) → characters_in_all (delete_drafts MOST_SPANS flat loss) ≡ 0
 loss_inserts_none flat loss =
     both_none (removal_drafts MOST_SPANS loss.places flat.cells) (tags (newline_of flat loss))
     (deletes_none (parts_of MOST_SPANS (spans_in (stamps_at loss.places 0 flat.cells)))) (none (newline_of flat loss))

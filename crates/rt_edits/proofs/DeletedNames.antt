@@ -19,7 +19,7 @@ use Rattle.rt_rga.specs.Requests.{MayBeMade}
 use Rattle.rt_rga.proofs.Appending.{drafts_append, may_append}
 use Rattle.rt_rga.proofs.Corollaries.{cells_distinct}
 use Rattle.rt_edits.specs.DraftLaws.{IsDocument}
-use Rattle.rt_edits.specs.Flat.{Flat}
+use Rattle.rt_edits.specs.DocValue.{DocValue}
 use Rattle.rt_edits.specs.Removals.{cells_at}
 use Rattle.rt_edits.specs.TagDrafts.{deletion_drafts, tag_drafts, tag_drafts_at}
 use Rattle.rt_edits.specs.TagWrites.{changed_stamps, is_changed, tagged, with_tag, with_tag_at, without_tags}
@@ -60,7 +60,7 @@ same_cells site count name on (c ∷ cs) = ap (λ l. c ∷ l) (same_cells site c
 pub none_drafted : (name : Word) (cells : List TaggedCell) → is_name name ≡ false → CellsNamed cells → tag_drafts_at MOST_SPANS everywhere false name cells ≡ []
 none_drafted name cells n h = ap (tag_drafts MOST_SPANS false name) (none_stamps name cells n h)
 
-pub none_tagged : (flat : Flat) (name : Word) → is_name name ≡ false → CellsNamed flat.cells → with_tag_at flat everywhere false name ≡ flat
+pub none_tagged : (flat : DocValue) (name : Word) → is_name name ≡ false → CellsNamed flat.cells → with_tag_at flat everywhere false name ≡ flat
 none_tagged flat name n h = ap (with_tag flat name false) (none_stamps name flat.cells n h) ∙ (λ i. record flat { cells = same_cells flat.site flat.count name false flat.cells i; count = same i })
   where
     same : flat.count + 0 ≡ flat.count
@@ -75,13 +75,13 @@ one_may site log name cells d f h =
     (λ e. one_may_be_made site log everywhere false name cells d f e)
     (λ e. subst (MayBeMade site log) (sym (none_drafted name cells e h)) tt)
 
-off_named : (flat : Flat) (name : Word) → CellsNamed flat.cells → CellsNamed (with_tag_at flat everywhere false name).cells
+off_named : (flat : DocValue) (name : Word) → CellsNamed flat.cells → CellsNamed (with_tag_at flat everywhere false name).cells
 off_named flat name h =
     split (is_name name)
     (λ e. all_tagged_named flat.site flat.count name false (changed_stamps name false (cells_at everywhere 0 flat.cells)) flat.cells e h)
-    (λ e. subst (λ (f : Flat). CellsNamed f.cells) (sym (none_tagged flat name e h)) h)
+    (λ e. subst (λ (f : DocValue). CellsNamed f.cells) (sym (none_tagged flat name e h)) h)
 
-one_off : (site : ℕ) (log : List Operation) (flat : Flat) (name : Word) → 0 < site → IsHistory log → IsDocument site log flat → (with_tag_at flat everywhere false name).count ≤ GREATEST_COUNT
+one_off : (site : ℕ) (log : List Operation) (flat : DocValue) (name : Word) → 0 < site → IsHistory log → IsDocument site log flat → (with_tag_at flat everywhere false name).count ≤ GREATEST_COUNT
     → IsHistory (with_drafts site (tag_drafts_at MOST_SPANS everywhere false name flat.cells) log)
     × IsDocument site (with_drafts site (tag_drafts_at MOST_SPANS everywhere false name flat.cells) log) (with_tag_at flat everywhere false name)
 one_off site log flat name p h doc l =
@@ -90,18 +90,18 @@ one_off site log flat name p h doc l =
     (λ e. one_made site log flat everywhere false name p h doc e l)
     (λ e. (
       subst (λ drafts. IsHistory (with_drafts site drafts log)) (sym (none_drafted name flat.cells e named)) h,
-      subst (λ (f : Flat). IsDocument site (with_drafts site (tag_drafts_at MOST_SPANS everywhere false name flat.cells) log) f)
+      subst (λ (f : DocValue). IsDocument site (with_drafts site (tag_drafts_at MOST_SPANS everywhere false name flat.cells) log) f)
           (sym (none_tagged flat name e named)) (subst (λ drafts. IsDocument site (with_drafts site drafts log) flat) (sym (none_drafted name flat.cells e named)) doc),
     ))
 
 -- SEVERAL
 
-all_may : (names : List Word) (site : ℕ) (log : List Operation) (flat : Flat) → AreDistinct flat.cells → AreKnownCells log flat.cells → CellsNamed flat.cells → MayBeMade site log (deletion_drafts MOST_SPANS flat names)
+all_may : (names : List Word) (site : ℕ) (log : List Operation) (flat : DocValue) → AreDistinct flat.cells → AreKnownCells log flat.cells → CellsNamed flat.cells → MayBeMade site log (deletion_drafts MOST_SPANS flat names)
 all_may [] site log flat d f h = tt
 all_may (name ∷ names) site log flat d f h =
     let one = tag_drafts_at MOST_SPANS everywhere false name flat.cells in
     let off = with_tag_at flat everywhere false name in
-    let next : Flat = record off { tags = without name off.tags } in
+    let next : DocValue = record off { tags = without name off.tags } in
     let at : Bool → Type 0 = λ b. MayBeMade site log (cond b [] one ++ deletion_drafts MOST_SPANS (cond b flat next) names) in
     split (bytes_eq name sel)
     (λ e. subst at (sym e) (all_may names site log flat d f h))
@@ -110,17 +110,17 @@ all_may (name ∷ names) site log flat d f h =
     (all_may names site (with_drafts site one log) next (subst (IsDistinct is_same) (sym (tag_stamps flat everywhere false name)) d)
     (known_later site one log next.cells (known_tagged log flat everywhere false name f)) (off_named flat name h))))
 
-pub deletions_may : (site : ℕ) (log : List Operation) (flat : Flat) (names : List Word) → IsHistory log → IsDocument site log flat → MayBeMade site log (deletion_drafts MOST_SPANS flat names)
+pub deletions_may : (site : ℕ) (log : List Operation) (flat : DocValue) (names : List Word) → IsHistory log → IsDocument site log flat → MayBeMade site log (deletion_drafts MOST_SPANS flat names)
 deletions_may site log flat names h doc =
     all_may names site log flat (subst AreDistinct (sym doc.cells) (cells_distinct log h)) (known_cells log flat.cells h doc.cells) (subst CellsNamed (sym doc.cells) (every_named log h))
 
-all_made : (names : List Word) (site : ℕ) (log : List Operation) (flat : Flat) → 0 < site → IsHistory log → IsDocument site log flat → (without_tags flat names).count ≤ GREATEST_COUNT
+all_made : (names : List Word) (site : ℕ) (log : List Operation) (flat : DocValue) → 0 < site → IsHistory log → IsDocument site log flat → (without_tags flat names).count ≤ GREATEST_COUNT
     → IsDocument site (with_drafts site (deletion_drafts MOST_SPANS flat names) log) (without_tags flat names)
 all_made [] site log flat p h doc l = doc
 all_made (name ∷ names) site log flat p h doc l =
     let drafts = tag_drafts_at MOST_SPANS everywhere false name flat.cells in
     let off = with_tag_at flat everywhere false name in
-    let next : Flat = record off { tags = without name off.tags } in
+    let next : DocValue = record off { tags = without name off.tags } in
     let at : Bool → Type 0 = λ b. (without_tags (cond b flat next) names).count ≤ GREATEST_COUNT
     → IsDocument site (with_drafts site (cond b [] drafts ++ deletion_drafts MOST_SPANS (cond b flat next) names) log) (without_tags (cond b flat next) names) in
     split (bytes_eq name sel)
@@ -134,6 +134,6 @@ all_made (name ∷ names) site log flat p h doc l =
     (all_made names site (with_drafts site drafts log) next p one.0 after k))
     l)
 
-pub deletions_made : (site : ℕ) (log : List Operation) (flat : Flat) (names : List Word) → 0 < site → IsHistory log → IsDocument site log flat → (without_tags flat names).count ≤ GREATEST_COUNT
+pub deletions_made : (site : ℕ) (log : List Operation) (flat : DocValue) (names : List Word) → 0 < site → IsHistory log → IsDocument site log flat → (without_tags flat names).count ≤ GREATEST_COUNT
     → IsDocument site (with_drafts site (deletion_drafts MOST_SPANS flat names) log) (without_tags flat names)
 deletions_made site log flat names p h doc l = all_made names site log flat p h doc l

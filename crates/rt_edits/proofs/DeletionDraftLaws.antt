@@ -20,7 +20,7 @@ use Rattle.rt_tags.specs.States.{names_on}
 use Rattle.rt_edits.specs.declared.range.Range.{Range}
 use Rattle.rt_edits.specs.Deletions.{Loss, delete_drafts, loss_in, newline_of, without_places, without_text}
 use Rattle.rt_edits.specs.DraftLaws.{IsDocument, SparesLast}
-use Rattle.rt_edits.specs.Flat.{Flat}
+use Rattle.rt_edits.specs.DocValue.{DocValue}
 use Rattle.rt_edits.specs.RemovalDrafts.{removal_drafts}
 use Rattle.rt_edits.specs.Removals.{gone_at}
 use Rattle.rt_edits.specs.TagDrafts.{newline_drafts}
@@ -70,7 +70,7 @@ gone_front r p (c ∷ cs) last g h =
     ∙ ap (λ l. old ∷ l) (gone_front r (p + 1) cs last g (ap r at ∙ h))
     ∙ sym (ap (λ l. l ++ last ∷ []) (cond-false c.gone (c ∷ gone_at r p cs) (old ∷ gone_at r (p + 1) cs) e)))
 
-pub still_ends : (flat : Flat) (removed : ℕ → Bool) (front : List TaggedCell) (last : TaggedCell) → EndsAs flat front last → SparesLast removed (text_of flat.cells)
+pub still_ends : (flat : DocValue) (removed : ℕ → Bool) (front : List TaggedCell) (last : TaggedCell) → EndsAs flat front last → SparesLast removed (text_of flat.cells)
     → EndsAs (without_places flat removed) (gone_at removed 0 front) last
 still_ends flat removed front last e s =
     let n : length (text_of flat.cells) - 1 ≡ 0 + length (visible_of front) = omega (arith, length_ends flat front last e) in
@@ -89,28 +89,28 @@ stamps_gone r p (c ∷ cs) =
 
 -- THE WHOLE DELETION
 
-abbrev deletes_of : Flat → Loss → List Body
+abbrev deletes_of : DocValue → Loss → List Body
 deletes_of flat loss = removal_drafts MOST_SPANS loss.places flat.cells
 
 -- the Tags of the newline that stays
 abbrev tags_of : Option TaggedCell → List Body
 tags_of o = unwrap_or (option_map (λ (cell : TaggedCell). newline_drafts cell.stamp (names_on cell.state)) o) []
 
-abbrev left_by : Flat → Option TaggedCell → Flat
+abbrev left_by : DocValue → Option TaggedCell → DocValue
 left_by left o = unwrap_or (option_map (λ (cell : TaggedCell). bared left cell.stamp (names_on cell.state)) o) left
 
 -- it is known, and its tags are names
-newline_known : (site : ℕ) (log : List Operation) (flat : Flat) (loss : Loss) (cell : TaggedCell) → IsHistory log → IsDocument site log flat → newline_of flat loss ≡ Some cell → IsKnown log cell.stamp
+newline_known : (site : ℕ) (log : List Operation) (flat : DocValue) (loss : Loss) (cell : TaggedCell) → IsHistory log → IsDocument site log flat → newline_of flat loss ≡ Some cell → IsKnown log cell.stamp
 newline_known site log flat loss cell h doc e = known_cells log flat.cells h doc.cells cell.stamp (newline_among flat loss cell e)
 
-pub document_named : (site : ℕ) (log : List Operation) (flat : Flat) → IsHistory log → IsDocument site log flat → CellsNamed flat.cells
+pub document_named : (site : ℕ) (log : List Operation) (flat : DocValue) → IsHistory log → IsDocument site log flat → CellsNamed flat.cells
 document_named site log flat h doc = subst CellsNamed (sym doc.cells) (every_named log h)
 
-newline_tags : (site : ℕ) (log : List Operation) (flat : Flat) (loss : Loss) (cell : TaggedCell) → IsHistory log → IsDocument site log flat → newline_of flat loss ≡ Some cell
+newline_tags : (site : ℕ) (log : List Operation) (flat : DocValue) (loss : Loss) (cell : TaggedCell) → IsHistory log → IsDocument site log flat → newline_of flat loss ≡ Some cell
     → list_all is_name (names_on cell.state) ≡ true
 newline_tags site log flat loss cell h doc e = newline_names flat loss cell (document_named site log flat h doc) e
 
-pub loss_may : (site : ℕ) (log : List Operation) (flat : Flat) (loss : Loss) → IsHistory log → IsDocument site log flat → SparesLast loss.places (text_of flat.cells)
+pub loss_may : (site : ℕ) (log : List Operation) (flat : DocValue) (loss : Loss) → IsHistory log → IsDocument site log flat → SparesLast loss.places (text_of flat.cells)
     → MayBeMade site log (delete_drafts MOST_SPANS flat loss)
 loss_may site log flat loss h doc s =
     may_append site deletes (tags_of (newline_of flat loss)) log (removal_may site log flat loss.places h doc s) (by (newline_of flat loss) refl)
@@ -124,7 +124,7 @@ loss_may site log flat loss h doc s =
         bared_may (names_on cell.state) site (with_drafts site deletes log) cell.stamp (newline_tags site log flat loss cell h doc e)
         (still_known site deletes log cell.stamp (newline_known site log flat loss cell h doc e))
 
-pub loss_counted : (site : ℕ) (log : List Operation) (flat : Flat) (loss : Loss) → IsHistory log → IsDocument site log flat
+pub loss_counted : (site : ℕ) (log : List Operation) (flat : DocValue) (loss : Loss) → IsHistory log → IsDocument site log flat
     → greatest_last_count (with_drafts site (delete_drafts MOST_SPANS flat loss) log) ≡ (without_text flat loss).count
 loss_counted site log flat loss h doc =
     ap greatest_last_count (drafts_append site deletes (tags_of (newline_of flat loss)) log) ∙ by (newline_of flat loss)
@@ -132,21 +132,21 @@ loss_counted site log flat loss h doc =
     deletes : List Body
     deletes = deletes_of flat loss
 
-    left : Flat
+    left : DocValue
     left = without_places flat loss.places
 
     by : (o : Option TaggedCell) → greatest_last_count (with_drafts site (tags_of o) (with_drafts site deletes log)) ≡ (left_by left o).count
     by None = removal_counted site log flat loss.places h doc
     by (Some cell) = bared_counted (names_on cell.state) site (with_drafts site deletes log) left cell.stamp (sym (removal_counted site log flat loss.places h doc))
 
-pub loss_history : (site : ℕ) (log : List Operation) (flat : Flat) (loss : Loss) → 0 < site → IsHistory log → IsDocument site log flat → SparesLast loss.places (text_of flat.cells)
+pub loss_history : (site : ℕ) (log : List Operation) (flat : DocValue) (loss : Loss) → 0 < site → IsHistory log → IsDocument site log flat → SparesLast loss.places (text_of flat.cells)
     → (without_text flat loss).count ≤ GREATEST_COUNT → IsHistory (with_drafts site (delete_drafts MOST_SPANS flat loss) log)
 loss_history site log flat loss p h doc s l =
     let drafts = delete_drafts MOST_SPANS flat loss in
     let fits : last_count_after (greatest_last_count log) drafts ≤ GREATEST_COUNT = omega (arith, all_count_on site drafts log, loss_counted site log flat loss h doc, l) in
     (made site drafts log p h (drafts_for site log drafts (loss_may site log flat loss h doc s) fits)).history
 
-pub loss_made : (site : ℕ) (log : List Operation) (flat : Flat) (loss : Loss) → 0 < site → IsHistory log → IsDocument site log flat → SparesLast loss.places (text_of flat.cells)
+pub loss_made : (site : ℕ) (log : List Operation) (flat : DocValue) (loss : Loss) → 0 < site → IsHistory log → IsDocument site log flat → SparesLast loss.places (text_of flat.cells)
     → (without_text flat loss).count ≤ GREATEST_COUNT → IsDocument site (with_drafts site (delete_drafts MOST_SPANS flat loss) log) (without_text flat loss)
 loss_made site log flat loss p h doc s l =
     subst (λ set. IsDocument site set (without_text flat loss)) (sym (drafts_append site deletes (tags_of (newline_of flat loss)) log)) (by (newline_of flat loss) refl l)
@@ -154,7 +154,7 @@ loss_made site log flat loss p h doc s l =
     deletes : List Body
     deletes = deletes_of flat loss
 
-    left : Flat
+    left : DocValue
     left = without_places flat loss.places
 
     by : (o : Option TaggedCell) → newline_of flat loss ≡ o → (left_by left o).count ≤ GREATEST_COUNT → IsDocument site (with_drafts site (tags_of o) (with_drafts site deletes log)) (left_by left o)

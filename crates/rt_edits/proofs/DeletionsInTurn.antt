@@ -14,7 +14,7 @@ use Rattle.rt_tags.specs.States.{Write, is_on, says_on, write_of}
 use Rattle.rt_tags.specs.Tags.{is_listed, sel, with_name, without}
 use Rattle.rt_tags.proofs.Places.{name_itself, same_name, split}
 use Rattle.rt_store.specs.Written.{AreWritten}
-use Rattle.rt_edits.specs.Flat.{Flat}
+use Rattle.rt_edits.specs.DocValue.{DocValue}
 use Rattle.rt_edits.specs.Listed.{AreListed, IsShared}
 use Rattle.rt_edits.specs.Removals.{cells_at}
 use Rattle.rt_edits.specs.TagDrafts.{deletion_drafts, tag_drafts}
@@ -40,7 +40,7 @@ other_changed site count name on stamps other e (c ∷ cs) =
     (ap says_on (other_tag site count name on stamps other e c)) (stamp_kept site count name on stamps c) (other_changed site count name on stamps other e cs)
 
 -- another tag names the same characters afterwards
-pub other_still : (flat : Flat) (name other : Word) → bytes_eq other name ≡ false
+pub other_still : (flat : DocValue) (name other : Word) → bytes_eq other name ≡ false
     → changed_stamps other false (cells_at everywhere 0 (with_tag_at flat everywhere false name).cells) ≡ changed_stamps other false (cells_at everywhere 0 flat.cells)
 other_still flat name other e =
     let stamps = changed_stamps name false (cells_at everywhere 0 flat.cells) in
@@ -56,17 +56,17 @@ abbrev pub IsOff : Word → List TaggedCell → Type 0
 IsOff name cells = All (λ c. is_on name c.state ≡ false) (visible_of cells)
 
 -- a document that some tags were taken off
-pub record Turn (flat doc : Flat) (seen : List Word) : Type 0 where
+pub record Turn (flat doc : DocValue) (seen : List Word) : Type 0 where
   pub written : AreWritten doc.count doc.cells
   pub off : (name : Word) → is_listed name seen ≡ true → IsOff name doc.cells
   pub absent : (name : Word) → IsOff name flat.cells → IsOff name doc.cells
   pub same : (name : Word) → is_listed name seen ≡ false → changed_stamps name false (cells_at everywhere 0 doc.cells) ≡ changed_stamps name false (cells_at everywhere 0 flat.cells)
 
 -- one tag more
-pub turn_more : (flat doc : Flat) (seen : List Word) (name : Word) → bytes_eq name sel ≡ false → Turn flat doc seen → Turn flat (without_tag doc name) (name ∷ seen)
+pub turn_more : (flat doc : DocValue) (seen : List Word) (name : Word) → bytes_eq name sel ≡ false → Turn flat doc seen → Turn flat (without_tag doc name) (name ∷ seen)
 turn_more flat doc seen name f h =
-    let off : Flat = with_tag_at doc everywhere false name in
-    let next : Flat = record off { tags = without name off.tags } in
+    let off : DocValue = with_tag_at doc everywhere false name in
+    let next : DocValue = record off { tags = without name off.tags } in
     let turned : Turn flat next (name ∷ seen) = record {
       written = tag_written doc everywhere false name h.written;
       off = λ q e. split (bytes_eq q name)
@@ -75,21 +75,21 @@ turn_more flat doc seen name f h =
       absent = λ q k. still_absent doc name q (h.absent q k);
       same = λ q e. let p = or_parts (bytes_eq q name) (is_listed q seen) e in other_still doc name q p.0 ∙ h.same q p.1;
     } in
-    subst (λ (d : Flat). Turn flat d (name ∷ seen)) (sym (cond-false (bytes_eq name sel) doc next f)) turned
+    subst (λ (d : DocValue). Turn flat d (name ∷ seen)) (sym (cond-false (bytes_eq name sel) doc next f)) turned
 
 -- a tag that is on no visible character, or `sel`
-pub turn_off : (flat doc : Flat) (seen : List Word) (name : Word) → IsOff name doc.cells → Turn flat doc seen → Turn flat (without_tag doc name) seen
+pub turn_off : (flat doc : DocValue) (seen : List Word) (name : Word) → IsOff name doc.cells → Turn flat doc seen → Turn flat (without_tag doc name) seen
 turn_off flat doc seen name k h =
-    let off : Flat = with_tag_at doc everywhere false name in
-    let next : Flat = record off { tags = without name off.tags } in
-    let same : record doc { tags = without name doc.tags } ≡ next = sym (ap (λ (d : Flat). record d { tags = without name doc.tags }) (absent_tag doc name k)) in
+    let off : DocValue = with_tag_at doc everywhere false name in
+    let next : DocValue = record off { tags = without name off.tags } in
+    let same : record doc { tags = without name doc.tags } ≡ next = sym (ap (λ (d : DocValue). record d { tags = without name doc.tags }) (absent_tag doc name k)) in
     let kept : Turn flat (record doc { tags = without name doc.tags }) seen = record { written = h.written; off = h.off; absent = h.absent; same = h.same } in
     split (bytes_eq name sel)
-    (λ t. subst (λ (d : Flat). Turn flat d seen) (sym (cond-true (bytes_eq name sel) doc next t)) h)
-    (λ f. subst (λ (d : Flat). Turn flat d seen) (same ∙ sym (cond-false (bytes_eq name sel) doc next f)) kept)
+    (λ t. subst (λ (d : DocValue). Turn flat d seen) (sym (cond-true (bytes_eq name sel) doc next t)) h)
+    (λ f. subst (λ (d : DocValue). Turn flat d seen) (same ∙ sym (cond-false (bytes_eq name sel) doc next f)) kept)
 
 -- its operations
-pub drafts_off : (most : ℕ) (doc : Flat) (name : Word) (names : List Word) → tag_drafts most false name [] ≡ [] → IsOff name doc.cells
+pub drafts_off : (most : ℕ) (doc : DocValue) (name : Word) (names : List Word) → tag_drafts most false name [] ≡ [] → IsOff name doc.cells
     → deletion_drafts most doc (name ∷ names) ≡ deletion_drafts most (without_tag doc name) names
 drafts_off most doc name names n k =
     let drafts = tag_drafts most false name (changed_stamps name false (cells_at everywhere 0 doc.cells)) in
@@ -100,7 +100,7 @@ drafts_off most doc name names n k =
     (λ f. ap (λ l. l ++ rest) (cond-false (bytes_eq name sel) [] drafts f ∙ none))
 
 -- the operations of one that isn't off yet
-pub drafts_more : (most : ℕ) (flat doc : Flat) (seen : List Word) (name : Word) (names : List Word) → bytes_eq name sel ≡ false → is_listed name seen ≡ false → Turn flat doc seen
+pub drafts_more : (most : ℕ) (flat doc : DocValue) (seen : List Word) (name : Word) (names : List Word) → bytes_eq name sel ≡ false → is_listed name seen ≡ false → Turn flat doc seen
     → deletion_drafts most doc (name ∷ names) ≡ tag_drafts most false name (changed_stamps name false (cells_at everywhere 0 flat.cells)) ++ deletion_drafts most (without_tag doc name) names
 drafts_more most flat doc seen name names f new h =
     let drafts = tag_drafts most false name (changed_stamps name false (cells_at everywhere 0 doc.cells)) in
@@ -123,7 +123,7 @@ sel_off cells h =
     λ k d lt. shared_off (get_or (visible_of cells) k d).state (shared k d lt)
 
 -- `sel` is as if it was taken off
-sel_seen : (flat : Flat) → AreWritten flat.count flat.cells → IsOff sel flat.cells → Turn flat flat (sel ∷ [])
+sel_seen : (flat : DocValue) → AreWritten flat.count flat.cells → IsOff sel flat.cells → Turn flat flat (sel ∷ [])
 sel_seen flat h k = record {
   written = h;
   off = λ name e. split (bytes_eq name sel) (λ t. subst (λ w. IsOff w flat.cells) (sym (same_name name sel t)) k) (λ n. absurd (cc (ap (λ b. b || false) (sym n) ∙ e)));
@@ -137,7 +137,7 @@ either_way true false = refl
 either_way false true = refl
 either_way false false = refl
 
-seen_last : (flat doc : Flat) (seen : List Word) (name : Word) → is_listed name seen ≡ false → Turn flat doc (name ∷ seen) → Turn flat doc (with_name name seen)
+seen_last : (flat doc : DocValue) (seen : List Word) (name : Word) → is_listed name seen ≡ false → Turn flat doc (name ∷ seen) → Turn flat doc (with_name name seen)
 seen_last flat doc seen name new h =
     let last : List Word = seen ++ name ∷ [] in
     let as_listed : (q : Word) → is_listed q last ≡ is_listed q (name ∷ seen) = λ q. list_any-append (bytes_eq q) seen (name ∷ []) ∙ either_way (is_listed q seen) (bytes_eq q name) in
@@ -145,16 +145,16 @@ seen_last flat doc seen name new h =
     subst (Turn flat doc) (sym (cond-false (is_listed name seen) seen last new)) turned
 
 -- the operations so far and those of the names that are left, in the document that is left, are all
-pub record Stands (most : ℕ) (flat : Flat) (seen : List Word) (done : List Body) (left names : List Word) : Type 0 where
-  pub doc : Flat
+pub record Stands (most : ℕ) (flat : DocValue) (seen : List Word) (done : List Body) (left names : List Word) : Type 0 where
+  pub doc : DocValue
   pub turn : Turn flat doc seen
   pub shared : is_listed sel seen ≡ true
   pub drafts : done ++ deletion_drafts most doc left ≡ deletion_drafts most flat names
 
-pub stands_first : (most : ℕ) (flat : Flat) (tags names : List Word) → AreWritten flat.count flat.cells → AreListed tags flat.cells → Stands most flat (sel ∷ []) [] names names
+pub stands_first : (most : ℕ) (flat : DocValue) (tags names : List Word) → AreWritten flat.count flat.cells → AreListed tags flat.cells → Stands most flat (sel ∷ []) [] names names
 stands_first most flat tags names h listed = record { doc = flat; turn = sel_seen flat h (sel_off flat.cells listed.shared); shared = refl; drafts = refl }
 
-pub stands_more : (most : ℕ) (flat : Flat) (seen : List Word) (done : List Body) (name : Word) (left names : List Word) → is_listed name seen ≡ false → Stands most flat seen done (name ∷ left) names
+pub stands_more : (most : ℕ) (flat : DocValue) (seen : List Word) (done : List Body) (name : Word) (left names : List Word) → is_listed name seen ≡ false → Stands most flat seen done (name ∷ left) names
     → Stands most flat (with_name name seen) (done ++ tag_drafts most false name (changed_stamps name false (cells_at everywhere 0 flat.cells))) left names
 stands_more most flat seen done name left names new h =
     let more = tag_drafts most false name (changed_stamps name false (cells_at everywhere 0 flat.cells)) in
@@ -173,7 +173,7 @@ unlisted true true h k = absurd (cc k)
 unlisted true false h k = h
 unlisted false d h k = refl
 
-pub stands_past : (most : ℕ) (flat : Flat) (tags seen : List Word) (done : List Body) (name : Word) (left names : List Word) → tag_drafts most false name [] ≡ [] → AreListed tags flat.cells
+pub stands_past : (most : ℕ) (flat : DocValue) (tags seen : List Word) (done : List Body) (name : Word) (left names : List Word) → tag_drafts most false name [] ≡ [] → AreListed tags flat.cells
     → (is_listed name tags && not (is_listed name seen)) ≡ false → Stands most flat seen done (name ∷ left) names → Stands most flat seen done left names
 stands_past most flat tags seen done name left names none listed old h =
     let off : IsOff name h.doc.cells = split (is_listed name seen)

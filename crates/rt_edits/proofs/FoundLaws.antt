@@ -25,7 +25,7 @@ use Rattle.rt_rga.proofs.Corollaries.{cells_distinct}
 use Rattle.rt_rga.proofs.Final.{cells_last}
 use Rattle.rt_edits.specs.Deletions.{Loss, delete_drafts, without_places, without_text}
 use Rattle.rt_edits.specs.DraftLaws.{AreTagNames, AreTexts, IsDocument, IsElement, SparesLast}
-use Rattle.rt_edits.specs.Flat.{Flat, left_of}
+use Rattle.rt_edits.specs.DocValue.{DocValue, left_of}
 use Rattle.rt_edits.specs.Insertions.{Insertion, Piece, last_of, left_neighbour, tags_between, with_pieces}
 use Rattle.rt_edits.specs.Removals.{gone_at}
 use Rattle.rt_edits.specs.TagWrites.{bared, tagged, with_tag}
@@ -102,7 +102,7 @@ left_is_element log place h l =
 abbrev SomeLast : List TaggedCell → Type 0
 SomeLast cells = (front : List TaggedCell) × (last : TaggedCell) × HasLast cells front last
 
-tag_end : (flat : Flat) (name : Word) (stamps : List Stamp) → SomeLast flat.cells → SomeLast (with_tag flat name false stamps).cells
+tag_end : (flat : DocValue) (name : Word) (stamps : List Stamp) → SomeLast flat.cells → SomeLast (with_tag flat name false stamps).cells
 tag_end flat name stamps w =
     let g = tagged flat.site flat.count name false stamps in
     let change = tagged_state flat.site flat.count name false stamps w.1 in (
@@ -115,23 +115,23 @@ tag_end flat name stamps w =
       },
     )
 
-bared_end : (names : List Word) (flat : Flat) (stamp : Stamp) → SomeLast flat.cells → SomeLast (bared flat stamp names).cells
+bared_end : (names : List Word) (flat : DocValue) (stamp : Stamp) → SomeLast flat.cells → SomeLast (bared flat stamp names).cells
 bared_end [] flat stamp w = w
 bared_end (name ∷ names) flat stamp w = bared_end names (with_tag flat name false (stamp ∷ [])) stamp (tag_end flat name (stamp ∷ []) w)
 
-pub left_stamps : (flat : Flat) (loss : Loss) → stamps_of (without_text flat loss).cells ≡ stamps_of flat.cells
+pub left_stamps : (flat : DocValue) (loss : Loss) → stamps_of (without_text flat loss).cells ≡ stamps_of flat.cells
 left_stamps flat loss =
-    loss_has (λ (left : Flat). stamps_of left.cells ≡ stamps_of flat.cells) flat loss (stamps_gone loss.places 0 flat.cells)
+    loss_has (λ (left : DocValue). stamps_of left.cells ≡ stamps_of flat.cells) flat loss (stamps_gone loss.places 0 flat.cells)
     (λ cell e. bared_stamps (names_on cell.state) (without_places flat loss.places) cell.stamp ∙ stamps_gone loss.places 0 flat.cells)
 
-left_end : (flat : Flat) (loss : Loss) (front : List TaggedCell) (last : TaggedCell) → EndsAs flat front last → SparesLast loss.places (text_of flat.cells) → SomeLast (without_text flat loss).cells
+left_end : (flat : DocValue) (loss : Loss) (front : List TaggedCell) (last : TaggedCell) → EndsAs flat front last → SparesLast loss.places (text_of flat.cells) → SomeLast (without_text flat loss).cells
 left_end flat loss front last e s =
     let left = without_places flat loss.places in
     let still = still_ends flat loss.places front last e s in
     let end : SomeLast left.cells = (gone_at loss.places 0 front, last, record { is = still.is; stamp = still.stamp; gone = still.gone }) in
-    loss_has (λ (left : Flat). SomeLast left.cells) flat loss end (λ cell k. bared_end (names_on cell.state) left cell.stamp end)
+    loss_has (λ (left : DocValue). SomeLast left.cells) flat loss end (λ cell k. bared_end (names_on cell.state) left cell.stamp end)
 
-pub left_stays : (site : ℕ) (log : List Operation) (flat : Flat) (loss : Loss) (place : ℕ) → IsHistory log → IsDocument site log flat → SparesLast loss.places (text_of flat.cells)
+pub left_stays : (site : ℕ) (log : List Operation) (flat : DocValue) (loss : Loss) (place : ℕ) → IsHistory log → IsDocument site log flat → SparesLast loss.places (text_of flat.cells)
     → place < length (text_of (without_text flat loss).cells) → IsElement (with_drafts site (delete_drafts MOST_SPANS flat loss) log) (left_of (without_text flat loss).cells place)
 left_stays site log flat loss place h doc spared l =
     let cells = (without_text flat loss).cells in
@@ -142,14 +142,14 @@ left_stays site log flat loss place h doc spared l =
     left_known (with_drafts site drafts log) cells w.0 w.1 place w.2 distinct
     (λ s k. known_later site drafts log flat.cells (known_cells log flat.cells h doc.cells) s (ap (λ l. is_among l s) (sym stamps) ∙ k)) l
 
-pub tags_left_are : (site : ℕ) (log : List Operation) (flat : Flat) (loss : Loss) (place : ℕ) (right : Option TaggedCell) (pieces : List Piece) (start : Insertion)
+pub tags_left_are : (site : ℕ) (log : List Operation) (flat : DocValue) (loss : Loss) (place : ℕ) (right : Option TaggedCell) (pieces : List Piece) (start : Insertion)
     → IsHistory log → IsDocument site log flat → AreTexts pieces → start.cells ≡ []
     → AreTagNames (tags_between (last_of (left_neighbour (visible_of (without_text flat loss).cells) place) (with_pieces site pieces start).cells) right)
 tags_left_are site log flat loss place right pieces start h doc t none =
     let named = document_named site log flat h doc in
     let left : CellsNamed (without_places flat loss.places).cells = gone_named loss.places 0 flat.cells named in
     let all : CellsNamed (without_text flat loss).cells =
-    loss_has (λ (left : Flat). CellsNamed left.cells) flat loss left
+    loss_has (λ (left : DocValue). CellsNamed left.cells) flat loss left
     (λ cell e. bared_named (names_on cell.state) (without_places flat loss.places) cell.stamp (newline_names flat loss cell named e) left) in
     tags_between_in site (without_text flat loss).cells place right pieces start all t none
 

@@ -34,7 +34,7 @@ use Rattle.rt_rga.proofs.Appending.{changed_append, count_append}
 use Rattle.rt_rga.proofs.Drafting.{count_after}
 use Rattle.rt_rga.proofs.Requests.{all_count_on}
 use Rattle.rt_rga.proofs.Writes.{state_append}
-use Rattle.rt_edits.specs.Flat.{put_after}
+use Rattle.rt_edits.specs.DocValue.{put_after}
 use Rattle.rt_edits.specs.InsertionDrafts.{inserts_of, tags_on, text_drafts}
 use Rattle.rt_edits.specs.Insertions.{cells_of_inserts, counts_for, further_tags, inserts_for, new_state, put_on, tagged_cells}
 use Rattle.rt_edits.specs.NamedSpans.{first_parts}

@@ -31,7 +31,7 @@ use Rattle.rt_rga.proofs.Histories.{any_with}
 use Rattle.rt_rga.proofs.Requests.{all_count_on, drafts_for}
 use Rattle.rt_rga.proofs.Writes.{spans_name}
 use Rattle.rt_edits.specs.DraftLaws.{AreTagNames, IsElement}
-use Rattle.rt_edits.specs.Flat.{put_after}
+use Rattle.rt_edits.specs.DocValue.{put_after}
 use Rattle.rt_edits.specs.InsertionDrafts.{inserts_of, tags_on, text_drafts}
 use Rattle.rt_edits.specs.Insertions.{counts_for, further_tags, inserts_for, tagged_cells}
 use Rattle.rt_edits.specs.NamedSpans.{first_parts}

@@ -14,7 +14,7 @@ use Rattle.rt_stamps.specs.Stamps.{is_same}
 use Rattle.rt_stamps.specs.Words.{Word}
 use Rattle.rt_store.specs.declared.cell.Cell.{Cell}
 use Rattle.rt_store.specs.Cells.{visible_of, text_of, after_element, cells_from, stamps_of}
-use Rattle.rt_edits.specs.Flat.{left_of, put_after}
+use Rattle.rt_edits.specs.DocValue.{left_of, put_after}
 use Rattle.rt_edits.specs.Insertions.{inserts_for, cells_of_inserts, tagged_cells, new_state, further_tags}
 use Rattle.rt_edits.proofs.CellLaws.{found_before}
 use Rattle.rt_edits.proofs.PlaceLaws.{length_text}

@@ -14,7 +14,7 @@ use Rattle.rt_tags.specs.States.{Write, above, below, is_on, is_settled, names_o
 use Rattle.rt_tags.specs.Tags.{IsName, sel, is_listed, with_name, without}
 use Rattle.rt_tags.proofs.Places.{split, same_name, name_itself}
 use Rattle.rt_edits.specs.TagWrites.{listed_if, without_tag, without_tags, is_changed, changed_stamps, tag_write, tagged, with_tag_at}
-use Rattle.rt_edits.specs.Flat.{Flat}
+use Rattle.rt_edits.specs.DocValue.{DocValue}
 use Rattle.rt_store.specs.Shown.{TaggedCell}
 use Rattle.rt_store.specs.Written.{IsWritten, AreWritten}
 use Rattle.rt_edits.specs.Listed.{AreListed, IsShared}
@@ -70,7 +70,7 @@ shared_tagged site count name on stamps e cell h = by (is_among stamps cell.stam
     by true = shared_written (tag_write site count name on stamps cell.stamp) cell.state e h
     by false = h
 
-tag_shared : (flat : Flat) (places : ℕ → Bool) (on : Bool) (name : Word) → bytes_eq name sel ≡ false → All (λ c. IsShared c.state) flat.cells → All (λ c. IsShared c.state) (with_tag_at flat places on name).cells
+tag_shared : (flat : DocValue) (places : ℕ → Bool) (on : Bool) (name : Word) → bytes_eq name sel ≡ false → All (λ c. IsShared c.state) flat.cells → All (λ c. IsShared c.state) (with_tag_at flat places on name).cells
 tag_shared flat places on name e h =
     let stamps = changed_stamps name on (cells_at places 0 flat.cells) in
     all_map (λ c. IsShared c.state) (λ c. IsShared c.state) (tagged flat.site flat.count name on stamps) (shared_tagged flat.site flat.count name on stamps e) flat.cells h
@@ -80,7 +80,7 @@ pub shared_names_on : (state : List Write) → IsShared state → All (λ name. 
 shared_names_on state h = All-map (λ name. bytes_eq name sel ≡ false) (λ w. w.name) (filter (λ w. w.on) state) (All-filter (λ w. w.on) (λ (w : Write). bytes_eq w.name sel ≡ false) state h)
 
 -- what is so of the visible cells, after a tag was written
-pub visible_after : (P Q : TaggedCell → Type 0) (flat : Flat) (places : ℕ → Bool) (on : Bool) (name : Word)
+pub visible_after : (P Q : TaggedCell → Type 0) (flat : DocValue) (places : ℕ → Bool) (on : Bool) (name : Word)
     → ((cell : TaggedCell) → P cell → Q (tagged flat.site flat.count name on (changed_stamps name on (cells_at places 0 flat.cells)) cell))
     → All P (visible_of flat.cells) → All Q (visible_of (with_tag_at flat places on name).cells)
 visible_after P Q flat places on name f h =
@@ -89,7 +89,7 @@ visible_after P Q flat places on name f h =
     subst (All Q) (sym (visible_changed g (tagged_state flat.site flat.count name on stamps) flat.cells)) (All-map Q g (visible_of flat.cells) (λ k d lt. f (get_or (visible_of flat.cells) k d) (h k d lt)))
 
 -- a tag that is put on is listed
-pub on_listed : (flat : Flat) (places : ℕ → Bool) (name : Word) → IsName name → bytes_eq name sel ≡ false → AreListed flat.tags flat.cells → AreListed (with_name name flat.tags) (with_tag_at flat places true name).cells
+pub on_listed : (flat : DocValue) (places : ℕ → Bool) (name : Word) → IsName name → bytes_eq name sel ≡ false → AreListed flat.tags flat.cells → AreListed (with_name name flat.tags) (with_tag_at flat places true name).cells
 on_listed flat places name h e listed =
     let stamps = changed_stamps name true (cells_at places 0 flat.cells) in
     record {
@@ -104,7 +104,7 @@ on_listed flat places name h e listed =
     }
 
 -- where a tag is taken off, what is listed stays enough
-pub off_listed : (flat : Flat) (places : ℕ → Bool) (name : Word) (tags : List Word) → bytes_eq name sel ≡ false → AreListed tags flat.cells → AreListed tags (with_tag_at flat places false name).cells
+pub off_listed : (flat : DocValue) (places : ℕ → Bool) (name : Word) (tags : List Word) → bytes_eq name sel ≡ false → AreListed tags flat.cells → AreListed tags (with_tag_at flat places false name).cells
 off_listed flat places name tags e listed =
     let stamps = changed_stamps name false (cells_at places 0 flat.cells) in
     record {
@@ -118,7 +118,7 @@ off_listed flat places name tags e listed =
       shared = tag_shared flat places false name e listed.shared;
     }
 
-pub written_listed : (on : Bool) (flat : Flat) (places : ℕ → Bool) (name : Word) → IsName name → AreListed flat.tags flat.cells
+pub written_listed : (on : Bool) (flat : DocValue) (places : ℕ → Bool) (name : Word) → IsName name → AreListed flat.tags flat.cells
     → bytes_eq name sel ≡ false → AreListed (listed_if on name (with_tag_at flat places on name)).tags (listed_if on name (with_tag_at flat places on name)).cells
 written_listed true flat places name h listed e = on_listed flat places name h e listed
 written_listed false flat places name h listed e = off_listed flat places name flat.tags e listed
@@ -148,7 +148,7 @@ changed_among name on (x ∷ xs) =
     (λ k d lt e. among_more (is_changed name on x) x (filter (is_changed name on) xs) (get_or xs k d).stamp (changed_among name on xs k d lt e))
 
 -- no character has it then
-pub nowhere_on : (flat : Flat) (name : Word) → AreWritten flat.count flat.cells → All (λ c. is_on name c.state ≡ false) (visible_of (with_tag_at flat everywhere false name).cells)
+pub nowhere_on : (flat : DocValue) (name : Word) → AreWritten flat.count flat.cells → All (λ c. is_on name c.state ≡ false) (visible_of (with_tag_at flat everywhere false name).cells)
 nowhere_on flat name known =
     let stamps = changed_stamps name false (cells_at everywhere 0 flat.cells) in
     let P : TaggedCell → Type 0 = λ c. IsWritten flat.count c.state × (is_on name c.state ≡ true → is_among stamps c.stamp ≡ true) in
@@ -175,11 +175,11 @@ gone_listed name tags cells other none listed = record {
 }
 
 -- what is so of a document stays so where a tag is deleted
-pub record StaysTagged (flat : Flat) : Type 0 where
+pub record StaysTagged (flat : DocValue) : Type 0 where
   pub listed : AreListed flat.tags flat.cells
   pub known : AreWritten flat.count flat.cells
 
-without_stays : (flat : Flat) (name : Word) → StaysTagged flat → StaysTagged (without_tag flat name)
+without_stays : (flat : DocValue) (name : Word) → StaysTagged flat → StaysTagged (without_tag flat name)
 without_stays flat name h =
     split (bytes_eq name sel)
     (λ t. subst StaysTagged (sym (cond-true (bytes_eq name sel) flat _ t)) h)
@@ -188,6 +188,6 @@ without_stays flat name h =
       known = tag_written flat everywhere false name h.known;
     }))
 
-pub all_without_stays : (names : List Word) (flat : Flat) → StaysTagged flat → StaysTagged (without_tags flat names)
+pub all_without_stays : (names : List Word) (flat : DocValue) → StaysTagged flat → StaysTagged (without_tags flat names)
 all_without_stays [] flat h = h
 all_without_stays (name ∷ names) flat h = all_without_stays names (without_tag flat name) (without_stays flat name h)

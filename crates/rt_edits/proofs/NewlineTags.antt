@@ -20,7 +20,7 @@ use Rattle.rt_store.specs.Spans.{is_among}
 use Rattle.rt_store.proofs.Distinct.{split}
 use Rattle.rt_rga.specs.Histories.{IsHistory}
 use Rattle.rt_edits.specs.DraftLaws.{IsDocument}
-use Rattle.rt_edits.specs.Flat.{Flat}
+use Rattle.rt_edits.specs.DocValue.{DocValue}
 use Rattle.rt_edits.specs.Removals.{cells_at}
 use Rattle.rt_edits.specs.TagDrafts.{newline_drafts, tag_drafts, tags_drafts_at}
 use Rattle.rt_edits.specs.TagWrites.{bared, changed_stamps, tag_write, tagged, with_tag, with_tag_at, with_tags_at}
@@ -107,7 +107,7 @@ all_still_on site count name on stamps cell (q ∷ names) n h =
 
 -- ALL TAGS
 
-one_each : (m : ℕ) (names : List Word) (flat : Flat) (cell : TaggedCell) → cells_at (λ p. p == m) 0 flat.cells ≡ cell ∷ [] → AllByRecursion (λ q. is_on q cell.state ≡ true) names → HaveNoRepeats names
+one_each : (m : ℕ) (names : List Word) (flat : DocValue) (cell : TaggedCell) → cells_at (λ p. p == m) 0 flat.cells ≡ cell ∷ [] → AllByRecursion (λ q. is_on q cell.state ≡ true) names → HaveNoRepeats names
     → (tags_drafts_at MOST_SPANS flat (λ p. p == m) false names ≡ newline_drafts cell.stamp names) × (with_tags_at flat (λ p. p == m) false names ≡ bared flat cell.stamp names)
 one_each m [] flat cell h on once = (refl, refl)
 one_each m (name ∷ names) flat cell h on once =
@@ -130,12 +130,12 @@ listed_on state [] f = tt
 listed_on state (name ∷ names) f =
     (f name (ap (λ b. b || is_listed name names) (name_itself name)), listed_on state names (λ q k. f q (or_right (bytes_eq q name) _ k)))
 
-cell_named : (site : ℕ) (log : List Operation) (flat : Flat) (place : ℕ) (cell : TaggedCell) → IsHistory log → IsDocument site log flat → slice_get (visible_of flat.cells) place ≡ Some cell → AreNamed cell.state
+cell_named : (site : ℕ) (log : List Operation) (flat : DocValue) (place : ℕ) (cell : TaggedCell) → IsHistory log → IsDocument site log flat → slice_get (visible_of flat.cells) place ≡ Some cell → AreNamed cell.state
 cell_named site log flat place cell h doc e =
     let P = λ (c : TaggedCell). AreNamed c.state in
     of_one P (visible_of flat.cells) place cell (every_filter P (λ (c : TaggedCell). not c.gone) flat.cells (document_named site log flat h doc)) e
 
-both : (site : ℕ) (log : List Operation) (flat : Flat) (place : ℕ) (cell : TaggedCell) → IsHistory log → IsDocument site log flat → slice_get (visible_of flat.cells) place ≡ Some cell
+both : (site : ℕ) (log : List Operation) (flat : DocValue) (place : ℕ) (cell : TaggedCell) → IsHistory log → IsDocument site log flat → slice_get (visible_of flat.cells) place ≡ Some cell
     → (tags_drafts_at MOST_SPANS flat (λ p. p == place) false (names_on cell.state) ≡ newline_drafts cell.stamp (names_on cell.state))
     × (with_tags_at flat (λ p. p == place) false (names_on cell.state) ≡ bared flat cell.stamp (names_on cell.state))
 both site log flat place cell h doc e =
@@ -143,10 +143,10 @@ both site log flat place cell h doc e =
     one_each place (names_on cell.state) flat cell (only_there place 0 place flat.cells cell (omega arith) e)
     (listed_on cell.state (names_on cell.state) (λ q k. on_is_listed q cell.state by_name ∙ k)) (on_once cell.state by_name)
 
-pub newline_one_each : (site : ℕ) (log : List Operation) (flat : Flat) (place : ℕ) (cell : TaggedCell) → IsHistory log → IsDocument site log flat → slice_get (visible_of flat.cells) place ≡ Some cell
+pub newline_one_each : (site : ℕ) (log : List Operation) (flat : DocValue) (place : ℕ) (cell : TaggedCell) → IsHistory log → IsDocument site log flat → slice_get (visible_of flat.cells) place ≡ Some cell
     → tags_drafts_at MOST_SPANS flat (λ p. p == place) false (names_on cell.state) ≡ newline_drafts cell.stamp (names_on cell.state)
 newline_one_each site log flat place cell h doc e = (both site log flat place cell h doc e).0
 
-pub bared_as_tags : (site : ℕ) (log : List Operation) (flat : Flat) (place : ℕ) (cell : TaggedCell) → IsHistory log → IsDocument site log flat → slice_get (visible_of flat.cells) place ≡ Some cell
+pub bared_as_tags : (site : ℕ) (log : List Operation) (flat : DocValue) (place : ℕ) (cell : TaggedCell) → IsHistory log → IsDocument site log flat → slice_get (visible_of flat.cells) place ≡ Some cell
     → with_tags_at flat (λ p. p == place) false (names_on cell.state) ≡ bared flat cell.stamp (names_on cell.state)
 bared_as_tags site log flat place cell h doc e = (both site log flat place cell h doc e).1

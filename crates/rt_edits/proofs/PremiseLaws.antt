@@ -19,7 +19,7 @@ use Rattle.rt_rga.specs.Histories.{IsHistory}
 use Rattle.rt_edits.specs.DeletionLaws.{IsPiece}
 use Rattle.rt_edits.specs.Deletions.{Loss, delete_drafts, without_text}
 use Rattle.rt_edits.specs.DraftLaws.{AreTexts, IsDocument, IsElement, IsInsertion, IsText, SparesLast}
-use Rattle.rt_edits.specs.Flat.{Flat, left_of}
+use Rattle.rt_edits.specs.DocValue.{DocValue, left_of}
 use Rattle.rt_edits.specs.Insertions.{Insertion, Piece, left_neighbour, shared_names}
 use Rattle.rt_edits.proofs.DeletionDraftLaws.{loss_counted}
 use Rattle.rt_edits.proofs.FoundLaws.{characters_are_scalars, left_is_element, left_stays, tags_left_are}
@@ -54,7 +54,7 @@ pieces_are pieces h = pieces_by pieces (recursion_from_All IsPiece pieces h)
 
 -- PLACES
 
-pub may_begin : (site : ℕ) (log : List Operation) (flat : Flat) (place : ℕ) (right : Option TaggedCell) (pieces : List Piece) (rest : Word) (start : Insertion) → IsHistory log → IsDocument site log flat
+pub may_begin : (site : ℕ) (log : List Operation) (flat : DocValue) (place : ℕ) (right : Option TaggedCell) (pieces : List Piece) (rest : Word) (start : Insertion) → IsHistory log → IsDocument site log flat
     → place < length (text_of flat.cells) → AreTexts pieces → IsUtf8 rest → start.cells ≡ [] → start.count ≡ flat.count
     → IsInsertion site log (left_of flat.cells place) (left_neighbour (visible_of flat.cells) place) right pieces rest start
 may_begin site log flat place right pieces rest start h doc l t u none count = record {
@@ -69,7 +69,7 @@ may_begin site log flat place right pieces rest start h doc l t u none count = r
   count = count ∙ doc.count;
 }
 
-pub may_begin_in_rest : (site : ℕ) (log : List Operation) (flat : Flat) (loss : Loss) (place : ℕ) (right : Option TaggedCell) (pieces : List Piece) (rest : Word) (start : Insertion)
+pub may_begin_in_rest : (site : ℕ) (log : List Operation) (flat : DocValue) (loss : Loss) (place : ℕ) (right : Option TaggedCell) (pieces : List Piece) (rest : Word) (start : Insertion)
     → IsHistory log → IsDocument site log flat → SparesLast loss.places (text_of flat.cells) → place < length (text_of (without_text flat loss).cells) → AreTexts pieces → IsUtf8 rest → start.cells ≡ [] → start.count ≡ (without_text flat loss).count
     → IsInsertion site (with_drafts site (delete_drafts MOST_SPANS flat loss) log) (left_of (without_text flat loss).cells place)
     (left_neighbour (visible_of (without_text flat loss).cells) place) right pieces rest start

@@ -28,7 +28,7 @@ use Rattle.rt_rga.proofs.Requests.{all_count_on, drafts_for}
 use Rattle.rt_rga.proofs.Writes.{spans_name}
 use Rattle.rt_edits.specs.Deletions.{without_places}
 use Rattle.rt_edits.specs.DraftLaws.{IsDocument, SparesLast}
-use Rattle.rt_edits.specs.Flat.{Flat}
+use Rattle.rt_edits.specs.DocValue.{DocValue}
 use Rattle.rt_edits.specs.NamedSpans.{first_parts, parts_for, parts_of, spans_in}
 use Rattle.rt_edits.specs.RemovalDrafts.{removal_drafts}
 use Rattle.rt_edits.specs.Removals.{gone_at, operations_for, span_count, stamps_at}
@@ -184,13 +184,13 @@ deletes_may_be_made most site log removed p q h spared =
 
 -- IN A DOCUMENT
 
-pub removal_may : (site : ℕ) (log : List Operation) (flat : Flat) (removed : ℕ → Bool) → IsHistory log → IsDocument site log flat → SparesLast removed (text_of flat.cells)
+pub removal_may : (site : ℕ) (log : List Operation) (flat : DocValue) (removed : ℕ → Bool) → IsHistory log → IsDocument site log flat → SparesLast removed (text_of flat.cells)
     → MayBeMade site log (removal_drafts MOST_SPANS removed flat.cells)
 removal_may site log flat removed h doc spared =
     subst (λ (cells : List TaggedCell). MayBeMade site log (removal_drafts MOST_SPANS removed cells)) (sym doc.cells)
     (deletes_may_be_made MOST_SPANS site log removed (omega arith) (omega arith) h (subst (λ (cells : List TaggedCell). SparesLast removed (text_of cells)) doc.cells spared))
 
-pub removal_counted : (site : ℕ) (log : List Operation) (flat : Flat) (removed : ℕ → Bool) → IsHistory log → IsDocument site log flat
+pub removal_counted : (site : ℕ) (log : List Operation) (flat : DocValue) (removed : ℕ → Bool) → IsHistory log → IsDocument site log flat
     → greatest_last_count (with_drafts site (removal_drafts MOST_SPANS removed flat.cells) log) ≡ (without_places flat removed).count
 removal_counted site log flat removed h doc =
     ap (λ (cells : List TaggedCell). greatest_last_count (with_drafts site (removal_drafts MOST_SPANS removed cells) log)) doc.cells
@@ -198,11 +198,11 @@ removal_counted site log flat removed h doc =
     ∙ sym (λ i. doc.count i + operations_for (span_count (stamps_at removed 0 (doc.cells i))))
 
 -- a larger history, and the document with its cells
-pub record IsLarger (site : ℕ) (log : List Operation) (flat : Flat) : Type 0 where
+pub record IsLarger (site : ℕ) (log : List Operation) (flat : DocValue) : Type 0 where
   pub history : IsHistory log
   pub document : IsDocument site log flat
 
-pub removal_made : (site : ℕ) (log : List Operation) (flat : Flat) (removed : ℕ → Bool) → 0 < site → IsHistory log → IsDocument site log flat → SparesLast removed (text_of flat.cells)
+pub removal_made : (site : ℕ) (log : List Operation) (flat : DocValue) (removed : ℕ → Bool) → 0 < site → IsHistory log → IsDocument site log flat → SparesLast removed (text_of flat.cells)
     → (without_places flat removed).count ≤ GREATEST_COUNT → IsLarger site (with_drafts site (removal_drafts MOST_SPANS removed flat.cells) log) (without_places flat removed)
 removal_made site log flat removed p h doc spared l =
     let drafts = removal_drafts MOST_SPANS removed flat.cells in

@@ -13,13 +13,13 @@ use Rattle.rt_rga.specs.Requests.{MayBeMade}
 use Rattle.rt_rga.proofs.Appending.{drafts_append, may_append}
 use Rattle.rt_edits.specs.Deletions.{Loss, delete_drafts, without_text}
 use Rattle.rt_edits.specs.DraftLaws.{IsDocument, IsInsertion, SparesLast}
-use Rattle.rt_edits.specs.Flat.{Flat, put_after}
+use Rattle.rt_edits.specs.DocValue.{DocValue, put_after}
 use Rattle.rt_edits.specs.InsertionDrafts.{insertion_drafts}
 use Rattle.rt_edits.specs.Insertions.{Insertion, Piece, insertion_of}
 use Rattle.rt_edits.proofs.DeletionDraftLaws.{loss_counted, loss_history, loss_made, loss_may}
 use Rattle.rt_edits.proofs.PieceDraftLaws.{insertion_counted, insertion_grows, insertion_made, insertion_may}
 
-pub replacement_may : (site : ℕ) (log : List Operation) (flat : Flat) (loss : Loss) (after : Stamp) (left right : Option TaggedCell) (pieces : List Piece) (rest : Word) (start : Insertion)
+pub replacement_may : (site : ℕ) (log : List Operation) (flat : DocValue) (loss : Loss) (after : Stamp) (left right : Option TaggedCell) (pieces : List Piece) (rest : Word) (start : Insertion)
     → IsHistory log → IsDocument site log flat → SparesLast loss.places (text_of flat.cells) → IsInsertion site (with_drafts site (delete_drafts MOST_SPANS flat loss) log) after left right pieces rest start
     → MayBeMade site log (delete_drafts MOST_SPANS flat loss ++ insertion_drafts MOST_CHARACTERS site after left right pieces rest start)
 replacement_may site log flat loss after left right pieces rest start h doc s i =
@@ -27,7 +27,7 @@ replacement_may site log flat loss after left right pieces rest start h doc s i 
     may_append site deletes (insertion_drafts MOST_CHARACTERS site after left right pieces rest start) log (loss_may site log flat loss h doc s)
     (insertion_may site (with_drafts site deletes log) after left right pieces rest start i)
 
-pub replacement_counted : (site : ℕ) (log : List Operation) (flat : Flat) (loss : Loss) (after : Stamp) (left right : Option TaggedCell) (pieces : List Piece) (rest : Word) (start : Insertion)
+pub replacement_counted : (site : ℕ) (log : List Operation) (flat : DocValue) (loss : Loss) (after : Stamp) (left right : Option TaggedCell) (pieces : List Piece) (rest : Word) (start : Insertion)
     → IsHistory log → IsDocument site log flat → start.count ≡ (without_text flat loss).count
     → greatest_last_count (with_drafts site (delete_drafts MOST_SPANS flat loss ++ insertion_drafts MOST_CHARACTERS site after left right pieces rest start) log)
     ≡ (insertion_of site left right pieces rest start).count
@@ -36,7 +36,7 @@ replacement_counted site log flat loss after left right pieces rest start h doc 
     ap greatest_last_count (drafts_append site deletes (insertion_drafts MOST_CHARACTERS site after left right pieces rest start) log)
     ∙ insertion_counted site (with_drafts site deletes log) after left right pieces rest start (e ∙ sym (loss_counted site log flat loss h doc))
 
-pub replacement_made : (site : ℕ) (log : List Operation) (flat : Flat) (loss : Loss) (after : Stamp) (left right : Option TaggedCell) (pieces : List Piece) (rest : Word) (start : Insertion)
+pub replacement_made : (site : ℕ) (log : List Operation) (flat : DocValue) (loss : Loss) (after : Stamp) (left right : Option TaggedCell) (pieces : List Piece) (rest : Word) (start : Insertion)
     → 0 < site → IsHistory log → IsDocument site log flat → SparesLast loss.places (text_of flat.cells) → IsInsertion site (with_drafts site (delete_drafts MOST_SPANS flat loss) log) after left right pieces rest start
     → (insertion_of site left right pieces rest start).count ≤ GREATEST_COUNT
     → cells_of (with_drafts site (delete_drafts MOST_SPANS flat loss ++ insertion_drafts MOST_CHARACTERS site after left right pieces rest start) log)

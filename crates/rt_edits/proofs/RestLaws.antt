@@ -16,7 +16,7 @@ use Rattle.rt_store.specs.Tagged.{AreStates}
 use Rattle.rt_store.proofs.Shown.{visible_at_shown}
 use Rattle.rt_edits.specs.declared.inserting.Plan.{Plan}
 use Rattle.rt_edits.specs.declared.pieces.PlannedPieces.{PlannedPieces}
-use Rattle.rt_edits.specs.Flat.{left_of}
+use Rattle.rt_edits.specs.DocValue.{left_of}
 use Rattle.rt_edits.specs.InsertionDrafts.{behind}
 use Rattle.rt_edits.specs.InsertionPlans.{Plans, selected_between}
 use Rattle.rt_edits.specs.Insertions.{Insertion, Piece, all_listed, are_among, last_of, left_neighbour, selected_if, tagged_cells, tags_between, with_listed, with_pieces, with_unlisted}

@@ -14,7 +14,7 @@ use Rattle.rt_store.specs.Written.{AreWritten, IsWritten}
 use Rattle.rt_store.proofs.Distinct.{differs, first_apart, others_distinct, split}
 use Rattle.rt_tags.specs.States.{is_on, write_of, written}
 use Rattle.rt_tags.proofs.Greatest.{write_of_written}
-use Rattle.rt_edits.specs.Flat.{Flat}
+use Rattle.rt_edits.specs.DocValue.{DocValue}
 use Rattle.rt_edits.specs.Removals.{cells_at, stamps_at}
 use Rattle.rt_edits.specs.TagWrites.{AreTagged, cells_beside, cells_but, changed_stamps, is_changed, tag_write, tagged, with_tag_at, writes_of}
 use Rattle.rt_edits.proofs.DistinctLaws.{stamps_within}
@@ -86,7 +86,7 @@ settled true false h = sym h
 settled false b h = h
 
 -- on, or off, at each of the places
-pub placed_as_asked : (flat : Flat) (places : ℕ → Bool) (on : Bool) (name : Word) → AreWritten flat.count flat.cells → All (λ c. is_on name c.state ≡ on) (cells_at places 0 (with_tag_at flat places on name).cells)
+pub placed_as_asked : (flat : DocValue) (places : ℕ → Bool) (on : Bool) (name : Word) → AreWritten flat.count flat.cells → All (λ c. is_on name c.state ≡ on) (cells_at places 0 (with_tag_at flat places on name).cells)
 placed_as_asked flat places on name known =
     let chosen : List TaggedCell = cells_at places 0 flat.cells in
     let stamps = changed_stamps name on chosen in
@@ -143,7 +143,7 @@ pub some_among : (test : TaggedCell → Bool) (cells : List TaggedCell) (s : Sta
 some_among test [] s h = h
 some_among test (c ∷ cs) s h = some_step (test c) c cs (filter test cs) s (some_among test cs s) h
 
-pub others_stay_at : (flat : Flat) (places : ℕ → Bool) (on : Bool) (name : Word) → AreDistinct flat.cells → cells_beside places 0 (with_tag_at flat places on name).cells ≡ cells_beside places 0 flat.cells
+pub others_stay_at : (flat : DocValue) (places : ℕ → Bool) (on : Bool) (name : Word) → AreDistinct flat.cells → cells_beside places 0 (with_tag_at flat places on name).cells ≡ cells_beside places 0 flat.cells
 others_stay_at flat places on name d =
     let chosen : List TaggedCell = cells_at places 0 flat.cells in
     let stamps = changed_stamps name on chosen in

@@ -31,7 +31,7 @@ use Rattle.rt_rga.proofs.Corollaries.{all_states}
 use Rattle.rt_rga.proofs.Writes.{state_sorted}
 use Rattle.rt_edits.specs.DraftLaws.{AreTagNames, AreTexts}
 use Rattle.rt_edits.specs.Insertions.{Insertion, Piece, cells_of_inserts, further_tags, inserts_for, last_of, left_neighbour, new_state, put_on, shared_names, tagged_cells, tags_between, with_listed, with_pieces}
-use Rattle.rt_edits.specs.Flat.{Flat}
+use Rattle.rt_edits.specs.DocValue.{DocValue}
 use Rattle.rt_edits.specs.Removals.{cells_at, gone_at}
 use Rattle.rt_edits.specs.TagWrites.{changed_stamps, tag_write, tagged, with_tag_at, with_tags_at}
 use Rattle.rt_edits.proofs.PieceDraftLaws.{listed_more}
@@ -252,7 +252,7 @@ pub all_tagged_named : (site count : ℕ) (name : Word) (on : Bool) (stamps : Li
 all_tagged_named site count name on stamps [] n h = tt
 all_tagged_named site count name on stamps (c ∷ cs) n h = (tagged_named site count name on stamps c n h.0, all_tagged_named site count name on stamps cs n h.1)
 
-pub tags_named : (names : List Word) (flat : Flat) (places : ℕ → Bool) (on : Bool) → list_all is_name names ≡ true → CellsNamed flat.cells → CellsNamed (with_tags_at flat places on names).cells
+pub tags_named : (names : List Word) (flat : DocValue) (places : ℕ → Bool) (on : Bool) → list_all is_name names ≡ true → CellsNamed flat.cells → CellsNamed (with_tags_at flat places on names).cells
 tags_named [] flat places on n h = h
 tags_named (name ∷ names) flat places on n h =
     let p = and_parts (is_name name) (list_all is_name names) n in

@@ -9,7 +9,7 @@ use Rattle.rt_tags.specs.States.{is_on}
 use Rattle.rt_tags.specs.Tags.{is_listed}
 use Rattle.rt_tags.proofs.Places.{split}
 use Rattle.rt_edits.specs.TagWrites.{listed_if, is_changed, changed_stamps, tagged, with_tag, with_tag_at, with_tags_at}
-use Rattle.rt_edits.specs.Flat.{Flat}
+use Rattle.rt_edits.specs.DocValue.{DocValue}
 use Rattle.rt_store.specs.Shown.{TaggedCell}
 use Rattle.rt_edits.specs.Listed.{AreListed}
 use Rattle.rt_edits.specs.Removals.{cells_at}
@@ -20,32 +20,32 @@ use Rattle.rt_edits.proofs.WriterLaws.{tagged_on}
 
 -- AS FAR AS THE TEXT GOES
 
-pub tag_alike : (flat : Flat) (r s : ℕ → Bool) (on : Bool) (name : Word) → AreAlike r s 0 (length (visible_of flat.cells)) → with_tag_at flat r on name ≡ with_tag_at flat s on name
+pub tag_alike : (flat : DocValue) (r s : ℕ → Bool) (on : Bool) (name : Word) → AreAlike r s 0 (length (visible_of flat.cells)) → with_tag_at flat r on name ≡ with_tag_at flat s on name
 tag_alike flat r s on name h = ap (λ l. with_tag flat name on (changed_stamps name on l)) (cells_alike r s 0 flat.cells h)
 
 -- as many characters are visible
-as_many : (flat : Flat) (s : ℕ → Bool) (on : Bool) (name : Word) → length (visible_of (with_tag_at flat s on name).cells) ≡ length (visible_of flat.cells)
+as_many : (flat : DocValue) (s : ℕ → Bool) (on : Bool) (name : Word) → length (visible_of (with_tag_at flat s on name).cells) ≡ length (visible_of flat.cells)
 as_many flat s on name =
     let stamps = changed_stamps name on (cells_at s 0 flat.cells) in
     let g : TaggedCell → TaggedCell = tagged flat.site flat.count name on stamps in
     ap length (visible_changed g (tagged_state flat.site flat.count name on stamps) flat.cells) ∙ length-map (visible_of flat.cells) g
 
-pub tags_alike_at : (names : List Word) (flat : Flat) (r s : ℕ → Bool) (on : Bool) → AreAlike r s 0 (length (visible_of flat.cells)) → with_tags_at flat r on names ≡ with_tags_at flat s on names
+pub tags_alike_at : (names : List Word) (flat : DocValue) (r s : ℕ → Bool) (on : Bool) → AreAlike r s 0 (length (visible_of flat.cells)) → with_tags_at flat r on names ≡ with_tags_at flat s on names
 tags_alike_at [] flat r s on h = refl
 tags_alike_at (name ∷ names) flat r s on h =
-    ap (λ (f : Flat). with_tags_at f r on names) (tag_alike flat r s on name h) ∙ tags_alike_at names (with_tag_at flat s on name) r s on (subst (AreAlike r s 0) (sym (as_many flat s on name)) h)
+    ap (λ (f : DocValue). with_tags_at f r on names) (tag_alike flat r s on name h) ∙ tags_alike_at names (with_tag_at flat s on name) r s on (subst (AreAlike r s 0) (sym (as_many flat s on name)) h)
 
 -- the text stays
-pub tag_text : (flat : Flat) (s : ℕ → Bool) (on : Bool) (name : Word) → text_of (with_tag_at flat s on name).cells ≡ text_of flat.cells
+pub tag_text : (flat : DocValue) (s : ℕ → Bool) (on : Bool) (name : Word) → text_of (with_tag_at flat s on name).cells ≡ text_of flat.cells
 tag_text flat s on name =
     let stamps = changed_stamps name on (cells_at s 0 flat.cells) in
     text_changed (tagged flat.site flat.count name on stamps) (tagged_state flat.site flat.count name on stamps) flat.cells
 
-pub listed_text : (on : Bool) (name : Word) (flat : Flat) → text_of (listed_if on name flat).cells ≡ text_of flat.cells
+pub listed_text : (on : Bool) (name : Word) (flat : DocValue) → text_of (listed_if on name flat).cells ≡ text_of flat.cells
 listed_text true name flat = refl
 listed_text false name flat = refl
 
-pub listed_count : (on : Bool) (name : Word) (flat : Flat) → (listed_if on name flat).count ≡ flat.count
+pub listed_count : (on : Bool) (name : Word) (flat : DocValue) → (listed_if on name flat).count ≡ flat.count
 listed_count true name flat = refl
 listed_count false name flat = refl
 
@@ -62,13 +62,13 @@ map_same [] = refl
 map_same (c ∷ cs) = ap (λ l. c ∷ l) (map_same cs)
 
 -- a tag that no character has
-pub absent_tag : (flat : Flat) (name : Word) → All (λ c. is_on name c.state ≡ false) (visible_of flat.cells) → with_tag_at flat everywhere false name ≡ flat
+pub absent_tag : (flat : DocValue) (name : Word) → All (λ c. is_on name c.state ≡ false) (visible_of flat.cells) → with_tag_at flat everywhere false name ≡ flat
 absent_tag flat name h =
     let none : changed_stamps name false (cells_at everywhere 0 flat.cells) ≡ [] = ap (changed_stamps name false) (every_cell 0 flat.cells) ∙ ap (map (λ (c : TaggedCell). c.stamp)) (none_changed name (visible_of flat.cells) h) in
     ap (with_tag flat name false) none ∙ (λ i. record flat { cells = map_same flat.cells i; count = add-zero flat.count i })
 
 -- where no character has a tag, none has it after another was taken off
-pub still_absent : (flat : Flat) (name q : Word) → All (λ c. is_on q c.state ≡ false) (visible_of flat.cells) → All (λ c. is_on q c.state ≡ false) (visible_of (with_tag_at flat everywhere false name).cells)
+pub still_absent : (flat : DocValue) (name q : Word) → All (λ c. is_on q c.state ≡ false) (visible_of flat.cells) → All (λ c. is_on q c.state ≡ false) (visible_of (with_tag_at flat everywhere false name).cells)
 still_absent flat name q h =
     let stamps = changed_stamps name false (cells_at everywhere 0 flat.cells) in
     visible_after (λ c. is_on q c.state ≡ false) (λ c. is_on q c.state ≡ false) flat everywhere false name

@@ -19,7 +19,7 @@ use Rattle.rt_store.specs.Shown.{TaggedCell}
 use Rattle.rt_tags.specs.States.{Write, is_on, says_on, write_of, written}
 use Rattle.rt_tags.proofs.Greatest.{newer, write_of_written}
 use Rattle.rt_tags.proofs.Places.{same_name, name_itself}
-use Rattle.rt_edits.specs.Flat.{Flat}
+use Rattle.rt_edits.specs.DocValue.{DocValue}
 use Rattle.rt_store.specs.Written.{IsWritten, AreWritten}
 use Rattle.rt_edits.specs.Removals.{cells_at, span_count, operations_for}
 use Rattle.rt_store.specs.Spans.{precedes, next_stamp, is_among}
@@ -206,20 +206,20 @@ all_map P Q g h [] k = All-nil Q
 all_map P Q g h (c ∷ cs) k = All-cons Q (g c) (map g cs) (h c (All-head P c cs k)) (all_map P Q g h cs (All-tail P c cs k))
 
 -- the writers on a document's characters stay known
-pub tag_written : (flat : Flat) (places : ℕ → Bool) (on : Bool) (name : Word) → AreWritten flat.count flat.cells → AreWritten (with_tag_at flat places on name).count (with_tag_at flat places on name).cells
+pub tag_written : (flat : DocValue) (places : ℕ → Bool) (on : Bool) (name : Word) → AreWritten flat.count flat.cells → AreWritten (with_tag_at flat places on name).count (with_tag_at flat places on name).cells
 tag_written flat places on name h =
     let stamps = changed_stamps name on (cells_at places 0 flat.cells) in
     all_map (λ c. IsWritten flat.count c.state) (λ c. IsWritten (flat.count + operations_for (span_count stamps)) c.state) (tagged flat.site flat.count name on stamps) (tagged_written flat.site flat.count name on stamps) flat.cells h
 
-pub tag_grows : (flat : Flat) (places : ℕ → Bool) (on : Bool) (name : Word) → flat.count ≤ (with_tag_at flat places on name).count
+pub tag_grows : (flat : DocValue) (places : ℕ → Bool) (on : Bool) (name : Word) → flat.count ≤ (with_tag_at flat places on name).count
 tag_grows flat places on name = omega arith
 
-without_grows : (flat : Flat) (name : Word) → flat.count ≤ (without_tag flat name).count
+without_grows : (flat : DocValue) (name : Word) → flat.count ≤ (without_tag flat name).count
 without_grows flat name =
     split (bytes_eq name sel)
-    (λ t. let same : (without_tag flat name).count ≡ flat.count = ap (λ (f : Flat). f.count) (cond-true (bytes_eq name sel) flat _ t) in omega (arith, same))
-    (λ f. let same : (without_tag flat name).count ≡ (with_tag_at flat (λ _. true) false name).count = ap (λ (f : Flat). f.count) (cond-false (bytes_eq name sel) flat _ f) in omega (arith, same, tag_grows flat (λ _. true) false name))
+    (λ t. let same : (without_tag flat name).count ≡ flat.count = ap (λ (f : DocValue). f.count) (cond-true (bytes_eq name sel) flat _ t) in omega (arith, same))
+    (λ f. let same : (without_tag flat name).count ≡ (with_tag_at flat (λ _. true) false name).count = ap (λ (f : DocValue). f.count) (cond-false (bytes_eq name sel) flat _ f) in omega (arith, same, tag_grows flat (λ _. true) false name))
 
-pub all_without_grows : (names : List Word) (flat : Flat) → flat.count ≤ (without_tags flat names).count
+pub all_without_grows : (names : List Word) (flat : DocValue) → flat.count ≤ (without_tags flat names).count
 all_without_grows [] flat = omega arith
 all_without_grows (name ∷ names) flat = omega (arith, without_grows flat name, all_without_grows names (without_tag flat name))

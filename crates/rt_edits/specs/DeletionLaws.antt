@@ -16,7 +16,7 @@ use Rattle.rt_rga.specs.Requests.{MayBeMade, characters_in_all}
 use Rattle.rt_edits.specs.declared.range.Range.{Range}
 use Rattle.rt_edits.specs.Deletions.{Loss, delete_drafts, loss_in, without_text}
 use Rattle.rt_edits.specs.DraftLaws.{AreTagNames, AreTexts, IsDocument, IsElement, IsInsertion, SparesLast}
-use Rattle.rt_edits.specs.Flat.{Flat, left_of, put_after}
+use Rattle.rt_edits.specs.DocValue.{DocValue, left_of, put_after}
 use Rattle.rt_edits.specs.InsertionDrafts.{insertion_drafts}
 use Rattle.rt_edits.specs.Insertions.{Insertion, Piece, insertion_of, last_of, left_neighbour, tags_between, with_pieces}
 
@@ -30,35 +30,35 @@ RangesSpareLast =
 -- They may be made also where the counts don't fit.
 abbrev pub LossMayBeMade : Type 0
 LossMayBeMade =
-    (site : ℕ) (log : List Operation) (flat : Flat) (loss : Loss) → IsHistory log → IsDocument site log flat → SparesLast loss.places (text_of flat.cells)
+    (site : ℕ) (log : List Operation) (flat : DocValue) (loss : Loss) → IsHistory log → IsDocument site log flat → SparesLast loss.places (text_of flat.cells)
     → MayBeMade site log (delete_drafts MOST_SPANS flat loss)
 
 abbrev pub LossIsCounted : Type 0
 LossIsCounted =
-    (site : ℕ) (log : List Operation) (flat : Flat) (loss : Loss) → IsHistory log → IsDocument site log flat
+    (site : ℕ) (log : List Operation) (flat : DocValue) (loss : Loss) → IsHistory log → IsDocument site log flat
     → greatest_last_count (with_drafts site (delete_drafts MOST_SPANS flat loss) log) ≡ (without_text flat loss).count
 
 abbrev pub LossIsMade : Type 0
 LossIsMade =
-    (site : ℕ) (log : List Operation) (flat : Flat) (loss : Loss) → 0 < site → IsHistory log → IsDocument site log flat
+    (site : ℕ) (log : List Operation) (flat : DocValue) (loss : Loss) → 0 < site → IsHistory log → IsDocument site log flat
     → SparesLast loss.places (text_of flat.cells) → (without_text flat loss).count ≤ GREATEST_COUNT
     → IsDocument site (with_drafts site (delete_drafts MOST_SPANS flat loss) log) (without_text flat loss)
 
 abbrev pub LossInsertsNone : Type 0
-LossInsertsNone = (flat : Flat) (loss : Loss) → characters_in_all (delete_drafts MOST_SPANS flat loss) ≡ 0
+LossInsertsNone = (flat : DocValue) (loss : Loss) → characters_in_all (delete_drafts MOST_SPANS flat loss) ≡ 0
 
 -- REPLACEMENTS: a deletion, and then an insertion into what it leaves
 
 abbrev pub ReplacementMayBeMade : Type 0
 ReplacementMayBeMade =
-    (site : ℕ) (log : List Operation) (flat : Flat) (loss : Loss) (after : Stamp) (left right : Option TaggedCell) (pieces : List Piece)
+    (site : ℕ) (log : List Operation) (flat : DocValue) (loss : Loss) (after : Stamp) (left right : Option TaggedCell) (pieces : List Piece)
     (rest : Word) (start : Insertion) → IsHistory log → IsDocument site log flat → SparesLast loss.places (text_of flat.cells)
     → IsInsertion site (with_drafts site (delete_drafts MOST_SPANS flat loss) log) after left right pieces rest start
     → MayBeMade site log (delete_drafts MOST_SPANS flat loss ++ insertion_drafts MOST_CHARACTERS site after left right pieces rest start)
 
 abbrev pub ReplacementIsCounted : Type 0
 ReplacementIsCounted =
-    (site : ℕ) (log : List Operation) (flat : Flat) (loss : Loss) (after : Stamp) (left right : Option TaggedCell) (pieces : List Piece)
+    (site : ℕ) (log : List Operation) (flat : DocValue) (loss : Loss) (after : Stamp) (left right : Option TaggedCell) (pieces : List Piece)
     (rest : Word) (start : Insertion) → IsHistory log → IsDocument site log flat → start.count ≡ (without_text flat loss).count
     → greatest_last_count (with_drafts site
     (delete_drafts MOST_SPANS flat loss ++ insertion_drafts MOST_CHARACTERS site after left right pieces rest start) log)
@@ -66,7 +66,7 @@ ReplacementIsCounted =
 
 abbrev pub ReplacementIsMade : Type 0
 ReplacementIsMade =
-    (site : ℕ) (log : List Operation) (flat : Flat) (loss : Loss) (after : Stamp) (left right : Option TaggedCell) (pieces : List Piece)
+    (site : ℕ) (log : List Operation) (flat : DocValue) (loss : Loss) (after : Stamp) (left right : Option TaggedCell) (pieces : List Piece)
     (rest : Word) (start : Insertion) → 0 < site → IsHistory log → IsDocument site log flat → SparesLast loss.places (text_of flat.cells)
     → IsInsertion site (with_drafts site (delete_drafts MOST_SPANS flat loss) log) after left right pieces rest start
     → (insertion_of site left right pieces rest start).count ≤ GREATEST_COUNT
@@ -83,7 +83,7 @@ LeftIsElement = (log : List Operation) (place : ℕ) → IsHistory log → place
 -- The same in what a deletion leaves, also where its counts don't fit.
 abbrev pub LeftStaysElement : Type 0
 LeftStaysElement =
-    (site : ℕ) (log : List Operation) (flat : Flat) (loss : Loss) (place : ℕ) → IsHistory log → IsDocument site log flat
+    (site : ℕ) (log : List Operation) (flat : DocValue) (loss : Loss) (place : ℕ) → IsHistory log → IsDocument site log flat
     → SparesLast loss.places (text_of flat.cells) → place < length (text_of (without_text flat loss).cells)
     → IsElement (with_drafts site (delete_drafts MOST_SPANS flat loss) log) (left_of (without_text flat loss).cells place)
 
@@ -94,7 +94,7 @@ CellsHaveTagNames = (log : List Operation) → IsHistory log → All (λ cell. A
 -- The tags that both neighbours have in what a deletion leaves, where pieces stand before the place perhaps.
 abbrev pub TagsLeftAreTags : Type 0
 TagsLeftAreTags =
-    (site : ℕ) (log : List Operation) (flat : Flat) (loss : Loss) (place : ℕ) (right : Option TaggedCell) (pieces : List Piece)
+    (site : ℕ) (log : List Operation) (flat : DocValue) (loss : Loss) (place : ℕ) (right : Option TaggedCell) (pieces : List Piece)
     (start : Insertion) → IsHistory log → IsDocument site log flat → AreTexts pieces → start.cells ≡ []
     → AreTagNames (tags_between (last_of (left_neighbour (visible_of (without_text flat loss).cells) place)
     (with_pieces site pieces start).cells) right)
@@ -116,7 +116,7 @@ PiecesAreTexts = (pieces : List Piece) → All IsPiece pieces → AreTexts piece
 -- Before each place below the text's end.
 abbrev pub InsertionsMayBegin : Type 0
 InsertionsMayBegin =
-    (site : ℕ) (log : List Operation) (flat : Flat) (place : ℕ) (right : Option TaggedCell) (pieces : List Piece) (rest : Word) (start : Insertion)
+    (site : ℕ) (log : List Operation) (flat : DocValue) (place : ℕ) (right : Option TaggedCell) (pieces : List Piece) (rest : Word) (start : Insertion)
     → IsHistory log → IsDocument site log flat → place < length (text_of flat.cells) → AreTexts pieces → IsUtf8 rest
     → start.cells ≡ [] → start.count ≡ flat.count
     → IsInsertion site log (left_of flat.cells place) (left_neighbour (visible_of flat.cells) place) right pieces rest start
@@ -124,7 +124,7 @@ InsertionsMayBegin =
 -- The same in what a deletion leaves, also where its counts don't fit.
 abbrev pub ReplacementsMayBegin : Type 0
 ReplacementsMayBegin =
-    (site : ℕ) (log : List Operation) (flat : Flat) (loss : Loss) (place : ℕ) (right : Option TaggedCell) (pieces : List Piece)
+    (site : ℕ) (log : List Operation) (flat : DocValue) (loss : Loss) (place : ℕ) (right : Option TaggedCell) (pieces : List Piece)
     (rest : Word) (start : Insertion) → IsHistory log → IsDocument site log flat → SparesLast loss.places (text_of flat.cells)
     → let left = without_text flat loss in
     place < length (text_of left.cells) → AreTexts pieces → IsUtf8 rest → start.cells ≡ [] → start.count ≡ left.count

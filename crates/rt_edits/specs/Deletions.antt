@@ -6,7 +6,7 @@ use Rattle.rt_store.specs.Cells.{visible_of}
 use Rattle.rt_store.specs.Shown.{TaggedCell}
 use Rattle.rt_tags.specs.States.{names_on}
 use Rattle.rt_edits.specs.declared.range.Range.{Range}
-use Rattle.rt_edits.specs.Flat.{Flat}
+use Rattle.rt_edits.specs.DocValue.{DocValue}
 use Rattle.rt_edits.specs.RemovalDrafts.{removal_drafts}
 use Rattle.rt_edits.specs.Removals.{gone_at, is_covered, is_removed, operations_for, span_count, stamps_at}
 use Rattle.rt_edits.specs.TagDrafts.{newline_drafts}
@@ -33,12 +33,12 @@ loss_in text begin ranges =
     }
 
 -- the newline that stays
-abbrev pub newline_of : Flat → Loss → Option TaggedCell
+abbrev pub newline_of : DocValue → Loss → Option TaggedCell
 newline_of flat loss = option_and_then (slice_get (visible_of flat.cells)) loss.newline
 
 -- the document without the characters at some places: their cells are gone, with the counts that this takes, and the marks move
 -- for that
-abbrev pub without_places : Flat → (ℕ → Bool) → Flat
+abbrev pub without_places : DocValue → (ℕ → Bool) → DocValue
 without_places flat removed = record flat {
   cells = gone_at removed 0 flat.cells;
   count = flat.count + operations_for (span_count (stamps_at removed 0 flat.cells));
@@ -46,14 +46,14 @@ without_places flat removed = record flat {
 }
 
 -- the document without what a deletion takes
-abbrev pub without_text : Flat → Loss → Flat
+abbrev pub without_text : DocValue → Loss → DocValue
 without_text flat loss =
     let left = without_places flat loss.places in
     unwrap_or (option_map (λ cell. bared left cell.stamp (names_on cell.state)) (newline_of flat loss)) left
 
 -- The operations: the Deletes of the characters that go, of at most so many spans each, and then one Tag for each shared tag of the
 -- newline that stays, by their bytes.
-abbrev pub delete_drafts : ℕ → Flat → Loss → List Body
+abbrev pub delete_drafts : ℕ → DocValue → Loss → List Body
 delete_drafts most flat loss =
     removal_drafts most loss.places flat.cells
     ++ unwrap_or (option_map (λ cell. newline_drafts cell.stamp (names_on cell.state)) (newline_of flat loss)) []

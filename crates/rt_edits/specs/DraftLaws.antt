@@ -18,7 +18,7 @@ use Rattle.rt_rga.specs.Drafts.{all_changed, operations_of, with_drafts}
 use Rattle.rt_rga.specs.Histories.{IsHistory, greatest_last_count, has_character}
 use Rattle.rt_rga.specs.Requests.{MayBeMade, characters_in_all}
 use Rattle.rt_edits.specs.Deletions.{without_places}
-use Rattle.rt_edits.specs.Flat.{Flat, put_after}
+use Rattle.rt_edits.specs.DocValue.{DocValue, put_after}
 use Rattle.rt_edits.specs.InsertionDrafts.{insertion_drafts, text_drafts}
 use Rattle.rt_edits.specs.Insertions.{Insertion, Piece, counts_for, insertion_of, last_of, left_neighbour, shared_names, tagged_cells, tags_between, with_pieces}
 use Rattle.rt_edits.specs.RemovalDrafts.{removal_drafts}
@@ -27,7 +27,7 @@ use Rattle.rt_edits.specs.TagDrafts.{deletion_drafts, newline_drafts, tag_drafts
 use Rattle.rt_edits.specs.TagWrites.{bared, tagged, with_tags_at, without_tags}
 
 -- a document has the cells of its site's history, and its greatest count
-pub record IsDocument (number : ℕ) (log : List Operation) (flat : Flat) : Type 0 where
+pub record IsDocument (number : ℕ) (log : List Operation) (flat : DocValue) : Type 0 where
   pub cells : flat.cells ≡ cells_of log
   pub site : flat.site ≡ number
   pub count : flat.count ≡ greatest_last_count log
@@ -56,7 +56,7 @@ DeletesMayBeMade =
 
 abbrev pub RemovalIsMade : Type 0
 RemovalIsMade =
-    (site : ℕ) (log : List Operation) (flat : Flat) (removed : ℕ → Bool) → 0 < site → IsHistory log → IsDocument site log flat
+    (site : ℕ) (log : List Operation) (flat : DocValue) (removed : ℕ → Bool) → 0 < site → IsHistory log → IsDocument site log flat
     → SparesLast removed (text_of flat.cells) → (without_places flat removed).count ≤ GREATEST_COUNT
     → IsDocument site (with_drafts site (removal_drafts MOST_SPANS removed flat.cells) log) (without_places flat removed)
 
@@ -76,13 +76,13 @@ TagsAreCounted =
 -- Tags on the characters at some places, one tag after the other.
 abbrev pub TagsMayBeMade : Type 0
 TagsMayBeMade =
-    (site : ℕ) (log : List Operation) (flat : Flat) (places : ℕ → Bool) (on : Bool) (names : List Word)
+    (site : ℕ) (log : List Operation) (flat : DocValue) (places : ℕ → Bool) (on : Bool) (names : List Word)
     → IsHistory log → IsDocument site log flat → AllByRecursion (λ name. is_name name ≡ true) names
     → MayBeMade site log (tags_drafts_at MOST_SPANS flat places on names)
 
 abbrev pub TagsAreMade : Type 0
 TagsAreMade =
-    (site : ℕ) (log : List Operation) (flat : Flat) (places : ℕ → Bool) (on : Bool) (names : List Word)
+    (site : ℕ) (log : List Operation) (flat : DocValue) (places : ℕ → Bool) (on : Bool) (names : List Word)
     → 0 < site → IsHistory log → IsDocument site log flat → AllByRecursion (λ name. is_name name ≡ true) names
     → (with_tags_at flat places on names).count ≤ GREATEST_COUNT
     → IsDocument site (with_drafts site (tags_drafts_at MOST_SPANS flat places on names) log) (with_tags_at flat places on names)
@@ -90,12 +90,12 @@ TagsAreMade =
 -- Tags that are deleted, by any words: `sel` perhaps among them, and words that no character has as a tag.
 abbrev pub DeletionsMayBeMade : Type 0
 DeletionsMayBeMade =
-    (site : ℕ) (log : List Operation) (flat : Flat) (names : List Word)
+    (site : ℕ) (log : List Operation) (flat : DocValue) (names : List Word)
     → IsHistory log → IsDocument site log flat → MayBeMade site log (deletion_drafts MOST_SPANS flat names)
 
 abbrev pub DeletionsAreMade : Type 0
 DeletionsAreMade =
-    (site : ℕ) (log : List Operation) (flat : Flat) (names : List Word)
+    (site : ℕ) (log : List Operation) (flat : DocValue) (names : List Word)
     → 0 < site → IsHistory log → IsDocument site log flat → (without_tags flat names).count ≤ GREATEST_COUNT
     → IsDocument site (with_drafts site (deletion_drafts MOST_SPANS flat names) log) (without_tags flat names)
 
@@ -103,14 +103,14 @@ DeletionsAreMade =
 -- its place.
 abbrev pub NewlineHasOneTagEach : Type 0
 NewlineHasOneTagEach =
-    (site : ℕ) (log : List Operation) (flat : Flat) (place : ℕ) (cell : TaggedCell) → IsHistory log → IsDocument site log flat
+    (site : ℕ) (log : List Operation) (flat : DocValue) (place : ℕ) (cell : TaggedCell) → IsHistory log → IsDocument site log flat
     → slice_get (visible_of flat.cells) place ≡ Some cell
     → tags_drafts_at MOST_SPANS flat (λ p. p == place) false (names_on cell.state) ≡ newline_drafts cell.stamp (names_on cell.state)
 
 -- The document is then as where they are taken off at its place.
 abbrev pub NewlineIsBared : Type 0
 NewlineIsBared =
-    (site : ℕ) (log : List Operation) (flat : Flat) (place : ℕ) (cell : TaggedCell) → IsHistory log → IsDocument site log flat
+    (site : ℕ) (log : List Operation) (flat : DocValue) (place : ℕ) (cell : TaggedCell) → IsHistory log → IsDocument site log flat
     → slice_get (visible_of flat.cells) place ≡ Some cell
     → with_tags_at flat (λ p. p == place) false (names_on cell.state) ≡ bared flat cell.stamp (names_on cell.state)
 
@@ -204,12 +204,12 @@ TagsBetweenAreTags =
 -- Whether the counts fit is told by the count of the flat edit.
 abbrev pub AllTagsAreCounted : Type 0
 AllTagsAreCounted =
-    (site : ℕ) (log : List Operation) (flat : Flat) (places : ℕ → Bool) (on : Bool) (names : List Word) → IsHistory log → IsDocument site log flat
+    (site : ℕ) (log : List Operation) (flat : DocValue) (places : ℕ → Bool) (on : Bool) (names : List Word) → IsHistory log → IsDocument site log flat
     → greatest_last_count (with_drafts site (tags_drafts_at MOST_SPANS flat places on names) log) ≡ (with_tags_at flat places on names).count
 
 abbrev pub DeletionsAreCounted : Type 0
 DeletionsAreCounted =
-    (site : ℕ) (log : List Operation) (flat : Flat) (names : List Word) → IsHistory log → IsDocument site log flat
+    (site : ℕ) (log : List Operation) (flat : DocValue) (names : List Word) → IsHistory log → IsDocument site log flat
     → greatest_last_count (with_drafts site (deletion_drafts MOST_SPANS flat names) log) ≡ (without_tags flat names).count
 
 abbrev pub InsertionIsCounted : Type 0
@@ -222,10 +222,10 @@ InsertionIsCounted =
 -- Whether the cells fit is told by the new cells of the flat edit: tags and removals insert no characters.
 abbrev pub TagsInsertNone : Type 0
 TagsInsertNone =
-    (flat : Flat) (places : ℕ → Bool) (on : Bool) (names : List Word) → characters_in_all (tags_drafts_at MOST_SPANS flat places on names) ≡ 0
+    (flat : DocValue) (places : ℕ → Bool) (on : Bool) (names : List Word) → characters_in_all (tags_drafts_at MOST_SPANS flat places on names) ≡ 0
 
 abbrev pub DeletionsInsertNone : Type 0
-DeletionsInsertNone = (flat : Flat) (names : List Word) → characters_in_all (deletion_drafts MOST_SPANS flat names) ≡ 0
+DeletionsInsertNone = (flat : DocValue) (names : List Word) → characters_in_all (deletion_drafts MOST_SPANS flat names) ≡ 0
 
 abbrev pub InsertionHasNewCells : Type 0
 InsertionHasNewCells =

@@ -10,7 +10,7 @@ use Rattle.rt_tags.specs.States.{names_on}
 use Rattle.rt_tags.specs.Tags.{sel}
 use Rattle.rt_tags.specs.Writers.{listed_by, state_after}
 use Rattle.rt_rga.specs.Examples.{at, only_t}
-use Rattle.rt_edits.specs.Flat.{Flat, new_flat}
+use Rattle.rt_edits.specs.DocValue.{DocValue, new_doc}
 use Rattle.rt_edits.specs.Insertions.{Insertion, Piece}
 
 -- site 2 wrote `Y`, which is (3,2), before the `ab` of site 1, which are (1,1) and (2,1)
@@ -21,18 +21,18 @@ cells_of_yab = cells_from 3 2 [] (codes "Y") ++ cells_from 1 1 [] (codes "ab")
 abbrev pub cells_with_t : List TaggedCell
 cells_with_t = cells_from 3 2 [] (codes "Y") ++ cells_from 1 1 (state_after [] (listed_by ROOT only_t)) (codes "a") ++ cells_from 2 1 [] (codes "b")
 
-abbrev pub flat_with_t : Flat
-flat_with_t = record (new_flat 3 9) { cells = cells_with_t; count = 3 }
+abbrev pub flat_with_t : DocValue
+flat_with_t = record (new_doc 3 9) { cells = cells_with_t; count = 3 }
 
 -- the same with the last newline, which has the tag t too
-abbrev pub flat_with_newline : Flat
+abbrev pub flat_with_newline : DocValue
 flat_with_newline = record flat_with_t {
   cells = cells_with_t ++ record { stamp = FINAL; ch = 10; gone = false; state = state_after [] (listed_by ROOT only_t) } ∷ [];
 }
 
 -- the lines `a`, `b`, `c` and `d`, of site 1, each character of which has the tag t, and the last newline
-abbrev pub flat_of_lines : Flat
-flat_of_lines = record (new_flat 3 9) {
+abbrev pub flat_of_lines : DocValue
+flat_of_lines = record (new_doc 3 9) {
   cells = cells_from 1 1 (state_after [] (listed_by (at 1 1) only_t)) (codes "a\nb\nc\nd") ++ record { stamp = FINAL; ch = 10; gone = false; state = [] } ∷ [];
   count = 7;
 }

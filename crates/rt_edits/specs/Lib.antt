@@ -2,7 +2,7 @@ pub mod DeletionLaws
 pub mod Deletions
 pub mod DraftLaws
 pub mod Examples
-pub mod Flat
+pub mod DocValue
 pub mod InsertionDrafts
 pub mod InsertionPlans
 pub mod Insertions

@@ -6,7 +6,7 @@ use Rattle.rt_stamps.specs.Words.{Word}
 use Rattle.rt_ops.specs.Operations.{Body, Tag}
 use Rattle.rt_store.specs.Shown.{TaggedCell}
 use Rattle.rt_tags.specs.Tags.{sel}
-use Rattle.rt_edits.specs.Flat.{Flat}
+use Rattle.rt_edits.specs.DocValue.{DocValue}
 use Rattle.rt_edits.specs.NamedSpans.{parts_of, span_of, spans_in}
 use Rattle.rt_edits.specs.Removals.{cells_at}
 use Rattle.rt_edits.specs.TagWrites.{changed_stamps, with_tag_at, without_tag}
@@ -21,13 +21,13 @@ abbrev pub tag_drafts_at : ℕ → (ℕ → Bool) → Bool → Word → List Tag
 tag_drafts_at most places on name cells = tag_drafts most on name (changed_stamps name on (cells_at places 0 cells))
 
 -- several tags, each where the ones before it have left it to be put on or taken off
-abbrev pub tags_drafts_at : ℕ → Flat → (ℕ → Bool) → Bool → List Word → List Body
+abbrev pub tags_drafts_at : ℕ → DocValue → (ℕ → Bool) → Bool → List Word → List Body
 tags_drafts_at most flat places on [] = []
 tags_drafts_at most flat places on (name ∷ names) =
     tag_drafts_at most places on name flat.cells ++ tags_drafts_at most (with_tag_at flat places on name) places on names
 
 -- tags that are deleted are taken off the whole text; `sel` makes no operation
-abbrev pub deletion_drafts : ℕ → Flat → List Word → List Body
+abbrev pub deletion_drafts : ℕ → DocValue → List Word → List Body
 deletion_drafts most flat [] = []
 deletion_drafts most flat (name ∷ names) =
     (if bytes_eq name sel then [] else tag_drafts_at most (λ _. true) false name flat.cells) ++ deletion_drafts most (without_tag flat name) names

@@ -8,7 +8,7 @@ use Rattle.rt_stamps.specs.Stamps.{is_same}
 use Rattle.rt_stamps.specs.Words.{Word}
 use Rattle.rt_tags.specs.States.{Write, is_on, write_of, written}
 use Rattle.rt_tags.specs.Tags.{sel, with_name, without}
-use Rattle.rt_edits.specs.Flat.{Flat}
+use Rattle.rt_edits.specs.DocValue.{DocValue}
 use Rattle.rt_store.specs.Shown.{TaggedCell}
 use Rattle.rt_store.specs.Cells.{stamps_of}
 use Rattle.rt_edits.specs.Removals.{cells_at, span_count, operations_for}
@@ -46,38 +46,38 @@ tagged site count name on stamps cell =
     if is_among stamps cell.stamp then record cell { state = written (tag_write site count name on stamps cell.stamp) cell.state } else cell
 
 -- a document after a tag was put on the characters of some stamps, or taken off: each operation takes a count
-abbrev pub with_tag : Flat → Word → Bool → List Stamp → Flat
+abbrev pub with_tag : DocValue → Word → Bool → List Stamp → DocValue
 with_tag flat name on stamps = record flat {
   cells = map (tagged flat.site flat.count name on stamps) flat.cells;
   count = flat.count + operations_for (span_count stamps);
 }
 
 -- the same of the characters at some places: only those are named that the operation changes
-abbrev pub with_tag_at : Flat → (ℕ → Bool) → Bool → Word → Flat
+abbrev pub with_tag_at : DocValue → (ℕ → Bool) → Bool → Word → DocValue
 with_tag_at flat places on name = with_tag flat name on (changed_stamps name on (cells_at places 0 flat.cells))
 
 -- several tags, one after the other
-abbrev pub with_tags_at : Flat → (ℕ → Bool) → Bool → List Word → Flat
+abbrev pub with_tags_at : DocValue → (ℕ → Bool) → Bool → List Word → DocValue
 with_tags_at flat places on [] = flat
 with_tags_at flat places on (name ∷ names) = with_tags_at (with_tag_at flat places on name) places on names
 
 -- tags taken off one character, one after the other
-abbrev pub bared : Flat → Stamp → List Word → Flat
+abbrev pub bared : DocValue → Stamp → List Word → DocValue
 bared flat stamp [] = flat
 bared flat stamp (name ∷ names) = bared (with_tag flat name false (stamp ∷ [])) stamp names
 
 -- a tag that is put on is listed, a new one with the highest priority, also where no character gets it
-abbrev pub listed_if : Bool → Word → Flat → Flat
+abbrev pub listed_if : Bool → Word → DocValue → DocValue
 listed_if true name flat = record flat { tags = with_name name flat.tags }
 listed_if false name flat = flat
 
 -- tags taken off all characters and no longer listed; `sel` is passed over
-abbrev pub without_tag : Flat → Word → Flat
+abbrev pub without_tag : DocValue → Word → DocValue
 without_tag flat name =
     if bytes_eq name sel then flat
     else let off = with_tag_at flat (λ _. true) false name in record off { tags = without name off.tags }
 
-abbrev pub without_tags : Flat → List Word → Flat
+abbrev pub without_tags : DocValue → List Word → DocValue
 without_tags flat [] = flat
 without_tags flat (name ∷ names) = without_tags (without_tag flat name) names
 

@@ -11,7 +11,7 @@ ghost use Rattle.rt_tags.specs.States.{names_on};
 ghost use Rattle.rt_tags.specs.Tags.{IsName, is_listed};
 ghost use Rattle.rt_views.specs.Stretches.{part};
 ghost use Rattle.rt_edits.specs.Deletions.{delete_drafts, loss_in};
-ghost use Rattle.rt_edits.specs.Flat.{Flat};
+ghost use Rattle.rt_edits.specs.DocValue.{DocValue};
 ghost use Rattle.rt_edits.specs.Listed.{AreListed};
 ghost use Rattle.rt_edits.specs.Removals.{AreInOrder, is_covered};
 ghost use Rattle.rt_edits.specs.RemovalDrafts.{removal_drafts};
@@ -107,7 +107,7 @@ pub fn planned_deletion<S: TextStore>(
     requires stretch { (stretch.begin < stretch.end) × (stretch.end ≤ length (text_of (S.list store.now))) }
     requires distinct { AreDistinct (S.list store.now) }
     requires states { AreStates states.now (S.list store.now) }
-    ensures drafts { IfOk result (λ d. (flat : Flat) → flat.cells ≡ map (shown states.now) (S.list store.now)
+    ensures drafts { IfOk result (λ d. (flat : DocValue) → flat.cells ≡ map (shown states.now) (S.list store.now)
         → map body_of d.drafts.items ≡ delete_drafts MOST_SPANS flat (loss_in (part stretch (text_of (S.list store.now))) stretch.begin ranges.now)) }
     ensures places { IfOk result (λ d. (place : ℕ)
         → is_covered d.removed.items place ≡ (loss_in (part stretch (text_of (S.list store.now))) stretch.begin ranges.now).places place) }
@@ -173,7 +173,7 @@ pub fn planned_tag_deletion<S: TextStore>(
     requires distinct { AreDistinct (S.list store.now) }
     requires states { S.agrees store.now states.now }
     requires listed { AreListed tags.now.names (map (shown states.now) (S.list store.now)) }
-    ensures ok { IfOk result (λ drafts. (flat : Flat) → AreWritten flat.count flat.cells
+    ensures ok { IfOk result (λ drafts. (flat : DocValue) → AreWritten flat.count flat.cells
         → flat.cells ≡ map (shown states.now) (S.list store.now)
         → map body_of drafts.items ≡ deletion_drafts MOST_SPANS flat (as_words names.now)) }
     ensures err { IsOkUnless result Fault.NoMemory }

@@ -8,7 +8,7 @@ ghost use Rattle.rt_stamps.specs.Stamps.{is_same};
 ghost use Rattle.rt_store.specs.Cells.{AreDistinct, text_of, stamps_of, with_state};
 ghost use Rattle.rt_edits.specs.declared.range.Range.{Range};
 ghost use Rattle.rt_stamps.specs.Words.{Word};
-ghost use Rattle.rt_edits.specs.Flat.{Flat, left_of, put_after};
+ghost use Rattle.rt_edits.specs.DocValue.{DocValue, left_of, put_after};
 ghost use Rattle.rt_store.specs.Shown.{TaggedCell};
 ghost use Rattle.rt_edits.specs.Insertions.{shared_names, tagged_cells};
 ghost use Rattle.rt_edits.specs.Merging.{begins_line};
@@ -55,23 +55,23 @@ pub fn text_of_removal()
 /// afterwards, and one that is taken off is off. Other cells, other tags, and what else a cell has
 /// stay as they were.
 pub fn tags_of_stamps()
-    ensures named { (flat : Flat) (name : Word) (on : Bool) (stamps : List Stamp) → AreWritten flat.count flat.cells
+    ensures named { (flat : DocValue) (name : Word) (on : Bool) (stamps : List Stamp) → AreWritten flat.count flat.cells
         → AreTagged name on stamps (with_tag flat name on stamps).cells }
-    ensures others { (flat : Flat) (name : Word) (on : Bool) (stamps : List Stamp)
+    ensures others { (flat : DocValue) (name : Word) (on : Bool) (stamps : List Stamp)
         → cells_but stamps (with_tag flat name on stamps).cells ≡ cells_but stamps flat.cells }
-    ensures tags { (flat : Flat) (name other : Word) (on : Bool) (stamps : List Stamp) → bytes_eq other name ≡ false
+    ensures tags { (flat : DocValue) (name other : Word) (on : Bool) (stamps : List Stamp) → bytes_eq other name ≡ false
         → writes_of other (with_tag flat name on stamps).cells ≡ writes_of other flat.cells }
-    ensures rest { (flat : Flat) (name : Word) (on : Bool) (stamps : List Stamp)
+    ensures rest { (flat : DocValue) (name : Word) (on : Bool) (stamps : List Stamp)
         → map (with_state []) (with_tag flat name on stamps).cells ≡ map (with_state []) flat.cells }
 {}
 
 /// The same of the characters at some places; and no write is newer than the document then.
 pub fn tags_at_places()
-    ensures named { (flat : Flat) (places : ℕ → Bool) (on : Bool) (name : Word) → AreWritten flat.count flat.cells
+    ensures named { (flat : DocValue) (places : ℕ → Bool) (on : Bool) (name : Word) → AreWritten flat.count flat.cells
         → All (λ cell. is_on name cell.state ≡ on) (cells_at places 0 (with_tag_at flat places on name).cells) }
-    ensures others { (flat : Flat) (places : ℕ → Bool) (on : Bool) (name : Word) → AreDistinct flat.cells
+    ensures others { (flat : DocValue) (places : ℕ → Bool) (on : Bool) (name : Word) → AreDistinct flat.cells
         → cells_beside places 0 (with_tag_at flat places on name).cells ≡ cells_beside places 0 flat.cells }
-    ensures written { (flat : Flat) (places : ℕ → Bool) (on : Bool) (name : Word) → AreWritten flat.count flat.cells
+    ensures written { (flat : DocValue) (places : ℕ → Bool) (on : Bool) (name : Word) → AreWritten flat.count flat.cells
         → AreWritten (with_tag_at flat places on name).count (with_tag_at flat places on name).cells }
 {}
 

@@ -15,7 +15,7 @@ use Rattle.rt_peer_requests.specs.PeerWords.{AskedOfPeers, asked_of_peers}
 use Rattle.rt_peer_requests.specs.SettingWords.{AskedOfSettings, asked_named_option, asked_settings}
 use Rattle.rt_ops.specs.Operations.{Operation}
 use Rattle.rt_text.specs.Limited.{limited, with_peer}
-use Rattle.rt_editing.specs.Edited.{Edited}
+use Rattle.rt_editing.specs.EditedValue.{EditedValue}
 use Rattle.rt_editing.proofs.Outcomes.{given}
 use Rattle.rt_holding.specs.declared.receiving.Received.{Received}
 use Rattle.rt_peers.specs.Lives.{IsOfFile, KeepsOrMakes, Lives, LivesOn, came_to, keeps, made_by, makes, receives}
@@ -23,7 +23,7 @@ use Rattle.rt_peers.specs.Options.{choice_of, option_outcome, option_step, setti
 use Rattle.rt_peers.specs.Peers.{text_led, with_widget, without_widget}
 use Rattle.rt_peers.specs.PeerStep.{created, destroyed, destroyed_at, last_check, path_check, peer_outcome, peer_step, text_with_peer}
 use Rattle.rt_peers.specs.SiteStep.{AnswersInTurn, CommandGives, Gives, KeepsOperations, MakesAndTries, SiteReceives, WidgetGives, at_widget, by_widget, option_at, peer_step_at, settings_at}
-use Rattle.rt_peers.specs.State.{State, place_of}
+use Rattle.rt_peers.specs.SiteValue.{SiteValue, place_of}
 use Rattle.rt_peers.specs.ViewStep.{Outcome, as_outcome, changed_step, one_word}
 use Rattle.rt_peers.proofs.OptionLaws.{configured_is, limited_leaves, one_more}
 use Rattle.rt_peers.proofs.Coming.{file_of, made_of}
@@ -31,18 +31,18 @@ use Rattle.rt_peers.proofs.InTurn.{all_kept}
 
 -- CALLS THAT ACCEPT NOTHING
 
-pub kept_on : (IsOther : Operation → Type 0) (old new : State) → KeepsOperations old new → LivesOn IsOther old new
+pub kept_on : (IsOther : Operation → Type 0) (old new : SiteValue) → KeepsOperations old new → LivesOn IsOther old new
 kept_on IsOther old new k site limit came l = ([], subst (Lives site limit new) (sym (append-nil came)) (keeps l k), λ op i. absurd i)
 
 -- so it goes on where nothing is accepted, and where operations are made
-pub goes_on : (IsOther : Operation → Type 0) (old new : State) → KeepsOrMakes old new → LivesOn IsOther old new
+pub goes_on : (IsOther : Operation → Type 0) (old new : SiteValue) → KeepsOrMakes old new → LivesOn IsOther old new
 goes_on IsOther old new (inl k) site limit came l = kept_on IsOther old new k site limit came l
 goes_on IsOther old new (inr m) site limit came l = (made_by m.1, makes l m.1, λ op i. inl (made_of site limit old m.0 new came m.1 l op i))
 
-pub same_keeps : (old new : State) → new ≡ old → KeepsOperations old new
+pub same_keeps : (old new : SiteValue) → new ≡ old → KeepsOperations old new
 same_keeps old new e = subst (KeepsOperations old) (sym e) (all_kept old)
 
-doc_keeps : (old new : State) → new.text.view.doc ≡ old.text.view.doc → new.held ≡ old.held → KeepsOperations old new
+doc_keeps : (old new : SiteValue) → new.text.view.doc ≡ old.text.view.doc → new.held ≡ old.held → KeepsOperations old new
 doc_keeps old new e h = record { log = ap (λ d. d.log) e; held = h; site = ap (λ d. d.site) e; limit = ap (λ d. d.limit) e }
 
 -- WHAT AN OUTCOME LEAVES
@@ -62,27 +62,27 @@ changed_is (Err fault) words new h = absurd (cc h)
 -- ONE WIDGET
 
 -- the document stays
-abbrev StaysBy : (Edited → Outcome Edited) → Type 0
-StaysBy does = (text after : Edited) (words : List Word) → does text ≡ Ok (words, after) → after.view.doc ≡ text.view.doc
+abbrev StaysBy : (EditedValue → Outcome EditedValue) → Type 0
+StaysBy does = (text after : EditedValue) (words : List Word) → does text ≡ Ok (words, after) → after.view.doc ≡ text.view.doc
 
-led_keeps : (place : ℕ) (state new : State) (words : List Word) (outcome : Outcome Edited)
-    → ((after : Edited) (words : List Word) → outcome ≡ Ok (words, after) → after.view.doc ≡ state.text.view.doc)
+led_keeps : (place : ℕ) (state new : SiteValue) (words : List Word) (outcome : Outcome EditedValue)
+    → ((after : EditedValue) (words : List Word) → outcome ≡ Ok (words, after) → after.view.doc ≡ state.text.view.doc)
     → as_outcome (λ answer. (answer.0, record state { text = text_led place answer.1 })) outcome ≡ Ok (words, new) → KeepsOperations state new
 led_keeps place state new words (Ok answer) stays h =
-    let is : record state { text = text_led place answer.1 } ≡ new = ap (λ (o : Outcome State). left_in o state) h in
+    let is : record state { text = text_led place answer.1 } ≡ new = ap (λ (o : Outcome SiteValue). left_in o state) h in
     subst (KeepsOperations state) is (doc_keeps state (record state { text = text_led place answer.1 }) (stays answer.1 answer.0 refl) refl)
 led_keeps place state new words (Err fault) stays h = absurd (cc h)
 
-by_keeps : (place : ℕ) (state new : State) (does : Edited → Outcome Edited) (result : Result (List Word) Fault) → StaysBy does
+by_keeps : (place : ℕ) (state new : SiteValue) (does : EditedValue → Outcome EditedValue) (result : Result (List Word) Fault) → StaysBy does
     → Answers (by_widget place state does) state result new → KeepsOperations state new
 by_keeps place state new does (Ok words) stays h = led_keeps place state new words (does (text_led place state.text)) (λ after said e. stays (text_led place state.text) after said e) h
 by_keeps place state new does (Err fault) stays h = same_keeps state new h.0
 
-refused_keeps : (state new : State) (fault : Fault) (result : Result (List Word) Fault) → Answers (Err fault) state result new → KeepsOperations state new
+refused_keeps : (state new : SiteValue) (fault : Fault) (result : Result (List Word) Fault) → Answers (Err fault) state result new → KeepsOperations state new
 refused_keeps state new fault (Ok words) h = absurd (cc h)
 refused_keeps state new fault (Err found) h = same_keeps state new h.0
 
-at_keeps : (found : Option ℕ) (does : ℕ → Outcome State) (state new : State) (result : Result (List Word) Fault)
+at_keeps : (found : Option ℕ) (does : ℕ → Outcome SiteValue) (state new : SiteValue) (result : Result (List Word) Fault)
     → ((place : ℕ) → Answers (does place) state result new → KeepsOperations state new) → Answers (at_widget found does) state result new → KeepsOperations state new
 at_keeps None does state new result each h = refused_keeps state new NoWidget result h
 at_keeps (Some place) does state new result each h = each place h
@@ -96,7 +96,7 @@ set_stays settings text after words h =
     sym (limited_leaves text.view after.view start end (configured_is text after settings.shared (limited text.view start end) (changed_is (text_set text settings) words after h))).0
 
 told_stays : (option : NamedOption) → StaysBy (λ text. option_step text option)
-told_stays option text after words h = ap (λ (o : Outcome Edited). (left_in o text).view.doc) (sym h)
+told_stays option text after words h = ap (λ (o : Outcome EditedValue). (left_in o text).view.doc) (sym h)
 
 asked_set_stays : (asked : AskedOfSettings) → StaysBy (λ text. settings_outcome text asked)
 asked_set_stays (Ok settings) text after words h = set_stays settings text after words h
@@ -108,15 +108,15 @@ asked_told_stays (Err fault) text after words h = absurd (cc h)
 
 -- PEERS
 
-made_keeps : (place : ℕ) (path : Word) (state new : State) (words : List Word) (said : Result Edited Fault)
-    → ((text : Edited) → said ≡ Ok text → text.view.doc ≡ state.text.view.doc)
+made_keeps : (place : ℕ) (path : Word) (state new : SiteValue) (words : List Word) (said : Result EditedValue Fault)
+    → ((text : EditedValue) → said ≡ Ok text → text.view.doc ≡ state.text.view.doc)
     → as_outcome (λ text. (one_word path, with_widget place path state text)) said ≡ Ok (words, new) → KeepsOperations state new
 made_keeps place path state new words (Ok text) stays h =
-    let is : with_widget place path state text ≡ new = ap (λ (o : Outcome State). left_in o state) h in
+    let is : with_widget place path state text ≡ new = ap (λ (o : Outcome SiteValue). left_in o state) h in
     subst (KeepsOperations state) is (doc_keeps state (with_widget place path state text) (stays text refl) refl)
 made_keeps place path state new words (Err fault) stays h = absurd (cc h)
 
-created_keeps : (place : ℕ) (path : Word) (state new : State) (settings : WidgetSettings) (check : Option Fault) (words : List Word)
+created_keeps : (place : ℕ) (path : Word) (state new : SiteValue) (settings : WidgetSettings) (check : Option Fault) (words : List Word)
     → created place path state settings check ≡ Ok (words, new) → KeepsOperations state new
 created_keeps place path state new settings (Some fault) words h = absurd (cc h)
 created_keeps place path state new settings None words h =
@@ -126,59 +126,59 @@ created_keeps place path state new settings None words h =
     made_keeps place path state new words (text_with_peer led settings)
     (λ text e. sym (one_more led.view text.view start end (configured_is led text settings.shared (with_peer led.view start end) e)).0) h
 
-peer_keeps : (path : Word) (place : ℕ) (state new : State) (request : PeerRequest) (result : Result (List Word) Fault)
+peer_keeps : (path : Word) (place : ℕ) (state new : SiteValue) (request : PeerRequest) (result : Result (List Word) Fault)
     → Answers (peer_step path place state request) state result new → KeepsOperations state new
 peer_keeps path place state new (Create name settings) (Ok words) h = created_keeps place name state new settings (path_check name state.paths) words h
-peer_keeps path place state new Names (Ok words) h = same_keeps state new (ap (λ (o : Outcome State). left_in o state) (sym h))
+peer_keeps path place state new Names (Ok words) h = same_keeps state new (ap (λ (o : Outcome SiteValue). left_in o state) (sym h))
 peer_keeps path place state new request (Err fault) h = same_keeps state new h.0
 
-asked_peer_keeps : (path : Word) (place : ℕ) (state new : State) (asked : AskedOfPeers) (result : Result (List Word) Fault)
+asked_peer_keeps : (path : Word) (place : ℕ) (state new : SiteValue) (asked : AskedOfPeers) (result : Result (List Word) Fault)
     → Answers (peer_outcome path place state asked) state result new → KeepsOperations state new
 asked_peer_keeps path place state new (Ok request) result h = peer_keeps path place state new request result h
 asked_peer_keeps path place state new (Err fault) result h = refused_keeps state new fault result h
 
-destroyed_keeps : (found : Option ℕ) (state new : State) → destroyed_at found state ≡ Ok new → KeepsOperations state new
+destroyed_keeps : (found : Option ℕ) (state new : SiteValue) → destroyed_at found state ≡ Ok new → KeepsOperations state new
 destroyed_keeps None state new h = absurd (cc h)
 destroyed_keeps (Some place) state new h =
     subst (KeepsOperations state) (given (last_check state.paths) (without_widget place state) new h) (doc_keeps state (without_widget place state) refl refl)
 
 -- REQUESTS
 
-tried : (b : Bool) (old mid new : State) → MatchBool b (MakesAndTries old mid new) (KeepsOperations old mid × (new ≡ mid)) → KeepsOrMakes old new
+tried : (b : Bool) (old mid new : SiteValue) → MatchBool b (MakesAndTries old mid new) (KeepsOperations old mid × (new ≡ mid)) → KeepsOrMakes old new
 tried true old mid new h = inr (mid, h)
 tried false old mid new h = inl (subst (KeepsOperations old) (sym h.1) h.0)
 
-pub answered : (outcome : Outcome State) (old new : State) (result : Result (List Word) Fault) → AnswersInTurn outcome old result new → KeepsOrMakes old new
+pub answered : (outcome : Outcome SiteValue) (old new : SiteValue) (result : Result (List Word) Fault) → AnswersInTurn outcome old result new → KeepsOrMakes old new
 answered outcome old new result h = tried _ old h.0 new h.2
 
-pub settings_kept : (path : Word) (settings : WidgetSettings) (old new : State) (result : Result (List Word) Fault) → Answers (settings_at path old settings) old result new
+pub settings_kept : (path : Word) (settings : WidgetSettings) (old new : SiteValue) (result : Result (List Word) Fault) → Answers (settings_at path old settings) old result new
     → KeepsOperations old new
 settings_kept path settings old new result h =
     at_keeps (place_of path old.paths) (λ place. by_widget place old (λ text. settings_step text settings)) old new result
     (λ place a. by_keeps place old new (λ text. settings_step text settings) result (set_stays settings) a) h
 
-pub option_kept : (path : Word) (option : NamedOption) (old new : State) (result : Result (List Word) Fault) → Answers (option_at path old option) old result new → KeepsOperations old new
+pub option_kept : (path : Word) (option : NamedOption) (old new : SiteValue) (result : Result (List Word) Fault) → Answers (option_at path old option) old result new → KeepsOperations old new
 option_kept path option old new result h =
     at_keeps (place_of path old.paths) (λ place. by_widget place old (λ text. option_step text option)) old new result
     (λ place a. by_keeps place old new (λ text. option_step text option) result (told_stays option) a) h
 
-pub peers_kept : (path : Word) (request : PeerRequest) (old new : State) (result : Result (List Word) Fault) → Answers (peer_step_at path old request) old result new → KeepsOperations old new
+pub peers_kept : (path : Word) (request : PeerRequest) (old new : SiteValue) (result : Result (List Word) Fault) → Answers (peer_step_at path old request) old result new → KeepsOperations old new
 peers_kept path request old new result h =
     at_keeps (place_of path old.paths) (λ place. peer_step path place old request) old new result (λ place a. peer_keeps path place old new request result a) h
 
-pub destroyed_kept : (path : Word) (old new : State) → destroyed path old ≡ Ok new → KeepsOperations old new
+pub destroyed_kept : (path : Word) (old new : SiteValue) → destroyed path old ≡ Ok new → KeepsOperations old new
 destroyed_kept path old new h = destroyed_keeps (place_of path old.paths) old new h
 
 -- COMMANDS
 
-widget_gives : (place : ℕ) (words : List Word) (old new : State) (result : Result (List Word) Fault) → WidgetGives place words old result new → KeepsOrMakes old new
+widget_gives : (place : ℕ) (words : List Word) (old new : SiteValue) (result : Result (List Word) Fault) → WidgetGives place words old result new → KeepsOrMakes old new
 widget_gives place words old new result h = answered _ old new result h.2
 
-one_of : (b : Bool) (P Q : Type 0) (old new : State) → (P → KeepsOrMakes old new) → (Q → KeepsOrMakes old new) → MatchBool b P Q → KeepsOrMakes old new
+one_of : (b : Bool) (P Q : Type 0) (old new : SiteValue) → (P → KeepsOrMakes old new) → (Q → KeepsOrMakes old new) → MatchBool b P Q → KeepsOrMakes old new
 one_of true P Q old new f g h = f h
 one_of false P Q old new f g h = g h
 
-command_gives : (path : Word) (place : ℕ) (words : List Word) (old new : State) (result : Result (List Word) Fault) → CommandGives path place words old result new → KeepsOrMakes old new
+command_gives : (path : Word) (place : ℕ) (words : List Word) (old new : SiteValue) (result : Result (List Word) Fault) → CommandGives path place words old result new → KeepsOrMakes old new
 command_gives path place [] old new result h = widget_gives place [] old new result h
 command_gives path place (name ∷ words) old new result h =
     one_of (bytes_eq name (codes "peer")) _ _ old new (λ a. inl (asked_peer_keeps path place old new (asked_of_peers words) result a))
@@ -188,7 +188,7 @@ command_gives path place (name ∷ words) old new result h =
     (λ a. inl (by_keeps place old new (λ text. option_outcome text (asked_named_option words)) result (asked_told_stays (asked_named_option words)) a))
     (widget_gives place (name ∷ words) old new result))) h
 
-pub given_by : (path : Word) (words : List Word) (old new : State) (result : Result (List Word) Fault) → Gives path words old result new → KeepsOrMakes old new
+pub given_by : (path : Word) (words : List Word) (old new : SiteValue) (result : Result (List Word) Fault) → Gives path words old result new → KeepsOrMakes old new
 given_by path words old new result h = found (place_of path old.paths) refl
   where
     no_widget : (result ≡ Err NoWidget) × (new ≡ old) → Answers (Err NoWidget) old result new
@@ -200,13 +200,13 @@ given_by path words old new result h = found (place_of path old.paths) refl
 
 -- LIVES
 
-pub gives_on : (IsOther : Operation → Type 0) (path : Word) (words : List Word) (old new : State) (result : Result (List Word) Fault) → Gives path words old result new
+pub gives_on : (IsOther : Operation → Type 0) (path : Word) (words : List Word) (old new : SiteValue) (result : Result (List Word) Fault) → Gives path words old result new
     → LivesOn IsOther old new
 gives_on IsOther path words old new result h = goes_on IsOther old new (given_by path words old new result h)
 
-pub destroyed_on : (IsOther : Operation → Type 0) (path : Word) (old new : State) → destroyed path old ≡ Ok new → LivesOn IsOther old new
+pub destroyed_on : (IsOther : Operation → Type 0) (path : Word) (old new : SiteValue) → destroyed path old ≡ Ok new → LivesOn IsOther old new
 destroyed_on IsOther path old new h = kept_on IsOther old new (destroyed_kept path old new h)
 
-pub received_on : (bytes : List ℕ) (received : Received) (old new : State) → SiteReceives bytes old received new → LivesOn (IsOfFile bytes) old new
+pub received_on : (bytes : List ℕ) (received : Received) (old new : SiteValue) → SiteReceives bytes old received new → LivesOn (IsOfFile bytes) old new
 received_on bytes received old new h site limit came l =
     (came_to bytes old received new h, receives bytes received l h, λ op i. inr (file_of bytes old new received h op i))

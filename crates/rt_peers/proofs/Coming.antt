@@ -3,7 +3,7 @@ use Rattle.std.proofs.Common.{◌≡◌, ◌∙◌, ℕ, Bool, true, false, cond
 use Rattle.rt_ops.specs.Operations.{Body, Operation}
 use Rattle.rt_oplog.specs.Logs.{Has, with_operation}
 use Rattle.rt_rga.specs.Drafts.{next_operation, operations_of}
-use Rattle.rt_editing.specs.Edited.{Edited}
+use Rattle.rt_editing.specs.EditedValue.{EditedValue}
 use Rattle.rt_editing.specs.Edits.{text_with_new}
 use Rattle.rt_holding.specs.declared.receiving.Received.{Received}
 use Rattle.rt_holding.specs.Came.{came_with, is_want, offered_in}
@@ -11,7 +11,7 @@ use Rattle.rt_holding.specs.Receiving.{Behind, Offers, Receives, State as Holder
 use Rattle.rt_holding.proofs.Fronts.{begun_with}
 use Rattle.rt_peers.specs.Lives.{IsOfFile, Lives, came_to, made_by}
 use Rattle.rt_peers.specs.SiteStep.{MakesAndTries, SiteReceives, log_of, site_of, text_limit, text_log}
-use Rattle.rt_peers.specs.State.{State}
+use Rattle.rt_peers.specs.SiteValue.{SiteValue}
 use Rattle.rt_peers.proofs.Lived.{has_run}
 
 -- what is made of drafts is the site's
@@ -20,7 +20,7 @@ drafts_of site [] log op h = absurd h
 drafts_of site (draft ∷ drafts) log op (inl e) = sym (ap (λ (o : Operation). o.site) e)
 drafts_of site (draft ∷ drafts) log op (inr i) = drafts_of site drafts (with_operation (next_operation site draft log) log) op i
 
-pub made_of : (site limit : ℕ) (old mid new : State) (came : List Operation) (h : MakesAndTries old mid new) → Lives site limit old came
+pub made_of : (site limit : ℕ) (old mid new : SiteValue) (came : List Operation) (h : MakesAndTries old mid new) → Lives site limit old came
     → (op : Operation) → Has (made_by h) op → op.site ≡ site
 made_of site limit old mid new came h l op i = drafts_of (site_of old) h.drafts (log_of old) op i ∙ (has_run site limit old came l).of.0
 
@@ -30,7 +30,7 @@ one_of true op x ops h = absurd h
 one_of false op x ops (inl e) = inl e
 one_of false op x ops (inr i) = absurd i
 
-offered_among : (ops : List Operation) (offsets : List ℕ) (behind : Behind) (old : Holder Edited) (received : Received) (new : Holder Edited)
+offered_among : (ops : List Operation) (offsets : List ℕ) (behind : Behind) (old : Holder EditedValue) (received : Received) (new : Holder EditedValue)
     → (h : Offers text_log text_limit text_with_new ops offsets behind old received new) (x : Operation)
     → Has (offered_in text_log text_limit text_with_new ops offsets behind old received new h) x → Has ops x
 offered_among [] offsets behind old received new h x i = absurd i
@@ -40,13 +40,13 @@ offered_among (op ∷ ops) (offset ∷ offsets) behind old received new (inr mor
 offered_among (op ∷ ops) (offset ∷ offsets) behind old received new (inr more) x (inr i) =
     inr (offered_among ops offsets behind more.next more.rest new more.others x i)
 
-came_of : (bytes : List ℕ) (old : Holder Edited) (received : Received) (new : Holder Edited) (h : Receives text_log text_limit text_with_new bytes old received new) (x : Operation)
+came_of : (bytes : List ℕ) (old : Holder EditedValue) (received : Received) (new : Holder EditedValue) (h : Receives text_log text_limit text_with_new bytes old received new) (x : Operation)
     → Has (came_with text_log text_limit text_with_new bytes old received new h) x → IsOfFile bytes x
 came_of bytes old received new h x i =
     let among = offered_among h.ops h.offsets h.behind old received new h.offers x i in
     (h.ops, begun_with bytes h.ops h.offsets h.behind h.read x among, among)
 
-pub file_of : (bytes : List ℕ) (old new : State) (received : Received) (h : SiteReceives bytes old received new) (x : Operation)
+pub file_of : (bytes : List ℕ) (old new : SiteValue) (received : Received) (h : SiteReceives bytes old received new) (x : Operation)
     → Has (came_to bytes old received new h) x → IsOfFile bytes x
 file_of bytes old new received h x i =
     came_of bytes (record { site = old.text; held = old.held }) received (record { site = new.text; held = new.held }) h.text x i

@@ -13,7 +13,7 @@ use Rattle.rt_views.specs.Limits.{place_of}
 use Rattle.rt_views.specs.Stretches.{seen_place, stretch_of}
 use Rattle.rt_text.specs.Cursors.{place_of_stamp, stamp_at}
 use Rattle.rt_peers.specs.Cursors.{limits_by, place_by, stamp_by}
-use Rattle.rt_peers.specs.State.{State}
+use Rattle.rt_peers.specs.SiteValue.{SiteValue}
 
 seen_within : (stretch : Stretch) (place : ℕ) → place < stretch.end - stretch.begin → seen_place stretch (stretch.begin + place) ≡ place
 seen_within stretch place lt = omega (arith, lt)
@@ -42,7 +42,7 @@ stamp_found {T} cells limits place stamp d h =
         found_place cells stretch place stamp d lt (slice_get (visible_of cells) (stretch.begin + place)) refl k
     by stretch false e k = absurd (cc k)
 
-pub cursor_found : (path : Word) (place : ℕ) (stamp : Stamp) (state : State) → AreDistinct state.text.view.doc.cells → stamp_by path place state ≡ Some stamp → place_by path stamp state ≡ Some place
+pub cursor_found : (path : Word) (place : ℕ) (stamp : Stamp) (state : SiteValue) → AreDistinct state.text.view.doc.cells → stamp_by path place state ≡ Some stamp → place_by path stamp state ≡ Some place
 cursor_found path place stamp state d h = by (limits_by path state) h
   where
     by : (o : Option Limits) → option_and_then (λ limits. stamp_at limits place state.text.view.doc.cells) o ≡ Some stamp

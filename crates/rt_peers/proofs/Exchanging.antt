@@ -8,19 +8,19 @@ use Rattle.rt_oplog.proofs.Joins.{commutative, joined_err, joined_ok}
 use Rattle.rt_rga.specs.Histories.{IsHistory}
 use Rattle.rt_rga.proofs.Accepting.{log_of as is_log}
 use Rattle.rt_rga.proofs.Joining.{joined_free_histories}
-use Rattle.rt_editing.specs.Edited.{Edited}
+use Rattle.rt_editing.specs.EditedValue.{EditedValue}
 use Rattle.rt_editing.specs.Edits.{text_with_new}
 use Rattle.rt_holding.specs.Receiving.{State as Holder}
 use Rattle.rt_holding.proofs.Exchanged.{in_reverse}
 use Rattle.rt_peers.specs.Exchange.{AgreeOnceExchanged, ExchangeAgrees, ReceivesAny, ReceivesWhole, TellsClash}
 use Rattle.rt_peers.specs.SiteStep.{log_of, text_limit, text_log}
-use Rattle.rt_peers.specs.State.{State}
+use Rattle.rt_peers.specs.SiteValue.{SiteValue}
 use Rattle.rt_peers.proofs.Clashing.{file_ends}
 
-abbrev pub holder : State → Holder Edited
+abbrev pub holder : SiteValue → Holder EditedValue
 holder state = record { site = state.text; held = state.held }
 
-pub receives_any : (one : State) (log : List Operation) → IsHistory (log_of one) → IsHistory log → ReceivesAny one log
+pub receives_any : (one : SiteValue) (log : List Operation) → IsHistory (log_of one) → IsHistory log → ReceivesAny one log
 receives_any one log p q bytes received new file none h =
     let set = log_of one in
     let ends = file_ends text_log text_limit text_with_new bytes file.0 set log (holder one) received (holder new) file.1 h.text (record { log_is = refl; none = none }) p q in (
@@ -35,13 +35,13 @@ receives_any one log p q bytes received new file none h =
       ends.1,
     )
 
-pub tells_clash : (one : State) (log : List Operation) → IsHistory (log_of one) → IsHistory log → TellsClash one log
+pub tells_clash : (one : SiteValue) (log : List Operation) → IsHistory (log_of one) → IsHistory log → TellsClash one log
 tells_clash one log p q bytes received new file none c h e =
     let no = joined_err (log_of one) log c.0 c.1 c.2 c.3 c.4 in
     let yes = ((receives_any one log p q bytes received new file none h).0 e).0 in
     cc (no, yes)
 
-pub receives_whole : (one : State) (log : List Operation) → IsHistory (log_of one) → IsHistory log → ReceivesWhole one log
+pub receives_whole : (one : SiteValue) (log : List Operation) → IsHistory (log_of one) → IsHistory log → ReceivesWhole one log
 receives_whole one log p q bytes received new file apart none h =
     let any = receives_any one log p q bytes received new file none h in
     let yes = joined_free_histories (log_of one) log p q apart in (
@@ -55,14 +55,14 @@ one_join a b l m h k e f =
     let same : ◌≡◌ {A = Result (List Operation) Fault} (Ok l) (Ok m) = sym e ∙ commutative a b (is_log a h) (is_log b k) ∙ f in
     cc same
 
-pub exchange_agrees : (one other : State) → IsHistory (log_of one) → IsHistory (log_of other) → ExchangeAgrees one other
+pub exchange_agrees : (one other : SiteValue) → IsHistory (log_of one) → IsHistory (log_of other) → ExchangeAgrees one other
 exchange_agrees one other p q file_one file_other received_one received_other new_one new_other back file apart none empty h k e f =
     one_join (log_of one) (log_of other) (log_of new_one) (log_of new_other) p q
     ((receives_any one (log_of other) p q file_other received_one new_one file none h).0 e).0
     ((receives_any other (log_of one) q p file_one received_other new_other back empty k).0 f).0
 
 -- two sites that receive each other's logs with no fault told have one log
-pub one_log_exchanged : (one other left_one left_other : State) → IsHistory (log_of one) → IsHistory (log_of other)
+pub one_log_exchanged : (one other left_one left_other : SiteValue) → IsHistory (log_of one) → IsHistory (log_of other)
     → AgreeOnceExchanged log_of one other left_one left_other
 one_log_exchanged one other left_one left_other p q file_one file_other back file h k =
     one_join (log_of one) (log_of other) (log_of left_one) (log_of left_other) p q

@@ -13,7 +13,7 @@ use Rattle.rt_tags.specs.Tags.{sel, without}
 use Rattle.rt_tags.specs.States.{names_on}
 use Rattle.rt_edits.specs.declared.range.Range.{Range}
 use Rattle.rt_edits.specs.Deletions.{Loss, delete_drafts, loss_in, newline_of, without_places, without_text}
-use Rattle.rt_edits.specs.Flat.{Flat, logged}
+use Rattle.rt_edits.specs.DocValue.{DocValue, logged}
 use Rattle.rt_edits.specs.Insertions.{Piece}
 use Rattle.rt_edits.specs.Removals.{is_covered, stamps_at}
 use Rattle.rt_edits.specs.Selections.{selection_with}
@@ -24,41 +24,41 @@ use Rattle.rt_revert.specs.Reverting.{Reversion, as_it_is, gone_cell_of, reversi
 use Rattle.rt_text.specs.Commands.{with_pieces_at, with_tag_in, with_tags_deleted, without_ranges}
 use Rattle.rt_text.specs.Replacements.{drafts_at}
 use Rattle.rt_text.specs.Reversions.{view_reverted}
-use Rattle.rt_text.specs.Widgets.{Viewed, begin_of, places_in_text, text_shown}
+use Rattle.rt_text.specs.Widgets.{ViewValue, begin_of, places_in_text, text_shown}
 
 -- THE SAME SITE AND LIMIT
 
-pub record IsOfSame (old new : Flat) : Type 0 where
+pub record IsOfSame (old new : DocValue) : Type 0 where
   pub site : new.site ≡ old.site
   pub limit : new.limit ≡ old.limit
 
-of_same : (flat : Flat) → IsOfSame flat flat
+of_same : (flat : DocValue) → IsOfSame flat flat
 of_same flat = record { site = refl; limit = refl }
 
-of_both : (old mid new : Flat) → IsOfSame old mid → IsOfSame mid new → IsOfSame old new
+of_both : (old mid new : DocValue) → IsOfSame old mid → IsOfSame mid new → IsOfSame old new
 of_both old mid new p q = record { site = q.site ∙ p.site; limit = q.limit ∙ p.limit }
 
-bared_same : (flat : Flat) (stamp : Stamp) (names : List Word) → IsOfSame flat (bared flat stamp names)
+bared_same : (flat : DocValue) (stamp : Stamp) (names : List Word) → IsOfSame flat (bared flat stamp names)
 bared_same flat stamp [] = of_same flat
 bared_same flat stamp (name ∷ names) = let r = bared_same (with_tag flat name false (stamp ∷ [])) stamp names in record { site = r.site; limit = r.limit }
 
-left_same : (flat left : Flat) (newline : Option TaggedCell) → IsOfSame flat left
+left_same : (flat left : DocValue) (newline : Option TaggedCell) → IsOfSame flat left
     → IsOfSame flat (unwrap_or (option_map (λ (cell : TaggedCell). bared left cell.stamp (names_on cell.state)) newline) left)
 left_same flat left None same = same
 left_same flat left (Some cell) same = of_both flat left (bared left cell.stamp (names_on cell.state)) same (bared_same left cell.stamp (names_on cell.state))
 
-text_same : (flat : Flat) (loss : Loss) → IsOfSame flat (without_text flat loss)
+text_same : (flat : DocValue) (loss : Loss) → IsOfSame flat (without_text flat loss)
 text_same flat loss = left_same flat (without_places flat loss.places) (newline_of flat loss) (record { site = refl; limit = refl })
 
-listed_same : (on : Bool) (name : Word) (flat : Flat) → IsOfSame flat (listed_if on name flat)
+listed_same : (on : Bool) (name : Word) (flat : DocValue) → IsOfSame flat (listed_if on name flat)
 listed_same true name flat = record { site = refl; limit = refl }
 listed_same false name flat = of_same flat
 
-one_untagged : (own : Bool) (flat other : Flat) → IsOfSame flat other → IsOfSame flat (cond own flat other)
+one_untagged : (own : Bool) (flat other : DocValue) → IsOfSame flat other → IsOfSame flat (cond own flat other)
 one_untagged true flat other same = of_same flat
 one_untagged false flat other same = same
 
-tags_same : (flat : Flat) (names : List Word) → IsOfSame flat (without_tags flat names)
+tags_same : (flat : DocValue) (names : List Word) → IsOfSame flat (without_tags flat names)
 tags_same flat [] = of_same flat
 tags_same flat (name ∷ names) =
     let off = with_tag_at flat (λ _. true) false name in
@@ -90,15 +90,15 @@ reverted_same (action ∷ actions) r =
 -- OPERATIONS OF DRAFTS
 
 -- The site and the limit stay, and the log has the operations more that the site makes of some drafts.
-pub record Gains (old new : Flat) : Type 0 where
+pub record Gains (old new : DocValue) : Type 0 where
   pub drafts : List Body
   pub log : new.log ≡ with_drafts old.site drafts old.log
   pub same : IsOfSame old new
 
-pub gains_none : (flat : Flat) → Gains flat flat
+pub gains_none : (flat : DocValue) → Gains flat flat
 gains_none flat = record { drafts = []; log = refl; same = of_same flat }
 
-pub gains_then : (old mid new : Flat) → Gains old mid → Gains mid new → Gains old new
+pub gains_then : (old mid new : DocValue) → Gains old mid → Gains mid new → Gains old new
 gains_then old mid new p q = record {
   drafts = p.drafts ++ q.drafts;
   log = q.log ∙ (λ i. with_drafts (p.same.site i) q.drafts (p.log i)) ∙ sym (drafts_append old.site p.drafts q.drafts old.log);
@@ -107,37 +107,37 @@ gains_then old mid new p q = record {
 
 -- EDITS
 
-pub pieces_gain : (view : Viewed) (place : ℕ) (pieces : List Piece) (rest : Word) → Gains view.doc (with_pieces_at view place pieces rest).doc
+pub pieces_gain : (view : ViewValue) (place : ℕ) (pieces : List Piece) (rest : Word) → Gains view.doc (with_pieces_at view place pieces rest).doc
 pieces_gain view place pieces rest = record { drafts = drafts_at view place pieces rest; log = refl; same = record { site = refl; limit = refl } }
 
-pub ranges_gain : (view : Viewed) (ranges : List Range) → Gains view.doc (without_ranges view ranges).doc
+pub ranges_gain : (view : ViewValue) (ranges : List Range) → Gains view.doc (without_ranges view ranges).doc
 ranges_gain view ranges =
     let loss = loss_in (text_shown view) (begin_of view) ranges in
     let same = text_same view.doc loss in
     record { drafts = delete_drafts MOST_SPANS view.doc loss; log = refl; same = record { site = same.site; limit = same.limit } }
 
-pub group_gains : (view : Viewed) (group : List (Action (List Word))) → Gains view.doc (view_reverted view group).doc
+pub group_gains : (view : ViewValue) (group : List (Action (List Word))) → Gains view.doc (view_reverted view group).doc
 group_gains view group =
     let r = reversion view.doc group in
     let same = reverted_same (reverse group) (as_it_is view.doc) in
     record { drafts = r.drafts; log = refl; same = record { site = same.site; limit = same.limit } }
 
-pub deleted_gain : (view : Viewed) (names : List Word) → Gains view.doc (with_tags_deleted view names).doc
+pub deleted_gain : (view : ViewValue) (names : List Word) → Gains view.doc (with_tags_deleted view names).doc
 deleted_gain view names =
     let same = tags_same view.doc names in
     record { drafts = deletion_drafts MOST_SPANS view.doc names; log = refl; same = record { site = same.site; limit = same.limit } }
 
 -- a tag written on the characters at some places
-abbrev tag_by : Viewed → Bool → Word → (ℕ → Bool) → Bool → Viewed
+abbrev tag_by : ViewValue → Bool → Word → (ℕ → Bool) → Bool → ViewValue
 tag_by view on name places own =
     cond own (record view { own = record view.own { sel = selection_with on (stamps_at places 0 view.doc.cells) view.own.sel } })
     (record view { doc = logged view.doc (tag_drafts_at MOST_SPANS places on name view.doc.cells) (listed_if on name (with_tag_at view.doc places on name)) })
 
-by_gains : (view : Viewed) (on : Bool) (name : Word) (places : ℕ → Bool) (own : Bool) → Gains view.doc (tag_by view on name places own).doc
+by_gains : (view : ViewValue) (on : Bool) (name : Word) (places : ℕ → Bool) (own : Bool) → Gains view.doc (tag_by view on name places own).doc
 by_gains view on name places true = gains_none view.doc
 by_gains view on name places false =
     let same = listed_same on name (with_tag_at view.doc places on name) in
     record { drafts = tag_drafts_at MOST_SPANS places on name view.doc.cells; log = refl; same = record { site = same.site; limit = same.limit } }
 
-pub write_gains : (view : Viewed) (on : Bool) (name : Word) (ranges : List Range) → Gains view.doc (with_tag_in view on name ranges).doc
+pub write_gains : (view : ViewValue) (on : Bool) (name : Word) (ranges : List Range) → Gains view.doc (with_tag_in view on name ranges).doc
 write_gains view on name ranges = by_gains view on name (places_in_text view (is_covered ranges)) (bytes_eq name sel)

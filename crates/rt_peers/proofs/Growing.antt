@@ -5,11 +5,11 @@ use Rattle.rt_stamps.specs.Outcomes.{Answers}
 use Rattle.rt_stamps.specs.Words.{Word}
 use Rattle.rt_ops.specs.Operations.{Operation}
 use Rattle.rt_store.specs.Shown.{TaggedCell}
-use Rattle.rt_edits.specs.Flat.{Flat}
+use Rattle.rt_edits.specs.DocValue.{DocValue}
 use Rattle.rt_undo.specs.Undo.{History, no_history}
 use Rattle.rt_requests.specs.declared.request.MarkRequest.{MarkRequest}
 use Rattle.rt_requests.specs.declared.request.TagRequest.{TagRequest}
-use Rattle.rt_text.specs.Widgets.{Viewed}
+use Rattle.rt_text.specs.Widgets.{ViewValue}
 use Rattle.rt_editing.specs.Recordings.{Recording}
 use Rattle.rt_editing.specs.Settled.{AreGoneOnce, IsSettled, all_taken, is_gone}
 use Rattle.rt_editing.specs.Noting.{IsOfLog}
@@ -20,13 +20,13 @@ use Rattle.rt_peers.specs.ViewStep.{Outcome, mark_step, tag_step}
 use Rattle.rt_peers.proofs.Staying.{Steps, mark_stays, tag_stays}
 
 -- a log that gains operations grows
-steps_grow : (view new : Viewed) → Steps view new → Grows view.doc.log new.doc.log
+steps_grow : (view new : ViewValue) → Steps view new → Grows view.doc.log new.doc.log
 steps_grow view new steps = subst (λ (log : List Operation). Grows view.doc.log log) (sym steps.gains.log) (grows_drafts view.doc.site steps.gains.drafts view.doc.log)
 
-pub mark_grows : (view new : Viewed) (request : MarkRequest) (words : List Word) → mark_step view request ≡ Ok (words, new) → Grows view.doc.log new.doc.log
+pub mark_grows : (view new : ViewValue) (request : MarkRequest) (words : List Word) → mark_step view request ≡ Ok (words, new) → Grows view.doc.log new.doc.log
 mark_grows view new request words h = steps_grow view new (mark_stays view new request words h)
 
-pub tag_grows : (view new : Viewed) (request : TagRequest) (words : List Word) → tag_step view request ≡ Ok (words, new) → Grows view.doc.log new.doc.log
+pub tag_grows : (view new : ViewValue) (request : TagRequest) (words : List Word) → tag_step view request ≡ Ok (words, new) → Grows view.doc.log new.doc.log
 tag_grows view new request words h = steps_grow view new (tag_stays view new request words h)
 
 -- SETTLED SITES
@@ -36,23 +36,23 @@ pub none_taken : (cells : List TaggedCell) (h : History (List Word)) → h ≡ n
 none_taken cells h e = subst (λ (x : History (List Word)). AreGoneOnce cells (all_taken x)) (sym e) (λ s. omega arith)
 
 -- a site stays settled where what its widget shows is changed so
-pub viewer_settled : (view new : Viewed) (recording : Recording) (outcome : Outcome Viewed) (result : Result (List Word) Fault) → Answers outcome view result new
+pub viewer_settled : (view new : ViewValue) (recording : Recording) (outcome : Outcome ViewValue) (result : Result (List Word) Fault) → Answers outcome view result new
     → ((words : List Word) → outcome ≡ Ok (words, new) → Grows view.doc.log new.doc.log) → IsSettled view recording → IsOfLog view.doc → IsOfLog new.doc → IsSettled new recording
 viewer_settled view new recording outcome (Ok words) h grows settled kept same = settled_same view new recording recording refl settled kept same (grows words h)
-viewer_settled view new recording outcome (Err fault) h grows settled kept same = subst (λ (v : Viewed). IsSettled v recording) (sym h.0) settled
+viewer_settled view new recording outcome (Err fault) h grows settled kept same = subst (λ (v : ViewValue). IsSettled v recording) (sym h.0) settled
 
 -- what is settled stays so where the document does
-pub settled_with : (view new : Viewed) (recording : Recording) → view.doc ≡ new.doc → IsSettled view recording → IsSettled new recording
+pub settled_with : (view new : ViewValue) (recording : Recording) → view.doc ≡ new.doc → IsSettled view recording → IsSettled new recording
 settled_with view new recording same h = record {
-  gone = λ stamp back. subst (λ (d : Flat). is_gone d.cells stamp ≡ true) same (h.gone stamp back);
-  taken = subst (λ (d : Flat). AreGoneOnce d.cells (all_taken recording.history)) same h.taken;
+  gone = λ stamp back. subst (λ (d : DocValue). is_gone d.cells stamp ≡ true) same (h.gone stamp back);
+  taken = subst (λ (d : DocValue). AreGoneOnce d.cells (all_taken recording.history)) same h.taken;
   closed = h.closed;
   current = h.current;
   undone = h.undone;
 }
 
-pub settled_led : (view new : Viewed) (place : ℕ) (recording : Recording) → new ≡ view_led place view → IsSettled view recording → IsSettled new recording
-settled_led view new place recording e h = subst (λ (v : Viewed). IsSettled v recording) (sym e) (settled_with view (view_led place view) recording refl h)
+pub settled_led : (view new : ViewValue) (place : ℕ) (recording : Recording) → new ≡ view_led place view → IsSettled view recording → IsSettled new recording
+settled_led view new place recording e h = subst (λ (v : ViewValue). IsSettled v recording) (sym e) (settled_with view (view_led place view) recording refl h)
 
-pub settled_without : (view new : Viewed) (place : ℕ) (recording : Recording) → new ≡ view_without place view → IsSettled view recording → IsSettled new recording
-settled_without view new place recording e h = subst (λ (v : Viewed). IsSettled v recording) (sym e) (settled_with view (view_without place view) recording refl h)
+pub settled_without : (view new : ViewValue) (place : ℕ) (recording : Recording) → new ≡ view_without place view → IsSettled view recording → IsSettled new recording
+settled_without view new place recording e h = subst (λ (v : ViewValue). IsSettled v recording) (sym e) (settled_with view (view_without place view) recording refl h)

@@ -6,7 +6,7 @@ use Rattle.rt_rga.specs.Cells.{cells_of}
 use Rattle.rt_rga.specs.Drafts.{with_drafts}
 use Rattle.rt_rga.specs.Histories.{IsHistory}
 use Rattle.rt_rga.specs.Requests.{Make, Request}
-use Rattle.rt_editing.specs.Edited.{Edited}
+use Rattle.rt_editing.specs.EditedValue.{EditedValue}
 use Rattle.rt_editing.specs.Edits.{text_with_new}
 use Rattle.rt_holding.specs.declared.receiving.Received.{Received}
 use Rattle.rt_holding.specs.Holding.{Holding, Settles, nothing}
@@ -18,18 +18,18 @@ use Rattle.rt_holding.proofs.Came.{file_goes, runs_on}
 use Rattle.rt_holding.proofs.Sites.{requests_keep}
 use Rattle.rt_peers.specs.Lives.{IsAtRest, Lives, begins, came_to, keeps, made_by, makes, receives}
 use Rattle.rt_peers.specs.SiteStep.{KeepsOperations, MakesAndTries, SiteReceives, limit_of, log_of, site_of, text_limit, text_log}
-use Rattle.rt_peers.specs.State.{State, holding_of}
+use Rattle.rt_peers.specs.SiteValue.{SiteValue, holding_of}
 use Rattle.rt_peers.proofs.Staying.{received_keep, tried_keep}
 
 -- a text of a site, that may have so many cells: it is so whichever operations are taken
-abbrev IsOf : ℕ → ℕ → Edited → Type 0
+abbrev IsOf : ℕ → ℕ → EditedValue → Type 0
 IsOf site limit text = (text.view.doc.site ≡ site) × (text.view.doc.limit ≡ limit)
 
-taken_of : (site limit : ℕ) (op : Operation) (text : Edited) → IsOf site limit text → IsOf site limit (text_with_new op text)
+taken_of : (site limit : ℕ) (op : Operation) (text : EditedValue) → IsOf site limit text → IsOf site limit (text_with_new op text)
 taken_of site limit op text h = h
 
 -- A site that lived so has run through requests that brought what came to it, and keeps to what a site does that holds operations.
-pub record HasRun (site limit : ℕ) (state : State) (came : List Operation) : Type 0 where
+pub record HasRun (site limit : ℕ) (state : SiteValue) (came : List Operation) : Type 0 where
   pub requests : List Request
   pub runs : Runs site limit requests nothing (holding_of state) came
   pub holding : IsHolding limit (holding_of state)
@@ -49,7 +49,7 @@ nothing_holds limit p = record {
 
 -- A CALL THAT ACCEPTS NOTHING
 
-kept_runs : (site limit : ℕ) (old new : State) (came : List Operation) → HasRun site limit old came → KeepsOperations old new → HasRun site limit new came
+kept_runs : (site limit : ℕ) (old new : SiteValue) (came : List Operation) → HasRun site limit old came → KeepsOperations old new → HasRun site limit new came
 kept_runs site limit old new came r k =
     let same : holding_of old ≡ holding_of new = λ i. record { log = sym k.log i; held = sym k.held i } in
     record {
@@ -62,7 +62,7 @@ kept_runs site limit old new came r k =
 
 -- OPERATIONS OF ITS OWN
 
-own_leads : (old mid new : State) (h : MakesAndTries old mid new) → Leads (site_of old) (limit_of old) (Make h.drafts) (holding_of old) (holding_of new) h.tries.tried.more
+own_leads : (old mid new : SiteValue) (h : MakesAndTries old mid new) → Leads (site_of old) (limit_of old) (Make h.drafts) (holding_of old) (holding_of new) h.tries.tried.more
 own_leads old mid new h =
     let first : Holding = record { log = with_drafts (site_of old) h.drafts (log_of old); held = old.held } in
     let at : at_first (site_of old) (limit_of old) (Make h.drafts) (holding_of old) ≡ first = rw h.makes.fit refl in
@@ -72,12 +72,12 @@ own_leads old mid new h =
     subst (λ l. Settles l [] (holding_of mid) (holding_of new) h.tries.tried.more) h.makes.limit tried in
     inl (h.makes.fit, subst (λ s. Settles (limit_of old) [] s (holding_of new) h.tries.tried.more) (from ∙ sym at) here)
 
-own_brings : (old mid new : State) (h : MakesAndTries old mid new) → brought_by (site_of old) (limit_of old) (Make h.drafts) (holding_of old) ++ [] ≡ made_by h
+own_brings : (old mid new : SiteValue) (h : MakesAndTries old mid new) → brought_by (site_of old) (limit_of old) (Make h.drafts) (holding_of old) ++ [] ≡ made_by h
 own_brings old mid new h =
     let brought : brought_by (site_of old) (limit_of old) (Make h.drafts) (holding_of old) ≡ made_by h = rw h.makes.fit refl in
     append-nil (brought_by (site_of old) (limit_of old) (Make h.drafts) (holding_of old)) ∙ brought
 
-own_runs : (old mid new : State) (before : List Operation) (h : MakesAndTries old mid new) → HasRun (site_of old) (limit_of old) old before
+own_runs : (old mid new : SiteValue) (before : List Operation) (h : MakesAndTries old mid new) → HasRun (site_of old) (limit_of old) old before
     → HasRun (site_of old) (limit_of old) new (before ++ made_by h)
 own_runs old mid new before h r =
     let site = site_of old in
@@ -95,7 +95,7 @@ own_runs old mid new before h r =
     }
 
 -- the same under the names that the number and the limit had
-as_named : (site limit : ℕ) (old new : State) (before came : List Operation) → IsOf site limit old.text
+as_named : (site limit : ℕ) (old new : SiteValue) (before came : List Operation) → IsOf site limit old.text
     → (HasRun (site_of old) (limit_of old) old before → HasRun (site_of old) (limit_of old) new came) → HasRun site limit old before → HasRun site limit new came
 as_named site limit old new before came of goes r =
     subst (λ n. HasRun n limit new came) of.0 (subst (λ l. HasRun (site_of old) l new came) of.1
@@ -103,13 +103,13 @@ as_named site limit old new before came of goes r =
 
 -- A FILE
 
-file_runs : (bytes : List ℕ) (old new : State) (received : Received) (before : List Operation) (h : SiteReceives bytes old received new)
+file_runs : (bytes : List ℕ) (old new : SiteValue) (received : Received) (before : List Operation) (h : SiteReceives bytes old received new)
     → HasRun (site_of old) (limit_of old) old before → HasRun (site_of old) (limit_of old) new (before ++ came_to bytes old received new h)
 file_runs bytes old new received before h r =
     let site = site_of old in
     let limit = limit_of old in
-    let from : Holder Edited = record { site = old.text; held = old.held } in
-    let to : Holder Edited = record { site = new.text; held = new.held } in
+    let from : Holder EditedValue = record { site = old.text; held = old.held } in
+    let to : Holder EditedValue = record { site = new.text; held = new.held } in
     let goes = file_goes text_log text_limit text_with_new (λ op text. refl) site bytes from received to h.text r.some r.holding in
     record {
       requests = r.requests ++ goes.requests;
@@ -121,7 +121,7 @@ file_runs bytes old new received before h r =
 
 -- ALL CALLS
 
-pub has_run : (site limit : ℕ) (state : State) (came : List Operation) → Lives site limit state came → HasRun site limit state came
+pub has_run : (site limit : ℕ) (state : SiteValue) (came : List Operation) → Lives site limit state came → HasRun site limit state came
 has_run site limit state came (begins p q) = record { requests = []; runs = none; holding = nothing_holds limit q; of = (refl, refl); some = p }
 has_run site limit state came (keeps {old = old} l k) = kept_runs site limit old state came (has_run site limit old came l) k
 has_run site limit state came (makes {old = old} {mid = mid} {came = before} l h) =
@@ -133,20 +133,20 @@ has_run site limit state came (receives {old = old} {came = before} bytes receiv
 
 -- WHAT IS ACCEPTED
 
-at_rest : (site limit : ℕ) (state : State) (came : List Operation) → HasRun site limit state came → IsAtRest state → NoneCouldBeTaken limit (holding_of state)
+at_rest : (site limit : ℕ) (state : SiteValue) (came : List Operation) → HasRun site limit state came → IsAtRest state → NoneCouldBeTaken limit (holding_of state)
 at_rest site limit state came r q = subst (λ l. NoneCouldBeTaken l (holding_of state)) r.of.1 q
 
-pub accepts_greatest : (site limit : ℕ) (state : State) (came : List Operation) → Lives site limit state came → AreFree came → IsAtRest state
+pub accepts_greatest : (site limit : ℕ) (state : SiteValue) (came : List Operation) → Lives site limit state came → AreFree came → IsAtRest state
     → IsGreatestHistoryWithin came (log_of state)
 accepts_greatest site limit state came l f q =
     let r = has_run site limit state came l in greatest_accepted site limit r.requests came (holding_of state) r.some r.runs f (at_rest site limit state came r q)
 
-pub accepts_history : (site limit : ℕ) (state : State) (came set : List Operation) → Lives site limit state came → IsHistory set → AreOf came set → IsAtRest state
+pub accepts_history : (site limit : ℕ) (state : SiteValue) (came set : List Operation) → Lives site limit state came → IsHistory set → AreOf came set → IsAtRest state
     → (log_of state ≡ set) × (state.held ≡ [])
 accepts_history site limit state came set l h o q =
     let r = has_run site limit state came l in histories_accepted site limit r.requests came set (holding_of state) r.some r.runs h o (at_rest site limit state came r q)
 
-pub agree_in_any_order : (site number limit most : ℕ) (one other : State) (came more : List Operation) → Lives site limit one came → Lives number most other more
+pub agree_in_any_order : (site number limit most : ℕ) (one other : SiteValue) (came more : List Operation) → Lives site limit one came → Lives number most other more
     → AreOf came more → AreFree came → IsAtRest one → IsAtRest other → cells_of (log_of one) ≡ cells_of (log_of other)
 agree_in_any_order site number limit most one other came more l m o f p q =
     let r = has_run site limit one came l in

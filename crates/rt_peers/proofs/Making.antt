@@ -4,7 +4,7 @@ use Rattle.std.proofs.lemmas.Bool.Decides.{nat_tests}
 use Rattle.rt_stamps.specs.declared.limits.TheConstants.{GREATEST_COUNT}
 use Rattle.rt_stamps.specs.Stamps.{is_before}
 use Rattle.rt_ops.specs.Operations.{Body, Operation, stamp_of}
-use Rattle.rt_edits.specs.Flat.{Flat}
+use Rattle.rt_edits.specs.DocValue.{DocValue}
 use Rattle.rt_oplog.specs.Logs.{with_operation}
 use Rattle.rt_rga.specs.Cells.{cells_of}
 use Rattle.rt_rga.specs.Drafts.{next_operation, with_drafts}
@@ -16,7 +16,7 @@ use Rattle.rt_rga.proofs.Skipping.{split}
 use Rattle.rt_holding.specs.Grown.{HasGrownBy}
 use Rattle.rt_holding.proofs.Drafts.{drafts_grow_by}
 use Rattle.rt_peers.specs.SiteStep.{KeepsOperations, Makes, limit_of, log_of, site_of}
-use Rattle.rt_peers.specs.State.{State}
+use Rattle.rt_peers.specs.SiteValue.{SiteValue}
 use Rattle.rt_peers.proofs.Gaining.{Gains}
 
 -- the newest operation stands in front
@@ -64,7 +64,7 @@ none_made site (draft ∷ drafts) set h = absurd (let l = all_longer site (draft
 -- A SITE
 
 -- The document gained the operations of drafts, and is that of a history still, within its limit: so these were made.
-pub site_makes : (old new : State) (g : Gains old.text.view.doc new.text.view.doc) → new.held ≡ old.held → IsHistory (log_of new)
+pub site_makes : (old new : SiteValue) (g : Gains old.text.view.doc new.text.view.doc) → new.held ≡ old.held → IsHistory (log_of new)
     → length (cells_of (log_of new)) ≤ limit_of new → Makes g.drafts old new
 site_makes old new g held history few =
     let made : IsHistory (with_drafts (site_of old) g.drafts (log_of old)) = subst IsHistory g.log history in
@@ -80,7 +80,7 @@ site_makes old new g held history few =
     }
 
 -- where its log is no longer than before, it made none
-pub site_keeps : (old new : State) → Gains old.text.view.doc new.text.view.doc → new.held ≡ old.held → length (log_of new) ≤ length (log_of old) → KeepsOperations old new
+pub site_keeps : (old new : SiteValue) → Gains old.text.view.doc new.text.view.doc → new.held ≡ old.held → length (log_of new) ≤ length (log_of old) → KeepsOperations old new
 site_keeps old new g held few =
     let same = none_made (site_of old) g.drafts (log_of old) (let l = ap length g.log in omega (arith, l, few)) in
     record { log = g.log ∙ same; held = held; site = g.same.site; limit = g.same.limit }
@@ -88,5 +88,5 @@ site_keeps old new g held few =
 -- OPERATIONS OF ONE SITE
 
 -- the log grows by operations of the site
-pub gains_grow_by : (old new : Flat) → Gains old new → IsHistory old.log → HasGrownBy old.site old.log new.log
+pub gains_grow_by : (old new : DocValue) → Gains old new → IsHistory old.log → HasGrownBy old.site old.log new.log
 gains_grow_by old new g h = subst (HasGrownBy old.site old.log) (sym g.log) (drafts_grow_by old.site g.drafts old.log h)

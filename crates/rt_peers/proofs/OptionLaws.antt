@@ -2,7 +2,7 @@
 use Rattle.std.proofs.Common.{◌≡◌, ◌∙◌, ◌+◌, ◌<◌, ◌++◌, ℕ, List, [], ◌∷◌, None, Some, Ok, Err, Result, ap, arith, cond, false, inl, inr, length, subst, sym, true}
 use Rattle.std.specs.Prelude.{IfErr, OnErr, OnOk, is_some}
 use Rattle.std.proofs.lemmas.List.{length-append}
-use Rattle.rt_edits.specs.Flat.{Flat}
+use Rattle.rt_edits.specs.DocValue.{DocValue}
 use Rattle.rt_stamps.specs.declared.fault.Fault.{Fault}
 use Rattle.rt_stamps.specs.declared.fault.Fault.TheVariants.{WidgetExists}
 use Rattle.rt_stamps.specs.Outcomes.{Answers, Refuses}
@@ -10,9 +10,9 @@ use Rattle.rt_stamps.specs.Words.{Word}
 use Rattle.rt_requests.specs.declared.options.Settings.{Settings}
 use Rattle.rt_peer_requests.specs.declared.options.NamedOption.{NamedOption}
 use Rattle.rt_peer_requests.specs.declared.settings.WidgetSettings.{WidgetSettings}
-use Rattle.rt_editing.specs.Edited.{Edited}
+use Rattle.rt_editing.specs.EditedValue.{EditedValue}
 use Rattle.rt_text.specs.Limited.{limited, new_peer, with_limits, with_new_peer, with_peer}
-use Rattle.rt_text.specs.Widgets.{Viewed}
+use Rattle.rt_text.specs.Widgets.{ViewValue}
 use Rattle.rt_views.specs.declared.choice.Choice.{Choice}
 use Rattle.rt_views.specs.declared.limits.Limits.{Limits}
 use Rattle.rt_views.specs.Choices.{limits_chosen}
@@ -20,79 +20,79 @@ use Rattle.rt_peers.specs.Options.{choice_of, option_step, settings_step, text_c
 use Rattle.rt_peers.specs.Peers.{text_led, widgets_of, with_widget}
 use Rattle.rt_peers.specs.PeerStep.{created, path_check, text_with_peer}
 use Rattle.rt_peers.specs.SiteStep.{by_widget}
-use Rattle.rt_peers.specs.State.{State, place_of}
+use Rattle.rt_peers.specs.SiteValue.{SiteValue, place_of}
 use Rattle.rt_peers.specs.ViewStep.{Outcome, as_outcome, changed_step, one_word}
 use Rattle.rt_peers.proofs.PeerLaws.{led_number, text_back}
 use Rattle.rt_peers.proofs.Staying.{Stay}
 
 -- WHAT A VIEW IS LEFT
 
-abbrev view_in : Result Viewed Fault → Viewed → Viewed
+abbrev view_in : Result ViewValue Fault → ViewValue → ViewValue
 view_in (Ok view) none = view
 view_in (Err fault) none = none
 
-limits_leave : (view new : Viewed) (limits : Result Limits Fault) → with_limits view limits ≡ Ok new → (view.doc ≡ new.doc) × (view.others ≡ new.others)
+limits_leave : (view new : ViewValue) (limits : Result Limits Fault) → with_limits view limits ≡ Ok new → (view.doc ≡ new.doc) × (view.others ≡ new.others)
 limits_leave view new (Ok limits) h =
     (ap (λ r. (view_in r view).doc) h, ap (λ r. (view_in r view).others) h)
 limits_leave view new (Err fault) h = absurd (cc h)
 
-pub limited_leaves : (view new : Viewed) (start end : Choice) → limited view start end ≡ Ok new → (view.doc ≡ new.doc) × (view.others ≡ new.others)
+pub limited_leaves : (view new : ViewValue) (start end : Choice) → limited view start end ≡ Ok new → (view.doc ≡ new.doc) × (view.others ≡ new.others)
 limited_leaves view new start end h = limits_leave view new (limits_chosen view.doc.cells start end view.own.limits) h
 
-peer_leaves : (view new : Viewed) (limits : Result Limits Fault) → with_new_peer view limits ≡ Ok new → (view.doc ≡ new.doc) × (length (widgets_of new) ≡ length (widgets_of view) + 1)
+peer_leaves : (view new : ViewValue) (limits : Result Limits Fault) → with_new_peer view limits ≡ Ok new → (view.doc ≡ new.doc) × (length (widgets_of new) ≡ length (widgets_of view) + 1)
 peer_leaves view new (Ok limits) h = (
   ap (λ r. (view_in r view).doc) h,
   omega (arith, ap (λ r. length (view_in r view).others) h, length-append view.others (new_peer view.doc limits ∷ [])),
 )
 peer_leaves view new (Err fault) h = absurd (cc h)
 
-pub one_more : (view new : Viewed) (start end : Choice) → with_peer view start end ≡ Ok new → (view.doc ≡ new.doc) × (length (widgets_of new) ≡ length (widgets_of view) + 1)
+pub one_more : (view new : ViewValue) (start end : Choice) → with_peer view start end ≡ Ok new → (view.doc ≡ new.doc) × (length (widgets_of new) ≡ length (widgets_of view) + 1)
 one_more view new start end h = peer_leaves view new (limits_chosen view.doc.cells start end view.own.limits) h
 
 -- AS MANY WIDGETS
 
-abbrev text_in : Result Edited Fault → Edited → Edited
+abbrev text_in : Result EditedValue Fault → EditedValue → EditedValue
 text_in (Ok text) none = text
 text_in (Err fault) none = none
 
-pub configured_is : (text new : Edited) (settings : Settings) (said : Result Viewed Fault) → text_configured text settings said ≡ Ok new → said ≡ Ok new.view
+pub configured_is : (text new : EditedValue) (settings : Settings) (said : Result ViewValue Fault) → text_configured text settings said ≡ Ok new → said ≡ Ok new.view
 configured_is text new settings (Ok view) h = ap (λ r. Ok (text_in r text).view) h
 configured_is text new settings (Err fault) h = absurd (cc h)
 
-pub text_one_more : (text new : Edited) (settings : WidgetSettings) → text_with_peer text settings ≡ Ok new → length (widgets_of new.view) ≡ length (widgets_of text.view) + 1
+pub text_one_more : (text new : EditedValue) (settings : WidgetSettings) → text_with_peer text settings ≡ Ok new → length (widgets_of new.view) ≡ length (widgets_of text.view) + 1
 text_one_more text new settings h =
     let start = choice_of settings.start_line in
     let end = choice_of settings.end_line in
     (one_more text.view new.view start end (configured_is text new settings.shared (with_peer text.view start end) h)).1
 
-abbrev outcome_in : Outcome Edited → Edited → Edited
+abbrev outcome_in : Outcome EditedValue → EditedValue → EditedValue
 outcome_in (Ok answer) none = answer.1
 outcome_in (Err fault) none = none
 
-changed_is : (said : Result Edited Fault) (words : List Word) (new : Edited) → changed_step said ≡ Ok (words, new) → said ≡ Ok new
-changed_is (Ok text) words new h = ap (λ (o : Outcome Edited). Ok (outcome_in o text)) h
+changed_is : (said : Result EditedValue Fault) (words : List Word) (new : EditedValue) → changed_step said ≡ Ok (words, new) → said ≡ Ok new
+changed_is (Ok text) words new h = ap (λ (o : Outcome EditedValue). Ok (outcome_in o text)) h
 changed_is (Err fault) words new h = absurd (cc h)
 
-pub settings_stay : (old : Edited) (settings : WidgetSettings) (result : Result (List Word) Fault) (new : Edited) → Answers (settings_step old settings) old result new → Stay old.view new.view
+pub settings_stay : (old : EditedValue) (settings : WidgetSettings) (result : Result (List Word) Fault) (new : EditedValue) → Answers (settings_step old settings) old result new → Stay old.view new.view
 settings_stay old settings (Ok words) new h =
     let start = choice_of settings.start_line in
     let end = choice_of settings.end_line in
     let said : limited old.view start end ≡ Ok new.view = configured_is old new settings.shared (limited old.view start end) (changed_is _ words new h) in
     sym (ap length (limited_leaves old.view new.view start end said).1)
-settings_stay old settings (Err fault) new h = ap (λ (t : Edited). length t.view.others) h.0
+settings_stay old settings (Err fault) new h = ap (λ (t : EditedValue). length t.view.others) h.0
 
 -- and the document stays
-pub settings_doc : (old : Edited) (settings : WidgetSettings) (result : Result (List Word) Fault) (new : Edited) → Answers (settings_step old settings) old result new → old.view.doc ≡ new.view.doc
+pub settings_doc : (old : EditedValue) (settings : WidgetSettings) (result : Result (List Word) Fault) (new : EditedValue) → Answers (settings_step old settings) old result new → old.view.doc ≡ new.view.doc
 settings_doc old settings (Ok words) new h =
     let start = choice_of settings.start_line in
     let end = choice_of settings.end_line in
     let said : limited old.view start end ≡ Ok new.view = configured_is old new settings.shared (limited old.view start end) (changed_is _ words new h) in
     (limited_leaves old.view new.view start end said).0
-settings_doc old settings (Err fault) new h = ap (λ (t : Edited). t.view.doc) (sym h.0)
+settings_doc old settings (Err fault) new h = ap (λ (t : EditedValue). t.view.doc) (sym h.0)
 
 -- ONE MORE WIDGET, which one that commands in the place of the first makes
 
-pub there_still : {T : Type 0} (place : ℕ) (old led made : Edited) (settings : WidgetSettings) (result : Result T Fault) → led ≡ text_led place old
+pub there_still : {T : Type 0} (place : ℕ) (old led made : EditedValue) (settings : WidgetSettings) (result : Result T Fault) → led ≡ text_led place old
     → OnOk result (text_with_peer led settings ≡ Ok made) → OnErr result (made ≡ led) → place < length (widgets_of old.view) → place < length (widgets_of made.view)
 there_still place old led made settings (Ok value) is ok unchanged there =
     let more = text_one_more led made settings ok in
@@ -102,23 +102,23 @@ there_still place old led made settings (Err fault) is ok unchanged there =
     let same = ap (λ t. length (widgets_of t.view)) (unchanged ∙ is) ∙ led_number old.view place in
     omega (arith, same, there)
 
-pub made_by_led : {T : Type 0} (place : ℕ) (old led made new : Edited) (settings : WidgetSettings) (result : Result T Fault) → led ≡ text_led place old → new ≡ text_led place made
+pub made_by_led : {T : Type 0} (place : ℕ) (old led made new : EditedValue) (settings : WidgetSettings) (result : Result T Fault) → led ≡ text_led place old → new ≡ text_led place made
     → OnOk result (text_with_peer led settings ≡ Ok made) → OnOk result (text_with_peer (text_led place old) settings ≡ Ok (text_led place new))
 made_by_led place old led made new settings (Ok value) is back ok =
     let to : made ≡ text_led place new = sym (ap (text_led place) back ∙ text_back made place) in
-    subst (λ (t : Edited). text_with_peer t settings ≡ Ok (text_led place new)) is (ok ∙ ap (λ t. Ok t) to)
+    subst (λ (t : EditedValue). text_with_peer t settings ≡ Ok (text_led place new)) is (ok ∙ ap (λ t. Ok t) to)
 made_by_led place old led made new settings (Err fault) is back ok = tt
 
-pub refused_by_led : {T : Type 0} (place : ℕ) (old led : Edited) (settings : WidgetSettings) (result : Result T Fault) → led ≡ text_led place old
+pub refused_by_led : {T : Type 0} (place : ℕ) (old led : EditedValue) (settings : WidgetSettings) (result : Result T Fault) → led ≡ text_led place old
     → IfErr result (Refuses (text_with_peer led settings)) → IfErr result (Refuses (text_with_peer (text_led place old) settings))
-refused_by_led place old led settings result is err = subst (λ (t : Edited). IfErr result (Refuses (text_with_peer t settings))) is err
+refused_by_led place old led settings result is err = subst (λ (t : EditedValue). IfErr result (Refuses (text_with_peer t settings))) is err
 
-pub unchanged_by_led : {T : Type 0} (place : ℕ) (old led made new : Edited) (result : Result T Fault) → led ≡ text_led place old → new ≡ text_led place made → OnErr result (made ≡ led)
+pub unchanged_by_led : {T : Type 0} (place : ℕ) (old led made new : EditedValue) (result : Result T Fault) → led ≡ text_led place old → new ≡ text_led place made → OnErr result (made ≡ led)
     → OnErr result (new ≡ old)
 unchanged_by_led place old led made new (Ok value) is back unchanged = tt
 unchanged_by_led place old led made new (Err fault) is back unchanged = back ∙ ap (text_led place) (unchanged ∙ is) ∙ text_back old place
 
-pub led_one_more : (place : ℕ) (old new : Edited) (settings : WidgetSettings) → text_with_peer (text_led place old) settings ≡ Ok (text_led place new)
+pub led_one_more : (place : ℕ) (old new : EditedValue) (settings : WidgetSettings) → text_with_peer (text_led place old) settings ≡ Ok (text_led place new)
     → length (widgets_of new.view) ≡ length (widgets_of old.view) + 1
 led_one_more place old new settings said =
     let more = text_one_more (text_led place old) (text_led place new) settings said in
@@ -126,14 +126,14 @@ led_one_more place old new settings said =
     let after = led_number new.view place in
     omega (arith, more, before, after)
 
-pub made_doc : (place : ℕ) (old new : Edited) (settings : WidgetSettings) → text_with_peer (text_led place old) settings ≡ Ok (text_led place new) → old.view.doc ≡ new.view.doc
+pub made_doc : (place : ℕ) (old new : EditedValue) (settings : WidgetSettings) → text_with_peer (text_led place old) settings ≡ Ok (text_led place new) → old.view.doc ≡ new.view.doc
 made_doc place old new settings said =
     let led = text_led place old in
     let start = choice_of settings.start_line in
     let end = choice_of settings.end_line in
     (one_more led.view (text_led place new).view start end (configured_is led (text_led place new) settings.shared (with_peer led.view start end) said)).0
 
-pub created_as : (place : ℕ) (path : Word) (state new : State) (settings : WidgetSettings) → is_some (place_of path state.paths) ≡ false
+pub created_as : (place : ℕ) (path : Word) (state new : SiteValue) (settings : WidgetSettings) → is_some (place_of path state.paths) ≡ false
     → text_with_peer (text_led place state.text) settings ≡ Ok (text_led place new.text) → new.paths ≡ state.paths ++ path ∷ [] → new.held ≡ state.held
     → created place path state settings (path_check path state.paths) ≡ Ok (one_word path, new)
 created_as place path state new settings free said paths held =
@@ -142,7 +142,7 @@ created_as place path state new settings free said paths held =
     ∙ ap (as_outcome (λ text. (one_word path, with_widget place path state text))) said
     ∙ (λ i. Ok (one, record { paths = sym paths i; text = text_back new.text place i; held = sym held i }))
 
-pub created_refused : (place : ℕ) (path : Word) (state : State) (settings : WidgetSettings) (fault : Fault) → is_some (place_of path state.paths) ≡ false
+pub created_refused : (place : ℕ) (path : Word) (state : SiteValue) (settings : WidgetSettings) (fault : Fault) → is_some (place_of path state.paths) ≡ false
     → Refuses (text_with_peer (text_led place state.text) settings) fault → Refuses (created place path state settings (path_check path state.paths)) fault
 created_refused place path state settings fault free (inl e) = inl e
 created_refused place path state settings fault free (inr e) = inr (
@@ -152,13 +152,13 @@ created_refused place path state settings fault free (inr e) = inr (
 
 -- TELLING
 
-abbrev state_in : Outcome State → State → State
+abbrev state_in : Outcome SiteValue → SiteValue → SiteValue
 state_in (Ok answer) none = answer.1
 state_in (Err fault) none = none
 
 -- what an option is set to is told, and the site is as it was
-pub told_unchanged : (place : ℕ) (old new : State) (option : NamedOption) (result : Result (List Word) Fault)
+pub told_unchanged : (place : ℕ) (old new : SiteValue) (option : NamedOption) (result : Result (List Word) Fault)
     → Answers (by_widget place old (λ text. option_step text option)) old result new → new ≡ old
 told_unchanged place old new option (Ok words) h =
-    sym (ap (λ (o : Outcome State). state_in o old) h) ∙ ap (λ (text : Edited). record old { text = text }) (text_back old.text place)
+    sym (ap (λ (o : Outcome SiteValue). state_in o old) h) ∙ ap (λ (text : EditedValue). record old { text = text }) (text_back old.text place)
 told_unchanged place old new option (Err fault) h = h.0

@@ -12,44 +12,44 @@ use Rattle.rt_stamps.specs.declared.fault.Fault.{Fault}
 use Rattle.rt_stamps.specs.Outcomes.{Answers, Refuses}
 use Rattle.rt_stamps.specs.Words.{Word, as_words}
 use Rattle.rt_store.proofs.Shown.{position_map}
-use Rattle.rt_editing.specs.Edited.{Edited}
-use Rattle.rt_text.specs.Widgets.{Own, Viewed}
+use Rattle.rt_editing.specs.EditedValue.{EditedValue}
+use Rattle.rt_text.specs.Widgets.{WidgetValue, ViewValue}
 use Rattle.rt_peers.specs.Peers.{HavePaths, text_led, view_led, view_without, widgets_of}
 use Rattle.rt_peers.specs.SiteStep.{by_widget}
-use Rattle.rt_peers.specs.State.{State, new_view, place_of}
+use Rattle.rt_peers.specs.SiteValue.{SiteValue, new_view, place_of}
 use Rattle.rt_peers.specs.ViewStep.{Outcome, as_outcome}
 
 -- ONE LEADS
 
 -- what changes places twice is where it was
-own_back : (xs : List Own) (k : ℕ) (own : Own) → get_or (set xs k own) k (get_or xs k own) ≡ own
+own_back : (xs : List WidgetValue) (k : ℕ) (own : WidgetValue) → get_or (set xs k own) k (get_or xs k own) ≡ own
 own_back [] k own = refl
 own_back (x ∷ xs) zero own = refl
 own_back (x ∷ xs) (suc k) own = own_back xs k own
 
-others_back : (xs : List Own) (k : ℕ) (own : Own) → set (set xs k own) k (get_or xs k own) ≡ xs
+others_back : (xs : List WidgetValue) (k : ℕ) (own : WidgetValue) → set (set xs k own) k (get_or xs k own) ≡ xs
 others_back [] k own = refl
 others_back (x ∷ xs) zero own = refl
 others_back (x ∷ xs) (suc k) own = ap (λ l. x ∷ l) (others_back xs k own)
 
-pub led_back : (view : Viewed) (place : ℕ) → view_led place (view_led place view) ≡ view
+pub led_back : (view : ViewValue) (place : ℕ) → view_led place (view_led place view) ≡ view
 led_back view zero = refl
 led_back view (suc k) = λ i. record view { own = own_back view.others k view.own i; others = others_back view.others k view.own i }
 
-pub text_back : (text : Edited) (place : ℕ) → text_led place (text_led place text) ≡ text
+pub text_back : (text : EditedValue) (place : ℕ) → text_led place (text_led place text) ≡ text
 text_back text place = λ i. record text { view = led_back text.view place i }
 
-set_length : (xs : List Own) (k : ℕ) (own : Own) → length (set xs k own) ≡ length xs
+set_length : (xs : List WidgetValue) (k : ℕ) (own : WidgetValue) → length (set xs k own) ≡ length xs
 set_length [] k own = refl
 set_length (x ∷ xs) zero own = refl
 set_length (x ∷ xs) (suc k) own = ap suc (set_length xs k own)
 
-pub led_number : (view : Viewed) (place : ℕ) → length (widgets_of (view_led place view)) ≡ length (widgets_of view)
+pub led_number : (view : ViewValue) (place : ℕ) → length (widgets_of (view_led place view)) ≡ length (widgets_of view)
 led_number view zero = refl
 led_number view (suc k) = ap suc (set_length view.others k view.own)
 
 -- one that commands in the place of the first, and then gives it back
-pub by_led : (place : ℕ) (state : State) (does : Edited → Outcome Edited) (result : Result (List Word) Fault) (new : Edited)
+pub by_led : (place : ℕ) (state : SiteValue) (does : EditedValue → Outcome EditedValue) (result : Result (List Word) Fault) (new : EditedValue)
     → Answers (does (text_led place state.text)) (text_led place state.text) result new
     → Answers (by_widget place state does) state result (record state { text = text_led place new })
 by_led place state does (Ok reply) new h = ap (as_outcome (λ answer. (answer.0, record state { text = text_led place answer.1 }))) h
@@ -58,7 +58,7 @@ by_led place state does (Err fault) new h = (
   refused (does (text_led place state.text)) h.1,
 )
   where
-    refused : (outcome : Outcome Edited) → Refuses outcome fault → Refuses (as_outcome (λ answer. (answer.0, record state { text = text_led place answer.1 })) outcome) fault
+    refused : (outcome : Outcome EditedValue) → Refuses outcome fault → Refuses (as_outcome (λ answer. (answer.0, record state { text = text_led place answer.1 })) outcome) fault
     refused outcome (inl e) = inl e
     refused outcome (inr e) = inr (ap (as_outcome (λ answer. (answer.0, record state { text = text_led place answer.1 }))) e)
 
@@ -110,11 +110,11 @@ lacks path (x ∷ paths) h =
 
 -- EACH WIDGET HAS A PATH
 
-pub first_path : (paths : List Word) (view : Viewed) (path : Word) (site limit : ℕ) → paths ≡ path ∷ [] → view ≡ new_view site limit → HavePaths paths view
+pub first_path : (paths : List Word) (view : ViewValue) (path : Word) (site limit : ℕ) → paths ≡ path ∷ [] → view ≡ new_view site limit → HavePaths paths view
 unfolding IsDistinct
 first_path paths view path site limit e f = record { each = ap length e ∙ sym (ap (λ v. length (widgets_of v)) f); differ = subst (IsDistinct bytes_eq) (sym e) (tt, tt) }
 
-pub one_more_path : (paths : List Word) (view new : Viewed) (path : Word) → HavePaths paths view → place_of path paths ≡ None → length (widgets_of new) ≡ length (widgets_of view) + 1
+pub one_more_path : (paths : List Word) (view new : ViewValue) (path : Word) → HavePaths paths view → place_of path paths ≡ None → length (widgets_of new) ≡ length (widgets_of view) + 1
     → HavePaths (paths ++ path ∷ []) new
 one_more_path paths view new path h none more =
     let last = reached (position_or_len (λ other. bytes_eq other path) paths) (length paths) (none_first _ _ none) in
@@ -133,7 +133,7 @@ distinct_without [] (suc place) h = tt
 distinct_without (x ∷ paths) zero h = h.1
 distinct_without (x ∷ paths) (suc place) h = (all_without (λ y. bytes_eq x y ≡ false) paths place h.0, distinct_without paths place h.1)
 
-pub path_gone : (paths : List Word) (view : Viewed) (place : ℕ) → HavePaths paths view → place < length paths → 1 < length paths → HavePaths (remove paths place) (view_without place view)
+pub path_gone : (paths : List Word) (view : ViewValue) (place : ℕ) → HavePaths paths view → place < length paths → 1 < length paths → HavePaths (remove paths place) (view_without place view)
 path_gone paths view place h there several =
     let all = widgets_of view in
     let here : place < length all = omega (arith, h.each) in

@@ -17,7 +17,7 @@ use Rattle.rt_holding.proofs.Exchanged.{HasLog, by_stamp, in_reverse, of_reverse
 use Rattle.rt_peers.specs.Exchange.{AgreeOnceCaughtUp, AreApart, ReceivesLacking}
 use Rattle.rt_peers.specs.Lacking.{is_past, since}
 use Rattle.rt_peers.specs.SiteStep.{log_of, text_limit, text_log}
-use Rattle.rt_peers.specs.State.{State}
+use Rattle.rt_peers.specs.SiteValue.{SiteValue}
 use Rattle.rt_peers.proofs.Exchanging.{holder, one_join}
 use Rattle.rt_peers.proofs.Lacking.{filter_has, has_filter}
 
@@ -88,7 +88,7 @@ module _ (set log : List Operation) (known : ℕ → ℕ) (h : IsHistory set) (k
       (λ x i e. covered set log known h k apart up x (of_reverse log x i) e)
       (by_stamp both log set whole_history k (λ x i. union_has set log x (inr i))))
 
-pub receives_lacking : (one : State) (log : List Operation) → IsHistory (log_of one) → IsHistory log → ReceivesLacking one log
+pub receives_lacking : (one : SiteValue) (log : List Operation) → IsHistory (log_of one) → IsHistory log → ReceivesLacking one log
 receives_lacking one log p q known bytes received new up file apart none h =
     let set = log_of one in
     let ops = reverse (since known log) in
@@ -102,7 +102,7 @@ receives_lacking one log p q known bytes received new up file apart none h =
     )
 
 -- two sites that receive so of each other's logs, with no fault told, have one log
-pub one_log_caught_up : (one other left_one left_other : State) → IsHistory (log_of one) → IsHistory (log_of other)
+pub one_log_caught_up : (one other left_one left_other : SiteValue) → IsHistory (log_of one) → IsHistory (log_of other)
     → AgreeOnceCaughtUp log_of one other left_one left_other
 one_log_caught_up one other left_one left_other p q known_one known_other file_one file_other up_one up_other apart back file h k =
     let other_way : AreApart (log_of other) (log_of one) = λ x y i j. clash_sym x y ∙ apart y x j i in

@@ -7,8 +7,8 @@ use Rattle.rt_stamps.specs.declared.fault.Fault.TheVariants.{NoMemory}
 use Rattle.rt_stamps.specs.Outcomes.{Answers, Refuses}
 use Rattle.rt_stamps.specs.Words.{Word, as_words}
 use Rattle.rt_text.specs.Commands.{got_list}
-use Rattle.rt_text.specs.Widgets.{Viewed}
-use Rattle.rt_editing.specs.Edited.{Edited, edited}
+use Rattle.rt_text.specs.Widgets.{ViewValue}
+use Rattle.rt_editing.specs.EditedValue.{EditedValue, edited}
 use Rattle.rt_editing.specs.Recordings.{Recording}
 use Rattle.rt_peers.specs.Step.{on_view}
 use Rattle.rt_peers.specs.ViewStep.{Outcome, as_outcome, changed_step, get_step, told_step}
@@ -95,7 +95,7 @@ pair (w ∷ v ∷ []) x y h k a b = rw (a, b) refl
 pair (w ∷ v ∷ u ∷ words) x y h k a b = absurd (omega arith)
 
 -- the texts of indices that are neither one nor two
-pub get_of_many : (view : Viewed) (words : List (String Global)) → (length words ≡ 1 → ⊥) → (length words ≡ 2 → ⊥)
+pub get_of_many : (view : ViewValue) (words : List (String Global)) → (length words ≡ 1 → ⊥) → (length words ≡ 2 → ⊥)
     → get_step view (as_words words) ≡ told_step (λ texts. texts) view (got_list view (as_words words))
 get_of_many view [] one two = refl
 get_of_many view (w ∷ []) one two = absurd (one refl)
@@ -103,12 +103,12 @@ get_of_many view (w ∷ v ∷ []) one two = absurd (two refl)
 get_of_many view (w ∷ v ∷ u ∷ words) one two = refl
 
 -- what a request does to what the widget shows, as one to the text
-pub lifted : (state : Edited) (outcome : Outcome Viewed) (result : Result (List Word) Fault) (new : Viewed) → Answers outcome state.view result new
+pub lifted : (state : EditedValue) (outcome : Outcome ViewValue) (result : Result (List Word) Fault) (new : ViewValue) → Answers outcome state.view result new
     → Answers (on_view state outcome) state result (record state { view = new })
 lifted state outcome (Ok reply) new h = ap (on_view state) h
 lifted state outcome (Err fault) new h = (λ i. record state { view = h.0 i }, refused_by (λ answer. (answer.0, record state { view = answer.1 })) outcome fault fault h.1 refl)
 
-pub told_to : (state : Edited) (viewer : Viewed) (recording : Recording) → edited viewer recording ≡ state → (outcome : Viewed → Outcome Viewed) (result : Result (List Word) Fault)
+pub told_to : (state : EditedValue) (viewer : ViewValue) (recording : Recording) → edited viewer recording ≡ state → (outcome : ViewValue → Outcome ViewValue) (result : Result (List Word) Fault)
     → Answers (outcome viewer) viewer result viewer → Answers (on_view state (outcome state.view)) state result state
 told_to state viewer recording e outcome result h =
-    subst (λ (s : Edited). Answers (on_view s (outcome s.view)) s result s) e (lifted (edited viewer recording) (outcome viewer) result viewer h)
+    subst (λ (s : EditedValue). Answers (on_view s (outcome s.view)) s result s) e (lifted (edited viewer recording) (outcome viewer) result viewer h)

@@ -22,13 +22,13 @@ use Rattle.rt_holding.specs.Seeing.{BecameByTaking}
 use Rattle.rt_holding.specs.Taken.{all_after}
 use Rattle.rt_holding.proofs.Keeping.{with_all}
 use Rattle.rt_holding.proofs.Seen.{files_seen, files_taken}
-use Rattle.rt_editing.specs.Edited.{Edited}
+use Rattle.rt_editing.specs.EditedValue.{EditedValue}
 use Rattle.rt_editing.specs.Edits.{text_with_new}
 use Rattle.rt_peers.specs.declared.text.telling.TellingText.{TellingText}
 use Rattle.rt_peers.specs.SiteStep.{text_limit, text_log}
 use Rattle.rt_peers.specs.Telling.{AreToldBetween, HasToldMore, changes_each, telling_with_new}
 
-abbrev text_in : TellingText → Edited
+abbrev text_in : TellingText → EditedValue
 text_in t = t.text.now
 
 abbrev told_in : TellingText → List (List VisibleChange)
@@ -40,7 +40,7 @@ log_in t = text_log t.text.now
 abbrev limit_in : TellingText → ℕ
 limit_in t = text_limit t.text.now
 
-abbrev seen : Holder TellingText → Holder Edited
+abbrev seen : Holder TellingText → Holder EditedValue
 seen s = record { site = s.site.text.now; held = s.held }
 
 append_none : {X : Type 0} (xs : List X) → xs ++ [] ≡ xs
@@ -93,7 +93,7 @@ continue_in_turn limit (op ∷ ops) log h rules turn =
     (k, continue_in_turn limit ops (with_operation op log) (history_with op log h k) (λ x i. rules x (inr i)) turn.1)
 
 -- what is told behind nothing is all that is told
-pub only_told : (old new : Edited) (before after changes : List (List VisibleChange)) → before ≡ [] → changes ≡ after → HasToldMore old new before after
+pub only_told : (old new : EditedValue) (before after changes : List (List VisibleChange)) → before ≡ [] → changes ≡ after → HasToldMore old new before after
     → HasToldMore old new [] changes
 only_told old new before after changes none all more =
     subst (HasToldMore old new []) (sym all) (subst (λ (l : List (List VisibleChange)). HasToldMore old new l after) none more)
@@ -108,7 +108,7 @@ together (t ∷ told) (op ∷ ops) log h =
     let rest : map changes_in told ≡ changes_each ops (with_operation op log) = cc h in
     (λ i. one i ++ together told ops (with_operation op log) rest i)
 
-module _ (old new : Edited) (told : List ToldChange) (before : IsHistory (text_log old)) (after : IsHistory (text_log new))
+module _ (old new : EditedValue) (told : List ToldChange) (before : IsHistory (text_log old)) (after : IsHistory (text_log new))
     (t : HasToldMore old new [] (map changes_in told)) where
   in_turn : ContinueInTurn (text_log old) t.ops
   in_turn =

@@ -5,17 +5,17 @@ use Rattle.rt_stamps.specs.Words.{Word}
 use Rattle.rt_views.specs.declared.limits.Limits.{Limits}
 use Rattle.rt_text.specs.Cursors.{place_of_stamp, stamp_at}
 use Rattle.rt_peers.specs.Peers.{widgets_of}
-use Rattle.rt_peers.specs.State.{State, place_of}
+use Rattle.rt_peers.specs.SiteValue.{SiteValue, place_of}
 
 -- the limits of the widget of a path; none where there is no such widget
-abbrev pub limits_by : Word → State → Option Limits
+abbrev pub limits_by : Word → SiteValue → Option Limits
 limits_by path state = option_and_then (λ at. option_map (λ own. own.limits) (slice_get (widgets_of state.text.view) at)) (place_of path state.paths)
 
 -- the stamp of the character at a place of what the widget of a path shows; none from its end on, or where there is no such widget
-abbrev pub stamp_by : Word → ℕ → State → Option Stamp
+abbrev pub stamp_by : Word → ℕ → SiteValue → Option Stamp
 stamp_by path place state = option_and_then (λ limits. stamp_at limits place state.text.view.doc.cells) (limits_by path state)
 
 -- how many of the characters that the widget of a path shows stand before that of a stamp, which may be gone or outside; none where no
 -- cell has the stamp, or where there is no such widget
-abbrev pub place_by : Word → Stamp → State → Option ℕ
+abbrev pub place_by : Word → Stamp → SiteValue → Option ℕ
 place_by path stamp state = option_and_then (λ limits. place_of_stamp limits stamp state.text.view.doc.cells) (limits_by path state)

@@ -16,7 +16,7 @@ use Rattle.rt_peers.specs.Lives.{IsOfFile, LivesOn}
 use Rattle.rt_peers.specs.Memory.{GivesFoundMemory, ReceivingFoundMemory, RequestFoundMemory}
 use Rattle.rt_peers.specs.PeerStep.{Destroys}
 use Rattle.rt_peers.specs.SiteStep.{AnswersInTurn, Gives, SiteReceives, option_at, peer_step_at, settings_at, step_at}
-use Rattle.rt_peers.specs.State.{State}
+use Rattle.rt_peers.specs.SiteValue.{SiteValue}
 
 -- CALLS
 
@@ -44,7 +44,7 @@ pub data Told : Type 0 where
 
 -- What an event tells in a state, and the state after it: by the clause `answers` of the call's contract, or by its only ones. Of a
 -- file `OfFile` tells, and of all else `Replied`.
-abbrev pub EventGives : Event → State → Told → State → Type 0
+abbrev pub EventGives : Event → SiteValue → Told → SiteValue → Type 0
 EventGives (Command path words) old (Replied result) new = Gives path words old result new
 EventGives (Answer path request) old (Replied result) new = AnswersInTurn (step_at path old request) old result new
 EventGives (Configure path settings) old (Replied result) new = Answers (settings_at path old settings) old result new
@@ -55,16 +55,16 @@ EventGives (Receive bytes) old (OfFile received) new = SiteReceives bytes old re
 EventGives event old told new = ⊥
 
 -- this is told of some events, one after the other
-abbrev pub EventsGive : List Event → State → List Told → State → Type 0
+abbrev pub EventsGive : List Event → SiteValue → List Told → SiteValue → Type 0
 EventsGive [] old [] new = new ≡ old
-EventsGive (event ∷ events) old (told ∷ more) new = (mid : State) × EventGives event old told mid × EventsGive events mid more new
+EventsGive (event ∷ events) old (told ∷ more) new = (mid : SiteValue) × EventGives event old told mid × EventsGive events mid more new
 EventsGive [] old (told ∷ more) new = ⊥
 EventsGive (event ∷ events) old [] new = ⊥
 
 -- WHERE NO MEMORY WAS WANTING
 
 -- an event found memory; `destroy` takes none
-abbrev pub EventFoundMemory : (event : Event) (old : State) (told : Told) (new : State) → EventGives event old told new → Type 0
+abbrev pub EventFoundMemory : (event : Event) (old : SiteValue) (told : Told) (new : SiteValue) → EventGives event old told new → Type 0
 EventFoundMemory (Command path words) old (Replied result) new h = GivesFoundMemory path words old result new h
 EventFoundMemory (Answer path request) old (Replied result) new h = RequestFoundMemory (step_at path old request) old result new h
 EventFoundMemory (Configure path settings) old (Replied result) new h = result ≢ Err NoMemory
@@ -75,7 +75,7 @@ EventFoundMemory (Receive bytes) old (OfFile received) new h = ReceivingFoundMem
 EventFoundMemory event old told new h = Unit {0}
 
 -- each of some events found memory
-abbrev pub EventsFoundMemory : (events : List Event) (old : State) (told : List Told) (new : State) → EventsGive events old told new → Type 0
+abbrev pub EventsFoundMemory : (events : List Event) (old : SiteValue) (told : List Told) (new : SiteValue) → EventsGive events old told new → Type 0
 EventsFoundMemory (event ∷ events) old (told ∷ more) new h = EventFoundMemory event old told h.0 h.1 × EventsFoundMemory events h.0 more new h.2
 EventsFoundMemory events old told new h = Unit {0}
 
@@ -84,7 +84,7 @@ EventsFoundMemory events old told new h = Unit {0}
 -- The same events from the same state on, where they found memory, tell the same and leave the same state.
 abbrev pub EventsGoOneWay : Type 0
 EventsGoOneWay =
-    (events : List Event) (one two : List Told) (old new left : State)
+    (events : List Event) (one two : List Told) (old new left : SiteValue)
     (h : EventsGive events old one new) (k : EventsGive events old two left)
     → EventsFoundMemory events old one new h → EventsFoundMemory events old two left k → (one ≡ two) × (new ≡ left)
 
@@ -97,4 +97,4 @@ IsOfReceived events op = (bytes : List ℕ) × Contains events (Receive bytes) �
 -- Whatever is asked of a site that lives, it lives on: what came to it with the events are operations of its own number, and of files that
 -- they receive.
 abbrev pub EventsLive : Type 0
-EventsLive = (events : List Event) (told : List Told) (old new : State) → EventsGive events old told new → LivesOn (IsOfReceived events) old new
+EventsLive = (events : List Event) (told : List Told) (old new : SiteValue) → EventsGive events old told new → LivesOn (IsOfReceived events) old new

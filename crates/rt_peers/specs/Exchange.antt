@@ -8,7 +8,7 @@ use Rattle.rt_oplog.specs.Logs.{Has, HasClashOf, clash, joined, known_end}
 use Rattle.rt_holding.specs.declared.receiving.Received.{Received}
 use Rattle.rt_peers.specs.Lacking.{since}
 use Rattle.rt_peers.specs.SiteStep.{SiteReceives, log_of}
-use Rattle.rt_peers.specs.State.{State}
+use Rattle.rt_peers.specs.SiteValue.{SiteValue}
 
 -- bytes read as the operations of a log, as those of its file do
 abbrev pub IsFileOf : List ℕ → List Operation → Type 0
@@ -20,15 +20,15 @@ AreApart one other = (p q : Operation) → Has one p → Has other q → clash p
 
 -- what is told of a file comes to the join of two logs, with nothing held, or a fault was told; and no other than want of memory or of
 -- room is
-abbrev pub ComesToJoin : State → List Operation → Received → State → Type 0
+abbrev pub ComesToJoin : SiteValue → List Operation → Received → SiteValue → Type 0
 ComesToJoin one log received new =
     (received.fault ≡ None → (joined (log_of one) log ≡ Ok (log_of new)) × (new.held ≡ []))
     × IfSome received.fault (λ found. (found.0 ≡ NoMemory) ⊎ (found.0 ≡ TextFull))
 
 -- A site that holds nothing receives the whole log of another, from which it is apart.
-abbrev pub ReceivesWhole : State → List Operation → Type 0
+abbrev pub ReceivesWhole : SiteValue → List Operation → Type 0
 ReceivesWhole one log =
-    (bytes : List ℕ) (received : Received) (new : State) → IsFileOf bytes log → AreApart (log_of one) log → one.held ≡ []
+    (bytes : List ℕ) (received : Received) (new : SiteValue) → IsFileOf bytes log → AreApart (log_of one) log → one.held ≡ []
     → SiteReceives bytes one received new → ComesToJoin one log received new
 
 -- the counts of a log reach those that are known
@@ -36,16 +36,16 @@ abbrev pub Reaches : List Operation → (ℕ → ℕ) → Type 0
 Reaches log known = (site : ℕ) → known site ≤ known_end log site
 
 -- It receives of that log only what is past some counts, up to which it knows the operations of each site.
-abbrev pub ReceivesLacking : State → List Operation → Type 0
+abbrev pub ReceivesLacking : SiteValue → List Operation → Type 0
 ReceivesLacking one log =
-    (known : ℕ → ℕ) (bytes : List ℕ) (received : Received) (new : State) → Reaches (log_of one) known
+    (known : ℕ → ℕ) (bytes : List ℕ) (received : Received) (new : SiteValue) → Reaches (log_of one) known
     → IsFileOf bytes (since known log) → AreApart (log_of one) log → one.held ≡ []
     → SiteReceives bytes one received new → ComesToJoin one log received new
 
 -- Two such sites receive each other's logs, and no fault is told: then both have one log.
-abbrev pub ExchangeAgrees : State → State → Type 0
+abbrev pub ExchangeAgrees : SiteValue → SiteValue → Type 0
 ExchangeAgrees one other =
-    (file_one file_other : List ℕ) (received_one received_other : Received) (new_one new_other : State)
+    (file_one file_other : List ℕ) (received_one received_other : Received) (new_one new_other : SiteValue)
     → IsFileOf file_one (log_of one) → IsFileOf file_other (log_of other) → AreApart (log_of one) (log_of other) → one.held ≡ [] → other.held ≡ []
     → SiteReceives file_other one received_one new_one → SiteReceives file_one other received_other new_other
     → received_one.fault ≡ None → received_other.fault ≡ None → log_of new_one ≡ log_of new_other
@@ -58,32 +58,32 @@ IsWantOrConflict one log fault = (fault ≡ NoMemory) ⊎ ((fault ≡ TextFull) 
 
 -- A site that holds nothing receives the whole log of another, whatever clashes. Where no fault is told it comes to the join of both
 -- logs, with nothing held; and where one is told, it is want of memory or of room, or a Conflict of the join.
-abbrev pub ReceivesAny : State → List Operation → Type 0
+abbrev pub ReceivesAny : SiteValue → List Operation → Type 0
 ReceivesAny one log =
-    (bytes : List ℕ) (received : Received) (new : State) → IsFileOf bytes log → one.held ≡ [] → SiteReceives bytes one received new
+    (bytes : List ℕ) (received : Received) (new : SiteValue) → IsFileOf bytes log → one.held ≡ [] → SiteReceives bytes one received new
     → (received.fault ≡ None → (joined (log_of one) log ≡ Ok (log_of new)) × (new.held ≡ []))
     × IfSome received.fault (λ found. IsWantOrConflict (log_of one) log found.0)
 
 -- where two operations of both logs clash, a fault is told
-abbrev pub TellsClash : State → List Operation → Type 0
+abbrev pub TellsClash : SiteValue → List Operation → Type 0
 TellsClash one log =
-    (bytes : List ℕ) (received : Received) (new : State) → IsFileOf bytes log → one.held ≡ [] → HasClashOf (log_of one) log
+    (bytes : List ℕ) (received : Received) (new : SiteValue) → IsFileOf bytes log → one.held ≡ [] → HasClashOf (log_of one) log
     → SiteReceives bytes one received new → received.fault ≢ None
 
 -- TWO SITES AFTERWARDS
 
 -- a site that holds nothing receives a file, is told no fault, and is left as another state
-abbrev pub ReceivesAll : List ℕ → State → State → Type 0
+abbrev pub ReceivesAll : List ℕ → SiteValue → SiteValue → Type 0
 ReceivesAll bytes old new = (old.held ≡ []) × (received : Received) × SiteReceives bytes old received new × (received.fault ≡ None)
 
 -- two sites that receive each other's whole logs, with no fault told, show the same
-abbrev pub AgreeOnceExchanged : {Shown : Type 0} → (State → Shown) → State → State → State → State → Type 0
+abbrev pub AgreeOnceExchanged : {Shown : Type 0} → (SiteValue → Shown) → SiteValue → SiteValue → SiteValue → SiteValue → Type 0
 AgreeOnceExchanged shown one other left_one left_other =
     (file_one file_other : List ℕ) → IsFileOf file_one (log_of one) → IsFileOf file_other (log_of other)
     → ReceivesAll file_other one left_one → ReceivesAll file_one other left_other → shown left_one ≡ shown left_other
 
 -- so do two that are apart and receive of each other's log what is past counts up to which they know the operations of each site
-abbrev pub AgreeOnceCaughtUp : {Shown : Type 0} → (State → Shown) → State → State → State → State → Type 0
+abbrev pub AgreeOnceCaughtUp : {Shown : Type 0} → (SiteValue → Shown) → SiteValue → SiteValue → SiteValue → SiteValue → Type 0
 AgreeOnceCaughtUp shown one other left_one left_other =
     (known_one known_other : ℕ → ℕ) (file_one file_other : List ℕ) → Reaches (log_of one) known_one → Reaches (log_of other) known_other
     → AreApart (log_of one) (log_of other) → IsFileOf file_one (since known_other (log_of one)) → IsFileOf file_other (since known_one (log_of other))

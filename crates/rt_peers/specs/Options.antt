@@ -11,9 +11,9 @@ use Rattle.rt_peer_requests.specs.declared.options.NamedOption.{NamedOption}
 use Rattle.rt_peer_requests.specs.declared.options.NamedOption.TheVariants.{Shared, StartLine, EndLine}
 use Rattle.rt_peer_requests.specs.declared.settings.WidgetSettings.{WidgetSettings}
 use Rattle.rt_peer_requests.specs.SettingWords.{AskedOfSettings}
-use Rattle.rt_editing.specs.Edited.{Edited}
+use Rattle.rt_editing.specs.EditedValue.{EditedValue}
 use Rattle.rt_text.specs.Limited.{limited}
-use Rattle.rt_text.specs.Widgets.{Viewed}
+use Rattle.rt_text.specs.Widgets.{ViewValue}
 use Rattle.rt_views.specs.declared.choice.Choice.{Choice}
 use Rattle.rt_views.specs.declared.choice.Choice.TheVariants.{Kept, Away, Line}
 use Rattle.rt_views.specs.Limits.{end_number, start_number}
@@ -30,19 +30,19 @@ choice_of (Some (limits.Line number)) = Line number
 choice_of (Some limits.PastEveryLine) = Line (2 ^ 64 - 1)
 
 -- where what a widget shows can be set, the shared options are set too
-abbrev pub text_configured : Edited → Settings → Result Viewed Fault → Result Edited Fault
+abbrev pub text_configured : EditedValue → Settings → Result ViewValue Fault → Result EditedValue Fault
 text_configured text settings (Ok view) = Ok (record (configured text settings) { view = view })
 text_configured text settings (Err fault) = Err fault
 
 -- configure OPTION VALUE ?OPTION VALUE ...?
-abbrev pub text_set : Edited → WidgetSettings → Result Edited Fault
+abbrev pub text_set : EditedValue → WidgetSettings → Result EditedValue Fault
 text_set text settings = text_configured text settings.shared (limited text.view (choice_of settings.start_line) (choice_of settings.end_line))
 
-abbrev pub settings_step : Edited → WidgetSettings → Outcome Edited
+abbrev pub settings_step : EditedValue → WidgetSettings → Outcome EditedValue
 settings_step text settings = changed_step (text_set text settings)
 
 -- words that set options, or that are refused
-abbrev pub settings_outcome : Edited → AskedOfSettings → Outcome Edited
+abbrev pub settings_outcome : EditedValue → AskedOfSettings → Outcome EditedValue
 settings_outcome text (Ok settings) = settings_step text settings
 settings_outcome text (Err fault) = Err fault
 
@@ -54,16 +54,16 @@ number_word None = []
 number_word (Some number) = decimal number
 
 -- what an option is set to: a limit to the line that it has by now
-abbrev pub option_value_word : Edited → NamedOption → Word
+abbrev pub option_value_word : EditedValue → NamedOption → Word
 option_value_word text (Shared option) = text_of_bool (option_value text option)
 option_value_word text StartLine = number_word (start_number text.view.doc.cells text.view.own.limits)
 option_value_word text EndLine = number_word (end_number text.view.doc.cells text.view.own.limits)
 
 -- cget OPTION
-abbrev pub option_step : Edited → NamedOption → Outcome Edited
+abbrev pub option_step : EditedValue → NamedOption → Outcome EditedValue
 option_step text option = Ok (one_word (option_value_word text option), text)
 
 -- a word that names an option, or that is refused
-abbrev pub option_outcome : Edited → Result NamedOption Fault → Outcome Edited
+abbrev pub option_outcome : EditedValue → Result NamedOption Fault → Outcome EditedValue
 option_outcome text (Ok option) = option_step text option
 option_outcome text (Err fault) = Err fault

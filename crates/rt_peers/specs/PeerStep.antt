@@ -10,9 +10,9 @@ use Rattle.rt_peer_requests.specs.declared.peers.PeerRequest.{PeerRequest}
 use Rattle.rt_peer_requests.specs.declared.peers.PeerRequest.TheVariants.{Create, Names}
 use Rattle.rt_peer_requests.specs.declared.settings.WidgetSettings.{WidgetSettings}
 use Rattle.rt_peer_requests.specs.PeerWords.{AskedOfPeers}
-use Rattle.rt_editing.specs.Edited.{Edited}
+use Rattle.rt_editing.specs.EditedValue.{EditedValue}
 use Rattle.rt_text.specs.Limited.{with_peer}
-use Rattle.rt_peers.specs.State.{State, is_widget, place_of}
+use Rattle.rt_peers.specs.SiteValue.{SiteValue, is_widget, place_of}
 use Rattle.rt_peers.specs.Options.{choice_of, text_configured}
 use Rattle.rt_peers.specs.ViewStep.{Outcome, as_outcome, one_word}
 use Rattle.rt_peers.specs.Peers.{text_led, with_widget, without_widget}
@@ -25,11 +25,11 @@ path_check path paths = if is_widget path paths then Some WidgetExists else None
 
 -- one more widget of a text, the last one: it shows the lines that are asked for, and else those of the widget that commands; the
 -- shared options are set too
-abbrev pub text_with_peer : Edited → WidgetSettings → Result Edited Fault
+abbrev pub text_with_peer : EditedValue → WidgetSettings → Result EditedValue Fault
 text_with_peer text settings = text_configured text settings.shared (with_peer text.view (choice_of settings.start_line) (choice_of settings.end_line))
 
 -- it is made by the widget at a place
-abbrev pub created : ℕ → Word → State → WidgetSettings → Option Fault → Outcome State
+abbrev pub created : ℕ → Word → SiteValue → WidgetSettings → Option Fault → Outcome SiteValue
 created place path state settings (Some fault) = Err fault
 created place path state settings None =
     as_outcome (λ text. (one_word path, with_widget place path state text)) (text_with_peer (text_led place state.text) settings)
@@ -39,12 +39,12 @@ abbrev pub other_paths : Word → List Word → List Word
 other_paths path paths = filter (λ other. not (bytes_eq other path)) paths
 
 -- what is asked of the peers of the widget of a path, which is the one at a place
-abbrev pub peer_step : Word → ℕ → State → PeerRequest → Outcome State
+abbrev pub peer_step : Word → ℕ → SiteValue → PeerRequest → Outcome SiteValue
 peer_step path place state (Create new settings) = created place new state settings (path_check new state.paths)
 peer_step path place state Names = Ok (other_paths path state.paths, state)
 
 -- words that ask for something of peers, or that are refused
-abbrev pub peer_outcome : Word → ℕ → State → AskedOfPeers → Outcome State
+abbrev pub peer_outcome : Word → ℕ → SiteValue → AskedOfPeers → Outcome SiteValue
 peer_outcome path place state (Ok request) = peer_step path place state request
 peer_outcome path place state (Err fault) = Err fault
 
@@ -54,16 +54,16 @@ peer_outcome path place state (Err fault) = Err fault
 abbrev pub last_check : List Word → Option Fault
 last_check paths = if nat_lt 1 (length paths) then None else Some LastWidget
 
-abbrev pub destroyed_at : Option ℕ → State → Result State Fault
+abbrev pub destroyed_at : Option ℕ → SiteValue → Result SiteValue Fault
 destroyed_at None state = Err NoWidget
 destroyed_at (Some place) state = unless (last_check state.paths) (without_widget place state)
 
 -- the widget of a path is no longer there
-abbrev pub destroyed : Word → State → Result State Fault
+abbrev pub destroyed : Word → SiteValue → Result SiteValue Fault
 destroyed path state = destroyed_at (place_of path state.paths) state
 
 -- The widget of a path goes, and the reply has no words; or it is refused, and the site is as it was.
-pub record Destroys (path : Word) (old : State) (result : Result (List Word) Fault) (new : State) : Type 0 where
+pub record Destroys (path : Word) (old : SiteValue) (result : Result (List Word) Fault) (new : SiteValue) : Type 0 where
   pub reply : IfOk result (λ reply. reply ≡ [])
   pub ok : OnOk result (destroyed path old ≡ Ok new)
   pub err : IfErr result (λ fault. destroyed path old ≡ Err fault)

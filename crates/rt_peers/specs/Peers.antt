@@ -4,36 +4,36 @@ use Rattle.std.specs.Prelude.{◌≡◌, ℕ, List, [], ◌∷◌, ◌++◌, dro
 use Rattle.std.specs.List.{IsDistinct, remove}
 use Rattle.std.specs.Str.{bytes_eq}
 use Rattle.rt_stamps.specs.Words.{Word}
-use Rattle.rt_editing.specs.Edited.{Edited}
-use Rattle.rt_text.specs.Widgets.{Own, Viewed}
-use Rattle.rt_peers.specs.State.{State}
+use Rattle.rt_editing.specs.EditedValue.{EditedValue}
+use Rattle.rt_text.specs.Widgets.{WidgetValue, ViewValue}
+use Rattle.rt_peers.specs.SiteValue.{SiteValue}
 
 -- what is each widget's own, the first one's first
-abbrev pub widgets_of : Viewed → List Own
+abbrev pub widgets_of : ViewValue → List WidgetValue
 widgets_of view = view.own ∷ view.others
 
 -- each widget has a path of its own
-pub record HavePaths (paths : List Word) (view : Viewed) : Type 0 where
+pub record HavePaths (paths : List Word) (view : ViewValue) : Type 0 where
   pub each : length paths ≡ length (widgets_of view)
   pub differ : IsDistinct bytes_eq paths
 
 -- the widget at a place commands: it and the first one change places
-abbrev pub view_led : ℕ → Viewed → Viewed
+abbrev pub view_led : ℕ → ViewValue → ViewValue
 view_led place view = record view { own = get_or (widgets_of view) place view.own; others = drop 1 (set (widgets_of view) place view.own) }
 
-abbrev pub text_led : ℕ → Edited → Edited
+abbrev pub text_led : ℕ → EditedValue → EditedValue
 text_led place text = record text { view = view_led place text.view }
 
 -- a site with one more path, the last one, where the widget at a place left the text with one more widget
-abbrev pub with_widget : ℕ → Word → State → Edited → State
+abbrev pub with_widget : ℕ → Word → SiteValue → EditedValue → SiteValue
 with_widget place path state text = record state { paths = state.paths ++ path ∷ []; text = text_led place text }
 
 -- the widget at a place is no longer there; the others stay in their order
-abbrev pub view_without : ℕ → Viewed → Viewed
+abbrev pub view_without : ℕ → ViewValue → ViewValue
 view_without place view =
     let left = remove (widgets_of view) place in
     record view { own = get_or left 0 view.own; others = drop 1 left }
 
-abbrev pub without_widget : ℕ → State → State
+abbrev pub without_widget : ℕ → SiteValue → SiteValue
 without_widget place state =
     record state { paths = remove state.paths place; text = record state.text { view = view_without place state.text.view } }

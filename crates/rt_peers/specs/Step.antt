@@ -13,28 +13,28 @@ use Rattle.rt_requests.specs.declared.request.Request.TheVariants.{Insert, Delet
 use Rattle.rt_requests.specs.Asking.{Asked}
 use Rattle.rt_requests.specs.Parts.{all_of}
 use Rattle.rt_queries.specs.Dumping.{dumped}
-use Rattle.rt_editing.specs.Edited.{Edited}
+use Rattle.rt_editing.specs.EditedValue.{EditedValue}
 use Rattle.rt_editing.specs.Edits.{text_deleted, text_inserted, text_replaced}
 use Rattle.rt_editing.specs.Reverts.{text_redone, text_undone}
 use Rattle.rt_queries.specs.SearchCommand.{searched}
 use Rattle.rt_text.specs.Commands.{position_of_index, compared, counted}
-use Rattle.rt_text.specs.Widgets.{Viewed}
+use Rattle.rt_text.specs.Widgets.{ViewValue}
 use Rattle.rt_undo.specs.Undo.{emptied, forced_on, is_modified, next_redo, next_undo, separated, unmodified}
 use Rattle.rt_peers.specs.ViewStep.{Outcome, as_outcome, as_piece, changed_step, element_words, get_step, mark_step, one_word, tag_step, text_of_bool, told_step}
 
 -- what a request does to what the widget shows, as one to the text: the history of its edits stays
-abbrev pub on_view : Edited → Outcome Viewed → Outcome Edited
+abbrev pub on_view : EditedValue → Outcome ViewValue → Outcome EditedValue
 on_view text = as_outcome (λ answer. (answer.0, record text { view = answer.1 }))
 
 -- whether edits are recorded and there is a group to undo, or one to redo (Tk text manual, "edit canundo", "edit canredo")
-abbrev pub can_undo : Edited → Bool
+abbrev pub can_undo : EditedValue → Bool
 can_undo text = text.undo && is_some (next_undo text.history)
 
-abbrev pub can_redo : Edited → Bool
+abbrev pub can_redo : EditedValue → Bool
 can_redo text = text.undo && is_some (next_redo text.history)
 
 -- what is asked of the undo mechanism
-abbrev pub edit_step : Edited → EditRequest → Outcome Edited
+abbrev pub edit_step : EditedValue → EditRequest → Outcome EditedValue
 edit_step text edits.Undo = changed_step (text_undone text)
 edit_step text edits.Redo = changed_step (text_redone text)
 edit_step text edits.Separator = Ok ([], record text { history = separated text.history })
@@ -45,16 +45,16 @@ edit_step text edits.Modified = Ok (one_word (text_of_bool (is_modified text.his
 edit_step text (edits.SetModified on) = Ok ([], record text { history = if on then forced_on text.history else unmodified text.history })
 
 -- options that are given a value; the others stay
-abbrev pub configured : Edited → Settings → Edited
+abbrev pub configured : EditedValue → Settings → EditedValue
 configured text settings = record text { undo = unwrap_or settings.undo text.undo; auto = unwrap_or settings.auto_separators text.auto }
 
 -- what an option is set to
-abbrev pub option_value : Edited → WidgetOption → Bool
+abbrev pub option_value : EditedValue → WidgetOption → Bool
 option_value text Undo = text.undo
 option_value text AutoSeparators = text.auto
 
 -- what is asked of a widget
-abbrev pub step : Edited → Request → Outcome Edited
+abbrev pub step : EditedValue → Request → Outcome EditedValue
 step text (Insert index texts) = changed_step (text_inserted text index (map as_piece texts.pieces) texts.rest)
 step text (Delete indices) = changed_step (text_deleted text (all_of indices))
 step text (Replace from to texts) = changed_step (text_replaced text from to (map as_piece texts.pieces) texts.rest)
@@ -72,6 +72,6 @@ step text (Configure settings) = Ok ([], configured text settings)
 step text (Cget option) = Ok (one_word (text_of_bool (option_value text option)), text)
 
 -- words that ask for something, or that are refused
-abbrev pub outcome : Edited → Asked → Outcome Edited
+abbrev pub outcome : EditedValue → Asked → Outcome EditedValue
 outcome text (Ok request) = step text request
 outcome text (Err fault) = Err fault

@@ -8,7 +8,7 @@ use Rattle.rt_changes.specs.declared.change.ToldChange.{ToldChange}
 use Rattle.rt_changes.specs.Replays.{VisibleChange, changes_of}
 use Rattle.rt_changes.specs.Telling.{AreChangesBetween, all_changes_in, changes_in}
 use Rattle.rt_holding.specs.Runs.{AreTakenInTurn}
-use Rattle.rt_editing.specs.Edited.{Edited}
+use Rattle.rt_editing.specs.EditedValue.{EditedValue}
 use Rattle.rt_editing.specs.Edits.{text_with_new}
 use Rattle.rt_peers.specs.declared.text.telling.TellingText.{TellingText}
 use Rattle.rt_peers.specs.SiteStep.{text_limit, text_log}
@@ -32,7 +32,7 @@ telling_with_new op t = record t {
 }
 
 -- A text took some operations one after the other, each of which was new to it then, and what each changed was told behind others.
-pub record HasToldMore (old new : Edited) (before after : List (List VisibleChange)) : Type 0 where
+pub record HasToldMore (old new : EditedValue) (before after : List (List VisibleChange)) : Type 0 where
   pub ops : List Operation
   pub turn : AreTakenInTurn (text_limit old) (text_log old) ops
   pub log : text_log new ≡ with_operations ops (text_log old)

@@ -15,7 +15,7 @@ use Rattle.rt_edits.specs.Insertions.{Piece}
 use Rattle.rt_tagcmd.specs.MarkCommands.{mark_set, mark_unset, mark_gravity, mark_gravity_set, mark_names, mark_next, mark_previous}
 use Rattle.rt_tagcmd.specs.TagCommands.{tag_added, tag_removed, tags_deleted, tag_raised, tag_lowered, tag_names, tag_names_at, tag_ranges, tag_nextrange, tag_prevrange}
 use Rattle.rt_text.specs.Commands.{got_one, got, got_list}
-use Rattle.rt_text.specs.Widgets.{Viewed}
+use Rattle.rt_text.specs.Widgets.{ViewValue}
 
 -- the words of a reply and what is there after it, or a fault
 abbrev pub Outcome : Type 0 → Type 0
@@ -60,14 +60,14 @@ abbrev pub as_piece : PieceValue → Piece
 as_piece piece = record { text = piece.text; tags = piece.tags }
 
 -- of one index or two the reply is one word, the text; of more, a word for each text that isn't empty
-abbrev pub get_step : Viewed → List Word → Outcome Viewed
+abbrev pub get_step : ViewValue → List Word → Outcome ViewValue
 get_step view (index ∷ []) = told_step one_word view (got_one view index)
 get_step view (from ∷ to ∷ []) = told_step one_word view (got view from to)
 get_step view [] = told_step (λ texts. texts) view (got_list view [])
 get_step view (from ∷ to ∷ more ∷ indices) = told_step (λ texts. texts) view (got_list view (from ∷ to ∷ more ∷ indices))
 
 -- what is asked of marks
-abbrev pub mark_step : Viewed → MarkRequest → Outcome Viewed
+abbrev pub mark_step : ViewValue → MarkRequest → Outcome ViewValue
 mark_step view (marks.Set name index) = changed_step (mark_set view name index)
 mark_step view (marks.Unset names) = changed_step (mark_unset view (all_of names))
 mark_step view (marks.Gravity name) = told_step (λ gravity. one_word (gravity_word gravity)) view (mark_gravity view name)
@@ -77,7 +77,7 @@ mark_step view (marks.Next word) = told_step words_of view (mark_next view word)
 mark_step view (marks.Previous word) = told_step words_of view (mark_previous view word)
 
 -- what is asked of tags: names of tags go lowest priority first, positions are LINE.CHARACTER
-abbrev pub tag_step : Viewed → TagRequest → Outcome Viewed
+abbrev pub tag_step : ViewValue → TagRequest → Outcome ViewValue
 tag_step view (tags.Add name indices) = changed_step (tag_added view name (all_of indices))
 tag_step view (tags.Remove name indices) = changed_step (tag_removed view name (all_of indices))
 tag_step view (tags.Delete names) = changed_step (tags_deleted view (all_of names))

@@ -5,7 +5,7 @@ ghost use Rattle.rt_stamps.specs.declared.stamp.Stamp.{Stamp};
 ghost use Rattle.rt_stamps.specs.Outcomes.{Answers};
 ghost use Rattle.rt_stamps.specs.Words.{Word};
 ghost use Rattle.rt_rga.specs.Texts.{tagged_text};
-ghost use Rattle.rt_editing.specs.Edited.{Edited};
+ghost use Rattle.rt_editing.specs.EditedValue.{EditedValue};
 ghost use Rattle.rt_oplog.specs.Logs.{AreOf};
 ghost use Rattle.rt_peer_requests.specs.declared.options.NamedOption.{NamedOption};
 ghost use Rattle.rt_peer_requests.specs.declared.peers.PeerRequest.{PeerRequest};
@@ -18,7 +18,7 @@ ghost use Rattle.rt_peers.specs.Memory.{CommandsGoOneWay, OthersGoOneWay, Receiv
 ghost use Rattle.rt_peers.specs.Peers.{text_led};
 ghost use Rattle.rt_peers.specs.PeerStep.{destroyed};
 ghost use Rattle.rt_peers.specs.SiteStep.{AnswersInTurn, Gives, KeepsOperations, by_widget, log_of, option_at, peer_step_at, settings_at};
-ghost use Rattle.rt_peers.specs.State.{State};
+ghost use Rattle.rt_peers.specs.SiteValue.{SiteValue};
 ghost use Rattle.rt_peers.specs.ViewStep.{Outcome};
 
 use crate::SiteState;
@@ -26,8 +26,8 @@ use crate::SiteState;
 /// A widget that commands changes places with the first one, and then back again: so a step that leaves the text as it
 /// was leaves the site as it was.
 pub fn telling()
-    ensures back { (place : ℕ) (text : Edited) → text_led place (text_led place text) ≡ text }
-    ensures told { (place : ℕ) (state : State) (reply : List Word)
+    ensures back { (place : ℕ) (text : EditedValue) → text_led place (text_led place text) ≡ text }
+    ensures told { (place : ℕ) (state : SiteValue) (reply : List Word)
         → by_widget place state (λ text. Ok (reply, text)) ≡ Ok (reply, state) }
 {}
 
@@ -107,17 +107,17 @@ pub fn accepted()
 /// operations of the site's own, after which held ones are tried. Besides these calls there are `SiteState::receive` and
 /// `receive_telling`.
 pub fn calls()
-    ensures answers { (outcome : Outcome State) (old new : State) (result : Result (List Word) Fault)
+    ensures answers { (outcome : Outcome SiteValue) (old new : SiteValue) (result : Result (List Word) Fault)
         → AnswersInTurn outcome old result new → KeepsOrMakes old new }
-    ensures commands { (path : Word) (words : List Word) (old new : State) (result : Result (List Word) Fault)
+    ensures commands { (path : Word) (words : List Word) (old new : SiteValue) (result : Result (List Word) Fault)
         → Gives path words old result new → KeepsOrMakes old new }
-    ensures settings { (path : Word) (settings : WidgetSettings) (old new : State) (result : Result (List Word) Fault)
+    ensures settings { (path : Word) (settings : WidgetSettings) (old new : SiteValue) (result : Result (List Word) Fault)
         → Answers (settings_at path old settings) old result new → KeepsOperations old new }
-    ensures options { (path : Word) (option : NamedOption) (old new : State) (result : Result (List Word) Fault)
+    ensures options { (path : Word) (option : NamedOption) (old new : SiteValue) (result : Result (List Word) Fault)
         → Answers (option_at path old option) old result new → KeepsOperations old new }
-    ensures peers { (path : Word) (request : PeerRequest) (old new : State) (result : Result (List Word) Fault)
+    ensures peers { (path : Word) (request : PeerRequest) (old new : SiteValue) (result : Result (List Word) Fault)
         → Answers (peer_step_at path old request) old result new → KeepsOperations old new }
-    ensures destroyed { (path : Word) (old new : State) → destroyed path old ≡ Ok new → KeepsOperations old new }
+    ensures destroyed { (path : Word) (old new : SiteValue) → destroyed path old ≡ Ok new → KeepsOperations old new }
 {}
 
 /// Any calls, one after the other, lead a site that lives to one that lives, of which `sites_agree_in_any_order` and

@@ -4,7 +4,7 @@ ghost use Rattle.std.specs.List.{position};
 ghost use Rattle.std.specs.Str.{bytes_eq};
 ghost use Rattle.rt_stamps.specs.Words.{as_words};
 ghost use Rattle.rt_peers.specs.PeerStep.{other_paths};
-ghost use Rattle.rt_peers.specs.State.{place_of};
+ghost use Rattle.rt_peers.specs.SiteValue.{place_of};
 
 use rt_stamps::Fault;
 use std::alloc::Global;

@@ -4,7 +4,7 @@ ghost use Rattle.rt_stamps.specs.declared.limits.TheConstants.{MOST_CELLS};
 ghost use Rattle.rt_stamps.specs.Words.{as_words};
 ghost use Rattle.rt_peers.specs.Peers.{HavePaths};
 ghost use Rattle.rt_peers.specs.SiteStep.{AnswersInTurn, AskingGives, CommandGives, Gives, OwnGives, WidgetGives, by_widget, step_at};
-ghost use Rattle.rt_peers.specs.State.{new_state, place_of};
+ghost use Rattle.rt_peers.specs.SiteValue.{new_site, place_of};
 ghost use Rattle.rt_peers.specs.Step.{step};
 
 mod cursors;
@@ -48,9 +48,9 @@ impl Model for SiteState {
     ghost use Rattle.rt_stamps.specs.Words.{as_words};
     ghost use Rattle.rt_holding.specs.Grown.{AreTriedAt};
     ghost use Rattle.rt_peers.specs.Peers.{HavePaths};
-    ghost use Rattle.rt_peers.specs.State.{State};
+    ghost use Rattle.rt_peers.specs.SiteValue.{SiteValue};
 
-    ghost Value = { State };
+    ghost Value = { SiteValue };
 
     ghost view = { λ s. record { paths = as_words s.paths.items; text = s.text; held = s.held.held } };
 
@@ -65,7 +65,7 @@ impl SiteState {
     /// and tombstones included. `NoMemory` is its only fault.
     pub fn new(alloc: Global, site: Site, limit: usize) -> Result<SiteState, Fault>
         requires { (1 ≤ limit) × (limit ≤ MOST_CELLS) }
-        ensures ok { IfOk result (λ state. state ≡ new_state site.number limit) }
+        ensures ok { IfOk result (λ state. state ≡ new_site site.number limit) }
         ensures err { IsOkUnless result Fault.NoMemory }
     {
         let text = EditedText::new(alloc, site, limit)?;

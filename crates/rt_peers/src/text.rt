@@ -2,7 +2,7 @@
 ghost use Rattle.std.specs.Prelude.{◌≡◌, ◌≤◌, IfOk, IsOkUnless};
 ghost use Rattle.rt_stamps.specs.declared.limits.TheConstants.{MOST_CELLS};
 ghost use Rattle.rt_stamps.specs.Outcomes.{Answers};
-ghost use Rattle.rt_peers.specs.State.{new_text};
+ghost use Rattle.rt_peers.specs.SiteValue.{new_text};
 ghost use Rattle.rt_peers.specs.Step.{step};
 
 mod exchange;
@@ -43,9 +43,9 @@ impl Drop for EditedText {
 
 impl Model for EditedText {
     ghost use Rattle.rt_editing.specs.Settled.{IsSettled};
-    ghost use Rattle.rt_editing.specs.Edited.{Edited, edited};
+    ghost use Rattle.rt_editing.specs.EditedValue.{EditedValue, edited};
 
-    ghost Value = { Edited };
+    ghost Value = { EditedValue };
 
     ghost view = { λ s. edited s.viewer s.recorder };
 

@@ -6,7 +6,7 @@ ghost use Rattle.rt_rga.specs.Cells.{cells_of};
 ghost use Rattle.rt_rga.specs.Histories.{IsHistory, greatest_last_count};
 ghost use Rattle.rt_text.specs.Widgets.{limits_of};
 ghost use Rattle.rt_views.specs.Ordered.{AreInOrder};
-ghost use Rattle.rt_peers.specs.State.{new_view};
+ghost use Rattle.rt_peers.specs.SiteValue.{new_view};
 
 mod dumping;
 mod editing;
@@ -31,9 +31,9 @@ pub(crate) struct Viewer {
 }
 
 impl Model for Viewer {
-    ghost use Rattle.rt_text.specs.Widgets.{Viewed};
+    ghost use Rattle.rt_text.specs.Widgets.{ViewValue};
 
-    ghost Value = { Viewed };
+    ghost Value = { ViewValue };
 
     ghost view = { λ v. v.view };
 }

@@ -17,7 +17,7 @@ use Rattle.rt_requests.specs.declared.kinds.Kinds.{Kinds}
 use Rattle.rt_stamps.specs.Outcomes.{first_of, unless}
 use Rattle.rt_stamps.specs.Words.{Word}
 use Rattle.rt_text.specs.Index.{index_check}
-use Rattle.rt_text.specs.Widgets.{Viewed, text_shown, widget_of}
+use Rattle.rt_text.specs.Widgets.{ViewValue, text_shown, widget_of}
 
 -- the stretch of a dump, in a text of n characters
 abbrev pub stretch_at : ℕ → ℕ → ℕ → Stretch
@@ -72,7 +72,7 @@ elements_low n from to all h =
 -- WHAT IS ANSWERED
 
 -- a dump whose indices name places
-pub dump_given : (view : Viewed) (kinds : Kinds) (word : Word) (last : Option Word) (from to : ℕ) → index_of (widget_of view) word ≡ Ok from → first_of (map (index_check (widget_of view)) (option_to_list last)) ≡ None
+pub dump_given : (view : ViewValue) (kinds : Kinds) (word : Word) (last : Option Word) (from to : ℕ) → index_of (widget_of view) word ≡ Ok from → first_of (map (index_check (widget_of view)) (option_to_list last)) ≡ None
     → to ≡ stop_of view from last → dumped view kinds word last ≡ Ok (map (answered (text_shown view)) (elements_between view kinds from to))
 dump_given view kinds word last from to e f s =
     let checks = map (index_check (widget_of view)) (option_to_list last) in

@@ -9,7 +9,7 @@ use Rattle.rt_store.specs.Cells.{after_element}
 use Rattle.rt_store.specs.Shown.{TaggedCell}
 use Rattle.rt_rga.specs.Requests.{characters_in_all}
 use Rattle.rt_rga.proofs.Appending.{characters_append}
-use Rattle.rt_edits.specs.Flat.{Flat, put_after}
+use Rattle.rt_edits.specs.DocValue.{DocValue, put_after}
 use Rattle.rt_edits.specs.InsertionDrafts.{text_drafts}
 use Rattle.rt_edits.specs.Insertions.{inserts_for, tagged_cells}
 use Rattle.rt_edits.specs.NamedSpans.{parts_of, spans_in}
@@ -75,5 +75,5 @@ all_cells n (action ∷ actions) r h =
     let stamps = map (stamp_after r.returns) action.inserted in
     all_cells n actions (with_reverted action r) (returns_cells n action.removed (with_gone stamps r) (gone_cells n stamps r h))
 
-pub reversion_cells : (flat : Flat) (group : List (Action (List Word))) → length flat.cells + characters_in_all (reversion flat group).drafts ≡ length (reversion flat group).doc.cells
+pub reversion_cells : (flat : DocValue) (group : List (Action (List Word))) → length flat.cells + characters_in_all (reversion flat group).drafts ≡ length (reversion flat group).doc.cells
 reversion_cells flat group = all_cells (length flat.cells) (reverse group) (as_it_is flat) (omega arith)

@@ -12,7 +12,7 @@ use Rattle.rt_rga.specs.Cells.{cell_in}
 use Rattle.rt_rga.specs.Histories.{IsHistory, final_character}
 use Rattle.rt_rga.proofs.Final.{cells_last}
 use Rattle.rt_edits.specs.DraftLaws.{IsDocument, SparesLast}
-use Rattle.rt_edits.specs.Flat.{Flat}
+use Rattle.rt_edits.specs.DocValue.{DocValue}
 use Rattle.rt_edits.proofs.NewlineDrafts.{EndsAs, document_ends, length_ends}
 use Rattle.rt_revert.specs.Reverting.{are_at}
 
@@ -24,7 +24,7 @@ last_visible : (front : List TaggedCell) (last : TaggedCell) → last.gone ≡ f
 last_visible front last g =
     filter-append (λ (cell : TaggedCell). not cell.gone) front (last ∷ []) ∙ ap (λ b. visible_of front ++ cond (not b) (last ∷ []) []) g
 
-ends_apart : (stamps : List Stamp) (flat : Flat) (front : List TaggedCell) (last : TaggedCell) → EndsAs flat front last → is_among stamps FINAL ≡ false
+ends_apart : (stamps : List Stamp) (flat : DocValue) (front : List TaggedCell) (last : TaggedCell) → EndsAs flat front last → is_among stamps FINAL ≡ false
     → SparesLast (are_at stamps flat.cells) (text_of flat.cells)
 ends_apart stamps flat front last e n =
     let place : length (text_of flat.cells) - 1 ≡ length (visible_of front) = omega (arith, length_ends flat front last e) in
@@ -36,7 +36,7 @@ ends_apart stamps flat front last e n =
     ∙ ap (is_among stamps) e.stamp
     ∙ n
 
-pub spares_final : (site : ℕ) (log : List Operation) (flat : Flat) (stamps : List Stamp) → IsHistory log → IsDocument site log flat → is_among stamps FINAL ≡ false
+pub spares_final : (site : ℕ) (log : List Operation) (flat : DocValue) (stamps : List Stamp) → IsHistory log → IsDocument site log flat → is_among stamps FINAL ≡ false
     → SparesLast (are_at stamps flat.cells) (text_of flat.cells)
 spares_final site log flat stamps h doc n =
     ends_apart stamps flat (cells_last log h).0 (cell_in log final_character) (document_ends site log flat h doc) n

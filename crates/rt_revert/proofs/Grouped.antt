@@ -23,7 +23,7 @@ use Rattle.rt_store.proofs.Distinct.{split}
 use Rattle.rt_store.proofs.Shown.{length_shown, stamps_shown}
 use Rattle.rt_spans.specs.Shown.{Shown}
 use Rattle.rt_tags.specs.States.{KeepsIds, TagStates, names_on, state_at}
-use Rattle.rt_edits.specs.Flat.{Flat}
+use Rattle.rt_edits.specs.DocValue.{DocValue}
 use Rattle.rt_edits.specs.Insertions.{all_listed}
 use Rattle.rt_undo.specs.declared.action.Action.{Action as KeptAction}
 use Rattle.rt_undo.specs.Actions.{Action, Removed, group_of, with_stamp}
@@ -103,7 +103,7 @@ pub record IsNew (count : ℕ) (known : Shown ℕ) (plan : Progress) : Type 0 wh
 abbrev pub has_of : ℕ → List (Action ℕ) → Stamp → Bool
 has_of count group s = is_named group s || nat_lt count s.count
 
-abbrev pub portion_of : Flat → List (Action ℕ) → Portion
+abbrev pub portion_of : DocValue → List (Action ℕ) → Portion
 portion_of flat group = record { doc = flat; has = has_of flat.count group }
 
 -- nothing is newer at first
@@ -174,7 +174,7 @@ has_group part (a ∷ group) h =
       has_group part group (λ s e. h s (among_append (named_by a) (named_in group) s ∙ or_right (is_among (named_by a) s) _ e)),
     )
 
-pub group_had : (flat : Flat) (group : List (Action ℕ)) → HasGroup (portion_of flat group) group
+pub group_had : (flat : DocValue) (group : List (Action ℕ)) → HasGroup (portion_of flat group) group
 group_had flat group = has_group (portion_of flat group) group (λ s e. or_left (is_named group s) _ (or_right (is_same FINAL s) _ e))
 
 module _ (kept states : TagStates) (copy store : List (Cell ℕ)) (number count : ℕ) (offsets : Shown ℕ) (group : List (Action ℕ)) (plan : Progress) where
@@ -202,7 +202,7 @@ module _ (kept states : TagStates) (copy store : List (Cell ℕ)) (number count 
         offsets = subst AreSmall (sym n.offsets) b.small;
       }
 
-  pub begun_so_far : IsBegun kept states copy store count offsets group plan → (flat : Flat) → IsOf states store number count flat
+  pub begun_so_far : IsBegun kept states copy store count offsets group plan → (flat : DocValue) → IsOf states store number count flat
       → IsSoFar kept number copy plan (portion_of flat group) (as_it_is flat)
   begun_so_far b flat of =
       let n = b.new in

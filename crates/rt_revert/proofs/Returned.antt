@@ -27,7 +27,7 @@ use Rattle.rt_tags.proofs.Sorted.{every_append}
 use Rattle.rt_rga.proofs.RemovedPlaces.{fewer}
 use Rattle.rt_rga.specs.Few.{items_in}
 use Rattle.rt_edits.specs.DraftLaws.{AreTagNames}
-use Rattle.rt_edits.specs.Flat.{put_after}
+use Rattle.rt_edits.specs.DocValue.{put_after}
 use Rattle.rt_edits.specs.InsertionDrafts.{text_drafts}
 use Rattle.rt_edits.specs.Insertions.{all_listed, counts_for, new_state, tagged_cells}
 use Rattle.rt_edits.proofs.CellLaws.{skip_from_newest}

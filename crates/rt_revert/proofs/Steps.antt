@@ -24,7 +24,7 @@ use Rattle.rt_rga.proofs.Appending.{drafts_append, may_append}
 use Rattle.rt_rga.proofs.Corollaries.{cells_have}
 use Rattle.rt_edits.specs.Deletions.{without_places}
 use Rattle.rt_edits.specs.DraftLaws.{AreTagNames, IsDocument, IsElement}
-use Rattle.rt_edits.specs.Flat.{Flat, put_after}
+use Rattle.rt_edits.specs.DocValue.{DocValue, put_after}
 use Rattle.rt_edits.specs.InsertionDrafts.{text_drafts}
 use Rattle.rt_edits.specs.Insertions.{counts_for, tagged_cells}
 use Rattle.rt_edits.specs.RemovalDrafts.{removal_drafts}
@@ -68,12 +68,12 @@ gone_step site log stamps r p h n l =
 -- CHARACTERS THAT COME BACK
 
 -- a document after a text was put in behind an element
-record IsPut (site : ℕ) (log : List Operation) (flat : Flat) (stamp : Stamp) (tags : List Word) (text : List ℕ) (larger : List Operation) : Type 0 where
+record IsPut (site : ℕ) (log : List Operation) (flat : DocValue) (stamp : Stamp) (tags : List Word) (text : List ℕ) (larger : List Operation) : Type 0 where
   pub history : IsHistory larger
   pub cells : put_after flat.cells stamp (tagged_cells flat.site flat.count tags text) ≡ cells_of larger
   pub count : flat.count + counts_for tags text ≡ greatest_last_count larger
 
-text_step : (site : ℕ) (log : List Operation) (flat : Flat) (stamp : Stamp) (tags : List Word) (text : List ℕ) → 0 < site → IsHistory log → IsDocument site log flat
+text_step : (site : ℕ) (log : List Operation) (flat : DocValue) (stamp : Stamp) (tags : List Word) (text : List ℕ) → 0 < site → IsHistory log → IsDocument site log flat
     → AreTagNames tags → all_scalars text ≡ true → IsElement log stamp → flat.count + counts_for tags text ≤ GREATEST_COUNT
     → IsPut site log flat stamp tags text (with_drafts site (text_drafts MOST_CHARACTERS flat.site flat.count stamp tags text) log)
 text_step site log flat stamp tags text p h doc n t e l =
@@ -198,20 +198,20 @@ pub all_reversed : {X : Type 0} (P : X → Type 0) (xs : List X) → AllByRecurs
 all_reversed P [] h = tt
 all_reversed P (x ∷ xs) h = subst (AllByRecursion P) (sym (reverse-cons x xs)) (every_append P (reverse xs) (x ∷ []) (all_reversed P xs h.1) (h.0, tt))
 
-pub on_way : (site : ℕ) (log : List Operation) (flat : Flat) (group : List (Action (List Word))) → 0 < site → IsHistory log → IsDocument site log flat → AreSound group
+pub on_way : (site : ℕ) (log : List Operation) (flat : DocValue) (group : List (Action (List Word))) → 0 < site → IsHistory log → IsDocument site log flat → AreSound group
     → (reversion flat group).doc.count ≤ GREATEST_COUNT → IsOnWay site log (reversion flat group)
 on_way site log flat group p h doc s l =
     all_steps site log (reverse group) (as_it_is flat) p (record { may = tt; history = h; document = doc; apart = tt; sound = tt }) (all_reversed IsSound group s) l
 
-pub reversion_may : (site : ℕ) (log : List Operation) (flat : Flat) (group : List (Action (List Word))) → 0 < site → IsHistory log → IsDocument site log flat → AreSound group
+pub reversion_may : (site : ℕ) (log : List Operation) (flat : DocValue) (group : List (Action (List Word))) → 0 < site → IsHistory log → IsDocument site log flat → AreSound group
     → (reversion flat group).doc.count ≤ GREATEST_COUNT → MayBeMade site log (reversion flat group).drafts
 reversion_may site log flat group p h doc s l = (on_way site log flat group p h doc s l).may
 
-pub reversion_made : (site : ℕ) (log : List Operation) (flat : Flat) (group : List (Action (List Word))) → 0 < site → IsHistory log → IsDocument site log flat → AreSound group
+pub reversion_made : (site : ℕ) (log : List Operation) (flat : DocValue) (group : List (Action (List Word))) → 0 < site → IsHistory log → IsDocument site log flat → AreSound group
     → (reversion flat group).doc.count ≤ GREATEST_COUNT → IsDocument site (with_drafts site (reversion flat group).drafts log) (reversion flat group).doc
 reversion_made site log flat group p h doc s l = (on_way site log flat group p h doc s l).document
 
-pub reversion_sound : (site : ℕ) (log : List Operation) (flat : Flat) (group : List (Action (List Word))) → 0 < site → IsHistory log → IsDocument site log flat → AreSound group
+pub reversion_sound : (site : ℕ) (log : List Operation) (flat : DocValue) (group : List (Action (List Word))) → 0 < site → IsHistory log → IsDocument site log flat → AreSound group
     → (reversion flat group).doc.count ≤ GREATEST_COUNT → AreSound (reverted_group flat group)
 reversion_sound site log flat group p h doc s l =
     let w = on_way site log flat group p h doc s l in

@@ -23,7 +23,7 @@ use Rattle.rt_rga.specs.Texts.{TaggedCharacter, tagged_text}
 use Rattle.rt_rga.proofs.Corollaries.{cells_distinct, cells_older, root_absent}
 use Rattle.rt_edits.specs.Deletions.{without_places}
 use Rattle.rt_edits.specs.DraftLaws.{IsDocument}
-use Rattle.rt_edits.specs.Flat.{Flat, logged, put_after}
+use Rattle.rt_edits.specs.DocValue.{DocValue, logged, put_after}
 use Rattle.rt_edits.specs.Insertions.{new_state, tagged_cells}
 use Rattle.rt_edits.specs.Removals.{cells_at, gone_at, left_at}
 use Rattle.rt_edits.proofs.ChosenLaws.{chosen, chosen_visible}
@@ -42,7 +42,7 @@ use Rattle.rt_revert.specs.Reverting.{Return, Reversion, are_at, as_it_is, as_re
 one_reversed : {X : Type 0} (x : X) → reverse (x ∷ []) ≡ x ∷ []
 one_reversed x = reverse-cons x []
 
-pub insertion_back : (flat : Flat) (action : Action (List Word)) → action.removed ≡ [] → text_of (reverted flat (action ∷ [])).cells ≡ left_at (are_at action.inserted flat.cells) 0 (text_of flat.cells)
+pub insertion_back : (flat : DocValue) (action : Action (List Word)) → action.removed ≡ [] → text_of (reverted flat (action ∷ [])).cells ≡ left_at (are_at action.inserted flat.cells) 0 (text_of flat.cells)
 insertion_back flat action none =
     let r = as_it_is flat in
     let stamps = map (stamp_after []) action.inserted in
@@ -238,12 +238,12 @@ rise_all [] h = tt
 rise_all (c ∷ cs) h = (rise_to (filter (λ (w : Write). w.on) c.state) (sorted_filter (λ (w : Write). w.on) c.state h.0.by_name), rise_all cs h.1)
 
 -- a document that lacks the characters at some places of another one
-record Lacks (places : ℕ → Bool) (flat less : Flat) : Type 0 where
+record Lacks (places : ℕ → Bool) (flat less : DocValue) : Type 0 where
   pub cells : less.cells ≡ gone_at places 0 flat.cells
   pub site : less.site ≡ flat.site
   pub count : flat.count ≤ less.count
 
-taken_back : (site : ℕ) (log : List Operation) (flat less : Flat) (places : ℕ → Bool) (action : Action (List Word)) → 0 < site → IsHistory log → IsDocument site log flat → Lacks places flat less
+taken_back : (site : ℕ) (log : List Operation) (flat less : DocValue) (places : ℕ → Bool) (action : Action (List Word)) → 0 < site → IsHistory log → IsDocument site log flat → Lacks places flat less
     → HaveNone action.inserted flat.cells → action.removed ≡ map as_removed (cells_at places 0 flat.cells) → tagged_text (reverted less (action ∷ [])).cells ≡ tagged_text flat.cells
 taken_back site log flat less places action p h doc lacks none rem =
     let r = as_it_is less in
@@ -267,7 +267,7 @@ taken_back site log flat less places action p h doc lacks none rem =
     ∙ ap (λ ss. tagged_text (with_returns removed (with_gone ss r)).doc.cells) (map-id action.inserted)
     ∙ back places flat.cells 0 [] start part
 
-pub removal_back : (site : ℕ) (log : List Operation) (flat : Flat) (places : ℕ → Bool) (action : Action (List Word)) → 0 < site → IsHistory log → IsDocument site log flat
+pub removal_back : (site : ℕ) (log : List Operation) (flat : DocValue) (places : ℕ → Bool) (action : Action (List Word)) → 0 < site → IsHistory log → IsDocument site log flat
     → HaveNone action.inserted flat.cells → action.removed ≡ map as_removed (cells_at places 0 flat.cells)
     → tagged_text (reverted (without_places flat places) (action ∷ [])).cells ≡ tagged_text flat.cells
 removal_back site log flat places action p h doc none rem =
@@ -289,7 +289,7 @@ still_is stamps cells =
     let test : TaggedCell → Bool = λ cell. is_among stamps cell.stamp in
     ap (map as_removed) (sym (chosen_visible (are_at stamps cells) 0 cells ∙ at_tests test (are_at stamps cells) 0 (visible_of cells) (λ k. ap (are_at stamps cells) (omega arith))))
 
-redone : (site : ℕ) (log : List Operation) (flat : Flat) (action : Action (List Word)) → 0 < site → IsHistory log → IsDocument site log flat
+redone : (site : ℕ) (log : List Operation) (flat : DocValue) (action : Action (List Word)) → 0 < site → IsHistory log → IsDocument site log flat
     → let undone : Action (List Word) = record action { removed = [] } in
     tagged_text (reverted (reverted flat (undone ∷ [])) (reverted_group flat (undone ∷ []))).cells ≡ tagged_text flat.cells
 redone site log flat action p h doc =
@@ -303,7 +303,7 @@ redone site log flat action p h doc =
     ∙ taken_back site log flat (logged flat r.drafts r.doc) places again p h doc (record { cells = refl; site = refl; count = omega arith }) (λ s k. refl)
     (map-id (still_visible stamps flat.cells) ∙ still_is stamps flat.cells)
 
-pub insertion_redone : (site : ℕ) (log : List Operation) (flat : Flat) (action : Action (List Word)) → 0 < site → IsHistory log → IsDocument site log flat → action.removed ≡ []
+pub insertion_redone : (site : ℕ) (log : List Operation) (flat : DocValue) (action : Action (List Word)) → 0 < site → IsHistory log → IsDocument site log flat → action.removed ≡ []
     → tagged_text (reverted (reverted flat (action ∷ [])) (reverted_group flat (action ∷ []))).cells ≡ tagged_text flat.cells
 insertion_redone site log flat action p h doc none =
     let text : Action (List Word) → List TaggedCharacter = λ a. tagged_text (reverted (reverted flat (a ∷ [])) (reverted_group flat (a ∷ []))).cells in

@@ -6,7 +6,7 @@ use Rattle.rt_stamps.specs.Words.{Word}
 use Rattle.rt_store.specs.Shown.{TaggedCell}
 use Rattle.rt_tags.specs.Writers.{listed_by, state_after}
 use Rattle.rt_rga.specs.Examples.{at, only_t}
-use Rattle.rt_edits.specs.Flat.{Flat, new_flat}
+use Rattle.rt_edits.specs.DocValue.{DocValue, new_doc}
 use Rattle.rt_undo.specs.declared.action.Kind.TheVariants.{Insert, Delete}
 use Rattle.rt_undo.specs.Actions.{Action}
 
@@ -18,8 +18,8 @@ abbrev pub gone : Stamp → ℕ → List Word → TaggedCell
 gone stamp ch tags = record (shown stamp ch tags) { gone = true }
 
 -- Site 1 typed `abc`, site 2 put `X` behind the `a`, and site 1 removed the `b`.
-abbrev pub beside_x : Flat
-beside_x = record (new_flat 1 99) {
+abbrev pub beside_x : DocValue
+beside_x = record (new_doc 1 99) {
   cells = shown (at 1 1) 97 [] ∷ shown (at 4 2) 88 [] ∷ gone (at 2 1) 98 [] ∷ shown (at 3 1) 99 [] ∷ shown FINAL 10 [] ∷ [];
   count = 4;
 }
@@ -36,28 +36,28 @@ abbrev pub c_removed : Action (List Word)
 c_removed = record b_removed { removed = record { stamp = at 3 1; tags = [] } ∷ [] }
 
 -- `ab` typed, and the `b` removed, in one group
-abbrev pub b_gone : Flat
-b_gone = record (new_flat 1 99) { cells = shown (at 1 1) 97 [] ∷ gone (at 2 1) 98 [] ∷ shown FINAL 10 [] ∷ []; count = 3 }
+abbrev pub b_gone : DocValue
+b_gone = record (new_doc 1 99) { cells = shown (at 1 1) 97 [] ∷ gone (at 2 1) 98 [] ∷ shown FINAL 10 [] ∷ []; count = 3 }
 
 abbrev pub both_actions : List (Action (List Word))
 both_actions = record { number = 1; kind = Insert; inserted = at 1 1 ∷ at 2 1 ∷ []; removed = [] } ∷ record b_removed { number = 3 } ∷ []
 
 -- an `a` with the tag t, which was removed, and its removal
-abbrev pub tagged_gone : Flat
-tagged_gone = record (new_flat 1 99) { cells = gone (at 1 1) 97 only_t ∷ shown FINAL 10 [] ∷ []; count = 2 }
+abbrev pub tagged_gone : DocValue
+tagged_gone = record (new_doc 1 99) { cells = gone (at 1 1) 97 only_t ∷ shown FINAL 10 [] ∷ []; count = 2 }
 
 abbrev pub tagged_removed : Action (List Word)
 tagged_removed = record { number = 2; kind = Delete; inserted = []; removed = record { stamp = at 1 1; tags = only_t } ∷ [] }
 
 -- Site 1 typed `abc`, and site 2 removed the `b`; then site 2 undid that.
-abbrev pub without_b : Flat
-without_b = record (new_flat 1 99) {
+abbrev pub without_b : DocValue
+without_b = record (new_doc 1 99) {
   cells = shown (at 1 1) 97 [] ∷ gone (at 2 1) 98 [] ∷ shown (at 3 1) 99 [] ∷ shown FINAL 10 [] ∷ [];
   count = 4;
 }
 
-abbrev pub with_b_again : Flat
-with_b_again = record (new_flat 1 99) {
+abbrev pub with_b_again : DocValue
+with_b_again = record (new_doc 1 99) {
   cells = shown (at 1 1) 97 [] ∷ gone (at 2 1) 98 [] ∷ shown (at 5 2) 98 [] ∷ shown (at 3 1) 99 [] ∷ shown FINAL 10 [] ∷ [];
   count = 5;
 }

@@ -4,7 +4,7 @@ use Rattle.rt_rga.specs.Few.{items_in}
 use Rattle.rt_stamps.specs.Words.{Word, as_words}
 use Rattle.rt_ops.specs.Edits.{body_of}
 use Rattle.rt_tags.specs.States.{TagStates}
-use Rattle.rt_edits.specs.Flat.{Flat}
+use Rattle.rt_edits.specs.DocValue.{DocValue}
 use Rattle.rt_edits.specs.Insertions.{all_listed}
 use Rattle.rt_undo.specs.Actions.{Action, group_of}
 use Rattle.rt_revert.specs.declared.plan.Reversal.{Reversal}
@@ -13,7 +13,7 @@ use Rattle.rt_revert.specs.Reverting.{reversion, reverted_group}
 
 -- The operations; the group for the other stack, with states of a table; the characters that came back; the marks after the changes
 -- of the text; and the listed tags.
-pub record IsPlanOf (table : TagStates) (flat : Flat) (group : List (Action (List Word))) (plan : Reversal) : Type 0 where
+pub record IsPlanOf (table : TagStates) (flat : DocValue) (group : List (Action (List Word))) (plan : Reversal) : Type 0 where
   pub drafts : map body_of (items_in plan.drafts) ≡ (reversion flat group).drafts
   pub actions : named_group table (group_of plan.actions.items) ≡ reverted_group flat group
   pub returns : plan.returns.items ≡ (reversion flat group).returns

@@ -10,7 +10,7 @@ use Rattle.rt_marks.specs.Marks.{Mark, marks_inserted, marks_left}
 use Rattle.rt_store.specs.declared.cell.Cell.{Cell}
 use Rattle.rt_store.specs.Shown.{shown}
 use Rattle.rt_tags.specs.States.{IsState, TagStates, names_on, state_at}
-use Rattle.rt_edits.specs.Flat.{Flat}
+use Rattle.rt_edits.specs.DocValue.{DocValue}
 use Rattle.rt_edits.specs.Removals.{AreInOrder, is_covered}
 use Rattle.rt_undo.specs.Actions.{Action, Removed}
 use Rattle.rt_revert.specs.declared.plan.TextChange.{TextChange}
@@ -51,7 +51,7 @@ abbrev pub AreUpTo : {T : Type 0} → ℕ → List (Cell T) → Type 0
 AreUpTo count cells = All (λ cell. IsUpTo count cell.stamp) cells
 
 -- a document of a site with the cells of a store, whose states a table gave out, and with a greatest count
-pub record IsOf (table : TagStates) (store : List (Cell ℕ)) (number greatest : ℕ) (flat : Flat) : Type 0 where
+pub record IsOf (table : TagStates) (store : List (Cell ℕ)) (number greatest : ℕ) (flat : DocValue) : Type 0 where
   pub cells : flat.cells ≡ map (shown table) store
   pub site : flat.site ≡ number
   pub count : flat.count ≡ greatest

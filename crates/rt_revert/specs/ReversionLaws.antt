@@ -11,7 +11,7 @@ use Rattle.rt_rga.specs.Drafts.{with_drafts}
 use Rattle.rt_rga.specs.Histories.{IsHistory}
 use Rattle.rt_rga.specs.Requests.{MayBeMade, characters_in_all}
 use Rattle.rt_edits.specs.DraftLaws.{AreTagNames, IsDocument}
-use Rattle.rt_edits.specs.Flat.{Flat}
+use Rattle.rt_edits.specs.DocValue.{DocValue}
 use Rattle.rt_undo.specs.Actions.{Action, Removed}
 use Rattle.rt_revert.specs.Reverting.{reversion, reverted_group}
 
@@ -31,24 +31,24 @@ AreSound group = AllByRecursion IsSound group
 -- Where the counts fit, the operations may be made.
 abbrev pub ReversionMayBeMade : Type 0
 ReversionMayBeMade =
-    (site : ℕ) (log : List Operation) (flat : Flat) (group : List (Action (List Word))) → 0 < site → IsHistory log → IsDocument site log flat
+    (site : ℕ) (log : List Operation) (flat : DocValue) (group : List (Action (List Word))) → 0 < site → IsHistory log → IsDocument site log flat
     → AreSound group → (reversion flat group).doc.count ≤ GREATEST_COUNT → MayBeMade site log (reversion flat group).drafts
 
 -- Then a document with the cells of a history has afterwards those of the history with the operations, and its greatest count.
 abbrev pub ReversionIsMade : Type 0
 ReversionIsMade =
-    (site : ℕ) (log : List Operation) (flat : Flat) (group : List (Action (List Word))) → 0 < site → IsHistory log → IsDocument site log flat
+    (site : ℕ) (log : List Operation) (flat : DocValue) (group : List (Action (List Word))) → 0 < site → IsHistory log → IsDocument site log flat
     → AreSound group → (reversion flat group).doc.count ≤ GREATEST_COUNT
     → IsDocument site (with_drafts site (reversion flat group).drafts log) (reversion flat group).doc
 
 -- There is one cell more for each character that the operations insert.
 abbrev pub ReversionHasNewCells : Type 0
 ReversionHasNewCells =
-    (flat : Flat) (group : List (Action (List Word)))
+    (flat : DocValue) (group : List (Action (List Word)))
     → length flat.cells + characters_in_all (reversion flat group).drafts ≡ length (reversion flat group).doc.cells
 
 -- What is asked of a group holds of the one for the other stack.
 abbrev pub ReversionIsSound : Type 0
 ReversionIsSound =
-    (site : ℕ) (log : List Operation) (flat : Flat) (group : List (Action (List Word))) → 0 < site → IsHistory log → IsDocument site log flat
+    (site : ℕ) (log : List Operation) (flat : DocValue) (group : List (Action (List Word))) → 0 < site → IsHistory log → IsDocument site log flat
     → AreSound group → (reversion flat group).doc.count ≤ GREATEST_COUNT → AreSound (reverted_group flat group)

@@ -13,7 +13,7 @@ use Rattle.rt_store.specs.Spans.{is_among}
 use Rattle.rt_tags.specs.States.{names_on}
 pub use Rattle.rt_revert.specs.declared.plan.Return.{Return}
 use Rattle.rt_edits.specs.Deletions.{without_places}
-use Rattle.rt_edits.specs.Flat.{Flat, logged, put_after}
+use Rattle.rt_edits.specs.DocValue.{DocValue, logged, put_after}
 use Rattle.rt_edits.specs.InsertionDrafts.{text_drafts}
 use Rattle.rt_edits.specs.Insertions.{all_listed, counts_for, tagged_cells}
 use Rattle.rt_edits.specs.RemovalDrafts.{removal_drafts}
@@ -29,13 +29,13 @@ stamp_after (r ∷ returns) s = stamp_after returns (replaced r.former r.newer s
 -- What reverting actions has come to: the document; the characters that came back, in turn; the reverted actions, in the order of
 -- reverting; and the operations that do this, which the document's log doesn't have yet.
 pub record Reversion : Type 0 where
-  pub doc : Flat
+  pub doc : DocValue
   pub returns : List Return
   pub actions : List (Action (List Word))
   pub drafts : List Body
 
 -- nothing was reverted yet
-abbrev pub as_it_is : Flat → Reversion
+abbrev pub as_it_is : DocValue → Reversion
 as_it_is flat = record { doc = flat; returns = []; actions = []; drafts = [] }
 
 -- CHARACTERS THAT GO
@@ -64,11 +64,11 @@ with_gone stamps so_far =
 -- CHARACTERS THAT COME BACK
 
 -- the stamp of a document's next character
-abbrev pub next_in : Flat → Stamp
+abbrev pub next_in : DocValue → Stamp
 next_in flat = record { count = flat.count + 1; site = flat.site }
 
 -- A character once more, under some tags: a new one, directly after the old one. Marks move for it, and its tags are listed.
-abbrev pub with_copy : Flat → Stamp → List Word → ℕ → Flat
+abbrev pub with_copy : DocValue → Stamp → List Word → ℕ → DocValue
 with_copy flat stamp tags ch = record flat {
   cells = put_after flat.cells stamp (tagged_cells flat.site flat.count tags (ch ∷ []));
   count = flat.count + counts_for tags (ch ∷ []);
@@ -125,13 +125,13 @@ with_each_reverted [] so_far = so_far
 with_each_reverted (action ∷ actions) so_far = with_each_reverted actions (with_reverted action so_far)
 
 -- the actions of a group are reverted, from the last to the first
-abbrev pub reversion : Flat → List (Action (List Word)) → Reversion
+abbrev pub reversion : DocValue → List (Action (List Word)) → Reversion
 reversion flat group = with_each_reverted (reverse group) (as_it_is flat)
 
 -- the document after that, with the operations in its log
-abbrev pub reverted : Flat → List (Action (List Word)) → Flat
+abbrev pub reverted : DocValue → List (Action (List Word)) → DocValue
 reverted flat group = let r = reversion flat group in logged flat r.drafts r.doc
 
 -- the group for the other stack, under the stamps that the characters have now: so redo is the same act
-abbrev pub reverted_group : Flat → List (Action (List Word)) → List (Action (List Word))
+abbrev pub reverted_group : DocValue → List (Action (List Word)) → List (Action (List Word))
 reverted_group flat group = let r = reversion flat group in with_stamps_in (stamp_after r.returns) r.actions

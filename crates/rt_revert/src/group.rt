@@ -7,7 +7,7 @@ ghost use Rattle.rt_ops.specs.Rules.{is_name};
 ghost use Rattle.rt_store.specs.Cells.{AreDistinct, final_cell};
 ghost use Rattle.rt_store.specs.Tagged.{AreStates};
 ghost use Rattle.rt_tags.specs.States.{KeepsIds};
-ghost use Rattle.rt_edits.specs.Flat.{Flat};
+ghost use Rattle.rt_edits.specs.DocValue.{DocValue};
 ghost use Rattle.rt_undo.specs.Actions.{group_of};
 ghost use Rattle.rt_revert.specs.PlannedGroups.{IsPlanOf};
 ghost use Rattle.rt_revert.specs.Plans.{AreGiven, AreUpTo, IsChange, IsOf, named_group};
@@ -52,16 +52,16 @@ pub fn planned_reversion<S: TextStore, C: TextStore>(
     requires count { author.count ≤ GREATEST_COUNT }
     requires given { AreGiven kept.old (group_of group.now) }
     requires sound { AreSound (named_group kept.old (group_of group.now)) }
-    ensures plan { IfOk result (λ plan. (flat : Flat) → IsOf states.now (S.list store.now) author.site.number author.count flat
+    ensures plan { IfOk result (λ plan. (flat : DocValue) → IsOf states.now (S.list store.now) author.site.number author.count flat
         → IsPlanOf kept.new flat (named_group kept.old (group_of group.now)) plan) }
-    ensures fits { OnOk result ((flat : Flat) → IsOf states.now (S.list store.now) author.site.number author.count flat
+    ensures fits { OnOk result ((flat : DocValue) → IsOf states.now (S.list store.now) author.site.number author.count flat
         → (reversion flat (named_group kept.old (group_of group.now))).doc.count ≤ GREATEST_COUNT) }
     ensures given { IfOk result (λ plan. AreGiven kept.new (group_of plan.actions.items)) }
     ensures changes { IfOk result (λ plan. AllByRecursion IsChange plan.changes.items) }
     ensures names { IfOk result (λ plan. list_all is_name (as_words plan.names.items) ≡ true) }
     ensures ids { KeepsIds kept.old kept.new }
     ensures err { IfErr result (λ fault. (fault ≡ Fault.NoMemory) ⊎ ((fault ≡ Fault.ClockSpent)
-        × ((flat : Flat) → IsOf states.now (S.list store.now) author.site.number author.count flat
+        × ((flat : DocValue) → IsOf states.now (S.list store.now) author.site.number author.count flat
         → GREATEST_COUNT < (reversion flat (named_group kept.old (group_of group.now))).doc.count))) }
 {
     let Author { site, count } = author;

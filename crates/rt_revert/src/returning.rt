@@ -9,7 +9,7 @@ ghost use Rattle.rt_store.specs.Cells.{IsPlaced, after_element, skip_from, stamp
 ghost use Rattle.rt_store.specs.Spans.{is_among};
 ghost use Rattle.rt_tags.specs.States.{IsState, names_on, state_at};
 ghost use Rattle.rt_edits.specs.DraftLaws.{AreTagNames};
-ghost use Rattle.rt_edits.specs.Flat.{put_after};
+ghost use Rattle.rt_edits.specs.DocValue.{put_after};
 ghost use Rattle.rt_undo.specs.Actions.{removed_in, removed_of, removed_with};
 ghost use Rattle.rt_undo.specs.Renames.{is_moved};
 ghost use Rattle.rt_revert.specs.Plans.{RemovedAreGiven, named_removed};

@@ -8,7 +8,7 @@ use Rattle.rt_script.specs.Lines.{answered}
 use Rattle.rt_stamps.specs.Streams.{Stream}
 use Rattle.rt_script.specs.declared.answer.Answer.{Answer}
 use Rattle.rt_script.specs.Run.{Ends, LineGives, Point, Ran, RanUnwritten, Runs, StopsInLast, point}
-use Rattle.rt_peers.specs.State.{State}
+use Rattle.rt_peers.specs.SiteValue.{SiteValue}
 use Rattle.rt_script.specs.Site.{Session, SiteGives}
 
 line_keeps : (old new : Session) (line : List ℕ) (answer : Answer) → LineGives SiteGives old line answer new → new.files ≡ old.files
@@ -48,13 +48,13 @@ ended_keeps bounds old new script left fault e = by fault refl
     by (Some why) h = why_by why h (subst (λ (f : Option Fault). IfSome f (λ why. (why ≡ NoMemory) ⊎ (why ≡ ReadFault) ⊎ (why ≡ WriteFault))) h e.only)
 
 -- a site that ends a run has the files with which the run began
-end_is : (bounds : Bounds) (start new last : Session) (site : State) (script left before after : Stream) (fault : Option Fault) → new ≡ start → site ≡ last.site
+end_is : (bounds : Bounds) (start new last : Session) (site : SiteValue) (script left before after : Stream) (fault : Option Fault) → new ≡ start → site ≡ last.site
     → Ends SiteGives bounds (point new before) (point last after) script left fault → last ≡ record { site = site; files = start.files }
 end_is bounds start new last site script left before after fault begins is e =
     let files : last.files ≡ start.files = ended_keeps bounds (point new before) (point last after) script left fault e ∙ ap (λ (s : Session). s.files) begins in
     λ i. record { site = sym is i; files = files i }
 
-pub site_ends : (bounds : Bounds) (start new last : Session) (site : State) (script left before after : Stream) (fault : Option Fault) → new ≡ start → site ≡ last.site
+pub site_ends : (bounds : Bounds) (start new last : Session) (site : SiteValue) (script left before after : Stream) (fault : Option Fault) → new ≡ start → site ≡ last.site
     → Ends SiteGives bounds (point new before) (point last after) script left fault
     → Ends SiteGives bounds (point start before) (point (record { site = site; files = start.files }) after) script left fault
 site_ends bounds start new last site script left before after fault begins is e =
@@ -63,7 +63,7 @@ site_ends bounds start new last site script left before after fault begins is e 
     (subst (λ (s : Session). Ends SiteGives bounds (point s before) (point last after) script left fault) begins e)
 
 -- and so it stopped in what the last read gave
-pub site_stops : {R : Type 0} (stream : R → Stream) (bounds : Bounds) (start new last : Session) (site : State) (script left : R) (before after : Stream) (fault : Option Fault) → new ≡ start → site ≡ last.site
+pub site_stops : {R : Type 0} (stream : R → Stream) (bounds : Bounds) (start new last : Session) (site : SiteValue) (script left : R) (before after : Stream) (fault : Option Fault) → new ≡ start → site ≡ last.site
     → Ends SiteGives bounds (point new before) (point last after) (stream script) (stream left) fault → StopsInLast SiteGives stream (point new before) (point last after) script left
     → StopsInLast SiteGives stream (point start before) (point (record { site = site; files = start.files }) after) script left
 site_stops stream bounds start new last site script left before after fault begins is e stops =

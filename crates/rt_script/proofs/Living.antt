@@ -18,7 +18,7 @@ use Rattle.rt_peer_requests.specs.PeerWords.{asked_destroy}
 use Rattle.rt_peers.specs.Lives.{IsOfFile, Lives, LivesOn, begins}
 use Rattle.rt_peers.specs.PeerStep.{destroyed}
 use Rattle.rt_peers.specs.SiteStep.{SiteReceives}
-use Rattle.rt_peers.specs.State.{State, new_state}
+use Rattle.rt_peers.specs.SiteValue.{SiteValue, new_site}
 use Rattle.rt_peers.proofs.Calls.{destroyed_on, gives_on, received_on}
 use Rattle.rt_peers.proofs.Events.{either_of, known_on, then_on as goes_on}
 use Rattle.rt_script.specs.declared.answer.Answer.{Answer}
@@ -30,42 +30,42 @@ use Rattle.rt_script.specs.Run.{Ends, LineGives, Point, Ran, RanUnwritten, Runs,
 use Rattle.rt_script.specs.Site.{IsDone, LineIsRefused, NamedFile, PathGives, ReceiveGives, Session, SiteGives, WordsGive, file_named}
 use Rattle.rt_script.specs.SiteRun.{BeginsWith, RunsScript}
 
-stays_on : (IsOther : Operation → Type 0) (old new : State) → new ≡ old → LivesOn IsOther old new
+stays_on : (IsOther : Operation → Type 0) (old new : SiteValue) → new ≡ old → LivesOn IsOther old new
 stays_on IsOther old new e site limit came l =
-    ([], subst (λ (s : State). Lives site limit s (came ++ [])) (sym e) (subst (Lives site limit old) (sym (append-nil came)) l), λ op i. absurd i)
+    ([], subst (λ (s : SiteValue). Lives site limit s (came ++ [])) (sym e) (subst (Lives site limit old) (sym (append-nil came)) l), λ op i. absurd i)
 
 -- WORDS
 
-receive_on : (files : List NamedFile) (name : Word) (found : Option (List ℕ)) (old new : State) (answer : Answer) → file_named name files ≡ found
+receive_on : (files : List NamedFile) (name : Word) (found : Option (List ℕ)) (old new : SiteValue) (answer : Answer) → file_named name files ≡ found
     → MatchOption found (LineIsRefused NoFile old answer new) (λ bytes. (received : Received)
     × (answer ≡ answers.Received received) × SiteReceives bytes old received new) → LivesOn (IsOfNamed files) old new
 receive_on files name None old new answer e h = stays_on (IsOfNamed files) old new h.1
 receive_on files name (Some bytes) old new answer e h =
     known_on (IsOfFile bytes) (IsOfNamed files) old new (λ op i. (name, bytes, e, i)) (received_on bytes h.0 old new h.2)
 
-file_on : (files : List NamedFile) (words : List Word) (old new : State) (answer : Answer) → ReceiveGives files words old answer new → LivesOn (IsOfNamed files) old new
+file_on : (files : List NamedFile) (words : List Word) (old new : SiteValue) (answer : Answer) → ReceiveGives files words old answer new → LivesOn (IsOfNamed files) old new
 file_on files [] old new answer h = stays_on (IsOfNamed files) old new h.1
 file_on files (name ∷ []) old new answer h = receive_on files name (file_named name files) old new answer refl h
 file_on files (name ∷ more ∷ words) old new answer h = stays_on (IsOfNamed files) old new h.1
 
 module _ (files : List NamedFile) where
-  done_on : (path : Word) (said : Result State Fault) (old new : State) (answer : Answer) → destroyed path old ≡ said → IsDone said old answer new → LivesOn (IsOfNamed files) old new
+  done_on : (path : Word) (said : Result SiteValue Fault) (old new : SiteValue) (answer : Answer) → destroyed path old ≡ said → IsDone said old answer new → LivesOn (IsOfNamed files) old new
   done_on path (Ok left) old new answer e h = destroyed_on (IsOfNamed files) path old new (e ∙ sym (λ i. Ok (h.1 i)))
   done_on path (Err fault) old new answer e h = stays_on (IsOfNamed files) old new h.1
 
-  destroy_by : (old new : State) (answer : Answer) (asked : Result Destroy Fault)
+  destroy_by : (old new : SiteValue) (answer : Answer) (asked : Result Destroy Fault)
       → MatchResult asked (λ request. IsDone (destroyed request.path old) old answer new) (λ fault. LineIsRefused fault old answer new) → LivesOn (IsOfNamed files) old new
   destroy_by old new answer (Ok request) h = done_on request.path (destroyed request.path old) old new answer refl h
   destroy_by old new answer (Err fault) h = stays_on (IsOfNamed files) old new h.1
 
-  path_on : (path : Word) (words : List Word) (old new : State) (answer : Answer) → PathGives path words old answer new → LivesOn (IsOfNamed files) old new
+  path_on : (path : Word) (words : List Word) (old new : SiteValue) (answer : Answer) → PathGives path words old answer new → LivesOn (IsOfNamed files) old new
   path_on path words old new answer h = gives_on (IsOfNamed files) path words old new h.0 h.2
 
 tested : {A : Type 0} (b : Bool) → (b ≡ true → A) → (b ≡ false → A) → A
 tested true f g = f refl
 tested false f g = g refl
 
-words_on : (files : List NamedFile) (words : List Word) (old new : State) (answer : Answer) → WordsGive files words old answer new → LivesOn (IsOfNamed files) old new
+words_on : (files : List NamedFile) (words : List Word) (old new : SiteValue) (answer : Answer) → WordsGive files words old answer new → LivesOn (IsOfNamed files) old new
 words_on files [] old new answer h = stays_on (IsOfNamed files) old new h.1
 words_on files (first ∷ words) old new answer h = tested (bytes_eq first (codes "receive"))
     (λ e. file_on files words old new answer (h.0 e))
@@ -116,18 +116,18 @@ module _ (files : List NamedFile) (old new : Point Session) (e : old.state.files
     ]
   ]
 
-pub script_on : (files : List NamedFile) (site : State) (wants_log : Bool) (script left before after : Stream) (outcome : Outcome)
+pub script_on : (files : List NamedFile) (site : SiteValue) (wants_log : Bool) (script left before after : Stream) (outcome : Outcome)
     → RunsScript files site wants_log script left before after outcome → LivesOn (IsOfNamed files) site outcome.site
 script_on files site wants_log script left before after outcome h =
     ends_on files (point (record { site = site; files = files }) before) (point (record { site = outcome.site; files = files }) after) refl FILE_BOUNDS outcome.fault script left h.0
 
-new_lives : (number : ℕ) → 0 < number → Lives number MOST_CELLS (new_state number MOST_CELLS) []
+new_lives : (number : ℕ) → 0 < number → Lives number MOST_CELLS (new_site number MOST_CELLS) []
 new_lives number p = begins p (lit< tt)
 
-begun : (number : ℕ) (log : Option (Bor (List ℕ))) (start : State) → 0 < number → BeginsWith number log start
+begun : (number : ℕ) (log : Option (Bor (List ℕ))) (start : SiteValue) → 0 < number → BeginsWith number log start
     → (came : List Operation) × Lives number MOST_CELLS start came × ((op : Operation) → Has came op → (op.site ≡ number) ⊎ IsOfLog log op)
-begun number None start p h = ([], subst (λ (s : State). Lives number MOST_CELLS s []) (sym h) (new_lives number p), λ op i. absurd i)
-begun number (Some log) start p h = received_on log.now h.0 (new_state number MOST_CELLS) start h.1 number MOST_CELLS [] (new_lives number p)
+begun number None start p h = ([], subst (λ (s : SiteValue). Lives number MOST_CELLS s []) (sym h) (new_lives number p), λ op i. absurd i)
+begun number (Some log) start p h = received_on log.now h.0 (new_site number MOST_CELLS) start h.1 number MOST_CELLS [] (new_lives number p)
 
 pub run_lives : RunsLive
 run_lives number end p r =
@@ -135,6 +135,6 @@ run_lives number end p r =
     let on = script_on r.files r.start r.wants_log r.script r.left r.before r.after r.outcome r.runs number MOST_CELLS start.0 start.1 in
     let P : Operation → Type 0 = λ op. (op.site ≡ number) ⊎ (IsOfLog r.log op ⊎ IsOfNamed r.files op) in (
       start.0 ++ on.0,
-      subst (λ (s : State). Lives number MOST_CELLS s (start.0 ++ on.0)) r.is_end on.1,
+      subst (λ (s : SiteValue). Lives number MOST_CELLS s (start.0 ++ on.0)) r.is_end on.1,
       either_of P start.0 on.0 (λ op i. elim (start.2 op i) [ inl e ↦ inl e | inr l ↦ inr (inl l) ]) (λ op i. elim (on.2 op i) [ inl e ↦ inl e | inr n ↦ inr (inr n) ]),
     )

@@ -16,7 +16,7 @@ use Rattle.rt_peer_requests.specs.PeerWords.{asked_destroy}
 use Rattle.rt_peers.specs.Memory.{GivesFoundMemory, ReceivingFoundMemory}
 use Rattle.rt_peers.specs.PeerStep.{destroyed}
 use Rattle.rt_peers.specs.SiteStep.{SiteReceives}
-use Rattle.rt_peers.specs.State.{State, new_state}
+use Rattle.rt_peers.specs.SiteValue.{SiteValue, new_site}
 use Rattle.rt_peers.proofs.OneWay.{commands_once, receiving_once}
 use Rattle.rt_script.specs.declared.answer.Answer.{Answer}
 use Rattle.rt_script.specs.declared.answer.Answer.TheVariants as answers
@@ -30,7 +30,7 @@ use Rattle.rt_script.specs.SiteRun.{BeginsWith}
 
 -- ONE LINE
 
-module _ (old : State) (one two : Answer) (new left : State) where
+module _ (old : SiteValue) (one two : Answer) (new left : SiteValue) where
   abbrev Same : Type 0
   Same = (one ≡ two) × (new ≡ left)
 
@@ -52,7 +52,7 @@ module _ (old : State) (one two : Answer) (new left : State) where
   receive_once files (name ∷ []) h k f g = file_once (file_named name files) h k f g
   receive_once files (name ∷ more ∷ words) h k f g = refused_once _ h k
 
-  done_once : (said : Result State Fault) → IsDone said old one new → IsDone said old two left → Same
+  done_once : (said : Result SiteValue Fault) → IsDone said old one new → IsDone said old two left → Same
   done_once (Ok state) h k = (h.0 ∙ sym k.0, h.1 ∙ sym k.1)
   done_once (Err fault) h k = refused_once fault h k
 
@@ -120,7 +120,7 @@ lines_once (line ∷ lines) (a ∷ one) (b ∷ two) old new left h k f g =
 -- WHOLE RUNS
 
 -- a site begins in one state with a log of given bytes
-begins_once : (number : ℕ) (log : Option (Bor (List ℕ))) (other : Option (Bor (List ℕ))) (start begun : State)
+begins_once : (number : ℕ) (log : Option (Bor (List ℕ))) (other : Option (Bor (List ℕ))) (start begun : SiteValue)
     → option_map (λ bytes. bytes.now) log ≡ option_map (λ bytes. bytes.now) other
     → (h : BeginsWith number log start) (k : BeginsWith number other begun) → BeginFoundMemory number log start h → BeginFoundMemory number other begun k → start ≡ begun
 begins_once number None None start begun e h k f g = h ∙ sym k
@@ -128,8 +128,8 @@ begins_once number None (Some other) start begun e h k f g = absurd (cc e)
 begins_once number (Some log) None start begun e h k f g = absurd (cc e)
 begins_once number (Some log) (Some other) start begun e h k f g =
     let bytes : log.now ≡ other.now = cc e in
-    subst (λ (b : List ℕ). (l : SiteReceives b (new_state number MOST_CELLS) k.0 begun) → ReceivingFoundMemory b (new_state number MOST_CELLS) k.0 begun l → start ≡ begun) bytes
-    (λ l m. (receiving_once log.now (new_state number MOST_CELLS) h.0 k.0 start begun h.1 l f m).1) k.1 g
+    subst (λ (b : List ℕ). (l : SiteReceives b (new_site number MOST_CELLS) k.0 begun) → ReceivingFoundMemory b (new_site number MOST_CELLS) k.0 begun l → start ≡ begun) bytes
+    (λ l m. (receiving_once log.now (new_site number MOST_CELLS) h.0 k.0 start begun h.1 l f m).1) k.1 g
 
 -- what was read of a script to its end are its bytes
 read_all : (script left : Option (List ℕ)) (bytes read over : List ℕ) → script ≡ Some bytes → Consumes script left (read ++ over) → IsAtEnd left → over ≡ [] → read ≡ bytes
@@ -152,13 +152,13 @@ wrote_all (Some front) (Some all) written text b a h =
     sym same ∙ wrote ∙ rw none refl
 
 -- of a run: the lines that were answered
-record Answered (files : List NamedFile) (start end : State) (script written : List ℕ) : Type 0 where
+record Answered (files : List NamedFile) (start end : SiteValue) (script written : List ℕ) : Type 0 where
   pub given : List Answer
   pub runs : Runs SiteGives (record { site = start; files = files }) (answered (lines_of script)) given (record { site = end; files = files })
   pub found : LinesFoundMemory (record { site = start; files = files }) (answered (lines_of script)) given (record { site = end; files = files }) runs
   pub wrote : written ≡ flat_map reply_line given
 
-answered_of : {number : ℕ} {end : State} (run : IsRun number end) (given : Given) (written : List ℕ) → IsWhole run given written
+answered_of : {number : ℕ} {end : SiteValue} (run : IsRun number end) (given : Given) (written : List ℕ) → IsWhole run given written
     → Answered given.files run.start end given.script written
 answered_of {end = end} run given written w =
     let ends = run.runs.0 in
@@ -168,7 +168,7 @@ answered_of {end = end} run given written w =
     let wrote = wrote_all run.before.bytes run.after.bytes written (flat_map reply_line ran.answers) w.before w.after ran.wrote in
     let at : Answered run.files run.start run.outcome.site ends.read written = record { given = ran.answers; runs = ran.runs; found = w.finds; wrote = wrote } in
     subst (λ (f : List NamedFile). Answered f run.start end given.script written) w.files
-    (subst (λ (s : State). Answered run.files run.start s given.script written) run.is_end
+    (subst (λ (s : SiteValue). Answered run.files run.start s given.script written) run.is_end
     (subst (λ (r : List ℕ). Answered run.files run.start run.outcome.site r written) read at))
 
 pub one_output : RunsHaveOneOutput
@@ -176,7 +176,7 @@ one_output number given end other run again written rewritten v w =
     let one = answered_of run given written v in
     let two = answered_of again given rewritten w in
     let start = begins_once number run.log again.log run.start again.start (v.log ∙ sym w.log) run.begins again.begins v.begins w.begins in
-    let same = subst (λ (s : State). (l : Runs SiteGives (record { site = s; files = given.files }) (answered (lines_of given.script)) two.given
+    let same = subst (λ (s : SiteValue). (l : Runs SiteGives (record { site = s; files = given.files }) (answered (lines_of given.script)) two.given
     (record { site = other; files = given.files }))
     → LinesFoundMemory (record { site = s; files = given.files }) (answered (lines_of given.script)) two.given (record { site = other; files = given.files }) l
     → (one.given ≡ two.given) × ◌≡◌ {A = Session} (record { site = end; files = given.files }) (record { site = other; files = given.files })) start

@@ -18,28 +18,28 @@ use Rattle.rt_peers.specs.Events.{EventsGoOneWay, EventsLive}
 use Rattle.rt_peers.specs.Exchange.{ReceivesAny}
 use Rattle.rt_peers.specs.Lives.{AcceptsGreatest, AgreeInAnyOrder}
 use Rattle.rt_peers.specs.SiteStep.{AnswersInTurn, Tries, log_of, step_at}
-use Rattle.rt_peers.specs.State.{State}
+use Rattle.rt_peers.specs.SiteValue.{SiteValue}
 use Rattle.rt_script.specs.Lived.{RunsLive}
 use Rattle.rt_script.specs.Output.{LinesGoOneWay, RunsHaveOneOutput}
 
 -- the text of a site, whichever lines its widgets show: its visible characters, each with the shared tags that are on
-abbrev pub text_of_site : State → List TaggedCharacter
+abbrev pub text_of_site : SiteValue → List TaggedCharacter
 text_of_site state = tagged_text state.text.view.doc.cells
 
 -- A request that is answered has the reply of its step and leaves its state, but that held operations may be tried behind it. One
 -- that is refused is so as its step is, or for want of memory, and then the site is as it was.
 abbrev pub RepliesByStep : Type 0
 RepliesByStep =
-    (path : Word) (request : Request) (old new : State) (result : Result (List Word) Fault) → AnswersInTurn (step_at path old request) old result new
+    (path : Word) (request : Request) (old new : SiteValue) (result : Result (List Word) Fault) → AnswersInTurn (step_at path old request) old result new
     → MatchResult result
-    (λ reply. (mid : State) × (step_at path old request ≡ Ok (reply, mid)) × ((new ≡ mid) ⊎ Tries mid new))
+    (λ reply. (mid : SiteValue) × (step_at path old request ≡ Ok (reply, mid)) × ((new ≡ mid) ⊎ Tries mid new))
     (λ fault. (new ≡ old) × Refuses (step_at path old request) fault)
 
 -- words ask for one request, or are refused with one fault
 abbrev pub WordsAskOnce : Type 0
 WordsAskOnce = (words : List Word) → (asked : Asked) × Asks words asked × ((other : Asked) → Asks words other → other ≡ asked)
 
-pub record Headline (one other : State) : Type 0 where
+pub record Headline (one other : SiteValue) : Type 0 where
   -- A site's log is a history, and its cells are those of its log (`SiteState::log` of rt_peers).
   pub history : IsHistory (log_of one)
   pub cells : one.text.view.doc.cells ≡ cells_of (log_of one)

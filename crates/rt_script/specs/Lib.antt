@@ -10,7 +10,7 @@ pub mod Site
 pub mod SiteRun
 pub use Rattle.rt_peers.specs.PeerStep
 pub use Rattle.rt_peers.specs.SiteStep
-pub use Rattle.rt_peers.specs.State
+pub use Rattle.rt_peers.specs.SiteValue
 pub use Rattle.rt_peers.specs.Step
 pub use Rattle.rt_stamps.specs.Fault
 pub use Rattle.rt_words.specs.Spelling
@@ -20,7 +20,7 @@ pub use Rattle.rt_stamps.specs.Places
 pub use Rattle.rt_stamps.specs.Words
 pub use Rattle.rt_stamps.specs.Written
 pub use Rattle.rt_files.specs.Files
-pub use Rattle.rt_edits.specs.Flat
+pub use Rattle.rt_edits.specs.DocValue
 pub use Rattle.rt_text.specs.Index
 pub use Rattle.rt_text.specs.Commands
 pub use Rattle.rt_holding.specs.Receiving

@@ -7,15 +7,15 @@ use Rattle.rt_stamps.specs.Words.{Word}
 use Rattle.rt_ops.specs.Operations.{Operation}
 use Rattle.rt_oplog.specs.Logs.{Has}
 use Rattle.rt_peers.specs.Lives.{IsOfFile, Lives, LivesOn}
-use Rattle.rt_peers.specs.State.{State}
+use Rattle.rt_peers.specs.SiteValue.{SiteValue}
 use Rattle.rt_script.specs.declared.site_run.Outcome.{Outcome}
 use Rattle.rt_script.specs.Site.{NamedFile, file_named}
 use Rattle.rt_script.specs.SiteRun.{Begins, RunsScript}
 
 -- A site of a number begins, perhaps with a log, and runs a script; it is left so.
-pub record IsRun (number : ℕ) (end : State) : Type 0 where
+pub record IsRun (number : ℕ) (end : SiteValue) : Type 0 where
   pub log : Option (Bor (List ℕ))
-  pub start : State
+  pub start : SiteValue
   pub begins : Begins number log (Ok start)
   pub files : List NamedFile
   pub wants_log : Bool
@@ -40,7 +40,7 @@ IsOfNamed files op = (name : Word) × (bytes : List ℕ) × (file_named name fil
 -- lines may name.
 abbrev pub RunsLive : Type 0
 RunsLive =
-    (number : ℕ) (end : State) → 0 < number → (run : IsRun number end)
+    (number : ℕ) (end : SiteValue) → 0 < number → (run : IsRun number end)
     → (came : List Operation) × Lives number MOST_CELLS end came
     × ((op : Operation) → Has came op → (op.site ≡ number) ⊎ (IsOfLog run.log op ⊎ IsOfNamed run.files op))
 
@@ -48,5 +48,5 @@ RunsLive =
 -- lines may name.
 abbrev pub ScriptsLiveOn : Type 0
 ScriptsLiveOn =
-    (files : List NamedFile) (site : State) (wants_log : Bool) (script left before after : Stream) (outcome : Outcome)
+    (files : List NamedFile) (site : SiteValue) (wants_log : Bool) (script left before after : Stream) (outcome : Outcome)
     → RunsScript files site wants_log script left before after outcome → LivesOn (IsOfNamed files) site outcome.site

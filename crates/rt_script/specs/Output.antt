@@ -8,7 +8,7 @@ use Rattle.rt_stamps.specs.Words.{Word}
 use Rattle.rt_holding.specs.declared.receiving.Received.{Received}
 use Rattle.rt_peers.specs.Memory.{GivesFoundMemory, ReceivingFoundMemory}
 use Rattle.rt_peers.specs.SiteStep.{SiteReceives}
-use Rattle.rt_peers.specs.State.{State, new_state}
+use Rattle.rt_peers.specs.SiteValue.{SiteValue, new_site}
 use Rattle.rt_script.specs.declared.answer.Answer.{Answer}
 use Rattle.rt_script.specs.declared.answer.Answer.TheVariants as answers
 use Rattle.rt_script.specs.Lived.{IsRun}
@@ -21,7 +21,7 @@ use Rattle.rt_stamps.specs.declared.limits.TheConstants.{MOST_CELLS}
 -- WHERE NO MEMORY WAS WANTING
 
 -- for a file that was named, if it is there
-abbrev pub NamedFileFoundMemory : (found : Option (List ℕ)) (old : State) (answer : Answer) (new : State)
+abbrev pub NamedFileFoundMemory : (found : Option (List ℕ)) (old : SiteValue) (answer : Answer) (new : SiteValue)
     → MatchOption found (LineIsRefused NoFile old answer new)
     (λ bytes. (received : Received) × (answer ≡ answers.Received received) × SiteReceives bytes old received new)
     → Type 0
@@ -29,14 +29,14 @@ NamedFileFoundMemory None old answer new h = Unit {0}
 NamedFileFoundMemory (Some bytes) old answer new h = ReceivingFoundMemory bytes old h.0 new h.2
 
 -- `receive NAME`
-abbrev pub ReceiveFoundMemory : (files : List NamedFile) (words : List Word) (old : State) (answer : Answer) (new : State)
+abbrev pub ReceiveFoundMemory : (files : List NamedFile) (words : List Word) (old : SiteValue) (answer : Answer) (new : SiteValue)
     → ReceiveGives files words old answer new → Type 0
 ReceiveFoundMemory files (name ∷ []) old answer new h = NamedFileFoundMemory (file_named name files) old answer new h
 ReceiveFoundMemory files [] old answer new h = Unit {0}
 ReceiveFoundMemory files (name ∷ more ∷ words) old answer new h = Unit {0}
 
 -- the words of a line
-abbrev pub WordsFoundMemory : (files : List NamedFile) (words : List Word) (old : State) (answer : Answer) (new : State)
+abbrev pub WordsFoundMemory : (files : List NamedFile) (words : List Word) (old : SiteValue) (answer : Answer) (new : SiteValue)
     → WordsGive files words old answer new → Type 0
 WordsFoundMemory files [] old answer new h = Unit {0}
 WordsFoundMemory files (first ∷ words) old answer new h =
@@ -59,9 +59,9 @@ LinesFoundMemory old (line ∷ lines) (answer ∷ given) new h =
     LineFoundMemory old line answer h.0 h.1 × LinesFoundMemory h.0 lines given new h.2
 
 -- the log that a site begins with
-abbrev pub BeginFoundMemory : (number : ℕ) (log : Option (Bor (List ℕ))) (start : State) → BeginsWith number log start → Type 0
+abbrev pub BeginFoundMemory : (number : ℕ) (log : Option (Bor (List ℕ))) (start : SiteValue) → BeginsWith number log start → Type 0
 BeginFoundMemory number None start h = Unit {0}
-BeginFoundMemory number (Some log) start h = ReceivingFoundMemory log.now (new_state number MOST_CELLS) h.0 start h.1
+BeginFoundMemory number (Some log) start h = ReceivingFoundMemory log.now (new_site number MOST_CELLS) h.0 start h.1
 
 -- ONE OUTPUT
 
@@ -79,7 +79,7 @@ pub record Given : Type 0 where
   pub script : List ℕ
 
 -- A run was given so much, and ended with no fault; no memory was wanting for it, and it wrote these bytes.
-pub record IsWhole {number : ℕ} {end : State} (run : IsRun number end) (given : Given) (written : List ℕ) : Type 0 where
+pub record IsWhole {number : ℕ} {end : SiteValue} (run : IsRun number end) (given : Given) (written : List ℕ) : Type 0 where
   pub log : option_map (λ bytes. bytes.now) run.log ≡ given.log
   pub files : run.files ≡ given.files
   pub script : run.script.bytes ≡ Some given.script
@@ -93,5 +93,5 @@ pub record IsWhole {number : ℕ} {end : State} (run : IsRun number end) (given 
 -- Such runs write the same text, and leave the same site.
 abbrev pub RunsHaveOneOutput : Type 0
 RunsHaveOneOutput =
-    (number : ℕ) (given : Given) (end other : State) (run : IsRun number end) (again : IsRun number other) (written rewritten : List ℕ)
+    (number : ℕ) (given : Given) (end other : SiteValue) (run : IsRun number end) (again : IsRun number other) (written rewritten : List ℕ)
     → IsWhole run given written → IsWhole again given rewritten → (written ≡ rewritten) × (end ≡ other)

@@ -12,7 +12,7 @@ use Rattle.rt_holding.specs.declared.receiving.Received.{Received}
 use Rattle.rt_peer_requests.specs.PeerWords.{asked_destroy}
 use Rattle.rt_peers.specs.PeerStep.{destroyed}
 use Rattle.rt_peers.specs.SiteStep.{Gives, SiteReceives}
-use Rattle.rt_peers.specs.State.{State}
+use Rattle.rt_peers.specs.SiteValue.{SiteValue}
 
 -- a file that a script may name: its name and its bytes
 abbrev pub NamedFile : Type 0
@@ -31,7 +31,7 @@ AreWithin files = All (λ file. length file.1.items ≤ MOST_BYTES) files
 
 -- a site, and the files that the lines of its script may name
 pub record Session : Type 0 where
-  pub site : State
+  pub site : SiteValue
   pub files : List NamedFile
 
 -- the bytes of the file of a name: of one name the first counts
@@ -40,11 +40,11 @@ file_named name [] = None
 file_named name (file ∷ files) = if bytes_eq file.0 name then Some file.1 else file_named name files
 
 -- a line is refused with a fault, and the site is as it was
-abbrev pub LineIsRefused : Fault → State → Answer → State → Type 0
+abbrev pub LineIsRefused : Fault → SiteValue → Answer → SiteValue → Type 0
 LineIsRefused fault old answer new = (answer ≡ answers.Refused fault) × (new ≡ old)
 
 -- `receive NAME`: the operations of the file are received, and the answer tells what became of them
-abbrev pub ReceiveGives : List NamedFile → List Word → State → Answer → State → Type 0
+abbrev pub ReceiveGives : List NamedFile → List Word → SiteValue → Answer → SiteValue → Type 0
 ReceiveGives files (name ∷ []) old answer new = MatchOption (file_named name files)
     (LineIsRefused NoFile old answer new)
     (λ bytes. (received : Received) × (answer ≡ answers.Received received) × SiteReceives bytes old received new)
@@ -52,11 +52,11 @@ ReceiveGives files [] old answer new = LineIsRefused BadCommand old answer new
 ReceiveGives files (name ∷ more ∷ words) old answer new = LineIsRefused BadCommand old answer new
 
 -- a call without a reply, which changes the site or is refused
-abbrev pub IsDone : Result State Fault → State → Answer → State → Type 0
+abbrev pub IsDone : Result SiteValue Fault → SiteValue → Answer → SiteValue → Type 0
 IsDone said old answer new = MatchResult said (λ left. (answer ≡ answers.Replied []) × (new ≡ left)) (λ fault. LineIsRefused fault old answer new)
 
 -- `destroy PATH`: the widget of the path is no longer there
-abbrev pub DestroyGives : List Word → State → Answer → State → Type 0
+abbrev pub DestroyGives : List Word → SiteValue → Answer → SiteValue → Type 0
 DestroyGives words old answer new = MatchResult (asked_destroy words)
     (λ request. IsDone (destroyed request.path old) old answer new)
     (λ fault. LineIsRefused fault old answer new)
@@ -67,11 +67,11 @@ as_answer (Ok reply) = answers.Replied reply
 as_answer (Err fault) = answers.Refused fault
 
 -- `PATH COMMAND WORDS`
-abbrev pub PathGives : Word → List Word → State → Answer → State → Type 0
+abbrev pub PathGives : Word → List Word → SiteValue → Answer → SiteValue → Type 0
 PathGives path words old answer new = (result : Result (List Word) Fault) × (answer ≡ as_answer result) × Gives path words old result new
 
 -- What the words of a line give: those of `receive NAME`, of `destroy PATH`, or of `PATH COMMAND WORDS`.
-abbrev pub WordsGive : List NamedFile → List Word → State → Answer → State → Type 0
+abbrev pub WordsGive : List NamedFile → List Word → SiteValue → Answer → SiteValue → Type 0
 WordsGive files [] old answer new = LineIsRefused BadCommand old answer new
 WordsGive files (first ∷ words) old answer new =
     (bytes_eq first (codes "receive") ≡ true → ReceiveGives files words old answer new)

@@ -8,41 +8,41 @@ use Rattle.rt_stamps.specs.declared.limits.TheConstants.{MOST_BYTES, MOST_CELLS}
 use Rattle.rt_stamps.specs.Streams.{FILE_BOUNDS, Stream}
 use Rattle.rt_ops.specs.File.{spelling}
 use Rattle.rt_script.specs.Run.{Ends, Point, point}
-use Rattle.rt_script.specs.State.{State, new_state}
+use Rattle.rt_script.specs.SiteValue.{SiteValue, new_site}
 use Rattle.rt_script.specs.Site.{NamedFile, Session, SiteGives}
 use Rattle.rt_script.specs.SiteStep.{SiteReceives}
 use Rattle.rt_holding.specs.declared.receiving.Received.{Received}
 use Rattle.rt_script.specs.declared.site_run.Outcome.{Outcome}
 
 -- A site begins as a new one, which has room for all cells there may be; or with all that it receives of a log.
-abbrev pub BeginsWith : ℕ → Option (Bor (List ℕ)) → State → Type 0
-BeginsWith site None state = state ≡ new_state site MOST_CELLS
+abbrev pub BeginsWith : ℕ → Option (Bor (List ℕ)) → SiteValue → Type 0
+BeginsWith site None state = state ≡ new_site site MOST_CELLS
 BeginsWith site (Some log) state =
-    (received : Received) × SiteReceives log.now (new_state site MOST_CELLS) received state × (received.fault ≡ None)
+    (received : Received) × SiteReceives log.now (new_site site MOST_CELLS) received state × (received.fault ≡ None)
 
 -- a new site refuses a log by this fault
 abbrev pub RefusesLog : ℕ → Option (Bor (List ℕ)) → Fault × ℕ → Type 0
 RefusesLog site None found = ⊥
 RefusesLog site (Some log) found =
-    (received : Received) × (state : State) × SiteReceives log.now (new_state site MOST_CELLS) received state × (received.fault ≡ Some found)
+    (received : Received) × (state : SiteValue) × SiteReceives log.now (new_site site MOST_CELLS) received state × (received.fault ≡ Some found)
 
 -- A site begins, or its log is refused, or there is no memory for a site.
-abbrev pub Begins : ℕ → Option (Bor (List ℕ)) → Result State (Fault × ℕ) → Type 0
+abbrev pub Begins : ℕ → Option (Bor (List ℕ)) → Result SiteValue (Fault × ℕ) → Type 0
 Begins site log result = MatchResult result
     (BeginsWith site log)
     (λ found. RefusesLog site log found ⊎ (found ≡ (NoMemory, 0)))
 
 -- the file of a site's log, or want of memory
-abbrev pub Exports : State → Result (Vec ℕ Global) Fault → Type 0
+abbrev pub Exports : SiteValue → Result (Vec ℕ Global) Fault → Type 0
 Exports state result = IfOk result (λ bytes. bytes.items ≡ spelling (reverse state.text.view.doc.log)) × IfErr result (λ fault. fault ≡ NoMemory)
 
 -- the log at the end of a run is told where it is wanted, however the run ended
-abbrev pub TellsLog : Bool → State → Option (Result (Vec ℕ Global) Fault) → Type 0
+abbrev pub TellsLog : Bool → SiteValue → Option (Result (Vec ℕ Global) Fault) → Type 0
 TellsLog false state log = log ≡ None
 TellsLog true state log = (told : Result (Vec ℕ Global) Fault) × (log ≡ Some told) × Exports state told
 
 -- A script was run by a site, which is told as the run left it, with its log where that is wanted.
-abbrev pub RunsScript : List NamedFile → State → Bool → Stream → Stream → Stream → Stream → Outcome → Type 0
+abbrev pub RunsScript : List NamedFile → SiteValue → Bool → Stream → Stream → Stream → Stream → Outcome → Type 0
 RunsScript files site wants_log script left before after outcome =
     Ends SiteGives FILE_BOUNDS (point (record { site = site; files = files }) before) (point (record { site = outcome.site; files = files }) after) script left
     outcome.fault

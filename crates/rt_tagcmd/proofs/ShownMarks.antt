@@ -11,7 +11,7 @@ use Rattle.rt_marks.proofs.Moving.{named_moved, own_moved}
 use Rattle.rt_marks.proofs.Names.{clash, named_in_order, named_with, none_cons, ordered_in_order, ordered_with, same_name}
 use Rattle.rt_views.specs.declared.stretch.Stretch.{Stretch}
 use Rattle.rt_views.specs.Stretches.{seen_place}
-use Rattle.rt_text.specs.Widgets.{AreSiteMarks, Own, Viewed, is_own, mark_among, mark_of, mark_seen, marks_of, marks_shown, own_or, own_shown, stretch_by}
+use Rattle.rt_text.specs.Widgets.{AreSiteMarks, WidgetValue, ViewValue, is_own, mark_among, mark_of, mark_seen, marks_of, marks_shown, own_or, own_shown, stretch_by}
 use Rattle.rt_text.specs.declared.own_mark.OwnMark.TheVariants.{Insert, Current}
 
 -- NAMES
@@ -43,10 +43,10 @@ turned a b =
     (λ f. f ∙ split (bytes_eq b a) (λ s. absurd (clash _ ((bytes_eq-Decides a b).1 (sym (same_name b a s))) f)) (λ g. sym g))
 
 -- the names of own marks are two
-apart : (own : Own) → own.insert.name ≡ codes "insert" → own.current.name ≡ codes "current" → is_named own.insert.name own.current ≡ false
+apart : (own : WidgetValue) → own.insert.name ≡ codes "insert" → own.current.name ≡ codes "current" → is_named own.insert.name own.current ≡ false
 apart own a b = (λ i. bytes_eq (b i) (a i))
 
-named_all : (own : Own) (marks : List Mark) (q : List ℕ) → own.insert.name ≡ codes "insert" → own.current.name ≡ codes "current" → named (codes "insert") marks ≡ None → named (codes "current") marks ≡ None → named q (with_mark own.insert (with_mark own.current marks)) ≡ mark_among own marks q
+named_all : (own : WidgetValue) (marks : List Mark) (q : List ℕ) → own.insert.name ≡ codes "insert" → own.current.name ≡ codes "current" → named (codes "insert") marks ≡ None → named (codes "current") marks ≡ None → named q (with_mark own.insert (with_mark own.current marks)) ≡ mark_among own marks q
 named_all own marks q a b na nb =
     let none : named own.current.name marks ≡ None = ap (λ v. named v marks) b ∙ nb in
     let both : named own.insert.name (with_mark own.current marks) ≡ None =
@@ -61,7 +61,7 @@ named_all own marks q a b na nb =
     by false true other = refl
     by false false other = refl
 
-both_ordered : (own : Own) (marks : List Mark) → own.insert.name ≡ codes "insert" → own.current.name ≡ codes "current" → named (codes "insert") marks ≡ None → named (codes "current") marks ≡ None → AreInOrder marks
+both_ordered : (own : WidgetValue) (marks : List Mark) → own.insert.name ≡ codes "insert" → own.current.name ≡ codes "current" → named (codes "insert") marks ≡ None → named (codes "current") marks ≡ None → AreInOrder marks
     → AreInOrder (with_mark own.current marks) × AreInOrder (with_mark own.insert (with_mark own.current marks))
 both_ordered own marks a b na nb o =
     let none : named own.current.name marks ≡ None = ap (λ v. named v marks) b ∙ nb in
@@ -87,7 +87,7 @@ named_seen stretch q marks h =
     named_in_order (map (mark_seen stretch) marks) (own_seen_names stretch marks h) q ∙ named_moved (λ m. seen_place stretch m.place) q marks
 
 -- what is so of the marks of a widget
-pub record AreShown (view : Viewed) : Type 0 where
+pub record AreShown (view : ViewValue) : Type 0 where
   pub order : AreInOrder (marks_of view)
   pub names : AllByRecursion (λ m. IsName m.name) (marks_of view)
   pub among : (name : List ℕ) → named name (marks_of view) ≡ mark_of view name
@@ -95,7 +95,7 @@ pub record AreShown (view : Viewed) : Type 0 where
   pub site : AreInOrder (marks_shown view)
   pub shown : (name : List ℕ) → named name (marks_shown view) ≡ option_map (mark_seen (stretch_by view)) (named name view.doc.marks)
 
-pub marks_are_shown : (view : Viewed) (n : ℕ) → AreSiteMarks n view.doc.marks → HaveOwnNames view.doc.marks → view.own.insert.name ≡ codes "insert" → view.own.current.name ≡ codes "current" → AreShown view
+pub marks_are_shown : (view : ViewValue) (n : ℕ) → AreSiteMarks n view.doc.marks → HaveOwnNames view.doc.marks → view.own.insert.name ≡ codes "insert" → view.own.current.name ≡ codes "current" → AreShown view
 marks_are_shown view n site own a b =
     let stretch = stretch_by view in
     let seen = map (mark_seen stretch) view.doc.marks in

@@ -15,7 +15,7 @@ use Rattle.rt_store.specs.Shown.{TaggedCell}
 use Rattle.rt_edits.specs.Listed.{AreListed}
 use Rattle.rt_store.specs.Spans.{is_among}
 use Rattle.rt_store.specs.Cells.{visible_of}
-use Rattle.rt_text.specs.Widgets.{Viewed, is_tagged, length_shown, shown_by, stretch_by}
+use Rattle.rt_text.specs.Widgets.{ViewValue, is_tagged, length_shown, shown_by, stretch_by}
 use Rattle.rt_views.specs.Stretches.{part}
 use Rattle.rt_views.specs.declared.stretch.Stretch.{Stretch}
 use Rattle.rt_tagcmd.specs.TagCommands.{tagged_ranges}
@@ -24,7 +24,7 @@ use Rattle.rt_tagcmd.proofs.TagRangeLaws.{each_maximal}
 
 -- WITHIN THE TEXT
 
-text_length : (view : Viewed) → length_shown view ≡ length (shown_by view)
+text_length : (view : ViewValue) → length_shown view ≡ length (shown_by view)
 text_length view = length-map (shown_by view) (λ cell. cell.ch)
 
 abbrev pub IsWithin : ℕ → Range → Type 0
@@ -39,7 +39,7 @@ maximal_within test cs r h =
 all_within : {A : Type 0} (test : A → Bool) (cs : List A) → All (IsWithin (length cs)) (passing_ranges test cs)
 all_within test cs = λ k d l. maximal_within test cs _ (each_maximal test cs k d l)
 
-pub tagged_within : (view : Viewed) (name : Word) → All (IsWithin (length_shown view)) (tagged_ranges view name)
+pub tagged_within : (view : ViewValue) (name : Word) → All (IsWithin (length_shown view)) (tagged_ranges view name)
 tagged_within view name = subst (λ n. All (IsWithin n) (tagged_ranges view name)) (sym (text_length view)) (all_within (is_tagged view.own name) (shown_by view))
 
 all_found : {X : Type 0} (P : X → Type 0) (test : X → Bool) (xs : List X) → All P xs → All P (option_to_list (find test xs))
@@ -55,10 +55,10 @@ all_reversed P [] h = h
 all_reversed P (x ∷ xs) h =
     subst (All P) (sym (reverse-append (x ∷ []) xs)) (All-append P (reverse xs) (x ∷ []) (all_reversed P xs (All-tail P x xs h)) (All-cons P x [] (All-head P x xs h) (All-nil P)))
 
-pub next_within : (view : Viewed) (name : Word) (from to : ℕ) → All (IsWithin (length_shown view)) (option_to_list (next_range from to (tagged_ranges view name)))
+pub next_within : (view : ViewValue) (name : Word) (from to : ℕ) → All (IsWithin (length_shown view)) (option_to_list (next_range from to (tagged_ranges view name)))
 next_within view name from to = all_found (IsWithin (length_shown view)) (begins_between from to) (tagged_ranges view name) (tagged_within view name)
 
-pub previous_within : (view : Viewed) (name : Word) (to from : ℕ) → All (IsWithin (length_shown view)) (option_to_list (previous_range to from (tagged_ranges view name)))
+pub previous_within : (view : ViewValue) (name : Word) (to from : ℕ) → All (IsWithin (length_shown view)) (option_to_list (previous_range to from (tagged_ranges view name)))
 previous_within view name to from =
     let within = IsWithin (length_shown view) in
     all_found within (begins_between from to) (reverse (tagged_ranges view name)) (all_reversed within (tagged_ranges view name) (tagged_within view name))
@@ -91,7 +91,7 @@ not_on name tags cell u h =
     (λ t. absurd (clash _ (h name t) u))
     (λ f. f)
 
-pub unlisted : (view : Viewed) (name : Word) → AreListed view.doc.tags view.doc.cells → is_listed name view.doc.tags ≡ false → tagged_ranges view name ≡ []
+pub unlisted : (view : ViewValue) (name : Word) → AreListed view.doc.tags view.doc.cells → is_listed name view.doc.tags ≡ false → tagged_ranges view name ≡ []
 unlisted view name h u =
     let tags = view.doc.tags in
     let shown : All (HasListed tags) (shown_by view) = part_all (HasListed tags) (stretch_by view) (visible_of view.doc.cells) h.each in

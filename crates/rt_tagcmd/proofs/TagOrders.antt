@@ -7,7 +7,7 @@ use Rattle.rt_stamps.specs.Names.{name_check}
 use Rattle.rt_stamps.specs.Outcomes.{first_of, unless}
 use Rattle.rt_stamps.specs.Words.{Word}
 use Rattle.rt_tags.specs.Tags.{is_listed, is_place}
-use Rattle.rt_text.specs.Widgets.{Viewed}
+use Rattle.rt_text.specs.Widgets.{ViewValue}
 use Rattle.rt_tagcmd.specs.TagCommands.{order_check, tag_check}
 use Rattle.rt_tagcmd.proofs.TagChecks.{both_none, first_some, second_some}
 
@@ -27,7 +27,7 @@ both_found true true = refl
 both_found true false = refl
 both_found false b = refl
 
-tags_found : (view : Viewed) (name : Word) (other : Option Word)
+tags_found : (view : ViewValue) (name : Word) (other : Option Word)
     → first_of (map (tag_check view) (name ∷ option_to_list other)) ≡ found (is_listed name view.doc.tags && is_place other view.doc.tags)
 tags_found view name None = one_found (is_listed name view.doc.tags)
 tags_found view name (Some o) = both_found (is_listed name view.doc.tags) (is_listed o view.doc.tags)
@@ -51,7 +51,7 @@ module _ {T : Type 0} (names tags : List (Option Fault)) (new after : T) (none :
   listed_err true (Err f) k e = let bad : ⊥ = cc in absurd bad
   listed_err false (Err f) k e = let same : NoTag ≡ f = cc in ap (λ o. unless o after) (second_some names tags NoTag none k) ∙ ap (λ (v : Fault). Err v) same
 
-module _ {T : Type 0} (view : Viewed) (name : Word) (other : Option Word) where
+module _ {T : Type 0} (view : ViewValue) (name : Word) (other : Option Word) where
   pub order_refused : (after : T) (fault : Fault) → Err fault ≡ unless {T = Unit {0}} (first_of (map name_check (name ∷ option_to_list other))) tt → unless (order_check view name other) after ≡ Err fault
   order_refused after fault h =
       let names = map name_check (name ∷ option_to_list other) in

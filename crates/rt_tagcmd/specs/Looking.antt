@@ -6,7 +6,7 @@ use Rattle.rt_stamps.specs.declared.fault.Fault.{Fault}
 use Rattle.rt_stamps.specs.Outcomes.{unless}
 use Rattle.rt_stamps.specs.Words.{Word}
 use Rattle.rt_text.specs.Index.{index_check, place_at_index}
-use Rattle.rt_text.specs.Widgets.{Viewed, mark_of, widget_of}
+use Rattle.rt_text.specs.Widgets.{ViewValue, mark_of, widget_of}
 use Rattle.rt_tagcmd.specs.MarkCommands.{names_mark}
 
 -- no mark has an empty name, so this one would come before all at its place
@@ -17,7 +17,7 @@ abbrev pub mark_or : Option Mark → Result Mark Fault → Result Mark Fault
 mark_or (Some m) other = Ok m
 mark_or None other = other
 
-abbrev pub looked_from : Viewed → Word → Result Mark Fault
+abbrev pub looked_from : ViewValue → Word → Result Mark Fault
 looked_from view word =
     let w = widget_of view in
     mark_or (if names_mark view word then mark_of view word else None) (unless (index_check w word) (edge (place_at_index w word)))

@@ -103,9 +103,9 @@ fn tagged(rt: &impl Abort, alloc: Global, view: &mut Text, line: &str) -> usize 
 
 impl Model for EditedText {
     ghost use Rattle.rt_editing.specs.Settled.{IsSettled};
-    ghost use Rattle.rt_editing.specs.Edited.{Edited, edited};
+    ghost use Rattle.rt_editing.specs.EditedValue.{EditedValue, edited};
 
-    ghost Value = { Edited };
+    ghost Value = { EditedValue };
 
     ghost view = { λ s. edited s.view s.recorder };
 

@@ -38,7 +38,7 @@ use Rattle.rt_rga.proofs.Merging.{cells_with}
 use Rattle.rt_rga.proofs.Room.{new_within}
 use Rattle.rt_rga.proofs.Sel.{no_sel}
 use Rattle.rt_rga.proofs.Within.{continues_new}
-use Rattle.rt_edits.specs.Flat.{Flat}
+use Rattle.rt_edits.specs.DocValue.{DocValue}
 use Rattle.rt_edits.specs.Insertions.{all_listed}
 use Rattle.rt_edits.specs.Listed.{AreListed, IsShared}
 use Rattle.rt_edits.specs.Removals.{gone_at}
@@ -290,7 +290,7 @@ accepted_room limit op set e = ltb-false limit (length (cells_of set) + length (
 -- A REPLICA THAT HAS ACCEPTED IT
 
 -- what is seen of a replica, with marks and tags
-abbrev pub seen_with : ReplicaValue → List Mark → List Word → Flat
+abbrev pub seen_with : ReplicaValue → List Mark → List Word → DocValue
 seen_with replica marks names = record {
   cells = replica.cells;
   site = replica.site;
@@ -302,40 +302,40 @@ seen_with replica marks names = record {
 }
 
 -- the document that it leaves is one
-pub accepted_is : (flat : Flat) (op : Operation) → IsHistory flat.log → IsHistory (with_operation op flat.log) → flat.cells ≡ cells_of flat.log → keeps_rules op.body ≡ true → IsDoc flat.cells flat.marks flat.tags
+pub accepted_is : (flat : DocValue) (op : Operation) → IsHistory flat.log → IsHistory (with_operation op flat.log) → flat.cells ≡ cells_of flat.log → keeps_rules op.body ≡ true → IsDoc flat.cells flat.marks flat.tags
     → IsDoc (with_new op flat).cells (with_new op flat).marks (with_new op flat).tags
 accepted_is flat op h more known rules doc =
     subst (λ l. IsDoc (cells_of (with_operation op flat.log)) (marks_left (takes_away op.body l) (marks_inserted (place_in op l) (length (inserted op)) flat.marks)) (all_listed (lists_of op.body) flat.tags)) (sym known)
     (accepted_doc flat.log op h more flat.marks flat.tags rules (subst (λ l. IsDoc l flat.marks flat.tags) known doc))
 
 -- a replica takes what is new to its document
-module _ (old : ReplicaValue) (op : Operation) (flat : Flat) (marks : List Mark) (names : List Word) (view : seen_with old marks names ≡ flat) (is_new : answer_within flat.limit op flat.log ≡ New) where
+module _ (old : ReplicaValue) (op : Operation) (flat : DocValue) (marks : List Mark) (names : List Word) (view : seen_with old marks names ≡ flat) (is_new : answer_within flat.limit op flat.log ≡ New) where
   pub seen_new : answer_within old.limit op old.log ≡ New
-  seen_new = ap (λ (f : Flat). answer_within f.limit op f.log) view ∙ is_new
+  seen_new = ap (λ (f : DocValue). answer_within f.limit op f.log) view ∙ is_new
 
   pub seen_continues : IsHistory flat.log → keeps_rules op.body ≡ true → Continues old.log op
   seen_continues history rules =
-      (continues_new old.limit op old.log (subst IsHistory (sym (ap (λ (f : Flat). f.log) view)) history) rules seen_new).0
+      (continues_new old.limit op old.log (subst IsHistory (sym (ap (λ (f : DocValue). f.log) view)) history) rules seen_new).0
 
   pub seen_room : flat.cells ≡ cells_of flat.log → length old.cells + length (inserted op) ≤ old.limit
   seen_room known =
-      let cells : old.cells ≡ cells_of old.log = ap (λ (f : Flat). f.cells) view ∙ known ∙ ap cells_of (sym (ap (λ (f : Flat). f.log) view)) in
+      let cells : old.cells ≡ cells_of old.log = ap (λ (f : DocValue). f.cells) view ∙ known ∙ ap cells_of (sym (ap (λ (f : DocValue). f.log) view)) in
       omega (arith, accepted_room old.limit op old.log seen_new, ap length cells)
 
 module _ (old : ReplicaValue) (op : Operation) (change : Change) (is_new : answer_within old.limit op old.log ≡ New) (tells : IsChange op old.cells change) where
   -- no mark's place becomes too great
-  pub accepted_fits : (flat : Flat) (marks : List Mark) (names : List Word) → seen_with old marks names ≡ flat → flat.cells ≡ cells_of flat.log → flat.limit ≤ MOST_CELLS → length (text_of old.cells) + change.inserted ≤ 2 ^ 64 - 1
+  pub accepted_fits : (flat : DocValue) (marks : List Mark) (names : List Word) → seen_with old marks names ≡ flat → flat.cells ≡ cells_of flat.log → flat.limit ≤ MOST_CELLS → length (text_of old.cells) + change.inserted ≤ 2 ^ 64 - 1
   accepted_fits flat marks names view known most =
-      let cells : old.cells ≡ cells_of old.log = ap (λ (f : Flat). f.cells) view ∙ known ∙ ap cells_of (sym (ap (λ (f : Flat). f.log) view)) in
+      let cells : old.cells ≡ cells_of old.log = ap (λ (f : DocValue). f.cells) view ∙ known ∙ ap cells_of (sym (ap (λ (f : DocValue). f.log) view)) in
       let room : length (cells_of old.log) + length (inserted op) ≤ old.limit = accepted_room old.limit op old.log is_new in
       let within : length (text_of old.cells) ≤ length old.cells = text_within old.cells in
       let same : length old.cells ≡ length (cells_of old.log) = ap length cells in
       let more : change.inserted ≡ length (inserted op) = tells.more in
-      let limit : old.limit ≡ flat.limit = ap (λ (f : Flat). f.limit) view in
+      let limit : old.limit ≡ flat.limit = ap (λ (f : DocValue). f.limit) view in
       omega (arith, room, within, same, more, limit, most)
 
   -- what is seen of it then
-  pub accepted_seen : (flat : Flat) (new : ReplicaValue) (marks moved : List Mark) (names listed : List Word) → seen_with old marks names ≡ flat
+  pub accepted_seen : (flat : DocValue) (new : ReplicaValue) (marks moved : List Mark) (names listed : List Word) → seen_with old marks names ≡ flat
       → new.log ≡ with_operation op old.log → new.cells ≡ cells_of new.log → new.site ≡ old.site → new.limit ≡ old.limit
       → moved ≡ marks_left (is_in_runs change.removed.items) (marks_inserted change.place change.inserted marks) → listed ≡ all_listed (lists_of op.body) names
       → seen_with new moved listed ≡ with_new op flat

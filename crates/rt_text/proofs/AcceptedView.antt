@@ -10,15 +10,15 @@ use Rattle.rt_rga.specs.Taken.{IsChange, is_in_runs, place_in, takes_away}
 use Rattle.rt_rga.specs.declared.taken.Change.{Change}
 use Rattle.rt_stamps.specs.declared.limits.TheConstants.{MOST_CELLS}
 use Rattle.rt_store.specs.Cells.{text_of, visible_of}
-use Rattle.rt_edits.specs.Flat.{Flat}
+use Rattle.rt_edits.specs.DocValue.{DocValue}
 use Rattle.rt_edits.proofs.PlaceLaws.{length_text, text_within}
 use Rattle.rt_text.specs.Accepted.{answer_of, own_with_new, with_new}
-use Rattle.rt_text.specs.Widgets.{IsOwnOf, Own, own_inserted, own_left}
+use Rattle.rt_text.specs.Widgets.{IsOwnOf, WidgetValue, own_inserted, own_left}
 use Rattle.rt_text.proofs.AcceptedDocument.{accepted_length, accepted_room}
 use Rattle.rt_text.proofs.FollowingLaws.{last_stays}
 use Rattle.rt_text.proofs.MarkLaws.{own_of_inserted, own_of_left}
 
-module _ (flat : Flat) (op : Operation) (change : Change) (is_new : answer_of flat op ≡ New) (tells : IsChange op flat.cells change) where
+module _ (flat : DocValue) (op : Operation) (change : Change) (is_new : answer_of flat op ≡ New) (tells : IsChange op flat.cells change) where
   -- no place becomes too great
   pub view_fits : flat.cells ≡ cells_of flat.log → flat.limit ≤ MOST_CELLS → length (text_of flat.cells) + change.inserted ≤ 2 ^ 64 - 1
   view_fits known most =
@@ -29,7 +29,7 @@ module _ (flat : Flat) (op : Operation) (change : Change) (is_new : answer_of fl
       omega (arith, room, within, same, more, most)
 
   -- the marks that follow the change
-  pub own_seen : (own : Own) → own_left (is_in_runs change.removed.items) (own_inserted change.place change.inserted own) ≡ own_with_new op flat own
+  pub own_seen : (own : WidgetValue) → own_left (is_in_runs change.removed.items) (own_inserted change.place change.inserted own) ≡ own_with_new op flat own
   own_seen own = λ i. own_left (λ p. tells.removed p i) (own_inserted (tells.first i) (tells.more i) own)
 
   -- the last newline stays
@@ -40,7 +40,7 @@ module _ (flat : Flat) (op : Operation) (change : Change) (is_new : answer_of fl
       sym (tells.removed p) ∙ last_stays (length (visible_of flat.cells)) change.removed.items p (omega (arith, many)) tells.runs
 
   -- they stand in the text that is left
-  pub own_stands : (own : Own) → IsHistory flat.log → flat.cells ≡ cells_of flat.log → IsHistory (with_operation op flat.log) → IsOwnOf (length (text_of flat.cells)) own → IsOwnOf (length (text_of (with_new op flat).cells)) (own_with_new op flat own)
+  pub own_stands : (own : WidgetValue) → IsHistory flat.log → flat.cells ≡ cells_of flat.log → IsHistory (with_operation op flat.log) → IsOwnOf (length (text_of flat.cells)) own → IsOwnOf (length (text_of (with_new op flat).cells)) (own_with_new op flat own)
   own_stands own h known more stands =
       let n = length (text_of flat.cells) in
       let k = length (inserted op) in

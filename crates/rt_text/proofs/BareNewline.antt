@@ -18,7 +18,7 @@ use Rattle.rt_tags.specs.States.{IsByName, Write, is_on, names_on, written}
 use Rattle.rt_tags.specs.Tags.{is_listed, sel}
 use Rattle.rt_tags.proofs.Commuting.{on_is_listed}
 use Rattle.rt_tags.proofs.Places.{same_name}
-use Rattle.rt_edits.specs.Flat.{Flat}
+use Rattle.rt_edits.specs.DocValue.{DocValue}
 use Rattle.rt_edits.specs.InsertionDrafts.{behind, insertion_drafts, pieces_drafts, text_drafts}
 use Rattle.rt_edits.specs.Insertions.{Insertion, Piece, all_listed, are_among, counts_for, inserts_for, insertion_of, last_of, selected_if, shared_names, tagged_cells, tags_between, with_listed, with_pieces, with_unlisted}
 use Rattle.rt_edits.specs.TagWrites.{bared, tag_write, tagged, with_tag}
@@ -72,13 +72,13 @@ not_on true h = absurd (h refl)
 not_on false h = refl
 
 module _ (stamp : Stamp) (front rest : List TaggedCell) (apart : is_among (stamps_of front) stamp ≡ false) (later : is_among (stamps_of rest) stamp ≡ false) where
-  bares : (names : List Word) (flat : Flat) (last : TaggedCell) → flat.cells ≡ front ++ last ∷ rest → last.stamp ≡ stamp → IsWritten flat.count last.state
+  bares : (names : List Word) (flat : DocValue) (last : TaggedCell) → flat.cells ≡ front ++ last ∷ rest → last.stamp ≡ stamp → IsWritten flat.count last.state
       → (new : TaggedCell) × IsBared names front last rest (bared flat stamp names).cells new
   bares [] flat last e s known = (last, record { is = e; stamp = refl; gone = refl; before = λ q h. h; off = λ q h. absurd (cc h) })
   bares (name ∷ names) flat last e s known =
       let site = flat.site in
       let count = flat.count in
-      let next : Flat = with_tag flat name false (stamp ∷ []) in
+      let next : DocValue = with_tag flat name false (stamp ∷ []) in
       let new : TaggedCell = off stamp site count name last in
       let there : is_among (stamp ∷ []) last.stamp ≡ true = ap (λ x. is_same stamp x || false) s ∙ ap (λ b. b || false) (same_refl stamp) in
       let change = tagged_state site count name false (stamp ∷ []) last in
@@ -108,7 +108,7 @@ module _ (stamp : Stamp) (front rest : List TaggedCell) (apart : is_among (stamp
       first true b h k = refl
       first false b h k = absurd (cc (h, k))
 
-      known_after : (flat : Flat) (name : Word) (last : TaggedCell) → is_among (stamp ∷ []) last.stamp ≡ true → IsWritten flat.count last.state
+      known_after : (flat : DocValue) (name : Word) (last : TaggedCell) → is_among (stamp ∷ []) last.stamp ≡ true → IsWritten flat.count last.state
           → IsWritten (with_tag flat name false (stamp ∷ [])).count (tagged flat.site flat.count name false (stamp ∷ []) last).state
       known_after flat name last there known =
           let w : Write = tag_write flat.site flat.count name false (stamp ∷ []) last.stamp in
@@ -123,7 +123,7 @@ pub record IsBare (front : List TaggedCell) (last : TaggedCell) (rest cells : Li
   pub gone : new.gone ≡ last.gone
   pub off : (q : Word) → is_on q new.state ≡ false
 
-pub all_bare : (flat : Flat) (front : List TaggedCell) (last : TaggedCell) (rest : List TaggedCell) → flat.cells ≡ front ++ last ∷ rest → is_among (stamps_of front) last.stamp ≡ false → is_among (stamps_of rest) last.stamp ≡ false
+pub all_bare : (flat : DocValue) (front : List TaggedCell) (last : TaggedCell) (rest : List TaggedCell) → flat.cells ≡ front ++ last ∷ rest → is_among (stamps_of front) last.stamp ≡ false → is_among (stamps_of rest) last.stamp ≡ false
     → IsWritten flat.count last.state → IsByName last.state → (new : TaggedCell) × IsBare front last rest (bared flat last.stamp (names_on last.state)).cells new
 all_bare flat front last rest e apart behind known by_name =
     let w = bares last.stamp front rest apart behind (names_on last.state) flat last e refl known in (

@@ -15,7 +15,7 @@ use Rattle.rt_tags.specs.Tags.{is_listed, sel}
 use Rattle.rt_tags.proofs.Greatest.{newer, write_of_written}
 use Rattle.rt_tags.proofs.Places.{same_name}
 use Rattle.rt_edits.specs.Deletions.{Loss, newline_of, without_places, without_text}
-use Rattle.rt_edits.specs.Flat.{Flat}
+use Rattle.rt_edits.specs.DocValue.{DocValue}
 use Rattle.rt_edits.specs.Listed.{AreListed, IsShared}
 use Rattle.rt_edits.specs.Removals.{gone_at}
 use Rattle.rt_edits.specs.TagWrites.{bared, tagged, tag_write, with_tag}
@@ -116,7 +116,7 @@ off_on site count name stamps cell other h = by (is_among stamps cell.stamp) h
     by false k = k
 
 -- tags that are taken off a character leave those that are on listed
-bared_listed : (listed : List Word) (flat : Flat) (stamp : Stamp) (names : List Word) → All (λ name. bytes_eq name sel ≡ false) names → AreListed listed flat.cells → AreListed listed (bared flat stamp names).cells
+bared_listed : (listed : List Word) (flat : DocValue) (stamp : Stamp) (names : List Word) → All (λ name. bytes_eq name sel ≡ false) names → AreListed listed flat.cells → AreListed listed (bared flat stamp names).cells
 bared_listed listed flat stamp [] others h = h
 bared_listed listed flat stamp (name ∷ names) others h =
     let stamps = stamp ∷ [] in
@@ -124,7 +124,7 @@ bared_listed listed flat stamp (name ∷ names) others h =
     (listed_less listed (tagged flat.site flat.count name false stamps) flat.cells (off_seen flat.site flat.count name stamps) (off_on flat.site flat.count name stamps)
     (shared_tagged flat.site flat.count name false stamps (All-head (λ (n : Word). bytes_eq n sel ≡ false) name names others)) h)
 
-newline_shared : (flat : Flat) (loss : Loss) (cell : TaggedCell) → All (λ cell. IsShared cell.state) flat.cells → newline_of flat loss ≡ Some cell → All (λ name. bytes_eq name sel ≡ false) (names_on cell.state)
+newline_shared : (flat : DocValue) (loss : Loss) (cell : TaggedCell) → All (λ cell. IsShared cell.state) flat.cells → newline_of flat loss ≡ Some cell → All (λ name. bytes_eq name sel ≡ false) (names_on cell.state)
 newline_shared flat loss cell h e =
     let w = newline_at flat loss cell e in
     let P : TaggedCell → Type 0 = λ c. IsShared c.state in
@@ -134,9 +134,9 @@ newline_shared flat loss cell h e =
 -- A DELETION
 
 -- the tags that are listed stay so
-pub deletion_listed : (flat : Flat) (loss : Loss) (names : List Word) → AreListed names flat.cells → AreListed names (without_text flat loss).cells
+pub deletion_listed : (flat : DocValue) (loss : Loss) (names : List Word) → AreListed names flat.cells → AreListed names (without_text flat loss).cells
 deletion_listed flat loss names h =
     let left = without_places flat loss.places in
     let gone : AreListed names left.cells = listed_gone names loss.places flat.cells h in
-    loss_has (λ (f : Flat). AreListed names f.cells) flat loss gone
+    loss_has (λ (f : DocValue). AreListed names f.cells) flat loss gone
     (λ cell e. bared_listed names left cell.stamp (names_on cell.state) (newline_shared flat loss cell h.shared e) gone)

@@ -11,12 +11,12 @@ use Rattle.rt_rga.specs.Drafts.{operations_of, with_drafts, with_operations}
 use Rattle.rt_rga.specs.Orders.{AreIn}
 use Rattle.rt_edits.specs.declared.range.Range.{Range}
 use Rattle.rt_edits.specs.Deletions.{delete_drafts, loss_in}
-use Rattle.rt_edits.specs.Flat.{Flat, left_of, logged}
+use Rattle.rt_edits.specs.DocValue.{DocValue, left_of, logged}
 use Rattle.rt_edits.specs.InsertionDrafts.{insertion_drafts}
 use Rattle.rt_edits.specs.Insertions.{Piece, insertion_of, left_neighbour}
 use Rattle.rt_text.specs.Accepted.{own_with_new, view_with_new}
 use Rattle.rt_text.specs.Commands.{last_unselected, none_inserted, right_behind, with_pieces_at, with_range_replaced, without_ranges}
-use Rattle.rt_text.specs.Widgets.{Own, Viewed, begin_of, in_text, length_shown, limits_of, own_inserted, own_left, reselected, shown_by, text_shown, with_selections}
+use Rattle.rt_text.specs.Widgets.{WidgetValue, ViewValue, begin_of, in_text, length_shown, limits_of, own_inserted, own_left, reselected, shown_by, text_shown, with_selections}
 
 -- LOGS
 
@@ -43,39 +43,39 @@ grows_drafts site drafts log = grows_all (operations_of site drafts log) log
 -- VIEWS
 
 -- the log grows, and each widget's limits stay
-pub record GrowsTo (view new : Viewed) : Type 0 where
+pub record GrowsTo (view new : ViewValue) : Type 0 where
   pub log : Grows view.doc.log new.doc.log
   pub limits : limits_of new ≡ limits_of view
 
-pub view_grows_by : (old mid new : Viewed) → GrowsTo old mid → GrowsTo mid new → GrowsTo old new
+pub view_grows_by : (old mid new : ViewValue) → GrowsTo old mid → GrowsTo mid new → GrowsTo old new
 view_grows_by old mid new f g = record { log = grows_by old.doc.log mid.doc.log new.doc.log f.log g.log; limits = g.limits ∙ f.limits }
 
 -- what keeps the limits of one widget keeps those of all
-by_rule : (rule : Own → Own) → ((own : Own) → (rule own).limits ≡ own.limits) → (own : Own) (others : List Own)
-    → map (λ (own : Own). own.limits) (rule own ∷ map rule others) ≡ map (λ (own : Own). own.limits) (own ∷ others)
+by_rule : (rule : WidgetValue → WidgetValue) → ((own : WidgetValue) → (rule own).limits ≡ own.limits) → (own : WidgetValue) (others : List WidgetValue)
+    → map (λ (own : WidgetValue). own.limits) (rule own ∷ map rule others) ≡ map (λ (own : WidgetValue). own.limits) (own ∷ others)
 by_rule rule f own [] = ap (λ l. l ∷ []) (f own)
 by_rule rule f own (other ∷ others) = λ i. f own i ∷ by_rule rule f other others i
 
-selected_too : (selections : List (List Stamp)) (widgets : List Own) → map (λ (own : Own). own.limits) (with_selections selections widgets) ≡ map (λ (own : Own). own.limits) widgets
+selected_too : (selections : List (List Stamp)) (widgets : List WidgetValue) → map (λ (own : WidgetValue). own.limits) (with_selections selections widgets) ≡ map (λ (own : WidgetValue). own.limits) widgets
 selected_too selections [] = refl
 selected_too [] (own ∷ widgets) = refl
 selected_too (selection ∷ selections) (own ∷ widgets) = ap (λ l. own.limits ∷ l) (selected_too selections widgets)
 
 -- text is put in
-pub put_grows : (view : Viewed) (place : ℕ) (pieces : List Piece) (rest : Word) → GrowsTo view (with_pieces_at view place pieces rest)
+pub put_grows : (view : ViewValue) (place : ℕ) (pieces : List Piece) (rest : Word) → GrowsTo view (with_pieces_at view place pieces rest)
 put_grows view place pieces rest =
     let at = in_text view place in
     let left = left_neighbour (shown_by view) place in
     let right = right_behind view place pieces in
     let new = insertion_of view.doc.site left right pieces rest (none_inserted view) in
-    let moves : Own → Own = own_inserted at (length new.cells) in
+    let moves : WidgetValue → WidgetValue = own_inserted at (length new.cells) in
     record {
       log = grows_drafts view.doc.site (insertion_drafts MOST_CHARACTERS view.doc.site (left_of view.doc.cells at) left right pieces rest (none_inserted view)) view.doc.log;
       limits = ap (λ l. view.own.limits ∷ l) (selected_too new.others (map moves view.others)) ∙ by_rule moves (λ own. refl) view.own view.others;
     }
 
 -- ranges are removed
-pub without_grows : (view : Viewed) (ranges : List Range) → GrowsTo view (without_ranges view ranges)
+pub without_grows : (view : ViewValue) (ranges : List Range) → GrowsTo view (without_ranges view ranges)
 without_grows view ranges =
     let loss = loss_in (text_shown view) (begin_of view) ranges in
     record {
@@ -84,16 +84,16 @@ without_grows view ranges =
     }
 
 -- a range is replaced
-pub replaced_grows : (view : Viewed) (range : Range) (pieces : List Piece) (rest : Word) → GrowsTo view (with_range_replaced view range pieces rest)
+pub replaced_grows : (view : ViewValue) (range : Range) (pieces : List Piece) (rest : Word) → GrowsTo view (with_range_replaced view range pieces rest)
 replaced_grows view range pieces rest =
     let left = without_ranges view (range ∷ []) in
     let place = min range.from (length_shown left - 1) in
     view_grows_by view left (with_pieces_at left place pieces rest) (without_grows view (range ∷ [])) (put_grows left place pieces rest)
 
 -- an operation is accepted
-pub grows_taken : (op : Operation) (view : Viewed) → GrowsTo view (view_with_new op view)
+pub grows_taken : (op : Operation) (view : ViewValue) → GrowsTo view (view_with_new op view)
 grows_taken op view = record { log = grows_with op view.doc.log; limits = by_rule (own_with_new op view.doc) (λ own. refl) view.own view.others }
 
 -- tags are written
-pub logged_grows : (view : Viewed) (drafts : List Body) (edited : Flat) → GrowsTo view (record view { doc = logged view.doc drafts edited })
+pub logged_grows : (view : ViewValue) (drafts : List Body) (edited : DocValue) → GrowsTo view (record view { doc = logged view.doc drafts edited })
 logged_grows view drafts edited = record { log = grows_drafts view.doc.site drafts view.doc.log; limits = refl }

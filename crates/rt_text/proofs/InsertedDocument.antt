@@ -25,7 +25,7 @@ use Rattle.rt_rga.proofs.Writes.{state_sorted}
 use Rattle.rt_edits.specs.DeletionLaws.{IsPiece}
 use Rattle.rt_edits.specs.declared.inserting.Plan.{Plan}
 use Rattle.rt_edits.specs.DraftLaws.{IsDocument, IsInsertion, IsText}
-use Rattle.rt_edits.specs.Flat.{Flat, left_of, logged, put_after}
+use Rattle.rt_edits.specs.DocValue.{DocValue, left_of, logged, put_after}
 use Rattle.rt_edits.specs.InsertionDrafts.{insertion_drafts}
 use Rattle.rt_edits.specs.InsertionPlans.{Plans}
 use Rattle.rt_edits.specs.Insertions.{Insertion, Piece, insertion_of, last_of, left_neighbour, tags_between, with_pieces}
@@ -37,7 +37,7 @@ use Rattle.rt_edits.proofs.PremiseLaws.{may_begin, pieces_are}
 use Rattle.rt_text.specs.Commands.{cell_check, clock_check, names_in, none_inserted, right_behind, with_pieces_at}
 use Rattle.rt_text.specs.Kept.{IsDoc}
 use Rattle.rt_text.specs.Replacements.{drafts_at, insertion_at}
-use Rattle.rt_text.specs.Widgets.{AreSiteMarks, IsOwnOf, Own, Viewed, in_text, own_inserted, selections_of, shown_by, with_selections}
+use Rattle.rt_text.specs.Widgets.{AreSiteMarks, IsOwnOf, WidgetValue, ViewValue, in_text, own_inserted, selections_of, shown_by, with_selections}
 use Rattle.rt_text.proofs.InsertedSides.{IsFound, IsPlace, IsRight, at_text, drafts_any, left_there, near, near_within, right_any}
 use Rattle.rt_text.proofs.ListedText.{IsAmong, ListsAll, insertion_lists, insertion_tags, left_among, listed_put, names_of_all, text_among}
 use Rattle.rt_text.proofs.MadeDocument.{both_fit, refusal_is}
@@ -55,12 +55,12 @@ unmapped : {X Y : Type 0} (P : Y → Type 0) (f : X → Y) (xs : List X) → All
 unmapped P f xs h = λ k d lt. subst P (get_or-map f xs k d (f d) lt) (h k (f d) (omega (arith, length-map xs f, lt)))
 
 -- what begins with the document's site and count and the widget's selection
-pub begun : {X : Type 0} (f : ℕ → Insertion → X) (site count : ℕ) (sel : List Stamp) (view : Viewed) → site ≡ view.doc.site → count ≡ view.doc.count → sel ≡ view.own.sel
+pub begun : {X : Type 0} (f : ℕ → Insertion → X) (site count : ℕ) (sel : List Stamp) (view : ViewValue) → site ≡ view.doc.site → count ≡ view.doc.count → sel ≡ view.own.sel
     → f site (record { cells = []; count = count; sel = sel; others = selections_of view.others; tags = view.doc.tags }) ≡ f view.doc.site (none_inserted view)
 begun f site count sel view s n e = λ i. f (s i) (record { cells = []; count = n i; sel = e i; others = selections_of view.others; tags = view.doc.tags })
 
-module _ (flat : Flat) (own : Own) (others : List Own) (place : ℕ) (pieces : List Piece) (rest : Word) where
-  abbrev view : Viewed
+module _ (flat : DocValue) (own : WidgetValue) (others : List WidgetValue) (place : ℕ) (pieces : List Piece) (rest : Word) where
+  abbrev view : ViewValue
   view = viewed flat own others
 
   -- the place in the text
@@ -81,7 +81,7 @@ module _ (flat : Flat) (own : Own) (others : List Own) (place : ℕ) (pieces : L
   made_new = insertion_at view place pieces rest
 
   -- the document but for its log
-  abbrev pub made_flat : Flat
+  abbrev pub made_flat : DocValue
   made_flat = record flat {
     cells = put_after flat.cells (left_of flat.cells place_in) made_new.cells;
     count = made_new.count;
@@ -118,8 +118,8 @@ module _ (flat : Flat) (own : Own) (others : List Own) (place : ℕ) (pieces : L
         ∙ drafts_any flat.site (left_of flat.cells place_in) l r right pieces rest start which
         ∙ ap (λ o. insertion_drafts MOST_CHARACTERS flat.site (left_of flat.cells place_in) o right pieces rest start) f.before
 
-module _ (flat : Flat) (own : Own) (others : List Own) (place : ℕ) (pieces : List Piece) (rest : Word) (is : IsPlace flat own others place) where
-  abbrev seen : Viewed
+module _ (flat : DocValue) (own : WidgetValue) (others : List WidgetValue) (place : ℕ) (pieces : List Piece) (rest : Word) (is : IsPlace flat own others place) where
+  abbrev seen : ViewValue
   seen = viewed flat own others
 
   abbrev at : ℕ

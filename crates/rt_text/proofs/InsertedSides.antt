@@ -24,7 +24,7 @@ use Rattle.rt_rga.specs.Histories.{IsHistory}
 use Rattle.rt_rga.proofs.Corollaries.{cells_distinct, cells_older, root_absent}
 use Rattle.rt_rga.proofs.Final.{ends_final}
 use Rattle.rt_edits.specs.DraftLaws.{IsDocument}
-use Rattle.rt_edits.specs.Flat.{Flat, left_of, put_after}
+use Rattle.rt_edits.specs.DocValue.{DocValue, left_of, put_after}
 use Rattle.rt_edits.specs.InsertionDrafts.{behind, insertion_drafts, pieces_drafts, text_drafts}
 use Rattle.rt_edits.specs.Insertions.{Insertion, Piece, insertion_of, last_of, left_neighbour, right_neighbour, tags_between, with_pieces, with_unlisted}
 use Rattle.rt_edits.specs.Removals.{is_covered}
@@ -38,7 +38,7 @@ use Rattle.rt_views.proofs.Shown.{place_shown}
 use Rattle.rt_views.proofs.Whole.{stretch_within}
 use Rattle.rt_text.specs.Commands.{none_inserted, right_behind}
 use Rattle.rt_text.specs.Neighbours.{are_sides_shown, is_ahead, is_behind, limit_left, pieces_text}
-use Rattle.rt_text.specs.Widgets.{Own, Viewed, in_text, length_shown, shown_by}
+use Rattle.rt_text.specs.Widgets.{WidgetValue, ViewValue, in_text, length_shown, shown_by}
 use Rattle.rt_text.proofs.LimitedDeletions.{stretch_kept}
 use Rattle.rt_text.proofs.LimitedTags.{shown_length}
 use Rattle.rt_text.proofs.NewCells.{AreNew, pieces_are, pieces_new}
@@ -47,26 +47,26 @@ use Rattle.rt_text.proofs.ViewLaws.{viewed}
 
 -- A DOCUMENT'S CELLS
 
-pub document_final : (flat : Flat) → IsHistory flat.log → IsDocument flat.site flat.log flat → EndsFinal flat.cells
+pub document_final : (flat : DocValue) → IsHistory flat.log → IsDocument flat.site flat.log flat → EndsFinal flat.cells
 document_final flat h doc = subst EndsFinal (sym doc.cells) (ends_final flat.log h)
 
-pub document_distinct : (flat : Flat) → IsHistory flat.log → IsDocument flat.site flat.log flat → IsDistinct is_same (ROOT ∷ stamps_of flat.cells)
+pub document_distinct : (flat : DocValue) → IsHistory flat.log → IsDocument flat.site flat.log flat → IsDistinct is_same (ROOT ∷ stamps_of flat.cells)
 document_distinct flat h doc =
     subst (λ (l : List TaggedCell). IsDistinct is_same (ROOT ∷ stamps_of l)) (sym doc.cells) (distinct_more ROOT (stamps_of _) (root_absent flat.log h) (cells_distinct flat.log h))
 
-pub document_below : (flat : Flat) → IsHistory flat.log → IsDocument flat.site flat.log flat → AreBelowNext flat.count flat.cells
+pub document_below : (flat : DocValue) → IsHistory flat.log → IsDocument flat.site flat.log flat → AreBelowNext flat.count flat.cells
 document_below flat h doc = subst (λ (p : _). p) (λ i. AreBelowNext (sym doc.count i) (sym doc.cells i)) (cells_older flat.log h)
 
 -- PLACES OF WHAT IS SHOWN
 
 -- a place among the characters that are shown is one of the text
-pub record IsPlace (flat : Flat) (own : Own) (others : List Own) (place : ℕ) : Type 0 where
+pub record IsPlace (flat : DocValue) (own : WidgetValue) (others : List WidgetValue) (place : ℕ) : Type 0 where
   pub history : IsHistory flat.log
   pub document : IsDocument flat.site flat.log flat
   pub real : 0 < flat.site
   pub within : place < length_shown (viewed flat own others)
 
-pub place_is : (flat : Flat) (own : Own) (others : List Own) (place : ℕ) → IsHistory flat.log → IsDocument flat.site flat.log flat → 0 < flat.site → place < length (shown_part flat.cells own.limits) → IsPlace flat own others place
+pub place_is : (flat : DocValue) (own : WidgetValue) (others : List WidgetValue) (place : ℕ) → IsHistory flat.log → IsDocument flat.site flat.log flat → 0 < flat.site → place < length (shown_part flat.cells own.limits) → IsPlace flat own others place
 place_is flat own others place h doc real l = record {
   history = h;
   document = doc;
@@ -74,8 +74,8 @@ place_is flat own others place h doc real l = record {
   within = subst (λ n. place < n) (sym (length-map (shown_part flat.cells own.limits) (λ (cell : TaggedCell). cell.ch))) l;
 }
 
-module _ (flat : Flat) (own : Own) (others : List Own) (place : ℕ) (is : IsPlace flat own others place) where
-  abbrev view : Viewed
+module _ (flat : DocValue) (own : WidgetValue) (others : List WidgetValue) (place : ℕ) (is : IsPlace flat own others place) where
+  abbrev view : ViewValue
   view = viewed flat own others
 
   abbrev stretch : Stretch
@@ -104,28 +104,28 @@ module _ (flat : Flat) (own : Own) (others : List Own) (place : ℕ) (is : IsPla
   right_there = part_get stretch (visible_of flat.cells) place (omega (arith, size, is.within))
 
 -- the place in the text that has the left neighbour which is shown: its beginning where there is none
-abbrev pub near : Viewed → ℕ → ℕ
+abbrev pub near : ViewValue → ℕ → ℕ
 near _ zero = 0
 near view (suc place) = in_text view (suc place)
 
-pub left_there : (flat : Flat) (own : Own) (others : List Own) (place : ℕ) → IsPlace flat own others place
+pub left_there : (flat : DocValue) (own : WidgetValue) (others : List WidgetValue) (place : ℕ) → IsPlace flat own others place
     → left_neighbour (shown_by (viewed flat own others)) place ≡ left_neighbour (visible_of flat.cells) (near (viewed flat own others) place)
 left_there flat own others zero is = refl
 left_there flat own others (suc p) is =
-    let view : Viewed = viewed flat own others in
+    let view : ViewValue = viewed flat own others in
     let stretch : Stretch = stretch_of flat.cells own.limits in
     let size : length_shown view ≡ stretch.end - stretch.begin = shown_length flat.cells stretch (stretch_within flat.cells own.limits (document_final flat is.history is.document)) in
     let next : stretch.begin + suc p ≡ suc (stretch.begin + p) = omega arith in
     part_get stretch (visible_of flat.cells) p (omega (arith, size, is.within)) ∙ sym (ap (left_neighbour (visible_of flat.cells)) next)
 
-pub near_within : (flat : Flat) (own : Own) (others : List Own) (place : ℕ) → IsPlace flat own others place → near (viewed flat own others) place < length (text_of flat.cells)
+pub near_within : (flat : DocValue) (own : WidgetValue) (others : List WidgetValue) (place : ℕ) → IsPlace flat own others place → near (viewed flat own others) place < length (text_of flat.cells)
 near_within flat own others zero is = omega (arith, at_text flat own others zero is)
 near_within flat own others (suc p) is = at_text flat own others (suc p) is
 
 -- NEIGHBOURS THAT ARE KEPT
 
 -- what the code finds before the place, as shown
-pub left_found : (table : TagStates) (kept : List (Cell ℕ)) (flat : Flat) (own : Own) (others : List Own) (place at : ℕ) (behind left : Option (Cell ℕ)) → map (shown table) kept ≡ flat.cells → IsPlace flat own others place
+pub left_found : (table : TagStates) (kept : List (Cell ℕ)) (flat : DocValue) (own : WidgetValue) (others : List WidgetValue) (place at : ℕ) (behind left : Option (Cell ℕ)) → map (shown table) kept ≡ flat.cells → IsPlace flat own others place
     → at ≡ in_text (viewed flat own others) place → behind ≡ left_neighbour (visible_of kept) at → left ≡ cond (nat_eq place 0) None behind
     → option_map (shown table) left ≡ left_neighbour (shown_by (viewed flat own others)) place
 left_found table kept flat own others zero at before left e is a b l = ap (option_map (shown table)) l
@@ -144,7 +144,7 @@ element_is left behind place l =
     by false (Some cell) = refl
 
 -- and of the text's left neighbour in any case
-pub element_found : (table : TagStates) (kept : List (Cell ℕ)) (flat : Flat) (at place : ℕ) (behind : Option (Cell ℕ)) → map (shown table) kept ≡ flat.cells → at ≡ place → behind ≡ left_neighbour (visible_of kept) at
+pub element_found : (table : TagStates) (kept : List (Cell ℕ)) (flat : DocValue) (at place : ℕ) (behind : Option (Cell ℕ)) → map (shown table) kept ≡ flat.cells → at ≡ place → behind ≡ left_neighbour (visible_of kept) at
     → unwrap_or (option_map (λ c. c.stamp) behind) ROOT ≡ left_of flat.cells place
 element_found table kept flat at place behind e a b =
     ap (λ o. unwrap_or (option_map (λ (c : Cell ℕ). c.stamp) o) ROOT) b ∙ element_shown table kept at ∙ (λ i. left_of (e i) (a i))
@@ -179,17 +179,17 @@ none_left {T} cells limit = by (option_and_then (place_of cells) limit)
     by (Some p) = ap Some (place_kept (is_covered []) (λ q. refl) p)
 
 -- both sides are shown, by the document's cells
-abbrev pub are_shown : Flat → Limits → ℕ → List Piece → Bool
+abbrev pub are_shown : DocValue → Limits → ℕ → List Piece → Bool
 are_shown flat limits at pieces =
     are_sides_shown (option_and_then (place_of flat.cells) limits.start) (option_and_then (place_of flat.cells) limits.end) at (pieces_text pieces)
 
-pub shown_kept : (table : TagStates) (kept : List (Cell ℕ)) (flat : Flat) (limits : Limits) (at place : ℕ) (pieces : List Piece) → map (shown table) kept ≡ flat.cells → at ≡ place
+pub shown_kept : (table : TagStates) (kept : List (Cell ℕ)) (flat : DocValue) (limits : Limits) (at place : ℕ) (pieces : List Piece) → map (shown table) kept ≡ flat.cells → at ≡ place
     → are_sides_shown (limit_left (is_covered []) kept limits.start) (limit_left (is_covered []) kept limits.end) at (pieces_text pieces) ≡ are_shown flat limits place pieces
 shown_kept table kept flat limits at place pieces e a =
     λ i. are_sides_shown ((none_left kept limits.start ∙ place_kept_of table kept flat.cells limits.start e) i) ((none_left kept limits.end ∙ place_kept_of table kept flat.cells limits.end e) i) (a i) (pieces_text pieces)
 
 -- what the code finds at the place, as shown
-pub right_found : (table : TagStates) (kept : List (Cell ℕ)) (flat : Flat) (own : Own) (others : List Own) (place at : ℕ) (pieces : List Piece) (b : Bool) (right : Option (Cell ℕ)) → map (shown table) kept ≡ flat.cells → IsPlace flat own others place
+pub right_found : (table : TagStates) (kept : List (Cell ℕ)) (flat : DocValue) (own : WidgetValue) (others : List WidgetValue) (place at : ℕ) (pieces : List Piece) (b : Bool) (right : Option (Cell ℕ)) → map (shown table) kept ≡ flat.cells → IsPlace flat own others place
     → at ≡ in_text (viewed flat own others) place → b ≡ are_shown flat own.limits (in_text (viewed flat own others) place) pieces → right ≡ cond b (slice_get (visible_of kept) at) None
     → option_map (shown table) right ≡ cond (are_shown flat own.limits (in_text (viewed flat own others) place) pieces) (right_neighbour (shown_by (viewed flat own others)) place) None
 right_found table kept flat own others place at pieces b right e is a s r =
@@ -220,7 +220,7 @@ no_sides start end at = by (is_behind at start) (is_ahead at end)
 both_less : (a b c : ℕ) → a < b → b < c → (nat_lt a b && nat_lt b c) ≡ true
 both_less a b c h k = (λ i. lt-ltb a b h i && lt-ltb b c k i)
 
-put_at : (flat : Flat) (own : Own) (others : List Own) (place : ℕ) (new : List TaggedCell) → IsPlace flat own others place → AreNew flat.count flat.site new
+put_at : (flat : DocValue) (own : WidgetValue) (others : List WidgetValue) (place : ℕ) (new : List TaggedCell) → IsPlace flat own others place → AreNew flat.count flat.site new
     → ArePut flat.cells new flat.count flat.site (in_text (viewed flat own others) place)
 put_at flat own others place new is fresh = record {
   ends = document_final flat is.history is.document;
@@ -232,12 +232,12 @@ put_at flat own others place new is fresh = record {
 }
 
 -- both sides of the end of some new cells
-abbrev sides_of : Flat → ℕ → List TaggedCell → Limits → Bool
+abbrev sides_of : DocValue → ℕ → List TaggedCell → Limits → Bool
 sides_of flat at new limits =
     let stretch = stretch_of (put_after flat.cells (left_of flat.cells at) new) limits in
     nat_lt stretch.begin (at + length new) && nat_lt (at + length new) stretch.end
 
-sides_by : (flat : Flat) (own : Own) (others : List Own) (place : ℕ) → IsPlace flat own others place → AreNewlines flat.cells own.limits → (new : List TaggedCell) (text : List ℕ) → text_of new ≡ text
+sides_by : (flat : DocValue) (own : WidgetValue) (others : List WidgetValue) (place : ℕ) → IsPlace flat own others place → AreNewlines flat.cells own.limits → (new : List TaggedCell) (text : List ℕ) → text_of new ≡ text
     → AreNew flat.count flat.site new
     → let at = in_text (viewed flat own others) place in
     ((left_neighbour (shown_by (viewed flat own others)) place ≡ None) × (new ≡ []))
@@ -266,15 +266,15 @@ sides_by flat own others place is known (x ∷ xs) text t fresh =
 
 -- Behind pieces that have characters, and behind a left neighbour, the right one is that which is shown, if both sides are. Without
 -- either it doesn't matter.
-abbrev pub IsRight : Flat → Own → List Own → ℕ → List Piece → Option TaggedCell → Type 0
+abbrev pub IsRight : DocValue → WidgetValue → List WidgetValue → ℕ → List Piece → Option TaggedCell → Type 0
 IsRight flat own others place pieces right =
     ((left_neighbour (shown_by (viewed flat own others)) place ≡ None) × ((with_pieces flat.site pieces (none_inserted (viewed flat own others))).cells ≡ []))
     ⊎ (right ≡ right_behind (viewed flat own others) place pieces)
 
-pub right_is : (flat : Flat) (own : Own) (others : List Own) (place : ℕ) (pieces : List Piece) → IsPlace flat own others place → AreNewlines flat.cells own.limits
+pub right_is : (flat : DocValue) (own : WidgetValue) (others : List WidgetValue) (place : ℕ) (pieces : List Piece) → IsPlace flat own others place → AreNewlines flat.cells own.limits
     → IsRight flat own others place pieces (cond (are_shown flat own.limits (in_text (viewed flat own others) place) pieces) (right_neighbour (shown_by (viewed flat own others)) place) None)
 right_is flat own others place pieces is known =
-    let view : Viewed = viewed flat own others in
+    let view : ViewValue = viewed flat own others in
     let new : List TaggedCell = (with_pieces flat.site pieces (none_inserted view)).cells in
     let text : text_of new ≡ pieces_text pieces = pieces_are flat.site pieces (none_inserted view) in
     let fresh : AreNew flat.count flat.site new = pieces_new flat.site flat.count pieces (none_inserted view) (omega arith) tt in
@@ -288,12 +288,12 @@ right_is flat own others place pieces is known =
     by (inr e) = inr (ap (λ b. cond b (right_neighbour (shown_by (viewed flat own others)) place) None) e)
 
 -- what the code finds beside the place
-pub record IsFound (flat : Flat) (own : Own) (others : List Own) (place : ℕ) (pieces : List Piece) (after : Stamp) (left right : Option TaggedCell) : Type 0 where
+pub record IsFound (flat : DocValue) (own : WidgetValue) (others : List WidgetValue) (place : ℕ) (pieces : List Piece) (after : Stamp) (left right : Option TaggedCell) : Type 0 where
   pub element : after ≡ left_of flat.cells (in_text (viewed flat own others) place)
   pub before : left ≡ left_neighbour (shown_by (viewed flat own others)) place
   pub next : IsRight flat own others place pieces right
 
-pub found : (table : TagStates) (kept : List (Cell ℕ)) (flat : Flat) (own : Own) (others : List Own) (place : ℕ) (pieces : List Piece) (limits : Limits) (stretch : Stretch) (before left right : Option (Cell ℕ)) (after : Stamp)
+pub found : (table : TagStates) (kept : List (Cell ℕ)) (flat : DocValue) (own : WidgetValue) (others : List WidgetValue) (place : ℕ) (pieces : List Piece) (limits : Limits) (stretch : Stretch) (before left right : Option (Cell ℕ)) (after : Stamp)
     → map (shown table) kept ≡ flat.cells → IsPlace flat own others place → AreNewlines flat.cells own.limits → limits ≡ own.limits → stretch ≡ stretch_of kept limits
     → before ≡ left_neighbour (visible_of kept) (stretch.begin + place) → left ≡ cond (nat_eq place 0) None before
     → right ≡ cond (are_sides_shown (limit_left (is_covered []) kept limits.start) (limit_left (is_covered []) kept limits.end) (stretch.begin + place) (pieces_text pieces))

@@ -27,7 +27,7 @@ use Rattle.rt_rga.proofs.Appending.{drafts_append}
 use Rattle.rt_rga.proofs.Corollaries.{cells_distinct, cells_older, root_absent}
 use Rattle.rt_rga.proofs.Final.{ends_final}
 use Rattle.rt_edits.specs.DraftLaws.{IsDocument}
-use Rattle.rt_edits.specs.Flat.{Flat, put_after}
+use Rattle.rt_edits.specs.DocValue.{DocValue, put_after}
 use Rattle.rt_edits.specs.Insertions.{new_state}
 use Rattle.rt_edits.specs.RemovalDrafts.{removal_drafts}
 use Rattle.rt_undo.specs.Actions.{Action, Removed}
@@ -41,7 +41,7 @@ use Rattle.rt_text.specs.declared.own_mark.OwnMark.TheVariants.{Current, Insert}
 use Rattle.rt_text.specs.Changes.{limits_after}
 use Rattle.rt_text.specs.Commands.{cell_check}
 use Rattle.rt_text.specs.Reversions.{own_reverted, reversion_check, view_reverted}
-use Rattle.rt_text.specs.Widgets.{AreWidgetsOf, Own, Viewed, limits_of, own_set, own_with_gravity}
+use Rattle.rt_text.specs.Widgets.{AreWidgetsOf, WidgetValue, ViewValue, limits_of, own_set, own_with_gravity}
 use Rattle.rt_views.specs.declared.choice.Choice.{Choice}
 use Rattle.rt_views.specs.declared.limits.Limits.{Limits}
 use Rattle.rt_views.specs.Choices.{limits_chosen}
@@ -54,11 +54,11 @@ use Rattle.rt_text.proofs.Growing.{Grows, GrowsTo, grows_drafts}
 use Rattle.rt_text.proofs.MarkLaws.{own_of_selecting}
 
 -- the limits of some widgets are in their order
-abbrev pub InOrder : List TaggedCell → List Own → Type 0
-InOrder cells widgets = AllByRecursion (AreInOrder cells) (map (λ (own : Own). own.limits) widgets)
+abbrev pub InOrder : List TaggedCell → List WidgetValue → Type 0
+InOrder cells widgets = AllByRecursion (AreInOrder cells) (map (λ (own : WidgetValue). own.limits) widgets)
 
 -- those of all widgets of a view
-abbrev pub HaveOrder : Viewed → Type 0
+abbrev pub HaveOrder : ViewValue → Type 0
 HaveOrder view = AllByRecursion (AreInOrder view.doc.cells) (limits_of view)
 
 -- WHILE A LOG GROWS
@@ -73,7 +73,7 @@ all_more old new [] h k grows o = tt
 all_more old new (l ∷ limits) h k grows o = (order_more old new l h k grows o.0, all_more old new limits h k grows o.1)
 
 -- of a view that is that of its log
-pub limits_more : (view new : Viewed) → IsHistory view.doc.log → view.doc.cells ≡ cells_of view.doc.log → IsHistory new.doc.log → new.doc.cells ≡ cells_of new.doc.log → GrowsTo view new
+pub limits_more : (view new : ViewValue) → IsHistory view.doc.log → view.doc.cells ≡ cells_of view.doc.log → IsHistory new.doc.log → new.doc.cells ≡ cells_of new.doc.log → GrowsTo view new
     → HaveOrder view → HaveOrder new
 limits_more view new h cells k more grows o =
     subst (λ (limits : List Limits). AllByRecursion (AreInOrder new.doc.cells) limits) (sym grows.limits)
@@ -81,11 +81,11 @@ limits_more view new h cells k more grows o =
     (all_more view.doc.log new.doc.log (limits_of view) h k grows.log
     (subst (λ (l : List TaggedCell). AllByRecursion (AreInOrder l) (limits_of view)) cells o)))
 
-pub order_same : (view new : Viewed) → new ≡ view → HaveOrder view → HaveOrder new
-order_same view new e o = subst (λ (v : Viewed). HaveOrder v) (sym e) o
+pub order_same : (view new : ViewValue) → new ≡ view → HaveOrder view → HaveOrder new
+order_same view new e o = subst (λ (v : ViewValue). HaveOrder v) (sym e) o
 
 -- of one that is made, or left as it is
-pub order_made : {T E : Type 0} (r : Result T E) (view made new : Viewed) → IsHistory view.doc.log → view.doc.cells ≡ cells_of view.doc.log → IsHistory new.doc.log → new.doc.cells ≡ cells_of new.doc.log
+pub order_made : {T E : Type 0} (r : Result T E) (view made new : ViewValue) → IsHistory view.doc.log → view.doc.cells ≡ cells_of view.doc.log → IsHistory new.doc.log → new.doc.cells ≡ cells_of new.doc.log
     → GrowsTo view made → OnOk r (new ≡ made) → OnErr r (new ≡ view) → HaveOrder view → HaveOrder new
 order_made (Ok x) view made new h cells k more grows is same o = limits_more view new h cells k more (subst (GrowsTo view) (sym is) grows) o
 order_made (Err e) view made new h cells k more grows is same o = order_same view new same o
@@ -188,24 +188,24 @@ all_order site log (action ∷ actions) r limits p h c l o =
     let few : next.doc.count ≤ GREATEST_COUNT = omega (arith, all_grow actions next, l) in
     all_order site log actions next limits p (action_step site log action r p h c.0 few) c.1 l (action_order site log action r limits p h c.0 few o)
 
-reversion_order : (site : ℕ) (log : List Operation) (flat : Flat) (group : List (Action (List Word))) (limits : Limits) → 0 < site → IsHistory log → IsDocument site log flat
+reversion_order : (site : ℕ) (log : List Operation) (flat : DocValue) (group : List (Action (List Word))) (limits : Limits) → 0 < site → IsHistory log → IsDocument site log flat
     → AreSound group → (reversion flat group).doc.count ≤ GREATEST_COUNT → AreInOrder flat.cells limits
     → AreInOrder (reversion flat group).doc.cells (limits_after (reversion flat group).returns limits)
 reversion_order site log flat group limits p h doc c l o =
     all_order site log (reverse group) (as_it_is flat) limits p (record { may = tt; history = h; document = doc; apart = tt; sound = tt }) (all_reversed IsSound group c) l o
 
 -- each widget's limits, in the view after a group was reverted
-reverted_order : (site : ℕ) (log : List Operation) (view : Viewed) (group : List (Action (List Word))) → 0 < site → IsHistory log → IsDocument site log view.doc
+reverted_order : (site : ℕ) (log : List Operation) (view : ViewValue) (group : List (Action (List Word))) → 0 < site → IsHistory log → IsDocument site log view.doc
     → AreSound group → (reversion view.doc group).doc.count ≤ GREATEST_COUNT → HaveOrder view → HaveOrder (view_reverted view group)
 reverted_order site log view group p h doc c l o = each (view.own ∷ view.others) o
   where
-    each : (widgets : List Own) → AllByRecursion (AreInOrder view.doc.cells) (map (λ (own : Own). own.limits) widgets)
-        → AllByRecursion (AreInOrder (reversion view.doc group).doc.cells) (map (λ (own : Own). own.limits) (map (own_reverted view.doc group) widgets))
+    each : (widgets : List WidgetValue) → AllByRecursion (AreInOrder view.doc.cells) (map (λ (own : WidgetValue). own.limits) widgets)
+        → AllByRecursion (AreInOrder (reversion view.doc group).doc.cells) (map (λ (own : WidgetValue). own.limits) (map (own_reverted view.doc group) widgets))
     each [] k = tt
     each (own ∷ widgets) k = (reversion_order site log view.doc group own.limits p h doc c l k.0, each widgets k.1)
 
 -- where the counts fit
-pub fits : (flat : Flat) (group : List (Action (List Word))) → reversion_check flat group ≡ None → (reversion flat group).doc.count ≤ GREATEST_COUNT
+pub fits : (flat : DocValue) (group : List (Action (List Word))) → reversion_check flat group ≡ None → (reversion flat group).doc.count ≤ GREATEST_COUNT
 fits flat group e = by (nat_lt GREATEST_COUNT count) refl e
   where
     count : ℕ
@@ -216,7 +216,7 @@ fits flat group e = by (nat_lt GREATEST_COUNT count) refl e
     by true lt f = absurd (cc f)
     by false lt f = ltb-false GREATEST_COUNT count lt
 
-pub order_reverted : {T E : Type 0} (r : Result T E) (view new : Viewed) (group : List (Action (List Word))) → 0 < view.doc.site → IsHistory view.doc.log → IsDocument view.doc.site view.doc.log view.doc
+pub order_reverted : {T E : Type 0} (r : Result T E) (view new : ViewValue) (group : List (Action (List Word))) → 0 < view.doc.site → IsHistory view.doc.log → IsDocument view.doc.site view.doc.log view.doc
     → AreSound group → OnOk r (new ≡ view_reverted view group) → OnOk r (reversion_check view.doc group ≡ None) → OnErr r (new ≡ view) → HaveOrder view → HaveOrder new
 order_reverted (Ok x) view new group p h doc sound is checked same o =
     order_same (view_reverted view group) new is (reverted_order view.doc.site view.doc.log view group p h doc sound (fits view.doc group checked) o)
@@ -224,7 +224,7 @@ order_reverted (Err e) view new group p h doc sound is checked same o = order_sa
 
 -- LIMITS THAT ARE ASKED FOR
 
-pub order_asked : (flat : Flat) (start end : Choice) (limits chosen : Limits) → IsHistory flat.log → IsDocument flat.site flat.log flat → AreInOrder flat.cells limits
+pub order_asked : (flat : DocValue) (start end : Choice) (limits chosen : Limits) → IsHistory flat.log → IsDocument flat.site flat.log flat → AreInOrder flat.cells limits
     → limits_chosen flat.cells start end limits ≡ Ok chosen → AreInOrder flat.cells chosen
 order_asked flat start end limits chosen h doc o e =
     order_chosen flat.cells start end limits chosen (subst (λ (cells : List TaggedCell). AreDistinct cells) (sym doc.cells) (cells_distinct flat.log h))
@@ -232,36 +232,36 @@ order_asked flat start end limits chosen h doc o e =
 
 -- WIDGETS
 
-pub order_append : (cells : List TaggedCell) (xs ys : List Own) → InOrder cells xs → InOrder cells ys → InOrder cells (xs ++ ys)
+pub order_append : (cells : List TaggedCell) (xs ys : List WidgetValue) → InOrder cells xs → InOrder cells ys → InOrder cells (xs ++ ys)
 order_append cells [] ys h k = k
 order_append cells (x ∷ xs) ys h k = (h.0, order_append cells xs ys h.1 k)
 
-pub order_at : (cells : List TaggedCell) (xs : List Own) (k : ℕ) (own : Own) → slice_get xs k ≡ Some own → InOrder cells xs → AreInOrder cells own.limits
+pub order_at : (cells : List TaggedCell) (xs : List WidgetValue) (k : ℕ) (own : WidgetValue) → slice_get xs k ≡ Some own → InOrder cells xs → AreInOrder cells own.limits
 order_at cells [] k own e h = absurd (cc e)
 order_at cells (x ∷ xs) zero own e h =
     let same : x ≡ own = cc e in
-    subst (λ (w : Own). AreInOrder cells w.limits) same h.0
+    subst (λ (w : WidgetValue). AreInOrder cells w.limits) same h.0
 order_at cells (x ∷ xs) (suc k) own e h = order_at cells xs k own e h.1
 
-pub order_set : (cells : List TaggedCell) (xs : List Own) (k : ℕ) (own : Own) → InOrder cells xs → AreInOrder cells own.limits → InOrder cells (set xs k own)
+pub order_set : (cells : List TaggedCell) (xs : List WidgetValue) (k : ℕ) (own : WidgetValue) → InOrder cells xs → AreInOrder cells own.limits → InOrder cells (set xs k own)
 order_set cells [] k own h o = tt
 order_set cells (x ∷ xs) zero own h o = (o, h.1)
 order_set cells (x ∷ xs) (suc k) own h o = (h.0, order_set cells xs k own h.1 o)
 
-pub order_removed : (cells : List TaggedCell) (xs : List Own) (k : ℕ) → InOrder cells xs → InOrder cells (remove xs k)
+pub order_removed : (cells : List TaggedCell) (xs : List WidgetValue) (k : ℕ) → InOrder cells xs → InOrder cells (remove xs k)
 order_removed cells [] zero h = tt
 order_removed cells [] (suc k) h = tt
 order_removed cells (x ∷ xs) zero h = h.1
 order_removed cells (x ∷ xs) (suc k) h = (h.0, order_removed cells xs k h.1)
 
-pub set_limits : (which : OwnMark) (place : ℕ) (own : Own) → (own_set which place own).limits ≡ own.limits
+pub set_limits : (which : OwnMark) (place : ℕ) (own : WidgetValue) → (own_set which place own).limits ≡ own.limits
 set_limits Insert place own = refl
 set_limits Current place own = refl
 
-pub gravity_limits : (which : OwnMark) (gravity : Gravity) (own : Own) → (own_with_gravity which gravity own).limits ≡ own.limits
+pub gravity_limits : (which : OwnMark) (gravity : Gravity) (own : WidgetValue) → (own_with_gravity which gravity own).limits ≡ own.limits
 gravity_limits Insert gravity own = refl
 gravity_limits Current gravity own = refl
 
 -- a widget that has selected other characters
-pub widgets_selecting : (cells : List TaggedCell) (own : Own) (others : List Own) (sel : List Stamp) → AreWidgetsOf cells own others → AreWidgetsOf cells (record own { sel = sel }) others
+pub widgets_selecting : (cells : List TaggedCell) (own : WidgetValue) (others : List WidgetValue) (sel : List Stamp) → AreWidgetsOf cells own others → AreWidgetsOf cells (record own { sel = sel }) others
 widgets_selecting cells own others sel h = record { own = own_of_selecting _ own sel h.own; others = h.others; limits = h.limits }

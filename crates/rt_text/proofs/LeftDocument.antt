@@ -16,7 +16,7 @@ use Rattle.rt_rga.specs.Histories.{IsHistory}
 use Rattle.rt_edits.specs.declared.range.Range.{Range}
 use Rattle.rt_edits.specs.Deletions.{Loss, without_places, without_text}
 use Rattle.rt_edits.specs.DraftLaws.{IsDocument}
-use Rattle.rt_edits.specs.Flat.{Flat}
+use Rattle.rt_edits.specs.DocValue.{DocValue}
 use Rattle.rt_edits.specs.Removals.{gone_at, is_removed}
 use Rattle.rt_edits.specs.TagWrites.{bared, tagged, with_tag}
 use Rattle.rt_edits.proofs.DeletionDraftLaws.{loss_history, loss_made}
@@ -29,7 +29,7 @@ use Rattle.rt_views.specs.Stretches.{part, stretch_of}
 use Rattle.rt_views.proofs.Shown.{stretch_shown}
 use Rattle.rt_views.proofs.Whole.{stretch_some, stretch_within}
 use Rattle.rt_text.specs.Replacements.{left_by}
-use Rattle.rt_text.specs.Widgets.{Own, Viewed, in_text, length_shown, stretch_by}
+use Rattle.rt_text.specs.Widgets.{WidgetValue, ViewValue, in_text, length_shown, stretch_by}
 use Rattle.rt_text.proofs.InsertedSides.{IsPlace, document_final}
 use Rattle.rt_text.proofs.LeftLines.{place_same}
 use Rattle.rt_text.proofs.LeftPlaces.{AreShown, stretch_gone}
@@ -47,15 +47,15 @@ plain_changed : (g : TaggedCell → TaggedCell) → ChangesState g → (cells : 
 plain_changed g h [] = refl
 plain_changed g h (c ∷ cs) = λ i. plain (h c i) ∷ plain_changed g h cs i
 
-plain_bared : (names : List Word) (flat : Flat) (stamp : Stamp) → map plain (bared flat stamp names).cells ≡ map plain flat.cells
+plain_bared : (names : List Word) (flat : DocValue) (stamp : Stamp) → map plain (bared flat stamp names).cells ≡ map plain flat.cells
 plain_bared [] flat stamp = refl
 plain_bared (name ∷ names) flat stamp =
     plain_bared names (with_tag flat name false (stamp ∷ [])) stamp
     ∙ plain_changed (tagged flat.site flat.count name false (stamp ∷ [])) (tagged_state flat.site flat.count name false (stamp ∷ [])) flat.cells
 
-plain_left : (flat : Flat) (loss : Loss) → map plain (without_text flat loss).cells ≡ map plain (gone_at loss.places 0 flat.cells)
+plain_left : (flat : DocValue) (loss : Loss) → map plain (without_text flat loss).cells ≡ map plain (gone_at loss.places 0 flat.cells)
 plain_left flat loss =
-    loss_has (λ (f : Flat). map plain f.cells ≡ map plain (gone_at loss.places 0 flat.cells)) flat loss refl (λ cell e. plain_bared (names_on cell.state) (without_places flat loss.places) cell.stamp)
+    loss_has (λ (f : DocValue). map plain f.cells ≡ map plain (gone_at loss.places 0 flat.cells)) flat loss refl (λ cell e. plain_bared (names_on cell.state) (without_places flat loss.places) cell.stamp)
 
 stretch_plain : (xs ys : List TaggedCell) (limits : Limits) → map plain xs ≡ map plain ys → stretch_of xs limits ≡ stretch_of ys limits
 stretch_plain xs ys limits e = sym (stretch_shown (λ _. 0) xs limits) ∙ ap (λ (l : List (Cell ℕ)). stretch_of l limits) e ∙ stretch_shown (λ _. 0) ys limits
@@ -71,14 +71,14 @@ first_false : (a b : Bool) → a ≡ false → (a && b) ≡ false
 first_false true b h = absurd (cc h)
 first_false false b h = refl
 
-module _ (flat : Flat) (own : Own) (others : List Own) (range : Range) (h : IsHistory flat.log) (doc : IsDocument flat.site flat.log flat) where
+module _ (flat : DocValue) (own : WidgetValue) (others : List WidgetValue) (range : Range) (h : IsHistory flat.log) (doc : IsDocument flat.site flat.log flat) where
   abbrev pub loss : Loss
   loss = loss_of flat own.limits (range ∷ [])
 
   abbrev pub stretch : Stretch
   stretch = stretch_of flat.cells own.limits
 
-  abbrev pub left : Viewed
+  abbrev pub left : ViewValue
   left = left_by (viewed flat own others) range
 
   final : EndsFinal flat.cells
@@ -152,7 +152,7 @@ module _ (flat : Flat) (own : Own) (others : List Own) (range : Range) (h : IsHi
   -- THE DOCUMENT THAT IS LEFT
 
   site_left : left.doc.site ≡ flat.site
-  site_left = ap (λ (f : Flat). f.site) (deletion_rest flat own.limits (range ∷ []))
+  site_left = ap (λ (f : DocValue). f.site) (deletion_rest flat own.limits (range ∷ []))
 
   pub is_place : (at : ℕ) → at ≡ min (stretch.begin + range.from) last_place → 0 < flat.site → (without_text flat loss).count ≤ GREATEST_COUNT → IsPlace left.doc left.own left.others (at - stretch.begin)
   is_place at e real fits =

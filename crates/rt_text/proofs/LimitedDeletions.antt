@@ -25,7 +25,7 @@ use Rattle.rt_rga.proofs.Requests.{all_count_on}
 use Rattle.rt_edits.specs.declared.range.Range.{Range}
 use Rattle.rt_edits.specs.Deletions.{Loss, delete_drafts, loss_in, without_places, without_text}
 use Rattle.rt_edits.specs.DraftLaws.{IsDocument, SparesLast}
-use Rattle.rt_edits.specs.Flat.{Flat, logged}
+use Rattle.rt_edits.specs.DocValue.{DocValue, logged}
 use Rattle.rt_edits.specs.Selections.{unselected}
 use Rattle.rt_edits.specs.TagWrites.{bared, tagged, with_tag}
 use Rattle.rt_edits.proofs.CharacterCounts.{loss_inserts_none}
@@ -39,7 +39,7 @@ use Rattle.rt_views.specs.Stretches.{part, stretch_of}
 use Rattle.rt_views.proofs.Parts.{part_length, part_map}
 use Rattle.rt_views.proofs.Shown.{stretch_shown}
 use Rattle.rt_views.proofs.Whole.{stretch_some, stretch_within}
-use Rattle.rt_text.specs.Widgets.{Own, AreSiteMarks, IsOwnOf, last_newline, own_left, reselected}
+use Rattle.rt_text.specs.Widgets.{WidgetValue, AreSiteMarks, IsOwnOf, last_newline, own_left, reselected}
 use Rattle.rt_text.specs.Commands.{clock_check, without_ranges}
 use Rattle.rt_text.proofs.MadeDocument.{seen, seen_made, counts_alone, clock_fits}
 use Rattle.rt_text.proofs.ViewLaws.{viewed}
@@ -53,7 +53,7 @@ abbrev pub last_gone : Stamp → Bool → List Stamp → List Stamp
 last_gone last held selection = cond held (unselected (last ∷ []) selection) selection
 
 -- a widget after a deletion
-abbrev pub widget_left : (ℕ → Bool) → Stamp → Bool → Own → Own
+abbrev pub widget_left : (ℕ → Bool) → Stamp → Bool → WidgetValue → WidgetValue
 widget_left removed last held own = reselected (last_gone last held) (own_left removed own)
 
 -- WHAT IS SHOWN
@@ -66,7 +66,7 @@ pub text_kept : (table : TagStates) (kept : List (Cell ℕ)) (cells : List Tagge
 text_kept table kept cells e = sym (text_shown (state_at table) kept) ∙ ap text_of e
 
 -- what a deletion of ranges takes of a stretch, by the whole text
-pub loss_kept : (table : TagStates) (kept : List (Cell ℕ)) (flat : Flat) (limits : Limits) (stretch : Stretch) (ranges : List Range) → map (shown table) kept ≡ flat.cells → stretch ≡ stretch_of kept limits
+pub loss_kept : (table : TagStates) (kept : List (Cell ℕ)) (flat : DocValue) (limits : Limits) (stretch : Stretch) (ranges : List Range) → map (shown table) kept ≡ flat.cells → stretch ≡ stretch_of kept limits
     → loss_in (part stretch (text_of kept)) stretch.begin ranges ≡ loss_in (map (λ cell. cell.ch) (part (stretch_of flat.cells limits) (visible_of flat.cells))) (stretch_of flat.cells limits).begin ranges
 loss_kept table kept flat limits stretch ranges e s =
     let same : stretch ≡ stretch_of flat.cells limits = s ∙ stretch_kept table kept flat.cells limits e in
@@ -74,7 +74,7 @@ loss_kept table kept flat limits stretch ranges e s =
     ∙ ap (λ t. loss_in t (stretch_of flat.cells limits).begin ranges) (sym (part_map (λ (cell : TaggedCell). cell.ch) (stretch_of flat.cells limits) (visible_of flat.cells)))
 
 -- the stamp of the last character
-pub last_kept : (table : TagStates) (kept : List (Cell ℕ)) (flat : Flat) (own : Own) (others : List Own) (stretch : Stretch) (cell : Cell ℕ) → map (shown table) kept ≡ flat.cells → stretch ≡ stretch_of kept own.limits
+pub last_kept : (table : TagStates) (kept : List (Cell ℕ)) (flat : DocValue) (own : WidgetValue) (others : List WidgetValue) (stretch : Stretch) (cell : Cell ℕ) → map (shown table) kept ≡ flat.cells → stretch ≡ stretch_of kept own.limits
     → slice_get (visible_of kept) (stretch.end - 1) ≡ Some cell → cell.stamp ≡ last_newline (viewed flat own others)
 last_kept table kept flat own others stretch cell e s h =
     let same : stretch ≡ stretch_of flat.cells own.limits = s ∙ stretch_kept table kept flat.cells own.limits e in
@@ -85,41 +85,41 @@ last_kept table kept flat own others stretch cell e s h =
 -- WHAT A DELETION LEAVES
 
 -- tags that are taken off a character leave all but cells and count
-bared_rest : (names : List Word) (flat : Flat) (stamp : Stamp) → bared flat stamp names ≡ record flat { cells = (bared flat stamp names).cells; count = (bared flat stamp names).count }
+bared_rest : (names : List Word) (flat : DocValue) (stamp : Stamp) → bared flat stamp names ≡ record flat { cells = (bared flat stamp names).cells; count = (bared flat stamp names).count }
 bared_rest [] flat stamp = refl
 bared_rest (name ∷ names) flat stamp = bared_rest names (with_tag flat name false (stamp ∷ [])) stamp
 
-bared_text : (names : List Word) (flat : Flat) (stamp : Stamp) → text_of (bared flat stamp names).cells ≡ text_of flat.cells
+bared_text : (names : List Word) (flat : DocValue) (stamp : Stamp) → text_of (bared flat stamp names).cells ≡ text_of flat.cells
 bared_text [] flat stamp = refl
 bared_text (name ∷ names) flat stamp =
     bared_text names (with_tag flat name false (stamp ∷ [])) stamp
     ∙ text_changed (tagged flat.site flat.count name false (stamp ∷ [])) (tagged_state flat.site flat.count name false (stamp ∷ [])) flat.cells
 
 -- what a deletion of ranges of what is shown takes
-abbrev pub loss_of : Flat → Limits → List Range → Loss
+abbrev pub loss_of : DocValue → Limits → List Range → Loss
 loss_of flat limits ranges = loss_in (map (λ cell. cell.ch) (part (stretch_of flat.cells limits) (visible_of flat.cells))) (stretch_of flat.cells limits).begin ranges
 
-module _ (flat : Flat) (limits : Limits) (ranges : List Range) where
+module _ (flat : DocValue) (limits : Limits) (ranges : List Range) where
   abbrev pub drafts_of : List Body
   drafts_of = delete_drafts MOST_SPANS flat (loss_of flat limits ranges)
 
   abbrev removed_of : ℕ → Bool
   removed_of = (loss_of flat limits ranges).places
 
-  abbrev pub left_of : Flat
+  abbrev pub left_of : DocValue
   left_of = without_text flat (loss_of flat limits ranges)
 
   -- all but cells, count and marks
   pub deletion_rest : left_of ≡ record flat { cells = left_of.cells; count = left_of.count; marks = marks_left removed_of flat.marks }
   deletion_rest =
-      loss_has (λ (f : Flat). f ≡ record flat { cells = f.cells; count = f.count; marks = marks_left removed_of flat.marks }) flat (loss_of flat limits ranges) refl
+      loss_has (λ (f : DocValue). f ≡ record flat { cells = f.cells; count = f.count; marks = marks_left removed_of flat.marks }) flat (loss_of flat limits ranges) refl
       (λ cell e. bared_rest (names_on cell.state) (without_places flat removed_of) cell.stamp)
 
   -- how many characters are left
   pub deletion_length : length (text_of left_of.cells) ≡ place_left removed_of (length (text_of flat.cells))
   deletion_length =
       let n = length_gone removed_of flat.cells in
-      loss_has (λ (f : Flat). length (text_of f.cells) ≡ place_left removed_of (length (text_of flat.cells))) flat (loss_of flat limits ranges) n
+      loss_has (λ (f : DocValue). length (text_of f.cells) ≡ place_left removed_of (length (text_of flat.cells))) flat (loss_of flat limits ranges) n
       (λ cell e. ap length (bared_text (names_on cell.state) (without_places flat removed_of) cell.stamp) ∙ n)
 
   module _ (h : IsHistory flat.log) (doc : IsDocument flat.site flat.log flat) where
@@ -148,15 +148,15 @@ module _ (flat : Flat) (limits : Limits) (ranges : List Range) where
         → new.limit ≡ flat.limit → refusal_of flat.limit drafts_of flat.log ≡ None → length flat.cells ≤ flat.limit → ((p : ℕ) → removed p ≡ removed_of p) → marks ≡ marks_left removed flat.marks
         → seen new marks flat.tags ≡ logged flat drafts_of left_of
     deletion_seen positive new marks removed log cells site limit fits few places moved =
-        let edited : Flat = left_of in
+        let edited : DocValue = left_of in
         let count : edited.count ≤ GREATEST_COUNT = clock_fits edited.count (sym (deletion_refusal few) ∙ fits) in
-        let all : marks ≡ edited.marks = moved ∙ (λ i. marks_left (λ p. places p i) flat.marks) ∙ sym (ap (λ (f : Flat). f.marks) deletion_rest) in
-        let names : flat.tags ≡ edited.tags = sym (ap (λ (f : Flat). f.tags) deletion_rest) in
+        let all : marks ≡ edited.marks = moved ∙ (λ i. marks_left (λ p. places p i) flat.marks) ∙ sym (ap (λ (f : DocValue). f.marks) deletion_rest) in
+        let names : flat.tags ≡ edited.tags = sym (ap (λ (f : DocValue). f.tags) deletion_rest) in
         (λ i. seen new (all i) (names i))
-        ∙ seen_made flat edited drafts_of new log cells site limit (ap (λ (f : Flat). f.limit) deletion_rest) (loss_made flat.site flat.log flat (loss_of flat limits ranges) positive h doc spared count)
+        ∙ seen_made flat edited drafts_of new log cells site limit (ap (λ (f : DocValue). f.limit) deletion_rest) (loss_made flat.site flat.log flat (loss_of flat limits ranges) positive h doc spared count)
 
     -- the same of a widget's own, since the last newline stays
-    pub deletion_own : (own : Own) (removed : ℕ → Bool) → ((p : ℕ) → removed p ≡ removed_of p) → IsOwnOf (length (text_of flat.cells)) own
+    pub deletion_own : (own : WidgetValue) (removed : ℕ → Bool) → ((p : ℕ) → removed p ≡ removed_of p) → IsOwnOf (length (text_of flat.cells)) own
         → IsOwnOf (length (text_of left_of.cells)) (own_left removed own)
     deletion_own own removed places k =
         let n = length (text_of flat.cells) in
@@ -164,7 +164,7 @@ module _ (flat : Flat) (limits : Limits) (ranges : List Range) where
         (subst (IsOwnOf (place_left removed_of n)) (λ i. own_left (λ p. sym (places p) i) own) (own_of_left n removed_of own spared k))
 
     -- and of each other one's
-    pub deletion_others : (others : List Own) (removed : ℕ → Bool) (last : Stamp) (held : Bool) → ((p : ℕ) → removed p ≡ removed_of p) → AllByRecursion (IsOwnOf (length (text_of flat.cells))) others
+    pub deletion_others : (others : List WidgetValue) (removed : ℕ → Bool) (last : Stamp) (held : Bool) → ((p : ℕ) → removed p ≡ removed_of p) → AllByRecursion (IsOwnOf (length (text_of flat.cells))) others
         → AllByRecursion (IsOwnOf (length (text_of left_of.cells))) (map (widget_left removed last held) others)
     deletion_others others removed last held places all =
         each_by (IsOwnOf (length (text_of flat.cells))) (IsOwnOf (length (text_of left_of.cells))) (widget_left removed last held)
@@ -179,7 +179,7 @@ module _ (flat : Flat) (limits : Limits) (ranges : List Range) where
       subst (λ m. AreSiteMarks m marks) (sym deletion_length) (subst (AreSiteMarks (place_left removed_of n)) (sym all) (site_left n removed_of flat.marks h))
 
 -- the edit, by the places that go and whether the last newline is held
-pub deletion_edited : (flat : Flat) (own : Own) (others : List Own) (ranges : List Range) (doc : Flat) (removed : ℕ → Bool) (last : Stamp) (held : Bool) → doc ≡ logged flat (drafts_of flat own.limits ranges) (left_of flat own.limits ranges)
+pub deletion_edited : (flat : DocValue) (own : WidgetValue) (others : List WidgetValue) (ranges : List Range) (doc : DocValue) (removed : ℕ → Bool) (last : Stamp) (held : Bool) → doc ≡ logged flat (drafts_of flat own.limits ranges) (left_of flat own.limits ranges)
     → ((p : ℕ) → removed p ≡ (loss_of flat own.limits ranges).places p) → last ≡ last_newline (viewed flat own others) → held ≡ is_some (loss_of flat own.limits ranges).newline
     → without_ranges (viewed flat own others) ranges ≡ record { doc = doc; own = widget_left removed last held own; others = map (widget_left removed last held) others }
 deletion_edited flat own others ranges doc removed last held made places newest e =

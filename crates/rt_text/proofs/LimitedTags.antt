@@ -16,7 +16,7 @@ use Rattle.rt_tags.specs.States.{TagStates, state_at}
 use Rattle.rt_tags.specs.Tags.{sel}
 use Rattle.rt_edits.specs.declared.range.Range.{Range}
 use Rattle.rt_edits.specs.Deletions.{places_from}
-use Rattle.rt_edits.specs.Flat.{logged}
+use Rattle.rt_edits.specs.DocValue.{logged}
 use Rattle.rt_edits.specs.Removals.{is_covered, stamps_at}
 use Rattle.rt_edits.specs.Selections.{selection_with}
 use Rattle.rt_edits.specs.TagDrafts.{tag_drafts_at}
@@ -27,7 +27,7 @@ use Rattle.rt_views.specs.declared.stretch.Stretch.{Stretch}
 use Rattle.rt_views.specs.Stretches.{part, shown_part, stretch_of}
 use Rattle.rt_views.proofs.Parts.{part_get, part_length, part_map}
 use Rattle.rt_text.specs.Commands.{with_tag_in}
-use Rattle.rt_text.specs.Widgets.{Own, Viewed, length_shown, places_in_text, stretch_by}
+use Rattle.rt_text.specs.Widgets.{WidgetValue, ViewValue, length_shown, places_in_text, stretch_by}
 use Rattle.rt_text.proofs.LimitedDeletions.{stretch_kept}
 use Rattle.rt_text.proofs.PutLaws.{visible_same}
 
@@ -37,13 +37,13 @@ use Rattle.rt_text.proofs.PutLaws.{visible_same}
 pub shown_length : (cells : List TaggedCell) (stretch : Stretch) → stretch.end ≤ length (visible_of cells) → length (map (λ cell. cell.ch) (part stretch (visible_of cells))) ≡ stretch.end - stretch.begin
 shown_length cells stretch h = length-map (part stretch (visible_of cells)) (λ (cell : TaggedCell). cell.ch) ∙ part_length stretch (visible_of cells) h
 
-pub shown_size : (view : Viewed) (stretch : Stretch) → stretch ≡ stretch_by view → stretch.end ≤ length (text_of view.doc.cells) → stretch.end - stretch.begin ≡ length_shown view
+pub shown_size : (view : ViewValue) (stretch : Stretch) → stretch ≡ stretch_by view → stretch.end ≤ length (text_of view.doc.cells) → stretch.end - stretch.begin ≡ length_shown view
 shown_size view stretch s h =
     let within : stretch.end ≤ length (visible_of view.doc.cells) = omega (arith, h, length-map (visible_of view.doc.cells) (λ (cell : TaggedCell). cell.ch)) in
     (λ i. (s i).end - (s i).begin) ∙ sym (shown_length view.doc.cells (stretch_by view) (subst (λ (x : Stretch). x.end ≤ length (visible_of view.doc.cells)) s within))
 
 -- ranges of what is shown, as those of the text
-pub places_are : (view : Viewed) (ranges : List Range) (stretch : Stretch) (within : ℕ → Bool) → stretch ≡ stretch_by view → stretch.end ≤ length (visible_of view.doc.cells)
+pub places_are : (view : ViewValue) (ranges : List Range) (stretch : Stretch) (within : ℕ → Bool) → stretch ≡ stretch_by view → stretch.end ≤ length (visible_of view.doc.cells)
     → ((p : ℕ) → within p ≡ places_from stretch.begin (λ q. nat_lt q (stretch.end - stretch.begin) && is_covered ranges q) p) → (p : ℕ) → within p ≡ places_in_text view (is_covered ranges) p
 places_are view ranges stretch within s l h = λ p.
     let size : stretch.end - stretch.begin ≡ length_shown view =
@@ -59,21 +59,21 @@ stamps_kept table kept cells places e = sym (stamps_at_shown (state_at table) pl
 -- A TAG
 
 -- one that is written on the characters at some places
-abbrev tag_by : Viewed → Bool → Word → (ℕ → Bool) → Viewed
+abbrev tag_by : ViewValue → Bool → Word → (ℕ → Bool) → ViewValue
 tag_by view on name places =
     cond (bytes_eq name sel) (record view { own = record view.own { sel = selection_with on (stamps_at places 0 view.doc.cells) view.own.sel } })
     (record view { doc = logged view.doc (tag_drafts_at MOST_SPANS places on name view.doc.cells) (listed_if on name (with_tag_at view.doc places on name)) })
 
-tag_is : (view : Viewed) (on : Bool) (name : Word) (ranges : List Range) (within : ℕ → Bool) → ((p : ℕ) → within p ≡ places_in_text view (is_covered ranges) p)
+tag_is : (view : ViewValue) (on : Bool) (name : Word) (ranges : List Range) (within : ℕ → Bool) → ((p : ℕ) → within p ≡ places_in_text view (is_covered ranges) p)
     → with_tag_in view on name ranges ≡ tag_by view on name within
 tag_is view on name ranges within h = λ i. tag_by view on name (λ p. sym (h p) i)
 
 -- `sel`, and any other one
-pub tag_own : (view : Viewed) (on : Bool) (name : Word) (ranges : List Range) (within : ℕ → Bool) → ((p : ℕ) → within p ≡ places_in_text view (is_covered ranges) p) → bytes_eq name sel ≡ true
+pub tag_own : (view : ViewValue) (on : Bool) (name : Word) (ranges : List Range) (within : ℕ → Bool) → ((p : ℕ) → within p ≡ places_in_text view (is_covered ranges) p) → bytes_eq name sel ≡ true
     → with_tag_in view on name ranges ≡ record view { own = record view.own { sel = selection_with on (stamps_at within 0 view.doc.cells) view.own.sel } }
 tag_own view on name ranges within h named = tag_is view on name ranges within h ∙ cond-true (bytes_eq name sel) _ _ named
 
-pub tag_shared : (view : Viewed) (on : Bool) (name : Word) (ranges : List Range) (within : ℕ → Bool) → ((p : ℕ) → within p ≡ places_in_text view (is_covered ranges) p) → bytes_eq name sel ≡ false
+pub tag_shared : (view : ViewValue) (on : Bool) (name : Word) (ranges : List Range) (within : ℕ → Bool) → ((p : ℕ) → within p ≡ places_in_text view (is_covered ranges) p) → bytes_eq name sel ≡ false
     → with_tag_in view on name ranges
     ≡ record view { doc = logged view.doc (tag_drafts_at MOST_SPANS within on name view.doc.cells) (listed_if on name (with_tag_at view.doc within on name)) }
 tag_shared view on name ranges within h named = tag_is view on name ranges within h ∙ cond-false (bytes_eq name sel) _ _ named
@@ -81,7 +81,7 @@ tag_shared view on name ranges within h named = tag_is view on name ranges withi
 -- LOOK-UPS
 
 -- the next place that is shown whose character has a tag
-pub next_kept : (table : TagStates) (kept : List (Cell ℕ)) (cells : List TaggedCell) (limits : Limits) (stretch : Stretch) (stamps : List Stamp) (own : Own) (test : List Stamp → TaggedCell → Bool) (place : ℕ) → map (shown table) kept ≡ cells
+pub next_kept : (table : TagStates) (kept : List (Cell ℕ)) (cells : List TaggedCell) (limits : Limits) (stretch : Stretch) (stamps : List Stamp) (own : WidgetValue) (test : List Stamp → TaggedCell → Bool) (place : ℕ) → map (shown table) kept ≡ cells
     → stretch ≡ stretch_of kept limits → limits ≡ own.limits → stamps ≡ own.sel
     → next_place (λ cell. test stamps (shown table cell)) (part stretch (visible_of kept)) place ≡ next_place (test own.sel) (shown_part cells own.limits) place
 next_kept table kept cells limits stretch stamps own test place e s l n =
@@ -91,7 +91,7 @@ next_kept table kept cells limits stretch stamps own test place e s l n =
     ∙ (λ i. next_place (test (n i)) (part (same i) (visible_of (e i))) place)
 
 -- the greatest one below a place
-pub previous_kept : (table : TagStates) (kept : List (Cell ℕ)) (cells : List TaggedCell) (limits : Limits) (stretch : Stretch) (stamps : List Stamp) (own : Own) (test : List Stamp → TaggedCell → Bool) (place : ℕ) → map (shown table) kept ≡ cells
+pub previous_kept : (table : TagStates) (kept : List (Cell ℕ)) (cells : List TaggedCell) (limits : Limits) (stretch : Stretch) (stamps : List Stamp) (own : WidgetValue) (test : List Stamp → TaggedCell → Bool) (place : ℕ) → map (shown table) kept ≡ cells
     → stretch ≡ stretch_of kept limits → limits ≡ own.limits → stamps ≡ own.sel
     → previous_place (λ cell. test stamps (shown table cell)) (part stretch (visible_of kept)) place ≡ previous_place (test own.sel) (shown_part cells own.limits) place
 previous_kept table kept cells limits stretch stamps own test place e s l n =
@@ -102,7 +102,7 @@ previous_kept table kept cells limits stretch stamps own test place e s l n =
     ∙ (λ i. previous_place (test (n i)) (part (same i) (visible_of (e i))) place)
 
 -- a place that is shown is one of the text
-pub place_kept : (table : TagStates) (kept : List (Cell ℕ)) (cells : List TaggedCell) (limits : Limits) (stretch : Stretch) (own : Own) (place : ℕ) → map (shown table) kept ≡ cells → stretch ≡ stretch_of kept limits → limits ≡ own.limits
+pub place_kept : (table : TagStates) (kept : List (Cell ℕ)) (cells : List TaggedCell) (limits : Limits) (stretch : Stretch) (own : WidgetValue) (place : ℕ) → map (shown table) kept ≡ cells → stretch ≡ stretch_of kept limits → limits ≡ own.limits
     → stretch.end ≤ length (visible_of kept) → place < length (shown_part cells own.limits)
     → (place < stretch.end - stretch.begin) × (slice_get (shown_part cells own.limits) place ≡ slice_get (visible_of cells) (stretch.begin + place))
 place_kept table kept cells limits stretch own place e s l h within =

@@ -18,11 +18,11 @@ use Rattle.rt_rga.specs.Requests.{characters_in_all, last_count_after}
 use Rattle.rt_rga.proofs.Corollaries.{cells_written}
 use Rattle.rt_store.specs.Written.{AreWritten}
 use Rattle.rt_edits.specs.DraftLaws.{IsDocument}
-use Rattle.rt_edits.specs.Flat.{Flat, logged}
+use Rattle.rt_edits.specs.DocValue.{DocValue, logged}
 use Rattle.rt_text.specs.Commands.{clock_check, cell_check}
 
 -- what is seen of a replica, with marks and tags
-abbrev pub seen : ReplicaValue → List Mark → List Word → Flat
+abbrev pub seen : ReplicaValue → List Mark → List Word → DocValue
 seen replica marks tags = record {
   cells = replica.cells;
   site = replica.site;
@@ -34,7 +34,7 @@ seen replica marks tags = record {
 }
 
 -- what a replica has made is seen as the edited document, which is one of the larger log
-pub seen_made : (flat edited : Flat) (drafts : List Body) (new : ReplicaValue) → new.log ≡ with_drafts flat.site drafts flat.log → new.cells ≡ cells_of new.log → new.site ≡ flat.site → new.limit ≡ flat.limit
+pub seen_made : (flat edited : DocValue) (drafts : List Body) (new : ReplicaValue) → new.log ≡ with_drafts flat.site drafts flat.log → new.cells ≡ cells_of new.log → new.site ≡ flat.site → new.limit ≡ flat.limit
     → edited.limit ≡ flat.limit → IsDocument flat.site (with_drafts flat.site drafts flat.log) edited → seen new edited.marks edited.tags ≡ logged flat drafts edited
 seen_made flat edited drafts new log cells site limit same doc =
     λ i. record {
@@ -99,5 +99,5 @@ both_fit count limit cells e = by (nat_lt GREATEST_COUNT count) (nat_lt limit ce
 -- WRITES
 
 -- no write in a document that has the cells of a history is newer than its count
-pub document_written : (flat : Flat) → IsHistory flat.log → IsDocument flat.site flat.log flat → AreWritten flat.count flat.cells
+pub document_written : (flat : DocValue) → IsHistory flat.log → IsDocument flat.site flat.log flat → AreWritten flat.count flat.cells
 document_written flat history doc = subst (λ (p : _). p) (λ i. AreWritten (sym doc.count i) (sym doc.cells i)) (cells_written flat.log history)

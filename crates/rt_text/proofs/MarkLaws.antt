@@ -15,9 +15,9 @@ use Rattle.rt_stamps.specs.declared.limits.TheConstants.{MOST_NAME_BYTES}
 use Rattle.rt_stamps.specs.declared.stamp.Stamp.{Stamp}
 use Rattle.rt_store.specs.declared.cell.Cell.{Cell}
 use Rattle.rt_store.specs.Cells.{text_of, after_element}
-use Rattle.rt_edits.specs.Flat.{put_after}
+use Rattle.rt_edits.specs.DocValue.{put_after}
 use Rattle.rt_edits.specs.Removals.{gone_at, left_at}
-use Rattle.rt_text.specs.Widgets.{Own, IsOwnOf, IsSiteMark, AreSiteMarks, is_own, own_inserted, own_left}
+use Rattle.rt_text.specs.Widgets.{WidgetValue, IsOwnOf, IsSiteMark, AreSiteMarks, is_own, own_inserted, own_left}
 use Rattle.rt_edits.proofs.InsertedText.{text_append}
 use Rattle.rt_edits.proofs.RemovedText.{text_left}
 
@@ -62,7 +62,7 @@ site_inserted n place k [] s = tt
 site_inserted n place k (m ∷ marks) s =
     (record { place = moved_within n k m.place (is_moved_on place m.place m.gravity) s.0.place; name = s.0.name; other = s.0.other }, site_inserted n place k marks s.1)
 
-pub own_of_inserted : (n place k : ℕ) (own : Own) → IsOwnOf n own → IsOwnOf (n + k) (own_inserted place k own)
+pub own_of_inserted : (n place k : ℕ) (own : WidgetValue) → IsOwnOf n own → IsOwnOf (n + k) (own_inserted place k own)
 own_of_inserted n place k own h = record {
   insert = moved_before n k own.insert.place (is_moved_on place own.insert.place own.insert.gravity) h.insert;
   current = moved_within n k own.current.place (is_moved_on place own.current.place own.current.gravity) h.current;
@@ -116,7 +116,7 @@ site_left n removed marks s = each_in_order (IsSiteMark (place_left removed n)) 
     all (m ∷ marks) s = (record { place = place_rising removed m.place n s.0.place; name = s.0.name; other = s.0.other }, all marks s.1)
 
 -- where the last newline stays
-pub own_of_left : (n : ℕ) (removed : ℕ → Bool) (own : Own) → removed (n - 1) ≡ false → IsOwnOf n own → IsOwnOf (place_left removed n) (own_left removed own)
+pub own_of_left : (n : ℕ) (removed : ℕ → Bool) (own : WidgetValue) → removed (n - 1) ≡ false → IsOwnOf n own → IsOwnOf (place_left removed n) (own_left removed own)
 own_of_left zero removed own f h = absurd (omega (arith, h.insert))
 own_of_left (suc n) removed own f h =
     let last : suc n - 1 ≡ n = omega arith in
@@ -132,13 +132,13 @@ own_of_left (suc n) removed own f h =
 
 -- NOTHING IS REMOVED
 
-pub own_kept : (removed : ℕ → Bool) (own : Own) → ((p : ℕ) → removed p ≡ false) → own_left removed own ≡ own
+pub own_kept : (removed : ℕ → Bool) (own : WidgetValue) → ((p : ℕ) → removed p ≡ false) → own_left removed own ≡ own
 own_kept removed own h = λ i. record own { insert = record own.insert { place = place_kept removed h own.insert.place i }; current = record own.current { place = place_kept removed h own.current.place i } }
 
 -- SOMETHING ELSE IS SELECTED
 
 -- own marks stand where they stood
-pub own_of_selecting : (n : ℕ) (own : Own) (sel : List Stamp) → IsOwnOf n own → IsOwnOf n (record own { sel = sel })
+pub own_of_selecting : (n : ℕ) (own : WidgetValue) (sel : List Stamp) → IsOwnOf n own → IsOwnOf n (record own { sel = sel })
 own_of_selecting n own sel h = record { insert = h.insert; current = h.current; insert_name = h.insert_name; current_name = h.current_name }
 
 -- MARK COMMANDS

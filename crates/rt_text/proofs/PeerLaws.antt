@@ -8,7 +8,7 @@ use Rattle.rt_edits.specs.InsertionPlans.{selected_between}
 use Rattle.rt_edits.proofs.SelectionLaws.{same_here}
 use Rattle.rt_text.specs.declared.parts.Parts.{Parts}
 use Rattle.rt_text.specs.Parts.{own_in}
-use Rattle.rt_text.specs.Widgets.{IsOwnOf, Own, own_inserted, own_left, reselected, selections_of, with_selections}
+use Rattle.rt_text.specs.Widgets.{IsOwnOf, WidgetValue, own_inserted, own_left, reselected, selections_of, with_selections}
 use Rattle.rt_text.proofs.MarkLaws.{own_of_selecting}
 
 -- what a loop hasn't reached yet is as it was
@@ -16,12 +16,12 @@ pub rest_same : (xs ys : List Parts) (i : ℕ) (d : Parts) → i < length xs →
 rest_same xs ys i d lt len rest = same_here (λ (p : Parts). p) xs ys i d lt len rest
 
 -- what is so of each is so of each that a rule makes of them
-pub each_by : (P Q : Own → Type 0) (rule : Own → Own) → ((own : Own) → P own → Q (rule own)) → (widgets : List Own) → AllByRecursion P widgets → AllByRecursion Q (map rule widgets)
+pub each_by : (P Q : WidgetValue → Type 0) (rule : WidgetValue → WidgetValue) → ((own : WidgetValue) → P own → Q (rule own)) → (widgets : List WidgetValue) → AllByRecursion P widgets → AllByRecursion Q (map rule widgets)
 each_by P Q rule f [] h = tt
 each_by P Q rule f (own ∷ widgets) h = (f own h.0, each_by P Q rule f widgets h.1)
 
 -- they stand where they stood, whatever they have selected
-pub each_selecting : (n : ℕ) (selections : List (List Stamp)) (widgets : List Own) → AllByRecursion (IsOwnOf n) widgets → AllByRecursion (IsOwnOf n) (with_selections selections widgets)
+pub each_selecting : (n : ℕ) (selections : List (List Stamp)) (widgets : List WidgetValue) → AllByRecursion (IsOwnOf n) widgets → AllByRecursion (IsOwnOf n) (with_selections selections widgets)
 each_selecting n selections [] h = tt
 each_selecting n [] (own ∷ widgets) h = h
 each_selecting n (selection ∷ selections) (own ∷ widgets) h = (own_of_selecting n own selection h.0, each_selecting n selections widgets h.1)
@@ -35,25 +35,25 @@ each_room n k most (p ∷ others) f h =
 
 -- SELECTIONS
 
-abbrev pub selecting : Option Between → Own → Own
+abbrev pub selecting : Option Between → WidgetValue → WidgetValue
 selecting between own = reselected (selected_between between) own
 
-pub none_selecting : (widgets : List Own) → map (selecting None) widgets ≡ widgets
+pub none_selecting : (widgets : List WidgetValue) → map (selecting None) widgets ≡ widgets
 none_selecting [] = refl
 none_selecting (own ∷ widgets) = ap (λ l. own ∷ l) (none_selecting widgets)
 
 -- selected first and moved then, they are as moved and given their selections
-pub put_each : (place n : ℕ) (rule : List Stamp → List Stamp) (widgets : List Own) → map (own_inserted place n) (map (reselected rule) widgets)
+pub put_each : (place n : ℕ) (rule : List Stamp → List Stamp) (widgets : List WidgetValue) → map (own_inserted place n) (map (reselected rule) widgets)
     ≡ with_selections (map rule (selections_of widgets)) (map (own_inserted place n) widgets)
 put_each place n rule [] = refl
 put_each place n rule (own ∷ widgets) = ap (λ l. own_inserted place n (reselected rule own) ∷ l) (put_each place n rule widgets)
 
-pub leave_then : (removed : ℕ → Bool) (f : List Stamp → List Stamp) (widgets : List Own) → map (reselected f) (map (own_left removed) widgets) ≡ map (λ own. reselected f (own_left removed own)) widgets
+pub leave_then : (removed : ℕ → Bool) (f : List Stamp → List Stamp) (widgets : List WidgetValue) → map (reselected f) (map (own_left removed) widgets) ≡ map (λ own. reselected f (own_left removed own)) widgets
 leave_then removed f [] = refl
 leave_then removed f (own ∷ widgets) = ap (λ l. reselected f (own_left removed own) ∷ l) (leave_then removed f widgets)
 
 -- the same in the order of a replacement
-pub leave_last : (removed : ℕ → Bool) (f : List Stamp → List Stamp) (between : Option Between) (widgets : List Own) → map (own_left removed) (map (selecting between) (map (reselected f) widgets))
+pub leave_last : (removed : ℕ → Bool) (f : List Stamp → List Stamp) (between : Option Between) (widgets : List WidgetValue) → map (own_left removed) (map (selecting between) (map (reselected f) widgets))
     ≡ map (selecting between) (map (λ own. reselected f (own_left removed own)) widgets)
 leave_last removed f between [] = refl
 leave_last removed f between (own ∷ widgets) = ap (λ l. own_left removed (selecting between (reselected f own)) ∷ l) (leave_last removed f between widgets)

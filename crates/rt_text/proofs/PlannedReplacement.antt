@@ -21,7 +21,7 @@ use Rattle.rt_edits.specs.declared.inserting.Plan.{Plan}
 use Rattle.rt_edits.specs.declared.range.Range.{Range}
 use Rattle.rt_edits.specs.Deletions.{Loss, delete_drafts, loss_in, without_text}
 use Rattle.rt_edits.specs.DraftLaws.{IsDocument}
-use Rattle.rt_edits.specs.Flat.{Flat}
+use Rattle.rt_edits.specs.DocValue.{DocValue}
 use Rattle.rt_edits.specs.InsertionDrafts.{insertion_drafts}
 use Rattle.rt_edits.specs.InsertionPlans.{Plans}
 use Rattle.rt_edits.specs.Insertions.{Insertion, Piece, insertion_of, left_neighbour, right_neighbour}
@@ -36,7 +36,7 @@ use Rattle.rt_views.specs.Stretches.{part, stretch_of}
 use Rattle.rt_text.specs.Commands.{none_inserted, right_behind, with_range_replaced}
 use Rattle.rt_text.specs.Neighbours.{are_sides_shown, limit_left, pieces_text}
 use Rattle.rt_text.specs.Replacements.{drafts_at, insertion_at, left_by, loss_at}
-use Rattle.rt_text.specs.Widgets.{Own, Viewed, length_shown, selections_of, shown_by}
+use Rattle.rt_text.specs.Widgets.{WidgetValue, ViewValue, length_shown, selections_of, shown_by}
 use Rattle.rt_text.proofs.InsertedSides.{place_kept_of}
 use Rattle.rt_text.proofs.LeftDocument.{begin_low, end_stays, place_is, within}
 use Rattle.rt_text.proofs.LeftDocument as leaving
@@ -52,7 +52,7 @@ pub few_visible : {T : Type 0} (cells : List (Cell T)) (limit : ℕ) → length 
 few_visible cells limit h k = omega (arith, text_within cells, length_text cells, h, k)
 
 -- the counts of a replacement are at least those of its deletion
-pub counts_grow : (view : Viewed) (range : Range) (pieces : List Piece) (rest : Word) → (without_text view.doc (loss_at view range)).count ≤ (with_range_replaced view range pieces rest).doc.count
+pub counts_grow : (view : ViewValue) (range : Range) (pieces : List Piece) (rest : Word) → (without_text view.doc (loss_at view range)).count ≤ (with_range_replaced view range pieces rest).doc.count
 counts_grow view range pieces rest =
     let left = left_by view range in
     let place = min range.from (length_shown left - 1) in
@@ -84,7 +84,7 @@ none_held b false o x e t = absurd (cc t)
 -- WHAT IS KEPT OF A DOCUMENT
 
 -- a document, what is kept of it, and the stretch that a widget shows
-pub record IsKept (table : TagStates) (kept : List (Cell ℕ)) (flat : Flat) (own : Own) (stretch : Stretch) : Type 0 where
+pub record IsKept (table : TagStates) (kept : List (Cell ℕ)) (flat : DocValue) (own : WidgetValue) (stretch : Stretch) : Type 0 where
   pub cells : map (shown table) kept ≡ flat.cells
   pub history : IsHistory flat.log
   pub document : IsDocument flat.site flat.log flat
@@ -93,7 +93,7 @@ pub record IsKept (table : TagStates) (kept : List (Cell ℕ)) (flat : Flat) (ow
   pub shows : stretch ≡ stretch_of kept own.limits
   pub known : AreNewlines flat.cells own.limits
 
-module _ (table : TagStates) (kept : List (Cell ℕ)) (flat : Flat) (own : Own) (stretch : Stretch) (is : IsKept table kept flat own stretch) where
+module _ (table : TagStates) (kept : List (Cell ℕ)) (flat : DocValue) (own : WidgetValue) (stretch : Stretch) (is : IsKept table kept flat own stretch) where
   same_stretch : stretch ≡ stretch_of flat.cells own.limits
   same_stretch = is.shows ∙ stretch_kept table kept flat.cells own.limits is.cells
 
@@ -172,9 +172,9 @@ module _ (table : TagStates) (kept : List (Cell ℕ)) (flat : Flat) (own : Own) 
       pub right_is : r ≡ cond (are_sides_shown (limit_left (is_covered removed) kept limits.start) (limit_left (is_covered removed) kept limits.end) at (pieces_text pieces))
           (cond held None (right_neighbour (visible_of (gone_at (is_covered removed) 0 kept)) at)) None
 
-    module _ (others : List Own) (limits : Limits) (held : Bool) (place at : ℕ) (pieces : List Piece) (rest : Word) (before : Option (Cell ℕ)) (after : Stamp) (l r : Option (Cell ℕ))
+    module _ (others : List WidgetValue) (limits : Limits) (held : Bool) (place at : ℕ) (pieces : List Piece) (rest : Word) (before : Option (Cell ℕ)) (after : Stamp) (l r : Option (Cell ℕ))
         (fits : (without_text flat lost).count ≤ GREATEST_COUNT) (beside : IsBeside limits held place at pieces before after l r) where
-      abbrev left : Viewed
+      abbrev left : ViewValue
       left = left_by (viewed flat own others) range
 
       is_held : held ≡ is_some lost.newline
@@ -221,7 +221,7 @@ module _ (table : TagStates) (kept : List (Cell ℕ)) (flat : Flat) (own : Own) 
         drafting x y z = insertion_drafts MOST_CHARACTERS site after (option_map (shown table) l) (option_map (shown table) r) pieces rest (record { cells = []; count = count; sel = x; others = y; tags = z })
 
         site_is : site ≡ left.doc.site
-        site_is = s ∙ sym (ap (λ (f : Flat). f.site) (deletion_rest flat own.limits (range ∷ [])))
+        site_is = s ∙ sym (ap (λ (f : DocValue). f.site) (deletion_rest flat own.limits (range ∷ [])))
 
         inserting_is : inserting left.own.sel (selections_of left.others) left.doc.tags ≡ insertion_at left place pieces rest
         inserting_is =

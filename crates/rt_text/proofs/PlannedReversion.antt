@@ -13,7 +13,7 @@ use Rattle.rt_tags.specs.States.{TagStates}
 use Rattle.rt_tags.specs.Tags.{IsName}
 use Rattle.rt_rga.specs.Histories.{IsHistory}
 use Rattle.rt_edits.specs.DraftLaws.{IsDocument}
-use Rattle.rt_edits.specs.Flat.{Flat}
+use Rattle.rt_edits.specs.DocValue.{DocValue}
 use Rattle.rt_undo.specs.Actions.{Action}
 use Rattle.rt_revert.specs.declared.plan.Reversal.{Reversal}
 use Rattle.rt_revert.specs.PlannedGroups.{IsPlanOf}
@@ -22,14 +22,14 @@ use Rattle.rt_revert.specs.Reverting.{reversion}
 use Rattle.rt_revert.specs.ReversionLaws.{AreSound}
 use Rattle.rt_text.specs.Changes.{limits_after, own_after, own_renamed}
 use Rattle.rt_text.specs.Reversions.{own_reverted, reversion_check}
-use Rattle.rt_text.specs.Widgets.{IsOwnOf, Own}
+use Rattle.rt_text.specs.Widgets.{IsOwnOf, WidgetValue}
 use Rattle.rt_text.proofs.AcceptedDocument.{all_under, names_are}
 use Rattle.rt_text.proofs.ChangedMarks.{current_alone, insert_alone, still_limited, still_selected}
 use Rattle.rt_text.proofs.RevertedDocument.{IsReverted, head_or, only, own_stands, spent_check}
 
 -- why a group isn't planned
-pub not_planned : (states : TagStates) (store : List (Cell ℕ)) (number count : ℕ) (flat : Flat) (group : List (Action (List Word))) (fault : Fault) → IsOf states store number count flat
-    → (fault ≡ NoMemory) ⊎ ((fault ≡ ClockSpent) × ((f : Flat) → IsOf states store number count f → GREATEST_COUNT < (reversion f group).doc.count))
+pub not_planned : (states : TagStates) (store : List (Cell ℕ)) (number count : ℕ) (flat : DocValue) (group : List (Action (List Word))) (fault : Fault) → IsOf states store number count flat
+    → (fault ≡ NoMemory) ⊎ ((fault ≡ ClockSpent) × ((f : DocValue) → IsOf states store number count f → GREATEST_COUNT < (reversion f group).doc.count))
     → (fault ≡ NoMemory) ⊎ (reversion_check flat group ≡ Some fault)
 not_planned states store number count flat group fault is (inl e) = inl e
 not_planned states store number count flat group fault is (inr q) = inr (spent_check flat group (q.1 flat is) ∙ ap (λ x. Some x) (sym q.0))
@@ -40,16 +40,16 @@ names_planned plan h = all_under IsName (λ w. string_bytes w) plan.names.items 
 
 -- A plan on a document of a history: the states of a store's cells and those of the group's own table, the store's cells, a site, and
 -- a greatest count.
-pub record IsPlanned (states table : TagStates) (store : List (Cell ℕ)) (number count : ℕ) (flat : Flat) (group : List (Action (List Word))) (plan : Reversal) : Type 0 where
+pub record IsPlanned (states table : TagStates) (store : List (Cell ℕ)) (number count : ℕ) (flat : DocValue) (group : List (Action (List Word))) (plan : Reversal) : Type 0 where
   pub real : 0 < flat.site
   pub history : IsHistory flat.log
   pub document : IsDocument flat.site flat.log flat
   pub sound : AreSound group
   pub is : IsOf states store number count flat
-  pub plans : (f : Flat) → IsOf states store number count f → IsPlanOf table f group plan
-  pub fits : (f : Flat) → IsOf states store number count f → (reversion f group).doc.count ≤ GREATEST_COUNT
+  pub plans : (f : DocValue) → IsOf states store number count f → IsPlanOf table f group plan
+  pub fits : (f : DocValue) → IsOf states store number count f → (reversion f group).doc.count ≤ GREATEST_COUNT
 
-module _ (states table : TagStates) (store : List (Cell ℕ)) (number count : ℕ) (flat : Flat) (group : List (Action (List Word))) (plan : Reversal) (p : IsPlanned states table store number count flat group plan) where
+module _ (states table : TagStates) (store : List (Cell ℕ)) (number count : ℕ) (flat : DocValue) (group : List (Action (List Word))) (plan : Reversal) (p : IsPlanned states table store number count flat group plan) where
   pub planned : IsPlanOf table flat group plan
   planned = p.plans flat p.is
 
@@ -73,7 +73,7 @@ module _ (states table : TagStates) (store : List (Cell ℕ)) (number count : �
   }
 
   -- the changes move a widget's own marks, and what came back its limits, as the group that is reverted does
-  pub own_moved : (own : Own) → own_renamed plan.returns.items (own_after plan.changes.items own) ≡ own_reverted flat group own
+  pub own_moved : (own : WidgetValue) → own_renamed plan.returns.items (own_after plan.changes.items own) ≡ own_reverted flat group own
   own_moved own =
       let changes = plan.changes.items in
       let insert : (own_after changes own).insert ≡ (own_reverted flat group own).insert = ap (head_or own.insert) (sym (insert_alone changes own) ∙ (only_planned own.insert).marks) in
@@ -81,7 +81,7 @@ module _ (states table : TagStates) (store : List (Cell ℕ)) (number count : �
       λ k. record { insert = insert k; current = current k; sel = still_selected changes own k; limits = limits_after (planned.returns k) (still_limited changes own k) }
 
   -- and they stand in the text that is left
-  pub own_left_in : (own : Own) → IsOwnOf (length (text_of flat.cells)) own → IsOwnOf (length (text_of (reversion flat group).doc.cells)) (own_reverted flat group own)
+  pub own_left_in : (own : WidgetValue) → IsOwnOf (length (text_of flat.cells)) own → IsOwnOf (length (text_of (reversion flat group).doc.cells)) (own_reverted flat group own)
   own_left_in own h =
       own_stands flat group own reverts (only_reverts own.insert) (only_reverts own.current)
       (sym (only_planned own.insert).drafts ∙ planned.drafts) (sym (only_planned own.current).drafts ∙ planned.drafts) h

@@ -14,40 +14,40 @@ use Rattle.rt_store.specs.Cells.{after_element, map_state, visible_of}
 use Rattle.rt_tags.specs.States.{TagStates, state_at}
 use Rattle.rt_stamps.specs.Names.{name_check}
 use Rattle.rt_text.specs.Commands.{cell_check, clock_check, inserted, names_in, with_pieces_at}
-use Rattle.rt_edits.specs.Flat.{Flat, put_after}
+use Rattle.rt_edits.specs.DocValue.{DocValue, put_after}
 use Rattle.rt_store.specs.Shown.{TaggedCell, shown}
 use Rattle.rt_edits.specs.Insertions.{Piece}
-use Rattle.rt_text.specs.Widgets.{Viewed, length_shown, widget_of}
+use Rattle.rt_text.specs.Widgets.{ViewValue, length_shown, widget_of}
 use Rattle.rt_text.proofs.ReadyLaws.{first_none, first_some}
 use Rattle.rt_store.proofs.Shown.{visible_shown}
 
 -- THE COMMAND, BY ITS CHECKS
 
-abbrev pub late_checks : Flat → Viewed → List (Option Fault)
+abbrev pub late_checks : DocValue → ViewValue → List (Option Fault)
 late_checks flat edited = clock_check edited.doc.count ∷ cell_check flat.limit (length edited.doc.cells) ∷ []
 
 -- an edit by an outcome of its index
-abbrev at_index : Viewed → List Piece → Word → Result ℕ Fault → Viewed
+abbrev at_index : ViewValue → List Piece → Word → Result ℕ Fault → ViewValue
 at_index view pieces rest r = with_pieces_at view (min (result_unwrap_or r 0) (length_shown view - 1)) pieces rest
 
-abbrev by_index : Viewed → List Piece → Word → Result ℕ Fault → Result Viewed Fault
+abbrev by_index : ViewValue → List Piece → Word → Result ℕ Fault → Result ViewValue Fault
 by_index view pieces rest r =
     unless (first_of (map name_check (names_in pieces) ++ result_err r ∷ late_checks view.doc (at_index view pieces rest r))) (at_index view pieces rest r)
 
-pub refused_name : (view : Viewed) (index : Word) (pieces : List Piece) (rest : Word) (fault : Fault) → first_of (map name_check (names_in pieces)) ≡ Some fault
+pub refused_name : (view : ViewValue) (index : Word) (pieces : List Piece) (rest : Word) (fault : Fault) → first_of (map name_check (names_in pieces)) ≡ Some fault
     → inserted view index pieces rest ≡ Err fault
 refused_name view index pieces rest fault h =
     let r = index_of (widget_of view) index in
     ap (λ o. unless o (at_index view pieces rest r)) (first_some (map name_check (names_in pieces)) (result_err r ∷ late_checks view.doc (at_index view pieces rest r)) fault h)
 
-pub refused_index : (view : Viewed) (index : Word) (pieces : List Piece) (rest : Word) (fault : Fault) → first_of (map name_check (names_in pieces)) ≡ None
+pub refused_index : (view : ViewValue) (index : Word) (pieces : List Piece) (rest : Word) (fault : Fault) → first_of (map name_check (names_in pieces)) ≡ None
     → index_of (widget_of view) index ≡ Err fault → inserted view index pieces rest ≡ Err fault
 refused_index view index pieces rest fault h e =
     ap (by_index view pieces rest) e
     ∙ ap (λ o. unless o (at_index view pieces rest (Err fault))) (first_none (map name_check (names_in pieces)) (Some fault ∷ late_checks view.doc (at_index view pieces rest (Err fault))) h)
 
 -- where the names and the index are fine, the counts and the cells decide
-pub by_late_checks : (view : Viewed) (index : Word) (pieces : List Piece) (rest : Word) (found place : ℕ) → first_of (map name_check (names_in pieces)) ≡ None
+pub by_late_checks : (view : ViewValue) (index : Word) (pieces : List Piece) (rest : Word) (found place : ℕ) → first_of (map name_check (names_in pieces)) ≡ None
     → index_of (widget_of view) index ≡ Ok found → place ≡ min found (length_shown view - 1)
     → inserted view index pieces rest
     ≡ unless (first_of (late_checks view.doc (with_pieces_at view place pieces rest))) (with_pieces_at view place pieces rest)
@@ -68,7 +68,7 @@ put_length cells left new =
 
 -- THE COMMAND'S END
 
-pub done_by : (view : Viewed) (index : Word) (pieces : List Piece) (rest : Word) (found place : ℕ) (edited : Viewed) → first_of (map name_check (names_in pieces)) ≡ None
+pub done_by : (view : ViewValue) (index : Word) (pieces : List Piece) (rest : Word) (found place : ℕ) (edited : ViewValue) → first_of (map name_check (names_in pieces)) ≡ None
     → index_of (widget_of view) index ≡ Ok found → place ≡ min found (length_shown view - 1)
     → edited ≡ with_pieces_at view place pieces rest → first_of (late_checks view.doc edited) ≡ None → inserted view index pieces rest ≡ Ok edited
 done_by view index pieces rest found place edited h e p made checked =
@@ -76,7 +76,7 @@ done_by view index pieces rest found place edited h e p made checked =
     ∙ ap (λ x. unless (first_of (late_checks view.doc x)) x) (sym made)
     ∙ ap (λ o. unless o edited) checked
 
-pub late_refused : (view : Viewed) (index : Word) (pieces : List Piece) (rest : Word) (found place : ℕ) (fault : Fault) → first_of (map name_check (names_in pieces)) ≡ None
+pub late_refused : (view : ViewValue) (index : Word) (pieces : List Piece) (rest : Word) (found place : ℕ) (fault : Fault) → first_of (map name_check (names_in pieces)) ≡ None
     → index_of (widget_of view) index ≡ Ok found → place ≡ min found (length_shown view - 1)
     → first_of (late_checks view.doc (with_pieces_at view place pieces rest)) ≡ Some fault → inserted view index pieces rest ≡ Err fault
 late_refused view index pieces rest found place fault h e p k =
@@ -90,7 +90,7 @@ pub both_done : {A B C X : Type 0} (r : Result X Fault) → (A → B → C) → 
 both_done (Ok x) f a b = f a b
 both_done (Err fault) f a b = tt
 
-pub all_refused : (view : Viewed) (index : Word) (pieces : List Piece) (rest : Word) (found place : ℕ) (r : Result (Unit {0}) Fault) → first_of (map name_check (names_in pieces)) ≡ None
+pub all_refused : (view : ViewValue) (index : Word) (pieces : List Piece) (rest : Word) (found place : ℕ) (r : Result (Unit {0}) Fault) → first_of (map name_check (names_in pieces)) ≡ None
     → index_of (widget_of view) index ≡ Ok found → place ≡ min found (length_shown view - 1)
     → IfErr r (λ fault. (fault ≡ NoMemory) ⊎ (first_of (late_checks view.doc (with_pieces_at view place pieces rest)) ≡ Some fault)) → IfErr r (Refuses (inserted view index pieces rest))
 all_refused view index pieces rest found place (Ok x) h e p k = tt

@@ -9,22 +9,22 @@ use Rattle.rt_stamps.specs.Names.{name_check}
 use Rattle.rt_stamps.specs.Outcomes.{Refuses, first_of, unless}
 use Rattle.rt_stamps.specs.Words.{Word}
 use Rattle.rt_edits.specs.declared.range.Range.{Range}
-use Rattle.rt_edits.specs.Flat.{Flat}
+use Rattle.rt_edits.specs.DocValue.{DocValue}
 use Rattle.rt_edits.specs.Insertions.{Piece}
 use Rattle.rt_text.specs.Commands.{backwards_check, cell_check, clock_check, names_in, replaced, with_range_replaced}
 use Rattle.rt_text.specs.Index.{index_check, place_at_index}
-use Rattle.rt_text.specs.Widgets.{Viewed, widget_of}
+use Rattle.rt_text.specs.Widgets.{ViewValue, widget_of}
 use Rattle.rt_text.proofs.PutLaws.{late_checks}
 use Rattle.rt_text.proofs.ReadyLaws.{first_none, first_some}
 
 -- ANY EDIT OF A RANGE
 
 -- its outcome, by the checks of names, those of the two indices, and the range
-abbrev outcome : List (Option Fault) → Flat → (Range → Viewed) → Option Fault → Option Fault → Range → Result Viewed Fault
+abbrev outcome : List (Option Fault) → DocValue → (Range → ViewValue) → Option Fault → Option Fault → Range → Result ViewValue Fault
 outcome names flat edit i j range =
     unless (first_of (names ++ ((i ∷ j ∷ backwards_check range ∷ []) ++ (clock_check (edit range).doc.count ∷ cell_check flat.limit (length (edit range).doc.cells) ∷ [])))) (edit range)
 
-module _ (names : List (Option Fault)) (flat : Flat) (edit : Range → Viewed) where
+module _ (names : List (Option Fault)) (flat : DocValue) (edit : Range → ViewValue) where
   at_name : (i j : Option Fault) (range : Range) (fault : Fault) → first_of names ≡ Some fault → outcome names flat edit i j range ≡ Err fault
   at_name i j range fault h = ap (λ o. unless o (edit range)) (first_some names (i ∷ j ∷ backwards_check range ∷ late_checks flat (edit range)) fault h)
 
@@ -53,17 +53,17 @@ module _ (names : List (Option Fault)) (flat : Flat) (edit : Range → Viewed) w
           at_both ∙ ap (λ x. unless (first_of (x ∷ late_checks flat (edit (record { from = begin; to = end })))) (edit (record { from = begin; to = end }))) c
           ∙ ap (λ x. unless x (edit (record { from = begin; to = end }))) d
 
-      at_end : (new : Viewed) → backwards_check (record { from = begin; to = end }) ≡ None → new ≡ edit (record { from = begin; to = end }) → first_of (late_checks flat new) ≡ None
+      at_end : (new : ViewValue) → backwards_check (record { from = begin; to = end }) ≡ None → new ≡ edit (record { from = begin; to = end }) → first_of (late_checks flat new) ≡ None
           → outcome names flat edit i j (record { from = a; to = b }) ≡ Ok new
       at_end new c made checked = at_late None c (sym (ap (λ x. first_of (late_checks flat x)) made) ∙ checked) ∙ ap (λ x. Ok x) (sym made)
 
 -- THE COMMAND
 
-module _ (view : Viewed) (pieces : List Piece) (rest : Word) where
-  abbrev edited : Range → Viewed
+module _ (view : ViewValue) (pieces : List Piece) (rest : Word) where
+  abbrev edited : Range → ViewValue
   edited range = with_range_replaced view range pieces rest
 
-  abbrev by_checks : Word → Word → Result Viewed Fault
+  abbrev by_checks : Word → Word → Result ViewValue Fault
   by_checks from to =
       outcome (map name_check (names_in pieces)) view.doc edited (index_check (widget_of view) from) (index_check (widget_of view) to)
       (record { from = place_at_index (widget_of view) from; to = place_at_index (widget_of view) to })
@@ -115,7 +115,7 @@ module _ (view : Viewed) (pieces : List Piece) (rest : Word) where
           ∙ at_range (map name_check (names_in pieces)) view.doc edited h (index_check (widget_of view) from) (index_check (widget_of view) to)
           (place_at_index (widget_of view) from) (place_at_index (widget_of view) to) begin end from_fine to_fine from_at to_at fault b
 
-      pub done_as : (new : Viewed) → backwards_check range ≡ None → new ≡ edited range → first_of (late_checks view.doc new) ≡ None → replaced view from to pieces rest ≡ Ok new
+      pub done_as : (new : ViewValue) → backwards_check range ≡ None → new ≡ edited range → first_of (late_checks view.doc new) ≡ None → replaced view from to pieces rest ≡ Ok new
       done_as new b made checked =
           replaced_by from to
           ∙ at_end (map name_check (names_in pieces)) view.doc edited h (index_check (widget_of view) from) (index_check (widget_of view) to)

@@ -25,7 +25,7 @@ use Rattle.rt_edits.specs.declared.range.Range.{Range}
 use Rattle.rt_edits.specs.DeletionLaws.{IsPiece}
 use Rattle.rt_edits.specs.Deletions.{delete_drafts, without_text}
 use Rattle.rt_edits.specs.DraftLaws.{IsDocument, SparesLast}
-use Rattle.rt_edits.specs.Flat.{Flat, logged}
+use Rattle.rt_edits.specs.DocValue.{DocValue, logged}
 use Rattle.rt_edits.specs.InsertionPlans.{Plans}
 use Rattle.rt_edits.specs.Insertions.{Insertion, Piece}
 use Rattle.rt_edits.specs.Listed.{AreListed}
@@ -38,7 +38,7 @@ use Rattle.rt_text.specs.Commands.{cell_check, clock_check, with_pieces_at, with
 use Rattle.rt_text.specs.Kept.{IsDoc}
 use Rattle.rt_text.specs.Replacements.{left_by, loss_at}
 use Rattle.rt_views.specs.declared.stretch.Stretch.{Stretch}
-use Rattle.rt_text.specs.Widgets.{AreSiteMarks, IsOwnOf, Own, Viewed, begin_of, in_text, last_newline, length_shown, own_inserted, selections_of, with_selections}
+use Rattle.rt_text.specs.Widgets.{AreSiteMarks, IsOwnOf, WidgetValue, ViewValue, begin_of, in_text, last_newline, length_shown, own_inserted, selections_of, with_selections}
 use Rattle.rt_text.proofs.DeletionLaws.{deletion_listed}
 use Rattle.rt_text.proofs.InsertedDocument.{all_fit, kept_made, made_drafts, made_flat, made_is, made_new, may_make, names_given, others_made, own_made, put_made, refused_as}
 use Rattle.rt_text.proofs.InsertedSides.{IsPlace, at_text}
@@ -63,25 +63,25 @@ refused_behind limit site deletes more log none same =
     omega (arith, characters_append deletes more, none, same) in
     λ i. refusal_by limit (count i) (cells i)
 
-module _ (flat : Flat) (own : Own) (others : List Own) (range : Range) (h : IsHistory flat.log) (doc : IsDocument flat.site flat.log flat) (real : 0 < flat.site)
+module _ (flat : DocValue) (own : WidgetValue) (others : List WidgetValue) (range : Range) (h : IsHistory flat.log) (doc : IsDocument flat.site flat.log flat) (real : 0 < flat.site)
     (fits : (without_text flat (loss_at (viewed flat own others) range)).count ≤ GREATEST_COUNT) where
   abbrev deletes : List Body
   deletes = delete_drafts MOST_SPANS flat (loss_at (viewed flat own others) range)
 
-  abbrev pub rest_of : Viewed
+  abbrev pub rest_of : ViewValue
   rest_of = without_ranges (viewed flat own others) (range ∷ [])
 
   pub rest_site : rest_of.doc.site ≡ flat.site
-  rest_site = ap (λ (f : Flat). f.site) (deletion_rest flat own.limits (range ∷ []))
+  rest_site = ap (λ (f : DocValue). f.site) (deletion_rest flat own.limits (range ∷ []))
 
   pub rest_limit : rest_of.doc.limit ≡ flat.limit
-  rest_limit = ap (λ (f : Flat). f.limit) (deletion_rest flat own.limits (range ∷ []))
+  rest_limit = ap (λ (f : DocValue). f.limit) (deletion_rest flat own.limits (range ∷ []))
 
   pub rest_tags : rest_of.doc.tags ≡ flat.tags
-  rest_tags = ap (λ (f : Flat). f.tags) (deletion_rest flat own.limits (range ∷ []))
+  rest_tags = ap (λ (f : DocValue). f.tags) (deletion_rest flat own.limits (range ∷ []))
 
   pub rest_marks : rest_of.doc.marks ≡ marks_left (loss_at (viewed flat own others) range).places flat.marks
-  rest_marks = ap (λ (f : Flat). f.marks) (deletion_rest flat own.limits (range ∷ []))
+  rest_marks = ap (λ (f : DocValue). f.marks) (deletion_rest flat own.limits (range ∷ []))
 
   last_spared : SparesLast (loss_at (viewed flat own others) range).places (text_of flat.cells)
   last_spared = spared flat own.limits (range ∷ []) h doc
@@ -148,7 +148,7 @@ module _ (flat : Flat) (own : Own) (others : List Own) (range : Range) (h : IsHi
 -- THE WHOLE REPLACEMENT
 
 -- a replacement of a document of a history, where the counts of the deletion fit
-pub record IsReplacement (flat : Flat) (own : Own) (others : List Own) (range : Range) (place : ℕ) (pieces : List Piece) (rest : Word) : Type 0 where
+pub record IsReplacement (flat : DocValue) (own : WidgetValue) (others : List WidgetValue) (range : Range) (place : ℕ) (pieces : List Piece) (rest : Word) : Type 0 where
   pub history : IsHistory flat.log
   pub document : IsDocument flat.site flat.log flat
   pub real : 0 < flat.site
@@ -157,8 +157,8 @@ pub record IsReplacement (flat : Flat) (own : Own) (others : List Own) (range : 
   pub texts : All IsPiece pieces
   pub utf8 : IsUtf8 rest
 
-module _ (flat : Flat) (own : Own) (others : List Own) (range : Range) (place : ℕ) (pieces : List Piece) (rest : Word) (i : IsReplacement flat own others range place pieces rest) where
-  abbrev left : Viewed
+module _ (flat : DocValue) (own : WidgetValue) (others : List WidgetValue) (range : Range) (place : ℕ) (pieces : List Piece) (rest : Word) (i : IsReplacement flat own others range place pieces rest) where
+  abbrev left : ViewValue
   left = left_by (viewed flat own others) range
 
   -- the operations of the insertion, what it comes to, and the document after it but for its log
@@ -168,13 +168,13 @@ module _ (flat : Flat) (own : Own) (others : List Own) (range : Range) (place : 
   abbrev pub more_new : Insertion
   more_new = made_new left.doc left.own left.others place pieces rest
 
-  abbrev pub more_flat : Flat
+  abbrev pub more_flat : DocValue
   more_flat = made_flat left.doc left.own left.others place pieces rest
 
   abbrev all_drafts : List Body
   all_drafts = delete_drafts MOST_SPANS flat (loss_at (viewed flat own others) range) ++ more_drafts
 
-  abbrev edited : Viewed
+  abbrev edited : ViewValue
   edited = with_range_replaced (viewed flat own others) range pieces rest
 
   history_left : IsHistory left.doc.log

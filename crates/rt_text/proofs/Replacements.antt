@@ -29,7 +29,7 @@ use Rattle.rt_rga.proofs.Writes.{state_sorted}
 use Rattle.rt_edits.specs.declared.range.Range.{Range}
 use Rattle.rt_edits.specs.Deletions.{Loss, delete_drafts, newline_of, without_places, without_text}
 use Rattle.rt_edits.specs.DraftLaws.{IsDocument}
-use Rattle.rt_edits.specs.Flat.{Flat, left_of}
+use Rattle.rt_edits.specs.DocValue.{DocValue, left_of}
 use Rattle.rt_edits.specs.Insertions.{Insertion, Piece, insertion_of, left_neighbour, right_neighbour, with_pieces}
 use Rattle.rt_edits.specs.InsertionDrafts.{insertion_drafts}
 use Rattle.rt_edits.specs.RemovalDrafts.{removal_drafts}
@@ -46,7 +46,7 @@ use Rattle.rt_views.specs.Stretches.{part}
 use Rattle.rt_text.specs.Commands.{none_inserted, right_behind, stretch_with}
 use Rattle.rt_text.specs.Neighbours.{are_sides_shown, pieces_text}
 use Rattle.rt_text.specs.Replacements.{drafts_at, insertion_at}
-use Rattle.rt_text.specs.Widgets.{Own, Viewed, in_text, last_newline, selections_of, shown_by}
+use Rattle.rt_text.specs.Widgets.{WidgetValue, ViewValue, in_text, last_newline, selections_of, shown_by}
 use Rattle.rt_text.proofs.BareNewline.{IsBare, all_bare, bare_drafts, bare_insertion}
 use Rattle.rt_text.proofs.InsertedDocument.{drafts_are, new_is}
 use Rattle.rt_text.proofs.InsertedSides.{IsFound, IsPlace, IsRight, are_shown, document_below, left_there, right_is, right_there}
@@ -78,7 +78,7 @@ both_one : (xs ys : List Body) → AllByRecursion (λ draft. (n : ℕ) → last_
 both_one [] ys h k = k
 both_one (x ∷ xs) ys h k = (h.0, both_one xs ys h.1 k)
 
-delete_one : (flat : Flat) (loss : Loss) → AllByRecursion (λ draft. (n : ℕ) → last_of n draft ≡ n) (delete_drafts MOST_SPANS flat loss)
+delete_one : (flat : DocValue) (loss : Loss) → AllByRecursion (λ draft. (n : ℕ) → last_of n draft ≡ n) (delete_drafts MOST_SPANS flat loss)
 delete_one flat loss =
     both_one (removal_drafts MOST_SPANS loss.places flat.cells) _ (deletes_one (λ spans. Delete spans) _ (λ x n. refl)) (by (newline_of flat loss))
   where
@@ -86,7 +86,7 @@ delete_one flat loss =
     by None = tt
     by (Some cell) = deletes_one _ (names_on cell.state) (λ x n. refl)
 
-pub deletion_count : (flat : Flat) (loss : Loss) → IsHistory flat.log → IsDocument flat.site flat.log flat → (without_text flat loss).count ≡ flat.count + length (delete_drafts MOST_SPANS flat loss)
+pub deletion_count : (flat : DocValue) (loss : Loss) → IsHistory flat.log → IsDocument flat.site flat.log flat → (without_text flat loss).count ≡ flat.count + length (delete_drafts MOST_SPANS flat loss)
 deletion_count flat loss h doc =
     let drafts = delete_drafts MOST_SPANS flat loss in
     sym (loss_counted flat.site flat.log flat loss h doc) ∙ all_count_on flat.site drafts flat.log ∙ counted_one drafts (greatest_last_count flat.log) (delete_one flat loss)
@@ -140,7 +140,7 @@ element_left cells zero = refl
 element_left cells (suc p) = refl
 
 -- the left neighbour that is shown, by that of the text
-left_side : (flat : Flat) (own : Own) (others : List Own) (place : ℕ) (before : Option TaggedCell) → IsPlace flat own others place → before ≡ left_neighbour (visible_of flat.cells) (in_text (viewed flat own others) place)
+left_side : (flat : DocValue) (own : WidgetValue) (others : List WidgetValue) (place : ℕ) (before : Option TaggedCell) → IsPlace flat own others place → before ≡ left_neighbour (visible_of flat.cells) (in_text (viewed flat own others) place)
     → cond (nat_eq place 0) None before ≡ left_neighbour (shown_by (viewed flat own others)) place
 left_side flat own others zero before is e = refl
 left_side flat own others (suc p) before is e =
@@ -158,7 +158,7 @@ none_kept stamp (s ∷ sel) = by (is_same stamp s) refl (none_kept stamp sel)
     by true e rest = rest
     by false e rest = or_from (is_same s stamp) _ (same_sym s stamp ∙ e) rest
 
-none_each : (removed : ℕ → Bool) (stamp : Stamp) (others : List Own) → AllByRecursion (λ selection. is_among selection stamp ≡ false) (selections_of (map (widget_left removed stamp true) others))
+none_each : (removed : ℕ → Bool) (stamp : Stamp) (others : List WidgetValue) → AllByRecursion (λ selection. is_among selection stamp ≡ false) (selections_of (map (widget_left removed stamp true) others))
 none_each removed stamp [] = tt
 none_each removed stamp (own ∷ others) = (none_kept stamp own.sel, none_each removed stamp others)
 
@@ -173,20 +173,20 @@ abbrev pub shown_in : List TaggedCell → Limits → ℕ → List Piece → Bool
 shown_in cells limits at pieces =
     are_sides_shown (option_and_then (place_of cells) limits.start) (option_and_then (place_of cells) limits.end) at (pieces_text pieces)
 
-module _ (flat : Flat) (own : Own) (others : List Own) (range : Range) (h : IsHistory flat.log) (doc : IsDocument flat.site flat.log flat) where
+module _ (flat : DocValue) (own : WidgetValue) (others : List WidgetValue) (range : Range) (h : IsHistory flat.log) (doc : IsDocument flat.site flat.log flat) where
   abbrev lost : Loss
   lost = loss flat own others range h doc
 
   abbrev shows : Stretch
   shows = stretch flat own others range h doc
 
-  abbrev after_all : Viewed
+  abbrev after_all : ViewValue
   after_all = left flat own others range h doc
 
   abbrev end_place : ℕ
   end_place = last_place flat own others range h doc
 
-  abbrev pub gone : Flat
+  abbrev pub gone : DocValue
   gone = without_places flat lost.places
 
   abbrev shown_text : List ℕ
@@ -264,7 +264,7 @@ module _ (flat : Flat) (own : Own) (others : List Own) (range : Range) (h : IsHi
     between_plain : (before : Option TaggedCell) (after : Stamp) (l r : Option TaggedCell) → is_some lost.newline ≡ false → before ≡ left_neighbour (visible_of gone.cells) at → l ≡ cond (nat_eq place 0) None before
         → after ≡ unwrap_or (option_map (λ cell. cell.stamp) before) ROOT → r ≡ cond (shown_in gone.cells own.limits at pieces) (right_neighbour (visible_of gone.cells) at) None → IsBetween pieces rest place after l r
     between_plain before after l r e a b c d =
-        let same : gone.cells ≡ after_all.doc.cells = ap (λ (f : Flat). f.cells) (sym (left_plain e)) in
+        let same : gone.cells ≡ after_all.doc.cells = ap (λ (f : DocValue). f.cells) (sym (left_plain e)) in
         let near : before ≡ left_neighbour (visible_of after_all.doc.cells) (in_text after_all place) = a ∙ (λ i. left_neighbour (visible_of (same i)) (sym in_left i)) in
         let next : r ≡ cond (are_shown after_all.doc after_all.own.limits (in_text after_all place) pieces) (right_neighbour (shown_by after_all) place) None =
         d ∙ (λ i. cond (shown_in (same i) own.limits (sym in_left i) pieces) (slice_get (visible_of (same i)) (sym in_left i)) None)
@@ -350,7 +350,7 @@ module _ (flat : Flat) (own : Own) (others : List Own) (range : Range) (h : IsHi
         let where_at : at ≡ end_place = omega (arith, here, low) in
         let count : length (visible_of first) ≡ at = seen_left.before ∙ sym where_at in
         let few : at ≤ length (visible_of first) = omega (arith, count) in
-        let cells : after_all.doc.cells ≡ first ++ new ∷ later = ap (λ (f : Flat). f.cells) (left_held e) ∙ bare.1.is in
+        let cells : after_all.doc.cells ≡ first ++ new ∷ later = ap (λ (f : DocValue). f.cells) (left_held e) ∙ bare.1.is in
         let seen : visible_of after_all.doc.cells ≡ visible_of first ++ new ∷ visible_of later = ap (λ (x : List TaggedCell). visible_of x) cells ∙ visible_middle first new later (bare.1.gone ∙ seen_left.there) in
         let was : visible_of gone.cells ≡ visible_of first ++ cell ∷ visible_of later = ap (λ (x : List TaggedCell). visible_of x) split_left ∙ visible_middle first cell later seen_left.there in
         let near : before ≡ left_neighbour (visible_of after_all.doc.cells) (in_text after_all place) =

@@ -35,7 +35,7 @@ use Rattle.rt_rga.proofs.Corollaries.{cells_have, character_count}
 use Rattle.rt_rga.proofs.Requests.{all_count_on}
 use Rattle.rt_edits.specs.Deletions.{without_places}
 use Rattle.rt_edits.specs.DraftLaws.{AreTagNames, IsDocument, SparesLast}
-use Rattle.rt_edits.specs.Flat.{Flat}
+use Rattle.rt_edits.specs.DocValue.{DocValue}
 use Rattle.rt_edits.specs.Insertions.{all_listed, inserts_for, tagged_cells}
 use Rattle.rt_edits.specs.Removals.{gone_at}
 use Rattle.rt_edits.proofs.CharacterCounts.{cells_length}
@@ -51,7 +51,7 @@ use Rattle.rt_revert.proofs.Steps.{reversion_made, reversion_may}
 use Rattle.rt_text.specs.Commands.{cell_check}
 use Rattle.rt_text.specs.Kept.{IsDoc}
 use Rattle.rt_text.specs.Reversions.{own_reverted, reversion_check}
-use Rattle.rt_text.specs.Widgets.{AreSiteMarks, IsOwnOf, Own, own_inserted, own_left}
+use Rattle.rt_text.specs.Widgets.{AreSiteMarks, IsOwnOf, WidgetValue, own_inserted, own_left}
 use Rattle.rt_text.proofs.AcceptedDocument.{names_are}
 use Rattle.rt_text.proofs.DeletionLaws.{listed_gone}
 use Rattle.rt_text.proofs.KeptDocument.{clock_spent}
@@ -72,7 +72,7 @@ which true b e f = refl
 which false b e f = let bad : ⊥ = cc in absurd bad
 
 -- no cell of a history but the final newline's is newer than its greatest count
-pub store_older : (table : TagStates) (store : List (Cell ℕ)) (flat : Flat) (count : ℕ) → map (shown table) store ≡ flat.cells → IsHistory flat.log → IsDocument flat.site flat.log flat → count ≡ flat.count
+pub store_older : (table : TagStates) (store : List (Cell ℕ)) (flat : DocValue) (count : ℕ) → map (shown table) store ≡ flat.cells → IsHistory flat.log → IsDocument flat.site flat.log flat → count ≡ flat.count
     → AreUpTo count store
 store_older table store flat count e history doc n =
     all_among (IsUpTo count) store
@@ -96,12 +96,12 @@ others_than_sel (name ∷ names) h =
 
 -- A CHARACTER THAT COMES BACK
 
-new_among : (flat : Flat) (tags : List Word) (ch : ℕ) → AreTagNames tags → All (IsAmong (all_listed tags flat.tags)) (tagged_cells flat.site flat.count tags (ch ∷ []))
+new_among : (flat : DocValue) (tags : List Word) (ch : ℕ) → AreTagNames tags → All (IsAmong (all_listed tags flat.tags)) (tagged_cells flat.site flat.count tags (ch ∷ []))
 new_among flat tags ch names =
     inserts_among (all_listed tags flat.tags) (inserts_for (length (ch ∷ []))) flat.site flat.count tags (ch ∷ []) (all_there tags flat.tags) (others_than_sel tags names.each)
 
 -- the text has one character more
-copy_length : (flat : Flat) (stamp : Stamp) (tags : List Word) (ch : ℕ) → AreTagNames tags → length (text_of (with_copy flat stamp tags ch).cells) ≡ length (text_of flat.cells) + 1
+copy_length : (flat : DocValue) (stamp : Stamp) (tags : List Word) (ch : ℕ) → AreTagNames tags → length (text_of (with_copy flat stamp tags ch).cells) ≡ length (text_of flat.cells) + 1
 copy_length flat stamp tags ch names =
     let text = ch ∷ [] in
     let new = tagged_cells flat.site flat.count tags text in
@@ -109,21 +109,21 @@ copy_length flat stamp tags ch names =
     length_put flat.cells stamp new ∙ ap (λ n. length (text_of flat.cells) + n) (text_among (all_listed tags flat.tags) new (new_among flat tags ch names) ∙ one)
 
 -- where marks move for it
-abbrev place_of : Flat → Stamp → ℕ
+abbrev place_of : DocValue → Stamp → ℕ
 place_of flat stamp = visible_before flat.cells (after_element flat.cells stamp)
 
 -- WHAT IS SO OF A DOCUMENT
 
-abbrev IsKept : Flat → Type 0
+abbrev IsKept : DocValue → Type 0
 IsKept flat = IsDoc flat.cells flat.marks flat.tags
 
-kept_goes : (flat : Flat) (removed : ℕ → Bool) → SparesLast removed (text_of flat.cells) → IsKept flat → IsKept (without_places flat removed)
+kept_goes : (flat : DocValue) (removed : ℕ → Bool) → SparesLast removed (text_of flat.cells) → IsKept flat → IsKept (without_places flat removed)
 kept_goes flat removed spared h = record {
   placed = subst (λ (n : ℕ). AreSiteMarks n (marks_left removed flat.marks)) (sym (length_gone removed flat.cells)) (site_left (length (text_of flat.cells)) removed flat.marks h.placed);
   listed = listed_gone flat.tags removed flat.cells h.listed;
 }
 
-kept_comes : (flat : Flat) (stamp : Stamp) (tags : List Word) (ch : ℕ) → AreTagNames tags → IsKept flat → IsKept (with_copy flat stamp tags ch)
+kept_comes : (flat : DocValue) (stamp : Stamp) (tags : List Word) (ch : ℕ) → AreTagNames tags → IsKept flat → IsKept (with_copy flat stamp tags ch)
 kept_comes flat stamp tags ch names h =
     let all = all_listed tags flat.tags in
     let more = listed_more flat.tags all flat.cells (λ n e. all_still n tags flat.tags e) (all_named tags flat.tags (names_are tags names.each) h.listed.names) h.listed in
@@ -135,41 +135,41 @@ kept_comes flat stamp tags ch names h =
 
 -- OWN MARKS
 
-own_goes : (flat : Flat) (removed : ℕ → Bool) (own : Own) → SparesLast removed (text_of flat.cells) → IsOwnOf (length (text_of flat.cells)) own
+own_goes : (flat : DocValue) (removed : ℕ → Bool) (own : WidgetValue) → SparesLast removed (text_of flat.cells) → IsOwnOf (length (text_of flat.cells)) own
     → IsOwnOf (length (text_of (gone_at removed 0 flat.cells))) (own_left removed own)
 own_goes flat removed own spared h =
     subst (λ (n : ℕ). IsOwnOf n (own_left removed own)) (sym (length_gone removed flat.cells)) (own_of_left (length (text_of flat.cells)) removed own spared h)
 
-own_comes : (flat : Flat) (stamp : Stamp) (tags : List Word) (ch : ℕ) (own : Own) → AreTagNames tags → IsOwnOf (length (text_of flat.cells)) own
+own_comes : (flat : DocValue) (stamp : Stamp) (tags : List Word) (ch : ℕ) (own : WidgetValue) → AreTagNames tags → IsOwnOf (length (text_of flat.cells)) own
     → IsOwnOf (length (text_of (with_copy flat stamp tags ch).cells)) (own_inserted (place_of flat stamp) 1 own)
 own_comes flat stamp tags ch own names h =
     subst (λ (n : ℕ). IsOwnOf n (own_inserted (place_of flat stamp) 1 own)) (sym (copy_length flat stamp tags ch names)) (own_of_inserted (length (text_of flat.cells)) (place_of flat stamp) 1 own h)
 
 -- the only mark of a document stands as the one of a widget does, as its insertion cursor, and as the mark that follows the mouse
-record HasInsert (flat : Flat) : Type 0 where
-  own : Own
+record HasInsert (flat : DocValue) : Type 0 where
+  own : WidgetValue
   alone : flat.marks ≡ own.insert ∷ []
   stands : IsOwnOf (length (text_of flat.cells)) own
 
-record HasCurrent (flat : Flat) : Type 0 where
-  own : Own
+record HasCurrent (flat : DocValue) : Type 0 where
+  own : WidgetValue
   alone : flat.marks ≡ own.current ∷ []
   stands : IsOwnOf (length (text_of flat.cells)) own
 
-insert_goes : (flat : Flat) (removed : ℕ → Bool) → SparesLast removed (text_of flat.cells) → HasInsert flat → HasInsert (without_places flat removed)
+insert_goes : (flat : DocValue) (removed : ℕ → Bool) → SparesLast removed (text_of flat.cells) → HasInsert flat → HasInsert (without_places flat removed)
 insert_goes flat removed spared h = record { own = own_left removed h.own; alone = ap (marks_left removed) h.alone; stands = own_goes flat removed h.own spared h.stands }
 
-insert_comes : (flat : Flat) (stamp : Stamp) (tags : List Word) (ch : ℕ) → AreTagNames tags → HasInsert flat → HasInsert (with_copy flat stamp tags ch)
+insert_comes : (flat : DocValue) (stamp : Stamp) (tags : List Word) (ch : ℕ) → AreTagNames tags → HasInsert flat → HasInsert (with_copy flat stamp tags ch)
 insert_comes flat stamp tags ch names h = record {
   own = own_inserted (place_of flat stamp) 1 h.own;
   alone = ap (marks_inserted (place_of flat stamp) 1) h.alone;
   stands = own_comes flat stamp tags ch h.own names h.stands;
 }
 
-current_goes : (flat : Flat) (removed : ℕ → Bool) → SparesLast removed (text_of flat.cells) → HasCurrent flat → HasCurrent (without_places flat removed)
+current_goes : (flat : DocValue) (removed : ℕ → Bool) → SparesLast removed (text_of flat.cells) → HasCurrent flat → HasCurrent (without_places flat removed)
 current_goes flat removed spared h = record { own = own_left removed h.own; alone = ap (marks_left removed) h.alone; stands = own_goes flat removed h.own spared h.stands }
 
-current_comes : (flat : Flat) (stamp : Stamp) (tags : List Word) (ch : ℕ) → AreTagNames tags → HasCurrent flat → HasCurrent (with_copy flat stamp tags ch)
+current_comes : (flat : DocValue) (stamp : Stamp) (tags : List Word) (ch : ℕ) → AreTagNames tags → HasCurrent flat → HasCurrent (with_copy flat stamp tags ch)
 current_comes flat stamp tags ch names h = record {
   own = own_inserted (place_of flat stamp) 1 h.own;
   alone = ap (marks_inserted (place_of flat stamp) 1) h.alone;
@@ -179,7 +179,7 @@ current_comes flat stamp tags ch names h = record {
 -- THE REVERSION
 
 -- a group that is reverted in a document of a history, where the counts fit
-pub record IsReverted (flat : Flat) (group : List (Action (List Word))) : Type 0 where
+pub record IsReverted (flat : DocValue) (group : List (Action (List Word))) : Type 0 where
   pub real : 0 < flat.site
   pub history : IsHistory flat.log
   pub document : IsDocument flat.site flat.log flat
@@ -187,16 +187,16 @@ pub record IsReverted (flat : Flat) (group : List (Action (List Word))) : Type 0
   pub fits : (reversion flat group).doc.count ≤ GREATEST_COUNT
 
 -- what is too much for the counts is refused
-pub spent_check : (flat : Flat) (group : List (Action (List Word))) → GREATEST_COUNT < (reversion flat group).doc.count → reversion_check flat group ≡ Some ClockSpent
+pub spent_check : (flat : DocValue) (group : List (Action (List Word))) → GREATEST_COUNT < (reversion flat group).doc.count → reversion_check flat group ≡ Some ClockSpent
 spent_check flat group h =
     let left = (reversion flat group).doc in
     ap (λ (o : Option Fault). first_of (o ∷ cell_check flat.limit (length left.cells) ∷ [])) (clock_spent left.count h)
 
-module _ (flat : Flat) (group : List (Action (List Word))) (i : IsReverted flat group) where
+module _ (flat : DocValue) (group : List (Action (List Word))) (i : IsReverted flat group) where
   abbrev drafts : List Body
   drafts = (reversion flat group).drafts
 
-  abbrev left : Flat
+  abbrev left : DocValue
   left = (reversion flat group).doc
 
   pub all_may : MayBeMade flat.site flat.log drafts
@@ -213,7 +213,7 @@ module _ (flat : Flat) (group : List (Action (List Word))) (i : IsReverted flat 
       refusal_is flat.limit drafts flat.log left.count (length left.cells) count cells
 
   left_limit : left.limit ≡ flat.limit
-  left_limit = reversion_keeps (λ (f : Flat). f.limit ≡ flat.limit) (λ f removed s h. h) (λ f stamp tags ch n h. h) flat.site flat.log flat group i.real i.history i.document i.sound i.fits refl
+  left_limit = reversion_keeps (λ (f : DocValue). f.limit ≡ flat.limit) (λ f removed s h. h) (λ f stamp tags ch n h. h) flat.site flat.log flat group i.real i.history i.document i.sound i.fits refl
 
   -- what the replica has then made
   pub left_seen : (new : ReplicaValue) → new.log ≡ with_drafts flat.site drafts flat.log → new.cells ≡ cells_of new.log → new.site ≡ flat.site → new.limit ≡ flat.limit
@@ -225,20 +225,20 @@ module _ (flat : Flat) (group : List (Action (List Word))) (i : IsReverted flat 
   left_kept kept = reversion_keeps IsKept kept_goes kept_comes flat.site flat.log flat group i.real i.history i.document i.sound i.fits kept
 
   -- where the only mark of a document is a widget's
-  insert_left : (own : Own) → flat.marks ≡ own.insert ∷ [] → IsOwnOf (length (text_of flat.cells)) own → HasInsert left
+  insert_left : (own : WidgetValue) → flat.marks ≡ own.insert ∷ [] → IsOwnOf (length (text_of flat.cells)) own → HasInsert left
   insert_left own alone stands =
       reversion_keeps HasInsert insert_goes insert_comes flat.site flat.log flat group i.real i.history i.document i.sound i.fits (record { own = own; alone = alone; stands = stands })
 
-  current_left : (own : Own) → flat.marks ≡ own.current ∷ [] → IsOwnOf (length (text_of flat.cells)) own → HasCurrent left
+  current_left : (own : WidgetValue) → flat.marks ≡ own.current ∷ [] → IsOwnOf (length (text_of flat.cells)) own → HasCurrent left
   current_left own alone stands =
       reversion_keeps HasCurrent current_goes current_comes flat.site flat.log flat group i.real i.history i.document i.sound i.fits (record { own = own; alone = alone; stands = stands })
 
 -- a document with a mark alone
-abbrev pub only : Flat → Mark → Flat
+abbrev pub only : DocValue → Mark → DocValue
 only flat m = record flat { marks = m ∷ [] }
 
 -- the same operations leave the same cells
-same_cells : (flat other : Flat) (group : List (Action (List Word))) → IsReverted flat group → IsReverted other group → other.site ≡ flat.site → other.log ≡ flat.log → (reversion other group).drafts ≡ (reversion flat group).drafts
+same_cells : (flat other : DocValue) (group : List (Action (List Word))) → IsReverted flat group → IsReverted other group → other.site ≡ flat.site → other.log ≡ flat.log → (reversion other group).drafts ≡ (reversion flat group).drafts
     → (reversion other group).doc.cells ≡ (reversion flat group).doc.cells
 same_cells flat other group i j site log e = (left_made other group j).cells ∙ (λ k. cells_of (with_drafts (site k) (e k) (log k))) ∙ sym (left_made flat group i).cells
 
@@ -247,7 +247,7 @@ abbrev pub head_or : Mark → List Mark → Mark
 head_or m marks = unwrap_or (slice_get marks 0) m
 
 -- a widget's own marks stand in the text that is left
-pub own_stands : (flat : Flat) (group : List (Action (List Word))) (own : Own) → IsReverted flat group → IsReverted (only flat own.insert) group → IsReverted (only flat own.current) group
+pub own_stands : (flat : DocValue) (group : List (Action (List Word))) (own : WidgetValue) → IsReverted flat group → IsReverted (only flat own.insert) group → IsReverted (only flat own.current) group
     → (reversion (only flat own.insert) group).drafts ≡ (reversion flat group).drafts → (reversion (only flat own.current) group).drafts ≡ (reversion flat group).drafts
     → IsOwnOf (length (text_of flat.cells)) own → IsOwnOf (length (text_of (reversion flat group).doc.cells)) (own_reverted flat group own)
 own_stands flat group own i ii ic ei ec h =

@@ -19,12 +19,12 @@ use Rattle.rt_tags.specs.Tags.{is_listed}
 use Rattle.rt_store.specs.Shown.{TaggedCell, shown}
 use Rattle.rt_text.specs.Proper.{ends_by, tag_by, ends_in}
 use Rattle.rt_text.specs.Grounds.{widget_over}
-use Rattle.rt_text.specs.Widgets.{Own, Viewed, is_tagged, is_tagged_in, length_shown, mark_among, mark_seen, marks_shown, own_mark_of, own_or, own_seen, own_shown, shown_by, stretch_by, tag_ends, tags_on, text_shown, widget_of}
+use Rattle.rt_text.specs.Widgets.{WidgetValue, ViewValue, is_tagged, is_tagged_in, length_shown, mark_among, mark_seen, marks_shown, own_mark_of, own_or, own_seen, own_shown, shown_by, stretch_by, tag_ends, tags_on, text_shown, widget_of}
 use Rattle.rt_views.specs.declared.stretch.Stretch.{Stretch}
 use Rattle.rt_views.specs.Stretches.{part, seen_place, stretch_of}
 use Rattle.rt_views.specs.declared.limits.Limits.{Limits}
 use Rattle.rt_views.proofs.Parts.{part_length, part_map}
-use Rattle.rt_edits.specs.Flat.{Flat}
+use Rattle.rt_edits.specs.DocValue.{DocValue}
 use Rattle.rt_store.proofs.Shown.{visible_shown, visible_at_shown, next_map, last_map}
 
 -- LOOK-UPS
@@ -34,7 +34,7 @@ pub part_shown : (table : TagStates) (stretch : Stretch) (kept : List (Cell ℕ)
 part_shown table stretch kept = ap (part stretch) (visible_shown (state_at table) kept) ∙ sym (part_map (shown table) stretch (visible_of kept))
 
 -- the next place whose character has a tag
-pub next_found : (table : TagStates) (kept : List (Cell ℕ)) (cells : List TaggedCell) (stretch : Stretch) (stamps : List Stamp) (own : Own) (test : List Stamp → TaggedCell → Bool) (place : ℕ)
+pub next_found : (table : TagStates) (kept : List (Cell ℕ)) (cells : List TaggedCell) (stretch : Stretch) (stamps : List Stamp) (own : WidgetValue) (test : List Stamp → TaggedCell → Bool) (place : ℕ)
     → map (shown table) kept ≡ cells → stamps ≡ own.sel
     → next_place (λ cell. test stamps (shown table cell)) (part stretch (visible_of kept)) place ≡ next_place (test own.sel) (part stretch (visible_of cells)) place
 next_found table kept cells stretch stamps own test place e s =
@@ -50,7 +50,7 @@ visible_given table kept place cell h e =
     subst p (get_or_from_slice_get (visible_of kept) place cell cell e) (all place cell (slice_get_within (visible_of kept) place cell e))
 
 -- the tags of a character
-pub tags_found : (table : TagStates) (kept : List (Cell ℕ)) (cells : List TaggedCell) (stamps : List Stamp) (own : Own) (tags names found : List Word) (place : ℕ) (cell : Cell ℕ)
+pub tags_found : (table : TagStates) (kept : List (Cell ℕ)) (cells : List TaggedCell) (stamps : List Stamp) (own : WidgetValue) (tags names found : List Word) (place : ℕ) (cell : Cell ℕ)
     → map (shown table) kept ≡ cells → stamps ≡ own.sel → slice_get (visible_of kept) place ≡ Some cell → names ≡ tags
     → found ≡ filter (λ name. is_tagged_in stamps name (shown table cell)) names
     → option_map (tags_on own tags) (slice_get (visible_of cells) place) ≡ Some found
@@ -120,7 +120,7 @@ last_is true None last e h = ap (option_map (λ q. q + 1)) (sym (h refl))
 last_is false next last e h = let bad : ⊥ = cc in absurd bad
 
 -- where a listed tag begins on a document's characters
-pub begins_by : (table : TagStates) (kept : List (Cell ℕ)) (stretch : Stretch) (marks : List Mark) (tags : List Word) (stamps : List Stamp) (own : Own) (name : Word) → stamps ≡ own.sel → is_listed name tags ≡ true
+pub begins_by : (table : TagStates) (kept : List (Cell ℕ)) (stretch : Stretch) (marks : List Mark) (tags : List Word) (stamps : List Stamp) (own : WidgetValue) (name : Word) → stamps ≡ own.sel → is_listed name tags ≡ true
     → next_place (λ cell. is_tagged_in stamps name (shown table cell)) (part stretch (visible_of kept)) 0 ≡ tag_first (widget_over stretch (map (shown table) kept) marks tags own) name
 begins_by table kept stretch marks tags stamps own name s h =
     let chars : List TaggedCell = part stretch (visible_of (map (shown table) kept)) in
@@ -128,7 +128,7 @@ begins_by table kept stretch marks tags stamps own name s h =
     ∙ sym (first_is (is_listed name tags) (next_place (is_tagged own name) chars 0) (last_place (is_tagged own name) chars) h (no_next (is_tagged own name) chars))
 
 -- and where it ends
-pub stops_by : (table : TagStates) (kept : List (Cell ℕ)) (stretch : Stretch) (marks : List Mark) (tags : List Word) (stamps : List Stamp) (own : Own) (name : Word) → stamps ≡ own.sel → is_listed name tags ≡ true
+pub stops_by : (table : TagStates) (kept : List (Cell ℕ)) (stretch : Stretch) (marks : List Mark) (tags : List Word) (stamps : List Stamp) (own : WidgetValue) (name : Word) → stamps ≡ own.sel → is_listed name tags ≡ true
     → option_map (λ q. q + 1) (last_place (λ cell. is_tagged_in stamps name (shown table cell)) (part stretch (visible_of kept))) ≡ tag_last (widget_over stretch (map (shown table) kept) marks tags own) name
 stops_by table kept stretch marks tags stamps own name s h =
     let chars : List TaggedCell = part stretch (visible_of (map (shown table) kept)) in
@@ -139,23 +139,23 @@ stops_by table kept stretch marks tags stamps own name s h =
 
 -- THE TEXT THAT A WIDGET SHOWS
 
-pub text_seen : (view : Viewed) → part (stretch_by view) (text_of view.doc.cells) ≡ text_shown view
+pub text_seen : (view : ViewValue) → part (stretch_by view) (text_of view.doc.cells) ≡ text_shown view
 text_seen view = sym (part_map (λ (cell : TaggedCell). cell.ch) (stretch_by view) (visible_of view.doc.cells))
 
 -- by the stretch of a store
-pub store_seen : (view : Viewed) (flat : Flat) (own : Own) (others : List Own) (limits : Limits) (stretch : Stretch) (t : List ℕ) → record { doc = flat; own = own; others = others } ≡ view → limits ≡ own.limits
+pub store_seen : (view : ViewValue) (flat : DocValue) (own : WidgetValue) (others : List WidgetValue) (limits : Limits) (stretch : Stretch) (t : List ℕ) → record { doc = flat; own = own; others = others } ≡ view → limits ≡ own.limits
     → stretch ≡ stretch_of flat.cells limits → t ≡ text_of flat.cells → part stretch t ≡ text_shown view
 store_seen view flat own others limits stretch t v l s e =
     (λ i. part (s i) (e i)) ∙ ap (λ limits. part (stretch_of flat.cells limits) (text_of flat.cells)) l ∙ text_seen (record { doc = flat; own = own; others = others }) ∙ ap text_shown v
 
 -- how long it is
-pub length_seen : (view : Viewed) → (stretch_by view).end ≤ length (text_of view.doc.cells) → length_shown view ≡ (stretch_by view).end - (stretch_by view).begin
+pub length_seen : (view : ViewValue) → (stretch_by view).end ≤ length (text_of view.doc.cells) → length_shown view ≡ (stretch_by view).end - (stretch_by view).begin
 length_seen view h = ap length (sym (text_seen view)) ∙ part_length (stretch_by view) (text_of view.doc.cells) h
 
 -- WHAT INDEX EXPRESSIONS SEE
 
 -- where a mark of the site is seen
-pub site_mark_seen : (stretch : Stretch) (own : Own) (marks : List Mark) (name : List ℕ) (o : Option ℕ) → None ≡ own_mark_of name → o ≡ option_map (λ (m : Mark). m.place) (named name marks)
+pub site_mark_seen : (stretch : Stretch) (own : WidgetValue) (marks : List Mark) (name : List ℕ) (o : Option ℕ) → None ≡ own_mark_of name → o ≡ option_map (λ (m : Mark). m.place) (named name marks)
     → option_map (seen_place stretch) o ≡ option_map (λ (m : Mark). m.place) (mark_among (own_seen stretch own) (map (mark_seen stretch) marks) name)
 site_mark_seen stretch own marks name o n e =
     ap (option_map (seen_place stretch)) e ∙ by (named name marks) ∙ ap (option_map (λ (m : Mark). m.place)) (sym (named_moved (λ m. seen_place stretch m.place) name marks))
@@ -166,7 +166,7 @@ site_mark_seen stretch own marks name o n e =
     by (Some m) = refl
 
 -- what index expressions see, by its parts
-pub ground_shown : (view : Viewed) (stretch : Stretch) (cells : List TaggedCell) (marks : List Mark) (tags : List Word) (own : Own) → stretch ≡ stretch_by view → cells ≡ view.doc.cells → marks ≡ view.doc.marks
+pub ground_shown : (view : ViewValue) (stretch : Stretch) (cells : List TaggedCell) (marks : List Mark) (tags : List Word) (own : WidgetValue) → stretch ≡ stretch_by view → cells ≡ view.doc.cells → marks ≡ view.doc.marks
     → tags ≡ view.doc.tags → own ≡ view.own → HaveOwnNames view.doc.marks → widget_over stretch cells marks tags own ≡ widget_of view
 ground_shown view stretch cells marks tags own s c m t o names =
     (λ i. widget_over (s i) (c i) (m i) (t i) (o i)) ∙ seen

@@ -15,7 +15,7 @@ use Rattle.rt_store.specs.Written.{AreBelowNext}
 use Rattle.rt_store.proofs.Distinct.{first_apart, others_distinct}
 use Rattle.rt_store.proofs.Finding.{place_found, stamp_held}
 use Rattle.rt_rga.proofs.PlacesAt.{position_at}
-use Rattle.rt_edits.specs.Flat.{left_of, put_after}
+use Rattle.rt_edits.specs.DocValue.{left_of, put_after}
 use Rattle.rt_edits.proofs.InsertedText.{text_inserted}
 use Rattle.rt_views.specs.declared.limits.Limits.{Limits}
 use Rattle.rt_views.specs.Limits.{first_line, is_gone, last_line, line_at, line_behind, place_of}

@@ -23,7 +23,7 @@ use Rattle.rt_rga.specs.Made.{refusal_of}
 use Rattle.rt_rga.specs.Requests.{MayBeMade, characters_in_all}
 use Rattle.rt_rga.proofs.Requests.{all_count_on}
 use Rattle.rt_edits.specs.DraftLaws.{IsDocument}
-use Rattle.rt_edits.specs.Flat.{Flat, logged}
+use Rattle.rt_edits.specs.DocValue.{DocValue, logged}
 use Rattle.rt_edits.specs.Listed.{AreListed}
 use Rattle.rt_edits.specs.TagDrafts.{deletion_drafts, tag_drafts_at, tags_drafts_at}
 use Rattle.rt_edits.specs.TagWrites.{with_tag_at, without_tags}
@@ -38,20 +38,20 @@ use Rattle.rt_text.specs.Widgets.{AreSiteMarks}
 use Rattle.rt_text.proofs.MadeDocument.{clock_fits, counts_alone, seen, seen_made}
 
 -- a document of a real site, within its limit of cells
-pub record IsOfSite (flat : Flat) : Type 0 where
+pub record IsOfSite (flat : DocValue) : Type 0 where
   pub history : IsHistory flat.log
   pub document : IsDocument flat.site flat.log flat
   pub site : 0 < flat.site
   pub few : length flat.cells ≤ flat.limit
 
 -- The operations of drafts, which may be made, leave an edited document, and are refused for their counts alone.
-pub record Makes (flat : Flat) (drafts : List Body) (edited : Flat) : Type 0 where
+pub record Makes (flat : DocValue) (drafts : List Body) (edited : DocValue) : Type 0 where
   pub may : MayBeMade flat.site flat.log drafts
   pub refused : refusal_of flat.limit drafts flat.log ≡ clock_check edited.count
   pub made : edited.count ≤ GREATEST_COUNT → IsDocument flat.site (with_drafts flat.site drafts flat.log) edited
 
 -- drafts that insert nothing, and are counted as the edited document is
-pub makes_by : (flat edited : Flat) (drafts : List Body) → IsOfSite flat → MayBeMade flat.site flat.log drafts → characters_in_all drafts ≡ 0 → greatest_last_count (with_drafts flat.site drafts flat.log) ≡ edited.count
+pub makes_by : (flat edited : DocValue) (drafts : List Body) → IsOfSite flat → MayBeMade flat.site flat.log drafts → characters_in_all drafts ≡ 0 → greatest_last_count (with_drafts flat.site drafts flat.log) ≡ edited.count
     → (edited.count ≤ GREATEST_COUNT → IsDocument flat.site (with_drafts flat.site drafts flat.log) edited) → Makes flat drafts edited
 makes_by flat edited drafts d may none count made = record {
   may = may;
@@ -62,11 +62,11 @@ makes_by flat edited drafts d may none count made = record {
 -- ONE TAG
 
 -- a document after a tag was put on some characters, or taken off, and is listed
-abbrev pub tagged_at : Flat → (ℕ → Bool) → Bool → Word → Flat
+abbrev pub tagged_at : DocValue → (ℕ → Bool) → Bool → Word → DocValue
 tagged_at flat places on name = let new = with_tag_at flat places on name in
     record flat { cells = new.cells; count = new.count; tags = cond on (with_name name flat.tags) flat.tags }
 
-pub tagged_makes : (flat : Flat) (places : ℕ → Bool) (on : Bool) (name : Word) → IsOfSite flat → is_name name ≡ true → Makes flat (tag_drafts_at MOST_SPANS places on name flat.cells) (tagged_at flat places on name)
+pub tagged_makes : (flat : DocValue) (places : ℕ → Bool) (on : Bool) (name : Word) → IsOfSite flat → is_name name ≡ true → Makes flat (tag_drafts_at MOST_SPANS places on name flat.cells) (tagged_at flat places on name)
 tagged_makes flat places on name d n =
     let one = tag_drafts_at MOST_SPANS places on name flat.cells in
     let same : tags_drafts_at MOST_SPANS flat places on (name ∷ []) ≡ one = append-nil one in
@@ -80,36 +80,36 @@ tagged_makes flat places on name d n =
 
 -- DELETED TAGS
 
-pub deleted_makes : (flat : Flat) (names : List Word) → IsOfSite flat → Makes flat (deletion_drafts MOST_SPANS flat names) (without_tags flat names)
+pub deleted_makes : (flat : DocValue) (names : List Word) → IsOfSite flat → Makes flat (deletion_drafts MOST_SPANS flat names) (without_tags flat names)
 deleted_makes flat names d =
     makes_by flat (without_tags flat names) (deletion_drafts MOST_SPANS flat names) d (deletions_may flat.site flat.log flat names d.history d.document) (deletions_insert_none names flat)
     (all_deletions_counted flat.site flat.log flat names d.history d.document) (deletions_made flat.site flat.log flat names d.site d.history d.document)
 
 -- a document that has a limit, marks and a text as before, and other tags
-pub record IsLeftOf (flat new : Flat) (names : List Word) : Type 0 where
+pub record IsLeftOf (flat new : DocValue) (names : List Word) : Type 0 where
   pub limit : new.limit ≡ flat.limit
   pub marks : new.marks ≡ flat.marks
   pub tags : new.tags ≡ names
   pub text : text_of new.cells ≡ text_of flat.cells
 
-left_in_turn : (names : List Word) (flat : Flat) → IsLeftOf flat (without_tags flat names) (forgotten_in_turn names flat.tags)
+left_in_turn : (names : List Word) (flat : DocValue) → IsLeftOf flat (without_tags flat names) (forgotten_in_turn names flat.tags)
 left_in_turn [] flat = record { limit = refl; marks = refl; tags = refl; text = refl }
 left_in_turn (name ∷ names) flat =
     let off = with_tag_at flat (λ _. true) false name in
-    let next : Flat = record off { tags = without name off.tags } in
+    let next : DocValue = record off { tags = without name off.tags } in
     let here = left_in_turn names flat in
     let there = left_in_turn names next in
     let less : IsLeftOf flat (without_tags next names) (forgotten_in_turn names (without name flat.tags)) =
     record { limit = there.limit; marks = there.marks; tags = there.tags; text = there.text ∙ tag_text flat (λ _. true) false name } in
     elim (bytes_eq name sel) as (λ b. IsLeftOf flat (without_tags (cond b flat next) names) (forgotten_in_turn names (cond b flat.tags (without name flat.tags)))) [ true ↦ here | false ↦ less ]
 
-pub left_of_deletion : (names : List Word) (flat : Flat) → IsLeftOf flat (without_tags flat names) (all_forgotten names flat.tags)
+pub left_of_deletion : (names : List Word) (flat : DocValue) → IsLeftOf flat (without_tags flat names) (all_forgotten names flat.tags)
 left_of_deletion names flat =
     let left = left_in_turn names flat in record { limit = left.limit; marks = left.marks; tags = left.tags ∙ in_turn names flat.tags; text = left.text }
 
 -- A REPLICA'S ANSWER
 
-module _ (flat edited : Flat) (drafts : List Body) (makes : Makes flat drafts edited) where
+module _ (flat edited : DocValue) (drafts : List Body) (makes : Makes flat drafts edited) where
   pub fits : refusal_of flat.limit drafts flat.log ≡ None → edited.count ≤ GREATEST_COUNT
   fits e = clock_fits edited.count (sym makes.refused ∙ e)
 
@@ -124,14 +124,14 @@ module _ (flat edited : Flat) (drafts : List Body) (makes : Makes flat drafts ed
   makes_seen new marks tags e log cells site limit m t l = (λ i. seen new (m i) (t i)) ∙ seen_made flat edited drafts new log cells site limit l (makes.made (fits e))
 
 -- marks and tags that are kept beside new cells with the same text
-pub kept_beside : (flat new : Flat) (marks : List Mark) → AreSiteMarks (length (text_of flat.cells)) marks → text_of new.cells ≡ text_of flat.cells → AreListed new.tags new.cells → IsDoc new.cells marks new.tags
+pub kept_beside : (flat new : DocValue) (marks : List Mark) → AreSiteMarks (length (text_of flat.cells)) marks → text_of new.cells ≡ text_of flat.cells → AreListed new.tags new.cells → IsDoc new.cells marks new.tags
 kept_beside flat new marks placed text listed = record {
   placed = subst (λ n. AreSiteMarks n marks) (sym (ap length text)) placed;
   listed = listed;
 }
 
 -- what is so of a document by its cells as they are kept
-pub of_site : (table : TagStates) (cells : List (Cell ℕ)) (flat : Flat) → IsHistory flat.log → IsDocument flat.site flat.log flat → 0 < flat.site → map (shown table) cells ≡ flat.cells → length cells ≤ flat.limit → IsOfSite flat
+pub of_site : (table : TagStates) (cells : List (Cell ℕ)) (flat : DocValue) → IsHistory flat.log → IsDocument flat.site flat.log flat → 0 < flat.site → map (shown table) cells ≡ flat.cells → length cells ≤ flat.limit → IsOfSite flat
 of_site table cells flat history document site e few = record {
   history = history;
   document = document;

@@ -1,8 +1,8 @@
 -- A document as a widget shows it.
 use Rattle.std.proofs.Common.{List}
-use Rattle.rt_edits.specs.Flat.{Flat}
-use Rattle.rt_text.specs.Widgets.{Own, Viewed}
+use Rattle.rt_edits.specs.DocValue.{DocValue}
+use Rattle.rt_text.specs.Widgets.{WidgetValue, ViewValue}
 
 -- a document on which a widget works, beside others
-abbrev pub viewed : Flat → Own → List Own → Viewed
+abbrev pub viewed : DocValue → WidgetValue → List WidgetValue → ViewValue
 viewed flat own others = record { doc = flat; own = own; others = others }

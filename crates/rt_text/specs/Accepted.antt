@@ -7,13 +7,13 @@ use Rattle.rt_rga.specs.Answers.{Answer, answer_within}
 use Rattle.rt_rga.specs.Cells.{cells_of}
 use Rattle.rt_rga.specs.Histories.{greatest_last_count, inserted}
 use Rattle.rt_rga.specs.Taken.{lists_of, place_in, takes_away}
-use Rattle.rt_edits.specs.Flat.{Flat}
+use Rattle.rt_edits.specs.DocValue.{DocValue}
 use Rattle.rt_edits.specs.Insertions.{all_listed}
-use Rattle.rt_text.specs.Widgets.{Own, Viewed, each_widget, own_inserted, own_left}
+use Rattle.rt_text.specs.Widgets.{WidgetValue, ViewValue, each_widget, own_inserted, own_left}
 
 -- A document with an operation that is new to it: the log gains it, and the cells are the log's. Marks move for the characters
 -- that it puts in and for those that it takes away, as they do for the site's own edits; the tags that it lists are listed.
-abbrev pub with_new : Operation → Flat → Flat
+abbrev pub with_new : Operation → DocValue → DocValue
 with_new op flat =
     let log = with_operation op flat.log in
     record flat {
@@ -25,13 +25,13 @@ with_new op flat =
     }
 
 -- the own marks of each widget move likewise; what it has selected stays so, and no new character is selected
-abbrev pub own_with_new : Operation → Flat → Own → Own
+abbrev pub own_with_new : Operation → DocValue → WidgetValue → WidgetValue
 own_with_new op flat own = own_left (takes_away op.body flat.cells) (own_inserted (place_in op flat.cells) (length (inserted op)) own)
 
 -- and a view of it
-abbrev pub view_with_new : Operation → Viewed → Viewed
+abbrev pub view_with_new : Operation → ViewValue → ViewValue
 view_with_new op view = each_widget (own_with_new op view.doc) (record view { doc = with_new op view.doc })
 
 -- what is answered to an operation that is offered to a document
-abbrev pub answer_of : Flat → Operation → Answer
+abbrev pub answer_of : DocValue → Operation → Answer
 answer_of flat op = answer_within flat.limit op flat.log

@@ -16,7 +16,7 @@ use Rattle.rt_store.specs.Shown.{TaggedCell}
 use Rattle.rt_tags.specs.Tags.{sel}
 use Rattle.rt_edits.specs.declared.range.Range.{Range}
 use Rattle.rt_edits.specs.Deletions.{delete_drafts, loss_in, without_text}
-use Rattle.rt_edits.specs.Flat.{left_of, logged, put_after}
+use Rattle.rt_edits.specs.DocValue.{left_of, logged, put_after}
 use Rattle.rt_edits.specs.InsertionDrafts.{insertion_drafts}
 use Rattle.rt_edits.specs.Insertions.{Insertion, Piece, insertion_of, left_neighbour, right_neighbour, with_pieces}
 use Rattle.rt_requests.specs.declared.comparison.Comparison.{Comparison}
@@ -31,7 +31,7 @@ use Rattle.rt_edits.specs.TagDrafts.{deletion_drafts, tag_drafts_at}
 use Rattle.rt_edits.specs.TagWrites.{listed_if, with_tag_at, without_tags}
 use Rattle.rt_views.specs.declared.stretch.Stretch.{Stretch}
 use Rattle.rt_views.specs.Stretches.{stretch_of}
-use Rattle.rt_text.specs.Widgets.{Viewed, begin_of, each_widget, in_text, last_newline, length_shown, own_inserted, own_left, places_in_text, reselected, selections_of, shown_by, text_shown, widget_of, with_selections}
+use Rattle.rt_text.specs.Widgets.{ViewValue, begin_of, each_widget, in_text, last_newline, length_shown, own_inserted, own_left, places_in_text, reselected, selections_of, shown_by, text_shown, widget_of, with_selections}
 
 -- CHECKS
 
@@ -56,19 +56,19 @@ insertion_place w word = min (place_at_index w word) (length w.text - 1)
 -- EDITS
 
 -- nothing is inserted yet
-abbrev pub none_inserted : Viewed → Insertion
+abbrev pub none_inserted : ViewValue → Insertion
 none_inserted view = record { cells = []; count = view.doc.count; sel = view.own.sel; others = selections_of view.others; tags = view.doc.tags }
 
 -- the stretch that the widget shows once the pieces stand before the character at a place: where the newline of a limit is gone, one
 -- of theirs may be the nearer
-abbrev pub stretch_with : Viewed → ℕ → List Piece → Stretch
+abbrev pub stretch_with : ViewValue → ℕ → List Piece → Stretch
 stretch_with view place pieces =
     let flat = view.doc in
     let new = with_pieces flat.site pieces (none_inserted view) in
     stretch_of (put_after flat.cells (left_of flat.cells (in_text view place)) new.cells) view.own.limits
 
 -- the right neighbour of characters without a list, behind the pieces: none where the widget then no longer shows both neighbours
-abbrev pub right_behind : Viewed → ℕ → List Piece → Option TaggedCell
+abbrev pub right_behind : ViewValue → ℕ → List Piece → Option TaggedCell
 right_behind view place pieces =
     let stretch = stretch_with view place pieces in
     let behind = in_text view place + length (with_pieces view.doc.site pieces (none_inserted view)).cells in
@@ -76,7 +76,7 @@ right_behind view place pieces =
 
 -- pieces of text, and then characters without a list, before the character at a place: their cells stand directly after that of
 -- the visible left neighbour, and all marks move for them, those of each widget too
-abbrev pub with_pieces_at : Viewed → ℕ → List Piece → Word → Viewed
+abbrev pub with_pieces_at : ViewValue → ℕ → List Piece → Word → ViewValue
 with_pieces_at view place pieces rest =
     let flat = view.doc in
     let at = in_text view place in
@@ -98,12 +98,12 @@ with_pieces_at view place pieces rest =
     }
 
 -- a selection without the widget's last newline, where a deletion holds it
-abbrev pub last_unselected : Viewed → Bool → List Stamp → List Stamp
+abbrev pub last_unselected : ViewValue → Bool → List Stamp → List Stamp
 last_unselected view held selection = if held then unselected (last_newline view ∷ []) selection else selection
 
 -- the document without the characters in ranges of what the widget shows, where the widget's last newline stays: where a range
 -- holds it, it loses its tags, and is nowhere selected
-abbrev pub without_ranges : Viewed → List Range → Viewed
+abbrev pub without_ranges : ViewValue → List Range → ViewValue
 without_ranges view ranges =
     let flat = view.doc in
     let loss = loss_in (text_shown view) (begin_of view) ranges in
@@ -112,18 +112,18 @@ without_ranges view ranges =
     (record view { doc = logged flat (delete_drafts MOST_SPANS flat loss) (without_text flat loss) })
 
 -- the characters that this takes, in the text's order
-abbrev pub lost_in : Viewed → List Range → List TaggedCell
+abbrev pub lost_in : ViewValue → List Range → List TaggedCell
 lost_in view ranges = cells_at (loss_in (text_shown view) (begin_of view) ranges).places 0 view.doc.cells
 
 -- a range replaced by pieces of text, and then characters without a list: it is deleted, and then they are inserted into what that
 -- leaves, at the place where the range begins, and before the last newline
-abbrev pub with_range_replaced : Viewed → Range → List Piece → Word → Viewed
+abbrev pub with_range_replaced : ViewValue → Range → List Piece → Word → ViewValue
 with_range_replaced view range pieces rest =
     let left = without_ranges view (range ∷ []) in
     with_pieces_at left (min range.from (length_shown left - 1)) pieces rest
 
 -- a tag put on the characters in ranges, or taken off: `sel` is the widget's own
-abbrev pub with_tag_in : Viewed → Bool → Word → List Range → Viewed
+abbrev pub with_tag_in : ViewValue → Bool → Word → List Range → ViewValue
 with_tag_in view on name ranges =
     let flat = view.doc in
     let places = places_in_text view (is_covered ranges) in
@@ -131,7 +131,7 @@ with_tag_in view on name ranges =
     else record view { doc = logged flat (tag_drafts_at MOST_SPANS places on name flat.cells) (listed_if on name (with_tag_at flat places on name)) }
 
 -- tags taken off all characters of the whole text, and no longer listed; `sel` is passed over
-abbrev pub with_tags_deleted : Viewed → List Word → Viewed
+abbrev pub with_tags_deleted : ViewValue → List Word → ViewValue
 with_tags_deleted view names = record view { doc = logged view.doc (deletion_drafts MOST_SPANS view.doc names) (without_tags view.doc names) }
 
 -- COMMANDS on a widget, each what it gives or why it is refused
@@ -141,7 +141,7 @@ abbrev pub names_in : List Piece → List Word
 names_in pieces = flat_map (λ piece. piece.tags) pieces
 
 -- insert INDEX ?CHARS TAGLIST ...? ?CHARS?: pieces with lists, and then characters without one, perhaps none
-abbrev pub inserted : Viewed → Word → List Piece → Word → Result Viewed Fault
+abbrev pub inserted : ViewValue → Word → List Piece → Word → Result ViewValue Fault
 inserted view index pieces rest =
     let w = widget_of view in
     let edited = with_pieces_at view (insertion_place w index) pieces rest in
@@ -149,14 +149,14 @@ inserted view index pieces rest =
     unless (first_of (map name_check (names_in pieces) ++ checks)) edited
 
 -- delete INDEX ?INDEX ...?: the document without the characters in the ranges that the indices name in pairs
-abbrev pub deleted : Viewed → List Word → Result Viewed Fault
+abbrev pub deleted : ViewValue → List Word → Result ViewValue Fault
 deleted view indices =
     let w = widget_of view in
     let edited = without_ranges view (ranges_of (map (place_at_index w) indices)) in
     unless (first_of (map (index_check w) indices ++ clock_check edited.doc.count ∷ [])) edited
 
 -- replace INDEX INDEX ?CHARS TAGLIST ...? ?CHARS?: the delete followed by the insert, which are made or refused as a whole
-abbrev pub replaced : Viewed → Word → Word → List Piece → Word → Result Viewed Fault
+abbrev pub replaced : ViewValue → Word → Word → List Piece → Word → Result ViewValue Fault
 replaced view from to pieces rest =
     let w = widget_of view in
     let range : Range = record { from = place_at_index w from; to = place_at_index w to } in
@@ -166,40 +166,40 @@ replaced view from to pieces rest =
     unless (first_of (map name_check (names_in pieces) ++ (indices ++ checks))) edited
 
 -- get INDEX: the character at the index, none at the text's end
-abbrev pub got_one : Viewed → Word → Result Word Fault
+abbrev pub got_one : ViewValue → Word → Result Word Fault
 got_one view index =
     let w = widget_of view in
     let place = place_at_index w index in
     unless (index_check w index) (encode_utf8_all (text_between (text_shown view) place (place + 1)))
 
 -- get INDEX INDEX: the characters from the first index up to before the second
-abbrev pub got : Viewed → Word → Word → Result Word Fault
+abbrev pub got : ViewValue → Word → Word → Result Word Fault
 got view from to =
     let w = widget_of view in
     unless (first_of (index_check w from ∷ index_check w to ∷ []))
     (encode_utf8_all (text_between (text_shown view) (place_at_index w from) (place_at_index w to)))
 
 -- index INDEX: the position of the index
-abbrev pub position_of_index : Viewed → Word → Result Position Fault
+abbrev pub position_of_index : ViewValue → Word → Result Position Fault
 position_of_index view index =
     let w = widget_of view in
     unless (index_check w index) (position_at (text_shown view) (place_at_index w index))
 
 -- get INDEX INDEX INDEX ...: of the ranges that the indices name in pairs, the texts that aren't empty, in the order given
-abbrev pub got_list : Viewed → List Word → Result (List Word) Fault
+abbrev pub got_list : ViewValue → List Word → Result (List Word) Fault
 got_list view indices =
     let w = widget_of view in
     unless (first_of (map (index_check w) indices)) (texts_of (text_shown view) (ranges_of (map (place_at_index w) indices)))
 
 -- compare INDEX OPERATOR INDEX: whether the comparison holds
-abbrev pub compared : Viewed → Word → Comparison → Word → Result Bool Fault
+abbrev pub compared : ViewValue → Word → Comparison → Word → Result Bool Fault
 compared view first comparison second =
     let w = widget_of view in
     unless (first_of (index_check w first ∷ index_check w second ∷ []))
     (holds_of comparison (place_at_index w first) (place_at_index w second))
 
 -- count ?SWITCH ...? INDEX INDEX: the distances from the first index to the second, one for each measure in turn
-abbrev pub counted : Viewed → List Measure → Word → Word → Result (List ℤ) Fault
+abbrev pub counted : ViewValue → List Measure → Word → Word → Result (List ℤ) Fault
 counted view measures from to =
     let w = widget_of view in
     unless (first_of (index_check w from ∷ index_check w to ∷ []))

@@ -7,10 +7,10 @@ use Rattle.rt_store.specs.Cells.{text_of, visible_of}
 use Rattle.rt_store.specs.Shown.{TaggedCell}
 use Rattle.rt_views.specs.declared.stretch.Stretch.{Stretch}
 use Rattle.rt_views.specs.Stretches.{part}
-use Rattle.rt_text.specs.Widgets.{Own, mark_among, mark_seen, own_seen, tag_ends}
+use Rattle.rt_text.specs.Widgets.{WidgetValue, mark_among, mark_seen, own_seen, tag_ends}
 
 -- the characters of a stretch, the places of marks among them, and the tags of a widget
-abbrev pub widget_over : Stretch → List TaggedCell → List Mark → List Word → Own → IndexedWidget
+abbrev pub widget_over : Stretch → List TaggedCell → List Mark → List Word → WidgetValue → IndexedWidget
 widget_over stretch cells marks tags own = record {
   text = part stretch (text_of cells);
   marks = λ name. option_map (λ m. m.place) (mark_among (own_seen stretch own) (map (mark_seen stretch) marks) name);

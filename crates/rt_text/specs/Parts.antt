@@ -4,10 +4,10 @@ use Rattle.rt_store.specs.Spans.{is_among}
 use Rattle.rt_edits.specs.declared.inserting.Between.{Between}
 use Rattle.rt_edits.specs.Selected.{room_in, selected_stamps}
 use Rattle.rt_text.specs.declared.parts.Parts.{Parts}
-use Rattle.rt_text.specs.Widgets.{Own}
+use Rattle.rt_text.specs.Widgets.{WidgetValue}
 
 -- a widget's own marks, the stamps of the characters that it has selected, and its limits
-abbrev pub own_in : Parts → Own
+abbrev pub own_in : Parts → WidgetValue
 own_in parts = record {
   insert = record { name = codes "insert"; place = parts.insert.place; gravity = parts.insert.gravity };
   current = record { name = codes "current"; place = parts.current.place; gravity = parts.current.gravity };

@@ -17,7 +17,7 @@ use Rattle.rt_stamps.specs.Places.{EndsWithNewline}
 use Rattle.rt_text.specs.declared.own_mark.OwnMark.TheVariants.{Insert, Current}
 use Rattle.rt_text.specs.Lines.{AreLines}
 use Rattle.rt_text.specs.Grounds.{widget_over}
-use Rattle.rt_text.specs.Widgets.{Own, own_or, own_seen, mark_seen, ends_of, is_tagged}
+use Rattle.rt_text.specs.Widgets.{WidgetValue, own_or, own_seen, mark_seen, ends_of, is_tagged}
 use Rattle.rt_views.specs.declared.stretch.Stretch.{Stretch}
 use Rattle.rt_views.specs.Stretches.{part, seen_cursor, seen_place}
 
@@ -26,10 +26,10 @@ use Rattle.rt_views.specs.Stretches.{part, seen_cursor, seen_place}
 abbrev place_in : Option Mark → Option ℕ
 place_in o = option_map (λ (m : Mark). m.place) o
 
-abbrev mark_by : Bool → Bool → Own → Option Mark → Option Mark
+abbrev mark_by : Bool → Bool → WidgetValue → Option Mark → Option Mark
 mark_by insert current own site = own_or (cond insert (Some Insert) (cond current (Some Current) None)) own site
 
-place_within : (n : ℕ) (a b : Bool) (own : Own) (site : Option Mark) → own.insert.place ≤ n → own.current.place ≤ n
+place_within : (n : ℕ) (a b : Bool) (own : WidgetValue) (site : Option Mark) → own.insert.place ≤ n → own.current.place ≤ n
     → ((place : ℕ) → place_in site ≡ Some place → place ≤ n)
     → (place : ℕ) → place_in (mark_by a b own site) ≡ Some place → place ≤ n
 place_within n true b own site h k s place e = let q : own.insert.place ≡ place = cc in omega arith
@@ -40,7 +40,7 @@ some_mark : (o : Option Mark) → IsSome (place_in o) → IsSome o
 some_mark None h = h
 some_mark (Some m) h = h
 
-mark_named : (name : List ℕ) (a b : Bool) (own : Own) (site : Option Mark) → bytes_eq name (codes "insert") ≡ a
+mark_named : (name : List ℕ) (a b : Bool) (own : WidgetValue) (site : Option Mark) → bytes_eq name (codes "insert") ≡ a
     → bytes_eq name (codes "current") ≡ b → (IsSome site → IsName name)
     → IsSome (place_in (mark_by a b own site)) → IsName name
 mark_named name true b own site e f s h = named_as name (codes "insert") (omega arith, omega arith) e
@@ -160,7 +160,7 @@ lines_end t stretch lines =
     (take n (drop b t), ap (λ k. take k (drop b t)) size ∙ take_last (drop b t) n 10 (get_drop t b n ∙ ap (slice_get t) at ∙ lines.newline))
 
 -- whole lines, marks seen in them, and listed tags
-pub proper_over : (stretch : Stretch) (cells : List TaggedCell) (marks : List Mark) (tags : List Word) (own : Own) → AreLines (text_of cells) stretch
+pub proper_over : (stretch : Stretch) (cells : List TaggedCell) (marks : List Mark) (tags : List Word) (own : WidgetValue) → AreLines (text_of cells) stretch
     → length (text_of cells) ≤ MOST_CELLS → ((name : List ℕ) → IsSome (named name marks) → IsName name) → AreListed tags cells
     → IsProper (widget_over stretch cells marks tags own)
 proper_over stretch cells marks tags own lines few names listed =
@@ -173,7 +173,7 @@ proper_over stretch cells marks tags own lines few names listed =
     let same : length chars ≡ size =
         omega (arith, whole, lines.some, lines.within, length-take size (drop stretch.begin (visible_of cells)),
         length-drop stretch.begin (visible_of cells)) in
-    let seen : Own = own_seen stretch own in
+    let seen : WidgetValue = own_seen stretch own in
     let found : List ℕ → Option Mark = λ name. named name (map (mark_seen stretch) marks) in
     let order : stretch.begin ≤ stretch.end = omega (arith, lines.some) in
     record {

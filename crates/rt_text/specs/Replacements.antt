@@ -6,35 +6,35 @@ use Rattle.rt_ops.specs.Edits.{body_of}
 use Rattle.rt_ops.specs.Operations.{Body}
 use Rattle.rt_edits.specs.declared.range.Range.{Range}
 use Rattle.rt_edits.specs.Deletions.{Loss, delete_drafts, loss_in}
-use Rattle.rt_edits.specs.Flat.{left_of}
+use Rattle.rt_edits.specs.DocValue.{left_of}
 use Rattle.rt_edits.specs.InsertionDrafts.{insertion_drafts}
 use Rattle.rt_edits.specs.InsertionPlans.{Plans}
 use Rattle.rt_edits.specs.Insertions.{Insertion, Piece, insertion_of, left_neighbour}
 use Rattle.rt_text.specs.declared.doc.replacing.Replacement.{Replacement}
 use Rattle.rt_text.specs.Commands.{none_inserted, right_behind, without_ranges}
-use Rattle.rt_text.specs.Widgets.{Viewed, begin_of, in_text, length_shown, selections_of, shown_by, text_shown}
+use Rattle.rt_text.specs.Widgets.{ViewValue, begin_of, in_text, length_shown, selections_of, shown_by, text_shown}
 
 -- what the deletion of a range takes
-abbrev pub loss_at : Viewed → Range → Loss
+abbrev pub loss_at : ViewValue → Range → Loss
 loss_at view range = loss_in (text_shown view) (begin_of view) (range ∷ [])
 
 -- an insertion before the character at a place, and its operations
-abbrev pub insertion_at : Viewed → ℕ → List Piece → Word → Insertion
+abbrev pub insertion_at : ViewValue → ℕ → List Piece → Word → Insertion
 insertion_at view place pieces rest =
     insertion_of view.doc.site (left_neighbour (shown_by view) place) (right_behind view place pieces) pieces rest (none_inserted view)
 
-abbrev pub drafts_at : Viewed → ℕ → List Piece → Word → List Body
+abbrev pub drafts_at : ViewValue → ℕ → List Piece → Word → List Body
 drafts_at view place pieces rest =
     insertion_drafts MOST_CHARACTERS view.doc.site (left_of view.doc.cells (in_text view place)) (left_neighbour (shown_by view) place)
     (right_behind view place pieces) pieces rest (none_inserted view)
 
 -- what the deletion of a range leaves
-abbrev pub left_by : Viewed → Range → Viewed
+abbrev pub left_by : ViewValue → Range → ViewValue
 left_by view range = without_ranges view (range ∷ [])
 
 -- The plan of a replacement has the operations of the deletion and those of the insertion into what that leaves, and comes to what
 -- the insertion comes to.
-pub record PlansReplacement (view : Viewed) (range : Range) (pieces : List Piece) (rest : Word) (r : Replacement) : Type 0 where
+pub record PlansReplacement (view : ViewValue) (range : Range) (pieces : List Piece) (rest : Word) (r : Replacement) : Type 0 where
   pub place : r.place ≡ min range.from (length_shown (left_by view range) - 1)
   pub drafts : map body_of r.drafts.items ≡ delete_drafts MOST_SPANS view.doc (loss_at view range) ++ drafts_at (left_by view range) r.place pieces rest
   pub plan : Plans r.plan (left_by view range).own.sel (selections_of (left_by view range).others) (left_by view range).doc.tags

@@ -4,31 +4,31 @@ use Rattle.rt_marks.specs.Marks.{Mark}
 use Rattle.rt_stamps.specs.declared.fault.Fault.{Fault}
 use Rattle.rt_stamps.specs.Outcomes.{first_of}
 use Rattle.rt_stamps.specs.Words.{Word}
-use Rattle.rt_edits.specs.Flat.{Flat}
+use Rattle.rt_edits.specs.DocValue.{DocValue}
 use Rattle.rt_undo.specs.Actions.{Action}
 use Rattle.rt_revert.specs.Reverting.{reversion, reverted}
 use Rattle.rt_text.specs.Changes.{limits_after}
 use Rattle.rt_text.specs.Commands.{cell_check, clock_check}
-use Rattle.rt_text.specs.Widgets.{Own, Viewed, each_widget}
+use Rattle.rt_text.specs.Widgets.{WidgetValue, ViewValue, each_widget}
 
 -- where a mark comes to stand when a group is reverted: where it would as the only mark of the document
-abbrev pub mark_reverted : Flat → List (Action (List Word)) → Mark → Mark
+abbrev pub mark_reverted : DocValue → List (Action (List Word)) → Mark → Mark
 mark_reverted flat group m = unwrap_or (slice_get (reversion (record flat { marks = m ∷ [] }) group).doc.marks 0) m
 
 -- The own marks of each widget move with the text as all marks do, and its limits follow the newlines that come back; what is selected
 -- stays so, and no character that comes back is selected.
-abbrev pub own_reverted : Flat → List (Action (List Word)) → Own → Own
+abbrev pub own_reverted : DocValue → List (Action (List Word)) → WidgetValue → WidgetValue
 own_reverted flat group own = record own {
   insert = mark_reverted flat group own.insert;
   current = mark_reverted flat group own.current;
   limits = limits_after (reversion flat group).returns own.limits;
 }
 
-abbrev pub view_reverted : Viewed → List (Action (List Word)) → Viewed
+abbrev pub view_reverted : ViewValue → List (Action (List Word)) → ViewValue
 view_reverted view group = each_widget (own_reverted view.doc group) (record view { doc = reverted view.doc group })
 
 -- why a group can't be reverted: its counts don't fit, or the cells of the document that it leaves
-abbrev pub reversion_check : Flat → List (Action (List Word)) → Option Fault
+abbrev pub reversion_check : DocValue → List (Action (List Word)) → Option Fault
 reversion_check flat group =
     let left = reverted flat group in
     first_of (clock_check left.count ∷ cell_check flat.limit (length left.cells) ∷ [])

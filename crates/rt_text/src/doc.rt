@@ -6,7 +6,7 @@ ghost use Rattle.rt_store.specs.Shown.{shown};
 ghost use Rattle.rt_store.specs.Tagged.{AreStates};
 ghost use Rattle.rt_tags.specs.Tags.{sel};
 ghost use Rattle.rt_edits.specs.DraftLaws.{IsDocument};
-ghost use Rattle.rt_edits.specs.Flat.{new_flat};
+ghost use Rattle.rt_edits.specs.DocValue.{new_doc};
 ghost use Rattle.rt_edits.specs.Listed.{AreListed};
 ghost use Rattle.rt_rga.specs.Cells.{cells_of};
 ghost use Rattle.rt_rga.specs.Histories.{IsHistory, greatest_last_count};
@@ -51,11 +51,11 @@ impl<S: TextStore> Drop for Doc<S> {
 }
 
 impl<S: TextStore> Model for Doc<S> {
-    ghost use Rattle.rt_edits.specs.Flat.{Flat};
+    ghost use Rattle.rt_edits.specs.DocValue.{DocValue};
     ghost use Rattle.rt_rga.specs.Histories.{greatest_last_count};
     ghost use Rattle.rt_text.specs.Kept.{IsDoc};
 
-    ghost Value = { Flat };
+    ghost Value = { DocValue };
 
     ghost view = { λ d. record {
       cells = d.replica.cells;
@@ -76,7 +76,7 @@ impl<S: TextStore> Doc<S> {
     pub fn new(alloc: Global, store: S, site: Site, limit: usize) -> Result<Doc<S>, Fault>
         requires store { S.list store ≡ final_cell ∷ [] }
         requires limit { (1 ≤ limit) × (limit ≤ MOST_CELLS) }
-        ensures ok { IfOk result (λ doc. doc ≡ new_flat site.number limit) }
+        ensures ok { IfOk result (λ doc. doc ≡ new_doc site.number limit) }
         ensures err { IsOkUnless result Fault.NoMemory }
     {
         let replica = Replica::new(alloc, store, site, limit)?;

@@ -3,7 +3,7 @@ ghost use Rattle.std.specs.Prelude.{◌≡◌, ◌<◌, ◌≤◌, ◌∷◌, �
 ghost use Rattle.std.specs.List.{AllByRecursion, remove};
 ghost use Rattle.rt_stamps.specs.declared.limits.TheConstants.{MOST_CELLS};
 ghost use Rattle.rt_store.specs.Cells.{final_cell, text_of};
-ghost use Rattle.rt_edits.specs.Flat.{new_flat};
+ghost use Rattle.rt_edits.specs.DocValue.{new_doc};
 ghost use Rattle.rt_text.specs.Widgets.{IsOwnOf, limits_of, new_own};
 ghost use Rattle.rt_views.specs.Ordered.{AreInOrder};
 
@@ -51,9 +51,9 @@ impl<S: TextStore> Drop for View<S> {
 impl<S: TextStore> Model for View<S> {
     ghost use Rattle.std.specs.Prelude.{map};
     ghost use Rattle.rt_text.specs.Parts.{own_in};
-    ghost use Rattle.rt_text.specs.Widgets.{AreWidgetsOf, Viewed};
+    ghost use Rattle.rt_text.specs.Widgets.{AreWidgetsOf, ViewValue};
 
-    ghost Value = { Viewed };
+    ghost Value = { ViewValue };
 
     ghost view = { λ v. record { doc = v.doc; own = v.widget; others = map own_in v.others.items } };
 
@@ -66,7 +66,7 @@ impl<S: TextStore> View<S> {
     pub fn new(alloc: Global, store: S, site: Site, limit: usize) -> Result<View<S>, Fault>
         requires store { S.list store ≡ final_cell ∷ [] }
         requires limit { (1 ≤ limit) × (limit ≤ MOST_CELLS) }
-        ensures ok { IfOk result (λ view. view ≡ record { doc = new_flat site.number limit; own = new_own; others = [] }) }
+        ensures ok { IfOk result (λ view. view ≡ record { doc = new_doc site.number limit; own = new_own; others = [] }) }
         ensures err { IsOkUnless result Fault.NoMemory }
     {
         let doc = Doc::new(alloc, store, site, limit)?;

@@ -42,9 +42,9 @@ impl Drop for Widget {
 
 impl Model for Widget {
     ghost use Rattle.rt_text.specs.Parts.{own_in};
-    ghost use Rattle.rt_text.specs.Widgets.{Own};
+    ghost use Rattle.rt_text.specs.Widgets.{WidgetValue};
 
-    ghost Value = { Own };
+    ghost Value = { WidgetValue };
 
     ghost view = { λ w. own_in w.parts };
 }

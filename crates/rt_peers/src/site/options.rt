@@ -5,7 +5,7 @@ ghost use Rattle.rt_stamps.specs.Words.{as_words};
 ghost use Rattle.rt_peer_requests.specs.SettingWords.{asked_named_option, asked_settings};
 ghost use Rattle.rt_peers.specs.Options.{option_outcome, option_step, settings_outcome, settings_step};
 ghost use Rattle.rt_peers.specs.SiteStep.{by_widget, option_at, settings_at};
-ghost use Rattle.rt_peers.specs.State.{place_of};
+ghost use Rattle.rt_peers.specs.SiteValue.{place_of};
 
 use super::SiteState;
 use crate::paths::place_of;

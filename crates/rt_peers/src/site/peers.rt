@@ -6,7 +6,7 @@ ghost use Rattle.rt_peer_requests.specs.PeerWords.{asked_of_peers};
 ghost use Rattle.rt_peers.specs.Peers.{text_led};
 ghost use Rattle.rt_peers.specs.PeerStep.{Destroys, created, other_paths, path_check, peer_outcome, peer_step, text_with_peer};
 ghost use Rattle.rt_peers.specs.SiteStep.{peer_step_at};
-ghost use Rattle.rt_peers.specs.State.{place_of};
+ghost use Rattle.rt_peers.specs.SiteValue.{place_of};
 
 use super::SiteState;
 use crate::paths::{other_paths, place_of};

@@ -3,7 +3,7 @@ ghost use Rattle.std.specs.Prelude.{◌≡◌, IfErr, IfOk, OnErr, OnOk, map};
 ghost use Rattle.rt_stamps.specs.Outcomes.{Answers};
 ghost use Rattle.rt_requests.specs.Parts.{all_of};
 ghost use Rattle.rt_editing.specs.Settled.{IsSettled};
-ghost use Rattle.rt_editing.specs.Edited.{edited};
+ghost use Rattle.rt_editing.specs.EditedValue.{edited};
 ghost use Rattle.rt_editing.specs.Edits.{text_deleted, text_inserted, text_replaced, text_with_new};
 ghost use Rattle.rt_editing.specs.Reverts.{text_redone, text_undone};
 ghost use Rattle.rt_rga.specs.Answers.{New, has_gap};

@@ -13,7 +13,7 @@ ghost use Rattle.rt_rga.specs.Few.{items_in};
 ghost use Rattle.rt_text.specs.Replacements.{drafts_at, insertion_at};
 ghost use Rattle.rt_stamps.specs.Outcomes.{first_of};
 ghost use Rattle.rt_store.specs.Cells.{text_of, visible_of};
-ghost use Rattle.rt_text.specs.Widgets.{IsOwnOf, Own, Viewed, selections_of};
+ghost use Rattle.rt_text.specs.Widgets.{IsOwnOf, WidgetValue, ViewValue, selections_of};
 ghost use Rattle.rt_text.specs.Commands.{cell_check, clock_check, none_inserted, with_pieces_at, without_ranges};
 ghost use Rattle.rt_edits.specs.DeletionLaws.{IsPiece};
 ghost use Rattle.rt_text.specs.Parts.{own_in};
@@ -57,11 +57,11 @@ impl<S: TextStore> Doc<S> {
         ensures left { IfSome result.1.left (λ cell. IsState result.0.now cell.state) }
         ensures right { IfSome result.1.right (λ cell. IsState result.0.now cell.state) }
         ensures after { IfSome result.1.left (λ cell. result.1.after ≡ cell.stamp) }
-        ensures drafts { (others : List Own) (rest : Word) → let view : Viewed = record { doc = self.now; own = widget.now; others = others } in
+        ensures drafts { (others : List WidgetValue) (rest : Word) → let view : ViewValue = record { doc = self.now; own = widget.now; others = others } in
             insertion_drafts MOST_CHARACTERS self.now.site result.1.after
             (option_map (shown result.0.now) result.1.left) (option_map (shown result.0.now) result.1.right)
             pieces.now rest (none_inserted view) ≡ drafts_at view place pieces.now rest }
-        ensures comes { (others : List Own) (rest : Word) → let view : Viewed = record { doc = self.now; own = widget.now; others = others } in
+        ensures comes { (others : List WidgetValue) (rest : Word) → let view : ViewValue = record { doc = self.now; own = widget.now; others = others } in
             insertion_of self.now.site (option_map (shown result.0.now) result.1.left) (option_map (shown result.0.now) result.1.right)
             pieces.now rest (none_inserted view) ≡ insertion_at view place pieces.now rest }
     {
@@ -87,11 +87,11 @@ impl<S: TextStore> Doc<S> {
         requires stretch { stretch ≡ stretch_of self.now.cells widget.now.limits }
         requires place { place < length (shown_part self.now.cells widget.now.limits) }
         requires order { AreInOrder self.now.cells widget.now.limits }
-        ensures drafts { IfOk result (λ plan. (others : List Own)
+        ensures drafts { IfOk result (λ plan. (others : List WidgetValue)
             → map body_of (items_in plan.drafts) ≡ drafts_at (record { doc = self.now; own = widget.now; others = others }) place pieces.now rest.now) }
-        ensures plans { IfOk result (λ plan. (others : List Own) → Plans plan widget.now.sel (selections_of others) self.now.tags
+        ensures plans { IfOk result (λ plan. (others : List WidgetValue) → Plans plan widget.now.sel (selections_of others) self.now.tags
             (insertion_at (record { doc = self.now; own = widget.now; others = others }) place pieces.now rest.now)) }
-        ensures err { IfErr result (λ fault. (fault ≡ Fault.NoMemory) ⊎ ((fault ≡ Fault.ClockSpent) × ((others : List Own) → GREATEST_COUNT
+        ensures err { IfErr result (λ fault. (fault ≡ Fault.NoMemory) ⊎ ((fault ≡ Fault.ClockSpent) × ((others : List WidgetValue) → GREATEST_COUNT
             < (with_pieces_at (record { doc = self.now; own = widget.now; others = others }) place pieces.now rest.now).doc.count))) }
     {
         let site = self.replica.site();
@@ -121,9 +121,11 @@ impl<S: TextStore> Doc<S> {
         requires stretch { stretch ≡ stretch_of self.now.cells widget.now.limits }
         requires place { place < length (shown_part self.now.cells widget.now.limits) }
         requires order { AreInOrder self.now.cells widget.now.limits }
-        ensures drafts { IfSome result (λ typed. (others : List Own) → let view : Viewed = record { doc = self.now; own = widget.now; others = others } in
+        ensures drafts { IfSome result (λ typed. (others : List WidgetValue) →
+            let view : ViewValue = record { doc = self.now; own = widget.now; others = others } in
             drafts_at view place pieces.now rest.now ≡ one_character typed.left typed.character) }
-        ensures comes { IfSome result (λ typed. (others : List Own) → let view : Viewed = record { doc = self.now; own = widget.now; others = others } in
+        ensures comes { IfSome result (λ typed. (others : List WidgetValue) →
+            let view : ViewValue = record { doc = self.now; own = widget.now; others = others } in
             insertion_at view place pieces.now rest.now ≡ with_typed self.now.site typed (none_inserted view)) }
     {
         // What is surely more than a character, or has no left neighbour, looks nothing up; a character has at most four bytes.
@@ -148,19 +150,19 @@ impl<S: TextStore> Doc<S> {
         rest: &str,
         typed: Typed,
     ) -> Result<(), Fault>
-        requires drafts { (others : List Own) → let view : Viewed = record { doc = self.old; own = widget.old; others = others } in
+        requires drafts { (others : List WidgetValue) → let view : ViewValue = record { doc = self.old; own = widget.old; others = others } in
             drafts_at view place pieces.now rest.now ≡ one_character typed.left typed.character }
-        requires comes { (others : List Own) → let view : Viewed = record { doc = self.old; own = widget.old; others = others } in
+        requires comes { (others : List WidgetValue) → let view : ViewValue = record { doc = self.old; own = widget.old; others = others } in
             insertion_at view place pieces.now rest.now ≡ with_typed self.old.site typed (none_inserted view) }
         requires stretch { stretch ≡ stretch_of self.old.cells widget.old.limits }
         requires place { place < length (shown_part self.old.cells widget.old.limits) }
         requires pieces { All IsPiece pieces.now }
         requires own { IsOwnOf (length (text_of self.old.cells)) widget.old }
         requires others { AllByRecursion (IsOwnOf (length (text_of self.old.cells))) (map own_in others.old) }
-        ensures ok { let view : Viewed = record { doc = self.old; own = widget.old; others = map own_in others.old } in
+        ensures ok { let view : ViewValue = record { doc = self.old; own = widget.old; others = map own_in others.old } in
             OnOk result (record { doc = self.new; own = widget.new; others = map own_in others.new } ≡ with_pieces_at view place pieces.now rest.now) }
         ensures checked { OnOk result (first_of (clock_check self.new.count ∷ cell_check self.old.limit (length self.new.cells) ∷ []) ≡ None) }
-        ensures err { let view : Viewed = record { doc = self.old; own = widget.old; others = map own_in others.old } in
+        ensures err { let view : ViewValue = record { doc = self.old; own = widget.old; others = map own_in others.old } in
             let edited = (with_pieces_at view place pieces.now rest.now).doc in
             IfErr result (λ fault. (fault ≡ Fault.NoMemory)
             ⊎ (first_of (clock_check edited.count ∷ cell_check self.old.limit (length edited.cells) ∷ []) ≡ Some fault)) }
@@ -194,19 +196,19 @@ impl<S: TextStore> Doc<S> {
         rest: &str,
         plan: Plan,
     ) -> Result<(), Fault>
-        requires drafts { (others : List Own)
+        requires drafts { (others : List WidgetValue)
             → map body_of (items_in plan.drafts) ≡ drafts_at (record { doc = self.old; own = widget.old; others = others }) place pieces.now rest.now }
-        requires plans { (others : List Own) → Plans plan widget.old.sel (selections_of others) self.old.tags
+        requires plans { (others : List WidgetValue) → Plans plan widget.old.sel (selections_of others) self.old.tags
             (insertion_at (record { doc = self.old; own = widget.old; others = others }) place pieces.now rest.now) }
         requires stretch { stretch ≡ stretch_of self.old.cells widget.old.limits }
         requires place { place < length (shown_part self.old.cells widget.old.limits) }
         requires pieces { All IsPiece pieces.now }
         requires own { IsOwnOf (length (text_of self.old.cells)) widget.old }
         requires others { AllByRecursion (IsOwnOf (length (text_of self.old.cells))) (map own_in others.old) }
-        ensures ok { let view : Viewed = record { doc = self.old; own = widget.old; others = map own_in others.old } in
+        ensures ok { let view : ViewValue = record { doc = self.old; own = widget.old; others = map own_in others.old } in
             OnOk result (record { doc = self.new; own = widget.new; others = map own_in others.new } ≡ with_pieces_at view place pieces.now rest.now) }
         ensures checked { OnOk result (first_of (clock_check self.new.count ∷ cell_check self.old.limit (length self.new.cells) ∷ []) ≡ None) }
-        ensures err { let view : Viewed = record { doc = self.old; own = widget.old; others = map own_in others.old } in
+        ensures err { let view : ViewValue = record { doc = self.old; own = widget.old; others = map own_in others.old } in
             let edited = (with_pieces_at view place pieces.now rest.now).doc in
             IfErr result (λ fault. (fault ≡ Fault.NoMemory)
             ⊎ (first_of (clock_check edited.count ∷ cell_check self.old.limit (length edited.cells) ∷ []) ≡ Some fault)) }
@@ -255,10 +257,10 @@ impl<S: TextStore> Doc<S> {
         requires pieces { All IsPiece pieces.now }
         requires own { IsOwnOf (length (text_of self.old.cells)) widget.old }
         requires others { AllByRecursion (IsOwnOf (length (text_of self.old.cells))) (map own_in others.old) }
-        ensures ok { let view : Viewed = record { doc = self.old; own = widget.old; others = map own_in others.old } in
+        ensures ok { let view : ViewValue = record { doc = self.old; own = widget.old; others = map own_in others.old } in
             OnOk result (record { doc = self.new; own = widget.new; others = map own_in others.new } ≡ with_pieces_at view place pieces.now rest.now) }
         ensures checked { OnOk result (first_of (clock_check self.new.count ∷ cell_check self.old.limit (length self.new.cells) ∷ []) ≡ None) }
-        ensures err { let view : Viewed = record { doc = self.old; own = widget.old; others = map own_in others.old } in
+        ensures err { let view : ViewValue = record { doc = self.old; own = widget.old; others = map own_in others.old } in
             let edited = (with_pieces_at view place pieces.now rest.now).doc in
             IfErr result (λ fault. (fault ≡ Fault.NoMemory)
             ⊎ (first_of (clock_check edited.count ∷ cell_check self.old.limit (length edited.cells) ∷ []) ≡ Some fault)) }
@@ -289,10 +291,10 @@ impl<S: TextStore> Doc<S> {
         requires pieces { All IsPiece pieces.now }
         requires own { IsOwnOf (length (text_of self.old.cells)) widget.old }
         requires others { AllByRecursion (IsOwnOf (length (text_of self.old.cells))) (map own_in others.old) }
-        ensures ok { let view : Viewed = record { doc = self.old; own = widget.old; others = map own_in others.old } in
+        ensures ok { let view : ViewValue = record { doc = self.old; own = widget.old; others = map own_in others.old } in
             OnOk result (record { doc = self.new; own = widget.new; others = map own_in others.new } ≡ with_pieces_at view place pieces.now rest.now) }
         ensures checked { OnOk result (first_of (clock_check self.new.count ∷ cell_check self.old.limit (length self.new.cells) ∷ []) ≡ None) }
-        ensures err { let view : Viewed = record { doc = self.old; own = widget.old; others = map own_in others.old } in
+        ensures err { let view : ViewValue = record { doc = self.old; own = widget.old; others = map own_in others.old } in
             let edited = (with_pieces_at view place pieces.now rest.now).doc in
             IfErr result (λ fault. (fault ≡ Fault.NoMemory)
             ⊎ (first_of (clock_check edited.count ∷ cell_check self.old.limit (length edited.cells) ∷ []) ≡ Some fault)) }
@@ -315,10 +317,10 @@ impl<S: TextStore> Doc<S> {
     ) -> Result<(), Fault>
         requires own { IsOwnOf (length (text_of self.old.cells)) widget.old }
         requires others { AllByRecursion (IsOwnOf (length (text_of self.old.cells))) (map own_in others.old) }
-        ensures ok { let view : Viewed = record { doc = self.old; own = widget.old; others = map own_in others.old } in
+        ensures ok { let view : ViewValue = record { doc = self.old; own = widget.old; others = map own_in others.old } in
             OnOk result (without_ranges view ranges.now ≡ record { doc = self.new; own = widget.new; others = map own_in others.new }) }
         ensures checked { OnOk result (clock_check self.new.count ≡ None) }
-        ensures err { let view : Viewed = record { doc = self.old; own = widget.old; others = map own_in others.old } in
+        ensures err { let view : ViewValue = record { doc = self.old; own = widget.old; others = map own_in others.old } in
             IfErr result (λ fault. (fault ≡ Fault.NoMemory) ⊎ (clock_check (without_ranges view ranges.now).doc.count ≡ Some fault)) }
         ensures unchanged { OnErr result ((self.new ≡ self.old) × (widget.new ≡ widget.old) × (map own_in others.new ≡ map own_in others.old)) }
         ensures own { IsOwnOf (length (text_of self.new.cells)) widget.new }

@@ -5,7 +5,7 @@ ghost use Rattle.rt_stamps.specs.Outcomes.{first_of};
 ghost use Rattle.rt_store.specs.Cells.{text_of};
 ghost use Rattle.rt_text.specs.Commands.{cell_check, clock_check, with_range_replaced};
 ghost use Rattle.rt_text.specs.Replacements.{PlansReplacement, loss_at};
-ghost use Rattle.rt_text.specs.Widgets.{IsOwnOf, Own, Viewed};
+ghost use Rattle.rt_text.specs.Widgets.{IsOwnOf, WidgetValue, ViewValue};
 ghost use Rattle.rt_edits.specs.DeletionLaws.{IsPiece};
 ghost use Rattle.rt_edits.specs.Deletions.{without_text};
 ghost use Rattle.rt_edits.specs.Removals.{AreInOrder, is_covered};
@@ -78,17 +78,17 @@ impl<S: TextStore> Doc<S> {
         rest: &str,
     ) -> Result<Replacement, Fault>
         requires { LimitsAreInOrder self.now.cells widget.now.limits }
-        ensures plans { IfOk result (λ r. (others : List Own)
+        ensures plans { IfOk result (λ r. (others : List WidgetValue)
             → PlansReplacement (record { doc = self.now; own = widget.now; others = others }) range pieces.now rest.now r) }
-        ensures removed { let view : Viewed = record { doc = self.now; own = widget.now; others = [] } in
+        ensures removed { let view : ViewValue = record { doc = self.now; own = widget.now; others = [] } in
             IfOk result (λ r. (place : ℕ) → is_covered r.removed.items place ≡ (loss_at view range).places place) }
         ensures order { IfOk result (λ r. AreInOrder 0 r.removed.items) }
-        ensures held { let view : Viewed = record { doc = self.now; own = widget.now; others = [] } in
+        ensures held { let view : ViewValue = record { doc = self.now; own = widget.now; others = [] } in
             IfOk result (λ r. r.held ≡ is_some (loss_at view range).newline) }
         ensures alone { IfOk result (λ r. r.held ≡ true → r.plan.between ≡ None) }
-        ensures fits { let view : Viewed = record { doc = self.now; own = widget.now; others = [] } in
+        ensures fits { let view : ViewValue = record { doc = self.now; own = widget.now; others = [] } in
             IfOk result (λ r. (without_text self.now (loss_at view range)).count ≤ GREATEST_COUNT) }
-        ensures err { IfErr result (λ fault. (fault ≡ Fault.NoMemory) ⊎ ((fault ≡ Fault.ClockSpent) × ((others : List Own) → GREATEST_COUNT
+        ensures err { IfErr result (λ fault. (fault ≡ Fault.NoMemory) ⊎ ((fault ≡ Fault.ClockSpent) × ((others : List WidgetValue) → GREATEST_COUNT
             < (with_range_replaced (record { doc = self.now; own = widget.now; others = others }) range pieces.now rest.now).doc.count))) }
     {
         let site = self.replica.site();
@@ -139,10 +139,10 @@ impl<S: TextStore> Doc<S> {
         requires order { LimitsAreInOrder self.old.cells widget.old.limits }
         requires own { IsOwnOf (length (text_of self.old.cells)) widget.old }
         requires others { AllByRecursion (IsOwnOf (length (text_of self.old.cells))) (map own_in others.old) }
-        ensures ok { let view : Viewed = record { doc = self.old; own = widget.old; others = map own_in others.old } in
+        ensures ok { let view : ViewValue = record { doc = self.old; own = widget.old; others = map own_in others.old } in
             OnOk result (record { doc = self.new; own = widget.new; others = map own_in others.new } ≡ with_range_replaced view range pieces.now rest.now) }
         ensures checked { OnOk result (first_of (clock_check self.new.count ∷ cell_check self.old.limit (length self.new.cells) ∷ []) ≡ None) }
-        ensures err { let view : Viewed = record { doc = self.old; own = widget.old; others = map own_in others.old } in
+        ensures err { let view : ViewValue = record { doc = self.old; own = widget.old; others = map own_in others.old } in
             let edited = (with_range_replaced view range pieces.now rest.now).doc in
             IfErr result (λ fault. (fault ≡ Fault.NoMemory)
             ⊎ (first_of (clock_check edited.count ∷ cell_check self.old.limit (length edited.cells) ∷ []) ≡ Some fault)) }

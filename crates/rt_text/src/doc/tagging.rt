@@ -10,7 +10,7 @@ ghost use Rattle.rt_text.specs.Widgets.{is_tagged, is_tagged_in, tags_on};
 ghost use Rattle.rt_store.specs.Tagged.{next_place, previous_place};
 ghost use Rattle.rt_tags.specs.States.{IsState};
 ghost use Rattle.rt_tags.specs.Tags.{is_listed, is_place, lowered, raised, sel};
-ghost use Rattle.rt_edits.specs.Flat.{logged};
+ghost use Rattle.rt_edits.specs.DocValue.{logged};
 ghost use Rattle.rt_edits.specs.TagDrafts.{deletion_drafts, tag_drafts_at};
 ghost use Rattle.rt_edits.specs.TagWrites.{listed_if, with_tag_at, without_tags};
 ghost use Rattle.rt_text.specs.Commands.{clock_check};

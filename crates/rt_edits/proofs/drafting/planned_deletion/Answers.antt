@@ -14,7 +14,7 @@ use Rattle.rt_views.specs.declared.stretch.Stretch.{Stretch}
 use Rattle.rt_views.specs.Stretches.{part}
 use Rattle.rt_views.proofs.Parts.{part_length}
 use Rattle.rt_edits.specs.Deletions.{Loss, loss_in}
-use Rattle.rt_edits.specs.Flat.{Flat}
+use Rattle.rt_edits.specs.DocValue.{DocValue}
 use Rattle.rt_edits.specs.NamedSpans.{parts_of, spans_in}
 use Rattle.rt_edits.specs.RemovalDrafts.{removal_drafts}
 use Rattle.rt_edits.specs.Removals.{is_covered, stamps_at}
@@ -25,7 +25,7 @@ use Rattle.rt_edits.proofs.drafting.planned_deletion.Goals as goal
 use Rattle.rt_edits.proofs.drafting.planned_deletion.Goals.{then-held+in_ok-push_newline, else-held}
 
 -- the Deletes at the same places
-same_deletes : (table : TagStates) (kept : List (Cell ℕ)) (flat : Flat) (removed places : ℕ → Bool) → flat.cells ≡ map (shown table) kept
+same_deletes : (table : TagStates) (kept : List (Cell ℕ)) (flat : DocValue) (removed places : ℕ → Bool) → flat.cells ≡ map (shown table) kept
     → ((place : ℕ) → removed place ≡ places place) → removal_drafts MOST_SPANS removed kept ≡ removal_drafts MOST_SPANS places flat.cells
 same_deletes table kept flat removed places h same =
     let stamps : stamps_at removed 0 kept ≡ stamps_at places 0 flat.cells =

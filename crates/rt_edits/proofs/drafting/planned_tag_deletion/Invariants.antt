@@ -4,11 +4,11 @@ use Rattle.rt_stamps.specs.Words.{as_words}
 use Rattle.rt_ops.specs.Edits.{body_of}
 use Rattle.rt_store.specs.Shown.{shown}
 use Rattle.rt_store.specs.Written.{AreWritten}
-use Rattle.rt_edits.specs.Flat.{Flat}
+use Rattle.rt_edits.specs.DocValue.{DocValue}
 use Rattle.rt_edits.proofs.DeletionsInTurn.{Stands}
 use Rattle.rt_edits.proofs.drafting.planned_tag_deletion.Given as goal
 
 abbrev pub invariant-loop-name : goal.invariant-loop-name
 invariant-loop-name g l =
-    (flat : Flat) → AreWritten flat.count flat.cells → flat.cells ≡ map (shown l.states) (g.S.TextStore.list l.store)
+    (flat : DocValue) → AreWritten flat.count flat.cells → flat.cells ≡ map (shown l.states) (g.S.TextStore.list l.store)
     → Stands MOST_SPANS flat l.seen.names (map body_of l.drafts.items) (as_words (drop l.name-index l.names)) (as_words l.names)

@@ -7,7 +7,7 @@ use Rattle.rt_ops.specs.Edits.{body_of}
 use Rattle.rt_store.specs.declared.cell.Cell.{Cell}
 use Rattle.rt_store.specs.Shown.{shown}
 use Rattle.rt_store.specs.Tagged.{AreStates}
-use Rattle.rt_edits.specs.Flat.{Flat, new_flat}
+use Rattle.rt_edits.specs.DocValue.{DocValue, new_doc}
 use Rattle.rt_edits.specs.Insertions.{all_listed}
 use Rattle.rt_edits.proofs.PlanLaws.{spent}
 use Rattle.rt_undo.specs.Actions.{Action, group_of}
@@ -302,7 +302,7 @@ returns-clause-changes g c =
       at = c.in_ok-offsets.ensures.offsets;
     } in
     let same : named_group kept group ≡ named_group old group = later_group old kept group c.in_ok-cells.ensures.ids c.requires.given in
-    let flat : Flat = record (new_flat number 0) { cells = map (shown states) store; count = count } in
+    let flat : DocValue = record (new_doc number 0) { cells = map (shown states) store; count = count } in
     let of : IsOf states store number count flat = record { cells = refl; site = refl; count = refl } in
     let late = g.C.TextStore.list c.revert_all.new.copy in
     let done = c.revert_all.new.plan in

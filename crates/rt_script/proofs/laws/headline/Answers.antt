@@ -2,14 +2,14 @@ use Rattle.std.proofs.Common.{◌≡◌, ◌∙◌, ℕ, Bool, true, false, Ok, 
 use Rattle.std.specs.Prelude.{◌⊎◌, MatchBool, nat_lt}
 use Rattle.std.proofs.lemmas.Bool.Decides.{nat_tests}
 use Rattle.rt_peers.specs.SiteStep.{KeepsOperations, MakesAndTries, Tries, has_made, log_of}
-use Rattle.rt_peers.specs.State.{State}
+use Rattle.rt_peers.specs.SiteValue.{SiteValue}
 use Rattle.rt_script.specs.Headline.{RepliesByStep}
 use Rattle.rt_script.proofs.laws.headline.Goals as goal
 
 never_less : (n : ℕ) → nat_lt n n ≡ false
 never_less n = grind (arith, nat_tests)
 
-tried_or_kept : (made : Bool) (old mid new : State) → MatchBool made (MakesAndTries old mid new) (KeepsOperations old mid × (new ≡ mid)) → (new ≡ mid) ⊎ Tries mid new
+tried_or_kept : (made : Bool) (old mid new : SiteValue) → MatchBool made (MakesAndTries old mid new) (KeepsOperations old mid × (new ≡ mid)) → (new ≡ mid) ⊎ Tries mid new
 tried_or_kept true old mid new h = inr h.tries
 tried_or_kept false old mid new h = inl h.1
 

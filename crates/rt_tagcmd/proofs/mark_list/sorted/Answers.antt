@@ -1,5 +1,5 @@
 use Rattle.std.proofs.Common.{◌≡◌, ◌∙◌, ◌∷◌, List, ap, map}
-use Rattle.rt_edits.specs.Flat.{Flat}
+use Rattle.rt_edits.specs.DocValue.{DocValue}
 use Rattle.rt_marks.specs.Marks.{Mark, in_order, with_mark}
 use Rattle.rt_marks.specs.Seen.{spotted}
 use Rattle.rt_text.specs.Widgets.{mark_seen, own_shown, stretch_by}
@@ -14,7 +14,7 @@ returns-clause-ok g c =
     let behind = c.args.behind in
     let own = own_shown view in
     let site = map (mark_seen (stretch_by view)) view.doc.marks in
-    let marks : c.marks-marks.result.now ≡ view.doc.marks = c.marks-marks.ensures.value ∙ ap (λ (d : Flat). d.marks) c.doc.ensures in
+    let marks : c.marks-marks.result.now ≡ view.doc.marks = c.marks-marks.ensures.value ∙ ap (λ (d : DocValue). d.marks) c.doc.ensures in
     let first : in_order (map spotted c.in_ok-spots.spots.items) ≡ marks_from from behind (in_order site) =
     c.in_ok-spots.ensures.ok
     ∙ ap (λ (v : List Mark). marks_from from behind (in_order (map (mark_seen c.stretch.result) v))) marks

@@ -1,5 +1,5 @@
 use Rattle.std.proofs.Common.{◌≡◌, ap, length, subst, ◌∙◌}
-use Rattle.rt_edits.specs.Flat.{Flat}
+use Rattle.rt_edits.specs.DocValue.{DocValue}
 use Rattle.rt_marks.specs.Marks.{HaveOwnNames}
 use Rattle.rt_store.specs.Cells.{text_of}
 use Rattle.rt_text.specs.Widgets.{AreSiteMarks}
@@ -10,7 +10,7 @@ pub returns : goal.returns
 returns g c =
     let view = c.args.view.now in
     let n = length (text_of c.doc.result.now.cells) in
-    let same : c.doc.result.now.marks ≡ view.doc.marks = ap (λ (d : Flat). d.marks) c.doc.ensures in
+    let same : c.doc.result.now.marks ≡ view.doc.marks = ap (λ (d : DocValue). d.marks) c.doc.ensures in
     let site : AreSiteMarks n view.doc.marks = subst (AreSiteMarks n) same c.marks.ensures.site in
     let own : HaveOwnNames view.doc.marks = subst HaveOwnNames (c.marks.ensures.value ∙ same) c.order.ensures.own_names in
     let shown : AreShown view = marks_are_shown view n site own c.widget.ensures.stands.insert_name c.widget.ensures.stands.current_name in

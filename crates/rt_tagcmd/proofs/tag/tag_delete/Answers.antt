@@ -2,7 +2,7 @@ use Rattle.std.proofs.Common.{◌∙◌, ◌∷◌, [], inr, Some, ap, map, sym}
 use Rattle.std.proofs.lemmas.Result.{IfErr-weaker, err_from_is_err_and, on_ok_weaker}
 use Rattle.rt_stamps.specs.Names.{name_check}
 use Rattle.rt_text.specs.Commands.{clock_check, with_tags_deleted}
-use Rattle.rt_text.specs.Widgets.{Viewed}
+use Rattle.rt_text.specs.Widgets.{ViewValue}
 use Rattle.rt_stamps.proofs.Names.{none_found, some_found}
 use Rattle.rt_stamps.specs.Words.{as_words}
 use Rattle.rt_tagcmd.proofs.TagChecks.{given, refused_first, refused_last}
@@ -22,7 +22,7 @@ returns-clause-ok g c =
     let after = with_tags_deleted c.args.view.now names in
     let none = none_found _ _ (sym c.check_names.ensures ∙ c.in_ok-check_names.was) in
     on_ok_weaker c.delete_tags.result
-    (λ h. given (map name_check names) (clock_check after.doc.count) after c.delete_tags.new.self none (ap (λ (v : Viewed). clock_check v.doc.count) (sym h.0) ∙ h.1) (sym h.0))
+    (λ h. given (map name_check names) (clock_check after.doc.count) after c.delete_tags.new.self none (ap (λ (v : ViewValue). clock_check v.doc.count) (sym h.0) ∙ h.1) (sym h.0))
     c.delete_tags.ensures.ok
 
 pub returns-clause-err : goal.returns-clause-err

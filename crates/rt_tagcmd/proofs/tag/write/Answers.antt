@@ -5,7 +5,7 @@ use Rattle.rt_stamps.specs.Names.{name_check}
 use Rattle.rt_text.specs.Commands.{clock_check, with_tag_in}
 use Rattle.rt_text.specs.Index.{index_check, place_at_index}
 use Rattle.rt_text.specs.Ranges.{ranges_of}
-use Rattle.rt_text.specs.Widgets.{Viewed, widget_of}
+use Rattle.rt_text.specs.Widgets.{ViewValue, widget_of}
 use Rattle.rt_stamps.proofs.Names.{none_found}
 use Rattle.rt_stamps.specs.Words.{as_words}
 use Rattle.rt_tagcmd.proofs.TagChecks.{given, passed, passed_fault, refused_first, refused_last}
@@ -29,7 +29,7 @@ returns-clause-ok g c =
     let name = c.args.name.now in
     let w = widget_of view in
     let indices = as_words c.args.indices.now in
-    let written : List Range → Viewed = with_tag_in view c.args.on name in
+    let written : List Range → ViewValue = with_tag_in view c.args.on name in
     let none = none_found _ _ (sym c.check_name.ensures.value ∙ c.in_ok-check_name.was) in
     let same : c.deref.result.now ≡ ranges_of (map (place_at_index w) indices) = c.deref.ensures.value ∙ c.in_ok-ranges.ensures.ok in
     let after = written (ranges_of (map (place_at_index w) indices)) in
@@ -37,7 +37,7 @@ returns-clause-ok g c =
     (λ h. let all : after ≡ c.write_tag.new.self = ap written (sym same) ∙ h.0 in
     given (name_check name ∷ map (index_check w) indices) (clock_check after.doc.count) after c.write_tag.new.self
     (passed (name_check name) (map (index_check w) indices) None none c.in_ok-ranges.ensures.checked)
-    (ap (λ (v : Viewed). clock_check v.doc.count) all ∙ h.1)
+    (ap (λ (v : ViewValue). clock_check v.doc.count) all ∙ h.1)
     all)
     c.write_tag.ensures.ok
 
@@ -47,7 +47,7 @@ returns-clause-err g c =
     let name = c.args.name.now in
     let w = widget_of view in
     let indices = as_words c.args.indices.now in
-    let written : List Range → Viewed = with_tag_in view c.args.on name in
+    let written : List Range → ViewValue = with_tag_in view c.args.on name in
     let none = none_found _ _ (sym c.check_name.ensures.value ∙ c.in_ok-check_name.was) in
     let same : c.deref.result.now ≡ ranges_of (map (place_at_index w) indices) = c.deref.ensures.value ∙ c.in_ok-ranges.ensures.ok in
     let after = written (ranges_of (map (place_at_index w) indices)) in

@@ -1,7 +1,7 @@
 use Rattle.std.proofs.Common.{◌∙◌, All, ap, subst, sym}
 use Rattle.std.proofs.lemmas.Result.{IfOk-weaker}
 use Rattle.rt_text.specs.Widgets.{length_shown}
-use Rattle.rt_edits.specs.Flat.{Flat}
+use Rattle.rt_edits.specs.DocValue.{DocValue}
 use Rattle.rt_edits.specs.Listed.{AreListed}
 use Rattle.rt_tagcmd.specs.TagCommands.{range_ends}
 use Rattle.rt_tagcmd.proofs.TagFinds.{IsWithin, tagged_within, unlisted}
@@ -16,7 +16,7 @@ range_ends-requires g c =
 pub returns-clause-unlisted : goal.returns-clause-unlisted
 returns-clause-unlisted g c = λ u.
     let view = c.args.view.now in
-    let none = unlisted view c.args.name.now (subst (λ (d : Flat). AreListed d.tags d.cells) c.doc.ensures c.tags-tags.ensures.listed) u in
+    let none = unlisted view c.args.name.now (subst (λ (d : DocValue). AreListed d.tags d.cells) c.doc.ensures c.tags-tags.ensures.listed) u in
     IfOk-weaker c.range_ends.result _ _
     (λ positions h. h ∙ ap (range_ends view) (c.deref.ensures.value ∙ c.in_ok-ranges.ensures.ok ∙ none))
     c.range_ends.ensures.ok

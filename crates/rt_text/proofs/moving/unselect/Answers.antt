@@ -1,10 +1,10 @@
 use Rattle.std.proofs.Common.{◌≡◌, List, [], ◌∷◌, ◌∙◌, ap, cond, map, refl, sym}
 use Rattle.rt_edits.specs.Selections.{unselected}
 use Rattle.rt_text.specs.Parts.{own_in}
-use Rattle.rt_text.specs.Widgets.{Own, reselected}
+use Rattle.rt_text.specs.Widgets.{WidgetValue, reselected}
 use Rattle.rt_text.proofs.moving.unselect.Goals as goal
 
-selected_still : (others : List Own) → map (reselected (λ sel. sel)) others ≡ others
+selected_still : (others : List WidgetValue) → map (reselected (λ sel. sel)) others ≡ others
 selected_still [] = refl
 selected_still (own ∷ others) = ap (λ l. own ∷ l) (selected_still others)
 

@@ -3,7 +3,7 @@ use Rattle.std.specs.List.{AllByRecursion}
 use Rattle.rt_stamps.specs.declared.stamp.Stamp.{Stamp}
 use Rattle.rt_rga.specs.Cells.{cells_of}
 use Rattle.rt_rga.specs.Histories.{IsHistory, greatest_last_count}
-use Rattle.rt_edits.specs.Flat.{Flat}
+use Rattle.rt_edits.specs.DocValue.{DocValue}
 use Rattle.rt_undo.specs.Actions.{Action, group_of}
 use Rattle.rt_undo.specs.Renames.{is_moved}
 use Rattle.rt_stamps.specs.Words.{Word}
@@ -11,7 +11,7 @@ use Rattle.rt_revert.specs.Reverting.{reversion, reverted_group}
 use Rattle.rt_revert.specs.ReversionLaws.{AreSound}
 use Rattle.rt_text.specs.declared.reverted.Reverted.{Reverted}
 use Rattle.rt_text.specs.Reversions.{reversion_check, view_reverted}
-use Rattle.rt_text.specs.Widgets.{Viewed}
+use Rattle.rt_text.specs.Widgets.{ViewValue}
 use Rattle.rt_editing.specs.Naming.{HistoryIsGiven, named_group, named_history}
 use Rattle.rt_editing.specs.Recordings.{HaveStayed, Recording, came_back}
 use Rattle.rt_editing.specs.Returns.{AreReturns, IsOther, Return, back_after, stamp_after}
@@ -31,10 +31,10 @@ told_here g c checked =
     let flat = c.args.view.now.doc in
     let group = group_of c.args.group.now in
     told flat (named_group s.table group) (is_moved s.stacks.moves) c.site.result.number c.site.result.positive
-    (c.site.ensures ∙ ap (λ (d : Flat). d.site) c.doc-2.ensures)
-    (subst (λ (d : Flat). IsHistory d.log) c.doc.ensures c.log.ensures.history)
-    (subst (λ (d : Flat). d.cells ≡ cells_of d.log) c.doc.ensures c.log.ensures.cells)
-    (subst (λ (d : Flat). d.count ≡ greatest_last_count d.log) c.doc.ensures c.log.ensures.count)
+    (c.site.ensures ∙ ap (λ (d : DocValue). d.site) c.doc-2.ensures)
+    (subst (λ (d : DocValue). IsHistory d.log) c.doc.ensures c.log.ensures.history)
+    (subst (λ (d : DocValue). d.cells ≡ cells_of d.log) c.doc.ensures c.log.ensures.cells)
+    (subst (λ (d : DocValue). d.count ≡ greatest_last_count d.log) c.doc.ensures c.log.ensures.count)
     (subst (λ (v : Recording). AreSound (named_group v.table group)) (sym c.self.view_is) c.requires.sound)
     (subst (λ (v : Recording). (stamp : Stamp) → came_back v stamp ≡ true → is_gone flat.cells stamp ≡ true) (sym c.self.view_is) c.requires.gone)
     (subst (λ (v : Recording). HaveStayed (came_back v) (named_group v.table group)) (sym c.self.view_is) c.requires.stay)
@@ -51,10 +51,10 @@ once_here g c checked others once =
     let flat = c.args.view.now.doc in
     let group = group_of c.args.group.now in
     once_told flat (named_group s.table group) others c.site.result.number c.site.result.positive
-    (c.site.ensures ∙ ap (λ (d : Flat). d.site) c.doc-2.ensures)
-    (subst (λ (d : Flat). IsHistory d.log) c.doc.ensures c.log.ensures.history)
-    (subst (λ (d : Flat). d.cells ≡ cells_of d.log) c.doc.ensures c.log.ensures.cells)
-    (subst (λ (d : Flat). d.count ≡ greatest_last_count d.log) c.doc.ensures c.log.ensures.count)
+    (c.site.ensures ∙ ap (λ (d : DocValue). d.site) c.doc-2.ensures)
+    (subst (λ (d : DocValue). IsHistory d.log) c.doc.ensures c.log.ensures.history)
+    (subst (λ (d : DocValue). d.cells ≡ cells_of d.log) c.doc.ensures c.log.ensures.cells)
+    (subst (λ (d : DocValue). d.count ≡ greatest_last_count d.log) c.doc.ensures c.log.ensures.count)
     (subst (λ (v : Recording). AreSound (named_group v.table group)) (sym c.self.view_is) c.requires.sound)
     checked once
 
@@ -111,7 +111,7 @@ returns-clause-gone g c =
     if_checked (λ (r : Reverted). r.returns.items ≡ returns)
     (λ (r : Reverted). (stamp : Stamp) → back_after r.returns.items (is_moved moves) stamp ≡ true → is_gone c.revert.new.self.doc.cells stamp ≡ true) c.revert.result
     (on_both (reversion_check flat group ≡ None) (c.revert.new.self ≡ view_reverted c.args.view.now group) c.revert.result c.revert.ensures.checked c.revert.ensures.ok) c.revert.ensures.returns
-    (λ both r same stamp back. ap (λ (v : Viewed). is_gone v.doc.cells stamp) both.1
+    (λ both r same stamp back. ap (λ (v : ViewValue). is_gone v.doc.cells stamp) both.1
     ∙ (told_here g c both.0).gone stamp ((λ j. back_after (sym same j) (λ u. sym (c.reserve.ensures.moves u) j) stamp) ∙ back))
 
 pub returns-clause-room : goal.returns-clause-room
@@ -156,6 +156,6 @@ returns-clause-taken g c =
     (λ both r same others once.
     subst (λ (l : List (Action (List Word))). AreGoneOnce c.revert.new.self.doc.cells (map (stamp_after r.returns.items) others ++ taken_by l)) (sym same.1)
     (subst (λ (l : List Return). AreGoneOnce c.revert.new.self.doc.cells (map (stamp_after l) others ++ taken_by (reverted_group flat group))) (sym same.0)
-    (subst (λ (v : Viewed). AreGoneOnce v.doc.cells (map (stamp_after returns) others ++ taken_by (reverted_group flat group))) (sym both.1)
+    (subst (λ (v : ViewValue). AreGoneOnce v.doc.cells (map (stamp_after returns) others ++ taken_by (reverted_group flat group))) (sym both.1)
     (once_here g c both.0 others
     (subst (λ (v : Recording). AreGoneOnce flat.cells (taken_by (named_group v.table (group_of c.args.group.now)) ++ others)) (sym c.self.view_is) once)))))

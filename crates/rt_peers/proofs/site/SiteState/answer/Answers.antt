@@ -2,7 +2,7 @@ use Rattle.std.proofs.Common.{◌≡◌, ◌∙◌, ℕ, Err, Option, ap, inr, r
 use Rattle.rt_stamps.specs.declared.fault.Fault.TheVariants.{NoWidget}
 use Rattle.rt_peers.specs.SiteStep.{AnswersInTurn, at_widget, by_widget, step_at}
 use Rattle.rt_peers.specs.Step.{step}
-use Rattle.rt_peers.specs.State.{place_of}
+use Rattle.rt_peers.specs.SiteValue.{place_of}
 use Rattle.rt_peers.proofs.InTurn.{at_once}
 use Rattle.rt_peers.proofs.PeerLaws.{place_in}
 use Rattle.rt_peers.proofs.site.SiteState.answer.Goals as goal

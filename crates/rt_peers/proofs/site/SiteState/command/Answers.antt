@@ -1,7 +1,7 @@
 use Rattle.std.proofs.Common.{◌≡◌, ◌∙◌, ℕ, None, Some, ap, refl, subst}
 use Rattle.rt_stamps.specs.Words.{as_words}
 use Rattle.rt_peers.specs.SiteStep.{CommandGives}
-use Rattle.rt_peers.specs.State.{place_of}
+use Rattle.rt_peers.specs.SiteValue.{place_of}
 use Rattle.rt_peers.proofs.PeerLaws.{place_in}
 use Rattle.rt_peers.proofs.site.SiteState.command.Goals as goal
 

@@ -2,7 +2,7 @@ use Rattle.std.proofs.Common.{◌≡◌, ◌∙◌, ℕ, Option, ap, inr, refl, 
 use Rattle.rt_stamps.specs.Outcomes.{Answers}
 use Rattle.rt_peers.specs.SiteStep.{at_widget, by_widget}
 use Rattle.rt_peers.specs.Options.{settings_step}
-use Rattle.rt_peers.specs.State.{place_of}
+use Rattle.rt_peers.specs.SiteValue.{place_of}
 use Rattle.rt_peers.proofs.PeerLaws.{place_in}
 use Rattle.rt_peers.proofs.site.SiteState.configure.Goals as goal
 

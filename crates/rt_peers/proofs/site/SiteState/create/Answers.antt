@@ -5,7 +5,7 @@ use Rattle.rt_stamps.specs.declared.fault.Fault.TheVariants.{WidgetExists}
 use Rattle.rt_stamps.specs.Outcomes.{Refuses}
 use Rattle.rt_stamps.specs.Words.{Word}
 use Rattle.rt_peers.specs.PeerStep.{created, path_check}
-use Rattle.rt_peers.specs.State.{place_of}
+use Rattle.rt_peers.specs.SiteValue.{place_of}
 use Rattle.rt_peers.proofs.OptionLaws.{created_as, created_refused}
 use Rattle.rt_peers.proofs.PeerLaws.{place_in}
 use Rattle.rt_peers.proofs.site.SiteState.create.Goals as goal

@@ -4,12 +4,12 @@ use Rattle.std.proofs.lemmas.Bool.Decides.{nat_tests}
 use Rattle.rt_stamps.specs.declared.fault.Fault.TheVariants.{LastWidget}
 use Rattle.rt_stamps.specs.Outcomes.{unless}
 use Rattle.rt_stamps.specs.Words.{Word, as_words}
-use Rattle.rt_text.specs.Widgets.{Viewed}
-use Rattle.rt_editing.specs.Edited.{Edited}
+use Rattle.rt_text.specs.Widgets.{ViewValue}
+use Rattle.rt_editing.specs.EditedValue.{EditedValue}
 use Rattle.rt_holding.specs.Grown.{AreTriedAt}
 use Rattle.rt_peers.specs.Peers.{HavePaths, without_widget}
 use Rattle.rt_peers.specs.PeerStep.{destroyed, destroyed_at}
-use Rattle.rt_peers.specs.State.{State, place_of}
+use Rattle.rt_peers.specs.SiteValue.{SiteValue, place_of}
 use Rattle.rt_peers.proofs.PeerLaws.{number_of_strings, path_gone, place_in, place_within, strings_without}
 use Rattle.rt_peers.proofs.site.SiteState.destroy.Goals as goal
 
@@ -35,21 +35,21 @@ invariant_of-self c =
     let items : as_words c.remove.new.self.items ≡ remove (paths_in c) place = ap as_words c.remove.ensures.items ∙ strings_without c.self.inside.paths.items place in
     record {
       paths = subst (λ (l : List Word). HavePaths l c.remove_widget.new.self.view) (sym items)
-          (subst (λ (v : Viewed). HavePaths (remove (paths_in c) place) v) (sym (ap (λ t. t.view) c.remove_widget.ensures)) (path_gone (paths_in c) view place c.self.invariant.paths there (several c)));
-      tried = subst (λ (t : Edited). AreTriedAt t.view.doc.limit t.view.doc.log c.self.inside.held) (sym c.remove_widget.ensures) c.self.invariant.tried;
+          (subst (λ (v : ViewValue). HavePaths (remove (paths_in c) place) v) (sym (ap (λ t. t.view) c.remove_widget.ensures)) (path_gone (paths_in c) view place c.self.invariant.paths there (several c)));
+      tried = subst (λ (t : EditedValue). AreTriedAt t.view.doc.limit t.view.doc.log c.self.inside.held) (sym c.remove_widget.ensures) c.self.invariant.tried;
     }
 
 gone : (c : goal.After-no_words) → destroyed c.args.path.now c.args.self.now ≡ Ok (record { paths = as_words c.remove.new.self.items; text = c.remove_widget.new.self; held = c.self.inside.held.held })
 gone c =
     let place = c.in-Some.place in
-    let state : State = record { paths = paths_in c; text = c.self.inside.text; held = c.self.inside.held.held } in
+    let state : SiteValue = record { paths = paths_in c; text = c.self.inside.text; held = c.self.inside.held.held } in
     let items : as_words c.remove.new.self.items ≡ remove (paths_in c) place = ap as_words c.remove.ensures.items ∙ strings_without c.self.inside.paths.items place in
     let left : without_widget place state ≡ record { paths = as_words c.remove.new.self.items; text = c.remove_widget.new.self; held = c.self.inside.held.held } =
     λ i. record { paths = sym items i; text = sym c.remove_widget.ensures i; held = c.self.inside.held.held } in
     let goes : destroyed c.args.path.now state ≡ Ok (without_widget place state) =
     ap (λ o. destroyed_at o state) (found c) ∙ ap (λ b. unless (cond b None (Some LastWidget)) (without_widget place state)) (counted _ (several c)) in
     let all : destroyed c.args.path.now state ≡ Ok (record { paths = as_words c.remove.new.self.items; text = c.remove_widget.new.self; held = c.self.inside.held.held }) = goes ∙ ap (λ s. Ok s) left in
-    subst (λ (s : State). destroyed c.args.path.now s ≡ Ok (record { paths = as_words c.remove.new.self.items; text = c.remove_widget.new.self; held = c.self.inside.held.held })) c.self.view_is all
+    subst (λ (s : SiteValue). destroyed c.args.path.now s ≡ Ok (record { paths = as_words c.remove.new.self.items; text = c.remove_widget.new.self; held = c.self.inside.held.held })) c.self.view_is all
 
 pub returns : goal.returns
 returns c = record { reply = c.no_words.ensures; ok = gone c; err = tt; unchanged = tt }

@@ -1,12 +1,12 @@
 use Rattle.std.proofs.Common.{◌∙◌, ap, suc, sym}
-use Rattle.rt_editing.specs.Edited.{Edited}
+use Rattle.rt_editing.specs.EditedValue.{EditedValue}
 use Rattle.rt_holding.specs.Receiving.{State as Holder}
 use Rattle.rt_peers.proofs.Staying.{received_stays}
 use Rattle.rt_peers.proofs.site.SiteState.receive.Goals as goal
 
 pub invariant_of-self : goal.invariant_of-self
 invariant_of-self c =
-    let old : Holder Edited = record { site = c.self.inside.text; held = c.self.inside.held.held } in
-    let new : Holder Edited = record { site = c.receive.new.site; held = c.receive.new.held.held } in
+    let old : Holder EditedValue = record { site = c.self.inside.text; held = c.self.inside.held.held } in
+    let new : Holder EditedValue = record { site = c.receive.new.site; held = c.receive.new.held.held } in
     let stay = received_stays c.args.bytes.now old c.receive.result new c.receive.ensures.receives in
     record { paths = record { each = c.self.invariant.paths.each ∙ sym (ap suc stay); differ = c.self.invariant.paths.differ }; tried = c.receive.ensures.tried }

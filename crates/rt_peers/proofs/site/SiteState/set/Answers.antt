@@ -1,12 +1,12 @@
 use Rattle.std.proofs.Common.{◌∙◌, ap, arith, length, subst, sym}
 use Rattle.rt_stamps.specs.Outcomes.{Answers}
 use Rattle.rt_stamps.specs.Words.{as_words}
-use Rattle.rt_editing.specs.Edited.{Edited}
+use Rattle.rt_editing.specs.EditedValue.{EditedValue}
 use Rattle.rt_peers.specs.Peers.{text_led, widgets_of}
-use Rattle.rt_peers.specs.State.{State}
+use Rattle.rt_peers.specs.SiteValue.{SiteValue}
 use Rattle.rt_peers.specs.SiteStep.{by_widget}
 use Rattle.rt_peers.specs.Options.{settings_step}
-use Rattle.rt_edits.specs.Flat.{Flat}
+use Rattle.rt_edits.specs.DocValue.{DocValue}
 use Rattle.rt_holding.specs.Grown.{AreTriedAt}
 use Rattle.rt_peers.proofs.OptionLaws.{settings_doc, settings_stay}
 use Rattle.rt_peers.proofs.PeerLaws.{by_led, led_number}
@@ -28,19 +28,19 @@ invariant_of-self c =
     ∙ ap (λ t. t.view.doc) (sym c.lead-2.ensures) in
     record {
       paths = record { each = omega (arith, stays, led, back, c.self.invariant.paths.each); differ = c.self.invariant.paths.differ };
-      tried = subst (λ (d : Flat). AreTriedAt d.limit d.log c.self.inside.held) docs c.self.invariant.tried;
+      tried = subst (λ (d : DocValue). AreTriedAt d.limit d.log c.self.inside.held) docs c.self.invariant.tried;
     }
 
 pub returns : goal.returns
 returns c =
     let paths = as_words c.self.inside.paths.items in
-    let state : State = record { paths = paths; text = c.self.inside.text; held = c.self.inside.held.held } in
+    let state : SiteValue = record { paths = paths; text = c.self.inside.text; held = c.self.inside.held.held } in
     let place = c.args.place in
     let result = c.set-reply.result in
     let answers : Answers (settings_step (text_led place state.text) c.args.settings.now) (text_led place state.text) result c.set-reply.new.self =
-    subst (λ (t : Edited). Answers (settings_step t c.args.settings.now) t result c.set-reply.new.self) c.lead.ensures c.set-reply.ensures in
+    subst (λ (t : EditedValue). Answers (settings_step t c.args.settings.now) t result c.set-reply.new.self) c.lead.ensures c.set-reply.ensures in
     let led : Answers (by_widget place state (λ text. settings_step text c.args.settings.now)) state result (record state { text = text_led place c.set-reply.new.self }) =
     by_led place state (λ text. settings_step text c.args.settings.now) result c.set-reply.new.self answers in
     let there : Answers (by_widget place state (λ text. settings_step text c.args.settings.now)) state result (record { paths = paths; text = c.lead-2.new.self; held = c.self.inside.held.held }) =
-    subst (λ (t : Edited). Answers (by_widget place state (λ text. settings_step text c.args.settings.now)) state result (record { paths = paths; text = t; held = c.self.inside.held.held })) (sym c.lead-2.ensures) led in
-    subst (λ (s : State). Answers (by_widget place s (λ text. settings_step text c.args.settings.now)) s result (record { paths = paths; text = c.lead-2.new.self; held = c.self.inside.held.held })) c.self.view_is there
+    subst (λ (t : EditedValue). Answers (by_widget place state (λ text. settings_step text c.args.settings.now)) state result (record { paths = paths; text = t; held = c.self.inside.held.held })) (sym c.lead-2.ensures) led in
+    subst (λ (s : SiteValue). Answers (by_widget place s (λ text. settings_step text c.args.settings.now)) s result (record { paths = paths; text = c.lead-2.new.self; held = c.self.inside.held.held })) c.self.view_is there

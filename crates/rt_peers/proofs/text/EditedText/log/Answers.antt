@@ -1,9 +1,9 @@
 use Rattle.std.proofs.Common.{subst}
 use Rattle.std.specs.List.{AllByRecursion}
-use Rattle.rt_editing.specs.Edited.{Edited}
+use Rattle.rt_editing.specs.EditedValue.{EditedValue}
 use Rattle.rt_text.specs.Widgets.{limits_of}
 use Rattle.rt_views.specs.Ordered.{AreInOrder}
 use Rattle.rt_peers.proofs.text.EditedText.log.Goals as goal
 
 pub returns-clause-limits : goal.returns-clause-limits
-returns-clause-limits c = subst (λ (t : Edited). AllByRecursion (AreInOrder t.view.doc.cells) (limits_of t.view)) c.self.view_is c.log.ensures.limits
+returns-clause-limits c = subst (λ (t : EditedValue). AllByRecursion (AreInOrder t.view.doc.cells) (limits_of t.view)) c.self.view_is c.log.ensures.limits

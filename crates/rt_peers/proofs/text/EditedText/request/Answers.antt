@@ -4,7 +4,7 @@ use Rattle.rt_stamps.specs.Outcomes.{Answers}
 use Rattle.rt_stamps.specs.Places.{text_of_position}
 use Rattle.rt_requests.specs.Parts.{all_of}
 use Rattle.rt_queries.specs.Dumping.{dumped}
-use Rattle.rt_editing.specs.Edited.{Edited, edited}
+use Rattle.rt_editing.specs.EditedValue.{EditedValue, edited}
 use Rattle.rt_editing.specs.Edits.{text_deleted, text_inserted, text_replaced}
 use Rattle.rt_queries.specs.SearchCommand.{searched}
 use Rattle.rt_text.specs.Commands.{compared, counted, position_of_index}
@@ -15,17 +15,17 @@ use Rattle.rt_peers.proofs.text.EditedText.request.Goals as goal
 pub returns-in-Insert : goal.returns-in-Insert
 returns-in-Insert c =
     rw c.in-Insert.is
-    (subst (λ (s : Edited). Answers (changed_step (text_inserted s c.in-Insert.index (map as_piece c.in-Insert.texts.pieces) c.in-Insert.texts.rest)) s c.insert.result (edited c.insert.new.self c.insert.new.recorder)) c.self.view_is c.insert.ensures.answers)
+    (subst (λ (s : EditedValue). Answers (changed_step (text_inserted s c.in-Insert.index (map as_piece c.in-Insert.texts.pieces) c.in-Insert.texts.rest)) s c.insert.result (edited c.insert.new.self c.insert.new.recorder)) c.self.view_is c.insert.ensures.answers)
 
 pub returns-in-Delete : goal.returns-in-Delete
 returns-in-Delete c =
     rw c.in-Delete.is
-    (subst (λ (s : Edited). Answers (changed_step (text_deleted s (all_of c.in-Delete.indices))) s c.delete.result (edited c.delete.new.self c.delete.new.recorder)) c.self-in-Delete.view_is c.delete.ensures.answers)
+    (subst (λ (s : EditedValue). Answers (changed_step (text_deleted s (all_of c.in-Delete.indices))) s c.delete.result (edited c.delete.new.self c.delete.new.recorder)) c.self-in-Delete.view_is c.delete.ensures.answers)
 
 pub returns-in-Replace : goal.returns-in-Replace
 returns-in-Replace c =
     rw c.in-Replace.is
-    (subst (λ (s : Edited). Answers (changed_step (text_replaced s c.in-Replace.from c.in-Replace.to (map as_piece c.in-Replace.texts.pieces) c.in-Replace.texts.rest)) s c.replace.result (edited c.replace.new.self c.replace.new.recorder)) c.self-in-Replace.view_is c.replace.ensures.answers)
+    (subst (λ (s : EditedValue). Answers (changed_step (text_replaced s c.in-Replace.from c.in-Replace.to (map as_piece c.in-Replace.texts.pieces) c.in-Replace.texts.rest)) s c.replace.result (edited c.replace.new.self c.replace.new.recorder)) c.self-in-Replace.view_is c.replace.ensures.answers)
 
 pub returns-in-Index : goal.returns-in-Index
 returns-in-Index c =

@@ -1,13 +1,13 @@
 use Rattle.std.proofs.Common.{subst, sym}
 use Rattle.rt_editing.specs.Settled.{IsSettled}
-use Rattle.rt_text.specs.Widgets.{Viewed}
-use Rattle.rt_editing.specs.Edited.{edited}
+use Rattle.rt_text.specs.Widgets.{ViewValue}
+use Rattle.rt_editing.specs.EditedValue.{edited}
 use Rattle.rt_editing.specs.Edits.{text_deleted}
 use Rattle.rt_peers.proofs.Steps.{changed_answers}
 use Rattle.rt_peers.proofs.viewer.Viewer.delete.Goals as goal
 
 pub delete-deleted-requires : goal.delete-deleted-requires
-delete-deleted-requires c = subst (λ (v : Viewed). IsSettled v c.args.recorder.now) (sym c.self.view_is) c.requires
+delete-deleted-requires c = subst (λ (v : ViewValue). IsSettled v c.args.recorder.now) (sym c.self.view_is) c.requires
 
 pub returns : goal.returns
 returns c =

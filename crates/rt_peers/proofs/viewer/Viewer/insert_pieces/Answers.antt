@@ -1,15 +1,15 @@
 use Rattle.std.proofs.Common.{◌∙◌, ap, map, inl, refl, subst, sym}
 use Rattle.std.proofs.lemmas.Result.{err_from_is_err_and}
 use Rattle.rt_editing.specs.Settled.{IsSettled}
-use Rattle.rt_text.specs.Widgets.{Viewed}
-use Rattle.rt_editing.specs.Edited.{edited}
+use Rattle.rt_text.specs.Widgets.{ViewValue}
+use Rattle.rt_editing.specs.EditedValue.{edited}
 use Rattle.rt_editing.specs.Edits.{text_inserted}
 use Rattle.rt_peers.specs.ViewStep.{as_piece}
 use Rattle.rt_peers.proofs.Steps.{changed_answers}
 use Rattle.rt_peers.proofs.viewer.Viewer.insert_pieces.Goals as goal
 
 pub insert-inserted-requires : goal.insert-inserted-requires
-insert-inserted-requires c = subst (λ (v : Viewed). IsSettled v c.args.recorder.now) (sym c.self.view_is) c.requires
+insert-inserted-requires c = subst (λ (v : ViewValue). IsSettled v c.args.recorder.now) (sym c.self.view_is) c.requires
 
 pub returns-in_err-pieces : goal.returns-in_err-pieces
 returns-in_err-pieces c =

@@ -1,14 +1,14 @@
 use Rattle.std.proofs.Common.{inl, refl, subst, sym}
 use Rattle.std.proofs.lemmas.Result.{err_from_is_err_and}
 use Rattle.rt_editing.specs.Settled.{IsSettled}
-use Rattle.rt_text.specs.Widgets.{Viewed}
-use Rattle.rt_editing.specs.Edited.{edited}
+use Rattle.rt_text.specs.Widgets.{ViewValue}
+use Rattle.rt_editing.specs.EditedValue.{edited}
 use Rattle.rt_editing.specs.Reverts.{text_redone}
 use Rattle.rt_peers.proofs.Steps.{changed_answers}
 use Rattle.rt_peers.proofs.viewer.Viewer.redo.Goals as goal
 
 pub redo-redone-requires-clause-settled : goal.redo-redone-requires-clause-settled
-redo-redone-requires-clause-settled c = subst (λ (v : Viewed). IsSettled v c.args.recorder.now) (sym c.self.view_is) c.requires
+redo-redone-requires-clause-settled c = subst (λ (v : ViewValue). IsSettled v c.args.recorder.now) (sym c.self.view_is) c.requires
 
 pub returns-in_err-copy : goal.returns-in_err-copy
 returns-in_err-copy c =

@@ -1,15 +1,15 @@
 use Rattle.std.proofs.Common.{◌∙◌, ap, map, inl, refl, subst, sym}
 use Rattle.std.proofs.lemmas.Result.{err_from_is_err_and}
 use Rattle.rt_editing.specs.Settled.{IsSettled}
-use Rattle.rt_text.specs.Widgets.{Viewed}
-use Rattle.rt_editing.specs.Edited.{edited}
+use Rattle.rt_text.specs.Widgets.{ViewValue}
+use Rattle.rt_editing.specs.EditedValue.{edited}
 use Rattle.rt_editing.specs.Edits.{text_replaced}
 use Rattle.rt_peers.specs.ViewStep.{as_piece}
 use Rattle.rt_peers.proofs.Steps.{changed_answers}
 use Rattle.rt_peers.proofs.viewer.Viewer.replace.Goals as goal
 
 pub replace-replaced-requires : goal.replace-replaced-requires
-replace-replaced-requires c = subst (λ (v : Viewed). IsSettled v c.args.recorder.now) (sym c.self.view_is) c.requires
+replace-replaced-requires c = subst (λ (v : ViewValue). IsSettled v c.args.recorder.now) (sym c.self.view_is) c.requires
 
 pub returns-in_err-pieces : goal.returns-in_err-pieces
 returns-in_err-pieces c =

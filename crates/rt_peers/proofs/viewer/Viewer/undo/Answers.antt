@@ -1,14 +1,14 @@
 use Rattle.std.proofs.Common.{inl, refl, subst, sym}
 use Rattle.std.proofs.lemmas.Result.{err_from_is_err_and}
 use Rattle.rt_editing.specs.Settled.{IsSettled}
-use Rattle.rt_text.specs.Widgets.{Viewed}
-use Rattle.rt_editing.specs.Edited.{edited}
+use Rattle.rt_text.specs.Widgets.{ViewValue}
+use Rattle.rt_editing.specs.EditedValue.{edited}
 use Rattle.rt_editing.specs.Reverts.{text_undone}
 use Rattle.rt_peers.proofs.Steps.{changed_answers}
 use Rattle.rt_peers.proofs.viewer.Viewer.undo.Goals as goal
 
 pub undo-undone-requires-clause-settled : goal.undo-undone-requires-clause-settled
-undo-undone-requires-clause-settled c = subst (λ (v : Viewed). IsSettled v c.args.recorder.now) (sym c.self.view_is) c.requires
+undo-undone-requires-clause-settled c = subst (λ (v : ViewValue). IsSettled v c.args.recorder.now) (sym c.self.view_is) c.requires
 
 pub returns-in_err-copy : goal.returns-in_err-copy
 returns-in_err-copy c =

@@ -15,14 +15,14 @@ use Rattle.rt_rga.specs.Made.{refusal_of}
 use Rattle.rt_rga.specs.Requests.{MayBeMade}
 use Rattle.rt_edits.specs.declared.range.Range.{Range}
 use Rattle.rt_edits.specs.Deletions.{Loss, delete_drafts, loss_in, without_text}
-use Rattle.rt_edits.specs.Flat.{Flat, logged}
+use Rattle.rt_edits.specs.DocValue.{DocValue, logged}
 use Rattle.rt_edits.specs.Listed.{AreListed}
 use Rattle.rt_edits.specs.Removals.{is_covered, AreInOrder}
 use Rattle.rt_text.specs.Commands.{clock_check}
 use Rattle.rt_text.specs.Parts.{own_in}
 use Rattle.rt_stamps.specs.declared.stamp.Stamp.{Stamp}
 use Rattle.rt_views.specs.Stretches.{part, stretch_of}
-use Rattle.rt_text.specs.Widgets.{AreSiteMarks, IsOwnOf, Own, last_newline, own_left, reselected}
+use Rattle.rt_text.specs.Widgets.{AreSiteMarks, IsOwnOf, WidgetValue, last_newline, own_left, reselected}
 use Rattle.rt_text.proofs.LimitedDeletions.{deletion_edited, deletion_may, deletion_others, deletion_own, deletion_placed, deletion_refusal, deletion_seen, last_gone, last_kept, loss_kept, loss_of, widget_left}
 use Rattle.rt_text.proofs.ViewLaws.{viewed}
 use Rattle.rt_text.proofs.DeletionLaws.{deletion_listed}
@@ -59,7 +59,7 @@ commit-requires g c =
     ∙ ap (delete_drafts MOST_SPANS flat)
     (loss_kept c.kept.result.1.now (g.S.TextStore.list c.kept.result.0.now) flat c.args.widget.now.limits c.stretch-stretch.result c.args.ranges.now c.kept.ensures.cells
     (c.stretch-stretch.ensures.value ∙ ap (stretch_of (g.S.TextStore.list c.kept.result.0.now)) c.limits.ensures)) in
-    subst (λ (f : Flat). MayBeMade f.site f.log (map body_of c.in_ok-deletion.deletion.drafts.items)) (sym c.self.view_is)
+    subst (λ (f : DocValue). MayBeMade f.site f.log (map body_of c.in_ok-deletion.deletion.drafts.items)) (sym c.self.view_is)
     (subst (MayBeMade flat.site flat.log) (sym drafts) (deletion_may flat c.args.widget.now.limits c.args.ranges.now c.kept.ensures.history c.kept.ensures.document))
 
 pub returns-in_err-deletion : goal.returns-in_err-deletion
@@ -90,7 +90,7 @@ returns-in_err-commit g c =
     let few : length flat.cells ≤ flat.limit = omega (arith, c.kept.ensures.few, ap length c.kept.ensures.cells, length-map (g.S.TextStore.list c.kept.result.0.now) (shown c.kept.result.1.now)) in
     let bodies = map body_of c.in_ok-deletion.deletion.drafts.items in
     let refusal : refusal_of c.self.inside.replica.limit bodies c.self.inside.replica.log ≡ clock_check (without_text flat (loss_of flat limits ranges)).count =
-    ap (λ (f : Flat). refusal_of f.limit bodies f.log) c.self.view_is ∙ ap (λ l. refusal_of flat.limit l flat.log) drafts ∙ deletion_refusal flat limits ranges c.kept.ensures.history c.kept.ensures.document few in
+    ap (λ (f : DocValue). refusal_of f.limit bodies f.log) c.self.view_is ∙ ap (λ l. refusal_of flat.limit l flat.log) drafts ∙ deletion_refusal flat limits ranges c.kept.ensures.history c.kept.ensures.document few in
     let (y, is, gives) = err_from_is_err_and c.from_residual-in_err-commit.result c.from_residual-in_err-commit.ensures.1 in
     let doc : seen c.commit.new.self c.self.inside.marks c.self.inside.tags.names ≡ flat =
     (λ k. seen (c.in_err-commit.ensures.same k) c.self.inside.marks c.self.inside.tags.names) ∙ c.self.view_is in
@@ -99,12 +99,12 @@ returns-in_err-commit g c =
       checked = tt;
       err = which c.in_err-commit.ensures.refused refusal;
       unchanged = (doc, refl, refl);
-      own = subst (λ (f : Flat). IsOwnOf (length (text_of f.cells)) c.args.widget.now) (sym doc) c.requires.own;
-      others = subst (λ (f : Flat). AllByRecursion (IsOwnOf (length (text_of f.cells))) (map own_in c.args.others.now)) (sym doc) c.requires.others;
+      own = subst (λ (f : DocValue). IsOwnOf (length (text_of f.cells)) c.args.widget.now) (sym doc) c.requires.own;
+      others = subst (λ (f : DocValue). AllByRecursion (IsOwnOf (length (text_of f.cells))) (map own_in c.args.others.now)) (sym doc) c.requires.others;
     })
 
 -- what the deletion has made, in the words of its laws
-record Made (flat : Flat) (own : Own) (others : List Own) (ranges : List Range) (new : ReplicaValue) (marks : List Mark) (removed : ℕ → Bool) (last : Stamp) (held : Bool) : Type 0 where
+record Made (flat : DocValue) (own : WidgetValue) (others : List WidgetValue) (ranges : List Range) (new : ReplicaValue) (marks : List Mark) (removed : ℕ → Bool) (last : Stamp) (held : Bool) : Type 0 where
   doc : seen new marks flat.tags ≡ logged flat (delete_drafts MOST_SPANS flat (loss_of flat own.limits ranges)) (without_text flat (loss_of flat own.limits ranges))
   places : (p : ℕ) → removed p ≡ (loss_of flat own.limits ranges).places p
   moved : marks ≡ marks_left removed flat.marks
@@ -131,17 +131,17 @@ made g c =
     let view = c.self.view_is in
     let bodies = map body_of d.drafts.items in
     let fits : refusal_of flat.limit (delete_drafts MOST_SPANS flat (loss_of flat limits ranges)) flat.log ≡ None =
-    ap (λ l. refusal_of flat.limit l flat.log) (sym drafts) ∙ ap (λ (f : Flat). refusal_of f.limit bodies f.log) (sym view) ∙ c.in_ok-commit.ensures.fits in
+    ap (λ l. refusal_of flat.limit l flat.log) (sym drafts) ∙ ap (λ (f : DocValue). refusal_of f.limit bodies f.log) (sym view) ∙ c.in_ok-commit.ensures.fits in
     let log : c.commit.new.self.log ≡ with_drafts flat.site (delete_drafts MOST_SPANS flat (loss_of flat limits ranges)) flat.log =
-    c.in_ok-commit.ensures.log ∙ ap (λ (f : Flat). with_drafts f.site bodies f.log) view ∙ ap (λ l. with_drafts flat.site l flat.log) drafts in
+    c.in_ok-commit.ensures.log ∙ ap (λ (f : DocValue). with_drafts f.site bodies f.log) view ∙ ap (λ l. with_drafts flat.site l flat.log) drafts in
     let stretch : c.stretch-stretch.result ≡ stretch_of kept limits = c.stretch-stretch.ensures.value ∙ ap (stretch_of kept) c.limits.ensures in
     let loss : loss_in (part c.stretch-stretch.result (text_of kept)) c.stretch-stretch.result.begin ranges ≡ loss_of flat limits ranges =
     loss_kept c.kept.result.1.now kept flat limits c.stretch-stretch.result ranges c.kept.ensures.cells stretch in
     let places : (p : ℕ) → is_covered d.removed.items p ≡ (loss_of flat limits ranges).places p = λ p. c.in_ok-deletion.ensures.places p ∙ ap (λ (l : Loss). l.places p) loss in
     let moved : c.leave_all.new.marks ≡ marks_left (is_covered d.removed.items) flat.marks =
-    c.leave_all.ensures.marks ∙ ap (λ l. marks_left (is_covered l) c.self.inside.marks) c.deref.ensures.value ∙ ap (λ (f : Flat). marks_left (is_covered d.removed.items) f.marks) view in
-    let site : c.commit.new.self.site ≡ flat.site = c.commit.ensures.site ∙ ap (λ (f : Flat). f.site) view in
-    let limit : c.commit.new.self.limit ≡ flat.limit = c.commit.ensures.limit ∙ ap (λ (f : Flat). f.limit) view in
+    c.leave_all.ensures.marks ∙ ap (λ l. marks_left (is_covered l) c.self.inside.marks) c.deref.ensures.value ∙ ap (λ (f : DocValue). marks_left (is_covered d.removed.items) f.marks) view in
+    let site : c.commit.new.self.site ≡ flat.site = c.commit.ensures.site ∙ ap (λ (f : DocValue). f.site) view in
+    let limit : c.commit.new.self.limit ≡ flat.limit = c.commit.ensures.limit ∙ ap (λ (f : DocValue). f.limit) view in
     record {
       doc = deletion_seen flat limits ranges history document c.kept.ensures.site c.commit.new.self c.leave_all.new.marks (is_covered d.removed.items) log c.in_ok-commit.ensures.cells site limit fits few places moved;
       places = places;
@@ -157,12 +157,12 @@ invariant_of-self-2 g c =
     let ranges = c.args.ranges.now in
     let limits = c.args.widget.now.limits in
     let m = made g c in
-    let cells : c.commit.new.self.cells ≡ (without_text flat (loss_of flat limits ranges)).cells = ap (λ (f : Flat). f.cells) m.doc in record {
+    let cells : c.commit.new.self.cells ≡ (without_text flat (loss_of flat limits ranges)).cells = ap (λ (f : DocValue). f.cells) m.doc in record {
       placed = subst (λ (l : List TaggedCell). AreSiteMarks (length (text_of l)) c.leave_all.new.marks) (sym cells)
           (deletion_placed flat limits ranges c.leave_all.new.marks (is_covered c.in_ok-deletion.deletion.removed.items) m.places m.moved
-          (subst (λ (f : Flat). AreSiteMarks (length (text_of f.cells)) f.marks) c.self.view_is c.self.invariant.placed));
+          (subst (λ (f : DocValue). AreSiteMarks (length (text_of f.cells)) f.marks) c.self.view_is c.self.invariant.placed));
       listed = subst (λ (l : List TaggedCell). AreListed c.self.inside.tags.names l) (sym cells)
-          (deletion_listed flat (loss_of flat limits ranges) c.self.inside.tags.names (subst (λ (f : Flat). AreListed c.self.inside.tags.names f.cells) c.self.view_is c.self.invariant.listed));
+          (deletion_listed flat (loss_of flat limits ranges) c.self.inside.tags.names (subst (λ (f : DocValue). AreListed c.self.inside.tags.names f.cells) c.self.view_is c.self.invariant.listed));
     }
 
 widget : (g : Over) (c : goal.After-drop-deletion-2 g) → c.unselect_last.new.widget ≡ widget_left (is_covered c.in_ok-deletion.deletion.removed.items) c.cell_at.result.stamp c.in_ok-deletion.deletion.held c.args.widget.now
@@ -187,15 +187,15 @@ returns-clause-ok g c =
     let limits = c.args.widget.now.limits in
     let d = c.in_ok-deletion.deletion in
     let m = made g c in
-    let doc : Flat = seen c.commit.new.self c.leave_all.new.marks c.self.inside.tags.names in
-    let same : doc ≡ seen c.commit.new.self c.leave_all.new.marks flat.tags = ap (λ (f : Flat). seen c.commit.new.self c.leave_all.new.marks f.tags) c.self.view_is in
+    let doc : DocValue = seen c.commit.new.self c.leave_all.new.marks c.self.inside.tags.names in
+    let same : doc ≡ seen c.commit.new.self c.leave_all.new.marks flat.tags = ap (λ (f : DocValue). seen c.commit.new.self c.leave_all.new.marks f.tags) c.self.view_is in
     deletion_edited flat own others ranges doc (is_covered d.removed.items) c.cell_at.result.stamp d.held (same ∙ m.doc) m.places m.newest m.holds
     ∙ (λ i. record { doc = doc; own = sym (widget g c) i; others = sym (others_left g c) i })
 
 pub returns-clause-checked : goal.returns-clause-checked
 returns-clause-checked g c =
     let m = made g c in
-    ap (λ (f : Flat). clock_check f.count) m.doc ∙ m.fits
+    ap (λ (f : DocValue). clock_check f.count) m.doc ∙ m.fits
 
 pub returns-clause-own : goal.returns-clause-own
 returns-clause-own g c =
@@ -204,7 +204,7 @@ returns-clause-own g c =
     let limits = c.args.widget.now.limits in
     let d = c.in_ok-deletion.deletion in
     let m = made g c in
-    let cells : c.commit.new.self.cells ≡ (without_text flat (loss_of flat limits ranges)).cells = ap (λ (f : Flat). f.cells) m.doc in
+    let cells : c.commit.new.self.cells ≡ (without_text flat (loss_of flat limits ranges)).cells = ap (λ (f : DocValue). f.cells) m.doc in
     subst (λ (l : List TaggedCell). IsOwnOf (length (text_of l)) c.unselect_last.new.widget) (sym cells)
     (subst (IsOwnOf (length (text_of (without_text flat (loss_of flat limits ranges)).cells))) (sym (widget g c))
     (own_of_selecting _ _ _ (deletion_own flat limits ranges c.kept.ensures.history c.kept.ensures.document c.args.widget.now (is_covered d.removed.items) m.places c.requires.own)))
@@ -216,7 +216,7 @@ returns-clause-others g c =
     let limits = c.args.widget.now.limits in
     let d = c.in_ok-deletion.deletion in
     let m = made g c in
-    let cells : c.commit.new.self.cells ≡ (without_text flat (loss_of flat limits ranges)).cells = ap (λ (f : Flat). f.cells) m.doc in
+    let cells : c.commit.new.self.cells ≡ (without_text flat (loss_of flat limits ranges)).cells = ap (λ (f : DocValue). f.cells) m.doc in
     subst (λ (l : List TaggedCell). AllByRecursion (IsOwnOf (length (text_of l))) (map own_in c.unselect_last.new.others)) (sym cells)
     (subst (AllByRecursion (IsOwnOf (length (text_of (without_text flat (loss_of flat limits ranges)).cells)))) (sym (others_left g c))
     (deletion_others flat limits ranges c.kept.ensures.history c.kept.ensures.document (map own_in c.args.others.now) (is_covered d.removed.items) c.cell_at.result.stamp d.held m.places c.requires.others))

@@ -14,7 +14,7 @@ use Rattle.rt_rga.proofs.Corollaries.{cells_written}
 use Rattle.rt_store.specs.Cells.{text_of}
 use Rattle.rt_store.specs.Shown.{TaggedCell}
 use Rattle.rt_store.specs.Written.{AreWritten}
-use Rattle.rt_edits.specs.Flat.{Flat, logged}
+use Rattle.rt_edits.specs.DocValue.{DocValue, logged}
 use Rattle.rt_edits.specs.Listed.{AreListed}
 use Rattle.rt_edits.specs.TagDrafts.{deletion_drafts}
 use Rattle.rt_edits.specs.TagWrites.{without_tags}
@@ -42,7 +42,7 @@ commit-requires g c =
     let of = of_site c.kept.result.1.now (g.S.TextStore.list c.kept.result.0.now) old c.kept.ensures.history c.kept.ensures.document c.kept.ensures.site c.kept.ensures.cells c.kept.ensures.few in
     let makes = deleted_makes old names of in
     subst (λ (l : List Body). MayBeMade c.self.inside.replica.site c.self.inside.replica.log l) (sym bodies)
-    (subst (λ (f : Flat). MayBeMade f.site f.log drafts) (sym c.self.view_is) makes.may)
+    (subst (λ (f : DocValue). MayBeMade f.site f.log drafts) (sym c.self.view_is) makes.may)
 
 pub returns-in_err-drafts : goal.returns-in_err-drafts
 returns-in_err-drafts g c =
@@ -71,7 +71,7 @@ returns-in_err-commit g c =
       checked = tt;
       err = refuses old edited drafts makes c.in_err-commit.field-0.0 (subst (λ o. (o ≡ Some c.in_err-commit.field-0.0) ⊎ ((c.in_err-commit.field-0.0 ≡ NoMemory) × (o ≡ None))) same c.in_err-commit.ensures.refused);
       unchanged = doc;
-      text = ap (λ (f : Flat). text_of f.cells) doc;
+      text = ap (λ (f : DocValue). text_of f.cells) doc;
     })
 
 pub invariant_of-self-2 : goal.invariant_of-self-2
@@ -86,15 +86,15 @@ invariant_of-self-2 g c =
     let left = left_of_deletion names old in
     let fit : refusal_of old.limit drafts old.log ≡ None = (λ i. refusal_of (sym c.self.view_is i).limit (sym bodies i) (sym c.self.view_is i).log) ∙ c.in_ok-commit.ensures.fits in
     let log : c.commit.new.self.log ≡ with_drafts old.site drafts old.log = c.in_ok-commit.ensures.log ∙ (λ i. with_drafts (c.self.view_is i).site (bodies i) (c.self.view_is i).log) in
-    let tags : c.forget_all.new.tags.names ≡ edited.tags = c.forget_all.ensures.names ∙ ap (λ (f : Flat). all_forgotten names f.tags) c.self.view_is ∙ sym left.tags in
+    let tags : c.forget_all.new.tags.names ≡ edited.tags = c.forget_all.ensures.names ∙ ap (λ (f : DocValue). all_forgotten names f.tags) c.self.view_is ∙ sym left.tags in
     let made : seen c.commit.new.self c.self.inside.marks c.forget_all.new.tags.names ≡ logged old drafts edited =
-    makes_seen old edited drafts makes c.commit.new.self c.self.inside.marks c.forget_all.new.tags.names fit log c.in_ok-commit.ensures.cells (c.commit.ensures.site ∙ ap (λ (f : Flat). f.site) c.self.view_is)
-    (c.commit.ensures.limit ∙ ap (λ (f : Flat). f.limit) c.self.view_is) (ap (λ (f : Flat). f.marks) c.self.view_is ∙ sym left.marks) tags left.limit in
+    makes_seen old edited drafts makes c.commit.new.self c.self.inside.marks c.forget_all.new.tags.names fit log c.in_ok-commit.ensures.cells (c.commit.ensures.site ∙ ap (λ (f : DocValue). f.site) c.self.view_is)
+    (c.commit.ensures.limit ∙ ap (λ (f : DocValue). f.limit) c.self.view_is) (ap (λ (f : DocValue). f.marks) c.self.view_is ∙ sym left.marks) tags left.limit in
     let written : AreWritten old.count old.cells =
     subst (λ (p : ℕ × List TaggedCell). AreWritten p.0 p.1) (λ i. (sym c.kept.ensures.document.count i, sym c.kept.ensures.document.cells i)) (cells_written old.log c.kept.ensures.history) in
-    let stays : StaysTagged edited = all_without_stays names old (record { listed = subst (λ (f : Flat). AreListed f.tags f.cells) c.self.view_is c.self.invariant.listed; known = written }) in
-    subst (λ (f : Flat). IsDoc f.cells c.self.inside.marks f.tags) (sym made)
-    (kept_beside old edited c.self.inside.marks (subst (λ (f : Flat). AreSiteMarks (length (text_of f.cells)) c.self.inside.marks) c.self.view_is c.self.invariant.placed) left.text stays.listed)
+    let stays : StaysTagged edited = all_without_stays names old (record { listed = subst (λ (f : DocValue). AreListed f.tags f.cells) c.self.view_is c.self.invariant.listed; known = written }) in
+    subst (λ (f : DocValue). IsDoc f.cells c.self.inside.marks f.tags) (sym made)
+    (kept_beside old edited c.self.inside.marks (subst (λ (f : DocValue). AreSiteMarks (length (text_of f.cells)) c.self.inside.marks) c.self.view_is c.self.invariant.placed) left.text stays.listed)
 
 pub returns-clause-ok : goal.returns-clause-ok
 returns-clause-ok g c =
@@ -108,10 +108,10 @@ returns-clause-ok g c =
     let left = left_of_deletion names old in
     let fit : refusal_of old.limit drafts old.log ≡ None = (λ i. refusal_of (sym c.self.view_is i).limit (sym bodies i) (sym c.self.view_is i).log) ∙ c.in_ok-commit.ensures.fits in
     let log : c.commit.new.self.log ≡ with_drafts old.site drafts old.log = c.in_ok-commit.ensures.log ∙ (λ i. with_drafts (c.self.view_is i).site (bodies i) (c.self.view_is i).log) in
-    let tags : c.forget_all.new.tags.names ≡ edited.tags = c.forget_all.ensures.names ∙ ap (λ (f : Flat). all_forgotten names f.tags) c.self.view_is ∙ sym left.tags in
+    let tags : c.forget_all.new.tags.names ≡ edited.tags = c.forget_all.ensures.names ∙ ap (λ (f : DocValue). all_forgotten names f.tags) c.self.view_is ∙ sym left.tags in
     let made : seen c.commit.new.self c.self.inside.marks c.forget_all.new.tags.names ≡ logged old drafts edited =
-    makes_seen old edited drafts makes c.commit.new.self c.self.inside.marks c.forget_all.new.tags.names fit log c.in_ok-commit.ensures.cells (c.commit.ensures.site ∙ ap (λ (f : Flat). f.site) c.self.view_is)
-    (c.commit.ensures.limit ∙ ap (λ (f : Flat). f.limit) c.self.view_is) (ap (λ (f : Flat). f.marks) c.self.view_is ∙ sym left.marks) tags left.limit in
+    makes_seen old edited drafts makes c.commit.new.self c.self.inside.marks c.forget_all.new.tags.names fit log c.in_ok-commit.ensures.cells (c.commit.ensures.site ∙ ap (λ (f : DocValue). f.site) c.self.view_is)
+    (c.commit.ensures.limit ∙ ap (λ (f : DocValue). f.limit) c.self.view_is) (ap (λ (f : DocValue). f.marks) c.self.view_is ∙ sym left.marks) tags left.limit in
     made
 
 pub returns-clause-checked : goal.returns-clause-checked
@@ -126,11 +126,11 @@ returns-clause-checked g c =
     let left = left_of_deletion names old in
     let fit : refusal_of old.limit drafts old.log ≡ None = (λ i. refusal_of (sym c.self.view_is i).limit (sym bodies i) (sym c.self.view_is i).log) ∙ c.in_ok-commit.ensures.fits in
     let log : c.commit.new.self.log ≡ with_drafts old.site drafts old.log = c.in_ok-commit.ensures.log ∙ (λ i. with_drafts (c.self.view_is i).site (bodies i) (c.self.view_is i).log) in
-    let tags : c.forget_all.new.tags.names ≡ edited.tags = c.forget_all.ensures.names ∙ ap (λ (f : Flat). all_forgotten names f.tags) c.self.view_is ∙ sym left.tags in
+    let tags : c.forget_all.new.tags.names ≡ edited.tags = c.forget_all.ensures.names ∙ ap (λ (f : DocValue). all_forgotten names f.tags) c.self.view_is ∙ sym left.tags in
     let made : seen c.commit.new.self c.self.inside.marks c.forget_all.new.tags.names ≡ logged old drafts edited =
-    makes_seen old edited drafts makes c.commit.new.self c.self.inside.marks c.forget_all.new.tags.names fit log c.in_ok-commit.ensures.cells (c.commit.ensures.site ∙ ap (λ (f : Flat). f.site) c.self.view_is)
-    (c.commit.ensures.limit ∙ ap (λ (f : Flat). f.limit) c.self.view_is) (ap (λ (f : Flat). f.marks) c.self.view_is ∙ sym left.marks) tags left.limit in
-    clock_fine (greatest_last_count c.commit.new.self.log) (subst (λ n. n ≤ GREATEST_COUNT) (sym (ap (λ (f : Flat). f.count) made)) (fits old edited drafts makes fit))
+    makes_seen old edited drafts makes c.commit.new.self c.self.inside.marks c.forget_all.new.tags.names fit log c.in_ok-commit.ensures.cells (c.commit.ensures.site ∙ ap (λ (f : DocValue). f.site) c.self.view_is)
+    (c.commit.ensures.limit ∙ ap (λ (f : DocValue). f.limit) c.self.view_is) (ap (λ (f : DocValue). f.marks) c.self.view_is ∙ sym left.marks) tags left.limit in
+    clock_fine (greatest_last_count c.commit.new.self.log) (subst (λ n. n ≤ GREATEST_COUNT) (sym (ap (λ (f : DocValue). f.count) made)) (fits old edited drafts makes fit))
 
 pub returns-clause-text : goal.returns-clause-text
 returns-clause-text g c =
@@ -144,8 +144,8 @@ returns-clause-text g c =
     let left = left_of_deletion names old in
     let fit : refusal_of old.limit drafts old.log ≡ None = (λ i. refusal_of (sym c.self.view_is i).limit (sym bodies i) (sym c.self.view_is i).log) ∙ c.in_ok-commit.ensures.fits in
     let log : c.commit.new.self.log ≡ with_drafts old.site drafts old.log = c.in_ok-commit.ensures.log ∙ (λ i. with_drafts (c.self.view_is i).site (bodies i) (c.self.view_is i).log) in
-    let tags : c.forget_all.new.tags.names ≡ edited.tags = c.forget_all.ensures.names ∙ ap (λ (f : Flat). all_forgotten names f.tags) c.self.view_is ∙ sym left.tags in
+    let tags : c.forget_all.new.tags.names ≡ edited.tags = c.forget_all.ensures.names ∙ ap (λ (f : DocValue). all_forgotten names f.tags) c.self.view_is ∙ sym left.tags in
     let made : seen c.commit.new.self c.self.inside.marks c.forget_all.new.tags.names ≡ logged old drafts edited =
-    makes_seen old edited drafts makes c.commit.new.self c.self.inside.marks c.forget_all.new.tags.names fit log c.in_ok-commit.ensures.cells (c.commit.ensures.site ∙ ap (λ (f : Flat). f.site) c.self.view_is)
-    (c.commit.ensures.limit ∙ ap (λ (f : Flat). f.limit) c.self.view_is) (ap (λ (f : Flat). f.marks) c.self.view_is ∙ sym left.marks) tags left.limit in
-    ap (λ (f : Flat). text_of f.cells) made ∙ left.text
+    makes_seen old edited drafts makes c.commit.new.self c.self.inside.marks c.forget_all.new.tags.names fit log c.in_ok-commit.ensures.cells (c.commit.ensures.site ∙ ap (λ (f : DocValue). f.site) c.self.view_is)
+    (c.commit.ensures.limit ∙ ap (λ (f : DocValue). f.limit) c.self.view_is) (ap (λ (f : DocValue). f.marks) c.self.view_is ∙ sym left.marks) tags left.limit in
+    ap (λ (f : DocValue). text_of f.cells) made ∙ left.text

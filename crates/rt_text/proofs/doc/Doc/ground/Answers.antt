@@ -3,7 +3,7 @@ use Rattle.rt_marks.specs.Marks.{HaveOwnNames}
 use Rattle.rt_stamps.specs.Places.{line_of}
 use Rattle.rt_store.specs.Cells.{text_of}
 use Rattle.rt_tags.specs.States.{state_at}
-use Rattle.rt_edits.specs.Flat.{Flat}
+use Rattle.rt_edits.specs.DocValue.{DocValue}
 use Rattle.rt_edits.specs.Listed.{AreListed}
 use Rattle.rt_store.specs.Shown.{TaggedCell, shown}
 use Rattle.rt_text.specs.Widgets.{AreSiteMarks}
@@ -29,7 +29,7 @@ invariant_of-result g c =
     let n = length (text_of seen) in
     let text : text_of seen ≡ text_of kept = text_shown (state_at c.kept.result.1.now) kept in
     let many : n ≡ length (text_of kept) = ap length text in
-    let cells : c.self.inside.replica.cells ≡ seen = ap (λ (f : Flat). f.cells) c.self.view_is ∙ sym c.kept.ensures.cells in
+    let cells : c.self.inside.replica.cells ≡ seen = ap (λ (f : DocValue). f.cells) c.self.view_is ∙ sym c.kept.ensures.cells in
     let placed : AreSiteMarks n c.self.inside.marks = subst (λ (seen : List TaggedCell). AreSiteMarks (length (text_of seen)) c.self.inside.marks) cells c.self.invariant.placed in
     let ends = g.met.S.TextStore.ends c.kept.result.0.now in
     let stretch = c.stretch-stretch.result in
@@ -50,4 +50,4 @@ returns-clause-stretch g c =
     ∙ (λ i. stretch_of (c.kept.ensures.cells i) (c.limits.ensures i))
 
 pub returns-clause-names : goal.returns-clause-names
-returns-clause-names g c = subst (λ (f : Flat). HaveOwnNames f.marks) c.self.view_is c.order.ensures.own_names
+returns-clause-names g c = subst (λ (f : DocValue). HaveOwnNames f.marks) c.self.view_is c.order.ensures.own_names

@@ -3,16 +3,16 @@ use Rattle.rt_stamps.specs.declared.fault.Fault.{Fault}
 use Rattle.rt_stamps.specs.declared.fault.Fault.TheVariants.{ClockSpent, NoMemory}
 use Rattle.rt_stamps.specs.declared.limits.TheConstants.{GREATEST_COUNT}
 use Rattle.rt_stamps.specs.Outcomes.{first_of}
-use Rattle.rt_edits.specs.Flat.{Flat}
+use Rattle.rt_edits.specs.DocValue.{DocValue}
 use Rattle.rt_text.specs.Commands.{cell_check, with_pieces_at}
 use Rattle.rt_text.specs.Parts.{own_in}
-use Rattle.rt_text.specs.Widgets.{Own, Viewed}
+use Rattle.rt_text.specs.Widgets.{WidgetValue, ViewValue}
 use Rattle.rt_text.proofs.KeptDocument.{clock_spent}
 use Rattle.rt_text.proofs.PutLaws.{late_checks}
 use Rattle.rt_text.proofs.doc.Doc.insert_pieces.Goals as goal
 
 -- counts that are too great are refused first
-spent : (flat : Flat) (edited : List Own → Viewed) (others : List Own) (fault : Fault) → (fault ≡ NoMemory) ⊎ ((fault ≡ ClockSpent) × ((o : List Own) → GREATEST_COUNT < (edited o).doc.count))
+spent : (flat : DocValue) (edited : List WidgetValue → ViewValue) (others : List WidgetValue) (fault : Fault) → (fault ≡ NoMemory) ⊎ ((fault ≡ ClockSpent) × ((o : List WidgetValue) → GREATEST_COUNT < (edited o).doc.count))
     → (fault ≡ NoMemory) ⊎ (first_of (late_checks flat (edited others)) ≡ Some fault)
 spent flat edited others fault (inl e) = inl e
 spent flat edited others fault (inr p) =
@@ -23,7 +23,7 @@ pub returns-in-Err : goal.returns-in-Err
 returns-in-Err g c = record {
   ok = tt;
   checked = tt;
-  err = spent c.args.self.now (λ (o : List Own). with_pieces_at (record { doc = c.args.self.now; own = c.args.widget.now; others = o }) c.args.place c.args.pieces.now c.args.rest.now)
+  err = spent c.args.self.now (λ (o : List WidgetValue). with_pieces_at (record { doc = c.args.self.now; own = c.args.widget.now; others = o }) c.args.place c.args.pieces.now c.args.rest.now)
       (map own_in c.args.others.now) c.in-Err.fault c.in-Err.ensures.err;
   unchanged = (refl, refl, refl);
   own = c.requires.own;

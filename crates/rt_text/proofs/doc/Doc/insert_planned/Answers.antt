@@ -13,7 +13,7 @@ use Rattle.rt_rga.specs.Drafts.{with_drafts}
 use Rattle.rt_rga.specs.Made.{refusal_of}
 use Rattle.rt_rga.specs.Requests.{MayBeMade}
 use Rattle.rt_rga.specs.Few.{items_in}
-use Rattle.rt_edits.specs.Flat.{Flat, logged}
+use Rattle.rt_edits.specs.DocValue.{DocValue, logged}
 use Rattle.rt_edits.specs.InsertionPlans.{Plans, selected_between}
 use Rattle.rt_edits.specs.Insertions.{all_listed}
 use Rattle.rt_edits.specs.Listed.{AreListed}
@@ -24,7 +24,7 @@ use Rattle.rt_views.specs.declared.stretch.Stretch.{Stretch}
 use Rattle.rt_text.specs.Commands.{with_pieces_at}
 use Rattle.rt_text.specs.Kept.{IsDoc}
 use Rattle.rt_text.specs.Parts.{own_in}
-use Rattle.rt_text.specs.Widgets.{IsOwnOf, Own, in_text, own_inserted, selections_of, with_selections}
+use Rattle.rt_text.specs.Widgets.{IsOwnOf, WidgetValue, in_text, own_inserted, selections_of, with_selections}
 use Rattle.rt_text.proofs.InsertedDocument.{all_fit, kept_made, made_drafts, made_flat, made_is, made_new, may_make, names_given, others_made, own_made, put_made, refused_as, refused_made}
 use Rattle.rt_text.proofs.InsertedSides.{at_visible, place_is}
 use Rattle.rt_text.proofs.MadeDocument.{seen, seen_made}
@@ -62,7 +62,7 @@ make_planned-requires-clause-names g c =
     let is = place_is flat own others place c.kept.ensures.history c.kept.ensures.document c.kept.ensures.site c.requires.place in
     let plans : Plans c.args.plan own.sel (selections_of others) flat.tags (made_new flat own others place pieces rest) =
     c.requires.plans others in
-    let listed : AreListed flat.tags flat.cells = subst (λ (f : Flat). AreListed f.tags f.cells) c.self.view_is c.self.invariant.listed in
+    let listed : AreListed flat.tags flat.cells = subst (λ (f : DocValue). AreListed f.tags f.cells) c.self.view_is c.self.invariant.listed in
     names_given flat own others place pieces rest is c.args.plan plans c.requires.pieces listed
 
 pub make_planned-requires-clause-may : goal.make_planned-requires-clause-may
@@ -98,7 +98,7 @@ returns-in_err-make_planned g c =
     let same : refusal_of c.self.inside.replica.limit (map body_of (items_in c.replace-drafts.result)) c.self.inside.replica.log ≡ first_of (late_checks flat (with_pieces_at (viewed flat own others) place pieces rest)) =
     (λ i. refusal_of (c.self.view_is i).limit (drafts i) (c.self.view_is i).log) ∙ refused_as flat own others place pieces rest is in
     let (y, is, gives) = err_from_is_err_and c.from_residual.result c.from_residual.ensures.1 in
-    let own_now : Own = own_in c.widget.inside.parts in
+    let own_now : WidgetValue = own_in c.widget.inside.parts in
     let doc : seen c.make_planned.new.replica c.self.inside.marks c.make_planned.new.tags.names ≡ c.args.self.now =
     (λ k. seen (c.in_err-make_planned.ensures.same k) c.self.inside.marks (c.make_planned.ensures.tags k)) ∙ c.self.view_is in
     let own_same : record own_now { sel = selected_stamps c.make_planned.new.selection } ≡ c.args.widget.now =
@@ -129,7 +129,7 @@ insert_all-requires g c =
     let fit = all_fit flat own others place pieces rest is
     (sym (λ i. refusal_of (c.self.view_is i).limit (drafts i) (c.self.view_is i).log) ∙ c.in_ok-make_planned.ensures.fits) in
     let characters : c.args.plan.characters ≡ length (made_new flat own others place pieces rest).cells = plans.characters in
-    let many : length (text_of c.self.inside.replica.cells) ≡ length (text_of flat.cells) = ap (λ (f : Flat). length (text_of f.cells)) c.self.view_is in
+    let many : length (text_of c.self.inside.replica.cells) ≡ length (text_of flat.cells) = ap (λ (f : DocValue). length (text_of f.cells)) c.self.view_is in
     let few : length (text_of flat.cells) + c.args.plan.characters ≤ 2 ^ 64 - 1 =
     grown_fits (length (text_of flat.cells)) (length flat.cells) (length (made_new flat own others place pieces rest).cells) c.args.plan.characters flat.limit fit.1 characters (text_within flat.cells) c.kept.ensures.most in
     let between = c.args.plan.between in
@@ -137,8 +137,8 @@ insert_all-requires g c =
     let n = length (text_of flat.cells) in
     record {
       marks = site_fits (length (text_of c.self.inside.replica.cells)) c.args.plan.characters (2 ^ 64 - 1) c.self.inside.marks (subst (λ n. n + c.args.plan.characters ≤ 2 ^ 64 - 1) (sym many) few) c.self.invariant.placed;
-      insert = before_fits c.widget.inside.parts.insert.place own.insert.place (length (text_of flat.cells)) c.args.plan.characters (2 ^ 64 - 1) (ap (λ (o : Own). o.insert.place) c.widget.view_is) c.requires.own.insert few;
-      current = mark_fits c.widget.inside.parts.current.place own.current.place (length (text_of flat.cells)) c.args.plan.characters (2 ^ 64 - 1) (ap (λ (o : Own). o.current.place) c.widget.view_is) c.requires.own.current few;
+      insert = before_fits c.widget.inside.parts.insert.place own.insert.place (length (text_of flat.cells)) c.args.plan.characters (2 ^ 64 - 1) (ap (λ (o : WidgetValue). o.insert.place) c.widget.view_is) c.requires.own.insert few;
+      current = mark_fits c.widget.inside.parts.current.place own.current.place (length (text_of flat.cells)) c.args.plan.characters (2 ^ 64 - 1) (ap (λ (o : WidgetValue). o.current.place) c.widget.view_is) c.requires.own.current few;
       others = each_room n c.args.plan.characters (2 ^ 64 - 1) c.select_all.new.others few
           (subst (AllByRecursion (IsOwnOf n)) (sym now) (each_by (IsOwnOf n) (IsOwnOf n) (selecting between) (λ other stands. own_of_selecting n other _ stands) others c.requires.others));
     }
@@ -154,7 +154,7 @@ list_tags-requires-clause-names g c =
     let is = place_is flat own others place c.kept.ensures.history c.kept.ensures.document c.kept.ensures.site c.requires.place in
     let plans : Plans c.args.plan own.sel (selections_of others) flat.tags (made_new flat own others place pieces rest) =
     c.requires.plans others in
-    let listed : AreListed flat.tags flat.cells = subst (λ (f : Flat). AreListed f.tags f.cells) c.self.view_is c.self.invariant.listed in
+    let listed : AreListed flat.tags flat.cells = subst (λ (f : DocValue). AreListed f.tags f.cells) c.self.view_is c.self.invariant.listed in
     subst (All (λ w. IsName (string_bytes w))) (sym c.deref-2.ensures.value)
     (names_given flat own others place pieces rest is c.args.plan plans c.requires.pieces listed)
 
@@ -183,11 +183,11 @@ invariant_of-self-2 g c =
     let log : c.make_planned.new.replica.log ≡ with_drafts flat.site bodies flat.log = c.in_ok-make_planned.ensures.log ∙ (λ i. with_drafts (c.self.view_is i).site (drafts i) (c.self.view_is i).log) in
     let made = made_is flat own others place pieces rest is c.requires.pieces c.utf8.rest fit.0 in
     let doc : seen c.make_planned.new.replica edited.marks edited.tags ≡ logged flat bodies edited =
-    seen_made flat edited bodies c.make_planned.new.replica log c.in_ok-make_planned.ensures.cells (c.make_planned.ensures.site ∙ ap (λ (f : Flat). f.site) c.self.view_is) (c.make_planned.ensures.limit ∙ ap (λ (f : Flat). f.limit) c.self.view_is) refl made in
+    seen_made flat edited bodies c.make_planned.new.replica log c.in_ok-make_planned.ensures.cells (c.make_planned.ensures.site ∙ ap (λ (f : DocValue). f.site) c.self.view_is) (c.make_planned.ensures.limit ∙ ap (λ (f : DocValue). f.limit) c.self.view_is) refl made in
     let marks : c.insert_all.new.marks ≡ edited.marks = c.insert_all.ensures.marks ∙ (λ i. marks_inserted (here i) (plans.characters i) (c.self.view_is i).marks) in
     let tags : c.list_tags.new.table.names ≡ edited.tags =
-    c.list_tags.ensures ∙ (λ i. all_listed (as_words (c.deref-2.ensures.value i)) (c.make_planned.ensures.tags i)) ∙ ap (λ (f : Flat). all_listed (as_words c.args.plan.names.items) f.tags) c.self.view_is ∙ plans.tags in
-    let kept = kept_made flat own others place pieces rest is c.requires.pieces (subst (λ (f : Flat). IsDoc f.cells f.marks f.tags) c.self.view_is c.self.invariant) in
+    c.list_tags.ensures ∙ (λ i. all_listed (as_words (c.deref-2.ensures.value i)) (c.make_planned.ensures.tags i)) ∙ ap (λ (f : DocValue). all_listed (as_words c.args.plan.names.items) f.tags) c.self.view_is ∙ plans.tags in
+    let kept = kept_made flat own others place pieces rest is c.requires.pieces (subst (λ (f : DocValue). IsDoc f.cells f.marks f.tags) c.self.view_is c.self.invariant) in
     subst (λ (p : _). p) (λ i. IsDoc (sym doc i).cells (sym marks i) (sym tags i)) kept
 
 pub returns : goal.returns
@@ -209,32 +209,32 @@ returns g c =
     c.requires.plans others in
     let fit = all_fit flat own others place pieces rest is
     (sym (λ i. refusal_of (c.self.view_is i).limit (drafts i) (c.self.view_is i).log) ∙ c.in_ok-make_planned.ensures.fits) in
-    let listed : AreListed flat.tags flat.cells = subst (λ (f : Flat). AreListed f.tags f.cells) c.self.view_is c.self.invariant.listed in
+    let listed : AreListed flat.tags flat.cells = subst (λ (f : DocValue). AreListed f.tags f.cells) c.self.view_is c.self.invariant.listed in
     let new = made_new flat own others place pieces rest in
     let edited = made_flat flat own others place pieces rest in
     let bodies = made_drafts flat own others place pieces rest in
     let log : c.make_planned.new.replica.log ≡ with_drafts flat.site bodies flat.log = c.in_ok-make_planned.ensures.log ∙ (λ i. with_drafts (c.self.view_is i).site (drafts i) (c.self.view_is i).log) in
     let made = made_is flat own others place pieces rest is c.requires.pieces c.utf8.rest fit.0 in
     let doc : seen c.make_planned.new.replica edited.marks edited.tags ≡ logged flat bodies edited =
-    seen_made flat edited bodies c.make_planned.new.replica log c.in_ok-make_planned.ensures.cells (c.make_planned.ensures.site ∙ ap (λ (f : Flat). f.site) c.self.view_is) (c.make_planned.ensures.limit ∙ ap (λ (f : Flat). f.limit) c.self.view_is) refl made in
+    seen_made flat edited bodies c.make_planned.new.replica log c.in_ok-make_planned.ensures.cells (c.make_planned.ensures.site ∙ ap (λ (f : DocValue). f.site) c.self.view_is) (c.make_planned.ensures.limit ∙ ap (λ (f : DocValue). f.limit) c.self.view_is) refl made in
     let marks : c.insert_all.new.marks ≡ edited.marks = c.insert_all.ensures.marks ∙ (λ i. marks_inserted (here i) (plans.characters i) (c.self.view_is i).marks) in
     let tags : c.list_tags.new.table.names ≡ edited.tags =
-    c.list_tags.ensures ∙ (λ i. all_listed (as_words (c.deref-2.ensures.value i)) (c.make_planned.ensures.tags i)) ∙ ap (λ (f : Flat). all_listed (as_words c.args.plan.names.items) f.tags) c.self.view_is ∙ plans.tags in
-    let sel : selected_stamps c.widget.inside.parts.selection ≡ own.sel = ap (λ (o : Own). o.sel) c.widget.view_is in
-    let own_now : Own = own_in c.widget.inside.parts in
+    c.list_tags.ensures ∙ (λ i. all_listed (as_words (c.deref-2.ensures.value i)) (c.make_planned.ensures.tags i)) ∙ ap (λ (f : DocValue). all_listed (as_words c.args.plan.names.items) f.tags) c.self.view_is ∙ plans.tags in
+    let sel : selected_stamps c.widget.inside.parts.selection ≡ own.sel = ap (λ (o : WidgetValue). o.sel) c.widget.view_is in
+    let own_now : WidgetValue = own_in c.widget.inside.parts in
     let stamps : selected_stamps c.select_all.new.selection ≡ new.sel =
     c.select_all.ensures.selection ∙ (λ i. with_stamps (c.deref.ensures.value i) (c.make_planned.ensures.selection i)) ∙ ap (with_stamps c.args.plan.selected.items) sel ∙ plans.sel in
     let own_after : c.insert_all.new.widget ≡ record (own_inserted point (length new.cells) own) { sel = new.sel } =
     c.insert_all.ensures.own
     ∙ (λ i. record { insert = mark_inserted (here i) (plans.characters i) own_now.insert; current = mark_inserted (here i) (plans.characters i) own_now.current; sel = stamps i; limits = own_now.limits })
-    ∙ ap (λ (o : Own). record (own_inserted point (length new.cells) o) { sel = new.sel }) c.widget.view_is in
+    ∙ ap (λ (o : WidgetValue). record (own_inserted point (length new.cells) o) { sel = new.sel }) c.widget.view_is in
     let others_after : map own_in c.insert_all.new.others ≡ with_selections new.others (map (own_inserted point (length new.cells)) others) =
     c.insert_all.ensures.others ∙ ap (map (own_inserted at c.args.plan.characters)) (c.select_all.ensures.others ∙ ap (map (selecting c.args.plan.between)) c.make_planned.ensures.others)
     ∙ (λ i. map (own_inserted (here i) (plans.characters i)) (map (selecting c.args.plan.between) others)) ∙ put_each point (length new.cells) (selected_between c.args.plan.between) others
     ∙ ap (λ l. with_selections l (map (own_inserted point (length new.cells)) others)) plans.others in
     record {
       ok = (λ i. record { doc = seen c.make_planned.new.replica (marks i) (tags i); own = own_after i; others = others_after i })
-          ∙ ap (λ (f : Flat). record { doc = f; own = record (own_inserted point (length new.cells) own) { sel = new.sel }; others = with_selections new.others (map (own_inserted point (length new.cells)) others) }) doc
+          ∙ ap (λ (f : DocValue). record { doc = f; own = record (own_inserted point (length new.cells) own) { sel = new.sel }; others = with_selections new.others (map (own_inserted point (length new.cells)) others) }) doc
           ∙ sym (put_made flat own others place pieces rest);
       checked = (λ i. first_of (late_checks flat (record { doc = doc i; own = own; others = others })))
           ∙ sym (refused_made flat own others place pieces rest is)

@@ -8,7 +8,7 @@ use Rattle.rt_stamps.specs.Outcomes.{first_of}
 use Rattle.rt_store.specs.Cells.{text_of, visible_of}
 use Rattle.rt_rga.specs.Made.{refusal_of}
 use Rattle.rt_rga.specs.Requests.{MayBeMade}
-use Rattle.rt_edits.specs.Flat.{Flat, logged}
+use Rattle.rt_edits.specs.DocValue.{DocValue, logged}
 use Rattle.rt_edits.specs.Listed.{AreListed}
 use Rattle.rt_edits.proofs.PlaceLaws.{length_text, text_within}
 use Rattle.rt_views.specs.declared.stretch.Stretch.{Stretch}
@@ -77,7 +77,7 @@ returns-in_err-commit_character g c =
       checked = tt;
       err = which c.in_err-commit_character.ensures.refused same;
       unchanged = (doc, refl, c.reserve_between.ensures.same);
-      own = subst (λ (f : Flat). IsOwnOf (length (text_of f.cells)) own) (sym doc) c.requires.own;
+      own = subst (λ (f : DocValue). IsOwnOf (length (text_of f.cells)) own) (sym doc) c.requires.own;
       others = subst (λ (p : _). p) (λ k. AllByRecursion (IsOwnOf (length (text_of (sym doc k).cells))) (sym c.reserve_between.ensures.same k)) c.requires.others;
     })
 
@@ -99,7 +99,7 @@ insert_all-requires g c =
     let rule = selected_with typed.left typed.right c.from_ref.result.now in
     let now : map own_in c.add_between.new.others ≡ map (reselected rule) others = c.add_between.ensures ∙ ap (map (reselected rule)) c.reserve_between.ensures.same in
     record {
-      marks = site_fits n 1 (2 ^ 64 - 1) c.self.inside.marks few (subst (λ (f : Flat). AreSiteMarks (length (text_of f.cells)) c.self.inside.marks) c.self.view_is c.self.invariant.placed);
+      marks = site_fits n 1 (2 ^ 64 - 1) c.self.inside.marks few (subst (λ (f : DocValue). AreSiteMarks (length (text_of f.cells)) c.self.inside.marks) c.self.view_is c.self.invariant.placed);
       insert = before_fits own.insert.place own.insert.place n 1 (2 ^ 64 - 1) refl c.requires.own.insert few;
       current = mark_fits own.current.place own.current.place n 1 (2 ^ 64 - 1) refl c.requires.own.current few;
       others = each_room n 1 (2 ^ 64 - 1) c.add_between.new.others few
@@ -125,10 +125,10 @@ invariant_of-self-2 g c =
     c.in_ok-commit_character.ensures.log ∙ (λ i. with_drafts (c.self.view_is i).site (sym (c.requires.drafts others) i) (c.self.view_is i).log) in
     let made = made_is flat own others place pieces rest is c.requires.pieces c.utf8.rest fit.0 in
     let doc : seen c.commit_character.new.self edited.marks edited.tags ≡ logged flat bodies edited =
-    seen_made flat edited bodies c.commit_character.new.self log c.in_ok-commit_character.ensures.cells (c.commit_character.ensures.site ∙ ap (λ (f : Flat). f.site) c.self.view_is) (c.commit_character.ensures.limit ∙ ap (λ (f : Flat). f.limit) c.self.view_is) refl made in
+    seen_made flat edited bodies c.commit_character.new.self log c.in_ok-commit_character.ensures.cells (c.commit_character.ensures.site ∙ ap (λ (f : DocValue). f.site) c.self.view_is) (c.commit_character.ensures.limit ∙ ap (λ (f : DocValue). f.limit) c.self.view_is) refl made in
     let marks : c.insert_all.new.marks ≡ edited.marks = c.insert_all.ensures.marks ∙ (λ i. marks_inserted (here i) (length (sym comes i).cells) (c.self.view_is i).marks) in
-    let tags : c.self.inside.tags.names ≡ edited.tags = ap (λ (f : Flat). f.tags) c.self.view_is ∙ sym (ap (λ (new : Insertion). new.tags) comes) in
-    let kept = kept_made flat own others place pieces rest is c.requires.pieces (subst (λ (f : Flat). IsDoc f.cells f.marks f.tags) c.self.view_is c.self.invariant) in
+    let tags : c.self.inside.tags.names ≡ edited.tags = ap (λ (f : DocValue). f.tags) c.self.view_is ∙ sym (ap (λ (new : Insertion). new.tags) comes) in
+    let kept = kept_made flat own others place pieces rest is c.requires.pieces (subst (λ (f : DocValue). IsDoc f.cells f.marks f.tags) c.self.view_is c.self.invariant) in
     subst (λ (p : _). p) (λ i. IsDoc (sym doc i).cells (sym marks i) (sym tags i)) kept
 
 pub returns : goal.returns
@@ -148,7 +148,7 @@ returns g c =
     let refused : refusal_of c.self.inside.replica.limit (one_character typed.left typed.character) c.self.inside.replica.log ≡ refusal_of flat.limit (made_drafts flat own others place pieces rest) flat.log =
     (λ i. refusal_of (c.self.view_is i).limit (sym (c.requires.drafts others) i) (c.self.view_is i).log) in
     let fit = all_fit flat own others place pieces rest is (sym refused ∙ c.in_ok-commit_character.ensures.fits) in
-    let listed : AreListed flat.tags flat.cells = subst (λ (f : Flat). AreListed f.tags f.cells) c.self.view_is c.self.invariant.listed in
+    let listed : AreListed flat.tags flat.cells = subst (λ (f : DocValue). AreListed f.tags f.cells) c.self.view_is c.self.invariant.listed in
     let new = made_new flat own others place pieces rest in
     let edited = made_flat flat own others place pieces rest in
     let bodies = made_drafts flat own others place pieces rest in
@@ -156,15 +156,15 @@ returns g c =
     c.in_ok-commit_character.ensures.log ∙ (λ i. with_drafts (c.self.view_is i).site (sym (c.requires.drafts others) i) (c.self.view_is i).log) in
     let made = made_is flat own others place pieces rest is c.requires.pieces c.utf8.rest fit.0 in
     let doc : seen c.commit_character.new.self edited.marks edited.tags ≡ logged flat bodies edited =
-    seen_made flat edited bodies c.commit_character.new.self log c.in_ok-commit_character.ensures.cells (c.commit_character.ensures.site ∙ ap (λ (f : Flat). f.site) c.self.view_is) (c.commit_character.ensures.limit ∙ ap (λ (f : Flat). f.limit) c.self.view_is) refl made in
+    seen_made flat edited bodies c.commit_character.new.self log c.in_ok-commit_character.ensures.cells (c.commit_character.ensures.site ∙ ap (λ (f : DocValue). f.site) c.self.view_is) (c.commit_character.ensures.limit ∙ ap (λ (f : DocValue). f.limit) c.self.view_is) refl made in
     let marks : c.insert_all.new.marks ≡ edited.marks = c.insert_all.ensures.marks ∙ (λ i. marks_inserted (here i) (length (sym comes i).cells) (c.self.view_is i).marks) in
-    let tags : c.self.inside.tags.names ≡ edited.tags = ap (λ (f : Flat). f.tags) c.self.view_is ∙ sym (ap (λ (new : Insertion). new.tags) comes) in
+    let tags : c.self.inside.tags.names ≡ edited.tags = ap (λ (f : DocValue). f.tags) c.self.view_is ∙ sym (ap (λ (new : Insertion). new.tags) comes) in
     let own_after : c.insert_all.new.widget ≡ record (own_inserted point (length new.cells) own) { sel = new.sel } =
     c.insert_all.ensures.own ∙ (λ i. record (own_inserted (here i) (length (sym comes i).cells) own) { sel = (sym comes i).sel }) in
     let rule : List Stamp → List Stamp = selected_with typed.left typed.right (record { count = flat.count + 1; site = flat.site } ∷ []) in
     let stamp : c.from_ref.result.now ≡ record { count = flat.count + 1; site = flat.site } ∷ [] =
     c.from_ref.ensures.value
-    ∙ (λ i. record { count = (c.seen.ensures.value ∙ c.clock.ensures ∙ ap (λ (f : Flat). f.count) c.self.view_is) i + 1; site = (c.number.ensures.value ∙ c.site.ensures ∙ ap (λ (f : Flat). f.site) c.self.view_is) i } ∷ []) in
+    ∙ (λ i. record { count = (c.seen.ensures.value ∙ c.clock.ensures ∙ ap (λ (f : DocValue). f.count) c.self.view_is) i + 1; site = (c.number.ensures.value ∙ c.site.ensures ∙ ap (λ (f : DocValue). f.site) c.self.view_is) i } ∷ []) in
     let others_after : map own_in c.insert_all.new.others ≡ with_selections new.others (map (own_inserted point (length new.cells)) others) =
     c.insert_all.ensures.others
     ∙ ap (map (own_inserted at 1)) (c.add_between.ensures ∙ (λ i. map (reselected (selected_with typed.left typed.right (stamp i))) (c.reserve_between.ensures.same i)))
@@ -173,7 +173,7 @@ returns g c =
     ∙ ap (λ (x : Insertion). with_selections x.others (map (own_inserted point (length new.cells)) others)) (sym comes) in
     record {
       ok = (λ i. record { doc = seen c.commit_character.new.self (marks i) (tags i); own = own_after i; others = others_after i })
-          ∙ ap (λ (f : Flat). record { doc = f; own = record (own_inserted point (length new.cells) own) { sel = new.sel }; others = with_selections new.others (map (own_inserted point (length new.cells)) others) }) doc
+          ∙ ap (λ (f : DocValue). record { doc = f; own = record (own_inserted point (length new.cells) own) { sel = new.sel }; others = with_selections new.others (map (own_inserted point (length new.cells)) others) }) doc
           ∙ sym (put_made flat own others place pieces rest);
       checked = (λ i. first_of (late_checks flat (record { doc = doc i; own = own; others = others })))
           ∙ sym (refused_made flat own others place pieces rest is) ∙ sym refused ∙ c.in_ok-commit_character.ensures.fits;

@@ -1,6 +1,6 @@
 use Rattle.std.proofs.Common.{ap, arith, length}
 use Rattle.std.proofs.lemmas.List.{length-map}
-use Rattle.rt_edits.specs.Flat.{Flat}
+use Rattle.rt_edits.specs.DocValue.{DocValue}
 use Rattle.rt_store.specs.Shown.{shown}
 use Rattle.rt_text.proofs.doc.Doc.log.Goals as goal
 
@@ -8,6 +8,6 @@ use Rattle.rt_text.proofs.doc.Doc.log.Goals as goal
 pub returns-clause-few : goal.returns-clause-few
 returns-clause-few g c =
     let kept = g.S.TextStore.list c.store.result.now in
-    let cells = ap (λ (f : Flat). length f.cells) c.self.view_is in
-    let limit = ap (λ (f : Flat). f.limit) c.self.view_is in
+    let cells = ap (λ (f : DocValue). length f.cells) c.self.view_is in
+    let limit = ap (λ (f : DocValue). f.limit) c.self.view_is in
     omega (arith, cells, limit, ap length c.store.ensures.kept, length-map kept (shown c.self.inside.replica.table), c.store.ensures.few)

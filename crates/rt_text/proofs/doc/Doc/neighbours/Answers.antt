@@ -11,7 +11,7 @@ use Rattle.rt_edits.proofs.RestLaws.{left_given}
 use Rattle.rt_views.specs.declared.stretch.Stretch.{Stretch}
 use Rattle.rt_views.specs.Stretches.{stretch_of}
 use Rattle.rt_text.specs.Neighbours.{are_sides_shown, limit_left, pieces_text}
-use Rattle.rt_text.specs.Widgets.{Own}
+use Rattle.rt_text.specs.Widgets.{WidgetValue}
 use Rattle.rt_text.proofs.InsertedDocument.{drafts_are, new_is}
 use Rattle.rt_text.proofs.InsertedSides.{at_visible, element_is, found, given_if, given_not, place_is}
 use Rattle.rt_text.proofs.LimitedDeletions.{stretch_kept}
@@ -22,7 +22,7 @@ pub left_of-behind-requires : goal.left_of-behind-requires
 left_of-behind-requires g c =
     let flat = c.args.self.now in
     let own = c.args.widget.now in
-    let others : List Own = [] in
+    let others : List WidgetValue = [] in
     let table = c.kept.result.1.now in
     let kept = g.S.TextStore.list c.kept.result.0.now in
     let place = c.args.place in
@@ -34,7 +34,7 @@ pub shown_at-right-requires : goal.shown_at-right-requires
 shown_at-right-requires g c =
     let flat = c.args.self.now in
     let own = c.args.widget.now in
-    let others : List Own = [] in
+    let others : List WidgetValue = [] in
     let table = c.kept.result.1.now in
     let kept = g.S.TextStore.list c.kept.result.0.now in
     let place = c.args.place in
@@ -46,7 +46,7 @@ pub overflow_add-at : goal.overflow_add-at
 overflow_add-at g c =
     let flat = c.args.self.now in
     let own = c.args.widget.now in
-    let others : List Own = [] in
+    let others : List WidgetValue = [] in
     let table = c.kept.result.1.now in
     let kept = g.S.TextStore.list c.kept.result.0.now in
     let place = c.args.place in

@@ -3,12 +3,12 @@ use Rattle.std.specs.Prelude.{option_map}
 use Rattle.std.proofs.lemmas.Result.{IfErr-weaker, IfOk-weaker}
 use Rattle.rt_stamps.specs.declared.limits.TheConstants.{GREATEST_COUNT, MOST_CHARACTERS}
 use Rattle.rt_store.specs.Shown.{shown}
-use Rattle.rt_edits.specs.Flat.{Flat}
+use Rattle.rt_edits.specs.DocValue.{DocValue}
 use Rattle.rt_edits.specs.InsertionDrafts.{insertion_drafts}
 use Rattle.rt_edits.specs.InsertionPlans.{Plans}
 use Rattle.rt_edits.specs.Insertions.{Insertion, insertion_of}
 use Rattle.rt_edits.specs.Selected.{selected_stamps}
-use Rattle.rt_text.specs.Widgets.{Own, selections_of}
+use Rattle.rt_text.specs.Widgets.{WidgetValue, selections_of}
 use Rattle.rt_text.proofs.InsertedDocument.{begun}
 use Rattle.rt_text.proofs.InsertedSides.{any_some}
 use Rattle.rt_text.proofs.ViewLaws.{viewed}
@@ -22,9 +22,9 @@ pub returns-clause-drafts : goal.returns-clause-drafts
 returns-clause-drafts g c =
     let (states, gap) = c.neighbours-gap.result in
     let stamps = selected_stamps c.widget.inside.parts.selection in
-    let site = c.site-site.ensures ∙ ap (λ (f : Flat). f.site) c.self.view_is in
-    let count = c.seen-count.ensures.value ∙ c.clock.ensures ∙ ap (λ (f : Flat). f.count) c.self.view_is in
-    let sel = ap (λ (o : Own). o.sel) c.widget.view_is in
+    let site = c.site-site.ensures ∙ ap (λ (f : DocValue). f.site) c.self.view_is in
+    let count = c.seen-count.ensures.value ∙ c.clock.ensures ∙ ap (λ (f : DocValue). f.count) c.self.view_is in
+    let sel = ap (λ (o : WidgetValue). o.sel) c.widget.view_is in
     IfOk-weaker c.planned_between.result _ _
     (λ plan h others. h stamps (selections_of others) c.args.self.now.tags (any_some gap.right (stamps ≡ stamps) refl)
     ∙ begun (λ s start. insertion_drafts MOST_CHARACTERS s gap.after (option_map (shown states.now) gap.left) (option_map (shown states.now) gap.right) c.args.pieces.now c.args.rest.now start)
@@ -36,9 +36,9 @@ pub returns-clause-plans : goal.returns-clause-plans
 returns-clause-plans g c =
     let (states, gap) = c.neighbours-gap.result in
     let stamps = selected_stamps c.widget.inside.parts.selection in
-    let site = c.site-site.ensures ∙ ap (λ (f : Flat). f.site) c.self.view_is in
-    let count = c.seen-count.ensures.value ∙ c.clock.ensures ∙ ap (λ (f : Flat). f.count) c.self.view_is in
-    let sel = ap (λ (o : Own). o.sel) c.widget.view_is in
+    let site = c.site-site.ensures ∙ ap (λ (f : DocValue). f.site) c.self.view_is in
+    let count = c.seen-count.ensures.value ∙ c.clock.ensures ∙ ap (λ (f : DocValue). f.count) c.self.view_is in
+    let sel = ap (λ (o : WidgetValue). o.sel) c.widget.view_is in
     let tags = c.args.self.now.tags in
     IfOk-weaker c.planned_between.result _ _
     (λ plan h others.
@@ -52,9 +52,9 @@ pub returns-clause-err : goal.returns-clause-err
 returns-clause-err g c =
     let (states, gap) = c.neighbours-gap.result in
     let stamps = selected_stamps c.widget.inside.parts.selection in
-    let site = c.site-site.ensures ∙ ap (λ (f : Flat). f.site) c.self.view_is in
-    let count = c.seen-count.ensures.value ∙ c.clock.ensures ∙ ap (λ (f : Flat). f.count) c.self.view_is in
-    let sel = ap (λ (o : Own). o.sel) c.widget.view_is in
+    let site = c.site-site.ensures ∙ ap (λ (f : DocValue). f.site) c.self.view_is in
+    let count = c.seen-count.ensures.value ∙ c.clock.ensures ∙ ap (λ (f : DocValue). f.count) c.self.view_is in
+    let sel = ap (λ (o : WidgetValue). o.sel) c.widget.view_is in
     IfErr-weaker c.planned_between.result _ _
     (λ fault h. either (λ q. (
       q.0,

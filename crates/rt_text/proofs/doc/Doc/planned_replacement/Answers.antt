@@ -9,13 +9,13 @@ use Rattle.rt_store.specs.Cells.{visible_of}
 use Rattle.rt_tags.specs.States.{IsState}
 use Rattle.rt_rga.specs.Few.{items_in}
 use Rattle.rt_edits.specs.Deletions.{Loss, without_text}
-use Rattle.rt_edits.specs.Flat.{Flat}
+use Rattle.rt_edits.specs.DocValue.{DocValue}
 use Rattle.rt_edits.specs.Insertions.{left_neighbour, right_neighbour}
 use Rattle.rt_edits.specs.Removals.{gone_at, is_covered, AreInOrder}
 use Rattle.rt_edits.specs.Selected.{selected_stamps}
 use Rattle.rt_views.specs.Stretches.{stretch_of}
 use Rattle.rt_text.specs.Neighbours.{are_sides_shown, limit_left, pieces_text}
-use Rattle.rt_text.specs.Widgets.{Own}
+use Rattle.rt_text.specs.Widgets.{WidgetValue}
 use Rattle.rt_text.proofs.InsertedSides.{element_is, given_not}
 use Rattle.rt_text.proofs.LimitedDeletions.{loss_of}
 use Rattle.rt_text.proofs.PlannedReplacement.{IsBeside, IsKept, at_begin, at_flat, at_left, at_within, counted, counts_grow, drafts_are, few_visible, loss_is, none_held, plan_is, stretch_kept_within, too_great}
@@ -65,7 +65,7 @@ returns-in_err-count g c =
     let d = c.in_ok-deletion.deletion in
     let removed = d.removed.items in
     let places = c.in_ok-deletion.ensures.places in
-    let seen : c.seen-count.result ≡ flat.count = c.seen-count.ensures.value ∙ c.clock.ensures ∙ ap (λ (f : Flat). f.count) c.self.view_is in
+    let seen : c.seen-count.result ≡ flat.count = c.seen-count.ensures.value ∙ c.clock.ensures ∙ ap (λ (f : DocValue). f.count) c.self.view_is in
     let made = c.in_ok-deletion.ensures.drafts flat (sym c.kept.ensures.cells) in
     let all : (without_text flat (loss_of flat own.limits (range ∷ []))).count ≡ flat.count + length d.drafts.items = counted table kept flat own stretch is range removed places d.drafts.items made in
     let (y, same, gives) = err_from_is_err_and c.from_residual-in_err-count.result c.from_residual-in_err-count.ensures.1 in
@@ -270,13 +270,13 @@ returns-in_err-plan g c =
     let places = c.in_ok-deletion.ensures.places in
     let last : c.place_after-last.result ≡ place_left (is_covered removed) (stretch.end - 1) = c.place_after-last.ensures ∙ ap (λ rs. place_left (is_covered rs) (stretch.end - 1)) c.deref.ensures.value in
     let at = c.min-at.result in
-    let seen : c.seen-count.result ≡ flat.count = c.seen-count.ensures.value ∙ c.clock.ensures ∙ ap (λ (f : Flat). f.count) c.self.view_is in
+    let seen : c.seen-count.result ≡ flat.count = c.seen-count.ensures.value ∙ c.clock.ensures ∙ ap (λ (f : DocValue). f.count) c.self.view_is in
     let made = c.in_ok-deletion.ensures.drafts flat (sym c.kept.ensures.cells) in
     let all : (without_text flat (loss_of flat own.limits (range ∷ []))).count ≡ flat.count + length d.drafts.items = counted table kept flat own stretch is range removed places d.drafts.items made in
     let count : c.in_ok-count.count ≡ (without_text flat (loss_of flat own.limits (range ∷ []))).count = omega (arith, c.in_ok-count.ensures.ok.0, c.len.ensures, d.drafts.ok.0, seen, all) in
     let fits : (without_text flat (loss_of flat own.limits (range ∷ []))).count ≤ GREATEST_COUNT = omega (arith, count, c.in_ok-count.ensures.ok.1) in
-    let sel : selected_stamps c.widget.inside.parts.selection ≡ own.sel = ap (λ (o : Own). o.sel) c.widget.view_is in
-    let site : c.site-site.result.number ≡ flat.site = c.site-site.ensures ∙ ap (λ (f : Flat). f.site) c.self.view_is in
+    let sel : selected_stamps c.widget.inside.parts.selection ≡ own.sel = ap (λ (o : WidgetValue). o.sel) c.widget.view_is in
+    let site : c.site-site.result.number ≡ flat.site = c.site-site.ensures ∙ ap (λ (f : DocValue). f.site) c.self.view_is in
     let limits = c.limits-2.result in
     let place = at - stretch.begin in
     let before = c.left_after-behind.result in
@@ -346,13 +346,13 @@ returns-clause-plans g c = λ others.
     let places = c.in_ok-deletion.ensures.places in
     let last : c.place_after-last.result ≡ place_left (is_covered removed) (stretch.end - 1) = c.place_after-last.ensures ∙ ap (λ rs. place_left (is_covered rs) (stretch.end - 1)) c.deref.ensures.value in
     let at = c.min-at.result in
-    let seen : c.seen-count.result ≡ flat.count = c.seen-count.ensures.value ∙ c.clock.ensures ∙ ap (λ (f : Flat). f.count) c.self.view_is in
+    let seen : c.seen-count.result ≡ flat.count = c.seen-count.ensures.value ∙ c.clock.ensures ∙ ap (λ (f : DocValue). f.count) c.self.view_is in
     let made = c.in_ok-deletion.ensures.drafts flat (sym c.kept.ensures.cells) in
     let all : (without_text flat (loss_of flat own.limits (range ∷ []))).count ≡ flat.count + length d.drafts.items = counted table kept flat own stretch is range removed places d.drafts.items made in
     let count : c.in_ok-count.count ≡ (without_text flat (loss_of flat own.limits (range ∷ []))).count = omega (arith, c.in_ok-count.ensures.ok.0, c.len.ensures, d.drafts.ok.0, seen, all) in
     let fits : (without_text flat (loss_of flat own.limits (range ∷ []))).count ≤ GREATEST_COUNT = omega (arith, count, c.in_ok-count.ensures.ok.1) in
-    let sel : selected_stamps c.widget.inside.parts.selection ≡ own.sel = ap (λ (o : Own). o.sel) c.widget.view_is in
-    let site : c.site-site.result.number ≡ flat.site = c.site-site.ensures ∙ ap (λ (f : Flat). f.site) c.self.view_is in
+    let sel : selected_stamps c.widget.inside.parts.selection ≡ own.sel = ap (λ (o : WidgetValue). o.sel) c.widget.view_is in
+    let site : c.site-site.result.number ≡ flat.site = c.site-site.ensures ∙ ap (λ (f : DocValue). f.site) c.self.view_is in
     let limits = c.limits-2.result in
     let place = at - stretch.begin in
     let before = c.left_after-behind.result in
@@ -458,7 +458,7 @@ returns-clause-fits g c =
     let d = c.in_ok-deletion.deletion in
     let removed = d.removed.items in
     let places = c.in_ok-deletion.ensures.places in
-    let seen : c.seen-count.result ≡ flat.count = c.seen-count.ensures.value ∙ c.clock.ensures ∙ ap (λ (f : Flat). f.count) c.self.view_is in
+    let seen : c.seen-count.result ≡ flat.count = c.seen-count.ensures.value ∙ c.clock.ensures ∙ ap (λ (f : DocValue). f.count) c.self.view_is in
     let made = c.in_ok-deletion.ensures.drafts flat (sym c.kept.ensures.cells) in
     let all : (without_text flat (loss_of flat own.limits (range ∷ []))).count ≡ flat.count + length d.drafts.items = counted table kept flat own stretch is range removed places d.drafts.items made in
     omega (arith, c.in_ok-count.ensures.ok.0, c.in_ok-count.ensures.ok.1, c.len.ensures, d.drafts.ok.0, seen, all)

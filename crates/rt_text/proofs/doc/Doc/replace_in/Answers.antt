@@ -24,7 +24,7 @@ use Rattle.rt_rga.specs.Made.{refusal_of}
 use Rattle.rt_rga.specs.Requests.{MayBeMade}
 use Rattle.rt_edits.specs.declared.range.Range.{Range}
 use Rattle.rt_edits.specs.Deletions.{delete_drafts}
-use Rattle.rt_edits.specs.Flat.{Flat, logged}
+use Rattle.rt_edits.specs.DocValue.{DocValue, logged}
 use Rattle.rt_edits.specs.InsertionPlans.{selected_between}
 use Rattle.rt_edits.specs.Insertions.{Piece, all_listed}
 use Rattle.rt_edits.specs.Removals.{is_covered, AreInOrder}
@@ -38,7 +38,7 @@ use Rattle.rt_text.specs.Commands.{cell_check, with_range_replaced}
 use Rattle.rt_text.specs.Kept.{IsDoc}
 use Rattle.rt_text.specs.Replacements.{left_by, loss_at}
 use Rattle.rt_text.specs.Parts.{own_in, HaveRoomFor}
-use Rattle.rt_text.specs.Widgets.{AreSiteMarks, IsOwnOf, Own, Viewed, begin_of, last_newline, own_inserted, own_left, with_selections, reselected}
+use Rattle.rt_text.specs.Widgets.{AreSiteMarks, IsOwnOf, WidgetValue, ViewValue, begin_of, last_newline, own_inserted, own_left, with_selections, reselected}
 use Rattle.rt_text.proofs.KeptDocument.{clock_spent}
 use Rattle.rt_text.proofs.LimitedDeletions.{last_gone, last_kept, stretch_kept, widget_left}
 use Rattle.rt_text.proofs.MadeDocument.{seen}
@@ -55,7 +55,7 @@ which (inl e) s = inl e
 which (inr e) s = inr (sym s ∙ e)
 
 -- counts that are too great are refused first
-spent : (flat : Flat) (edited : List Own → Viewed) (others : List Own) (fault : Fault) → (fault ≡ NoMemory) ⊎ ((fault ≡ ClockSpent) × ((o : List Own) → GREATEST_COUNT < (edited o).doc.count))
+spent : (flat : DocValue) (edited : List WidgetValue → ViewValue) (others : List WidgetValue) (fault : Fault) → (fault ≡ NoMemory) ⊎ ((fault ≡ ClockSpent) × ((o : List WidgetValue) → GREATEST_COUNT < (edited o).doc.count))
     → (fault ≡ NoMemory) ⊎ (first_of (late_checks flat (edited others)) ≡ Some fault)
 spent flat edited others fault (inl e) = inl e
 spent flat edited others fault (inr p) =
@@ -68,7 +68,7 @@ returns-in_err-planned g c =
     rw (is, gives) (record {
       ok = tt;
       checked = tt;
-      err = spent c.args.self.now (λ (o : List Own). with_range_replaced (record { doc = c.args.self.now; own = c.args.widget.now; others = o }) c.args.range c.args.pieces.now c.args.rest.now)
+      err = spent c.args.self.now (λ (o : List WidgetValue). with_range_replaced (record { doc = c.args.self.now; own = c.args.widget.now; others = o }) c.args.range c.args.pieces.now c.args.rest.now)
           (map own_in c.args.others.now) c.in_err-planned.field-0.0 c.in_err-planned.ensures.err;
       unchanged = (refl, refl, refl);
       own = c.requires.own;
@@ -76,7 +76,7 @@ returns-in_err-planned g c =
     })
 
 -- the place in the text, as the code finds it
-at_is : (table : TagStates) (kept : List (Cell ℕ)) (flat : Flat) (own : Own) (others : List Own) (place : ℕ) (limits : Limits) (stretch : Stretch) → map (shown table) kept ≡ flat.cells → limits ≡ own.limits → stretch ≡ stretch_of kept limits
+at_is : (table : TagStates) (kept : List (Cell ℕ)) (flat : DocValue) (own : WidgetValue) (others : List WidgetValue) (place : ℕ) (limits : Limits) (stretch : Stretch) → map (shown table) kept ≡ flat.cells → limits ≡ own.limits → stretch ≡ stretch_of kept limits
     → stretch.begin + place ≡ begin_of (viewed flat own others) + place
 at_is table kept flat own others place limits stretch e l s = ap (λ (y : Stretch). y.begin + place) (s ∙ ap (stretch_of kept) l ∙ stretch_kept table kept flat.cells own.limits e)
 
@@ -123,7 +123,7 @@ make_planned-requires-clause-names g c =
       texts = c.requires.pieces;
       utf8 = c.utf8.rest;
     } in
-    let kept : IsDoc flat.cells flat.marks flat.tags = subst (λ (f : Flat). IsDoc f.cells f.marks f.tags) c.self.view_is c.self.invariant in
+    let kept : IsDoc flat.cells flat.marks flat.tags = subst (λ (f : DocValue). IsDoc f.cells f.marks f.tags) c.self.view_is c.self.invariant in
     given_names flat own others c.args.range r.place pieces rest i r.plan plans.plan kept
 
 pub make_planned-requires-clause-may : goal.make_planned-requires-clause-may
@@ -173,7 +173,7 @@ returns-in_err-make_planned g c =
     let same : refusal_of c.self.inside.replica.limit (map body_of c.replace-drafts.result.items) c.self.inside.replica.log ≡ first_of (late_checks flat (with_range_replaced (viewed flat own others) c.args.range pieces rest)) =
     (λ k. refusal_of (c.self.view_is k).limit ((drafts ∙ plans.drafts) k) (c.self.view_is k).log) ∙ all_refused flat own others c.args.range r.place pieces rest i in
     let (y, is, gives) = err_from_is_err_and c.from_residual-in_err-make_planned.result c.from_residual-in_err-make_planned.ensures.1 in
-    let own_now : Own = own_in c.widget.inside.parts in
+    let own_now : WidgetValue = own_in c.widget.inside.parts in
     let doc : seen c.make_planned.new.replica c.self.inside.marks c.make_planned.new.tags.names ≡ c.args.self.now =
     (λ k. seen (c.in_err-make_planned.ensures.same k) c.self.inside.marks (c.make_planned.ensures.tags k)) ∙ c.self.view_is in
     let own_same : record own_now { sel = selected_stamps c.make_planned.new.selection } ≡ c.args.widget.now =
@@ -220,16 +220,16 @@ insert_all-requires g c =
     ∙ leave_last (is_covered r.removed.items) (last_gone c.cell_at.result.stamp r.held) r.plan.between others
     ∙ (λ k. map (selecting r.plan.between) (map (widget_left (λ p. c.in_ok-planned.ensures.removed p k) (newest k) (c.in_ok-planned.ensures.held k)) others)) in
     let n = length (text_of left.doc.cells) in
-    let kept : IsDoc flat.cells flat.marks flat.tags = subst (λ (f : Flat). IsDoc f.cells f.marks f.tags) c.self.view_is c.self.invariant in
+    let kept : IsDoc flat.cells flat.marks flat.tags = subst (λ (f : DocValue). IsDoc f.cells f.marks f.tags) c.self.view_is c.self.invariant in
     let moved : c.leave_all.new.marks ≡ left.doc.marks =
     c.leave_all.ensures.marks ∙ ap (λ l. marks_left (is_covered l) c.self.inside.marks) c.deref-2.ensures.value
     ∙ (λ k. marks_left (λ p. c.in_ok-planned.ensures.removed p k) (c.self.view_is k).marks) ∙ sym (marks_left_are flat own others c.args.range r.place pieces rest i) in
-    let own_now : Own = own_in c.widget.inside.parts in
+    let own_now : WidgetValue = own_in c.widget.inside.parts in
     let insert : c.leave_all.new.widget.insert.place ≡ left.own.insert.place =
-    ap (λ (o : Own). o.insert.place) c.leave_all.ensures.own ∙ ap (λ rs. (own_left (is_covered rs) own_now).insert.place) c.deref-2.ensures.value
+    ap (λ (o : WidgetValue). o.insert.place) c.leave_all.ensures.own ∙ ap (λ rs. (own_left (is_covered rs) own_now).insert.place) c.deref-2.ensures.value
     ∙ (λ k. (own_left (λ p. c.in_ok-planned.ensures.removed p k) (c.widget.view_is k)).insert.place) in
     let current : c.leave_all.new.widget.current.place ≡ left.own.current.place =
-    ap (λ (o : Own). o.current.place) c.leave_all.ensures.own ∙ ap (λ rs. (own_left (is_covered rs) own_now).current.place) c.deref-2.ensures.value
+    ap (λ (o : WidgetValue). o.current.place) c.leave_all.ensures.own ∙ ap (λ rs. (own_left (is_covered rs) own_now).current.place) c.deref-2.ensures.value
     ∙ (λ k. (own_left (λ p. c.in_ok-planned.ensures.removed p k) (c.widget.view_is k)).current.place) in
     record {
       marks = site_fits (length (text_of left.doc.cells)) r.plan.characters (2 ^ 64 - 1) c.leave_all.new.marks few
@@ -259,12 +259,12 @@ list_tags-requires-clause-names g c =
       texts = c.requires.pieces;
       utf8 = c.utf8.rest;
     } in
-    let kept : IsDoc flat.cells flat.marks flat.tags = subst (λ (f : Flat). IsDoc f.cells f.marks f.tags) c.self.view_is c.self.invariant in
+    let kept : IsDoc flat.cells flat.marks flat.tags = subst (λ (f : DocValue). IsDoc f.cells f.marks f.tags) c.self.view_is c.self.invariant in
     subst (All (λ w. IsName (string_bytes w))) (sym c.deref-3.ensures.value) (given_names flat own others c.args.range r.place pieces rest i r.plan plans.plan kept)
 
 -- what the replacement has made, in the words of its laws
-record Done (flat : Flat) (own : Own) (others : List Own) (range : Range) (place : ℕ) (pieces : List Piece) (rest : Word) (new : ReplicaValue) (marks : List Mark) (tags : List Word) (widget : Own)
-    (peers : List Own) : Type 0 where
+record Done (flat : DocValue) (own : WidgetValue) (others : List WidgetValue) (range : Range) (place : ℕ) (pieces : List Piece) (rest : Word) (new : ReplicaValue) (marks : List Mark) (tags : List Word) (widget : WidgetValue)
+    (peers : List WidgetValue) : Type 0 where
   is : IsReplacement flat own others range place pieces rest
   kept : IsDoc flat.cells flat.marks flat.tags
   none : refusal_of flat.limit (delete_drafts MOST_SPANS flat (loss_at (viewed flat own others) range) ++ more_drafts flat own others range place pieces rest is) flat.log ≡ None
@@ -298,7 +298,7 @@ done g c =
       texts = c.requires.pieces;
       utf8 = c.utf8.rest;
     } in
-    let kept : IsDoc flat.cells flat.marks flat.tags = subst (λ (f : Flat). IsDoc f.cells f.marks f.tags) c.self.view_is c.self.invariant in
+    let kept : IsDoc flat.cells flat.marks flat.tags = subst (λ (f : DocValue). IsDoc f.cells f.marks f.tags) c.self.view_is c.self.invariant in
     let none = sym (λ k. refusal_of (c.self.view_is k).limit ((drafts ∙ plans.drafts) k) (c.self.view_is k).log) ∙ c.in_ok-make_planned.ensures.fits in
     let left = left_by (viewed flat own others) c.args.range in
     let moved : c.leave_all.new.marks ≡ left.doc.marks =
@@ -306,11 +306,11 @@ done g c =
     ∙ (λ k. marks_left (λ p. c.in_ok-planned.ensures.removed p k) (c.self.view_is k).marks) ∙ sym (marks_left_are flat own others c.args.range r.place pieces rest i) in
     let at = c.stretch-stretch.result.begin + r.place in
     let place = point flat own others c.args.range r.place pieces rest i in
-    let own_now : Own = own_in c.widget.inside.parts in
+    let own_now : WidgetValue = own_in c.widget.inside.parts in
     let new = more_new flat own others c.args.range r.place pieces rest i in
     let selected = r.plan.selected.items in
     let names = as_words r.plan.names.items in
-    let sel : selected_stamps c.widget.inside.parts.selection ≡ own.sel = ap (λ (o : Own). o.sel) c.widget.view_is in
+    let sel : selected_stamps c.widget.inside.parts.selection ≡ own.sel = ap (λ (o : WidgetValue). o.sel) c.widget.view_is in
     let newest : c.cell_at.result.stamp ≡ last_newline (viewed flat own others) =
     last_kept c.kept.result.1.now (g.S.TextStore.list c.kept.result.0.now) flat own others c.stretch-stretch.result c.cell_at.result c.kept.ensures.cells
     (c.stretch-stretch.ensures.value ∙ ap (stretch_of (g.S.TextStore.list c.kept.result.0.now)) c.limits.ensures) c.cell_at.ensures in
@@ -334,11 +334,11 @@ done g c =
       kept = kept;
       none = none;
       marks_is = c.insert_all.ensures.marks ∙ (λ k. marks_inserted (here k) (plans.plan.characters k) (moved k));
-      tags_is = c.list_tags.ensures ∙ (λ k. all_listed (as_words (c.deref-3.ensures.value k)) (c.make_planned.ensures.tags k)) ∙ ap (λ (f : Flat). all_listed names f.tags) c.self.view_is
+      tags_is = c.list_tags.ensures ∙ (λ k. all_listed (as_words (c.deref-3.ensures.value k)) (c.make_planned.ensures.tags k)) ∙ ap (λ (f : DocValue). all_listed names f.tags) c.self.view_is
           ∙ ap (all_listed names) (sym (tags_left_are flat own others c.args.range r.place pieces rest i)) ∙ plans.plan.tags;
       doc = replacement_seen flat own others c.args.range r.place pieces rest i c.make_planned.new.replica none
           (c.in_ok-make_planned.ensures.log ∙ (λ k. with_drafts (c.self.view_is k).site ((drafts ∙ plans.drafts) k) (c.self.view_is k).log)) c.in_ok-make_planned.ensures.cells
-          (c.make_planned.ensures.site ∙ ap (λ (f : Flat). f.site) c.self.view_is) (c.make_planned.ensures.limit ∙ ap (λ (f : Flat). f.limit) c.self.view_is);
+          (c.make_planned.ensures.site ∙ ap (λ (f : DocValue). f.site) c.self.view_is) (c.make_planned.ensures.limit ∙ ap (λ (f : DocValue). f.limit) c.self.view_is);
       own_is = c.insert_all.ensures.own ∙ (λ k. own_inserted (here k) (plans.plan.characters k) (own_moved k));
       others_are = c.insert_all.ensures.others ∙ ap (map (own_inserted at r.plan.characters)) peers
           ∙ (λ k. map (own_inserted (here k) (plans.plan.characters k)) (map (selecting r.plan.between) left.others)) ∙ put_each place (length new.cells) (selected_between r.plan.between) left.others
@@ -391,13 +391,13 @@ returns g c =
     let new = more_new flat own others c.args.range place pieces rest d.is in
     record {
       ok = (λ k. record { doc = seen c.make_planned.new.replica (d.marks_is k) (d.tags_is k); own = d.own_is k; others = d.others_are k })
-          ∙ ap (λ (f : Flat). record {
+          ∙ ap (λ (f : DocValue). record {
             doc = f;
             own = record (own_inserted (point flat own others c.args.range place pieces rest d.is) (length new.cells) (left_by (viewed flat own others) c.args.range).own) { sel = new.sel };
             others = with_selections new.others (map (own_inserted (point flat own others c.args.range place pieces rest d.is) (length new.cells)) (left_by (viewed flat own others) c.args.range).others);
           }) d.doc
           ∙ sym (replaced_is flat own others c.args.range place pieces rest d.is);
-      checked = (λ k. first_of (late_checks flat (record { doc = d.doc k; own = own; others = others }))) ∙ sym (ap (λ (v : Viewed). first_of (late_checks flat v)) (replaced_is flat own others c.args.range place pieces rest d.is))
+      checked = (λ k. first_of (late_checks flat (record { doc = d.doc k; own = own; others = others }))) ∙ sym (ap (λ (v : ViewValue). first_of (late_checks flat v)) (replaced_is flat own others c.args.range place pieces rest d.is))
           ∙ sym (all_refused flat own others c.args.range place pieces rest d.is) ∙ d.none;
       err = tt;
       unchanged = tt;

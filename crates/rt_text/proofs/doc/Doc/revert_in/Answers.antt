@@ -13,7 +13,7 @@ use Rattle.rt_rga.specs.Made.{refusal_of}
 use Rattle.rt_rga.specs.Requests.{MayBeMade}
 use Rattle.rt_rga.proofs.Requests.{greatest_bound}
 use Rattle.rt_rga.specs.Few.{items_in}
-use Rattle.rt_edits.specs.Flat.{Flat}
+use Rattle.rt_edits.specs.DocValue.{DocValue}
 use Rattle.rt_edits.specs.Insertions.{all_listed}
 use Rattle.rt_edits.proofs.PlaceLaws.{text_within}
 use Rattle.rt_undo.specs.Actions.{group_of}
@@ -43,14 +43,14 @@ planned_reversion-requires-clause-older g c =
     let states = c.kept.result.1.now in
     let store = g.S.TextStore.list c.kept.result.0.now in
     let many = c.seen-count.result in
-    let count : many ≡ flat.count = c.seen-count.ensures.value ∙ c.clock.ensures ∙ ap (λ (f : Flat). f.count) c.self.view_is in
+    let count : many ≡ flat.count = c.seen-count.ensures.value ∙ c.clock.ensures ∙ ap (λ (f : DocValue). f.count) c.self.view_is in
     store_older states store flat many c.kept.ensures.cells c.kept.ensures.history c.kept.ensures.document count
 
 pub planned_reversion-requires-clause-count : goal.planned_reversion-requires-clause-count
 planned_reversion-requires-clause-count g c =
     let flat = c.args.self.now in
     let many = c.seen-count.result in
-    let count : many ≡ flat.count = c.seen-count.ensures.value ∙ c.clock.ensures ∙ ap (λ (f : Flat). f.count) c.self.view_is in
+    let count : many ≡ flat.count = c.seen-count.ensures.value ∙ c.clock.ensures ∙ ap (λ (f : DocValue). f.count) c.self.view_is in
     let most = greatest_bound flat.log c.kept.ensures.history in
     omega (arith, count, c.kept.ensures.document.count, most)
 
@@ -62,8 +62,8 @@ returns-in_err-plan g c =
     let store = g.S.TextStore.list c.kept.result.0.now in
     let number = c.site-site.result.number in
     let many = c.seen-count.result in
-    let site : number ≡ flat.site = c.site-site.ensures ∙ ap (λ (f : Flat). f.site) c.self.view_is in
-    let count : many ≡ flat.count = c.seen-count.ensures.value ∙ c.clock.ensures ∙ ap (λ (f : Flat). f.count) c.self.view_is in
+    let site : number ≡ flat.site = c.site-site.ensures ∙ ap (λ (f : DocValue). f.site) c.self.view_is in
+    let count : many ≡ flat.count = c.seen-count.ensures.value ∙ c.clock.ensures ∙ ap (λ (f : DocValue). f.count) c.self.view_is in
     let is : IsOf states store number many flat = record { cells = sym c.kept.ensures.cells; site = sym site; count = sym count } in
     let (y, same, gives) = err_from_is_err_and c.from_residual.result c.from_residual.ensures.1 in
     rw (same, gives) (record {
@@ -94,8 +94,8 @@ commit-requires g c =
     let store = g.S.TextStore.list c.kept.result.0.now in
     let number = c.site-site.result.number in
     let many = c.seen-count.result in
-    let site : number ≡ flat.site = c.site-site.ensures ∙ ap (λ (f : Flat). f.site) c.self.view_is in
-    let count : many ≡ flat.count = c.seen-count.ensures.value ∙ c.clock.ensures ∙ ap (λ (f : Flat). f.count) c.self.view_is in
+    let site : number ≡ flat.site = c.site-site.ensures ∙ ap (λ (f : DocValue). f.site) c.self.view_is in
+    let count : many ≡ flat.count = c.seen-count.ensures.value ∙ c.clock.ensures ∙ ap (λ (f : DocValue). f.count) c.self.view_is in
     let is : IsOf states store number many flat = record { cells = sym c.kept.ensures.cells; site = sym site; count = sym count } in
     let table = c.planned_reversion.new.kept in
     let plan = c.in_ok-plan.plan in
@@ -133,8 +133,8 @@ returns-in_err-prepare_tags g c =
       ids = c.planned_reversion.ensures.ids;
       err = inl c.in_err-prepare_tags.ensures.err;
       unchanged = (doc, refl, refl);
-      own = subst (λ (f : Flat). IsOwnOf (length (text_of f.cells)) c.args.widget.now) (sym doc) c.requires.own;
-      others = subst (λ (f : Flat). AllByRecursion (IsOwnOf (length (text_of f.cells))) (map own_in c.args.others.now)) (sym doc) c.requires.others;
+      own = subst (λ (f : DocValue). IsOwnOf (length (text_of f.cells)) c.args.widget.now) (sym doc) c.requires.own;
+      others = subst (λ (f : DocValue). AllByRecursion (IsOwnOf (length (text_of f.cells))) (map own_in c.args.others.now)) (sym doc) c.requires.others;
     })
 
 pub invariant_of-self-in_err-commit : goal.invariant_of-self-in_err-commit
@@ -149,8 +149,8 @@ returns-in_err-commit g c =
     let store = g.S.TextStore.list c.kept.result.0.now in
     let number = c.site-site.result.number in
     let many = c.seen-count.result in
-    let site : number ≡ flat.site = c.site-site.ensures ∙ ap (λ (f : Flat). f.site) c.self.view_is in
-    let count : many ≡ flat.count = c.seen-count.ensures.value ∙ c.clock.ensures ∙ ap (λ (f : Flat). f.count) c.self.view_is in
+    let site : number ≡ flat.site = c.site-site.ensures ∙ ap (λ (f : DocValue). f.site) c.self.view_is in
+    let count : many ≡ flat.count = c.seen-count.ensures.value ∙ c.clock.ensures ∙ ap (λ (f : DocValue). f.count) c.self.view_is in
     let is : IsOf states store number many flat = record { cells = sym c.kept.ensures.cells; site = sym site; count = sym count } in
     let table = c.planned_reversion.new.kept in
     let plan = c.in_ok-plan.plan in
@@ -182,8 +182,8 @@ returns-in_err-commit g c =
       ids = c.planned_reversion.ensures.ids;
       err = which c.in_err-commit.ensures.refused same;
       unchanged = (doc, refl, refl);
-      own = subst (λ (f : Flat). IsOwnOf (length (text_of f.cells)) c.args.widget.now) (sym doc) c.requires.own;
-      others = subst (λ (f : Flat). AllByRecursion (IsOwnOf (length (text_of f.cells))) (map own_in c.args.others.now)) (sym doc) c.requires.others;
+      own = subst (λ (f : DocValue). IsOwnOf (length (text_of f.cells)) c.args.widget.now) (sym doc) c.requires.own;
+      others = subst (λ (f : DocValue). AllByRecursion (IsOwnOf (length (text_of f.cells))) (map own_in c.args.others.now)) (sym doc) c.requires.others;
     })
 
 pub revert_all-requires : goal.revert_all-requires
@@ -193,7 +193,7 @@ revert_all-requires g c =
     let store = g.S.TextStore.list c.kept.result.0.now in
     let plan = c.in_ok-plan.plan in
     let n = length (text_of c.self.inside.replica.cells) in
-    let text : n ≡ length (text_of flat.cells) = ap (λ (f : Flat). length (text_of f.cells)) c.self.view_is in
+    let text : n ≡ length (text_of flat.cells) = ap (λ (f : DocValue). length (text_of f.cells)) c.self.view_is in
     let cells : length flat.cells ≡ length store = ap length (sym c.kept.ensures.cells) ∙ length-map store (shown states) in
     let within : n ≤ MOST_CELLS = omega (arith, text, cells, text_within flat.cells, c.kept.ensures.few, c.kept.ensures.most) in
     let changes : c.deref-2.result.now ≡ plan.changes.items = c.deref-2.ensures.value in
@@ -218,8 +218,8 @@ invariant_of-self-2 g c =
     let store = g.S.TextStore.list c.kept.result.0.now in
     let number = c.site-site.result.number in
     let many = c.seen-count.result in
-    let site : number ≡ flat.site = c.site-site.ensures ∙ ap (λ (f : Flat). f.site) c.self.view_is in
-    let count : many ≡ flat.count = c.seen-count.ensures.value ∙ c.clock.ensures ∙ ap (λ (f : Flat). f.count) c.self.view_is in
+    let site : number ≡ flat.site = c.site-site.ensures ∙ ap (λ (f : DocValue). f.site) c.self.view_is in
+    let count : many ≡ flat.count = c.seen-count.ensures.value ∙ c.clock.ensures ∙ ap (λ (f : DocValue). f.count) c.self.view_is in
     let is : IsOf states store number many flat = record { cells = sym c.kept.ensures.cells; site = sym site; count = sym count } in
     let table = c.planned_reversion.new.kept in
     let plan = c.in_ok-plan.plan in
@@ -237,11 +237,11 @@ invariant_of-self-2 g c =
     let left = (reversion flat group).doc in
     let doc : seen c.commit.new.self left.marks left.tags ≡ reverted flat group =
     left_seen flat group i c.commit.new.self (c.in_ok-commit.ensures.log ∙ (λ k. with_drafts (c.self.view_is k).site (plans.drafts k) (c.self.view_is k).log)) c.in_ok-commit.ensures.cells
-    (c.commit.ensures.site ∙ ap (λ (f : Flat). f.site) c.self.view_is) (c.commit.ensures.limit ∙ ap (λ (f : Flat). f.limit) c.self.view_is) in
+    (c.commit.ensures.site ∙ ap (λ (f : DocValue). f.site) c.self.view_is) (c.commit.ensures.limit ∙ ap (λ (f : DocValue). f.limit) c.self.view_is) in
     let marks : c.revert_all.new.marks ≡ left.marks = c.revert_all.ensures.marks ∙ (λ k. marks_after (c.deref-2.ensures.value k) (c.self.view_is k).marks) ∙ plans.marks in
     let tags : c.list_tags.new.table.names ≡ left.tags =
-    c.list_tags.ensures ∙ (λ k. all_listed (as_words (c.deref-4.ensures.value k)) (c.prepare_tags.ensures.names k)) ∙ ap (λ (f : Flat). all_listed (as_words plan.names.items) f.tags) c.self.view_is ∙ plans.tags in
-    let kept : IsDoc flat.cells flat.marks flat.tags = subst (λ (f : Flat). IsDoc f.cells f.marks f.tags) c.self.view_is c.self.invariant in
+    c.list_tags.ensures ∙ (λ k. all_listed (as_words (c.deref-4.ensures.value k)) (c.prepare_tags.ensures.names k)) ∙ ap (λ (f : DocValue). all_listed (as_words plan.names.items) f.tags) c.self.view_is ∙ plans.tags in
+    let kept : IsDoc flat.cells flat.marks flat.tags = subst (λ (f : DocValue). IsDoc f.cells f.marks f.tags) c.self.view_is c.self.invariant in
     subst (λ (x : _). x) (λ k. IsDoc (sym doc k).cells (sym marks k) (sym tags k)) (left_kept flat group i kept)
 
 pub returns : goal.returns
@@ -252,8 +252,8 @@ returns g c =
     let store = g.S.TextStore.list c.kept.result.0.now in
     let number = c.site-site.result.number in
     let many = c.seen-count.result in
-    let site : number ≡ flat.site = c.site-site.ensures ∙ ap (λ (f : Flat). f.site) c.self.view_is in
-    let count : many ≡ flat.count = c.seen-count.ensures.value ∙ c.clock.ensures ∙ ap (λ (f : Flat). f.count) c.self.view_is in
+    let site : number ≡ flat.site = c.site-site.ensures ∙ ap (λ (f : DocValue). f.site) c.self.view_is in
+    let count : many ≡ flat.count = c.seen-count.ensures.value ∙ c.clock.ensures ∙ ap (λ (f : DocValue). f.count) c.self.view_is in
     let is : IsOf states store number many flat = record { cells = sym c.kept.ensures.cells; site = sym site; count = sym count } in
     let table = c.planned_reversion.new.kept in
     let plan = c.in_ok-plan.plan in
@@ -271,10 +271,10 @@ returns g c =
     let left = (reversion flat group).doc in
     let doc : seen c.commit.new.self left.marks left.tags ≡ reverted flat group =
     left_seen flat group i c.commit.new.self (c.in_ok-commit.ensures.log ∙ (λ k. with_drafts (c.self.view_is k).site (plans.drafts k) (c.self.view_is k).log)) c.in_ok-commit.ensures.cells
-    (c.commit.ensures.site ∙ ap (λ (f : Flat). f.site) c.self.view_is) (c.commit.ensures.limit ∙ ap (λ (f : Flat). f.limit) c.self.view_is) in
+    (c.commit.ensures.site ∙ ap (λ (f : DocValue). f.site) c.self.view_is) (c.commit.ensures.limit ∙ ap (λ (f : DocValue). f.limit) c.self.view_is) in
     let marks : c.revert_all.new.marks ≡ left.marks = c.revert_all.ensures.marks ∙ (λ k. marks_after (c.deref-2.ensures.value k) (c.self.view_is k).marks) ∙ plans.marks in
     let tags : c.list_tags.new.table.names ≡ left.tags =
-    c.list_tags.ensures ∙ (λ k. all_listed (as_words (c.deref-4.ensures.value k)) (c.prepare_tags.ensures.names k)) ∙ ap (λ (f : Flat). all_listed (as_words plan.names.items) f.tags) c.self.view_is ∙ plans.tags in
+    c.list_tags.ensures ∙ (λ k. all_listed (as_words (c.deref-4.ensures.value k)) (c.prepare_tags.ensures.names k)) ∙ ap (λ (f : DocValue). all_listed (as_words plan.names.items) f.tags) c.self.view_is ∙ plans.tags in
     let own = c.args.widget.now in
     let own_moved_is : c.revert_all.new.widget ≡ own_reverted flat group own =
     c.revert_all.ensures.own ∙ (λ k. own_renamed (c.deref-3.ensures.value k) (own_after (c.deref-2.ensures.value k) own)) ∙ own_moved states table store number many flat group plan p own in

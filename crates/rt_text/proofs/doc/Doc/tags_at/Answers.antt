@@ -2,10 +2,10 @@ use Rattle.std.proofs.lemmas.Result.{err_from_is_err_and}
 use Rattle.std.proofs.Common.{◌∙◌, ◌+◌, ap, arith}
 use Rattle.std.specs.Prelude.{option_map}
 use Rattle.rt_stamps.specs.Words.{as_words}
-use Rattle.rt_edits.specs.Flat.{Flat}
+use Rattle.rt_edits.specs.DocValue.{DocValue}
 use Rattle.rt_edits.specs.Selected.{selected_stamps}
 use Rattle.rt_edits.proofs.PlaceLaws.{length_text, text_within}
-use Rattle.rt_text.specs.Widgets.{Own, tags_on}
+use Rattle.rt_text.specs.Widgets.{WidgetValue, tags_on}
 use Rattle.rt_text.proofs.LimitedTags.{place_kept}
 use Rattle.rt_text.proofs.SeenLaws.{tags_found, visible_given}
 use Rattle.rt_text.proofs.doc.Doc.tags_at.Goals as goal
@@ -41,8 +41,8 @@ returns-clause-ok g c =
     ap (option_map (tags_on own tags)) at.1
     ∙ tags_found table kept c.args.self.now.cells (selected_stamps c.widget.inside.parts.selection) own tags
     (as_words c.in_ok-names.names.items) (as_words c.keep_tags_on.new.names.items) (c.stretch.result.begin + c.args.place) c.cell_at-cell.result
-    c.kept.ensures.cells (ap (λ (o : Own). o.sel) c.widget.view_is) c.cell_at-cell.ensures
-    (c.in_ok-names.ensures.names ∙ ap (λ (f : Flat). f.tags) c.self.view_is) c.keep_tags_on.ensures
+    c.kept.ensures.cells (ap (λ (o : WidgetValue). o.sel) c.widget.view_is) c.cell_at-cell.ensures
+    (c.in_ok-names.ensures.names ∙ ap (λ (f : DocValue). f.tags) c.self.view_is) c.keep_tags_on.ensures
 
 pub keep_tags_on-requires : goal.keep_tags_on-requires
 keep_tags_on-requires g c =

@@ -10,7 +10,7 @@ use Rattle.rt_store.specs.Shown.{TaggedCell}
 use Rattle.rt_changes.proofs.Accepted.{told_replays}
 use Rattle.rt_stamps.specs.Words.{as_words}
 use Rattle.rt_tags.specs.Tags.{IsName, is_ready}
-use Rattle.rt_edits.specs.Flat.{Flat}
+use Rattle.rt_edits.specs.DocValue.{DocValue}
 use Rattle.rt_edits.specs.Insertions.{all_listed}
 use Rattle.rt_store.specs.Cells.{text_of}
 use Rattle.rt_text.specs.Accepted.{with_new}
@@ -79,9 +79,9 @@ invariant_of-self-in-Ok g c =
     let seen : seen_with c.take.new.self c.follow.new.marks c.list_tags.new.table.names ≡ with_new op flat =
     accepted_seen old op change is_new tells flat c.take.new.self c.self.inside.marks c.follow.new.marks c.self.inside.tags.names c.list_tags.new.table.names c.self.view_is
     c.in-Ok.ensures.log c.store.ensures.cells c.take.ensures.site c.take.ensures.limit c.follow.ensures names in
-    let doc : IsDoc flat.cells flat.marks flat.tags = subst (λ (f : Flat). IsDoc f.cells f.marks f.tags) c.self.view_is c.self.invariant in
-    let more : IsHistory (with_operation op flat.log) = subst IsHistory (ap (λ (f : Flat). f.log) seen) c.log.ensures.history in
-    subst (λ (f : Flat). IsDoc f.cells f.marks f.tags) (sym seen) (accepted_is flat op c.kept.ensures.history more c.kept.ensures.document.cells c.edit.ensures.rules doc)
+    let doc : IsDoc flat.cells flat.marks flat.tags = subst (λ (f : DocValue). IsDoc f.cells f.marks f.tags) c.self.view_is c.self.invariant in
+    let more : IsHistory (with_operation op flat.log) = subst IsHistory (ap (λ (f : DocValue). f.log) seen) c.log.ensures.history in
+    subst (λ (f : DocValue). IsDoc f.cells f.marks f.tags) (sym seen) (accepted_is flat op c.kept.ensures.history more c.kept.ensures.document.cells c.edit.ensures.rules doc)
 
 pub returns-in-Ok-clause-taken : goal.returns-in-Ok-clause-taken
 returns-in-Ok-clause-taken g c =
@@ -99,7 +99,7 @@ returns-in-Ok-clause-taken g c =
 pub returns-in-Ok-clause-replays : goal.returns-in-Ok-clause-replays
 returns-in-Ok-clause-replays g c =
     let flat = c.args.self.now in
-    let cells : c.self.inside.replica.cells ≡ flat.cells = ap (λ (f : Flat). f.cells) c.self.view_is in
+    let cells : c.self.inside.replica.cells ≡ flat.cells = ap (λ (f : DocValue). f.cells) c.self.view_is in
     told_replays flat.log c.take.new.self.log flat.cells c.take.new.self.cells c.args.op c.in-Ok.change c.kept.ensures.history c.log.ensures.history
-    c.kept.ensures.document.cells c.store.ensures.cells (c.in-Ok.ensures.log ∙ ap (λ (f : Flat). with_operation c.args.op f.log) c.self.view_is)
+    c.kept.ensures.document.cells c.store.ensures.cells (c.in-Ok.ensures.log ∙ ap (λ (f : DocValue). with_operation c.args.op f.log) c.self.view_is)
     (subst (λ (l : List TaggedCell). IsChange c.args.op l c.in-Ok.change) cells c.in-Ok.ensures.change)

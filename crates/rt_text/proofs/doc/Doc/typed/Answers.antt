@@ -2,11 +2,11 @@ use Rattle.std.proofs.Common.{◌∙◌, ap, refl, sym}
 use Rattle.std.specs.Prelude.{option_map}
 use Rattle.std.proofs.lemmas.Option.{IfSome_then}
 use Rattle.rt_store.specs.Shown.{shown}
-use Rattle.rt_edits.specs.Flat.{Flat}
+use Rattle.rt_edits.specs.DocValue.{DocValue}
 use Rattle.rt_edits.specs.InsertionPlans.{with_typed}
 use Rattle.rt_edits.specs.Insertions.{insertion_of}
 use Rattle.rt_edits.specs.Selected.{selected_stamps}
-use Rattle.rt_text.specs.Widgets.{Own, selections_of}
+use Rattle.rt_text.specs.Widgets.{WidgetValue, selections_of}
 use Rattle.rt_text.proofs.InsertedDocument.{begun}
 use Rattle.rt_text.proofs.ViewLaws.{viewed}
 use Rattle.rt_text.proofs.doc.Doc.typed.Goals as goal
@@ -17,8 +17,8 @@ returns-clause-comes g c =
     let flat = c.args.self.now in
     let stamps = selected_stamps c.widget.inside.parts.selection in
     let seen = c.seen-count.result in
-    let count = c.seen-count.ensures.value ∙ c.clock.ensures ∙ ap (λ (f : Flat). f.count) c.self.view_is in
-    let sel = ap (λ (o : Own). o.sel) c.widget.view_is in
+    let count = c.seen-count.ensures.value ∙ c.clock.ensures ∙ ap (λ (f : DocValue). f.count) c.self.view_is in
+    let sel = ap (λ (o : WidgetValue). o.sel) c.widget.view_is in
     IfSome_then c.typed_between.result c.typed_between.ensures.comes
     (λ typed h others.
     let view = viewed flat c.args.widget.now others in

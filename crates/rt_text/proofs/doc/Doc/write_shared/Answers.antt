@@ -12,7 +12,7 @@ use Rattle.rt_tags.specs.Tags.{with_name}
 use Rattle.rt_edits.specs.Listed.{AreListed}
 use Rattle.rt_text.specs.Kept.{IsDoc}
 use Rattle.rt_text.specs.Widgets.{AreSiteMarks}
-use Rattle.rt_edits.specs.Flat.{Flat, logged}
+use Rattle.rt_edits.specs.DocValue.{DocValue, logged}
 use Rattle.rt_edits.specs.Removals.{is_covered}
 use Rattle.rt_edits.specs.TagDrafts.{tag_drafts_at}
 use Rattle.rt_edits.specs.TagWrites.{listed_if, with_tag_at}
@@ -46,7 +46,7 @@ commit-requires g c =
     let of = of_site c.kept.result.1.now (g.S.TextStore.list c.kept.result.0.now) old c.kept.ensures.history c.kept.ensures.document c.kept.ensures.site c.kept.ensures.cells c.kept.ensures.few in
     let makes = tagged_makes old places c.args.on c.args.name.now of (name_is c.args.name.now c.utf8.name c.requires.name c.requires.shared) in
     subst (λ (l : List Body). MayBeMade c.self.inside.replica.site c.self.inside.replica.log l) (sym bodies)
-    (subst (λ (f : Flat). MayBeMade f.site f.log drafts) (sym c.self.view_is) makes.may)
+    (subst (λ (f : DocValue). MayBeMade f.site f.log drafts) (sym c.self.view_is) makes.may)
 
 pub returns-in_err-drafts : goal.returns-in_err-drafts
 returns-in_err-drafts g c =
@@ -105,14 +105,14 @@ invariant_of-self-2 g c =
     let makes = tagged_makes old places on name of (name_is name c.utf8.name c.requires.name c.requires.shared) in
     let fit : refusal_of old.limit drafts old.log ≡ None = (λ i. refusal_of (sym c.self.view_is i).limit (sym bodies i) (sym c.self.view_is i).log) ∙ c.in_ok-commit.ensures.fits in
     let log : c.commit.new.self.log ≡ with_drafts old.site drafts old.log = c.in_ok-commit.ensures.log ∙ (λ i. with_drafts (c.self.view_is i).site (bodies i) (c.self.view_is i).log) in
-    let tags : c.list_if.new.tags.names ≡ edited.tags = c.list_if.ensures.names ∙ ap (λ l. cond on (with_name name l) l) (c.prepare_if.ensures.names ∙ ap (λ (f : Flat). f.tags) c.self.view_is) in
+    let tags : c.list_if.new.tags.names ≡ edited.tags = c.list_if.ensures.names ∙ ap (λ l. cond on (with_name name l) l) (c.prepare_if.ensures.names ∙ ap (λ (f : DocValue). f.tags) c.self.view_is) in
     let made : seen c.commit.new.self c.self.inside.marks c.list_if.new.tags.names ≡ logged old drafts edited =
-    makes_seen old edited drafts makes c.commit.new.self c.self.inside.marks c.list_if.new.tags.names fit log c.in_ok-commit.ensures.cells (c.commit.ensures.site ∙ ap (λ (f : Flat). f.site) c.self.view_is)
-    (c.commit.ensures.limit ∙ ap (λ (f : Flat). f.limit) c.self.view_is) (ap (λ (f : Flat). f.marks) c.self.view_is) tags refl in
+    makes_seen old edited drafts makes c.commit.new.self c.self.inside.marks c.list_if.new.tags.names fit log c.in_ok-commit.ensures.cells (c.commit.ensures.site ∙ ap (λ (f : DocValue). f.site) c.self.view_is)
+    (c.commit.ensures.limit ∙ ap (λ (f : DocValue). f.limit) c.self.view_is) (ap (λ (f : DocValue). f.marks) c.self.view_is) tags refl in
     let final : listed_if on name (with_tag_at old places on name) ≡ edited = listed_as on name old edited.cells edited.count in
-    let listed : AreListed edited.tags edited.cells = written_stays on name old edited places c.requires.name c.requires.shared (subst (λ (f : Flat). AreListed f.tags f.cells) c.self.view_is c.self.invariant.listed) final in
-    subst (λ (f : Flat). IsDoc f.cells c.self.inside.marks f.tags) (sym made)
-    (kept_beside old edited c.self.inside.marks (subst (λ (f : Flat). AreSiteMarks (length (text_of f.cells)) c.self.inside.marks) c.self.view_is c.self.invariant.placed) (tag_text old places on name) listed)
+    let listed : AreListed edited.tags edited.cells = written_stays on name old edited places c.requires.name c.requires.shared (subst (λ (f : DocValue). AreListed f.tags f.cells) c.self.view_is c.self.invariant.listed) final in
+    subst (λ (f : DocValue). IsDoc f.cells c.self.inside.marks f.tags) (sym made)
+    (kept_beside old edited c.self.inside.marks (subst (λ (f : DocValue). AreSiteMarks (length (text_of f.cells)) c.self.inside.marks) c.self.view_is c.self.invariant.placed) (tag_text old places on name) listed)
 
 pub returns-clause-ok : goal.returns-clause-ok
 returns-clause-ok g c =
@@ -127,10 +127,10 @@ returns-clause-ok g c =
     let makes = tagged_makes old places on name of (name_is name c.utf8.name c.requires.name c.requires.shared) in
     let fit : refusal_of old.limit drafts old.log ≡ None = (λ i. refusal_of (sym c.self.view_is i).limit (sym bodies i) (sym c.self.view_is i).log) ∙ c.in_ok-commit.ensures.fits in
     let log : c.commit.new.self.log ≡ with_drafts old.site drafts old.log = c.in_ok-commit.ensures.log ∙ (λ i. with_drafts (c.self.view_is i).site (bodies i) (c.self.view_is i).log) in
-    let tags : c.list_if.new.tags.names ≡ edited.tags = c.list_if.ensures.names ∙ ap (λ l. cond on (with_name name l) l) (c.prepare_if.ensures.names ∙ ap (λ (f : Flat). f.tags) c.self.view_is) in
+    let tags : c.list_if.new.tags.names ≡ edited.tags = c.list_if.ensures.names ∙ ap (λ l. cond on (with_name name l) l) (c.prepare_if.ensures.names ∙ ap (λ (f : DocValue). f.tags) c.self.view_is) in
     let made : seen c.commit.new.self c.self.inside.marks c.list_if.new.tags.names ≡ logged old drafts edited =
-    makes_seen old edited drafts makes c.commit.new.self c.self.inside.marks c.list_if.new.tags.names fit log c.in_ok-commit.ensures.cells (c.commit.ensures.site ∙ ap (λ (f : Flat). f.site) c.self.view_is)
-    (c.commit.ensures.limit ∙ ap (λ (f : Flat). f.limit) c.self.view_is) (ap (λ (f : Flat). f.marks) c.self.view_is) tags refl in
+    makes_seen old edited drafts makes c.commit.new.self c.self.inside.marks c.list_if.new.tags.names fit log c.in_ok-commit.ensures.cells (c.commit.ensures.site ∙ ap (λ (f : DocValue). f.site) c.self.view_is)
+    (c.commit.ensures.limit ∙ ap (λ (f : DocValue). f.limit) c.self.view_is) (ap (λ (f : DocValue). f.marks) c.self.view_is) tags refl in
     made ∙ ap (logged old drafts) (sym (listed_as on name old edited.cells edited.count))
 
 pub returns-clause-within : goal.returns-clause-within
@@ -146,8 +146,8 @@ returns-clause-within g c =
     let makes = tagged_makes old places on name of (name_is name c.utf8.name c.requires.name c.requires.shared) in
     let fit : refusal_of old.limit drafts old.log ≡ None = (λ i. refusal_of (sym c.self.view_is i).limit (sym bodies i) (sym c.self.view_is i).log) ∙ c.in_ok-commit.ensures.fits in
     let log : c.commit.new.self.log ≡ with_drafts old.site drafts old.log = c.in_ok-commit.ensures.log ∙ (λ i. with_drafts (c.self.view_is i).site (bodies i) (c.self.view_is i).log) in
-    let tags : c.list_if.new.tags.names ≡ edited.tags = c.list_if.ensures.names ∙ ap (λ l. cond on (with_name name l) l) (c.prepare_if.ensures.names ∙ ap (λ (f : Flat). f.tags) c.self.view_is) in
+    let tags : c.list_if.new.tags.names ≡ edited.tags = c.list_if.ensures.names ∙ ap (λ l. cond on (with_name name l) l) (c.prepare_if.ensures.names ∙ ap (λ (f : DocValue). f.tags) c.self.view_is) in
     let made : seen c.commit.new.self c.self.inside.marks c.list_if.new.tags.names ≡ logged old drafts edited =
-    makes_seen old edited drafts makes c.commit.new.self c.self.inside.marks c.list_if.new.tags.names fit log c.in_ok-commit.ensures.cells (c.commit.ensures.site ∙ ap (λ (f : Flat). f.site) c.self.view_is)
-    (c.commit.ensures.limit ∙ ap (λ (f : Flat). f.limit) c.self.view_is) (ap (λ (f : Flat). f.marks) c.self.view_is) tags refl in
-    subst (λ n. n ≤ GREATEST_COUNT) (sym (ap (λ (f : Flat). f.count) made)) (fits old edited drafts makes fit)
+    makes_seen old edited drafts makes c.commit.new.self c.self.inside.marks c.list_if.new.tags.names fit log c.in_ok-commit.ensures.cells (c.commit.ensures.site ∙ ap (λ (f : DocValue). f.site) c.self.view_is)
+    (c.commit.ensures.limit ∙ ap (λ (f : DocValue). f.limit) c.self.view_is) (ap (λ (f : DocValue). f.marks) c.self.view_is) tags refl in
+    subst (λ n. n ≤ GREATEST_COUNT) (sym (ap (λ (f : DocValue). f.count) made)) (fits old edited drafts makes fit)

@@ -8,7 +8,7 @@ use Rattle.rt_tags.specs.States.{state_at}
 use Rattle.rt_text.specs.Proper.{last_within}
 use Rattle.rt_edits.specs.Selected.{selected_stamps}
 use Rattle.rt_text.specs.Grounds.{widget_over}
-use Rattle.rt_text.specs.Widgets.{Own, is_tagged_in}
+use Rattle.rt_text.specs.Widgets.{WidgetValue, is_tagged_in}
 use Rattle.rt_edits.proofs.PlaceLaws.{length_text, text_within}
 use Rattle.rt_views.proofs.Parts.{part_length}
 use Rattle.rt_views.specs.Stretches.{part}
@@ -27,7 +27,7 @@ returns-in_err-last g c =
     let ground = c.args.self.now in
     c.from_residual.ensures ∙ ap (option_map (λ q. q + 1)) (sym c.in_err-last.was ∙ c.last_within.ensures)
     ∙ stops_by c.kept.result.1.now (g.S.TextStore.list c.kept.result.0.now) ground.stretch ground.marks.now ground.tags.now.names (selected_stamps c.widget.inside.parts.selection) ground.widget.now c.args.name.now
-    (ap (λ (o : Own). o.sel) c.widget.view_is) (sym c.has.ensures ∙ c.if-not-has.false)
+    (ap (λ (o : WidgetValue). o.sel) c.widget.view_is) (sym c.has.ensures ∙ c.if-not-has.false)
     ∙ ap (λ (cells : List TaggedCell). tag_last (widget_over ground.stretch cells ground.marks.now ground.tags.now.names ground.widget.now) c.args.name.now) (c.kept.ensures.cells ∙ ground.same)
 
 pub overflow_add-result : goal.overflow_add-result
@@ -47,5 +47,5 @@ returns g c =
     let ground = c.args.self.now in
     ap (option_map (λ q. q + 1)) (sym c.in_ok-last.was ∙ c.last_within.ensures)
     ∙ stops_by c.kept.result.1.now (g.S.TextStore.list c.kept.result.0.now) ground.stretch ground.marks.now ground.tags.now.names (selected_stamps c.widget.inside.parts.selection) ground.widget.now c.args.name.now
-    (ap (λ (o : Own). o.sel) c.widget.view_is) (sym c.has.ensures ∙ c.if-not-has.false)
+    (ap (λ (o : WidgetValue). o.sel) c.widget.view_is) (sym c.has.ensures ∙ c.if-not-has.false)
     ∙ ap (λ (cells : List TaggedCell). tag_last (widget_over ground.stretch cells ground.marks.now ground.tags.now.names ground.widget.now) c.args.name.now) (c.kept.ensures.cells ∙ ground.same)

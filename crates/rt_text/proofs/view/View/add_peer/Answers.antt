@@ -8,7 +8,7 @@ use Rattle.rt_views.specs.Choices.{limits_chosen}
 use Rattle.rt_views.specs.Ordered.{AreInOrder}
 use Rattle.rt_text.specs.Limited.{with_new_peer}
 use Rattle.rt_text.specs.Parts.{own_in}
-use Rattle.rt_text.specs.Widgets.{IsOwnOf, Own, Viewed, own_at}
+use Rattle.rt_text.specs.Widgets.{IsOwnOf, WidgetValue, ViewValue, own_at}
 use Rattle.rt_text.proofs.KeptLimits.{InOrder, order_append, order_asked}
 use Rattle.rt_text.proofs.view.View.add_peer.Goals as goal
 
@@ -16,7 +16,7 @@ pub returns-in_err-limits : goal.returns-in_err-limits
 returns-in_err-limits g c =
     let view = c.args.self.now in
     let chosen : limits_chosen view.doc.cells c.args.start c.args.end view.own.limits ≡ Err c.in_err-limits.field-0.0 =
-    ap (λ (v : Viewed). limits_chosen v.doc.cells c.args.start c.args.end v.own.limits) (sym c.self.view_is)
+    ap (λ (v : ViewValue). limits_chosen v.doc.cells c.args.start c.args.end v.own.limits) (sym c.self.view_is)
     ∙ ap (limits_chosen c.self.inside.doc.cells c.args.start c.args.end) (sym c.limits.ensures) ∙ sym c.limits_chosen.ensures ∙ c.in_err-limits.was in
     let p = err_from_is_err_and c.from_residual.result c.from_residual.ensures.1 in
     rw (p.1, p.2) (record { ok = tt; err = inr (ap (with_new_peer view) chosen); unchanged = refl })
@@ -39,7 +39,7 @@ invariant_of-self-2 g c =
       insert_name = refl;
       current_name = refl;
     } in
-    let new : Own = own_in c.at.result in
+    let new : WidgetValue = own_in c.at.result in
     let back : map own_in c.push.new.self.items ≡ map own_in items ++ new ∷ [] = ap (map own_in) c.in_ok-push.ensures.items ∙ map_append own_in items (c.at.result ∷ []) in
     record {
       own = c.self.invariant.own;
@@ -48,6 +48,6 @@ invariant_of-self-2 g c =
       limits = (
         c.self.invariant.limits.0,
         subst (InOrder cells) (sym back) (order_append cells (map own_in items) (new ∷ []) c.self.invariant.limits.1
-            (subst (λ (o : Own). AreInOrder cells o.limits) (sym c.at.ensures) order, tt)),
+            (subst (λ (o : WidgetValue). AreInOrder cells o.limits) (sym c.at.ensures) order, tt)),
       );
     }

@@ -10,7 +10,7 @@ use Rattle.rt_stamps.specs.Words.{as_words}
 use Rattle.rt_store.specs.Cells.{text_of}
 use Rattle.rt_text.specs.Parts.{own_in}
 use Rattle.rt_text.specs.Commands.{clock_check, without_ranges}
-use Rattle.rt_text.specs.Widgets.{IsOwnOf, Viewed}
+use Rattle.rt_text.specs.Widgets.{IsOwnOf, ViewValue}
 use Rattle.rt_text.proofs.Deletions.{both_ok, deleted_index}
 use Rattle.rt_text.proofs.Refusals.{deleted_ok, deleted_refused}
 use Rattle.rt_text.proofs.ViewLaws.{viewed}
@@ -40,9 +40,9 @@ returns-clause-ok g c =
     let same : viewed c.self.inside.doc c.self.inside.widget (map own_in c.deref_mut.result.now) ≡ view =
     ap (λ l. viewed c.self.inside.doc c.self.inside.widget (map own_in l)) c.deref_mut.ensures.value ∙ c.self.view_is in
     let back : (with_items c.self.inside.others c.delete_in-done.new.others).items ≡ c.delete_in-done.new.others = with_items_is c.self.inside.others c.delete_in-done.new.others (omega (arith, c.delete_in-done.auto.others, c.deref_mut.ensures.len)) in
-    let edited : Viewed = viewed c.delete_in-done.new.self c.delete_in-done.new.widget (map own_in (with_items c.self.inside.others c.delete_in-done.new.others).items) in
+    let edited : ViewValue = viewed c.delete_in-done.new.self c.delete_in-done.new.widget (map own_in (with_items c.self.inside.others c.delete_in-done.new.others).items) in
     both_ok c.delete_in-done.result
-    (λ made fits. deleted_ok view indices ranges c.in_ok-ranges.ensures.checked read edited (ap (λ (v : Viewed). without_ranges v ranges) (sym same) ∙ made ∙ ap (λ l. viewed c.delete_in-done.new.self c.delete_in-done.new.widget (map own_in l)) (sym back)) fits)
+    (λ made fits. deleted_ok view indices ranges c.in_ok-ranges.ensures.checked read edited (ap (λ (v : ViewValue). without_ranges v ranges) (sym same) ∙ made ∙ ap (λ l. viewed c.delete_in-done.new.self c.delete_in-done.new.widget (map own_in l)) (sym back)) fits)
     c.delete_in-done.ensures.ok c.delete_in-done.ensures.checked
 
 pub returns-clause-err : goal.returns-clause-err
@@ -54,7 +54,7 @@ returns-clause-err g c =
     let same : viewed c.self.inside.doc c.self.inside.widget (map own_in c.deref_mut.result.now) ≡ view =
     ap (λ l. viewed c.self.inside.doc c.self.inside.widget (map own_in l)) c.deref_mut.ensures.value ∙ c.self.view_is in
     IfErr-weaker c.delete_in-done.result _ _ (λ fault h. deleted_refused view indices ranges c.in_ok-ranges.ensures.checked read fault h)
-    (subst (λ (v : Viewed). IfErr c.delete_in-done.result (λ fault. (fault ≡ NoMemory) ⊎ (clock_check (without_ranges v ranges).doc.count ≡ Some fault))) same c.delete_in-done.ensures.err)
+    (subst (λ (v : ViewValue). IfErr c.delete_in-done.result (λ fault. (fault ≡ NoMemory) ⊎ (clock_check (without_ranges v ranges).doc.count ≡ Some fault))) same c.delete_in-done.ensures.err)
 
 pub invariant_of-self : goal.invariant_of-self
 invariant_of-self g c =
@@ -69,7 +69,7 @@ invariant_of-self g c =
     ap (λ (l : List Parts). viewed c.delete_in-done.new.self c.delete_in-done.new.widget (map own_in l)) back in
     let lent : viewed c.self.inside.doc c.self.inside.widget (map own_in c.deref_mut.result.now) ≡ view =
     ap (λ (l : List Parts). viewed c.self.inside.doc c.self.inside.widget (map own_in l)) c.deref_mut.ensures.value in
-    let made = on_ok_weaker c.delete_in-done.result (λ e. here ∙ sym e ∙ ap (λ (v : Viewed). without_ranges v ranges) lent) c.delete_in-done.ensures.ok in
+    let made = on_ok_weaker c.delete_in-done.result (λ e. here ∙ sym e ∙ ap (λ (v : ViewValue). without_ranges v ranges) lent) c.delete_in-done.ensures.ok in
     let same = on_err_weaker c.delete_in-done.result (λ kept. here ∙ (λ i. viewed (kept.0 i) (kept.1 i) (kept.2 i)) ∙ lent) c.delete_in-done.ensures.unchanged in
     record {
       own = c.delete_in-done.ensures.own;

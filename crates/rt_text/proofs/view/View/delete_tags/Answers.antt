@@ -3,7 +3,7 @@ use Rattle.std.specs.List.{AllByRecursion}
 use Rattle.std.proofs.lemmas.Result.{on_err_weaker, on_ok_weaker}
 use Rattle.rt_stamps.specs.declared.limits.TheConstants.{MOST_SPANS}
 use Rattle.rt_stamps.specs.Words.{as_words}
-use Rattle.rt_edits.specs.Flat.{Flat, logged}
+use Rattle.rt_edits.specs.DocValue.{DocValue, logged}
 use Rattle.rt_edits.specs.TagDrafts.{deletion_drafts}
 use Rattle.rt_edits.specs.TagWrites.{without_tags}
 use Rattle.rt_text.specs.Parts.{own_in}
@@ -21,8 +21,8 @@ invariant_of-self g c =
     let drafts = deletion_drafts MOST_SPANS old names in
     let edited = without_tags old names in
     let view = viewed old c.self.inside.widget others in
-    let made = on_ok_weaker c.delete_tags-done.result (λ e. ap (λ (f : Flat). viewed f c.self.inside.widget others) e) c.delete_tags-done.ensures.ok in
-    let same = on_err_weaker c.delete_tags-done.result (λ e. ap (λ (f : Flat). viewed f c.self.inside.widget others) e) c.delete_tags-done.ensures.unchanged in
+    let made = on_ok_weaker c.delete_tags-done.result (λ e. ap (λ (f : DocValue). viewed f c.self.inside.widget others) e) c.delete_tags-done.ensures.ok in
+    let same = on_err_weaker c.delete_tags-done.result (λ e. ap (λ (f : DocValue). viewed f c.self.inside.widget others) e) c.delete_tags-done.ensures.unchanged in
     let long = sym (ap length c.delete_tags-done.ensures.text) in
     record {
       own = subst (λ n. IsOwnOf n c.self.inside.widget) long c.self.invariant.own;

@@ -6,7 +6,7 @@ use Rattle.std.proofs.lemmas.Option.{slice_get-get_or, slice_get-map}
 use Rattle.rt_store.specs.Cells.{text_of}
 use Rattle.rt_text.specs.declared.parts.Parts.{Parts}
 use Rattle.rt_text.specs.Parts.{own_in}
-use Rattle.rt_text.specs.Widgets.{IsOwnOf, Own, Viewed}
+use Rattle.rt_text.specs.Widgets.{IsOwnOf, WidgetValue, ViewValue}
 use Rattle.rt_text.proofs.ExchangeLaws.{each_at, each_set}
 use Rattle.rt_text.proofs.KeptLimits.{InOrder, order_at, order_set}
 use Rattle.rt_text.proofs.view.View.exchange.Goals as goal
@@ -16,11 +16,11 @@ invariant_of-self g c =
     let items = c.self.inside.others.items in
     let others = map own_in items in
     let i = c.args.other in
-    let many : length c.args.self.now.others ≡ length items = ap (λ (v : Viewed). length v.others) (sym c.self.view_is) ∙ length-map items own_in in
+    let many : length c.args.self.now.others ≡ length items = ap (λ (v : ViewValue). length v.others) (sym c.self.view_is) ∙ length-map items own_in in
     let within : i < length items = omega (arith, c.requires, many) in
     let found : slice_get others i ≡ Some c.exchange.new.self =
     slice_get-map own_in items i ∙ ap (option_map own_in) (slice_get-get_or items i c.index_mut.result.now within)
-    ∙ ap (λ (p : Parts). Some (own_in p)) (sym c.index_mut.ensures.value) ∙ ap (λ (o : Own). Some o) (sym c.exchange.ensures.own) in
+    ∙ ap (λ (p : Parts). Some (own_in p)) (sym c.index_mut.ensures.value) ∙ ap (λ (o : WidgetValue). Some o) (sym c.exchange.ensures.own) in
     let back : map own_in (set items i c.exchange.new.other) ≡ set others i c.self.inside.widget = map-set own_in items i c.exchange.new.other ∙ ap (set others i) c.exchange.ensures.other in
     let cells = c.self.inside.doc.cells in
     let n = length (text_of cells) in
@@ -38,12 +38,12 @@ returns-clause-own g c =
     let items = c.self.inside.others.items in
     let others = map own_in items in
     let i = c.args.other in
-    let many : length c.args.self.now.others ≡ length items = ap (λ (v : Viewed). length v.others) (sym c.self.view_is) ∙ length-map items own_in in
+    let many : length c.args.self.now.others ≡ length items = ap (λ (v : ViewValue). length v.others) (sym c.self.view_is) ∙ length-map items own_in in
     let within : i < length items = omega (arith, c.requires, many) in
     let found : slice_get others i ≡ Some c.exchange.new.self =
     slice_get-map own_in items i ∙ ap (option_map own_in) (slice_get-get_or items i c.index_mut.result.now within)
-    ∙ ap (λ (p : Parts). Some (own_in p)) (sym c.index_mut.ensures.value) ∙ ap (λ (o : Own). Some o) (sym c.exchange.ensures.own) in
-    ap (λ (v : Viewed). slice_get v.others i) (sym c.self.view_is) ∙ found
+    ∙ ap (λ (p : Parts). Some (own_in p)) (sym c.index_mut.ensures.value) ∙ ap (λ (o : WidgetValue). Some o) (sym c.exchange.ensures.own) in
+    ap (λ (v : ViewValue). slice_get v.others i) (sym c.self.view_is) ∙ found
 
 pub returns-clause-others : goal.returns-clause-others
 returns-clause-others g c =
@@ -51,4 +51,4 @@ returns-clause-others g c =
     let others = map own_in items in
     let i = c.args.other in
     let back : map own_in (set items i c.exchange.new.other) ≡ set others i c.self.inside.widget = map-set own_in items i c.exchange.new.other ∙ ap (set others i) c.exchange.ensures.other in
-    back ∙ ap (λ (v : Viewed). set v.others i v.own) c.self.view_is
+    back ∙ ap (λ (v : ViewValue). set v.others i v.own) c.self.view_is

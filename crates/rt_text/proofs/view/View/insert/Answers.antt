@@ -8,11 +8,11 @@ use Rattle.std.proofs.lemmas.Result.{err_from_is_err_and, on_err_weaker, on_ok_w
 use Rattle.rt_stamps.specs.declared.fault.Fault.TheVariants.{NoMemory}
 use Rattle.rt_stamps.specs.Outcomes.{first_of}
 use Rattle.rt_store.specs.Cells.{text_of}
-use Rattle.rt_edits.specs.Flat.{Flat}
+use Rattle.rt_edits.specs.DocValue.{DocValue}
 use Rattle.rt_text.specs.Parts.{own_in}
 use Rattle.rt_text.specs.Commands.{with_pieces_at}
 use Rattle.rt_store.specs.Shown.{TaggedCell}
-use Rattle.rt_text.specs.Widgets.{IsOwnOf, Viewed, length_shown, shown_by, stretch_by}
+use Rattle.rt_text.specs.Widgets.{IsOwnOf, ViewValue, length_shown, shown_by, stretch_by}
 use Rattle.rt_views.specs.Ordered.{AreInOrder}
 use Rattle.rt_text.proofs.LimitedTags.{shown_size}
 use Rattle.rt_text.proofs.PutLaws.{all_refused, both_done, done_by, either, late_checks, refused_index, refused_name}
@@ -44,13 +44,13 @@ insert_at-done-requires-clause-place g c =
     let view = c.args.self.now in
     let stretch = c.in_ok-place.stretch in
     let size = shown_size view stretch c.in_ok-place.ensures.stretch c.in_ok-place.ensures.within in
-    let there = ap (λ (d : Flat). viewed d c.self.inside.widget (map own_in c.self.inside.others.items)) c.focus.ensures ∙ c.self.view_is in
-    subst (λ (v : Viewed). c.min-place.result < length (shown_by v)) (sym there)
+    let there = ap (λ (d : DocValue). viewed d c.self.inside.widget (map own_in c.self.inside.others.items)) c.focus.ensures ∙ c.self.view_is in
+    subst (λ (v : ViewValue). c.min-place.result < length (shown_by v)) (sym there)
     (omega (arith, size, length-map (shown_by view) (λ (cell : TaggedCell). cell.ch), c.min-place.ensures, c.in_ok-place.ensures.some))
 
 pub insert_at-done-requires-clause-others : goal.insert_at-done-requires-clause-others
 insert_at-done-requires-clause-others g c =
-    subst (λ (d : Flat). AllByRecursion (IsOwnOf (length (text_of d.cells))) (map own_in c.deref_mut.result.now)) (sym c.focus.ensures)
+    subst (λ (d : DocValue). AllByRecursion (IsOwnOf (length (text_of d.cells))) (map own_in c.deref_mut.result.now)) (sym c.focus.ensures)
     (subst (λ (l : List Parts). AllByRecursion (IsOwnOf (length (text_of c.self.inside.doc.cells))) (map own_in l)) (sym c.deref_mut.ensures.value) c.self.invariant.others)
 
 pub returns-clause-ok : goal.returns-clause-ok
@@ -59,18 +59,18 @@ returns-clause-ok g c =
     let index = c.args.index.now in
     let pieces = c.args.pieces.now in
     let rest = c.args.rest.now in
-    let there = ap (λ (d : Flat). viewed d c.self.inside.widget (map own_in c.self.inside.others.items)) c.focus.ensures ∙ c.self.view_is in
+    let there = ap (λ (d : DocValue). viewed d c.self.inside.widget (map own_in c.self.inside.others.items)) c.focus.ensures ∙ c.self.view_is in
     let same : viewed c.focus.new.self c.self.inside.widget (map own_in c.deref_mut.result.now) ≡ view =
     ap (λ l. viewed c.focus.new.self c.self.inside.widget (map own_in l)) c.deref_mut.ensures.value ∙ there in
     let at = c.min-place.result in
     let place : at ≡ min c.in_ok-place.place (length_shown view - 1) =
     c.min-place.ensures ∙ ap (λ n. min c.in_ok-place.place (n - 1)) (shown_size view c.in_ok-place.stretch c.in_ok-place.ensures.stretch c.in_ok-place.ensures.within) in
     let back : (with_items c.self.inside.others c.insert_at-done.new.others).items ≡ c.insert_at-done.new.others = with_items_is c.self.inside.others c.insert_at-done.new.others (omega (arith, c.insert_at-done.auto.others, c.deref_mut.ensures.len)) in
-    let edited : Viewed = viewed c.insert_at-done.new.self c.insert_at-done.new.widget (map own_in (with_items c.self.inside.others c.insert_at-done.new.others).items) in
+    let edited : ViewValue = viewed c.insert_at-done.new.self c.insert_at-done.new.widget (map own_in (with_items c.self.inside.others c.insert_at-done.new.others).items) in
     both_done c.insert_at-done.result
     (λ made checked. done_by view index pieces rest c.in_ok-place.place at edited c.in_ok-check_names.ensures.ok c.in_ok-place.ensures.ok place
-    (ap (λ l. viewed c.insert_at-done.new.self c.insert_at-done.new.widget (map own_in l)) back ∙ made ∙ ap (λ (v : Viewed). with_pieces_at v at pieces rest) same)
-    (ap (λ (v : Viewed). first_of (late_checks v.doc edited)) (sym there) ∙ checked))
+    (ap (λ l. viewed c.insert_at-done.new.self c.insert_at-done.new.widget (map own_in l)) back ∙ made ∙ ap (λ (v : ViewValue). with_pieces_at v at pieces rest) same)
+    (ap (λ (v : ViewValue). first_of (late_checks v.doc edited)) (sym there) ∙ checked))
     c.insert_at-done.ensures.ok c.insert_at-done.ensures.checked
 
 pub returns-clause-err : goal.returns-clause-err
@@ -79,18 +79,18 @@ returns-clause-err g c =
     let index = c.args.index.now in
     let pieces = c.args.pieces.now in
     let rest = c.args.rest.now in
-    let there = ap (λ (d : Flat). viewed d c.self.inside.widget (map own_in c.self.inside.others.items)) c.focus.ensures ∙ c.self.view_is in
+    let there = ap (λ (d : DocValue). viewed d c.self.inside.widget (map own_in c.self.inside.others.items)) c.focus.ensures ∙ c.self.view_is in
     let same : viewed c.focus.new.self c.self.inside.widget (map own_in c.deref_mut.result.now) ≡ view =
     ap (λ l. viewed c.focus.new.self c.self.inside.widget (map own_in l)) c.deref_mut.ensures.value ∙ there in
     let at = c.min-place.result in
     let place : at ≡ min c.in_ok-place.place (length_shown view - 1) =
     c.min-place.ensures ∙ ap (λ n. min c.in_ok-place.place (n - 1)) (shown_size view c.in_ok-place.stretch c.in_ok-place.ensures.stretch c.in_ok-place.ensures.within) in
     all_refused view index pieces rest c.in_ok-place.place at c.insert_at-done.result c.in_ok-check_names.ensures.ok c.in_ok-place.ensures.ok place
-    (subst (λ (v : Viewed). IfErr c.insert_at-done.result (λ fault. (fault ≡ NoMemory) ⊎ (first_of (late_checks v.doc (with_pieces_at v at pieces rest)) ≡ Some fault))) same c.insert_at-done.ensures.err)
+    (subst (λ (v : ViewValue). IfErr c.insert_at-done.result (λ fault. (fault ≡ NoMemory) ⊎ (first_of (late_checks v.doc (with_pieces_at v at pieces rest)) ≡ Some fault))) same c.insert_at-done.ensures.err)
 
 pub returns-clause-unchanged : goal.returns-clause-unchanged
 returns-clause-unchanged g c =
-    let there = ap (λ (d : Flat). viewed d c.self.inside.widget (map own_in c.self.inside.others.items)) c.focus.ensures ∙ c.self.view_is in
+    let there = ap (λ (d : DocValue). viewed d c.self.inside.widget (map own_in c.self.inside.others.items)) c.focus.ensures ∙ c.self.view_is in
     let same : viewed c.focus.new.self c.self.inside.widget (map own_in c.deref_mut.result.now) ≡ c.args.self.now =
     ap (λ l. viewed c.focus.new.self c.self.inside.widget (map own_in l)) c.deref_mut.ensures.value ∙ there in
     let back : (with_items c.self.inside.others c.insert_at-done.new.others).items ≡ c.insert_at-done.new.others = with_items_is c.self.inside.others c.insert_at-done.new.others (omega (arith, c.insert_at-done.auto.others, c.deref_mut.ensures.len)) in
@@ -113,7 +113,7 @@ invariant_of-self g c =
     ap (λ (l : List Parts). viewed c.insert_at-done.new.self c.insert_at-done.new.widget (map own_in l)) back in
     let lent : viewed c.focus.new.self c.self.inside.widget (map own_in c.deref_mut.result.now) ≡ view =
     λ i. viewed (c.focus.ensures i) c.self.inside.widget (map own_in (c.deref_mut.ensures.value i)) in
-    let made = on_ok_weaker c.insert_at-done.result (λ e. here ∙ e ∙ ap (λ (v : Viewed). with_pieces_at v at pieces rest) lent) c.insert_at-done.ensures.ok in
+    let made = on_ok_weaker c.insert_at-done.result (λ e. here ∙ e ∙ ap (λ (v : ViewValue). with_pieces_at v at pieces rest) lent) c.insert_at-done.ensures.ok in
     let same = on_err_weaker c.insert_at-done.result (λ kept. here ∙ (λ i. viewed (kept.0 i) (kept.1 i) (kept.2 i)) ∙ lent) c.insert_at-done.ensures.unchanged in
     record {
       own = c.insert_at-done.ensures.own;
@@ -123,15 +123,15 @@ invariant_of-self g c =
     }
 
 pub insert_at-done-requires-clause-own : goal.insert_at-done-requires-clause-own
-insert_at-done-requires-clause-own g c = subst (λ (d : Flat). IsOwnOf (length (text_of d.cells)) c.self.inside.widget) (sym c.focus.ensures) c.self.invariant.own
+insert_at-done-requires-clause-own g c = subst (λ (d : DocValue). IsOwnOf (length (text_of d.cells)) c.self.inside.widget) (sym c.focus.ensures) c.self.invariant.own
 
 pub insert_at-done-requires-clause-pieces : goal.insert_at-done-requires-clause-pieces
 insert_at-done-requires-clause-pieces g c = c.in_ok-check_names.ensures.pieces
 
 pub insert_at-done-requires-clause-stretch : goal.insert_at-done-requires-clause-stretch
 insert_at-done-requires-clause-stretch g c =
-    let there = ap (λ (d : Flat). viewed d c.self.inside.widget (map own_in c.self.inside.others.items)) c.focus.ensures ∙ c.self.view_is in
+    let there = ap (λ (d : DocValue). viewed d c.self.inside.widget (map own_in c.self.inside.others.items)) c.focus.ensures ∙ c.self.view_is in
     c.in_ok-place.ensures.stretch ∙ sym (ap stretch_by there)
 
 pub insert_at-done-requires-clause-order : goal.insert_at-done-requires-clause-order
-insert_at-done-requires-clause-order g c = subst (λ (d : Flat). AreInOrder d.cells c.self.inside.widget.limits) (sym c.focus.ensures) c.self.invariant.limits.0
+insert_at-done-requires-clause-order g c = subst (λ (d : DocValue). AreInOrder d.cells c.self.inside.widget.limits) (sym c.focus.ensures) c.self.invariant.limits.0

@@ -8,7 +8,7 @@ use Rattle.rt_edits.specs.Removals.{cells_at, is_covered}
 use Rattle.rt_edits.proofs.Putting.{all_at}
 use Rattle.rt_edits.proofs.Shown.{cells_at_shown}
 use Rattle.rt_views.specs.Stretches.{stretch_of}
-use Rattle.rt_text.specs.Widgets.{Viewed}
+use Rattle.rt_text.specs.Widgets.{ViewValue}
 use Rattle.rt_text.proofs.LimitedDeletions.{loss_kept, loss_of}
 use Rattle.rt_text.proofs.view.View.lost.Goals as goal
 
@@ -31,9 +31,9 @@ returns-clause-cells g c =
     let ranges = c.args.ranges.now in
     let kept = g.S.TextStore.list c.kept.result.0.now in
     let table = c.kept.result.1.now in
-    let cells : map (shown table) kept ≡ view.doc.cells = c.kept.ensures.cells ∙ ap (λ (v : Viewed). v.doc.cells) c.self.view_is in
+    let cells : map (shown table) kept ≡ view.doc.cells = c.kept.ensures.cells ∙ ap (λ (v : ViewValue). v.doc.cells) c.self.view_is in
     let limits = view.own.limits in
-    let stretch : c.stretch-stretch.result ≡ stretch_of kept limits = c.stretch-stretch.ensures.value ∙ ap (stretch_of kept) (c.limits.ensures ∙ ap (λ (v : Viewed). v.own.limits) c.self.view_is) in
+    let stretch : c.stretch-stretch.result ≡ stretch_of kept limits = c.stretch-stretch.ensures.value ∙ ap (stretch_of kept) (c.limits.ensures ∙ ap (λ (v : ViewValue). v.own.limits) c.self.view_is) in
     let removed : ℕ → Bool = is_covered c.in_ok-removed.removed.items in
     let lost : ℕ → Bool = (loss_of view.doc limits ranges).places in
     let same : (place : ℕ) → removed place ≡ lost place =

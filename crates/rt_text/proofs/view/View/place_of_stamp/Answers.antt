@@ -3,7 +3,7 @@ use Rattle.std.specs.Prelude.{option_map}
 use Rattle.rt_tags.specs.States.{state_at}
 use Rattle.rt_views.specs.Stretches.{seen_place}
 use Rattle.rt_text.specs.Cursors.{place_of_stamp}
-use Rattle.rt_text.specs.Widgets.{Viewed}
+use Rattle.rt_text.specs.Widgets.{ViewValue}
 use Rattle.rt_text.proofs.CursorLaws.{place_there}
 use Rattle.rt_text.proofs.view.View.place_of_stamp.Goals as goal
 
@@ -13,7 +13,7 @@ returns-in_err-place g c =
     c.from_residual.ensures
     ∙ ap (option_map (seen_place c.stretch-stretch.result)) (sym c.in_err-place.was ∙ c.place_of.ensures)
     ∙ place_there (state_at c.kept.result.1.now) kept c.self.inside.doc.cells c.args.limits c.stretch-stretch.result c.kept.ensures.cells c.stretch-stretch.ensures.value c.args.stamp
-    ∙ ap (λ (v : Viewed). place_of_stamp c.args.limits c.args.stamp v.doc.cells) c.self.view_is
+    ∙ ap (λ (v : ViewValue). place_of_stamp c.args.limits c.args.stamp v.doc.cells) c.self.view_is
 
 pub returns : goal.returns
 returns g c =
@@ -21,4 +21,4 @@ returns g c =
     ap Some c.place.ensures.value
     ∙ ap (option_map (seen_place c.stretch-stretch.result)) (sym c.in_ok-place.was ∙ c.place_of.ensures)
     ∙ place_there (state_at c.kept.result.1.now) kept c.self.inside.doc.cells c.args.limits c.stretch-stretch.result c.kept.ensures.cells c.stretch-stretch.ensures.value c.args.stamp
-    ∙ ap (λ (v : Viewed). place_of_stamp c.args.limits c.args.stamp v.doc.cells) c.self.view_is
+    ∙ ap (λ (v : ViewValue). place_of_stamp c.args.limits c.args.stamp v.doc.cells) c.self.view_is

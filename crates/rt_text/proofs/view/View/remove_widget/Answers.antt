@@ -2,7 +2,7 @@ use Rattle.std.proofs.Common.{◌≡◌, ◌∙◌, List, ap, length, map, subst
 use Rattle.std.specs.List.{AllByRecursion, remove}
 use Rattle.rt_store.specs.Cells.{text_of}
 use Rattle.rt_text.specs.Parts.{own_in}
-use Rattle.rt_text.specs.Widgets.{IsOwnOf, Own, Viewed}
+use Rattle.rt_text.specs.Widgets.{IsOwnOf, WidgetValue, ViewValue}
 use Rattle.rt_text.proofs.ExchangeLaws.{each_removed, map_removed}
 use Rattle.rt_text.proofs.KeptLimits.{InOrder, order_removed}
 use Rattle.rt_text.proofs.view.View.remove_widget.Goals as goal
@@ -25,5 +25,5 @@ returns g c =
     let items = c.self.inside.others.items in
     let i = c.args.other in
     let back : map own_in c.remove.new.self.items ≡ remove (map own_in items) i = ap (map own_in) c.remove.ensures.items ∙ map_removed own_in items i in
-    ap (λ (l : List Own). record { doc = c.self.inside.doc; own = c.self.inside.widget; others = l }) back
-    ∙ ap (λ (v : Viewed). record v { others = remove v.others i }) c.self.view_is
+    ap (λ (l : List WidgetValue). record { doc = c.self.inside.doc; own = c.self.inside.widget; others = l }) back
+    ∙ ap (λ (v : ViewValue). record v { others = remove v.others i }) c.self.view_is

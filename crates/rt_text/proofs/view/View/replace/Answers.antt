@@ -11,7 +11,7 @@ use Rattle.rt_edits.specs.declared.range.Range.{Range}
 use Rattle.rt_store.specs.Cells.{text_of}
 use Rattle.rt_text.specs.Parts.{own_in}
 use Rattle.rt_text.specs.Commands.{with_range_replaced}
-use Rattle.rt_text.specs.Widgets.{IsOwnOf, Viewed}
+use Rattle.rt_text.specs.Widgets.{IsOwnOf, ViewValue}
 use Rattle.rt_text.proofs.PutLaws.{both_done, either, late_checks}
 use Rattle.rt_text.proofs.ReplaceLaws.{backwards, bad_from, bad_name, bad_to, done_as, refused_late}
 use Rattle.rt_text.proofs.ViewLaws.{viewed}
@@ -71,13 +71,13 @@ returns-clause-ok g c =
     ap (λ l. viewed c.self.inside.doc c.self.inside.widget (map own_in l)) c.deref_mut.ensures.value ∙ c.self.view_is in
     let back : (with_items c.self.inside.others c.replace_in-done.new.others).items ≡ c.replace_in-done.new.others =
     with_items_is c.self.inside.others c.replace_in-done.new.others (omega (arith, c.replace_in-done.auto.others, c.deref_mut.ensures.len)) in
-    let edited : Viewed = viewed c.replace_in-done.new.self c.replace_in-done.new.widget (map own_in (with_items c.self.inside.others c.replace_in-done.new.others).items) in
+    let edited : ViewValue = viewed c.replace_in-done.new.self c.replace_in-done.new.widget (map own_in (with_items c.self.inside.others c.replace_in-done.new.others).items) in
     both_done c.replace_in-done.result
     (λ made checked. done_as view pieces rest c.args.from.now c.args.to.now c.in_ok-check_names.ensures.ok c.in_ok-begin.begin c.in_ok-end.end c.in_ok-begin.ensures.ok c.in_ok-end.ensures.ok edited
     c.in_ok-range.ensures.checked
     (ap (λ l. viewed c.replace_in-done.new.self c.replace_in-done.new.widget (map own_in l)) back ∙ made
     ∙ (λ i. with_range_replaced (same i) (c.in_ok-range.ensures.ok i) pieces rest))
-    (ap (λ (v : Viewed). first_of (late_checks v.doc edited)) (sym c.self.view_is) ∙ checked))
+    (ap (λ (v : ViewValue). first_of (late_checks v.doc edited)) (sym c.self.view_is) ∙ checked))
     c.replace_in-done.ensures.ok c.replace_in-done.ensures.checked
 
 pub returns-clause-err : goal.returns-clause-err
@@ -90,7 +90,7 @@ returns-clause-err g c =
     ap (λ l. viewed c.self.inside.doc c.self.inside.widget (map own_in l)) c.deref_mut.ensures.value ∙ c.self.view_is in
     refused_late view pieces rest c.args.from.now c.args.to.now c.in_ok-check_names.ensures.ok c.in_ok-begin.begin c.in_ok-end.end c.in_ok-begin.ensures.ok c.in_ok-end.ensures.ok
     c.replace_in-done.result c.in_ok-range.ensures.checked
-    (subst (λ (v : Viewed). IfErr c.replace_in-done.result (λ fault. (fault ≡ NoMemory) ⊎ (first_of (late_checks v.doc (with_range_replaced v range pieces rest)) ≡ Some fault))) same
+    (subst (λ (v : ViewValue). IfErr c.replace_in-done.result (λ fault. (fault ≡ NoMemory) ⊎ (first_of (late_checks v.doc (with_range_replaced v range pieces rest)) ≡ Some fault))) same
     (subst (λ (r : Range). IfErr c.replace_in-done.result (λ fault. (fault ≡ NoMemory)
     ⊎ (first_of (late_checks c.self.inside.doc (with_range_replaced (viewed c.self.inside.doc c.self.inside.widget (map own_in c.deref_mut.result.now)) r pieces rest)) ≡ Some fault)))
     c.in_ok-range.ensures.ok c.replace_in-done.ensures.err))
@@ -120,7 +120,7 @@ invariant_of-self g c =
     ap (λ (l : List Parts). viewed c.replace_in-done.new.self c.replace_in-done.new.widget (map own_in l)) back in
     let lent : viewed c.self.inside.doc c.self.inside.widget (map own_in c.deref_mut.result.now) ≡ view =
     ap (λ (l : List Parts). viewed c.self.inside.doc c.self.inside.widget (map own_in l)) c.deref_mut.ensures.value in
-    let made = on_ok_weaker c.replace_in-done.result (λ e. here ∙ e ∙ ap (λ (v : Viewed). with_range_replaced v range pieces rest) lent) c.replace_in-done.ensures.ok in
+    let made = on_ok_weaker c.replace_in-done.result (λ e. here ∙ e ∙ ap (λ (v : ViewValue). with_range_replaced v range pieces rest) lent) c.replace_in-done.ensures.ok in
     let same = on_err_weaker c.replace_in-done.result (λ kept. here ∙ (λ i. viewed (kept.0 i) (kept.1 i) (kept.2 i)) ∙ lent) c.replace_in-done.ensures.unchanged in
     record {
       own = c.replace_in-done.ensures.own;

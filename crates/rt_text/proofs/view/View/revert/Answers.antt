@@ -13,7 +13,7 @@ use Rattle.rt_text.specs.Parts.{own_in}
 use Rattle.rt_undo.specs.Actions.{group_of}
 use Rattle.rt_revert.specs.Plans.{named_group}
 use Rattle.rt_text.specs.Reversions.{own_reverted, view_reverted, reversion_check}
-use Rattle.rt_text.specs.Widgets.{Viewed, IsOwnOf}
+use Rattle.rt_text.specs.Widgets.{ViewValue, IsOwnOf}
 use Rattle.rt_text.proofs.KeptLimits.{order_reverted}
 use Rattle.rt_text.proofs.view.View.revert.Goals as goal
 
@@ -22,13 +22,13 @@ all_ok (Ok x) f a b c = f a b c
 all_ok (Err e) f a b c = tt
 
 pub returns-clause-checked : goal.returns-clause-checked
-returns-clause-checked g c = subst (λ (v : Viewed). OnOk c.revert_in.result (reversion_check v.doc (named_group c.args.kept.now (group_of c.args.group.now)) ≡ None)) c.self.view_is c.revert_in.ensures.checked
+returns-clause-checked g c = subst (λ (v : ViewValue). OnOk c.revert_in.result (reversion_check v.doc (named_group c.args.kept.now (group_of c.args.group.now)) ≡ None)) c.self.view_is c.revert_in.ensures.checked
 
 pub returns-clause-returns : goal.returns-clause-returns
-returns-clause-returns g c = subst (λ (v : Viewed). IfOk c.revert_in.result (λ r. r.returns.items ≡ (reversion v.doc (named_group c.args.kept.now (group_of c.args.group.now))).returns)) c.self.view_is c.revert_in.ensures.returns
+returns-clause-returns g c = subst (λ (v : ViewValue). IfOk c.revert_in.result (λ r. r.returns.items ≡ (reversion v.doc (named_group c.args.kept.now (group_of c.args.group.now))).returns)) c.self.view_is c.revert_in.ensures.returns
 
 pub returns-clause-actions : goal.returns-clause-actions
-returns-clause-actions g c = subst (λ (v : Viewed). IfOk c.revert_in.result (λ r. named_group c.revert_in.new.kept (group_of r.actions.items) ≡ reverted_group v.doc (named_group c.args.kept.now (group_of c.args.group.now)))) c.self.view_is c.revert_in.ensures.actions
+returns-clause-actions g c = subst (λ (v : ViewValue). IfOk c.revert_in.result (λ r. named_group c.revert_in.new.kept (group_of r.actions.items) ≡ reverted_group v.doc (named_group c.args.kept.now (group_of c.args.group.now)))) c.self.view_is c.revert_in.ensures.actions
 
 pub returns-clause-given : goal.returns-clause-given
 returns-clause-given g c = c.revert_in.ensures.given
@@ -40,7 +40,7 @@ pub returns-clause-ids : goal.returns-clause-ids
 returns-clause-ids g c = c.revert_in.ensures.ids
 
 pub returns-clause-err : goal.returns-clause-err
-returns-clause-err g c = subst (λ (v : Viewed). IfErr c.revert_in.result (λ fault. (fault ≡ NoMemory) ⊎ (reversion_check v.doc (named_group c.args.kept.now (group_of c.args.group.now)) ≡ Some fault))) c.self.view_is c.revert_in.ensures.err
+returns-clause-err g c = subst (λ (v : ViewValue). IfErr c.revert_in.result (λ fault. (fault ≡ NoMemory) ⊎ (reversion_check v.doc (named_group c.args.kept.now (group_of c.args.group.now)) ≡ Some fault))) c.self.view_is c.revert_in.ensures.err
 
 pub returns-clause-unchanged : goal.returns-clause-unchanged
 returns-clause-unchanged g c =
@@ -88,5 +88,5 @@ returns-clause-ok g c =
     with_items_is c.self.inside.others c.revert_in.new.others (omega (arith, c.revert_in.auto.others, c.deref_mut.ensures.len)) in
     all_ok c.revert_in.result
     (λ d w p. (λ k. record { doc = d k; own = w k; others = (ap (map own_in) back ∙ p ∙ ap (λ l. map (own_reverted c.self.inside.doc group) (map own_in l)) c.deref_mut.ensures.value) k })
-    ∙ ap (λ (v : Viewed). view_reverted v group) c.self.view_is)
+    ∙ ap (λ (v : ViewValue). view_reverted v group) c.self.view_is)
     c.revert_in.ensures.doc c.revert_in.ensures.widget c.revert_in.ensures.peers

@@ -3,7 +3,7 @@ use Rattle.std.proofs.lemmas.Result.{err_from_is_err_and}
 use Rattle.rt_views.specs.Choices.{limits_chosen}
 use Rattle.rt_text.specs.Limited.{with_limits}
 use Rattle.rt_text.specs.Parts.{own_in}
-use Rattle.rt_text.specs.Widgets.{AreWidgetsOf, Own, Viewed}
+use Rattle.rt_text.specs.Widgets.{AreWidgetsOf, WidgetValue, ViewValue}
 use Rattle.rt_text.proofs.KeptLimits.{order_asked}
 use Rattle.rt_text.proofs.view.View.set_lines.Goals as goal
 
@@ -11,7 +11,7 @@ pub returns-in_err-limits : goal.returns-in_err-limits
 returns-in_err-limits g c =
     let view = c.args.self.now in
     let chosen : limits_chosen view.doc.cells c.args.start c.args.end view.own.limits ≡ Err c.in_err-limits.field-0.0 =
-    ap (λ (v : Viewed). limits_chosen v.doc.cells c.args.start c.args.end v.own.limits) (sym c.self.view_is)
+    ap (λ (v : ViewValue). limits_chosen v.doc.cells c.args.start c.args.end v.own.limits) (sym c.self.view_is)
     ∙ ap (limits_chosen c.self.inside.doc.cells c.args.start c.args.end) (sym c.limits.ensures) ∙ sym c.limits_chosen.ensures ∙ c.in_err-limits.was in
     let p = err_from_is_err_and c.from_residual.result c.from_residual.ensures.1 in
     rw (p.1, p.2) (record { ok = tt; err = ap (with_limits view) chosen; unchanged = refl })
@@ -24,7 +24,7 @@ invariant_of-self g c =
     ap (limits_chosen flat.cells c.args.start c.args.end) (sym c.limits.ensures) ∙ sym c.limits_chosen.ensures ∙ c.in_ok-limits.was in
     let order = order_asked flat c.args.start c.args.end limits c.in_ok-limits.limits c.kept.ensures.history c.kept.ensures.document c.self.invariant.limits.0 chosen in
     let own = c.self.invariant.own in
-    subst (λ (w : Own). AreWidgetsOf flat.cells w (map own_in c.self.inside.others.items)) (sym c.set_limits.ensures)
+    subst (λ (w : WidgetValue). AreWidgetsOf flat.cells w (map own_in c.self.inside.others.items)) (sym c.set_limits.ensures)
     (record {
       own = record { insert = own.insert; current = own.current; insert_name = own.insert_name; current_name = own.current_name };
       others = c.self.invariant.others;

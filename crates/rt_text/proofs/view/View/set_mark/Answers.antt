@@ -1,5 +1,5 @@
 use Rattle.std.proofs.Common.{map, subst, sym}
-use Rattle.rt_edits.specs.Flat.{Flat}
+use Rattle.rt_edits.specs.DocValue.{DocValue}
 use Rattle.rt_text.specs.Parts.{own_in}
 use Rattle.rt_text.specs.Widgets.{AreWidgetsOf}
 use Rattle.rt_text.proofs.KeptDocument.{either_way}
@@ -9,5 +9,5 @@ pub invariant_of-self : goal.invariant_of-self
 invariant_of-self g c =
     let others = map own_in c.self.inside.others.items in
     either_way c.set_mark.result
-    (λ e. subst (λ (f : Flat). AreWidgetsOf f.cells c.self.inside.widget others) (sym e) c.self.invariant)
-    (λ e. subst (λ (f : Flat). AreWidgetsOf f.cells c.self.inside.widget others) (sym e) c.self.invariant) c.set_mark.ensures.ok c.set_mark.ensures.unchanged
+    (λ e. subst (λ (f : DocValue). AreWidgetsOf f.cells c.self.inside.widget others) (sym e) c.self.invariant)
+    (λ e. subst (λ (f : DocValue). AreWidgetsOf f.cells c.self.inside.widget others) (sym e) c.self.invariant) c.set_mark.ensures.ok c.set_mark.ensures.unchanged

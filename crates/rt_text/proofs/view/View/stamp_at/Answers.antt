@@ -4,7 +4,7 @@ use Rattle.rt_store.specs.Cells.{text_of, visible_of}
 use Rattle.rt_store.proofs.Shown.{text_shown}
 use Rattle.rt_tags.specs.States.{state_at}
 use Rattle.rt_text.specs.Cursors.{stamp_at}
-use Rattle.rt_text.specs.Widgets.{Viewed}
+use Rattle.rt_text.specs.Widgets.{ViewValue}
 use Rattle.rt_text.proofs.CursorLaws.{none_there, stamp_there}
 use Rattle.rt_text.proofs.view.View.stamp_at.Goals as goal
 
@@ -18,11 +18,11 @@ cell_at-requires g c =
 pub returns-then-place-stretch : goal.returns-then-place-stretch
 returns-then-place-stretch g c =
     none_there c.self.inside.doc.cells c.args.limits c.stretch-stretch.result c.args.place c.stretch-stretch.ensures.value c.if-place-stretch.true
-    ∙ ap (λ (v : Viewed). stamp_at c.args.limits c.args.place v.doc.cells) c.self.view_is
+    ∙ ap (λ (v : ViewValue). stamp_at c.args.limits c.args.place v.doc.cells) c.self.view_is
 
 pub returns : goal.returns
 returns g c =
     let kept = g.S.TextStore.list c.kept.result.0.now in
     stamp_there (state_at c.kept.result.1.now) kept c.self.inside.doc.cells c.args.limits c.stretch-stretch.result c.kept.ensures.cells c.stretch-stretch.ensures.value
     c.args.place c.cell_at.result (let inside = c.if-place-stretch.false in omega (arith, inside)) c.cell_at.ensures
-    ∙ ap (λ (v : Viewed). stamp_at c.args.limits c.args.place v.doc.cells) c.self.view_is
+    ∙ ap (λ (v : ViewValue). stamp_at c.args.limits c.args.place v.doc.cells) c.self.view_is

@@ -9,11 +9,11 @@ use Rattle.rt_rga.specs.Texts.{tagged_text}
 use Rattle.rt_changes.specs.Replays.{replayed, told_by}
 use Rattle.rt_rga.specs.Histories.{IsHistory}
 use Rattle.rt_store.specs.Cells.{text_of, visible_of}
-use Rattle.rt_edits.specs.Flat.{Flat}
+use Rattle.rt_edits.specs.DocValue.{DocValue}
 use Rattle.rt_text.specs.Parts.{own_in}
 use Rattle.rt_text.specs.Accepted.{answer_of, own_with_new, view_with_new, with_new}
 use Rattle.rt_text.specs.declared.parts.Parts.{Parts}
-use Rattle.rt_text.specs.Widgets.{AreWidgetsOf, IsOwnOf, Own, Viewed}
+use Rattle.rt_text.specs.Widgets.{AreWidgetsOf, IsOwnOf, WidgetValue, ViewValue}
 use Rattle.rt_text.proofs.PeerLaws.{each_by, each_room}
 use Rattle.rt_text.proofs.AcceptedView.{own_seen, own_stands, view_fits}
 use Rattle.rt_text.proofs.Growing.{GrowsTo, grows_taken}
@@ -21,10 +21,10 @@ use Rattle.rt_text.proofs.KeptLimits.{limits_more}
 use Rattle.rt_text.proofs.view.View.take.Goals as goal
 
 pub take-requires : goal.take-requires
-take-requires g c = ap (λ (v : Viewed). answer_of v.doc c.args.op) c.self.view_is ∙ c.requires
+take-requires g c = ap (λ (v : ViewValue). answer_of v.doc c.args.op) c.self.view_is ∙ c.requires
 
 pub returns-in-Err-clause-unchanged : goal.returns-in-Err-clause-unchanged
-returns-in-Err-clause-unchanged g c = ap (λ (d : Flat). viewed d c.self.inside.widget (map own_in c.self.inside.others.items)) c.in-Err.ensures.unchanged ∙ c.self.view_is
+returns-in-Err-clause-unchanged g c = ap (λ (d : DocValue). viewed d c.self.inside.widget (map own_in c.self.inside.others.items)) c.in-Err.ensures.unchanged ∙ c.self.view_is
 
 pub follow-requires-clause-runs : goal.follow-requires-clause-runs
 follow-requires-clause-runs g c = (length (visible_of c.self.inside.doc.cells), c.in-Ok.ensures.change.runs)
@@ -32,7 +32,7 @@ follow-requires-clause-runs g c = (length (visible_of c.self.inside.doc.cells), 
 pub follow-requires-clause-insert : goal.follow-requires-clause-insert
 follow-requires-clause-insert g c =
     let flat = c.self.inside.doc in
-    let is_new : answer_of flat c.args.op ≡ New = ap (λ (v : Viewed). answer_of v.doc c.args.op) c.self.view_is ∙ c.requires in
+    let is_new : answer_of flat c.args.op ≡ New = ap (λ (v : ViewValue). answer_of v.doc c.args.op) c.self.view_is ∙ c.requires in
     let tells = c.in-Ok.ensures.change in
     let fits : length (text_of flat.cells) + c.in-Ok.change.inserted ≤ 2 ^ 64 - 1 =
     view_fits flat c.args.op c.in-Ok.change is_new tells c.log.ensures.cells c.kept.ensures.most in
@@ -41,7 +41,7 @@ follow-requires-clause-insert g c =
 pub follow-requires-clause-current : goal.follow-requires-clause-current
 follow-requires-clause-current g c =
     let flat = c.self.inside.doc in
-    let is_new : answer_of flat c.args.op ≡ New = ap (λ (v : Viewed). answer_of v.doc c.args.op) c.self.view_is ∙ c.requires in
+    let is_new : answer_of flat c.args.op ≡ New = ap (λ (v : ViewValue). answer_of v.doc c.args.op) c.self.view_is ∙ c.requires in
     let tells = c.in-Ok.ensures.change in
     let fits : length (text_of flat.cells) + c.in-Ok.change.inserted ≤ 2 ^ 64 - 1 =
     view_fits flat c.args.op c.in-Ok.change is_new tells c.log.ensures.cells c.kept.ensures.most in
@@ -53,7 +53,7 @@ follow_each-requires-clause-runs g c = (length (visible_of c.self.inside.doc.cel
 pub follow_each-requires-clause-fits : goal.follow_each-requires-clause-fits
 follow_each-requires-clause-fits g c =
     let flat = c.self.inside.doc in
-    let is_new : answer_of flat c.args.op ≡ New = ap (λ (v : Viewed). answer_of v.doc c.args.op) c.self.view_is ∙ c.requires in
+    let is_new : answer_of flat c.args.op ≡ New = ap (λ (v : ViewValue). answer_of v.doc c.args.op) c.self.view_is ∙ c.requires in
     let tells = c.in-Ok.ensures.change in
     let n = length (text_of flat.cells) in
     each_room n c.in-Ok.change.inserted (2 ^ 64 - 1) c.deref_mut.result.now
@@ -62,20 +62,20 @@ follow_each-requires-clause-fits g c =
 
 pub invariant_of-self : goal.invariant_of-self
 invariant_of-self g c =
-    subst (λ (f : Flat). AreWidgetsOf f.cells c.self.inside.widget (map own_in c.self.inside.others.items))
+    subst (λ (f : DocValue). AreWidgetsOf f.cells c.self.inside.widget (map own_in c.self.inside.others.items))
     (sym c.in-Err.ensures.unchanged) c.self.invariant
 
 pub invariant_of-self-in-Ok : goal.invariant_of-self-in-Ok
 invariant_of-self-in-Ok g c =
     let flat = c.self.inside.doc in
     let op = c.args.op in
-    let is_new : answer_of flat op ≡ New = ap (λ (v : Viewed). answer_of v.doc op) c.self.view_is ∙ c.requires in
+    let is_new : answer_of flat op ≡ New = ap (λ (v : ViewValue). answer_of v.doc op) c.self.view_is ∙ c.requires in
     let tells = c.in-Ok.ensures.change in
     let change = c.in-Ok.change in
     let seen : c.take.new.self ≡ with_new op flat = c.in-Ok.ensures.taken in
     let own : c.follow.new.self ≡ own_with_new op flat c.self.inside.widget = c.follow.ensures ∙ own_seen flat op change is_new tells c.self.inside.widget in
-    let more : IsHistory (with_operation op flat.log) = subst IsHistory (ap (λ (f : Flat). f.log) seen) c.log-in-Ok.ensures.history in
-    let stands : (o : Own) → IsOwnOf (length (text_of flat.cells)) o → IsOwnOf (length (text_of (with_new op flat).cells)) (own_with_new op flat o) =
+    let more : IsHistory (with_operation op flat.log) = subst IsHistory (ap (λ (f : DocValue). f.log) seen) c.log-in-Ok.ensures.history in
+    let stands : (o : WidgetValue) → IsOwnOf (length (text_of flat.cells)) o → IsOwnOf (length (text_of (with_new op flat).cells)) (own_with_new op flat o) =
     λ o h. own_stands flat op change is_new tells o c.log.ensures.history c.log.ensures.cells more h in
     let n = length (text_of flat.cells) in
     let k = length (text_of (with_new op flat).cells) in
@@ -98,19 +98,19 @@ pub returns-in-Ok-clause-taken : goal.returns-in-Ok-clause-taken
 returns-in-Ok-clause-taken g c =
     let flat = c.self.inside.doc in
     let op = c.args.op in
-    let is_new : answer_of flat op ≡ New = ap (λ (v : Viewed). answer_of v.doc op) c.self.view_is ∙ c.requires in
+    let is_new : answer_of flat op ≡ New = ap (λ (v : ViewValue). answer_of v.doc op) c.self.view_is ∙ c.requires in
     let tells = c.in-Ok.ensures.change in
     let change = c.in-Ok.change in
     let seen : c.take.new.self ≡ with_new op flat = c.in-Ok.ensures.taken in
     let own : c.follow.new.self ≡ own_with_new op flat c.self.inside.widget = c.follow.ensures ∙ own_seen flat op change is_new tells c.self.inside.widget in
-    let old : Viewed = record { doc = flat; own = c.self.inside.widget; others = map own_in c.self.inside.others.items } in
+    let old : ViewValue = record { doc = flat; own = c.self.inside.widget; others = map own_in c.self.inside.others.items } in
     let back : (with_items c.self.inside.others c.follow_each.new.others).items ≡ c.follow_each.new.others =
     with_items_is c.self.inside.others c.follow_each.new.others (omega (arith, c.follow_each.auto.others, c.deref_mut.ensures.len)) in
     let moved : map own_in (with_items c.self.inside.others c.follow_each.new.others).items ≡ map (own_with_new op flat) old.others =
     ap (map own_in) back ∙ c.follow_each.ensures ∙ (λ i. map (λ o. own_seen flat op change is_new tells o i) (map own_in (c.deref_mut.ensures.value i))) in
     (λ i. record { doc = seen i; own = own i; others = moved i })
-    ∙ ap (λ (v : Viewed). view_with_new op v) c.self.view_is
+    ∙ ap (λ (v : ViewValue). view_with_new op v) c.self.view_is
 
 pub returns-in-Ok-clause-replays : goal.returns-in-Ok-clause-replays
 returns-in-Ok-clause-replays g c =
-    subst (λ (v : Viewed). replayed (told_by c.args.op.body c.in-Ok.change) (tagged_text v.doc.cells) ≡ tagged_text c.take.new.self.cells) c.self.view_is c.in-Ok.ensures.replays
+    subst (λ (v : ViewValue). replayed (told_by c.args.op.body c.in-Ok.change) (tagged_text v.doc.cells) ≡ tagged_text c.take.new.self.cells) c.self.view_is c.in-Ok.ensures.replays

@@ -7,7 +7,7 @@ use Rattle.rt_rga.proofs.Requests.{greatest_bound}
 use Rattle.rt_store.specs.Cells.{text_of, visible_of}
 use Rattle.rt_tags.specs.Tags.{sel}
 use Rattle.rt_edits.specs.declared.range.Range.{Range}
-use Rattle.rt_edits.specs.Flat.{Flat, logged}
+use Rattle.rt_edits.specs.DocValue.{DocValue, logged}
 use Rattle.rt_edits.specs.Removals.{is_covered, stamps_at, AreInOrder}
 use Rattle.rt_edits.specs.Selections.{selection_with}
 use Rattle.rt_edits.specs.TagDrafts.{tag_drafts_at}
@@ -16,7 +16,7 @@ use Rattle.rt_edits.proofs.TagPlaces.{listed_count, listed_text, tag_text}
 use Rattle.rt_views.specs.Stretches.{stretch_of}
 use Rattle.rt_text.specs.Parts.{own_in}
 use Rattle.rt_text.specs.Commands.{clock_check, with_tag_in}
-use Rattle.rt_text.specs.Widgets.{AreWidgetsOf, IsOwnOf, Own, Viewed, places_in_text}
+use Rattle.rt_text.specs.Widgets.{AreWidgetsOf, IsOwnOf, WidgetValue, ViewValue, places_in_text}
 use Rattle.rt_text.proofs.Deletions.{both_ok}
 use Rattle.rt_text.proofs.KeptDocument.{as_visible, clock_fine, clock_spent, either_way}
 use Rattle.rt_text.proofs.LimitedDeletions.{stretch_kept}
@@ -30,10 +30,10 @@ pub returns-then-eq-clause-err : goal.returns-then-eq-clause-err
 returns-then-eq-clause-err g c = IfErr-weaker c.select.result _ _ (λ fault h. inl h) c.select.ensures.err
 
 pub returns-then-eq-clause-unchanged : goal.returns-then-eq-clause-unchanged
-returns-then-eq-clause-unchanged g c = on_err_weaker c.select.result (λ e. ap (λ (w : Own). viewed c.self.inside.doc w (map own_in c.self.inside.others.items)) e ∙ c.self.view_is) c.select.ensures.unchanged
+returns-then-eq-clause-unchanged g c = on_err_weaker c.select.result (λ e. ap (λ (w : WidgetValue). viewed c.self.inside.doc w (map own_in c.self.inside.others.items)) e ∙ c.self.view_is) c.select.ensures.unchanged
 
 pub returns-clause-unchanged : goal.returns-clause-unchanged
-returns-clause-unchanged g c = on_err_weaker c.write_shared-done.result (λ e. ap (λ (f : Flat). viewed f c.self.inside.widget (map own_in c.self.inside.others.items)) e ∙ c.self.view_is) c.write_shared-done.ensures.unchanged
+returns-clause-unchanged g c = on_err_weaker c.write_shared-done.result (λ e. ap (λ (f : DocValue). viewed f c.self.inside.widget (map own_in c.self.inside.others.items)) e ∙ c.self.view_is) c.write_shared-done.ensures.unchanged
 
 pub select-requires-clause-order : goal.select-requires-clause-order
 select-requires-clause-order g c = subst (AreInOrder 0) (sym c.deref.ensures.value) c.in_ok-ranges.ensures.order
@@ -78,9 +78,9 @@ returns-then-eq-clause-ok g c =
     let fits : old.count ≤ GREATEST_COUNT = subst (λ n. n ≤ GREATEST_COUNT) (sym c.kept.ensures.document.count) (greatest_bound old.log c.kept.ensures.history) in
     on_ok_weaker c.select.result
     (λ e. (
-      ap (λ (v : Viewed). with_tag_in v on name ranges) (sym c.self.view_is) ∙ tag_own view on name ranges within places named
+      ap (λ (v : ViewValue). with_tag_in v on name ranges) (sym c.self.view_is) ∙ tag_own view on name ranges within places named
           ∙ ap (λ l. record view { own = record view.own { sel = selection_with on l view.own.sel } }) (sym found)
-          ∙ ap (λ (w : Own). record view { own = w }) (sym e),
+          ∙ ap (λ (w : WidgetValue). record view { own = w }) (sym e),
       clock_fine old.count fits,
     )) c.select.ensures.ok
 
@@ -97,14 +97,14 @@ invariant_of-self-2 g c =
     let within = is_covered c.deref-2.result.now in
     let text : text_of c.write_shared-done.new.self.cells ≡ text_of old.cells =
     either_way c.write_shared-done.result
-    (λ e. ap (λ (f : Flat). text_of f.cells) e ∙ listed_text c.args.on c.args.name.now (with_tag_at old within c.args.on c.args.name.now) ∙ tag_text old within c.args.on c.args.name.now)
-    (λ e. ap (λ (f : Flat). text_of f.cells) e) c.write_shared-done.ensures.ok c.write_shared-done.ensures.unchanged in
+    (λ e. ap (λ (f : DocValue). text_of f.cells) e ∙ listed_text c.args.on c.args.name.now (with_tag_at old within c.args.on c.args.name.now) ∙ tag_text old within c.args.on c.args.name.now)
+    (λ e. ap (λ (f : DocValue). text_of f.cells) e) c.write_shared-done.ensures.ok c.write_shared-done.ensures.unchanged in
     let others = map own_in c.self.inside.others.items in
     let drafts = tag_drafts_at MOST_SPANS within c.args.on c.args.name.now old.cells in
     let edited = listed_if c.args.on c.args.name.now (with_tag_at old within c.args.on c.args.name.now) in
     let view = viewed old c.self.inside.widget others in
-    let made = on_ok_weaker c.write_shared-done.result (λ e. ap (λ (f : Flat). viewed f c.self.inside.widget others) e) c.write_shared-done.ensures.ok in
-    let same = on_err_weaker c.write_shared-done.result (λ e. ap (λ (f : Flat). viewed f c.self.inside.widget others) e) c.write_shared-done.ensures.unchanged in
+    let made = on_ok_weaker c.write_shared-done.result (λ e. ap (λ (f : DocValue). viewed f c.self.inside.widget others) e) c.write_shared-done.ensures.ok in
+    let same = on_err_weaker c.write_shared-done.result (λ e. ap (λ (f : DocValue). viewed f c.self.inside.widget others) e) c.write_shared-done.ensures.unchanged in
     record {
       own = subst (λ n. IsOwnOf n c.self.inside.widget) (sym (ap length text)) c.self.invariant.own;
       others = subst (λ n. AllByRecursion (IsOwnOf n) others) (sym (ap length text)) c.self.invariant.others;
@@ -117,8 +117,8 @@ invariant_of-self g c =
     let others = map own_in c.self.inside.others.items in
     let cells = c.self.inside.doc.cells in
     either_way c.select.result
-    (λ e. subst (λ (w : Own). AreWidgetsOf cells w others) (sym e) (widgets_selecting cells c.self.inside.widget others _ c.self.invariant))
-    (λ e. subst (λ (w : Own). AreWidgetsOf cells w others) (sym e) c.self.invariant) c.select.ensures.ok c.select.ensures.unchanged
+    (λ e. subst (λ (w : WidgetValue). AreWidgetsOf cells w others) (sym e) (widgets_selecting cells c.self.inside.widget others _ c.self.invariant))
+    (λ e. subst (λ (w : WidgetValue). AreWidgetsOf cells w others) (sym e) c.self.invariant) c.select.ensures.ok c.select.ensures.unchanged
 
 pub returns-clause-ok : goal.returns-clause-ok
 returns-clause-ok g c =
@@ -138,7 +138,7 @@ returns-clause-ok g c =
     let named : bytes_eq name sel ≡ false = sym c.eq.ensures ∙ c.if-eq.false in
     both_ok c.write_shared-done.result
     (λ e fits. (
-      ap (λ (v : Viewed). with_tag_in v on name ranges) (sym c.self.view_is) ∙ tag_shared view on name ranges within places named ∙ ap (λ (f : Flat). record view { doc = f }) (sym e),
+      ap (λ (v : ViewValue). with_tag_in v on name ranges) (sym c.self.view_is) ∙ tag_shared view on name ranges within places named ∙ ap (λ (f : DocValue). record view { doc = f }) (sym e),
       clock_fine c.write_shared-done.new.self.count fits,
     ))
     c.write_shared-done.ensures.ok c.write_shared-done.ensures.within
@@ -159,11 +159,11 @@ returns-clause-err g c =
     let places : (p : ℕ) → within p ≡ places_in_text view (is_covered ranges) p =
     places_are view ranges c.stretch-stretch.result within stretch few (λ p. ap (λ l. is_covered l p) c.deref-2.ensures.value ∙ c.in_ok-ranges.ensures.places p) in
     let named : bytes_eq name sel ≡ false = sym c.eq.ensures ∙ c.if-eq.false in
-    let same = ap (λ (v : Viewed). with_tag_in v on name ranges) (sym c.self.view_is) ∙ tag_shared view on name ranges within places named in
+    let same = ap (λ (v : ViewValue). with_tag_in v on name ranges) (sym c.self.view_is) ∙ tag_shared view on name ranges within places named in
     IfErr-weaker c.write_shared-done.result _ _
     (λ fault h. elim h [
       | inl e ↦ inl e
-      | inr p ↦ inr (ap (λ (x : Viewed). clock_check x.doc.count) same
+      | inr p ↦ inr (ap (λ (x : ViewValue). clock_check x.doc.count) same
           ∙ ap clock_check (listed_count on name (with_tag_at old within on name))
           ∙ clock_spent (with_tag_at old within on name).count p.1 ∙ ap (λ x. Some x) (sym p.0))
     ]) c.write_shared-done.ensures.err

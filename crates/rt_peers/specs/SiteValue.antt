@@ -4,29 +4,29 @@ use Rattle.std.specs.List.{position}
 use Rattle.std.specs.Str.{bytes_eq}
 use Rattle.rt_stamps.specs.Words.{Word}
 use Rattle.rt_ops.specs.Operations.{Operation}
-use Rattle.rt_edits.specs.Flat.{new_flat}
-use Rattle.rt_editing.specs.Edited.{Edited}
+use Rattle.rt_edits.specs.DocValue.{new_doc}
+use Rattle.rt_editing.specs.EditedValue.{EditedValue}
 use Rattle.rt_holding.specs.Holding.{Holding}
-use Rattle.rt_text.specs.Widgets.{Viewed, new_own}
+use Rattle.rt_text.specs.Widgets.{ViewValue, new_own}
 use Rattle.rt_undo.specs.Undo.{no_history}
 
 -- a site: the paths of its widgets, in the order in which they were made; and its text as the first of them shows it, with the
 -- history of its edits and the options that all widgets share. What is the other widgets' own stands there in the same order. And
 -- the operations that it holds as they came early, by rising stamp.
-pub record State : Type 0 where
+pub record SiteValue : Type 0 where
   pub paths : List Word
-  pub text : Edited
+  pub text : EditedValue
   pub held : List Operation
 
 -- a new site has an empty document and the widget `.t`; its edits aren't recorded, and separators are automatic
-abbrev pub new_view : ℕ → ℕ → Viewed
-new_view site limit = record { doc = new_flat site limit; own = new_own; others = [] }
+abbrev pub new_view : ℕ → ℕ → ViewValue
+new_view site limit = record { doc = new_doc site limit; own = new_own; others = [] }
 
-abbrev pub new_text : ℕ → ℕ → Edited
+abbrev pub new_text : ℕ → ℕ → EditedValue
 new_text site limit = record { view = new_view site limit; history = no_history; undo = false; auto = true }
 
-abbrev pub new_state : ℕ → ℕ → State
-new_state site limit = record { paths = codes ".t" ∷ []; text = new_text site limit; held = [] }
+abbrev pub new_site : ℕ → ℕ → SiteValue
+new_site site limit = record { paths = codes ".t" ∷ []; text = new_text site limit; held = [] }
 
 -- which of some widgets has a path
 abbrev pub place_of : Word → List Word → Option ℕ
@@ -36,5 +36,5 @@ abbrev pub is_widget : Word → List Word → Bool
 is_widget path paths = is_some (place_of path paths)
 
 -- the operations that it accepted, and those that it holds
-abbrev pub holding_of : State → Holding
+abbrev pub holding_of : SiteValue → Holding
 holding_of state = record { log = state.text.view.doc.log; held = state.held }

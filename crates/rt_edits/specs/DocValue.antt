@@ -12,7 +12,7 @@ use Rattle.rt_tags.specs.Tags.{sel}
 
 -- a document: its cells, its site, the most cells that it may have, its operations, the newest first, and the greatest count
 -- of these, the site's marks in their order, and the tags that the site lists, lowest priority first
-pub record Flat : Type 0 where
+pub record DocValue : Type 0 where
   pub cells : List TaggedCell
   pub site : ℕ
   pub limit : ℕ
@@ -22,8 +22,8 @@ pub record Flat : Type 0 where
   pub tags : List (List ℕ)
 
 -- a new document is the final newline alone, without tags; it has no marks, and lists the tag `sel`
-abbrev pub new_flat : ℕ → ℕ → Flat
-new_flat site limit = record { cells = map_state (λ _. []) final_cell ∷ []; site = site; limit = limit; log = []; count = 0; marks = []; tags = sel ∷ [] }
+abbrev pub new_doc : ℕ → ℕ → DocValue
+new_doc site limit = record { cells = map_state (λ _. []) final_cell ∷ []; site = site; limit = limit; log = []; count = 0; marks = []; tags = sel ∷ [] }
 
 -- the stamp of the visible cell before a place, which is the root's at the beginning
 abbrev pub left_of : {T : Type 0} → List (Cell T) → ℕ → Stamp
@@ -35,5 +35,5 @@ abbrev pub put_after : {T : Type 0} → List (Cell T) → Stamp → List (Cell T
 put_after cells left new = let at = after_element cells left in take at cells ++ new ++ drop at cells
 
 -- an edited document, whose log has gained the operations that the site makes of drafts
-abbrev pub logged : Flat → List Body → Flat → Flat
+abbrev pub logged : DocValue → List Body → DocValue → DocValue
 logged flat drafts edited = record edited { log = with_drafts flat.site drafts flat.log }
