@@ -9,7 +9,6 @@ pub mod Insertions
 pub mod Listed
 pub mod Merging
 pub mod NamedSpans
-pub mod Names
 pub mod PlannedPieces
 pub mod RemovalDrafts
 pub mod Removals
