@@ -1,6 +1,6 @@
 -- The characters at which a tag changes, by their places.
-use Rattle.std.proofs.Common.{◌≡◌, ℕ, zero, suc, ◌+◌, ◌<◌, ◌≤◌, List, [], ◌∷◌, Bool, true, false, cond, not, ◌&&◌, length, filter, map, refl, sym, ◌∙◌, ap, arith, add-zero, All, Option, Some, None}
-use Rattle.std.specs.Prelude.{if◌then◌else◌, option_map, slice_get, unwrap_or}
+use Rattle.std.proofs.Common.{◌≡◌, ℕ, suc, ◌+◌, ◌<◌, ◌≤◌, List, [], ◌∷◌, Bool, true, false, cond, not, ◌&&◌, length, filter, map, refl, sym, ◌∙◌, ap, arith, add-zero, All, Option, Some, None}
+use Rattle.std.specs.Prelude.{option_map, slice_get, unwrap_or}
 use Rattle.std.proofs.lemmas.Bool.{and_parts}
 use Rattle.std.proofs.lemmas.List.{length-map}
 use Rattle.rt_stamps.specs.declared.stamp.Stamp.{Stamp}
@@ -9,7 +9,6 @@ use Rattle.rt_store.specs.declared.cell.Cell.{Cell}
 use Rattle.rt_store.specs.Cells.{stamps_of, visible_of}
 use Rattle.rt_store.specs.Shown.{TaggedCell, shown}
 use Rattle.rt_store.specs.Tagged.{tag_is}
-use Rattle.rt_store.proofs.Distinct.{split}
 use Rattle.rt_store.proofs.Shown.{visible_at_shown, visible_shown}
 use Rattle.rt_tags.specs.States.{TagStates, is_on, name_at, state_at}
 use Rattle.rt_edits.specs.declared.range.Range.{Range}

@@ -1,11 +1,11 @@
 -- The places of ranges whose characters pass a test, found by the nearest ones that pass and that don't.
 use Rattle.std.proofs.Common.{◌≡◌, ℕ, zero, suc, ◌+◌, ◌<◌, ◌≤◌, List, [], ◌∷◌, ◌++◌, Bool, true, false, not, ◌&&◌, ◌||◌, length, min, refl, sym, ◌∙◌, ap, subst, arith, All, Option, Some, None}
 use Rattle.std.specs.Prelude.{nat_le, nat_lt, option_map, slice_get, unwrap_or}
-use Rattle.std.proofs.lemmas.Bool.{and_left, and_right, le-ltb, lt-ltb, lt-leb, le-leb}
+use Rattle.std.proofs.lemmas.Bool.{and_left, and_right, le-ltb, lt-leb}
 use Rattle.std.proofs.lemmas.Bool.Decides.{nat_tests}
 use Rattle.std.proofs.lemmas.List.Elements.{All-cons, All-head, All-nil, All-tail}
 use Rattle.std.proofs.lemmas.List.Folds.{list_any-append}
-use Rattle.rt_store.specs.Tagged.{IsLeastFrom, Passes, next_place}
+use Rattle.rt_store.specs.Tagged.{Passes, next_place}
 use Rattle.rt_store.proofs.Distinct.{split}
 use Rattle.rt_store.proofs.Least.{least, no_next}
 use Rattle.rt_edits.specs.declared.range.Range.{Range}

@@ -1,5 +1,5 @@
 -- The stamps of a run of visible cells, as a span.
-use Rattle.std.proofs.Common.{◌≡◌, ℕ, zero, suc, ◌+◌, ◌-◌, ◌<◌, ◌≤◌, List, [], ◌∷◌, ◌++◌, Bool, true, false, ◌&&◌, ◌||◌, length, take, drop, refl, sym, ◌∙◌, ap, subst, arith, add-one, Some, None, Option}
+use Rattle.std.proofs.Common.{◌≡◌, ℕ, zero, suc, ◌+◌, ◌-◌, ◌≤◌, List, [], ◌∷◌, ◌++◌, Bool, true, false, ◌||◌, take, drop, refl, sym, ◌∙◌, ap, subst, arith, add-one, Some}
 use Rattle.std.proofs.lemmas.List.{drop-drop, take_all}
 use Rattle.std.specs.Prelude.{option_map, slice_get}
 use Rattle.std.specs.List.{list_all}
@@ -10,13 +10,12 @@ use Rattle.rt_stamps.specs.declared.stamp.Stamp.{Stamp}
 use Rattle.rt_stamps.specs.Stamps.{is_same}
 use Rattle.rt_store.specs.declared.cell.Cell.{Cell}
 use Rattle.rt_store.specs.declared.cell.CellRun.{CellRun}
-use Rattle.rt_store.specs.Cells.{AreDistinct, GoOnTo, GoesOn, cell_of, is_in_span, position_of, stamps_of, visible_before, visible_of}
+use Rattle.rt_store.specs.Cells.{AreDistinct, GoOnTo, cell_of, is_in_span, position_of, stamps_of, visible_before, visible_of}
 use Rattle.rt_store.specs.Spans.{is_among, is_in_spans, is_span, next_stamp}
 use Rattle.rt_views.proofs.Parts.{get_drop}
 use Rattle.rt_rga.specs.NamedRuns.{IsRun, span_of_run}
 use Rattle.rt_rga.proofs.PlaceRuns.{cell_along}
 use Rattle.rt_rga.proofs.RemovedPlaces.{found_visible}
-use Rattle.rt_edits.proofs.SpanLaws.{one_held}
 use Rattle.rt_edits.specs.NamedSpans.{span_of}
 
 -- the stamps of a stamp's site from its count on, so many behind it

@@ -1,4 +1,4 @@
-use Rattle.std.proofs.Common.{◌≡◌, ◌∙◌, ◌≤◌, ◌++◌, All, List, ap, length, map, subst, sym}
+use Rattle.std.proofs.Common.{◌∙◌, ◌≤◌, ◌++◌, All, List, ap, length, map, subst, sym}
 use Rattle.std.proofs.lemmas.Result.{on_ok_weaker}
 use Rattle.rt_stamps.specs.declared.limits.TheConstants.{MOST_SPANS}
 use Rattle.rt_stamps.specs.declared.stamp.Span.{Span}

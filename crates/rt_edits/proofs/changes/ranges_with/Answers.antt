@@ -1,4 +1,4 @@
-use Rattle.std.proofs.Common.{◌≡◌, ◌∙◌, ◌+◌, ◌≤◌, ◌&&◌, ◌||◌, ◌∷◌, ℕ, Bool, List, true, false, ap, arith, drop, get_or, refl, subst, sym}
+use Rattle.std.proofs.Common.{◌≡◌, ◌∙◌, ◌+◌, ◌&&◌, ◌||◌, ◌∷◌, ℕ, Bool, List, true, false, ap, arith, drop, get_or, refl, subst, sym}
 use Rattle.std.proofs.lemmas.List.{drop_all, drop_more}
 use Rattle.rt_store.specs.Cells.{visible_of}
 use Rattle.rt_store.specs.Tagged.{tag_is}

@@ -1,4 +1,4 @@
-use Rattle.std.proofs.Common.{◌≡◌, ◌∙◌, ◌+◌, ◌-◌, ◌≤◌, ◌++◌, [], ◌∷◌, List, true, ap, arith, drop, subst, sym, take, ◌||◌}
+use Rattle.std.proofs.Common.{◌≡◌, ◌∙◌, ◌+◌, ◌-◌, ◌≤◌, ◌++◌, [], ◌∷◌, List, ap, arith, drop, take, ◌||◌}
 use Rattle.std.specs.List.{list_all}
 use Rattle.rt_stamps.specs.declared.stamp.Span.{Span}
 use Rattle.rt_store.specs.Cells.{stamps_of, visible_of}

@@ -1,4 +1,4 @@
-use Rattle.std.proofs.Common.{◌≡◌, ◌∙◌, ◌+◌, ◌-◌, ◌||◌, [], Bool, true, false, ap, arith, drop, get_or, refl, sym, take}
+use Rattle.std.proofs.Common.{◌≡◌, ◌∙◌, ◌+◌, ◌-◌, ◌||◌, Bool, true, false, ap, arith, drop, get_or, refl, sym, take}
 use Rattle.std.proofs.lemmas.List.{drop_all}
 use Rattle.rt_store.specs.Cells.{stamps_of, visible_of}
 use Rattle.rt_store.specs.Spans.{is_among, is_in_spans}
