@@ -153,16 +153,20 @@ module _ {Site : Type 0} (log : Site → List Operation) (limit : Site → ℕ) 
   all_find t (op ∷ ops) [] ending old l = absurd (omega (arith, l))
   all_find t (op ∷ ops) (offset ∷ offsets) ending old l = elim (either t op old (reply_at log limit after op old) refl) [
     | inl r ↦ (none_accepted (Some (r.0, offset)) old.held, old, inl (record { fault = r.0; refused = inl r.1; counted = refl; same = refl }), r.2)
-    | inr g ↦ (let behind = all_find t ops offsets ending g.1 (omega (arith, l)) in
-        (one_more g.0 behind.0, behind.1, inr (record {
-          offered = g.0;
-          next = g.1;
-          rest = behind.0;
-          reply = g.2;
-          is_offered = g.3;
-          counted = refl;
-          others = behind.2;
-        }), (g.4, behind.3)))
+    | inr g ↦ (let behind = all_find t ops offsets ending g.1 (omega (arith, l)) in (
+      one_more g.0 behind.0,
+      behind.1,
+      inr (record {
+        offered = g.0;
+        next = g.1;
+        rest = behind.0;
+        reply = g.2;
+        is_offered = g.3;
+        counted = refl;
+        others = behind.2;
+      }),
+      (g.4, behind.3),
+    ))
   ]
 
   pub files_find : FilesFindMemory log limit after
