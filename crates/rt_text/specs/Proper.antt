@@ -60,8 +60,12 @@ first_few test (x ∷ xs) = by (not (test x)) (position_or_len test xs) (length 
 
 next_within : {A : Type 0} (test : A → Bool) (xs : List A) (place : ℕ) → next_place test xs 0 ≡ Some place → place ≤ length xs
 next_within test xs place e =
-    omega (arith, by (nat_lt (position_or_len test (drop 0 xs)) (length (drop 0 xs))) (position_or_len test (drop 0 xs)) e,
-    first_few test (drop 0 xs), length-drop 0 xs)
+    omega (
+      arith,
+      by (nat_lt (position_or_len test (drop 0 xs)) (length (drop 0 xs))) (position_or_len test (drop 0 xs)) e,
+      first_few test (drop 0 xs),
+      length-drop 0 xs,
+    )
   where
     by : (b : Bool) (n : ℕ) → option_map (λ k. 0 + k) (cond b (Some n) None) ≡ Some place → place ≡ n
     by true n h = let q : 0 + n ≡ place = cc in omega arith
@@ -126,7 +130,7 @@ all_seen : (stretch : Stretch) (name : List ℕ) (marks : List Mark) → stretch
 all_seen stretch name [] h place e = let bad : ⊥ = cc in absurd bad
 all_seen stretch name (m ∷ marks) h place e =
     one_seen (stretch.end - stretch.begin) (is_named name m) (mark_seen stretch m) (named name (map (mark_seen stretch) marks))
-        (seen_within stretch m.place h) (all_seen stretch name marks h) place e
+    (seen_within stretch m.place h) (all_seen stretch name marks h) place e
 
 one_there : (b : Bool) (m n : Mark) (o p : Option Mark) → (IsSome o → IsSome p) → IsSome (cond b (Some m) o) → IsSome (cond b (Some n) p)
 one_there true m n o p h k = k
@@ -169,10 +173,16 @@ proper_over stretch cells marks tags own lines few names listed =
     let chars : List TaggedCell = part stretch (visible_of cells) in
     let whole : length (text_of cells) ≡ length (visible_of cells) = length-map (visible_of cells) (λ (cell : TaggedCell). cell.ch) in
     let long : n ≡ size =
-        omega (arith, lines.some, lines.within, length-take size (drop stretch.begin (text_of cells)), length-drop stretch.begin (text_of cells)) in
+    omega (arith, lines.some, lines.within, length-take size (drop stretch.begin (text_of cells)), length-drop stretch.begin (text_of cells)) in
     let same : length chars ≡ size =
-        omega (arith, whole, lines.some, lines.within, length-take size (drop stretch.begin (visible_of cells)),
-        length-drop stretch.begin (visible_of cells)) in
+    omega (
+      arith,
+      whole,
+      lines.some,
+      lines.within,
+      length-take size (drop stretch.begin (visible_of cells)),
+      length-drop stretch.begin (visible_of cells),
+    ) in
     let seen : WidgetValue = own_seen stretch own in
     let found : List ℕ → Option Mark = λ name. named name (map (mark_seen stretch) marks) in
     let order : stretch.begin ≤ stretch.end = omega (arith, lines.some) in
