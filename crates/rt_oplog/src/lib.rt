@@ -13,7 +13,5 @@ pub mod same;
 
 pub use file::write_file;
 pub use log::{OpLog, Refused, join};
-pub use rt_ops::{
-    Edit, Op, Reading, Records, Text, read_bytes, read_file, read_file_bounded, read_whole,
-};
+pub use rt_ops::{Edit, Op, Reading, Text, read_bytes, read_file, read_whole};
 pub use same::is_same;

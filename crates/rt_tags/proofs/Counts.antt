@@ -195,15 +195,6 @@ none_at tag n t at now cs p e s l =
     ∙ ap (λ v. v + cond (tag == t) (count_in tag cs) 0) (sym (ap (λ i. count_in t (remove cs i)) p))
     ∙ ap (λ v. count_in t (remove cs at) + cond (tag == t) v 0) (sym e ∙ l)
 
-pub nothing : (t : ℕ) (cs : List TagCount) → length cs ≡ 0 → count_in t cs ≡ 0
-nothing t [] e = refl
-nothing t (c ∷ cs) e = absurd (omega (arith, e))
-
--- where no tag has a count, there is no entry
-pub none_left : (cs : List TagCount) → AreFrom 0 cs → ((t : ℕ) → count_in t cs ≡ 0) → length cs ≡ 0
-none_left [] h none = refl
-none_left (c ∷ cs) h none = let own : c.count ≡ count_in c.tag (c ∷ cs) = tells 0 0 (c ∷ cs) c c h (omega arith) in absurd (omega (arith, own, h.1, none c.tag))
-
 -- ONE BY ONE
 
 -- whether a tag has no count

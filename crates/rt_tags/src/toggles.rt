@@ -1,5 +1,5 @@
 // How many toggles there are of each tag.
-ghost use Rattle.std.specs.Prelude.{◌≡◌, ◌↔◌, ℕ, ◌+◌, ◌^◌, ◌<◌, ◌≤◌, ◌==◌, IsOk, OnOk, OnErr, IsOkUnless, length, true, vec_len, vec_capacity, if◌then◌else◌};
+ghost use Rattle.std.specs.Prelude.{◌≡◌, ℕ, ◌+◌, ◌^◌, ◌<◌, ◌≤◌, ◌==◌, IsOk, OnOk, OnErr, IsOkUnless, length, true, vec_len, vec_capacity, if◌then◌else◌};
 ghost use Rattle.std.specs.List.{insert, prefix_len};
 ghost use Rattle.rt_tags.specs.ManyCounts.{is_tag_before};
 ghost use Rattle.rt_tags.specs.Toggles.{AreFrom, HasRoomFor, count_in, count_of, more_tags};
@@ -96,13 +96,6 @@ impl Toggles {
         ensures order { AreFrom 0 result.now }
     {
         &self.counts
-    }
-
-    /// Whether no tag has a toggle.
-    pub fn is_empty(&self) -> bool
-        ensures { (result ≡ true) ↔ ((tag : ℕ) → count_of tag self.now ≡ 0) }
-    {
-        self.counts.is_empty()
     }
 
     /// How many toggles of a tag there are.

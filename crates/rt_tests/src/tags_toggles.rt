@@ -54,7 +54,7 @@ impl Both {
             }
         }
         same(rt, self.toggles.counts().len(), place);
-        same(rt, self.toggles.is_empty(), place == 0);
+        same(rt, self.toggles.counts().is_empty(), place == 0);
     }
 
     fn add(&mut self, rt: &impl Abort, place: usize, n: u32) -> Result<(), Fail> {
