@@ -3,6 +3,10 @@ use Rattle.std.specs.Prelude.{◌+◌, ◌==◌, ◌&&◌, ◌||◌, nat_lt, nat
 use Rattle.rt_stamps.specs.declared.stamp.Span.{Span}
 use Rattle.rt_stamps.specs.declared.stamp.Stamp.{Stamp}
 
+-- the span of one stamp
+abbrev pub span_of : Stamp → Span
+span_of stamp = record { site = stamp.site; first = stamp.count; last = stamp.count }
+
 -- each element stands in the relation to the next one
 abbrev pub each_next : {A : Type 0} → (A → A → Bool) → List A → Bool
 each_next r [] = true

@@ -1,10 +1,23 @@
 // Counts that no operation has yet.
-ghost use Rattle.std.specs.Prelude.{◌≡◌, ℕ, ◌≤◌, max};
+ghost use Rattle.std.specs.Prelude.{◌≡◌, ℕ, ◌+◌, ◌<◌, ◌≤◌, IfErr, IfOk, max};
+ghost use Rattle.rt_stamps.specs.declared.limits.TheConstants.{GREATEST_COUNT};
 ghost use Rattle.rt_stamps.specs.Clock.{fresh_count};
 
 use crate::Fault;
 use crate::limits::GREATEST_COUNT;
 use std::marker::Model;
+
+/// The last of some counts that follow a count, or `ClockSpent` where it would pass `GREATEST_COUNT`.
+pub fn count_after(count: u64, more: u64) -> Result<u64, Fault>
+    requires { count ≤ GREATEST_COUNT }
+    ensures ok { IfOk result (λ last. (last ≡ count + more) × (last ≤ GREATEST_COUNT)) }
+    ensures err { IfErr result (λ fault. (fault ≡ Fault.ClockSpent) × (GREATEST_COUNT < count + more)) }
+{
+    if more > GREATEST_COUNT - count {
+        return Err(Fault::ClockSpent);
+    }
+    Ok(count + more)
+}
 
 /// The greatest count of the operations that are known, 0 at first.
 #[derive(Debug, Drop)]
@@ -45,9 +58,7 @@ impl Clock {
         requires { 1 ≤ k }
         ensures { result ≡ fresh_count self.now k }
     {
-        if k > GREATEST_COUNT - self.seen {
-            return Err(Fault::ClockSpent);
-        }
+        count_after(self.seen, k)?;
         Ok(self.seen + 1)
     }
 

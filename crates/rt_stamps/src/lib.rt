@@ -13,7 +13,7 @@ pub mod stamp;
 pub mod std_ends;
 pub mod write;
 
-pub use clock::Clock;
+pub use clock::{Clock, count_after};
 pub use fault::Fault;
 pub use limits::Bounds;
 pub use name::{check_name, check_names, is_name_length};

@@ -1,5 +1,6 @@
 // Stamps of characters.
 ghost use Rattle.std.specs.Prelude.{◌≡◌, ℕ, ◌<◌, ◌↔◌, IsSome, IfSome};
+ghost use Rattle.rt_stamps.specs.Spans.{span_of};
 
 /// A site, whose number is 1 or more.
 #[derive(Clone, Copy, Debug, PartialEq, Eq, PartialOrd, Ord)]
@@ -52,4 +53,17 @@ pub struct Span {
     pub site: u16,
     pub first: u64,
     pub last: u64,
+}
+
+impl Span {
+    /// The span of one stamp.
+    pub fn of(stamp: Stamp) -> Span
+        ensures { result ≡ span_of stamp }
+    {
+        Span {
+            site: stamp.site,
+            first: stamp.count,
+            last: stamp.count,
+        }
+    }
 }
