@@ -15,7 +15,8 @@ use Rattle.rt_stamps.proofs.Order.{same_from_true}
 use Rattle.rt_store.specs.Cells.{is_in_span}
 use Rattle.rt_store.specs.Spans.{each_next, is_span, precedes, next_stamp, is_in_spans, is_among}
 use Rattle.rt_store.proofs.Distinct.{split, first_apart, others_distinct}
-use Rattle.rt_edits.specs.NamedSpans.{put_by_site, by_site, span_of, first_stamp, attached, runs, spans_in, parts_for, first_parts}
+use Rattle.rt_stamps.specs.Spans.{span_of}
+use Rattle.rt_edits.specs.NamedSpans.{put_by_site, by_site, first_stamp, attached, runs, spans_in, parts_for, first_parts}
 use Rattle.rt_edits.specs.Removals.{span_count}
 use Rattle.rt_edits.specs.TagWrites.{spans_before}
 use Rattle.rt_edits.proofs.SpanLaws.{Begins, all_after, begins_attached, counted_alike, counted_runs, forward_runs, held_runs, joined, none_between, not_next, one_held, one_span, self_not_next}

@@ -25,7 +25,7 @@ use Rattle.rt_rga.proofs.Final.{cells_last}
 use Rattle.rt_edits.specs.Deletions.{Loss, newline_of, without_places, without_text}
 use Rattle.rt_edits.specs.DraftLaws.{IsDocument}
 use Rattle.rt_edits.specs.DocValue.{DocValue}
-use Rattle.rt_edits.specs.NamedSpans.{span_of}
+use Rattle.rt_stamps.specs.Spans.{span_of}
 use Rattle.rt_edits.specs.Removals.{operations_for, span_count}
 use Rattle.rt_edits.specs.TagDrafts.{newline_drafts, tag_drafts}
 use Rattle.rt_edits.specs.TagWrites.{bared, tagged, with_tag}

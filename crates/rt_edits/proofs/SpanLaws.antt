@@ -11,7 +11,8 @@ use Rattle.rt_stamps.specs.declared.stamp.Span.{Span}
 use Rattle.rt_stamps.specs.declared.stamp.Stamp.{Stamp}
 use Rattle.rt_stamps.specs.Stamps.{is_same}
 use Rattle.rt_store.specs.Cells.{is_in_span}
-use Rattle.rt_edits.specs.NamedSpans.{span_of, first_stamp, attached, runs}
+use Rattle.rt_stamps.specs.Spans.{span_of}
+use Rattle.rt_edits.specs.NamedSpans.{first_stamp, attached, runs}
 use Rattle.rt_edits.specs.Removals.{span_count}
 use Rattle.rt_store.specs.Spans.{each_next, is_span, is_clear_of, precedes, next_stamp, last_stamp, is_in_spans, is_among}
 use Rattle.rt_store.proofs.Distinct.{split}

@@ -16,7 +16,7 @@ use Rattle.rt_views.proofs.Parts.{get_drop}
 use Rattle.rt_rga.specs.NamedRuns.{IsRun, span_of_run}
 use Rattle.rt_rga.proofs.PlaceRuns.{cell_along}
 use Rattle.rt_rga.proofs.RemovedPlaces.{found_visible}
-use Rattle.rt_edits.specs.NamedSpans.{span_of}
+use Rattle.rt_stamps.specs.Spans.{span_of}
 
 -- the stamps of a stamp's site from its count on, so many behind it
 abbrev pub span_from : Stamp → ℕ → Span

@@ -3,6 +3,7 @@
 use Rattle.std.specs.Prelude.{ℕ, zero, suc, ◌+◌, ◌-◌, ◌/◌, ◌==◌, ◌&&◌, ◌||◌, nat_le, nat_lt, Bool, List, [], ◌∷◌, length, take, drop, if◌then◌else◌}
 use Rattle.rt_stamps.specs.declared.stamp.Span.{Span}
 use Rattle.rt_stamps.specs.declared.stamp.Stamp.{Stamp}
+use Rattle.rt_stamps.specs.Spans.{span_of}
 use Rattle.rt_stamps.specs.Stamps.{is_same}
 use Rattle.rt_store.specs.Spans.{precedes, next_stamp, last_stamp}
 
@@ -15,10 +16,6 @@ put_by_site stamp (first ∷ stamps) = if precedes stamp first then stamp ∷ fi
 abbrev pub by_site : List Stamp → List Stamp
 by_site [] = []
 by_site (stamp ∷ stamps) = put_by_site stamp (by_site stamps)
-
--- the span of one stamp
-abbrev pub span_of : Stamp → Span
-span_of s = record { site = s.site; first = s.count; last = s.count }
 
 abbrev pub first_stamp : Span → Stamp
 first_stamp span = record { count = span.first; site = span.site }

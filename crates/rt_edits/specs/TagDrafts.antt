@@ -7,7 +7,8 @@ use Rattle.rt_ops.specs.Operations.{Body, Tag}
 use Rattle.rt_store.specs.Shown.{TaggedCell}
 use Rattle.rt_tags.specs.Tags.{sel}
 use Rattle.rt_edits.specs.DocValue.{DocValue}
-use Rattle.rt_edits.specs.NamedSpans.{parts_of, span_of, spans_in}
+use Rattle.rt_stamps.specs.Spans.{span_of}
+use Rattle.rt_edits.specs.NamedSpans.{parts_of, spans_in}
 use Rattle.rt_edits.specs.Removals.{cells_at}
 use Rattle.rt_edits.specs.TagWrites.{changed_stamps, with_tag_at, without_tag}
 

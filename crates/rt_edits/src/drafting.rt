@@ -22,9 +22,8 @@ use crate::changes::push_changes;
 use crate::parts::{push_deletes, push_tags};
 use crate::removal::removed_ranges;
 use crate::runs::spans_in;
-use crate::span::span_of;
 use rt_rga::Draft;
-use rt_stamps::Fault;
+use rt_stamps::{Fault, Span};
 use rt_store::TextStore;
 use rt_tags::{StateTable, TagTable};
 use rt_views::Stretch;
@@ -88,7 +87,7 @@ fn push_newline<S: TextStore>(
             drafts,
             false,
             states.name(*tag),
-            &[span_of(newline.stamp)],
+            &[Span::of(newline.stamp)],
         )?;
     }
     Ok(())

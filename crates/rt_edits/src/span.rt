@@ -1,10 +1,10 @@
-// Stamps of visible cells in ranges, and the span of one.
+// Stamps of visible cells in ranges.
 ghost use Rattle.std.specs.Prelude.{◌≡◌, ◌-◌, ◌≤◌, ◌++◌, All, IfOk, IsOkUnless, OnOk, drop, length, map, take};
 ghost use Rattle.rt_store.specs.Cells.{visible_of};
 ghost use Rattle.rt_edits.specs.Removals.{AreInOrder, is_covered, stamps_at};
 
 use crate::Range;
-use rt_stamps::{Fault, Span, Stamp};
+use rt_stamps::{Fault, Stamp};
 use rt_store::TextStore;
 use std::alloc::Global;
 
@@ -38,15 +38,4 @@ pub(crate) fn stamps_in<S: TextStore>(
         push_stamps(store, *range, &mut stamps)?;
     }
     Ok(stamps)
-}
-
-/// The span of one stamp.
-pub(crate) fn span_of(stamp: Stamp) -> Span
-    ensures { result ≡ record { site = stamp.site; first = stamp.count; last = stamp.count } }
-{
-    Span {
-        site: stamp.site,
-        first: stamp.count,
-        last: stamp.count,
-    }
 }

@@ -16,17 +16,6 @@ use rt_stamps::{Fault, ROOT, Span, Stamp};
 use rt_store::TextStore;
 use std::alloc::Global;
 
-/// The span of one stamp.
-pub(crate) fn span_of(stamp: Stamp) -> Span
-    ensures { result ≡ record { site = stamp.site; first = stamp.count; last = stamp.count } }
-{
-    Span {
-        site: stamp.site,
-        first: stamp.count,
-        last: stamp.count,
-    }
-}
-
 // How many more visible characters stand before a stamp's cell in a text than in a copy.
 fn offset_in<S: TextStore, C: TextStore>(store: &S, copy: &C, stamp: Stamp) -> usize
     ensures { result ≡ place_in (S.list store.now) stamp - place_in (C.list copy.now) stamp }
@@ -53,7 +42,7 @@ pub(crate) fn offsets_of<S: TextStore, C: TextStore>(
     offsets.reserve(copy.cells())?;
     for position in 0..copy.cells() {
         let stamp = copy.nth(position).stamp;
-        offsets.set(span_of(stamp), offset_in(store, copy, stamp));
+        offsets.set(Span::of(stamp), offset_in(store, copy, stamp));
     }
     Ok(offsets)
 }

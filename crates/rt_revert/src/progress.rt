@@ -14,7 +14,7 @@ ghost use Rattle.rt_undo.specs.Undo.{with_stamps_in};
 ghost use Rattle.rt_revert.specs.Portions.{AreSmall, offset_behind, offset_of};
 ghost use Rattle.rt_revert.specs.Progress.{TellsTheSame};
 
-use crate::offsets::{offset_behind, span_of};
+use crate::offsets::offset_behind;
 use crate::plan::{Return, Reversal, TextChange};
 use rt_edits::Range;
 use rt_edits::inserts::Inserts;
@@ -167,13 +167,8 @@ impl Progress {
         self.names.append(&mut more)?;
         self.changes.push_reserved(TextChange::Inserted(whole));
         self.returns.push_reserved(Return { former, newer });
-        let span = Span {
-            site: former.site,
-            first: former.count,
-            last: former.count,
-        };
-        self.renames.rename(span, newer);
-        self.offsets.set(span_of(newer), offset);
+        self.renames.rename(Span::of(former), newer);
+        self.offsets.set(Span::of(newer), offset);
         Ok(())
     }
 

@@ -8,6 +8,7 @@ use Rattle.std.proofs.lemmas.List.Elements.{All-head, All-tail, All-cons, All-ni
 use Rattle.std.specs.List.{list_all}
 use Rattle.rt_stamps.specs.declared.stamp.Span.{Span}
 use Rattle.rt_stamps.specs.declared.stamp.Stamp.{Stamp}
+use Rattle.rt_stamps.specs.Spans.{span_of}
 use Rattle.rt_stamps.specs.Stamps.{is_same}
 use Rattle.rt_store.specs.declared.cell.Cell.{Cell}
 use Rattle.rt_store.specs.Cells.{is_in_span, state_in, with_state}
@@ -17,10 +18,7 @@ use Rattle.rt_rga.specs.declared.tagging.StateRun.{StateRun}
 use Rattle.rt_store.specs.Spans.{is_span, next_stamp, last_stamp}
 use Rattle.rt_rga.specs.Runs.{put_back, put_back_in_any}
 
--- the span of one stamp, and the first stamp of a span
-abbrev pub span_of : Stamp → Span
-span_of s = record { site = s.site; first = s.count; last = s.count }
-
+-- the first stamp of a span
 abbrev pub first_stamp : Span → Stamp
 first_stamp span = record { count = span.first; site = span.site }
 

@@ -13,7 +13,6 @@ ghost use Rattle.rt_tags.specs.Borders.{one_or_none};
 ghost use Rattle.rt_rga.specs.NamedRuns.{spans_of_runs};
 ghost use Rattle.rt_rga.specs.Runs.{IsStateChange, put_back, put_back_in_any};
 
-use crate::answer::span_of;
 use crate::named::named_runs;
 use rt_stamps::{Fault, Span, Stamp};
 use rt_store::{Cell, CellRun, TextStore};
@@ -131,14 +130,14 @@ pub(crate) fn state_runs(alloc: Global, cells: &[Cell<StateId>]) -> Result<Vec<S
     let Some((first, others)) = cells.split_first() else {
         return Ok(runs);
     };
-    let mut span = span_of(first.stamp);
+    let mut span = Span::of(first.stamp);
     let mut state = first.state;
     for cell in others {
         if goes_on(span, state, *cell) {
             span.last = cell.stamp.count;
         } else {
             runs.push(StateRun { span, state })?;
-            span = span_of(cell.stamp);
+            span = Span::of(cell.stamp);
             state = cell.state;
         }
     }

@@ -10,13 +10,13 @@ use Rattle.rt_revert.proofs.offsets.offsets_of.Goals as goal
 pub set-requires-clause-bound : goal.set-requires-clause-bound
 set-requires-clause-bound g c =
     let cells = g.C.TextStore.list c.args.copy.now in
-    omega (arith, counted GREATEST_COUNT cells c.loop-position.position c.nth.result (omega arith) c.nth.ensures c.requires.older (omega arith), ap (λ s. s.last) c.span_of.ensures)
+    omega (arith, counted GREATEST_COUNT cells c.loop-position.position c.nth.result (omega arith) c.nth.ensures c.requires.older (omega arith), ap (λ s. s.last) c.of.ensures)
 
 pub set-requires-clause-room : goal.set-requires-clause-room
 set-requires-clause-room g c = omega (arith, c.loop-position.invariant.room)
 
 pub set-requires-clause-order : goal.set-requires-clause-order
-set-requires-clause-order g c = omega (arith, ap (λ s. s.first) c.span_of.ensures, ap (λ s. s.last) c.span_of.ensures)
+set-requires-clause-order g c = omega (arith, ap (λ s. s.first) c.of.ensures, ap (λ s. s.last) c.of.ensures)
 
 pub loop-position-init : goal.loop-position-init
 loop-position-init g c =
@@ -38,7 +38,7 @@ loop-position-preserved g c =
     let old = c.loop-position.offsets in
     let new = c.set.new.self in
     let put = set_offset old new stamp (place_in whole stamp - place_in cells stamp)
-    (λ s. c.set.ensures.values s ∙ (λ i. cond (is_in_span (c.span_of.ensures i) s) (Some (c.offset_in.ensures i)) (value_of old s))) in
+    (λ s. c.set.ensures.values s ∙ (λ i. cond (is_in_span (c.of.ensures i) s) (Some (c.offset_in.ensures i)) (value_of old s))) in
     let small : place_in whole stamp - place_in cells stamp ≤ MOST_CELLS = omega (arith, place_small whole stamp, c.requires.whole) in
     record {
       within = omega arith;

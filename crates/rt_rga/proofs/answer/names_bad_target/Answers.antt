@@ -12,7 +12,7 @@ pub returns-in-Insert : goal.returns-in-Insert
 returns-in-Insert g c =
     let p : Stamp → Bool = can_never_be_known c.args.log.now.operations c.args.op.now in
     let body = sym c.edit.ensures.body ∙ ap body_of c.in-Insert.is in
-    c.has_bad_target.ensures ∙ ap (λ (span : Span). list_any p (stamps_of_span span)) c.span_of.ensures
+    c.has_bad_target.ensures ∙ ap (λ (span : Span). list_any p (stamps_of_span span)) c.of.ensures
     ∙ ap (λ (ss : List Stamp). list_any p ss) (one_stamp c.in-Insert.after ∙ sym (ap named body))
 
 pub returns-in-Delete : goal.returns-in-Delete

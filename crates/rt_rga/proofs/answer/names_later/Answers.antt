@@ -19,7 +19,7 @@ returns-in-Insert c =
     let body = sym c.edit.ensures.body ∙ ap body_of c.in-Insert.is in
     let names : stamps_of_span span ≡ named op.body = one_stamp after ∙ sym (ap named body) in
     let free : list_any (can_never_be_known set op) (stamps_of_span span) ≡ false = ap (λ (ss : List Stamp). list_any (can_never_be_known set op) ss) names ∙ c.requires.targets in
-    c.goes_past.ensures ∙ ap (goes_past set) c.span_of.ensures ∙ past_is set op span free ∙ ap (λ (ss : List Stamp). not (list_all (is_known set op.body) ss)) names
+    c.goes_past.ensures ∙ ap (goes_past set) c.of.ensures ∙ past_is set op span free ∙ ap (λ (ss : List Stamp). not (list_all (is_known set op.body) ss)) names
 
 pub returns-in-Delete : goal.returns-in-Delete
 returns-in-Delete c =

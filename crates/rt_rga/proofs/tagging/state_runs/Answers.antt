@@ -16,7 +16,7 @@ loop-cell-preserved c =
       | then-goes_on w ↦ (λ j. (w.runs-is j).items ++ attached (record { span = w.span-is j; state = w.state-is j }) rest)
           ∙ sym (extended_more done run others i c.cell-item.result c.loop-cell-test.true c.cell-item.is (sym c.goes_on.ensures ∙ w.if-goes_on.true)) ∙ c.loop-cell.invariant
       | else-goes_on+in_ok-push w ↦ (λ j. (w.runs-is j).items ++ attached (record { span = w.span-is j; state = w.state-is j }) rest)
-          ∙ (λ j. w.in_ok-push.ensures.items j ++ attached (record { span = w.span_of-span-else-goes_on.ensures j; state = w.state-is 1 }) rest)
+          ∙ (λ j. w.in_ok-push.ensures.items j ++ attached (record { span = w.of-span-else-goes_on.ensures j; state = w.state-is 1 }) rest)
           ∙ sym (begun_more done run others i c.cell-item.result c.loop-cell-test.true c.cell-item.is (sym c.goes_on.ensures ∙ w.if-goes_on.false)) ∙ c.loop-cell.invariant
     ]
 
