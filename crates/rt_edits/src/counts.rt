@@ -3,8 +3,8 @@ ghost use Rattle.std.specs.Prelude.{◌≡◌, ◌+◌, ◌-◌, ◌*◌, ◌^�
 ghost use Rattle.rt_stamps.specs.declared.limits.TheConstants.{GREATEST_COUNT, MOST_TAGS};
 ghost use Rattle.rt_edits.specs.Insertions.{inserts_for};
 
-use rt_stamps::Fault;
-use rt_stamps::limits::{GREATEST_COUNT, MOST_CHARACTERS, MOST_TAGS};
+use rt_stamps::limits::{MOST_CHARACTERS, MOST_TAGS};
+use rt_stamps::{Fault, count_after};
 
 /// How many tags are more than an Insert may list.
 pub(crate) fn further(tags: usize) -> usize
@@ -36,9 +36,5 @@ pub(crate) fn last_count(count: u64, tags: usize, characters: usize) -> Result<u
     ensures err { IfErr result (λ fault. (fault ≡ Fault.ClockSpent)
         × (GREATEST_COUNT < count + (characters + inserts_for characters * (tags - MOST_TAGS)))) }
 {
-    let counts = counts_for(tags, characters);
-    if counts > GREATEST_COUNT - count {
-        return Err(Fault::ClockSpent);
-    }
-    Ok(count + counts)
+    count_after(count, counts_for(tags, characters))
 }

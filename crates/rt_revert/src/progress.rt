@@ -20,8 +20,7 @@ use rt_edits::Range;
 use rt_edits::inserts::Inserts;
 use rt_rga::{Draft, Few};
 use rt_spans::SpanMap;
-use rt_stamps::limits::GREATEST_COUNT;
-use rt_stamps::{Fault, ROOT, Site, Span, Stamp};
+use rt_stamps::{Fault, ROOT, Site, Span, Stamp, count_after};
 use rt_undo::{Action, Renames, group_now};
 use std::alloc::Global;
 
@@ -89,14 +88,11 @@ impl Progress {
         ensures err { IfErr result (λ fault. (fault ≡ Fault.NoMemory)
             ⊎ ((fault ≡ Fault.ClockSpent) × (GREATEST_COUNT < self.old.texts.count + length drafts.items))) }
     {
-        let counts = drafts.len() as u64;
-        if counts > GREATEST_COUNT - self.texts.count {
-            return Err(Fault::ClockSpent);
-        }
+        let count = count_after(self.texts.count, drafts.len() as u64)?;
         self.changes.reserve(1)?;
         self.texts.drafts.append(alloc, Few::Many(drafts))?;
         self.changes.push_reserved(TextChange::Removed(places));
-        self.texts.count += counts;
+        self.texts.count = count;
         Ok(())
     }
 

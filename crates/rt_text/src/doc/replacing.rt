@@ -25,8 +25,7 @@ use rt_edits::drafting::planned_deletion;
 use rt_edits::inserting::{Gap, Plan, planned_between};
 use rt_edits::{Author, Piece, Range};
 use rt_rga::{Draft, Few};
-use rt_stamps::Fault;
-use rt_stamps::limits::GREATEST_COUNT;
+use rt_stamps::{Fault, count_after};
 use rt_store::TextStore;
 use std::mem::replace;
 
@@ -52,19 +51,6 @@ impl Drop for Replacement {
             plan: _,
         } = self;
     }
-}
-
-// The greatest count after operations of one count each, or why there are too few counts.
-fn count_after(count: u64, operations: usize) -> Result<u64, Fault>
-    requires { count ≤ GREATEST_COUNT }
-    ensures ok { IfOk result (λ last. (last ≡ count + operations) × (last ≤ GREATEST_COUNT)) }
-    ensures err { IfErr result (λ fault. (fault ≡ Fault.ClockSpent) × (GREATEST_COUNT < count + operations)) }
-{
-    let operations = operations as u64;
-    if operations > GREATEST_COUNT - count {
-        return Err(Fault::ClockSpent);
-    }
-    Ok(count + operations)
 }
 
 impl<S: TextStore> Doc<S> {
@@ -96,7 +82,7 @@ impl<S: TextStore> Doc<S> {
         let (store, states) = self.kept();
         let stretch = widget.limits().stretch(store);
         let deletion = planned_deletion(self.alloc, store, states, stretch, &[range])?;
-        let count = count_after(count, deletion.drafts.len())?;
+        let count = count_after(count, deletion.drafts.len() as u64)?;
         let removed = &deletion.removed;
         let last = place_after(removed, stretch.end - 1);
         let at = stretch.begin.saturating_add(range.from).min(last);
