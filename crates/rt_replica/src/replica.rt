@@ -1,5 +1,5 @@
 // A replica that holds what comes too early.
-ghost use Rattle.std.specs.Prelude.{◌≡◌, ◌⊎◌, ◌∷◌, ◌≤◌, [], length, map, IfErr, IfOk, IsOkUnless, None, OnErr, OnOk, Some};
+ghost use Rattle.std.specs.Prelude.{◌≡◌, ◌∷◌, ◌≤◌, [], length, map, IfErr, IfOk, IsOkUnless, None, OnErr, OnOk};
 ghost use Rattle.rt_stamps.specs.declared.fault.Fault.TheVariants.{NoMemory};
 ghost use Rattle.rt_stamps.specs.declared.limits.TheConstants.{MOST_CELLS};
 ghost use Rattle.rt_ops.specs.Edits.{body_of};
@@ -9,7 +9,7 @@ ghost use Rattle.rt_holding.specs.Taken.{IsRefused};
 ghost use Rattle.rt_rga.specs.Cells.{cells_of};
 ghost use Rattle.rt_rga.specs.Drafts.{operations_of, with_drafts};
 ghost use Rattle.rt_rga.specs.Histories.{IsHistory};
-ghost use Rattle.rt_rga.specs.Made.{refusal_of};
+ghost use Rattle.rt_rga.specs.Made.{RefusesFor, refusal_of};
 ghost use Rattle.rt_rga.specs.Requests.{MayBeMade};
 ghost use Rattle.rt_replica.specs.Replicas.{BecomesOf, TakesAndTells, holding_of, new_replica, reply_of};
 
@@ -137,8 +137,7 @@ impl<S: TextStore> HoldingReplica<S> {
         requires { MayBeMade self.old.site self.old.log (map body_of drafts.items) }
         ensures made { IfOk result (λ made. made.ops.items ≡ operations_of self.old.site (map body_of drafts.items) self.old.log) }
         ensures fits { OnOk result (refusal_of self.old.limit (map body_of drafts.items) self.old.log ≡ None) }
-        ensures refused { IfErr result (λ fault. (refusal_of self.old.limit (map body_of drafts.items) self.old.log
-            ≡ Some fault) ⊎ ((fault ≡ NoMemory) × (refusal_of self.old.limit (map body_of drafts.items) self.old.log ≡ None))) }
+        ensures refused { IfErr result (RefusesFor (refusal_of self.old.limit (map body_of drafts.items) self.old.log)) }
         ensures taken { IfOk result (λ made. TakesAndTells [] (with_drafts self.old.site (map body_of drafts.items) self.old.log)
             self.old.held self.new made.changes.items) }
         ensures same { OnErr result (self.new ≡ self.old) }

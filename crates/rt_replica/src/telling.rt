@@ -1,11 +1,10 @@
 // A replica that tells what changes.
-ghost use Rattle.std.specs.Prelude.{◌≡◌, ◌⊎◌, ◌≤◌, [], IfOk, IfErr, None, OnErr, OnOk, Some, map};
-ghost use Rattle.rt_stamps.specs.declared.fault.Fault.TheVariants.{NoMemory};
+ghost use Rattle.std.specs.Prelude.{◌≡◌, ◌≤◌, [], IfOk, IfErr, None, OnErr, OnOk, map};
 ghost use Rattle.rt_ops.specs.Edits.{body_of};
 ghost use Rattle.rt_rga.specs.Cells.{cells_of};
 ghost use Rattle.rt_rga.specs.Drafts.{operations_of, with_drafts};
 ghost use Rattle.rt_rga.specs.Histories.{IsHistory};
-ghost use Rattle.rt_rga.specs.Made.{refusal_of};
+ghost use Rattle.rt_rga.specs.Made.{RefusesFor, refusal_of};
 ghost use Rattle.rt_rga.specs.Requests.{MayBeMade};
 ghost use Rattle.rt_replica.specs.Told.{after_taken, as_told};
 
@@ -116,8 +115,7 @@ impl<S: TextStore> Telling<S> {
         requires { MayBeMade self.old.site self.old.log (map body_of drafts.items) }
         ensures made { IfOk result (λ ops. ops.items ≡ operations_of self.old.site (map body_of drafts.items) self.old.log) }
         ensures fits { OnOk result (refusal_of self.old.limit (map body_of drafts.items) self.old.log ≡ None) }
-        ensures refused { IfErr result (λ fault. (refusal_of self.old.limit (map body_of drafts.items) self.old.log
-            ≡ Some fault) ⊎ ((fault ≡ NoMemory) × (refusal_of self.old.limit (map body_of drafts.items) self.old.log ≡ None))) }
+        ensures refused { IfErr result (RefusesFor (refusal_of self.old.limit (map body_of drafts.items) self.old.log)) }
         ensures log { OnOk result (self.new.log ≡ with_drafts self.old.site (map body_of drafts.items) self.old.log) }
         ensures cells { OnOk result (self.new.cells ≡ cells_of self.new.log) }
         ensures same { OnErr result (self.new ≡ self.old) }

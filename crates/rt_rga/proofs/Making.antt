@@ -5,8 +5,8 @@ use Rattle.rt_ops.specs.Edits.{body_of}
 use Rattle.rt_ops.specs.Operations.{Operation, Body, Insert, Name, last_count, last_of, stamp_of}
 use Rattle.rt_ops.specs.Rules.{keeps_rules}
 use Rattle.rt_ops.specs.declared.op.Edit.{Edit}
-use Rattle.rt_rga.specs.Making.{AreNewest, operations_from, refusal_from}
-use Rattle.rt_rga.specs.Made.{refusal_of, unless_refused}
+use Rattle.rt_rga.specs.Making.{AreNewest, operations_from}
+use Rattle.rt_rga.specs.Made.{cell_check, refusal_from, refusal_of, unless_refused}
 use Rattle.rt_rga.proofs.Skipping.{split}
 use Rattle.rt_rga.specs.Cells.{cells_of}
 use Rattle.rt_rga.specs.Drafts.{AreDraftsFor, ContinueInTurn, next_operation, operations_of, with_drafts}
@@ -24,6 +24,7 @@ use Rattle.rt_rga.specs.Making.{fresh_by, fresh_cells}
 use Rattle.rt_rga.proofs.Replicas.{all_from_states}
 use Rattle.rt_rga.proofs.Requests.{all_counted, drafts_for, inserted_length, not_less}
 use Rattle.rt_stamps.specs.declared.stamp.Stamp.{Stamp}
+use Rattle.rt_stamps.specs.Outcomes.{first_of}
 use Rattle.rt_stamps.specs.declared.stamp.TheConstants.{ROOT}
 use Rattle.rt_store.specs.declared.cell.Cell.{Cell}
 use Rattle.rt_store.specs.Cells.{cells_from}
@@ -69,10 +70,23 @@ fits_left last more bound old new draft e l h =
     subst (λ n. last_count_after n (map body_of new) ≤ bound) l (subst (λ (drafts : List Edit). last_count_after last (map body_of drafts) ≤ bound) e h)
 
 -- drafts whose counts don't fit are refused for that
-pub counts_refused : (last left : ℕ) (drafts : List Body) → GREATEST_COUNT < last_count_after last drafts → refusal_from last left drafts ≡ Some ClockSpent
-counts_refused last left drafts h =
+pub counts_refused : (last cells limit : ℕ) (drafts : List Body) → GREATEST_COUNT < last_count_after last drafts → refusal_from last cells limit drafts ≡ Some ClockSpent
+counts_refused last cells limit drafts h =
     let spent : nat_lt GREATEST_COUNT (last_count_after last drafts) ≡ true = grind (arith, nat_tests, h) in
-    rw spent refl
+    λ i. first_of (cond (spent i) (Some ClockSpent) None ∷ cell_check limit (cells + characters_in_all drafts) ∷ [])
+
+-- those whose counts fit, where the cells fit or not
+pub cells_refused : (last cells limit : ℕ) (drafts : List Body) → last_count_after last drafts ≤ GREATEST_COUNT → limit < cells + characters_in_all drafts → refusal_from last cells limit drafts ≡ Some TextFull
+cells_refused last cells limit drafts h k =
+    let spent : nat_lt GREATEST_COUNT (last_count_after last drafts) ≡ false = grind (arith, nat_tests, h) in
+    let full : nat_lt limit (cells + characters_in_all drafts) ≡ true = grind (arith, nat_tests, k) in
+    λ i. first_of (cond (spent i) (Some ClockSpent) None ∷ cond (full i) (Some TextFull) None ∷ [])
+
+pub none_refused : (last cells limit : ℕ) (drafts : List Body) → last_count_after last drafts ≤ GREATEST_COUNT → cells + characters_in_all drafts ≤ limit → refusal_from last cells limit drafts ≡ None
+none_refused last cells limit drafts h k =
+    let spent : nat_lt GREATEST_COUNT (last_count_after last drafts) ≡ false = grind (arith, nat_tests, h) in
+    let full : nat_lt limit (cells + characters_in_all drafts) ≡ false = grind (arith, nat_tests, k) in
+    λ i. first_of (cond (spent i) (Some ClockSpent) None ∷ cond (full i) (Some TextFull) None ∷ [])
 
 -- CELLS OF NEW CHARACTERS
 
@@ -158,19 +172,8 @@ rules_of site drafts set m = All-from_recursion (λ draft. keeps_rules (body_of 
     each [] set m = tt
     each (draft ∷ drafts) set m = (m.0, each drafts (with_operation (next_operation site (body_of draft) set) set) m.2)
 
--- the same refusal
-pub refusal_is : (last left limit cells : ℕ) (drafts : List Body) (log : List Operation) → last ≡ greatest_last_count log → cells ≡ length (cells_of log) → left + cells ≡ limit
-    → refusal_from last left drafts ≡ refusal_of limit drafts log
-refusal_is last left limit cells drafts log a b c =
-    let full : nat_lt left (characters_in_all drafts) ≡ nat_lt limit (length (cells_of log) + characters_in_all drafts) =
-    subst (λ n. nat_lt left (characters_in_all drafts) ≡ nat_lt limit (n + characters_in_all drafts)) b (subst (λ n. nat_lt left (characters_in_all drafts) ≡ nat_lt n (cells + characters_in_all drafts)) c (shifted left cells (characters_in_all drafts))) in
-    λ i. cond (nat_lt GREATEST_COUNT (last_count_after (a i) drafts)) (Some ClockSpent) (cond (full i) (Some TextFull) None)
-  where
-    shifted : (left cells more : ℕ) → nat_lt left more ≡ nat_lt (left + cells) (cells + more)
-    shifted left cells more = grind (arith, nat_tests)
-
 -- drafts that are not refused are those of operations that can be made
-spent_not : (spent full : Bool) → cond spent (Some ClockSpent) (cond full (Some TextFull) None) ≡ None → (spent ≡ false) × (full ≡ false)
+spent_not : (spent full : Bool) → first_of (cond spent (Some ClockSpent) None ∷ cond full (Some TextFull) None ∷ []) ≡ None → (spent ≡ false) × (full ≡ false)
 spent_not true full e = absurd (cc e)
 spent_not false true e = absurd (cc e)
 spent_not false false e = (refl, refl)
@@ -202,7 +205,7 @@ pub made_of : (one site last prev : ℕ) (drafts : List Body) (log : List Operat
 made_of one site last prev drafts log s l p = (λ i. operations_from (s i) (l i) (p i) drafts) ∙ operations_are site drafts log
 
 -- a request makes what a replica does
-by_full : (full : Bool) (more set : List Operation) → cond (not full) more set ≡ unless_refused (cond full (Some TextFull) None) more set
+by_full : (full : Bool) (more set : List Operation) → cond (not full) more set ≡ unless_refused (first_of (cond full (Some TextFull) None ∷ [])) more set
 by_full true more set = refl
 by_full false more set = refl
 
@@ -216,10 +219,10 @@ as_requested site limit drafts set p h m =
     (λ spent. (
     let e : nat_le last GREATEST_COUNT ≡ false = grind (arith, nat_tests, spent) in
     ap (λ b. cond (b && nat_le (length (cells_of more)) limit) more set) e
-    ∙ sym (ap (λ b. unless_refused (cond b (Some ClockSpent) (cond full (Some TextFull) None)) more set) spent)))
+    ∙ sym (ap (λ b. unless_refused (first_of (cond b (Some ClockSpent) None ∷ cond full (Some TextFull) None ∷ [])) more set) spent)))
     (λ fits. (
     let e : nat_le last GREATEST_COUNT ≡ true = grind (arith, nat_tests, fits) in
     let l = all_counted site drafts set p h (drafts_for site set drafts m (grind (arith, nat_tests, fits))) in
     let f : nat_le (length (cells_of more)) limit ≡ not full = grind (arith, nat_tests, l) in
     (λ i. cond (e i && f i) more set) ∙ by_full full more set
-    ∙ sym (ap (λ b. unless_refused (cond b (Some ClockSpent) (cond full (Some TextFull) None)) more set) fits)))
+    ∙ sym (ap (λ b. unless_refused (first_of (cond b (Some ClockSpent) None ∷ cond full (Some TextFull) None ∷ [])) more set) fits)))

@@ -1,17 +1,18 @@
 -- A single character, as it is typed.
-use Rattle.std.proofs.Common.{◌≡◌, ◌∙◌, ℕ, ◌+◌, ◌<◌, ◌≤◌, arith, List, ◌++◌, Some, None, cond, drop, length, nat_lt, refl, take, true, false}
+use Rattle.std.proofs.Common.{◌≡◌, ◌∙◌, ℕ, ◌+◌, ◌<◌, ◌≤◌, arith, List, [], ◌∷◌, ◌++◌, Some, None, cond, drop, length, nat_lt, refl, take, true, false}
 use Rattle.std.proofs.lemmas.Bool.Decides.{nat_tests}
 use Rattle.std.proofs.lemmas.List.{append_assoc}
 use Rattle.rt_stamps.specs.declared.fault.Fault.TheVariants.{ClockSpent, TextFull}
 use Rattle.rt_stamps.specs.declared.limits.TheConstants.{GREATEST_COUNT}
 use Rattle.rt_stamps.specs.declared.stamp.Stamp.{Stamp}
+use Rattle.rt_stamps.specs.Outcomes.{first_of}
 use Rattle.rt_ops.specs.Operations.{Operation}
 use Rattle.rt_store.specs.declared.cell.Cell.{Cell}
 use Rattle.rt_store.specs.Cells.{put_at, skip_from}
 use Rattle.rt_rga.specs.Cells.{cells_of}
 use Rattle.rt_rga.specs.Drafts.{one_character, operations_of}
 use Rattle.rt_rga.specs.Histories.{Continues, greatest_last_count}
-use Rattle.rt_rga.specs.Made.{refusal_of}
+use Rattle.rt_rga.specs.Made.{cell_check, refusal_of}
 use Rattle.rt_rga.specs.Making.{next_insert}
 use Rattle.rt_rga.specs.Requests.{MayBeMade, characters_in_all, last_count_after}
 use Rattle.rt_rga.proofs.Making.{ready}
@@ -20,7 +21,7 @@ use Rattle.rt_rga.proofs.Making.{ready}
 pub spent : (limit : ℕ) (after : Stamp) (character : ℕ) (log : List Operation) → GREATEST_COUNT ≤ greatest_last_count log → refusal_of limit (one_character after character) log ≡ Some ClockSpent
 spent limit after character log h =
     let more : nat_lt GREATEST_COUNT (last_count_after (greatest_last_count log) (one_character after character)) ≡ true = grind (arith, nat_tests) in
-    λ i. cond (more i) (Some ClockSpent) (cond (nat_lt limit (length (cells_of log) + characters_in_all (one_character after character))) (Some TextFull) None)
+    λ i. first_of (cond (more i) (Some ClockSpent) None ∷ cell_check limit (length (cells_of log) + characters_in_all (one_character after character)) ∷ [])
 
 -- a count is left, and no cell
 pub full : (limit : ℕ) (after : Stamp) (character : ℕ) (log : List Operation) → greatest_last_count log < GREATEST_COUNT → limit ≤ length (cells_of log)
@@ -28,7 +29,7 @@ pub full : (limit : ℕ) (after : Stamp) (character : ℕ) (log : List Operation
 full limit after character log h l =
     let left : nat_lt GREATEST_COUNT (last_count_after (greatest_last_count log) (one_character after character)) ≡ false = grind (arith, nat_tests) in
     let more : nat_lt limit (length (cells_of log) + characters_in_all (one_character after character)) ≡ true = grind (arith, nat_tests) in
-    λ i. cond (left i) (Some ClockSpent) (cond (more i) (Some TextFull) None)
+    λ i. first_of (cond (left i) (Some ClockSpent) None ∷ cond (more i) (Some TextFull) None ∷ [])
 
 -- both are left
 pub fits : (limit : ℕ) (after : Stamp) (character : ℕ) (log : List Operation) → greatest_last_count log < GREATEST_COUNT → length (cells_of log) < limit
@@ -36,7 +37,7 @@ pub fits : (limit : ℕ) (after : Stamp) (character : ℕ) (log : List Operation
 fits limit after character log h l =
     let left : nat_lt GREATEST_COUNT (last_count_after (greatest_last_count log) (one_character after character)) ≡ false = grind (arith, nat_tests) in
     let room : nat_lt limit (length (cells_of log) + characters_in_all (one_character after character)) ≡ false = grind (arith, nat_tests) in
-    λ i. cond (left i) (Some ClockSpent) (cond (room i) (Some TextFull) None)
+    λ i. first_of (cond (left i) (Some ClockSpent) None ∷ cond (room i) (Some TextFull) None ∷ [])
 
 -- so its operation continues the log
 pub one_continues : (site limit : ℕ) (after : Stamp) (character : ℕ) (log : List Operation) → 0 < site → MayBeMade site log (one_character after character) → refusal_of limit (one_character after character) log ≡ None

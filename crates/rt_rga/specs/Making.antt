@@ -1,8 +1,5 @@
 -- The way from drafts to operations and to what is kept, as the code goes it. No public clause cites this.
-use Rattle.std.specs.Prelude.{◌≡◌, ◌<◌, ◌≤◌, ℕ, ◌+◌, ◌*◌, false, List, [], ◌∷◌, ◌++◌, length, map, take, drop, nat_lt, Option, Some, None, if◌then◌else◌}
-use Rattle.rt_stamps.specs.declared.fault.Fault.{Fault}
-use Rattle.rt_stamps.specs.declared.fault.Fault.TheVariants.{ClockSpent, TextFull}
-use Rattle.rt_stamps.specs.declared.limits.TheConstants.{GREATEST_COUNT}
+use Rattle.std.specs.Prelude.{◌≡◌, ◌<◌, ◌≤◌, ℕ, ◌+◌, ◌*◌, false, List, [], ◌∷◌, ◌++◌, length, map, take, drop}
 use Rattle.rt_stamps.specs.declared.stamp.Stamp.{Stamp}
 use Rattle.rt_stamps.specs.declared.stamp.TheConstants.{FINAL, ROOT}
 use Rattle.rt_ops.specs.Operations.{Operation, Body, Insert, Delete, Tag, last_of, stamp_of}
@@ -14,7 +11,7 @@ use Rattle.rt_store.specs.Spans.{gone_in_any, is_in_spans}
 use Rattle.rt_tags.specs.Writers.{listed_by, state_after}
 use Rattle.rt_rga.specs.Drafts.{next_operation}
 use Rattle.rt_rga.specs.Histories.{greatest_last_count}
-use Rattle.rt_rga.specs.Requests.{characters_in, characters_in_all, last_count_after}
+use Rattle.rt_rga.specs.Requests.{characters_in}
 
 -- Operations are listed here as they are made, the oldest first.
 
@@ -74,10 +71,3 @@ abbrev pub CanAllBePut : List Operation → List (Cell ℕ) → List (Cell ℕ) 
 CanAllBePut [] new kept = Unit {0}
 CanAllBePut (op ∷ ops) new kept =
     CanBePut (stamp_of op) op.body new kept × CanAllBePut ops (drop (characters_in op.body) new) (put_by_kept (stamp_of op) op.body new kept)
-
--- why drafts are refused whose counts follow a last one, where so many cells are left
-abbrev pub refusal_from : ℕ → ℕ → List Body → Option Fault
-refusal_from last left drafts =
-    if nat_lt GREATEST_COUNT (last_count_after last drafts) then Some ClockSpent
-    else if nat_lt left (characters_in_all drafts) then Some TextFull
-    else None

@@ -1,5 +1,5 @@
 // A site's own operations, made of drafts.
-ghost use Rattle.std.specs.Prelude.{◌≡◌, ◌⊎◌, ◌*◌, ◌+◌, ◌++◌, ◌-◌, ◌<◌, ◌≤◌, ◌^◌, ℕ, All, IfNone, IfOk, IfErr, IsOkUnless, IfSome, OnOk, OnErr, None, Some, true, drop, length, map};
+ghost use Rattle.std.specs.Prelude.{◌≡◌, ◌*◌, ◌+◌, ◌++◌, ◌-◌, ◌<◌, ◌≤◌, ◌^◌, ℕ, All, IfNone, IfOk, IfErr, IsOkUnless, IfSome, OnOk, OnErr, None, Some, true, drop, length, map};
 ghost use Rattle.std.specs.List.{AllByRecursion};
 ghost use Rattle.rt_stamps.specs.declared.limits.TheConstants.{GREATEST_COUNT, MOST_CELLS, MOST_CHARACTERS};
 ghost use Rattle.rt_ops.specs.Edits.{body_of};
@@ -13,7 +13,8 @@ ghost use Rattle.rt_oplog.specs.Logs.{with_operation};
 ghost use Rattle.rt_rga.specs.Drafts.{ContinueInTurn, with_operations};
 ghost use Rattle.rt_rga.specs.Few.{items_in};
 ghost use Rattle.rt_rga.specs.Histories.{Continues, greatest_last_count};
-ghost use Rattle.rt_rga.specs.Making.{AreNewest, CanAllBePut, CanBePut, cuts_by, cuts_of, fresh_by, fresh_cells, kept_after, operations_from, put_by_kept, refusal_from};
+ghost use Rattle.rt_rga.specs.Made.{RefusesFor, refusal_from};
+ghost use Rattle.rt_rga.specs.Making.{AreNewest, CanAllBePut, CanBePut, cuts_by, cuts_of, fresh_by, fresh_cells, kept_after, operations_from, put_by_kept};
 ghost use Rattle.rt_rga.specs.Requests.{characters_in, last_count_after};
 ghost use Rattle.rt_rga.specs.Replicas.{IsReplica};
 
@@ -24,8 +25,7 @@ use crate::new_cells::NewCells;
 use crate::plan::planned_states;
 use crate::tagging::put_states;
 use rt_oplog::{Edit, Op, OpLog};
-use rt_stamps::limits::GREATEST_COUNT;
-use rt_stamps::{Clock, Fault, ROOT, Stamp};
+use rt_stamps::{Clock, Fault, ROOT, Stamp, count_after};
 use rt_store::{Cell, TextStore};
 use rt_tags::{StateId, StateTable};
 use std::alloc::Global;
@@ -61,27 +61,24 @@ fn counts_in(draft: &Draft) -> u64
 }
 
 /// `ClockSpent` where the counts of drafts, which follow a last one, would pass `GREATEST_COUNT`, else
-/// `TextFull` where they insert more characters than there is room for.
+/// `TextFull` where the characters that they insert beside so many cells would pass a limit.
 #[tactic(auto, using(crate::proofs::Requests::not_less))]
 #[inline(always)]
-fn check_limits(last: u64, left: usize, drafts: &[Draft]) -> Result<(), Fault>
+fn check_limits(last: u64, cells: usize, limit: usize, drafts: &[Draft]) -> Result<(), Fault>
     requires last { last ≤ GREATEST_COUNT }
+    requires cells { cells ≤ limit }
     requires rules { All (λ draft. keeps_rules (body_of draft) ≡ true) drafts.now }
     ensures counts { OnOk result (last_count_after last (map body_of drafts.now) ≤ GREATEST_COUNT) }
-    ensures fits { OnOk result (refusal_from last left (map body_of drafts.now) ≡ None) }
-    ensures refused { IfErr result (λ fault. refusal_from last left (map body_of drafts.now) ≡ Some fault) }
+    ensures fits { OnOk result (refusal_from last cells limit (map body_of drafts.now) ≡ None) }
+    ensures refused { IfErr result (λ fault. refusal_from last cells limit (map body_of drafts.now) ≡ Some fault) }
 {
     let mut count = last;
     let mut characters = 0;
     for draft in drafts {
-        let more = counts_in(draft);
-        if more > GREATEST_COUNT - count {
-            return Err(Fault::ClockSpent);
-        }
-        count += more;
+        count = count_after(count, counts_in(draft))?;
         characters += characters_in(draft);
     }
-    if characters > left {
+    if characters > limit - cells {
         return Err(Fault::TextFull);
     }
     Ok(())
@@ -418,7 +415,7 @@ pub(crate) fn push_few(log: &mut OpLog, clock: &mut Clock, ops: Few<Op>)
     }
 }
 
-/// The operations of drafts. The counts follow a last one, and at most so many characters are inserted.
+/// The operations of drafts. The counts follow a last one, and the characters come beside so many cells.
 /// `ClockSpent` where the counts don't fit, else `TextFull` where the characters don't, else want of memory.
 #[inline(always)]
 pub(crate) fn prepared(
@@ -426,17 +423,18 @@ pub(crate) fn prepared(
     site: u16,
     last: u64,
     prev: u64,
-    left: usize,
+    cells: usize,
+    limit: usize,
     drafts: Few<Draft>,
 ) -> Result<Few<Op>, Fault>
     requires last { last ≤ GREATEST_COUNT }
+    requires cells { cells ≤ limit }
     requires rules { All (λ draft. keeps_rules (body_of draft) ≡ true) (items_in drafts) }
     ensures ops { IfOk result (λ ops. items_in ops ≡ operations_from site last prev (map body_of (items_in drafts))) }
-    ensures fits { OnOk result (refusal_from last left (map body_of (items_in drafts)) ≡ None) }
-    ensures refused { IfErr result (λ fault. (refusal_from last left (map body_of (items_in drafts)) ≡ Some fault)
-        ⊎ ((fault ≡ Fault.NoMemory) × (refusal_from last left (map body_of (items_in drafts)) ≡ None))) }
+    ensures fits { OnOk result (refusal_from last cells limit (map body_of (items_in drafts)) ≡ None) }
+    ensures refused { IfErr result (RefusesFor (refusal_from last cells limit (map body_of (items_in drafts)))) }
 {
-    check_limits(last, left, drafts_in(&drafts))?;
+    check_limits(last, cells, limit, drafts_in(&drafts))?;
     stamped(alloc, site, last, prev, drafts)
 }
 

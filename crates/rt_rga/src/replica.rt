@@ -1,5 +1,5 @@
 // A replica: accepted operations, and the cells that are kept of them.
-ghost use Rattle.std.specs.Prelude.{◌≡◌, ◌⊎◌, ℕ, ◌+◌, ◌<◌, ◌≤◌, ◌∷◌, [], IfOk, IfErr, IsOkUnless, None, OnErr, OnOk, Some, length, map, true};
+ghost use Rattle.std.specs.Prelude.{◌≡◌, ℕ, ◌+◌, ◌<◌, ◌≤◌, ◌∷◌, [], IfOk, IfErr, IsOkUnless, None, OnErr, OnOk, Some, length, map, true};
 ghost use Rattle.rt_stamps.specs.declared.limits.TheConstants.{MOST_CELLS};
 ghost use Rattle.rt_stamps.specs.declared.stamp.Stamp.{Stamp as StampValue};
 ghost use Rattle.rt_store.specs.Cells.{final_cell};
@@ -13,7 +13,7 @@ ghost use Rattle.rt_rga.specs.Drafts.{ContinueInTurn, one_character, operations_
 ghost use Rattle.rt_rga.specs.Few.{items_in};
 ghost use Rattle.rt_rga.specs.Kept.{said};
 ghost use Rattle.rt_ops.specs.Rules.{keeps_rules};
-ghost use Rattle.rt_rga.specs.Made.{refusal_of};
+ghost use Rattle.rt_rga.specs.Made.{Makes, RefusesFor, refusal_of};
 ghost use Rattle.rt_rga.specs.Making.{AreNewest, fresh_cells, next_insert};
 ghost use Rattle.rt_rga.specs.Requests.{MayBeMade};
 ghost use Rattle.rt_rga.specs.Histories.{Continues, IsHistory, greatest_last_count, inserted};
@@ -248,8 +248,7 @@ impl<S: TextStore> Replica<S> {
         requires { MayBeMade self.now.site self.now.log (map body_of (items_in drafts)) }
         ensures made { IfOk result (λ ops. items_in ops ≡ operations_of self.now.site (map body_of (items_in drafts)) self.now.log) }
         ensures fits { OnOk result (refusal_of self.now.limit (map body_of (items_in drafts)) self.now.log ≡ None) }
-        ensures refused { IfErr result (λ fault. (refusal_of self.now.limit (map body_of (items_in drafts)) self.now.log
-            ≡ Some fault) ⊎ ((fault ≡ Fault.NoMemory) × (refusal_of self.now.limit (map body_of (items_in drafts)) self.now.log ≡ None))) }
+        ensures refused { IfErr result (RefusesFor (refusal_of self.now.limit (map body_of (items_in drafts)) self.now.log)) }
         ensures continues { IfOk result (λ ops. ContinueInTurn self.now.log (items_in ops)) }
         ensures newest { IfOk result (λ ops. AreNewest self.now.log (items_in ops)) }
         ensures room { IfOk result (λ ops. length self.now.cells + length (fresh_cells (items_in ops)) ≤ self.now.limit) }
@@ -260,7 +259,8 @@ impl<S: TextStore> Replica<S> {
             site,
             self.clock.seen(),
             self.log.known(site),
-            self.limit - self.store.cells(),
+            self.store.cells(),
+            self.limit,
             drafts,
         )
     }
@@ -275,16 +275,7 @@ impl<S: TextStore> Replica<S> {
     pub fn make(&mut self, drafts: Vec<Draft>) -> Result<Vec<Op>, Fault>
         requires { MayBeMade self.old.site self.old.log (map body_of drafts.items) }
         ensures made { IfOk result (λ ops. ops.items ≡ operations_of self.old.site (map body_of drafts.items) self.old.log) }
-        ensures fits { OnOk result (refusal_of self.old.limit (map body_of drafts.items) self.old.log ≡ None) }
-        ensures refused { IfErr result (λ fault. (refusal_of self.old.limit (map body_of drafts.items) self.old.log
-            ≡ Some fault) ⊎ ((fault ≡ Fault.NoMemory) × (refusal_of self.old.limit (map body_of drafts.items) self.old.log ≡ None))) }
-        ensures log { OnOk result (self.new.log ≡ with_drafts self.old.site (map body_of drafts.items) self.old.log) }
-        ensures cells { OnOk result (self.new.cells ≡ cells_of self.new.log) }
-        ensures same { OnErr result (self.new ≡ record self.old { table = self.new.table }) }
-        ensures kept { (refusal_of self.old.limit (map body_of drafts.items) self.old.log ≡ None → ⊥) → self.new ≡ self.old }
-        ensures site { self.new.site ≡ self.old.site }
-        ensures limit { self.new.limit ≡ self.old.limit }
-        ensures ids { KeepsIds self.old.table self.new.table }
+        ensures makes { Makes (map body_of drafts.items) self.old self.new result }
     {
         let ops = self.planned(Few::Many(drafts))?;
         let copies = copied(self.alloc, list_of(&ops))?;
@@ -296,16 +287,7 @@ impl<S: TextStore> Replica<S> {
     #[inline(always)]
     fn commit_few(&mut self, drafts: Few<Draft>) -> Result<(), Fault>
         requires { MayBeMade self.old.site self.old.log (map body_of (items_in drafts)) }
-        ensures fits { OnOk result (refusal_of self.old.limit (map body_of (items_in drafts)) self.old.log ≡ None) }
-        ensures refused { IfErr result (λ fault. (refusal_of self.old.limit (map body_of (items_in drafts)) self.old.log
-            ≡ Some fault) ⊎ ((fault ≡ Fault.NoMemory) × (refusal_of self.old.limit (map body_of (items_in drafts)) self.old.log ≡ None))) }
-        ensures log { OnOk result (self.new.log ≡ with_drafts self.old.site (map body_of (items_in drafts)) self.old.log) }
-        ensures cells { OnOk result (self.new.cells ≡ cells_of self.new.log) }
-        ensures same { OnErr result (self.new ≡ record self.old { table = self.new.table }) }
-        ensures kept { (refusal_of self.old.limit (map body_of (items_in drafts)) self.old.log ≡ None → ⊥) → self.new ≡ self.old }
-        ensures site { self.new.site ≡ self.old.site }
-        ensures limit { self.new.limit ≡ self.old.limit }
-        ensures ids { KeepsIds self.old.table self.new.table }
+        ensures { Makes (map body_of (items_in drafts)) self.old self.new result }
     {
         match self.planned(drafts) {
             Ok(made) => self.make_all(made),
@@ -318,16 +300,7 @@ impl<S: TextStore> Replica<S> {
     #[inline(always)]
     pub fn commit(&mut self, drafts: Few<Draft>) -> Result<(), Fault>
         requires { MayBeMade self.old.site self.old.log (map body_of (items_in drafts)) }
-        ensures fits { OnOk result (refusal_of self.old.limit (map body_of (items_in drafts)) self.old.log ≡ None) }
-        ensures refused { IfErr result (λ fault. (refusal_of self.old.limit (map body_of (items_in drafts)) self.old.log
-            ≡ Some fault) ⊎ ((fault ≡ Fault.NoMemory) × (refusal_of self.old.limit (map body_of (items_in drafts)) self.old.log ≡ None))) }
-        ensures log { OnOk result (self.new.log ≡ with_drafts self.old.site (map body_of (items_in drafts)) self.old.log) }
-        ensures cells { OnOk result (self.new.cells ≡ cells_of self.new.log) }
-        ensures same { OnErr result (self.new ≡ record self.old { table = self.new.table }) }
-        ensures kept { (refusal_of self.old.limit (map body_of (items_in drafts)) self.old.log ≡ None → ⊥) → self.new ≡ self.old }
-        ensures site { self.new.site ≡ self.old.site }
-        ensures limit { self.new.limit ≡ self.old.limit }
-        ensures ids { KeepsIds self.old.table self.new.table }
+        ensures { Makes (map body_of (items_in drafts)) self.old self.new result }
     {
         // What is done for a draft is compiled once for a single one, as typing makes it, without the steps of a list; and into
         // its callers, which know mostly whether it is one.
@@ -402,16 +375,7 @@ impl<S: TextStore> Replica<S> {
     #[inline(always)]
     pub fn commit_character(&mut self, after: Stamp, character: char) -> Result<(), Fault>
         requires { MayBeMade self.old.site self.old.log (one_character after character) }
-        ensures fits { OnOk result (refusal_of self.old.limit (one_character after character) self.old.log ≡ None) }
-        ensures refused { IfErr result (λ fault. (refusal_of self.old.limit (one_character after character) self.old.log
-            ≡ Some fault) ⊎ ((fault ≡ Fault.NoMemory) × (refusal_of self.old.limit (one_character after character) self.old.log ≡ None))) }
-        ensures log { OnOk result (self.new.log ≡ with_drafts self.old.site (one_character after character) self.old.log) }
-        ensures cells { OnOk result (self.new.cells ≡ cells_of self.new.log) }
-        ensures same { OnErr result (self.new ≡ record self.old { table = self.new.table }) }
-        ensures kept { (refusal_of self.old.limit (one_character after character) self.old.log ≡ None → ⊥) → self.new ≡ self.old }
-        ensures site { self.new.site ≡ self.old.site }
-        ensures limit { self.new.limit ≡ self.old.limit }
-        ensures ids { KeepsIds self.old.table self.new.table }
+        ensures makes { Makes (one_character after character) self.old self.new result }
         ensures table { self.new.table ≡ self.old.table }
     {
         match self.stamp_of_character() {

@@ -52,14 +52,7 @@ seen_made flat edited drafts new log cells site limit same doc =
 -- the replica refuses what the counts and the cells of the edited document refuse
 pub refusal_is : (limit : ℕ) (drafts : List Body) (log : List Operation) (count cells : ℕ) → last_count_after (greatest_last_count log) drafts ≡ count → length (cells_of log) + characters_in_all drafts ≡ cells
     → refusal_of limit drafts log ≡ first_of (clock_check count ∷ cell_check limit cells ∷ [])
-refusal_is limit drafts log count cells e f =
-    by (nat_lt GREATEST_COUNT (last_count_after (greatest_last_count log) drafts)) (nat_lt limit (length (cells_of log) + characters_in_all drafts))
-    ∙ (λ i. first_of (clock_check (e i) ∷ cell_check limit (f i) ∷ []))
-  where
-    by : (b c : Bool) → cond b (Some ClockSpent) (cond c (Some TextFull) None) ≡ first_of (cond b (Some ClockSpent) None ∷ cond c (Some TextFull) None ∷ [])
-    by true c = refl
-    by false true = refl
-    by false false = refl
+refusal_is limit drafts log count cells e f = λ i. first_of (clock_check (e i) ∷ cell_check limit (f i) ∷ [])
 
 -- Where operations insert nothing, they are refused for their counts alone.
 pub counts_alone : (limit : ℕ) (drafts : List Body) (log : List Operation) (count : ℕ) → length (cells_of log) ≤ limit → characters_in_all drafts ≡ 0 → last_count_after (greatest_last_count log) drafts ≡ count

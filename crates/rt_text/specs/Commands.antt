@@ -3,15 +3,17 @@ use Rattle.std.specs.Prelude.{ℕ, ◌+◌, ◌-◌, ℤ, List, [], ◌∷◌, �
 use Rattle.std.specs.Str.{bytes_eq}
 use Rattle.rt_index.specs.Widget.{IndexedWidget}
 use Rattle.rt_marks.specs.Marks.{marks_inserted}
-use Rattle.rt_stamps.specs.declared.limits.TheConstants.{GREATEST_COUNT, MOST_CHARACTERS, MOST_SPANS}
+use Rattle.rt_stamps.specs.declared.limits.TheConstants.{MOST_CHARACTERS, MOST_SPANS}
 use Rattle.rt_stamps.specs.declared.fault.Fault.{Fault}
-use Rattle.rt_stamps.specs.declared.fault.Fault.TheVariants.{BackwardsRange, ClockSpent, TextFull}
+use Rattle.rt_stamps.specs.declared.fault.Fault.TheVariants.{BackwardsRange}
 use Rattle.rt_stamps.specs.declared.position.Position.{Position}
 use Rattle.rt_stamps.specs.declared.stamp.Stamp.{Stamp}
+pub use Rattle.rt_stamps.specs.Clock.{clock_check}
 use Rattle.rt_stamps.specs.Names.{name_check}
 use Rattle.rt_stamps.specs.Outcomes.{first_of, unless}
 use Rattle.rt_stamps.specs.Places.{position_at}
 use Rattle.rt_stamps.specs.Words.{Word}
+pub use Rattle.rt_rga.specs.Made.{cell_check}
 use Rattle.rt_store.specs.Shown.{TaggedCell}
 use Rattle.rt_tags.specs.Tags.{sel}
 use Rattle.rt_edits.specs.declared.range.Range.{Range}
@@ -38,14 +40,6 @@ use Rattle.rt_text.specs.Widgets.{ViewValue, begin_of, each_widget, in_text, las
 -- a range that is replaced doesn't end before it begins
 abbrev pub backwards_check : Range → Option Fault
 backwards_check range = if nat_lt range.to range.from then Some BackwardsRange else None
-
--- a clock may go as far as a count
-abbrev pub clock_check : ℕ → Option Fault
-clock_check count = if nat_lt GREATEST_COUNT count then Some ClockSpent else None
-
--- there may be so many cells
-abbrev pub cell_check : ℕ → ℕ → Option Fault
-cell_check limit cells = if nat_lt limit cells then Some TextFull else None
 
 -- PLACES
 

@@ -13,32 +13,32 @@ make_character-requires-clause-continues g c =
 
 pub returns-in-Err : goal.returns-in-Err
 returns-in-Err g c = record {
-  fits = tt;
-  refused = inl (c.in-Err.ensures.refused c.args.after c.args.character);
-  log = tt;
-  cells = tt;
-  same = refl;
-  kept = λ no. refl;
-  site = refl;
-  limit = refl;
-  ids = keeps_itself c.args.self.now.table;
+  makes = record {
+    fits = tt;
+    refused = inl (c.in-Err.ensures.refused c.args.after c.args.character);
+    log = tt;
+    cells = tt;
+    same = refl;
+    kept = λ no. refl;
+    site = refl;
+    limit = refl;
+    ids = keeps_itself c.args.self.now.table;
+  };
   table = refl;
 }
 
-pub returns-in-Ok-clause-fits : goal.returns-in-Ok-clause-fits
-returns-in-Ok-clause-fits g c = on_ok_weaker c.make_character.result (λ log. c.in-Ok.ensures.fits c.args.after c.args.character) c.make_character.ensures.log
-
-pub returns-in-Ok-clause-refused : goal.returns-in-Ok-clause-refused
-returns-in-Ok-clause-refused g c =
-    IfErr-weaker c.make_character.result (λ fault. fault ≡ NoMemory) _ (λ fault e. inr (e, c.in-Ok.ensures.fits c.args.after c.args.character)) c.make_character.ensures.fault
-
-pub returns-in-Ok-clause-same : goal.returns-in-Ok-clause-same
-returns-in-Ok-clause-same g c =
+pub returns-in-Ok-clause-makes : goal.returns-in-Ok-clause-makes
+returns-in-Ok-clause-makes g c =
     let old : ReplicaValue = c.args.self.now in
-    on_err_weaker c.make_character.result (λ same. same ∙ (λ i. record old { table = sym c.make_character.ensures.table i })) c.make_character.ensures.same
-
-pub returns-in-Ok-clause-kept : goal.returns-in-Ok-clause-kept
-returns-in-Ok-clause-kept g c = λ no. absurd (no (c.in-Ok.ensures.fits c.args.after c.args.character))
-
-pub returns-in-Ok-clause-ids : goal.returns-in-Ok-clause-ids
-returns-in-Ok-clause-ids g c = subst (λ (table : TagStates). KeepsIds c.args.self.now.table table) (sym c.make_character.ensures.table) (keeps_itself c.args.self.now.table)
+    let fits = c.in-Ok.ensures.fits c.args.after c.args.character in
+    record {
+      fits = on_ok_weaker c.make_character.result (λ log. fits) c.make_character.ensures.log;
+      refused = IfErr-weaker c.make_character.result (λ fault. fault ≡ NoMemory) _ (λ fault e. inr (e, fits)) c.make_character.ensures.fault;
+      log = c.make_character.ensures.log;
+      cells = c.make_character.ensures.cells;
+      same = on_err_weaker c.make_character.result (λ same. same ∙ (λ i. record old { table = sym c.make_character.ensures.table i })) c.make_character.ensures.same;
+      kept = λ no. absurd (no fits);
+      site = c.make_character.ensures.site;
+      limit = c.make_character.ensures.limit;
+      ids = subst (λ (table : TagStates). KeepsIds old.table table) (sym c.make_character.ensures.table) (keeps_itself old.table);
+    }

@@ -1,4 +1,8 @@
-use Rattle.std.proofs.Common.{refl}
+use Rattle.std.proofs.Common.{◌≡◌, ◌∙◌, List, ap, inr, refl}
+use Rattle.std.proofs.lemmas.Result.{IfErr-weaker, on_ok_weaker}
+use Rattle.rt_stamps.specs.declared.fault.Fault.TheVariants.{NoMemory}
+use Rattle.rt_ops.specs.Operations.{Operation}
+use Rattle.rt_rga.specs.Drafts.{with_operations}
 use Rattle.rt_tags.proofs.Keeping.{keeps_itself}
 use Rattle.rt_rga.proofs.replica.Replica.commit_few.Goals as goal
 
@@ -13,4 +17,17 @@ returns-in-Err g c = record {
   site = refl;
   limit = refl;
   ids = keeps_itself c.args.self.now.table;
+}
+
+pub returns-in-Ok : goal.returns-in-Ok
+returns-in-Ok g c = record {
+  fits = on_ok_weaker c.make_all.result (λ log. c.in-Ok.ensures.fits) c.make_all.ensures.log;
+  refused = IfErr-weaker c.make_all.result (λ fault. fault ≡ NoMemory) _ (λ fault e. inr (e, c.in-Ok.ensures.fits)) c.make_all.ensures.fault;
+  log = on_ok_weaker c.make_all.result (λ log. log ∙ ap (λ (ops : List Operation). with_operations ops c.args.self.now.log) c.in-Ok.ensures.made) c.make_all.ensures.log;
+  cells = c.make_all.ensures.cells;
+  same = c.make_all.ensures.same;
+  kept = λ no. absurd (no c.in-Ok.ensures.fits);
+  site = c.make_all.ensures.site;
+  limit = c.make_all.ensures.limit;
+  ids = c.make_all.ensures.ids;
 }

@@ -11,9 +11,10 @@ use Rattle.rt_rga.specs.Cells.{cells_of}
 use Rattle.rt_rga.specs.Few.{items_in}
 use Rattle.rt_rga.specs.Histories.{greatest_last_count}
 use Rattle.rt_rga.specs.Kept.{ReplicaValue}
+use Rattle.rt_rga.specs.Made.{RefusesFor, refusal_from, refusal_of}
 use Rattle.rt_rga.specs.Making.{AreNewest, fresh_cells}
 use Rattle.rt_rga.specs.Drafts.{ContinueInTurn}
-use Rattle.rt_rga.proofs.Making.{made_of, ready, refusal_is, rules_of}
+use Rattle.rt_rga.proofs.Making.{made_of, ready, rules_of}
 use Rattle.rt_stamps.specs.declared.fault.Fault.{Fault}
 use Rattle.rt_stamps.specs.declared.fault.Fault.TheVariants.{NoMemory}
 use Rattle.rt_rga.proofs.replica.Replica.planned.Goals as goal
@@ -51,7 +52,7 @@ returns-clause-continues g c =
     let prev : c.known.result ≡ known_end now.log now.site = c.known.ensures ∙ (λ i. known_end (seen i) (site i)) in
     let cells : c.cells.result ≡ length (cells_of now.log) = c.cells.ensures ∙ sym (length-map kept (shown v.states)) ∙ ap length c.self.invariant.within.replica.cells ∙ ap (λ (ops : List Operation). length (cells_of ops)) seen in
     let limit : v.limit ≡ now.limit = ap (λ (a : ReplicaValue). a.limit) c.self.view_is in
-    let told = refusal_is c.seen.result (v.limit - c.cells.result) now.limit c.cells.result bodies now.log last cells (omega (arith, limit, c.self.invariant.within.cells, c.cells.ensures)) in
+    let told : refusal_from c.seen.result c.cells.result v.limit bodies ≡ refusal_of now.limit bodies now.log = λ i. refusal_from (last i) (cells i) (limit i) bodies in
     if_made c.prepared.result _ _ (λ ops. ContinueInTurn now.log (items_in ops))
     (λ fits ops h. (ready now.site now.limit bodies now.log (items_in ops) (omega (arith, site, c.number-site.ensures.positive)) c.requires (sym told ∙ fits)
     (h ∙ made_of c.number-site.result now.site c.seen.result c.known.result bodies now.log site last prev)).continues)
@@ -69,7 +70,7 @@ returns-clause-newest g c =
     let prev : c.known.result ≡ known_end now.log now.site = c.known.ensures ∙ (λ i. known_end (seen i) (site i)) in
     let cells : c.cells.result ≡ length (cells_of now.log) = c.cells.ensures ∙ sym (length-map kept (shown v.states)) ∙ ap length c.self.invariant.within.replica.cells ∙ ap (λ (ops : List Operation). length (cells_of ops)) seen in
     let limit : v.limit ≡ now.limit = ap (λ (a : ReplicaValue). a.limit) c.self.view_is in
-    let told = refusal_is c.seen.result (v.limit - c.cells.result) now.limit c.cells.result bodies now.log last cells (omega (arith, limit, c.self.invariant.within.cells, c.cells.ensures)) in
+    let told : refusal_from c.seen.result c.cells.result v.limit bodies ≡ refusal_of now.limit bodies now.log = λ i. refusal_from (last i) (cells i) (limit i) bodies in
     if_made c.prepared.result _ _ (λ ops. AreNewest now.log (items_in ops))
     (λ fits ops h. (ready now.site now.limit bodies now.log (items_in ops) (omega (arith, site, c.number-site.ensures.positive)) c.requires (sym told ∙ fits)
     (h ∙ made_of c.number-site.result now.site c.seen.result c.known.result bodies now.log site last prev)).newest)
@@ -87,7 +88,7 @@ returns-clause-room g c =
     let prev : c.known.result ≡ known_end now.log now.site = c.known.ensures ∙ (λ i. known_end (seen i) (site i)) in
     let cells : c.cells.result ≡ length (cells_of now.log) = c.cells.ensures ∙ sym (length-map kept (shown v.states)) ∙ ap length c.self.invariant.within.replica.cells ∙ ap (λ (ops : List Operation). length (cells_of ops)) seen in
     let limit : v.limit ≡ now.limit = ap (λ (a : ReplicaValue). a.limit) c.self.view_is in
-    let told = refusal_is c.seen.result (v.limit - c.cells.result) now.limit c.cells.result bodies now.log last cells (omega (arith, limit, c.self.invariant.within.cells, c.cells.ensures)) in
+    let told : refusal_from c.seen.result c.cells.result v.limit bodies ≡ refusal_of now.limit bodies now.log = λ i. refusal_from (last i) (cells i) (limit i) bodies in
     let many : length now.cells ≡ length (cells_of now.log) = sym (ap (λ (a : ReplicaValue). length a.cells) c.self.view_is) ∙ ap (λ (xs : List TaggedCell). length xs) c.self.invariant.within.replica.cells ∙ ap (λ (ops : List Operation). length (cells_of ops)) seen in
     if_made c.prepared.result _ _ (λ ops. length now.cells + length (fresh_cells (items_in ops)) ≤ now.limit)
     (λ fits ops h.
@@ -106,7 +107,7 @@ returns-clause-fits g c =
     let last : c.seen.result ≡ greatest_last_count now.log = c.seen.ensures.value ∙ c.self.invariant.within.seen ∙ ap greatest_last_count seen in
     let cells : c.cells.result ≡ length (cells_of now.log) = c.cells.ensures ∙ sym (length-map kept (shown v.states)) ∙ ap length c.self.invariant.within.replica.cells ∙ ap (λ (ops : List Operation). length (cells_of ops)) seen in
     let limit : v.limit ≡ now.limit = ap (λ (a : ReplicaValue). a.limit) c.self.view_is in
-    let told = refusal_is c.seen.result (v.limit - c.cells.result) now.limit c.cells.result bodies now.log last cells (omega (arith, limit, c.self.invariant.within.cells, c.cells.ensures)) in
+    let told : refusal_from c.seen.result c.cells.result v.limit bodies ≡ refusal_of now.limit bodies now.log = λ i. refusal_from (last i) (cells i) (limit i) bodies in
     IfOk-weaker c.prepared.result _ _ (λ ops h. sym told ∙ h) c.prepared.ensures.fits
 
 pub returns-clause-refused : goal.returns-clause-refused
@@ -119,7 +120,7 @@ returns-clause-refused g c =
     let last : c.seen.result ≡ greatest_last_count now.log = c.seen.ensures.value ∙ c.self.invariant.within.seen ∙ ap greatest_last_count seen in
     let cells : c.cells.result ≡ length (cells_of now.log) = c.cells.ensures ∙ sym (length-map kept (shown v.states)) ∙ ap length c.self.invariant.within.replica.cells ∙ ap (λ (ops : List Operation). length (cells_of ops)) seen in
     let limit : v.limit ≡ now.limit = ap (λ (a : ReplicaValue). a.limit) c.self.view_is in
-    let told = refusal_is c.seen.result (v.limit - c.cells.result) now.limit c.cells.result bodies now.log last cells (omega (arith, limit, c.self.invariant.within.cells, c.cells.ensures)) in
+    let told : refusal_from c.seen.result c.cells.result v.limit bodies ≡ refusal_of now.limit bodies now.log = λ i. refusal_from (last i) (cells i) (limit i) bodies in
     IfErr-weaker c.prepared.result _ _
-    (λ fault. subst (λ (o : Option Fault). (o ≡ Some fault) ⊎ ((fault ≡ NoMemory) × (o ≡ None))) told)
+    (λ fault. subst (λ (o : Option Fault). RefusesFor o fault) told)
     c.prepared.ensures.refused

@@ -71,11 +71,11 @@ returns-in_err-commit_character g c =
     (λ i. refusal_of (c.self.view_is i).limit (sym (c.requires.drafts others) i) (c.self.view_is i).log) ∙ refused_as flat own others place pieces rest is in
     let (y, is, gives) = err_from_is_err_and c.from_residual-in_err-commit_character.result c.from_residual-in_err-commit_character.ensures.1 in
     let doc : seen c.commit_character.new.self c.self.inside.marks c.self.inside.tags.names ≡ c.args.self.now =
-    ap (λ r. seen r c.self.inside.marks c.self.inside.tags.names) c.in_err-commit_character.ensures.same ∙ c.self.view_is in
+    ap (λ r. seen r c.self.inside.marks c.self.inside.tags.names) c.in_err-commit_character.ensures.makes.same ∙ c.self.view_is in
     rw (is, gives) (record {
       ok = tt;
       checked = tt;
-      err = which c.in_err-commit_character.ensures.refused same;
+      err = which c.in_err-commit_character.ensures.makes.refused same;
       unchanged = (doc, refl, c.reserve_between.ensures.same);
       own = subst (λ (f : DocValue). IsOwnOf (length (text_of f.cells)) own) (sym doc) c.requires.own;
       others = subst (λ (p : _). p) (λ k. AllByRecursion (IsOwnOf (length (text_of (sym doc k).cells))) (sym c.reserve_between.ensures.same k)) c.requires.others;
@@ -93,7 +93,7 @@ insert_all-requires g c =
     let is = place_is flat own others place c.kept.ensures.history c.kept.ensures.document c.kept.ensures.site c.requires.place in
     let one : 1 ≡ length (made_new flat own others place pieces rest).cells = sym (ap (λ (new : Insertion). length new.cells) (c.requires.comes others)) in
     let fit = all_fit flat own others place pieces rest is
-    (sym (λ i. refusal_of (c.self.view_is i).limit (sym (c.requires.drafts others) i) (c.self.view_is i).log) ∙ c.in_ok-commit_character.ensures.fits) in
+    (sym (λ i. refusal_of (c.self.view_is i).limit (sym (c.requires.drafts others) i) (c.self.view_is i).log) ∙ c.in_ok-commit_character.ensures.makes.fits) in
     let n = length (text_of flat.cells) in
     let few : n + 1 ≤ 2 ^ 64 - 1 = grown_fits n (length flat.cells) (length (made_new flat own others place pieces rest).cells) 1 flat.limit fit.1 one (text_within flat.cells) c.kept.ensures.most in
     let rule = selected_with typed.left typed.right c.from_ref.result.now in
@@ -118,14 +118,14 @@ invariant_of-self-2 g c =
     let is = place_is flat own others place c.kept.ensures.history c.kept.ensures.document c.kept.ensures.site c.requires.place in
     let comes = c.requires.comes others in
     let fit = all_fit flat own others place pieces rest is
-    (sym (λ i. refusal_of (c.self.view_is i).limit (sym (c.requires.drafts others) i) (c.self.view_is i).log) ∙ c.in_ok-commit_character.ensures.fits) in
+    (sym (λ i. refusal_of (c.self.view_is i).limit (sym (c.requires.drafts others) i) (c.self.view_is i).log) ∙ c.in_ok-commit_character.ensures.makes.fits) in
     let edited = made_flat flat own others place pieces rest in
     let bodies = made_drafts flat own others place pieces rest in
     let log : c.commit_character.new.self.log ≡ with_drafts flat.site bodies flat.log =
-    c.in_ok-commit_character.ensures.log ∙ (λ i. with_drafts (c.self.view_is i).site (sym (c.requires.drafts others) i) (c.self.view_is i).log) in
+    c.in_ok-commit_character.ensures.makes.log ∙ (λ i. with_drafts (c.self.view_is i).site (sym (c.requires.drafts others) i) (c.self.view_is i).log) in
     let made = made_is flat own others place pieces rest is c.requires.pieces c.utf8.rest fit.0 in
     let doc : seen c.commit_character.new.self edited.marks edited.tags ≡ logged flat bodies edited =
-    seen_made flat edited bodies c.commit_character.new.self log c.in_ok-commit_character.ensures.cells (c.commit_character.ensures.site ∙ ap (λ (f : DocValue). f.site) c.self.view_is) (c.commit_character.ensures.limit ∙ ap (λ (f : DocValue). f.limit) c.self.view_is) refl made in
+    seen_made flat edited bodies c.commit_character.new.self log c.in_ok-commit_character.ensures.makes.cells (c.commit_character.ensures.makes.site ∙ ap (λ (f : DocValue). f.site) c.self.view_is) (c.commit_character.ensures.makes.limit ∙ ap (λ (f : DocValue). f.limit) c.self.view_is) refl made in
     let marks : c.insert_all.new.marks ≡ edited.marks = c.insert_all.ensures.marks ∙ (λ i. marks_inserted (here i) (length (sym comes i).cells) (c.self.view_is i).marks) in
     let tags : c.self.inside.tags.names ≡ edited.tags = ap (λ (f : DocValue). f.tags) c.self.view_is ∙ sym (ap (λ (new : Insertion). new.tags) comes) in
     let kept = kept_made flat own others place pieces rest is c.requires.pieces (subst (λ (f : DocValue). IsDoc f.cells f.marks f.tags) c.self.view_is c.self.invariant) in
@@ -147,16 +147,16 @@ returns g c =
     let comes = c.requires.comes others in
     let refused : refusal_of c.self.inside.replica.limit (one_character typed.left typed.character) c.self.inside.replica.log ≡ refusal_of flat.limit (made_drafts flat own others place pieces rest) flat.log =
     (λ i. refusal_of (c.self.view_is i).limit (sym (c.requires.drafts others) i) (c.self.view_is i).log) in
-    let fit = all_fit flat own others place pieces rest is (sym refused ∙ c.in_ok-commit_character.ensures.fits) in
+    let fit = all_fit flat own others place pieces rest is (sym refused ∙ c.in_ok-commit_character.ensures.makes.fits) in
     let listed : AreListed flat.tags flat.cells = subst (λ (f : DocValue). AreListed f.tags f.cells) c.self.view_is c.self.invariant.listed in
     let new = made_new flat own others place pieces rest in
     let edited = made_flat flat own others place pieces rest in
     let bodies = made_drafts flat own others place pieces rest in
     let log : c.commit_character.new.self.log ≡ with_drafts flat.site bodies flat.log =
-    c.in_ok-commit_character.ensures.log ∙ (λ i. with_drafts (c.self.view_is i).site (sym (c.requires.drafts others) i) (c.self.view_is i).log) in
+    c.in_ok-commit_character.ensures.makes.log ∙ (λ i. with_drafts (c.self.view_is i).site (sym (c.requires.drafts others) i) (c.self.view_is i).log) in
     let made = made_is flat own others place pieces rest is c.requires.pieces c.utf8.rest fit.0 in
     let doc : seen c.commit_character.new.self edited.marks edited.tags ≡ logged flat bodies edited =
-    seen_made flat edited bodies c.commit_character.new.self log c.in_ok-commit_character.ensures.cells (c.commit_character.ensures.site ∙ ap (λ (f : DocValue). f.site) c.self.view_is) (c.commit_character.ensures.limit ∙ ap (λ (f : DocValue). f.limit) c.self.view_is) refl made in
+    seen_made flat edited bodies c.commit_character.new.self log c.in_ok-commit_character.ensures.makes.cells (c.commit_character.ensures.makes.site ∙ ap (λ (f : DocValue). f.site) c.self.view_is) (c.commit_character.ensures.makes.limit ∙ ap (λ (f : DocValue). f.limit) c.self.view_is) refl made in
     let marks : c.insert_all.new.marks ≡ edited.marks = c.insert_all.ensures.marks ∙ (λ i. marks_inserted (here i) (length (sym comes i).cells) (c.self.view_is i).marks) in
     let tags : c.self.inside.tags.names ≡ edited.tags = ap (λ (f : DocValue). f.tags) c.self.view_is ∙ sym (ap (λ (new : Insertion). new.tags) comes) in
     let own_after : c.insert_all.new.widget ≡ record (own_inserted point (length new.cells) own) { sel = new.sel } =
@@ -176,7 +176,7 @@ returns g c =
           ∙ ap (λ (f : DocValue). record { doc = f; own = record (own_inserted point (length new.cells) own) { sel = new.sel }; others = with_selections new.others (map (own_inserted point (length new.cells)) others) }) doc
           ∙ sym (put_made flat own others place pieces rest);
       checked = (λ i. first_of (late_checks flat (record { doc = doc i; own = own; others = others })))
-          ∙ sym (refused_made flat own others place pieces rest is) ∙ sym refused ∙ c.in_ok-commit_character.ensures.fits;
+          ∙ sym (refused_made flat own others place pieces rest is) ∙ sym refused ∙ c.in_ok-commit_character.ensures.makes.fits;
       err = tt;
       unchanged = tt;
       own = subst (λ (p : _). p) (λ i. IsOwnOf (length (text_of (sym doc i).cells)) (sym own_after i)) (own_made flat own others place pieces rest is c.requires.pieces listed c.requires.own);
