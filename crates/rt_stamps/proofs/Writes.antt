@@ -5,8 +5,11 @@ use Rattle.std.specs.Io.KnownBytes.{Appends, Keeps}
 use Rattle.std.proofs.lemmas.List.{take_all, length-drop}
 use Rattle.std.proofs.lemmas.Grind.{flat_map-append}
 use Rattle.std.specs.List.{flat_map}
-use Rattle.std.proofs.Common.{arith, drop-cons, add-one, get_or, ◌-◌, ◌<◌}
-use Rattle.rt_stamps.specs.Written.{AppendsPart, Wrote}
+use Rattle.std.proofs.Common.{arith, drop-cons, add-one, get_or, ◌-◌, ◌<◌, add-zero}
+use Rattle.rt_stamps.specs.declared.fault.Fault.{Fault}
+use Rattle.rt_stamps.specs.Source.{failures_of}
+use Rattle.rt_stamps.specs.Streams.{Stream}
+use Rattle.rt_stamps.specs.Written.{AppendsPart, Wrote, WritesText}
 
 pub appends_then : (a b c : Option (List ℕ)) (s t : List ℕ) → Appends a b s → Appends b c t → Appends a c (s ++ t)
 appends_then None b c s t h k = tt
@@ -62,3 +65,27 @@ pub flat_map_parts : {X : Type 0} (f : X → List ℕ) (xs : List X) (i : ℕ) (
 flat_map_parts f xs i d h =
     ap (flat_map f) (sym (take-append-drop i xs) ∙ ap (λ v. take i xs ++ v) (drop-cons xs i d h ∙ ap (λ n. get_or xs i d ∷ drop n xs) (sym (add-one i))))
     ∙ flat_map-append f (take i xs) (get_or xs i d ∷ drop (i + 1) xs) ∙ sym (append_assoc (flat_map f (take i xs)) (f (get_or xs i d)) (flat_map f (drop (i + 1) xs)))
+
+-- a text, after one that was written
+pub writes_then : {T U : Type 0} (a b c : Stream) (x : T) (r : Result U Fault) (s t : List ℕ) → WritesText {T = T} a b (Ok x) s → WritesText b c r t
+    → WritesText a c r (s ++ t)
+writes_then a b c x r s t h k = record {
+  wrote = wrote_then a.bytes b.bytes c.bytes r s t h.wrote k.wrote;
+  fault = k.fault;
+  failures = k.failures ∙ ap (λ n. n + failures_of r) (h.failures ∙ add-zero _);
+}
+
+-- a text whose front could not be written
+pub writes_front : {T U : Type 0} (a b : Stream) (e : Fault) (s t : List ℕ) → WritesText {T = T} a b (Err e) s
+    → WritesText {T = U} a b (Err e) (s ++ t)
+writes_front a b e s t h = record { wrote = part_longer a.bytes b.bytes s t h.wrote; fault = h.fault; failures = h.failures }
+
+-- the texts of a list, where one of them could not be written
+pub writes_until : {T U X : Type 0} (f : X → List ℕ) (a b c : Stream) (e : Fault) (xs : List X) (i : ℕ) (d : X) → i < length xs
+    → Appends a.bytes b.bytes (flat_map f (take i xs)) → b.failures ≡ a.failures
+    → WritesText {T = T} b c (Err e) (f (get_or xs i d)) → WritesText {T = U} a c (Err e) (flat_map f xs)
+writes_until f a b c e xs i d l h n k = record {
+  wrote = rw (flat_map_parts f xs i d l) (part_longer a.bytes c.bytes _ _ (part_then a.bytes b.bytes c.bytes _ _ h k.wrote));
+  fault = k.fault;
+  failures = k.failures ∙ ap (λ m. m + 1) n;
+}

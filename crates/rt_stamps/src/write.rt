@@ -1,16 +1,13 @@
 // Whole pieces, written.
-ghost use Rattle.std.specs.Prelude.{◌≡◌, ◌+◌, IsOkUnless};
-ghost use Rattle.rt_stamps.specs.Written.{Wrote};
-ghost use Rattle.rt_stamps.specs.Source.{failures_of};
+ghost use Rattle.std.specs.Prelude.{◌+◌};
+ghost use Rattle.rt_stamps.specs.Written.{WritesText};
 
 use crate::{Fault, Sink};
 
 /// Writes a piece whole, in as many writes as the sink asks for, the first of them with the whole
 /// piece. `WriteFault` where a write fails or takes nothing; a front of the piece was then written.
 pub fn write_all<W: Sink>(out: &mut W, piece: &[u8]) -> Result<(), Fault>
-    ensures wrote { Wrote (W.stream out.old).bytes (W.stream out.new).bytes result piece.now }
-    ensures fault { IsOkUnless result Fault.WriteFault }
-    ensures failures { (W.stream out.new).failures ≡ (W.stream out.old).failures + failures_of result }
+    ensures { WritesText (W.stream out.old) (W.stream out.new) result piece.now }
 {
     let mut done = 0;
     while done < piece.len() {

@@ -1,4 +1,4 @@
-use Rattle.std.proofs.Common.{arith}
+use Rattle.std.proofs.Common.{arith, refl, ◌∙◌, ap, ◌+◌}
 use Rattle.std.proofs.lemmas.List.{length-drop}
 use Rattle.std.proofs.lemmas.Bool.Decides.{nat_tests}
 use Rattle.rt_stamps.proofs.Writes.{taken_more, part_taken, part_failed, slice_rest}
@@ -11,8 +11,16 @@ loop-done-preserved g c = record {
   wrote = taken_more _ _ _ c.loop-done.done c.in-Ok.n c.args.piece.now c.loop-done.invariant.wrote (rw slice_rest at c.in-Ok.ensures.bytes);
 }
 
-pub returns-in-Err-clause-wrote : goal.returns-in-Err-clause-wrote
-returns-in-Err-clause-wrote g c = part_failed _ _ _ c.loop-done.done c.args.piece.now c.loop-done.invariant.wrote c.in-Err.ensures.bytes
+pub returns-in-Err : goal.returns-in-Err
+returns-in-Err g c = record {
+  wrote = part_failed _ _ _ c.loop-done.done c.args.piece.now c.loop-done.invariant.wrote c.in-Err.ensures.bytes;
+  fault = refl;
+  failures = c.in-Err.ensures.failures ∙ ap (λ n. n + 1) c.loop-done.invariant.failures;
+}
 
-pub returns-then-n-eq0-clause-wrote : goal.returns-then-n-eq0-clause-wrote
-returns-then-n-eq0-clause-wrote g c = part_taken _ _ _ c.loop-done.done c.args.piece.now c.loop-done.invariant.wrote (rw c.if-n-eq0.true at c.in-Ok.ensures.bytes)
+pub returns-then-n-eq0 : goal.returns-then-n-eq0
+returns-then-n-eq0 g c = record {
+  wrote = part_taken _ _ _ c.loop-done.done c.args.piece.now c.loop-done.invariant.wrote (rw c.if-n-eq0.true at c.in-Ok.ensures.bytes);
+  fault = refl;
+  failures = grind (arith, c.in-Ok.ensures.failures, c.loop-done.invariant.failures, nat_tests);
+}
