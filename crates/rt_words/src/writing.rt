@@ -1,10 +1,9 @@
 // Words, written.
-ghost use Rattle.std.specs.Prelude.{◌≡◌, ◌+◌, ◌<◌, ◌∷◌, ◌++◌, [], IsOkUnless, flat_map, encode_utf8, encode_utf8_all};
+ghost use Rattle.std.specs.Prelude.{◌≡◌, ◌+◌, ◌<◌, ◌∷◌, ◌++◌, [], flat_map, encode_utf8, encode_utf8_all};
 ghost use Rattle.std.specs.List.{list_any};
-ghost use Rattle.rt_stamps.specs.Source.{failures_of};
 ghost use Rattle.rt_words.specs.Spelling.{escape_of};
 ghost use Rattle.rt_words.specs.Writing.{needs_quotes, text_of_word};
-ghost use Rattle.rt_stamps.specs.Written.{Wrote};
+ghost use Rattle.rt_stamps.specs.Written.{WritesText};
 
 use rt_stamps::{Fault, Sink, write_all};
 
@@ -12,9 +11,7 @@ use rt_stamps::{Fault, Sink, write_all};
 /// return, a quote, a backslash or a brace. `WriteFault` where a write fails or takes nothing; a
 /// front of the word was then written.
 pub fn write_word<W: Sink>(word: &str, out: &mut W) -> Result<(), Fault>
-    ensures wrote { Wrote (W.stream out.old).bytes (W.stream out.new).bytes result (text_of_word word.now) }
-    ensures fault { IsOkUnless result Fault.WriteFault }
-    ensures failures { (W.stream out.new).failures ≡ (W.stream out.old).failures + failures_of result }
+    ensures { WritesText (W.stream out.old) (W.stream out.new) result (text_of_word word.now) }
 {
     let bytes = word.as_bytes();
     if bytes.is_empty() || has_quoted(bytes) {
@@ -43,9 +40,7 @@ fn needs_quotes(byte: u8) -> bool
 }
 
 fn write_quoted<W: Sink>(word: &[u8], out: &mut W) -> Result<(), Fault>
-    ensures wrote { Wrote (W.stream out.old).bytes (W.stream out.new).bytes result (34 ∷ flat_map escape_of word.now ++ (34 ∷ [])) }
-    ensures fault { IsOkUnless result Fault.WriteFault }
-    ensures failures { (W.stream out.new).failures ≡ (W.stream out.old).failures + failures_of result }
+    ensures { WritesText (W.stream out.old) (W.stream out.new) result (34 ∷ flat_map escape_of word.now ++ (34 ∷ [])) }
 {
     write_all(out, b"\"")?;
     write_all_escaped(word, out)?;
@@ -53,9 +48,7 @@ fn write_quoted<W: Sink>(word: &[u8], out: &mut W) -> Result<(), Fault>
 }
 
 fn write_all_escaped<W: Sink>(word: &[u8], out: &mut W) -> Result<(), Fault>
-    ensures wrote { Wrote (W.stream out.old).bytes (W.stream out.new).bytes result (flat_map escape_of word.now) }
-    ensures fault { IsOkUnless result Fault.WriteFault }
-    ensures failures { (W.stream out.new).failures ≡ (W.stream out.old).failures + failures_of result }
+    ensures { WritesText (W.stream out.old) (W.stream out.new) result (flat_map escape_of word.now) }
 {
     for byte in word {
         write_escaped(*byte, out)?;
@@ -64,9 +57,7 @@ fn write_all_escaped<W: Sink>(word: &[u8], out: &mut W) -> Result<(), Fault>
 }
 
 fn write_escaped<W: Sink>(byte: u8, out: &mut W) -> Result<(), Fault>
-    ensures wrote { Wrote (W.stream out.old).bytes (W.stream out.new).bytes result (escape_of byte) }
-    ensures fault { IsOkUnless result Fault.WriteFault }
-    ensures failures { (W.stream out.new).failures ≡ (W.stream out.old).failures + failures_of result }
+    ensures { WritesText (W.stream out.old) (W.stream out.new) result (escape_of byte) }
 {
     match byte {
         b'\n' => write_all(out, b"\\n"),
@@ -80,9 +71,7 @@ fn write_escaped<W: Sink>(byte: u8, out: &mut W) -> Result<(), Fault>
 
 /// Writes the word that has these characters, as `write_word` does.
 pub fn write_text<W: Sink>(text: &[char], out: &mut W) -> Result<(), Fault>
-    ensures wrote { Wrote (W.stream out.old).bytes (W.stream out.new).bytes result (text_of_word (encode_utf8_all text.now)) }
-    ensures fault { IsOkUnless result Fault.WriteFault }
-    ensures failures { (W.stream out.new).failures ≡ (W.stream out.old).failures + failures_of result }
+    ensures { WritesText (W.stream out.old) (W.stream out.new) result (text_of_word (encode_utf8_all text.now)) }
 {
     if text.is_empty() {
         return write_all(out, b"\"\"");
@@ -108,9 +97,7 @@ fn is_quoted_character(character: char) -> bool
 }
 
 fn write_bare_text<W: Sink>(text: &[char], out: &mut W) -> Result<(), Fault>
-    ensures wrote { Wrote (W.stream out.old).bytes (W.stream out.new).bytes result (flat_map encode_utf8 text.now) }
-    ensures fault { IsOkUnless result Fault.WriteFault }
-    ensures failures { (W.stream out.new).failures ≡ (W.stream out.old).failures + failures_of result }
+    ensures { WritesText (W.stream out.old) (W.stream out.new) result (flat_map encode_utf8 text.now) }
 {
     for character in text {
         write_character(*character, out)?;
@@ -119,19 +106,15 @@ fn write_bare_text<W: Sink>(text: &[char], out: &mut W) -> Result<(), Fault>
 }
 
 fn write_character<W: Sink>(character: char, out: &mut W) -> Result<(), Fault>
-    ensures wrote { Wrote (W.stream out.old).bytes (W.stream out.new).bytes result (encode_utf8 character) }
-    ensures fault { IsOkUnless result Fault.WriteFault }
-    ensures failures { (W.stream out.new).failures ≡ (W.stream out.old).failures + failures_of result }
+    ensures { WritesText (W.stream out.old) (W.stream out.new) result (encode_utf8 character) }
 {
     let mut buffer = [0; 4];
     write_all(out, character.encode_utf8(&mut buffer).as_bytes())
 }
 
 fn write_quoted_text<W: Sink>(text: &[char], out: &mut W) -> Result<(), Fault>
-    ensures wrote { Wrote (W.stream out.old).bytes (W.stream out.new).bytes result (34 ∷ flat_map (λ c. flat_map escape_of (encode_utf8 c)) text.now
+    ensures { WritesText (W.stream out.old) (W.stream out.new) result (34 ∷ flat_map (λ c. flat_map escape_of (encode_utf8 c)) text.now
         ++ (34 ∷ [])) }
-    ensures fault { IsOkUnless result Fault.WriteFault }
-    ensures failures { (W.stream out.new).failures ≡ (W.stream out.old).failures + failures_of result }
 {
     write_all(out, b"\"")?;
     write_escaped_text(text, out)?;
@@ -139,9 +122,7 @@ fn write_quoted_text<W: Sink>(text: &[char], out: &mut W) -> Result<(), Fault>
 }
 
 fn write_escaped_text<W: Sink>(text: &[char], out: &mut W) -> Result<(), Fault>
-    ensures wrote { Wrote (W.stream out.old).bytes (W.stream out.new).bytes result (flat_map (λ c. flat_map escape_of (encode_utf8 c)) text.now) }
-    ensures fault { IsOkUnless result Fault.WriteFault }
-    ensures failures { (W.stream out.new).failures ≡ (W.stream out.old).failures + failures_of result }
+    ensures { WritesText (W.stream out.old) (W.stream out.new) result (flat_map (λ c. flat_map escape_of (encode_utf8 c)) text.now) }
 {
     for character in text {
         write_escaped_character(*character, out)?;
@@ -150,9 +131,7 @@ fn write_escaped_text<W: Sink>(text: &[char], out: &mut W) -> Result<(), Fault>
 }
 
 fn write_escaped_character<W: Sink>(character: char, out: &mut W) -> Result<(), Fault>
-    ensures wrote { Wrote (W.stream out.old).bytes (W.stream out.new).bytes result (flat_map escape_of (encode_utf8 character)) }
-    ensures fault { IsOkUnless result Fault.WriteFault }
-    ensures failures { (W.stream out.new).failures ≡ (W.stream out.old).failures + failures_of result }
+    ensures { WritesText (W.stream out.old) (W.stream out.new) result (flat_map escape_of (encode_utf8 character)) }
 {
     let mut buffer = [0; 4];
     write_all_escaped(character.encode_utf8(&mut buffer).as_bytes(), out)
