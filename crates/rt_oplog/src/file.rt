@@ -1,9 +1,7 @@
 // The operation file of a log.
-ghost use Rattle.std.specs.Prelude.{◌≡◌, ◌+◌, ◌<◌, ◌⊎◌, length, map, reverse, None, IsOkUnless, OnOk, MatchResult};
+ghost use Rattle.std.specs.Prelude.{◌<◌, length, map, reverse, None, OnOk};
 ghost use Rattle.std.specs.List.{AllByRecursion, flat_map};
-ghost use Rattle.rt_stamps.specs.declared.fault.Fault.TheVariants.{NoMemory, WriteFault};
-ghost use Rattle.rt_stamps.specs.Source.{failures_of};
-ghost use Rattle.rt_stamps.specs.Written.{Wrote};
+ghost use Rattle.rt_stamps.specs.Written.{WritesBuffered, WritesText};
 ghost use Rattle.rt_ops.specs.File.{spelling, magic, record_of, HasRecord};
 ghost use Rattle.rt_ops.specs.Reading.{offsets_from, Reads};
 ghost use Rattle.rt_oplog.specs.Kept.{op_at};
@@ -15,9 +13,7 @@ use std::alloc::Global;
 
 #[tactic(auto, unfolding(rt_ops::specs::File::magic))]
 fn write_magic<W: Sink>(out: &mut W) -> Result<(), Fault>
-    ensures wrote { Wrote (W.stream out.old).bytes (W.stream out.new).bytes result magic }
-    ensures fault { IsOkUnless result WriteFault }
-    ensures failures { (W.stream out.new).failures ≡ (W.stream out.old).failures + failures_of result }
+    ensures { WritesText (W.stream out.old) (W.stream out.new) result magic }
 {
     write_all(out, b"RGATEXT1")
 }
@@ -30,12 +26,8 @@ fn write_records<W: Sink>(
     out: &mut W,
 ) -> Result<(), Fault>
     requires { AllByRecursion (λ place. place < length ops.now) places.now }
-    ensures wrote { Wrote (W.stream out.old).bytes (W.stream out.new).bytes result (flat_map record_of (map (op_at ops.now) places.now)) }
+    ensures writes { WritesBuffered (W.stream out.old) (W.stream out.new) result (flat_map record_of (map (op_at ops.now) places.now)) }
     ensures records { OnOk result (AllByRecursion HasRecord (map (op_at ops.now) places.now)) }
-    ensures failures { MatchResult result
-        (λ _. (W.stream out.new).failures ≡ (W.stream out.old).failures)
-        (λ fault. ((fault ≡ NoMemory) × ((W.stream out.new).failures ≡ (W.stream out.old).failures))
-        ⊎ ((fault ≡ WriteFault) × ((W.stream out.new).failures ≡ (W.stream out.old).failures + 1))) }
 {
     for place in places {
         spell(record, &ops[*place])?;
@@ -49,13 +41,9 @@ fn write_records<W: Sink>(
 /// `MOST_BYTES`). `NoMemory` where the buffer could not grow, `WriteFault` where a write failed; a front
 /// of the file was then written.
 pub fn write_file<W: Sink>(alloc: Global, log: &OpLog, out: &mut W) -> Result<(), Fault>
-    ensures wrote { Wrote (W.stream out.old).bytes (W.stream out.new).bytes result (spelling (reverse log.now.operations)) }
+    ensures writes { WritesBuffered (W.stream out.old) (W.stream out.new) result (spelling (reverse log.now.operations)) }
     ensures read_back { OnOk result
         (Reads (spelling (reverse log.now.operations)) (reverse log.now.operations) (offsets_from 8 (reverse log.now.operations)) None) }
-    ensures failures { MatchResult result
-        (λ _. (W.stream out.new).failures ≡ (W.stream out.old).failures)
-        (λ fault. ((fault ≡ NoMemory) × ((W.stream out.new).failures ≡ (W.stream out.old).failures))
-        ⊎ ((fault ≡ WriteFault) × ((W.stream out.new).failures ≡ (W.stream out.old).failures + 1))) }
 {
     write_magic(out)?;
     let (ops, blocks) = log.blocks();

@@ -1,4 +1,4 @@
-use Rattle.std.proofs.Common.{◌<◌, ◌∙◌, ap, length, subst}
+use Rattle.std.proofs.Common.{◌<◌, ◌+◌, inl, inr, ◌∙◌, ap, length, subst}
 use Rattle.std.specs.List.{AllByRecursion}
 use Rattle.std.proofs.lemmas.List.{take_all}
 use Rattle.std.proofs.lemmas.Result.{err_from_is_err_and}
@@ -11,10 +11,11 @@ use Rattle.rt_oplog.proofs.ReadBack.{written_is_read}
 use Rattle.rt_oplog.proofs.Writing.{part_block}
 use Rattle.rt_oplog.proofs.file.write_file.Goals as goal
 
-pub returns-in_err-write_magic-clause-wrote : goal.returns-in_err-write_magic-clause-wrote
-returns-in_err-write_magic-clause-wrote g c =
+pub returns-in_err-write_magic-clause-writes : goal.returns-in_err-write_magic-clause-writes
+returns-in_err-write_magic-clause-writes g c =
     let p = err_from_is_err_and c.from_residual.result c.from_residual.ensures.1 in
-    rw p.1 (part_longer _ _ magic _ c.in_err-write_magic.ensures.wrote)
+    let written = c.in_err-write_magic.ensures in
+    rw (p.1, p.2) (record { wrote = part_longer _ _ magic _ written.wrote; failures = inr (written.fault, written.failures) })
 
 pub write_records-requires : goal.write_records-requires
 write_records-requires g c =
@@ -22,12 +23,19 @@ write_records-requires g c =
     rw c.deref.ensures.value
     (all_block (λ place. place < length ops) c.blocks-2.result.1.now c.loop-block.block-index c.block-item.result c.loop-block-test.true c.block-item.is c.blocks-2.ensures.within)
 
-pub returns-in_err-write_records-clause-wrote : goal.returns-in_err-write_records-clause-wrote
-returns-in_err-write_records-clause-wrote g c =
+pub returns-in_err-write_records-clause-writes : goal.returns-in_err-write_records-clause-writes
+returns-in_err-write_records-clause-writes g c =
     let p = err_from_is_err_and c.from_residual-in_err-write_records.result c.from_residual-in_err-write_records.ensures.1 in
-    rw (p.1, ← c.blocks-2.ensures.operations)
-    (part_block _ _ _ c.blocks-2.result.0.now c.blocks-2.result.1.now c.loop-block.block-index c.block-item.result c.loop-block-test.true c.block-item.is c.loop-block.invariant.wrote
-    (rw c.deref.ensures.value at c.in_err-write_records.ensures.wrote))
+    let written = c.in_err-write_records.ensures.writes in
+    let before = c.loop-block.invariant.failures in
+    rw (p.1, p.2, ← c.blocks-2.ensures.operations) (record {
+      wrote = part_block _ _ _ c.blocks-2.result.0.now c.blocks-2.result.1.now c.loop-block.block-index c.block-item.result c.loop-block-test.true c.block-item.is c.loop-block.invariant.wrote
+          (rw c.deref.ensures.value at written.wrote);
+      failures = elim written.failures [
+        | inl memory ↦ inl (memory.0, memory.1 ∙ before)
+        | inr failed ↦ inr (failed.0, failed.1 ∙ ap (λ n. n + 1) before)
+      ];
+    })
 
 pub returns-clause-read_back : goal.returns-clause-read_back
 returns-clause-read_back g c =
