@@ -1,8 +1,7 @@
 // The lines of operations, written.
-ghost use Rattle.std.specs.Prelude.{◌≡◌, ◌+◌, ◌∷◌, ◌++◌, [], IsOkUnless, codes, if◌then◌else◌};
+ghost use Rattle.std.specs.Prelude.{◌≡◌, ◌+◌, ◌∷◌, ◌++◌, [], codes, if◌then◌else◌};
 ghost use Rattle.std.specs.Fmt.{decimal};
-ghost use Rattle.rt_stamps.specs.Source.{failures_of};
-ghost use Rattle.rt_stamps.specs.Written.{Wrote};
+ghost use Rattle.rt_stamps.specs.Written.{WritesText};
 ghost use Rattle.rt_stamps.specs.Words.{as_words};
 ghost use Rattle.rt_ops.specs.Edits.{body_of};
 ghost use Rattle.rt_ops.specs.Operations.{Insert, Delete, Tag, stamp_of};
@@ -15,9 +14,7 @@ use rt_stamps::{Fault, Sink, Span, Stamp, write_all};
 /// Writes the line of each operation, in their order. `WriteFault` where a write fails or takes
 /// nothing; a front of the lines was then written. It takes no memory and checks no stamp.
 pub fn write_lines<W: Sink>(ops: &[Op], out: &mut W) -> Result<(), Fault>
-    ensures wrote { Wrote (W.stream out.old).bytes (W.stream out.new).bytes result (lines_of ops.now) }
-    ensures fault { IsOkUnless result Fault.WriteFault }
-    ensures failures { (W.stream out.new).failures ≡ (W.stream out.old).failures + failures_of result }
+    ensures { WritesText (W.stream out.old) (W.stream out.new) result (lines_of ops.now) }
 {
     for op in ops {
         write_line(op, out)?;
@@ -26,19 +23,15 @@ pub fn write_lines<W: Sink>(ops: &[Op], out: &mut W) -> Result<(), Fault>
 }
 
 fn write_line<W: Sink>(op: &Op, out: &mut W) -> Result<(), Fault>
-    ensures wrote { Wrote (W.stream out.old).bytes (W.stream out.new).bytes result (line_of op.now) }
-    ensures fault { IsOkUnless result Fault.WriteFault }
-    ensures failures { (W.stream out.new).failures ≡ (W.stream out.old).failures + failures_of result }
+    ensures { WritesText (W.stream out.old) (W.stream out.new) result (line_of op.now) }
 {
     write_op(op, out)?;
     write_all(out, b"\n")
 }
 
 fn write_op<W: Sink>(op: &Op, out: &mut W) -> Result<(), Fault>
-    ensures wrote { Wrote (W.stream out.old).bytes (W.stream out.new).bytes result ((kind_of op.now.body
+    ensures { WritesText (W.stream out.old) (W.stream out.new) result ((kind_of op.now.body
         ++ spaced (text_of_stamp (stamp_of op.now) ∷ codes "prev" ∷ decimal op.now.prev ∷ [])) ++ spaced (words_of op.now.body)) }
-    ensures fault { IsOkUnless result Fault.WriteFault }
-    ensures failures { (W.stream out.new).failures ≡ (W.stream out.old).failures + failures_of result }
 {
     write_head(op, out)?;
     write_edit(op.edit(), out)
@@ -46,10 +39,8 @@ fn write_op<W: Sink>(op: &Op, out: &mut W) -> Result<(), Fault>
 
 // Kind, stamp, and the count before it.
 fn write_head<W: Sink>(op: &Op, out: &mut W) -> Result<(), Fault>
-    ensures wrote { Wrote (W.stream out.old).bytes (W.stream out.new).bytes result (kind_of op.now.body
+    ensures { WritesText (W.stream out.old) (W.stream out.new) result (kind_of op.now.body
         ++ spaced (text_of_stamp (stamp_of op.now) ∷ codes "prev" ∷ decimal op.now.prev ∷ [])) }
-    ensures fault { IsOkUnless result Fault.WriteFault }
-    ensures failures { (W.stream out.new).failures ≡ (W.stream out.old).failures + failures_of result }
 {
     write_all(out, kind_of(op.edit()))?;
     let parts = [
@@ -79,9 +70,7 @@ fn kind_of(edit: &Edit) -> &'static [u8]
 }
 
 fn write_edit<W: Sink>(edit: &Edit, out: &mut W) -> Result<(), Fault>
-    ensures wrote { Wrote (W.stream out.old).bytes (W.stream out.new).bytes result (spaced (words_of (body_of edit.now))) }
-    ensures fault { IsOkUnless result Fault.WriteFault }
-    ensures failures { (W.stream out.new).failures ≡ (W.stream out.old).failures + failures_of result }
+    ensures { WritesText (W.stream out.old) (W.stream out.new) result (spaced (words_of (body_of edit.now))) }
 {
     match edit {
         Edit::Insert { after, tags, text } => write_insert(*after, tags, text.characters(), out),
@@ -96,9 +85,7 @@ fn write_insert<W: Sink>(
     text: &[char],
     out: &mut W,
 ) -> Result<(), Fault>
-    ensures wrote { Wrote (W.stream out.old).bytes (W.stream out.new).bytes result (spaced (words_of (Insert after (as_words tags.now) text.now))) }
-    ensures fault { IsOkUnless result Fault.WriteFault }
-    ensures failures { (W.stream out.new).failures ≡ (W.stream out.old).failures + failures_of result }
+    ensures { WritesText (W.stream out.old) (W.stream out.new) result (spaced (words_of (Insert after (as_words tags.now) text.now))) }
 {
     let parts = [
         Part::Letters(b"after"),
@@ -112,18 +99,14 @@ fn write_insert<W: Sink>(
 }
 
 fn write_delete<W: Sink>(spans: &[Span], out: &mut W) -> Result<(), Fault>
-    ensures wrote { Wrote (W.stream out.old).bytes (W.stream out.new).bytes result (spaced (words_of (Delete spans.now))) }
-    ensures fault { IsOkUnless result Fault.WriteFault }
-    ensures failures { (W.stream out.new).failures ≡ (W.stream out.old).failures + failures_of result }
+    ensures { WritesText (W.stream out.old) (W.stream out.new) result (spaced (words_of (Delete spans.now))) }
 {
     write_parts(&[Part::Letters(b"spans")], out)?;
     write_spans(spans, out)
 }
 
 fn write_tag<W: Sink>(on: bool, name: &str, spans: &[Span], out: &mut W) -> Result<(), Fault>
-    ensures wrote { Wrote (W.stream out.old).bytes (W.stream out.new).bytes result (spaced (words_of (Tag on name.now spans.now))) }
-    ensures fault { IsOkUnless result Fault.WriteFault }
-    ensures failures { (W.stream out.new).failures ≡ (W.stream out.old).failures + failures_of result }
+    ensures { WritesText (W.stream out.old) (W.stream out.new) result (spaced (words_of (Tag on name.now spans.now))) }
 {
     let parts = [
         Part::Letters(switch(on)),

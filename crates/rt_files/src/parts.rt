@@ -1,9 +1,8 @@
 // The words of a line, each written after a space.
-ghost use Rattle.std.specs.Prelude.{◌≡◌, ◌+◌, ◌∷◌, ◌++◌, IsOkUnless, flat_map, string_bytes};
+ghost use Rattle.std.specs.Prelude.{◌+◌, ◌∷◌, ◌++◌, flat_map, string_bytes};
 ghost use Rattle.std.specs.Fmt.{decimal};
-ghost use Rattle.rt_stamps.specs.Source.{failures_of};
 ghost use Rattle.rt_words.specs.Writing.{text_of_word};
-ghost use Rattle.rt_stamps.specs.Written.{Wrote};
+ghost use Rattle.rt_stamps.specs.Written.{WritesText};
 ghost use Rattle.rt_files.specs.Parts.{text_of_part};
 ghost use Rattle.rt_files.specs.Shown.{text_of_stamp, text_of_span};
 
@@ -27,9 +26,7 @@ pub enum Part<'a> {
 /// Writes the parts, a space before each. `WriteFault` after a failed write, and then a front of them was
 /// written.
 pub fn write_parts<W: Sink>(parts: &[Part<'_>], out: &mut W) -> Result<(), Fault>
-    ensures wrote { Wrote (W.stream out.old).bytes (W.stream out.new).bytes result (flat_map (λ part. 32 ∷ text_of_part part) parts.now) }
-    ensures fault { IsOkUnless result Fault.WriteFault }
-    ensures failures { (W.stream out.new).failures ≡ (W.stream out.old).failures + failures_of result }
+    ensures { WritesText (W.stream out.old) (W.stream out.new) result (flat_map (λ part. 32 ∷ text_of_part part) parts.now) }
 {
     for part in parts {
         write_spaced(*part, out)?;
@@ -40,9 +37,7 @@ pub fn write_parts<W: Sink>(parts: &[Part<'_>], out: &mut W) -> Result<(), Fault
 /// Writes the spans, a space before each. `WriteFault` after a failed write, and then a front of them was
 /// written.
 pub fn write_spans<W: Sink>(spans: &[Span], out: &mut W) -> Result<(), Fault>
-    ensures wrote { Wrote (W.stream out.old).bytes (W.stream out.new).bytes result (flat_map (λ span. 32 ∷ text_of_span span) spans.now) }
-    ensures fault { IsOkUnless result Fault.WriteFault }
-    ensures failures { (W.stream out.new).failures ≡ (W.stream out.old).failures + failures_of result }
+    ensures { WritesText (W.stream out.old) (W.stream out.new) result (flat_map (λ span. 32 ∷ text_of_span span) spans.now) }
 {
     for span in spans {
         write_spaced(Part::Span(*span), out)?;
@@ -53,9 +48,7 @@ pub fn write_spans<W: Sink>(spans: &[Span], out: &mut W) -> Result<(), Fault>
 /// Writes the names as words, a space before each. `WriteFault` after a failed write, and then a front of
 /// them was written.
 pub fn write_names<W: Sink>(names: &[String], out: &mut W) -> Result<(), Fault>
-    ensures wrote { Wrote (W.stream out.old).bytes (W.stream out.new).bytes result (flat_map (λ name. 32 ∷ text_of_word (string_bytes name)) names.now) }
-    ensures fault { IsOkUnless result Fault.WriteFault }
-    ensures failures { (W.stream out.new).failures ≡ (W.stream out.old).failures + failures_of result }
+    ensures { WritesText (W.stream out.old) (W.stream out.new) result (flat_map (λ name. 32 ∷ text_of_word (string_bytes name)) names.now) }
 {
     for name in names {
         write_spaced(Part::Name(name), out)?;
@@ -64,18 +57,14 @@ pub fn write_names<W: Sink>(names: &[String], out: &mut W) -> Result<(), Fault>
 }
 
 fn write_spaced<W: Sink>(part: Part<'_>, out: &mut W) -> Result<(), Fault>
-    ensures wrote { Wrote (W.stream out.old).bytes (W.stream out.new).bytes result (32 ∷ text_of_part part.entry) }
-    ensures fault { IsOkUnless result Fault.WriteFault }
-    ensures failures { (W.stream out.new).failures ≡ (W.stream out.old).failures + failures_of result }
+    ensures { WritesText (W.stream out.old) (W.stream out.new) result (32 ∷ text_of_part part.entry) }
 {
     write_all(out, b" ")?;
     write_part(part, out)
 }
 
 fn write_part<W: Sink>(part: Part<'_>, out: &mut W) -> Result<(), Fault>
-    ensures wrote { Wrote (W.stream out.old).bytes (W.stream out.new).bytes result (text_of_part part.entry) }
-    ensures fault { IsOkUnless result Fault.WriteFault }
-    ensures failures { (W.stream out.new).failures ≡ (W.stream out.old).failures + failures_of result }
+    ensures { WritesText (W.stream out.old) (W.stream out.new) result (text_of_part part.entry) }
 {
     match part {
         Part::Letters(letters) => write_all(out, letters),
@@ -88,27 +77,21 @@ fn write_part<W: Sink>(part: Part<'_>, out: &mut W) -> Result<(), Fault>
 }
 
 fn write_stamp<W: Sink>(stamp: Stamp, out: &mut W) -> Result<(), Fault>
-    ensures wrote { Wrote (W.stream out.old).bytes (W.stream out.new).bytes result (text_of_stamp stamp) }
-    ensures fault { IsOkUnless result Fault.WriteFault }
-    ensures failures { (W.stream out.new).failures ≡ (W.stream out.old).failures + failures_of result }
+    ensures { WritesText (W.stream out.old) (W.stream out.new) result (text_of_stamp stamp) }
 {
     write_number(stamp.count, out)?;
     write_behind(b'.', stamp.site as u64, out)
 }
 
 fn write_span<W: Sink>(span: Span, out: &mut W) -> Result<(), Fault>
-    ensures wrote { Wrote (W.stream out.old).bytes (W.stream out.new).bytes result (text_of_span span) }
-    ensures fault { IsOkUnless result Fault.WriteFault }
-    ensures failures { (W.stream out.new).failures ≡ (W.stream out.old).failures + failures_of result }
+    ensures { WritesText (W.stream out.old) (W.stream out.new) result (text_of_span span) }
 {
     write_number(span.site as u64, out)?;
     write_range(span.first, span.last, out)
 }
 
 fn write_range<W: Sink>(first: u64, last: u64, out: &mut W) -> Result<(), Fault>
-    ensures wrote { Wrote (W.stream out.old).bytes (W.stream out.new).bytes result (58 ∷ decimal first ++ (45 ∷ decimal last)) }
-    ensures fault { IsOkUnless result Fault.WriteFault }
-    ensures failures { (W.stream out.new).failures ≡ (W.stream out.old).failures + failures_of result }
+    ensures { WritesText (W.stream out.old) (W.stream out.new) result (58 ∷ decimal first ++ (45 ∷ decimal last)) }
 {
     write_behind(b':', first, out)?;
     write_behind(b'-', last, out)
@@ -116,18 +99,14 @@ fn write_range<W: Sink>(first: u64, last: u64, out: &mut W) -> Result<(), Fault>
 
 // A mark, and a number.
 fn write_behind<W: Sink>(mark: u8, number: u64, out: &mut W) -> Result<(), Fault>
-    ensures wrote { Wrote (W.stream out.old).bytes (W.stream out.new).bytes result (mark ∷ decimal number) }
-    ensures fault { IsOkUnless result Fault.WriteFault }
-    ensures failures { (W.stream out.new).failures ≡ (W.stream out.old).failures + failures_of result }
+    ensures { WritesText (W.stream out.old) (W.stream out.new) result (mark ∷ decimal number) }
 {
     write_all(out, &[mark])?;
     write_number(number, out)
 }
 
 fn write_number<W: Sink>(number: u64, out: &mut W) -> Result<(), Fault>
-    ensures wrote { Wrote (W.stream out.old).bytes (W.stream out.new).bytes result (decimal number) }
-    ensures fault { IsOkUnless result Fault.WriteFault }
-    ensures failures { (W.stream out.new).failures ≡ (W.stream out.old).failures + failures_of result }
+    ensures { WritesText (W.stream out.old) (W.stream out.new) result (decimal number) }
 {
     let mut buffer = Buffer::new();
     write_all(out, buffer.format(number).as_bytes())
