@@ -68,13 +68,39 @@ GivesNoLog file old new why =
     ((found : Fault × ℕ) × (why ≡ in_file file found) × FileGives old new (Err found))
     ⊎ ((why ≡ of_neither NoMemory) × FindsNoMemory old new)
 
--- Two files are joined: the bytes spell the join of their logs. Or the first file has no log, and the second is not read;
--- or the first has one, and the second has none; or both have, and these have no join, or it found no memory.
+-- the bytes spell the join of the logs of two files
+pub record AreJoined (first read second then : Stream) (bytes : List ℕ) : Type 0 where
+  pub one : List Operation
+  pub other : List Operation
+  pub log : List Operation
+  pub first_gives : FileGives first read (Ok one)
+  pub second_gives : FileGives second then (Ok other)
+  pub join : joined one other ≡ Ok log
+  pub spelled : bytes ≡ spelling (reverse log)
+
+-- the first file has no log, and the second is not read
+pub record FirstHasNone (first read second then : Stream) (why : JoinFault) : Type 0 where
+  pub none : GivesNoLog 1 first read why
+  pub unread : then ≡ second
+
+-- the first file has a log, and the second has none
+pub record SecondHasNone (first read second then : Stream) (why : JoinFault) : Type 0 where
+  pub one : List Operation
+  pub first_gives : FileGives first read (Ok one)
+  pub none : GivesNoLog 2 second then why
+
+-- both files have logs, and these have no join, or it found no memory, which is the fault of neither file
+pub record HaveNoJoin (first read second then : Stream) (why : JoinFault) : Type 0 where
+  pub one : List Operation
+  pub other : List Operation
+  pub fault : Fault
+  pub first_gives : FileGives first read (Ok one)
+  pub second_gives : FileGives second then (Ok other)
+  pub unjoined : (joined one other ≡ Err fault) ⊎ (fault ≡ NoMemory)
+  pub of_none : why ≡ of_neither fault
+
+-- Two files are joined; or the first has no log, or only the second has none, or their logs have no join.
 abbrev pub JoinsFiles : Stream → Stream → Stream → Stream → Result (Vec ℕ Global) JoinFault → Type 0
 JoinsFiles first read second then result = MatchResult result
-    (λ bytes. (one : List Operation) × (other : List Operation) × (log : List Operation)
-    × FileGives first read (Ok one) × FileGives second then (Ok other) × (joined one other ≡ Ok log) × (bytes.items ≡ spelling (reverse log)))
-    (λ why. (GivesNoLog 1 first read why × (then ≡ second))
-    ⊎ (((one : List Operation) × FileGives first read (Ok one) × GivesNoLog 2 second then why)
-    ⊎ ((one : List Operation) × (other : List Operation) × (fault : Fault) × (why ≡ of_neither fault)
-    × FileGives first read (Ok one) × FileGives second then (Ok other) × ((joined one other ≡ Err fault) ⊎ (fault ≡ NoMemory)))))
+    (λ bytes. AreJoined first read second then bytes.items)
+    (λ why. FirstHasNone first read second then why ⊎ SecondHasNone first read second then why ⊎ HaveNoJoin first read second then why)
