@@ -3,13 +3,15 @@ use Rattle.std.proofs.Common.{◌≡◌, ◌++◌, [], ℕ, List, ◌∷◌, Opt
 use Rattle.std.specs.List.{flat_map}
 use Rattle.std.proofs.lemmas.List.Folds.{flat_map-map}
 use Rattle.rt_words.specs.Writing.{text_of_word}
-use Rattle.rt_stamps.specs.Written.{Wrote}
+use Rattle.rt_stamps.specs.declared.fault.Fault.{Fault}
+use Rattle.rt_stamps.specs.Streams.{Stream}
+use Rattle.rt_stamps.specs.Written.{WritesText}
 use Rattle.rt_stamps.specs.Words.{as_words}
 
 -- the words of a reply, as texts and as bytes
-pub reply_words : {T E : Type 0} (a b : Option (List ℕ)) (r : Result T E) (ws : List (String Global)) → Wrote a b r (61 ∷ flat_map (λ w. 32 ∷ text_of_word (string_bytes w)) ws)
-    → Wrote a b r (61 ∷ flat_map (λ w. 32 ∷ text_of_word w) (as_words ws))
-reply_words a b r ws h = subst (λ v. Wrote a b r (61 ∷ v)) (sym (flat_map-map (λ w. 32 ∷ text_of_word w) (λ w. string_bytes w) ws)) h
+pub reply_words : {T : Type 0} (a b : Stream) (r : Result T Fault) (ws : List (String Global)) → WritesText a b r (61 ∷ flat_map (λ w. 32 ∷ text_of_word (string_bytes w)) ws)
+    → WritesText a b r (61 ∷ flat_map (λ w. 32 ∷ text_of_word w) (as_words ws))
+reply_words a b r ws h = subst (λ v. WritesText a b r (61 ∷ v)) (sym (flat_map-map (λ w. 32 ∷ text_of_word w) (λ w. string_bytes w) ws)) h
 
 -- the same of words that were put behind bytes
 pub pushed_words : (old new : List ℕ) (r : Option (Unit {0})) (ws : List (String Global)) → IfSome r (λ _. new ≡ old ++ ((61 ∷ flat_map (λ w. 32 ∷ text_of_word (string_bytes w)) ws) ++ (10 ∷ [])))

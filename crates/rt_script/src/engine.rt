@@ -1,10 +1,10 @@
 // Runs of scripts.
-ghost use Rattle.std.specs.Prelude.{◌≡◌, ℕ, ◌+◌, ◌<◌, ◌≤◌, ◌&&◌, ◌∷◌, ◌++◌, [], true, false, List, length, Some, IfOk, IsOkUnless, OnOk, IfSome, MatchOption};
+ghost use Rattle.std.specs.Prelude.{◌≡◌, ℕ, ◌+◌, ◌<◌, ◌≤◌, ◌&&◌, ◌∷◌, ◌++◌, [], true, false, List, length, Some, IsOkUnless, OnOk, IfSome, MatchOption};
 ghost use Rattle.std.specs.List.{list_all, prefix_len};
 ghost use Rattle.rt_script.specs.Lines.{cut, without_return, is_readable, is_silent, complete_of, rest_of, last_of, lines_of};
 ghost use Rattle.rt_words.specs.Spelling.{is_blank};
 ghost use Rattle.rt_stamps.specs.Source.{failures_of};
-ghost use Rattle.rt_stamps.specs.Written.{Wrote};
+ghost use Rattle.rt_stamps.specs.Written.{WritesText};
 ghost use Rattle.rt_words.specs.declared.spare.TheConstants.{MOST_WORDS};
 ghost use Rattle.rt_script.specs.Pieces.{is_inner, kept, RanLine, RanLines};
 ghost use Rattle.rt_script.specs.Replies.{reply_line};
@@ -190,9 +190,7 @@ fn write_answer<W: Sink>(
     answer: &Answer,
     out: &mut W,
 ) -> Result<(), Fault>
-    ensures wrote { Wrote (W.stream out.old).bytes (W.stream out.new).bytes result (reply_line answer.now) }
-    ensures fault { IsOkUnless result Fault.WriteFault }
-    ensures failures { (W.stream out.new).failures ≡ (W.stream out.old).failures + failures_of result }
+    ensures { WritesText (W.stream out.old) (W.stream out.new) result (reply_line answer.now) }
 {
     let empty = memory.answer(alloc);
     match rendered::<Brand, Brand>(empty, answer, Blank::new(1), Blank::new(1)) {

@@ -1,11 +1,10 @@
 // The lines of answers, written.
-ghost use Rattle.std.specs.Prelude.{◌≡◌, ◌+◌, ◌<◌, ◌∷◌, ◌++◌, [], IsOkUnless, IfSome, codes, flat_map, string_bytes};
+ghost use Rattle.std.specs.Prelude.{◌≡◌, ◌+◌, ◌<◌, ◌∷◌, ◌++◌, [], IfSome, codes, flat_map, string_bytes};
 ghost use Rattle.std.specs.Fmt.{decimal};
 ghost use Rattle.std.specs.List.{list_any};
 ghost use Rattle.rt_files.specs.Shown.{spaced};
-ghost use Rattle.rt_stamps.specs.Source.{failures_of};
 ghost use Rattle.rt_words.specs.Writing.{text_of_word};
-ghost use Rattle.rt_stamps.specs.Written.{Wrote};
+ghost use Rattle.rt_stamps.specs.Written.{WritesText};
 ghost use Rattle.rt_script.specs.Replies.{held_alone, held_by_name, text_of_answer, text_of_received, text_of_refusal, reply_line};
 
 use crate::Answer;
@@ -19,18 +18,14 @@ use rt_words::{has_quoted, write_word};
 /// are held, behind `=`, or behind its fault and the fault's offset. `WriteFault` where a write fails or takes
 /// nothing; a front of the line was then written.
 pub fn reply_line<W: Sink>(answer: &Answer, out: &mut W) -> Result<(), Fault>
-    ensures wrote { Wrote (W.stream out.old).bytes (W.stream out.new).bytes result (reply_line answer.now) }
-    ensures fault { IsOkUnless result Fault.WriteFault }
-    ensures failures { (W.stream out.new).failures ≡ (W.stream out.old).failures + failures_of result }
+    ensures { WritesText (W.stream out.old) (W.stream out.new) result (reply_line answer.now) }
 {
     write_answer(answer, out)?;
     write_all(out, b"\n")
 }
 
 fn write_answer<W: Sink>(answer: &Answer, out: &mut W) -> Result<(), Fault>
-    ensures wrote { Wrote (W.stream out.old).bytes (W.stream out.new).bytes result (text_of_answer answer.now) }
-    ensures fault { IsOkUnless result Fault.WriteFault }
-    ensures failures { (W.stream out.new).failures ≡ (W.stream out.old).failures + failures_of result }
+    ensures { WritesText (W.stream out.old) (W.stream out.new) result (text_of_answer answer.now) }
 {
     match answer {
         Answer::Replied(reply) => write_reply(&reply.words, out),
@@ -42,10 +37,8 @@ fn write_answer<W: Sink>(answer: &Answer, out: &mut W) -> Result<(), Fault>
 // What became of a file: how many of its operations were new, how many repeats, and how many are held, after why it was not
 // all received.
 fn write_received<W: Sink>(received: Received, out: &mut W) -> Result<(), Fault>
-    ensures wrote { Wrote (W.stream out.old).bytes (W.stream out.new).bytes result
+    ensures { WritesText (W.stream out.old) (W.stream out.new) result
         (text_of_received received.new received.repeats received.held received.fault) }
-    ensures fault { IsOkUnless result Fault.WriteFault }
-    ensures failures { (W.stream out.new).failures ≡ (W.stream out.old).failures + failures_of result }
 {
     match received.fault {
         Some((fault, offset)) => write_ended(fault, offset, received, out),
@@ -55,10 +48,8 @@ fn write_received<W: Sink>(received: Received, out: &mut W) -> Result<(), Fault>
 
 // The numbers of a whole file.
 fn write_taken<W: Sink>(received: Received, out: &mut W) -> Result<(), Fault>
-    ensures wrote { Wrote (W.stream out.old).bytes (W.stream out.new).bytes result
+    ensures { WritesText (W.stream out.old) (W.stream out.new) result
         (61 ∷ spaced (decimal received.new ∷ decimal received.repeats ∷ held_alone received.held)) }
-    ensures fault { IsOkUnless result Fault.WriteFault }
-    ensures failures { (W.stream out.new).failures ≡ (W.stream out.old).failures + failures_of result }
 {
     write_all(out, b"=")?;
     let parts = [
@@ -74,9 +65,7 @@ fn write_taken<W: Sink>(received: Received, out: &mut W) -> Result<(), Fault>
 
 // How many operations are held, where some are.
 fn write_held<W: Sink>(held: u64, out: &mut W) -> Result<(), Fault>
-    ensures wrote { Wrote (W.stream out.old).bytes (W.stream out.new).bytes result (spaced (held_by_name held)) }
-    ensures fault { IsOkUnless result Fault.WriteFault }
-    ensures failures { (W.stream out.new).failures ≡ (W.stream out.old).failures + failures_of result }
+    ensures { WritesText (W.stream out.old) (W.stream out.new) result (spaced (held_by_name held)) }
 {
     if held == 0 {
         return Ok(());
@@ -91,11 +80,9 @@ fn write_ended<W: Sink>(
     received: Received,
     out: &mut W,
 ) -> Result<(), Fault>
-    ensures wrote { Wrote (W.stream out.old).bytes (W.stream out.new).bytes result (text_of_refusal fault
+    ensures { WritesText (W.stream out.old) (W.stream out.new) result (text_of_refusal fault
         ++ (spaced (codes "at" ∷ decimal offset ∷ codes "new" ∷ decimal received.new ∷ codes "repeat" ∷ decimal received.repeats ∷ [])
         ++ spaced (held_by_name received.held))) }
-    ensures fault { IsOkUnless result Fault.WriteFault }
-    ensures failures { (W.stream out.new).failures ≡ (W.stream out.old).failures + failures_of result }
 {
     write_fault(fault, out)?;
     let parts = [
@@ -111,18 +98,14 @@ fn write_ended<W: Sink>(
 }
 
 fn write_fault<W: Sink>(fault: Fault, out: &mut W) -> Result<(), Fault>
-    ensures wrote { Wrote (W.stream out.old).bytes (W.stream out.new).bytes result (text_of_refusal fault) }
-    ensures fault { IsOkUnless result Fault.WriteFault }
-    ensures failures { (W.stream out.new).failures ≡ (W.stream out.old).failures + failures_of result }
+    ensures { WritesText (W.stream out.old) (W.stream out.new) result (text_of_refusal fault) }
 {
     write_all(out, b"! ")?;
     write_all(out, fault.text().as_bytes())
 }
 
 fn write_reply<W: Sink>(words: &[String], out: &mut W) -> Result<(), Fault>
-    ensures wrote { Wrote (W.stream out.old).bytes (W.stream out.new).bytes result (61 ∷ flat_map (λ w. 32 ∷ text_of_word (string_bytes w)) words.now) }
-    ensures fault { IsOkUnless result Fault.WriteFault }
-    ensures failures { (W.stream out.new).failures ≡ (W.stream out.old).failures + failures_of result }
+    ensures { WritesText (W.stream out.old) (W.stream out.new) result (61 ∷ flat_map (λ w. 32 ∷ text_of_word (string_bytes w)) words.now) }
 {
     write_all(out, b"=")?;
     write_words(words, out)
@@ -130,9 +113,7 @@ fn write_reply<W: Sink>(words: &[String], out: &mut W) -> Result<(), Fault>
 
 // A space before each word.
 fn write_words<W: Sink>(words: &[String], out: &mut W) -> Result<(), Fault>
-    ensures wrote { Wrote (W.stream out.old).bytes (W.stream out.new).bytes result (flat_map (λ w. 32 ∷ text_of_word (string_bytes w)) words.now) }
-    ensures fault { IsOkUnless result Fault.WriteFault }
-    ensures failures { (W.stream out.new).failures ≡ (W.stream out.old).failures + failures_of result }
+    ensures { WritesText (W.stream out.old) (W.stream out.new) result (flat_map (λ w. 32 ∷ text_of_word (string_bytes w)) words.now) }
 {
     for word in words {
         write_spaced(word, out)?;
@@ -141,9 +122,7 @@ fn write_words<W: Sink>(words: &[String], out: &mut W) -> Result<(), Fault>
 }
 
 fn write_spaced<W: Sink>(word: &str, out: &mut W) -> Result<(), Fault>
-    ensures wrote { Wrote (W.stream out.old).bytes (W.stream out.new).bytes result (32 ∷ text_of_word word.now) }
-    ensures fault { IsOkUnless result Fault.WriteFault }
-    ensures failures { (W.stream out.new).failures ≡ (W.stream out.old).failures + failures_of result }
+    ensures { WritesText (W.stream out.old) (W.stream out.new) result (32 ∷ text_of_word word.now) }
 {
     write_all(out, b" ")?;
     write_word(word, out)

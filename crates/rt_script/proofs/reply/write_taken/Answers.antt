@@ -1,9 +1,9 @@
 use Rattle.std.proofs.Common.{◌∷◌, []}
 use Rattle.std.proofs.lemmas.Result.{err_from_is_err_and}
-use Rattle.rt_stamps.proofs.Writes.{part_longer}
+use Rattle.rt_stamps.proofs.Writes.{writes_front}
 use Rattle.rt_script.proofs.reply.write_taken.Goals as goal
 
-pub returns-in_err-write_all-clause-wrote : goal.returns-in_err-write_all-clause-wrote
-returns-in_err-write_all-clause-wrote g c =
+pub returns-in_err-write_all : goal.returns-in_err-write_all
+returns-in_err-write_all g c =
     let p = err_from_is_err_and c.from_residual.result c.from_residual.ensures.1 in
-    rw p.1 (part_longer _ _ (61 ∷ []) _ c.in_err-write_all.ensures.wrote)
+    rw (p.1, p.2) (writes_front _ _ _ (61 ∷ []) _ c.in_err-write_all.ensures)
