@@ -121,7 +121,7 @@ pub fn planned_between(
         Ok(all) => all,
         Err(fault) => return Err(fault),
     };
-    let between = all.add_unlisted(alloc, states, site, selection, gap.left, gap.right, rest)?;
+    let between = all.add_unlisted(alloc, states, site, selection, gap, rest)?;
     let PlannedPieces {
         texts,
         characters,

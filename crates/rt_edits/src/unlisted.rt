@@ -17,7 +17,7 @@ ghost use Rattle.rt_edits.specs.PlannedPieces.{ArePlanned, AreSoFar};
 ghost use Rattle.rt_edits.specs.Selected.{selected_stamps};
 ghost use Rattle.rt_edits.specs.Selections.{with_stamps};
 
-use crate::inserting::Between;
+use crate::inserting::{Between, Gap};
 use crate::lists::{characters_of, tags_of_both};
 use crate::pieces::{PlannedPieces, names_of};
 use crate::stamps::select_new;
@@ -149,8 +149,8 @@ impl PlannedPieces {
         selection.has(stamp) || self.selected.contains(&stamp)
     }
 
-    /// Adds text without a list behind the pieces, or where they have no text, behind a left neighbour,
-    /// and answers the characters that stand between two others. Without a right neighbour the text
+    /// Adds text without a list behind the pieces, or where they have no text, behind the left neighbour of a
+    /// gap, and answers the characters that stand between two others. Without a right neighbour the text
     /// has no tags and isn't selected. `ClockSpent`, or want of memory.
     pub(crate) fn add_unlisted(
         &mut self,
@@ -158,39 +158,39 @@ impl PlannedPieces {
         states: &StateTable,
         site: Site,
         selection: &Selection,
-        left: Option<Cell<StateId>>,
-        right: Option<Cell<StateId>>,
+        gap: &Gap,
         rest: &str,
     ) -> Result<Option<Between>, Fault>
         requires count { self.old.texts.count ≤ GREATEST_COUNT }
         requires characters { self.old.characters ≤ self.old.texts.count }
-        requires left { IfSome left (λ cell. IsState states.now cell.state) }
-        requires right { IfSome right (λ cell. IsState states.now cell.state) }
+        requires left { IfSome gap.now.left (λ cell. IsState states.now cell.state) }
+        requires right { IfSome gap.now.right (λ cell. IsState states.now cell.state) }
         ensures drafts { OnOk result ((after : Stamp) (sel : List Stamp) (listed : List Word) (so_far : Insertion)
-            → IfSome right (λ cell. sel ≡ selected_stamps selection.now) → AreSoFar after sel listed self.old so_far
+            → IfSome gap.now.right (λ cell. sel ≡ selected_stamps selection.now) → AreSoFar after sel listed self.old so_far
             → map body_of (items_in self.new.texts.drafts)
             ≡ map body_of (items_in self.old.texts.drafts) ++ text_drafts MOST_CHARACTERS site.number so_far.count (behind after so_far.cells)
-            (tags_between (last_of (option_map (shown states.now) left) so_far.cells) (option_map (shown states.now) right)) (chars rest.now)) }
+            (tags_between (last_of (option_map (shown states.now) gap.now.left) so_far.cells) (option_map (shown states.now) gap.now.right)) (chars rest.now)) }
         ensures plans { IfOk result (λ between. (plan : Plan) (after : Stamp) (sel : List Stamp) (listed : List Word) (so_far : Insertion)
-            → IfSome right (λ cell. sel ≡ selected_stamps selection.now) → AreSoFar after sel listed self.old so_far
-            → IfSome left (λ cell. after ≡ cell.stamp) → ArePlanned plan self.new between
+            → IfSome gap.now.right (λ cell. sel ≡ selected_stamps selection.now) → AreSoFar after sel listed self.old so_far
+            → IfSome gap.now.left (λ cell. after ≡ cell.stamp) → ArePlanned plan self.new between
             → Plans plan sel so_far.others listed (with_unlisted site.number
-            (last_of (option_map (shown states.now) left) so_far.cells) (option_map (shown states.now) right) (chars rest.now) so_far)) }
-        ensures alone { IfOk result (λ between. right ≡ None → between ≡ None) }
+            (last_of (option_map (shown states.now) gap.now.left) so_far.cells) (option_map (shown states.now) gap.now.right) (chars rest.now) so_far)) }
+        ensures alone { IfOk result (λ between. gap.now.right ≡ None → between ≡ None) }
         ensures err { IfErr result (λ fault. (fault ≡ Fault.NoMemory) ⊎ ((fault ≡ Fault.ClockSpent)
             × ((after : Stamp) (sel : List Stamp) (listed : List Word) (so_far : Insertion)
-            → IfSome right (λ cell. sel ≡ selected_stamps selection.now) → AreSoFar after sel listed self.old so_far
+            → IfSome gap.now.right (λ cell. sel ≡ selected_stamps selection.now) → AreSoFar after sel listed self.old so_far
             → GREATEST_COUNT < so_far.count + counts_for
-            (tags_between (last_of (option_map (shown states.now) left) so_far.cells) (option_map (shown states.now) right)) (chars rest.now)))) }
+            (tags_between (last_of (option_map (shown states.now) gap.now.left) so_far.cells) (option_map (shown states.now) gap.now.right))
+            (chars rest.now)))) }
     {
         let text = characters_of(alloc, rest)?;
         let characters = text.characters();
         if characters.is_empty() {
             return Ok(None);
         }
-        let sides = self.sides(&left, &right);
+        let sides = self.sides(&gap.left, &gap.right);
         let count = self.texts.count;
-        let names = self.names_between(alloc, states, left, right)?;
+        let names = self.names_between(alloc, states, gap.left, gap.right)?;
         self.add_text(alloc, site, &names, characters)?;
         let Some((before, after)) = sides else {
             return Ok(None);

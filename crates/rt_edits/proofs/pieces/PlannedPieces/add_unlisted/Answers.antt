@@ -26,13 +26,13 @@ returns-then-is_empty-clause-drafts c = λ after sel listed so_far same h.
     let t = c.args.states.now in
     let none : chars c.args.rest.now ≡ [] = sym c.in_ok-text.ensures.ok ∙ sym c.characters-characters.ensures ∙ none_in c.characters-characters.result.now (length c.characters-characters.result.now) c.is_empty.result refl c.is_empty.ensures c.if-is_empty.true in
     no_drafts (map body_of (items_in c.args.self.now.texts.drafts)) c.args.site.number so_far.count (behind after so_far.cells)
-    (tags_between (last_of (option_map (shown t) c.args.left) so_far.cells) (option_map (shown t) c.args.right)) (chars c.args.rest.now) none
+    (tags_between (last_of (option_map (shown t) c.args.gap.now.left) so_far.cells) (option_map (shown t) c.args.gap.now.right)) (chars c.args.rest.now) none
 
 pub returns-then-is_empty-clause-plans : goal.returns-then-is_empty-clause-plans
 returns-then-is_empty-clause-plans c = λ plan after sel listed so_far same h a p.
     let t = c.args.states.now in
     let none : chars c.args.rest.now ≡ [] = sym c.in_ok-text.ensures.ok ∙ sym c.characters-characters.ensures ∙ none_in c.characters-characters.result.now (length c.characters-characters.result.now) c.is_empty.result refl c.is_empty.ensures c.if-is_empty.true in
-    plans_nothing plan after sel listed c.args.self.now c.args.site.number (last_of (option_map (shown t) c.args.left) so_far.cells) (option_map (shown t) c.args.right) (chars c.args.rest.now) so_far none h p
+    plans_nothing plan after sel listed c.args.self.now c.args.site.number (last_of (option_map (shown t) c.args.gap.now.left) so_far.cells) (option_map (shown t) c.args.gap.now.right) (chars c.args.rest.now) so_far none h p
 
 pub returns-in_err-add_text-clause-err : goal.returns-in_err-add_text-clause-err
 returns-in_err-add_text-clause-err c =
@@ -41,7 +41,7 @@ returns-in_err-add_text-clause-err c =
     let text_is : c.characters-characters.result.now ≡ chars c.args.rest.now = c.characters-characters.ensures ∙ c.in_ok-text.ensures.ok in
     rw (r.1, r.2) (spent
     (λ k after sel listed so_far same h.
-    let names_are : as_words c.deref.result.now ≡ tags_between (last_of (option_map (shown t) c.args.left) so_far.cells) (option_map (shown t) c.args.right) =
+    let names_are : as_words c.deref.result.now ≡ tags_between (last_of (option_map (shown t) c.args.gap.now.left) so_far.cells) (option_map (shown t) c.args.gap.now.right) =
     ap as_words c.deref.ensures.value ∙ c.in_ok-names.ensures.ok so_far.cells h.last in
     subst (λ (n : ℕ). GREATEST_COUNT < n) (λ i. h.count i + counts_for (names_are i) (text_is i)) k)
     c.in_err-add_text.ensures.err)
@@ -65,7 +65,7 @@ pub returns-in_default-clause-drafts : goal.returns-in_default-clause-drafts
 returns-in_default-clause-drafts c = λ after sel listed so_far same h.
     let t = c.args.states.now in
     let text_is : c.characters-characters.result.now ≡ chars c.args.rest.now = c.characters-characters.ensures ∙ c.in_ok-text.ensures.ok in
-    let names_are : as_words c.deref.result.now ≡ tags_between (last_of (option_map (shown t) c.args.left) so_far.cells) (option_map (shown t) c.args.right) =
+    let names_are : as_words c.deref.result.now ≡ tags_between (last_of (option_map (shown t) c.args.gap.now.left) so_far.cells) (option_map (shown t) c.args.gap.now.right) =
     ap as_words c.deref.ensures.value ∙ c.in_ok-names.ensures.ok so_far.cells h.last in
     c.in_ok-add_text.ensures.drafts
     ∙ (λ i. map body_of (items_in c.args.self.now.texts.drafts) ++ text_drafts MOST_CHARACTERS c.args.site.number (h.count i) (h.element i) (names_are i) (text_is i))
@@ -77,8 +77,8 @@ returns-in_default-clause-plans c = λ plan after sel listed so_far same h a p.
     let next = c.add_text.new.self in
     let site = c.args.site.number in
     let text = chars c.args.rest.now in
-    let left = last_of (option_map (shown t) c.args.left) so_far.cells in
-    let right = option_map (shown t) c.args.right in
+    let left = last_of (option_map (shown t) c.args.gap.now.left) so_far.cells in
+    let right = option_map (shown t) c.args.gap.now.right in
     let e = c.in_ok-add_text.ensures in
     let text_is : c.characters-characters.result.now ≡ text = c.characters-characters.ensures ∙ c.in_ok-text.ensures.ok in
     let names_are : as_words c.deref.result.now ≡ tags_between left right = ap as_words c.deref.ensures.value ∙ c.in_ok-names.ensures.ok so_far.cells h.last in
@@ -90,7 +90,7 @@ returns-in_default-clause-plans c = λ plan after sel listed so_far same h a p.
       element = e.behind ∙ (λ i. behind old.texts.behind (tagged_cells site old.texts.count (names_are i) (text_is i)));
       tags = e.names ∙ (λ i. as_words old.names.items ++ names_are i);
     } in
-    let never : (stamps : List Stamp) → are_among stamps left right ≡ false = λ stamps. not_both after sel listed old so_far t c.args.left c.args.right stamps h (sym c.sides-sides.ensures ∙ c.in_default.is) in
+    let never : (stamps : List Stamp) → are_among stamps left right ≡ false = λ stamps. not_both after sel listed old so_far t c.args.gap.now.left c.args.gap.now.right stamps h (sym c.sides-sides.ensures ∙ c.in_default.is) in
     plans_rest plan after sel listed old next site left right text so_far some h more p.characters
     ((λ i. with_stamps ((p.selected ∙ c.add_text.ensures.selected) i).items sel)
     ∙ sym (ap (λ b. selected_if b new_stamps (with_stamps old.selected.items sel)) (never (with_stamps old.selected.items sel))))
@@ -101,7 +101,7 @@ pub returns-clause-drafts : goal.returns-clause-drafts
 returns-clause-drafts c = λ after sel listed so_far same h.
     let t = c.args.states.now in
     let text_is : c.characters-characters.result.now ≡ chars c.args.rest.now = c.characters-characters.ensures ∙ c.in_ok-text.ensures.ok in
-    let names_are : as_words c.deref.result.now ≡ tags_between (last_of (option_map (shown t) c.args.left) so_far.cells) (option_map (shown t) c.args.right) =
+    let names_are : as_words c.deref.result.now ≡ tags_between (last_of (option_map (shown t) c.args.gap.now.left) so_far.cells) (option_map (shown t) c.args.gap.now.right) =
     ap as_words c.deref.ensures.value ∙ c.in_ok-names.ensures.ok so_far.cells h.last in
     c.in_ok-add_text.ensures.drafts
     ∙ (λ i. map body_of (items_in c.args.self.now.texts.drafts) ++ text_drafts MOST_CHARACTERS c.args.site.number (h.count i) (h.element i) (names_are i) (text_is i))
@@ -113,8 +113,8 @@ returns-clause-plans c = λ plan after sel listed so_far same h a p.
     let next : PlannedPieces = c.add_text.new.self in
     let site = c.args.site.number in
     let text = chars c.args.rest.now in
-    let left = last_of (option_map (shown t) c.args.left) so_far.cells in
-    let right = option_map (shown t) c.args.right in
+    let left = last_of (option_map (shown t) c.args.gap.now.left) so_far.cells in
+    let right = option_map (shown t) c.args.gap.now.right in
     let e = c.in_ok-add_text.ensures in
     let text_is : c.characters-characters.result.now ≡ text = c.characters-characters.ensures ∙ c.in_ok-text.ensures.ok in
     let names_are : as_words c.deref.result.now ≡ tags_between left right = ap as_words c.deref.ensures.value ∙ c.in_ok-names.ensures.ok so_far.cells h.last in
@@ -128,9 +128,9 @@ returns-clause-plans c = λ plan after sel listed so_far same h a p.
       tags = e.names ∙ (λ i. as_words old.names.items ++ names_are i);
     } in
     let both : (stamps : List Stamp) → are_among stamps left right ≡ (is_among stamps c.in-Some.before && is_among stamps c.in-Some.after) =
-    λ stamps. is_side after sel listed old so_far t c.args.left c.args.right c.in-Some.before c.in-Some.after stamps h a (sym c.sides-sides.ensures ∙ c.in-Some.is) in
+    λ stamps. is_side after sel listed old so_far t c.args.gap.now.left c.args.gap.now.right c.in-Some.before c.in-Some.after stamps h a (sym c.sides-sides.ensures ∙ c.in-Some.is) in
     let selection = selected_stamps c.args.selection.now in
-    let its : sel ≡ selection = sel_is c.args.right sel selection same (λ n. right_side old c.args.left c.args.right (c.in-Some.before, c.in-Some.after) (sym c.sides-sides.ensures ∙ c.in-Some.is) n) in
+    let its : sel ≡ selection = sel_is c.args.gap.now.right sel selection same (λ n. right_side old c.args.gap.now.left c.args.gap.now.right (c.in-Some.before, c.in-Some.after) (sym c.sides-sides.ensures ∙ c.in-Some.is) n) in
     let flag : c.selects_both-asked.result ≡ are_among (with_stamps old.selected.items sel) left right =
     c.selects_both-asked.ensures.both
     ∙ (λ i. is_among (with_stamps (c.add_text.ensures.selected i).items (sym its i)) c.in-Some.before && is_among (with_stamps (c.add_text.ensures.selected i).items (sym its i)) c.in-Some.after)
@@ -149,7 +149,7 @@ returns-clause-plans c = λ plan after sel listed so_far same h a p.
     sel_is (Some x) sel selection h n = h
 
 pub returns-clause-alone : goal.returns-clause-alone
-returns-clause-alone c = λ n. absurd (right_side c.args.self.now c.args.left c.args.right (c.in-Some.before, c.in-Some.after) (sym c.sides-sides.ensures ∙ c.in-Some.is) n)
+returns-clause-alone c = λ n. absurd (right_side c.args.self.now c.args.gap.now.left c.args.gap.now.right (c.in-Some.before, c.in-Some.after) (sym c.sides-sides.ensures ∙ c.in-Some.is) n)
 
 pub select_new-requires : goal.select_new-requires
 select_new-requires c =
