@@ -5,6 +5,9 @@ pub mod Inserting
 pub mod AskedOnce
 pub mod AskedAlways
 pub mod SpelledSearches
-pub mod SettingOptions
-pub mod SpelledOptions
+pub mod Numbers
+pub mod ReadSettings
+pub mod SpelledSettings
+pub mod SpelledEdits
 pub mod SpelledRequests
+pub mod WithoutLimits

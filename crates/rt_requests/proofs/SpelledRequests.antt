@@ -17,15 +17,16 @@ use Rattle.rt_requests.specs.declared.measure.Measure.TheVariants.{Chars, Indice
 use Rattle.rt_requests.specs.declared.request.MarkRequest.{MarkRequest}
 use Rattle.rt_requests.specs.declared.request.MarkRequest.TheVariants as marks
 use Rattle.rt_requests.specs.declared.request.Request.{Request}
-use Rattle.rt_requests.specs.declared.request.Request.TheVariants.{Insert, Delete, Replace, Get, Index, Compare, Count, Search, Dump, Mark, Tag, Edit, Configure, Cget}
+use Rattle.rt_requests.specs.declared.request.Request.TheVariants.{Insert, Delete, Replace, Get, Index, Compare, Count, Search, Dump, Mark, Tag, Edit, Configure, Cget, Peer}
 use Rattle.rt_requests.specs.declared.request.TagRequest.{TagRequest}
 use Rattle.rt_requests.specs.declared.request.TagRequest.TheVariants as tags
-use Rattle.rt_requests.specs.OptionWords.{option_word}
 use Rattle.rt_requests.specs.Parts.{PieceValue, all_of}
 use Rattle.rt_requests.specs.Asking.{AreTexts, Asked, Asks, CanBeAsked, as_request, asked_count, asked_distances, asked_dump, asked_elements}
 use Rattle.rt_requests.specs.Switches.{is_switch, kinds_of, measures_of, operator_of, shows_some, switch_of}
-use Rattle.rt_requests.proofs.SpelledOptions.{edit_asked, edit_words, option_asked, settings_asked, settings_words}
+use Rattle.rt_requests.proofs.ReadSettings.{named_word}
+use Rattle.rt_requests.proofs.SpelledEdits.{edit_asked, edit_words}
 use Rattle.rt_requests.proofs.SpelledSearches.{any_search_asked, maybe_word, search_words}
+use Rattle.rt_requests.proofs.SpelledSettings.{option_asked, peer_asked, peer_words, settings_asked, settings_words}
 
 -- TEXTS
 
@@ -195,6 +196,6 @@ spelled (Dump kinds from to) h =
 spelled (Mark request) h = (codes "mark" ∷ mark_words request, mark_asked request)
 spelled (Tag request) h = (codes "tag" ∷ tag_words request, tag_asked request)
 spelled (Edit request) h = (codes "edit" ∷ edit_words request, sym (edit_asked request))
-spelled (Configure settings) h =
-    (codes "configure" ∷ settings_words settings.undo settings.auto_separators, sym (ap (as_request Configure) (settings_asked settings.undo settings.auto_separators h)))
-spelled (Cget option) h = (codes "cget" ∷ option_word option ∷ [], sym (ap (as_request Cget) (option_asked option)))
+spelled (Configure settings) h = (codes "configure" ∷ settings_words settings, sym (ap (as_request Configure) (settings_asked settings h.1 h.0)))
+spelled (Cget option) h = (codes "cget" ∷ named_word option ∷ [], sym (ap (as_request Cget) (option_asked option)))
+spelled (Peer request) h = (codes "peer" ∷ peer_words request, sym (ap (as_request Peer) (peer_asked request h)))

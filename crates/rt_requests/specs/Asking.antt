@@ -1,5 +1,6 @@
 -- Which words ask a widget for what, and else the fault (Tk text manual): first an unknown command or a wrong number of words,
--- BadCommand, then an unknown operator, switch, gravity, option or value, BadOption, then a list of tags that spells no words, BadQuoting.
+-- BadCommand, then an unknown operator, switch, gravity, option or value, BadOption, then a list of tags that spells no words, BadQuoting,
+-- or a path that no widget can have, BadName.
 use Rattle.std.specs.Prelude.{◌≡◌, ◌⊎◌, List, [], ◌∷◌, take, drop, false, Option, Some, None, IsTrue, option_map, ok_or, Result, Ok, Err, MatchBool, codes, if◌then◌else◌}
 use Rattle.std.specs.List.{prefix_len}
 use Rattle.std.specs.Str.{bytes_eq}
@@ -8,12 +9,13 @@ use Rattle.rt_stamps.specs.declared.fault.Fault.TheVariants.{BadCommand, BadOpti
 use Rattle.rt_stamps.specs.Words.{Word}
 use Rattle.rt_words.specs.Spelling.{SpellsList}
 use Rattle.rt_requests.specs.declared.request.Request.{Request}
-use Rattle.rt_requests.specs.declared.request.Request.TheVariants.{Insert, Delete, Replace, Get, Index, Compare, Count, Search, Dump, Mark, Tag, Edit, Configure, Cget}
+use Rattle.rt_requests.specs.declared.request.Request.TheVariants.{Insert, Delete, Replace, Get, Index, Compare, Count, Search, Dump, Mark, Tag, Edit, Configure, Cget, Peer}
 use Rattle.rt_requests.specs.EditWords.{asked_of_edits}
 use Rattle.rt_requests.specs.MarkWords.{asked_of_marks}
-use Rattle.rt_requests.specs.OptionWords.{asked_option, asked_settings, sets_some}
 use Rattle.rt_requests.specs.Parts.{PieceValue, TextsValue, of_several}
+use Rattle.rt_requests.specs.PeerWords.{CanBeAskedOfPeers, asked_of_peers}
 use Rattle.rt_requests.specs.SearchWords.{asked_of_search}
+use Rattle.rt_requests.specs.SettingWords.{AreKept, asked_named_option, asked_settings, sets_some}
 use Rattle.rt_requests.specs.Switches.{comparison_of, is_switch, kinds_of, measures_of, shows_some}
 use Rattle.rt_requests.specs.TagWords.{asked_of_tags}
 
@@ -131,7 +133,8 @@ asked_of name words =
     else if bytes_eq name (codes "tag") then asked_tag words
     else if bytes_eq name (codes "edit") then asked_edit words
     else if bytes_eq name (codes "configure") then as_request Configure (asked_settings words)
-    else if bytes_eq name (codes "cget") then as_request Cget (asked_option words)
+    else if bytes_eq name (codes "cget") then as_request Cget (asked_named_option words)
+    else if bytes_eq name (codes "peer") then as_request Peer (asked_of_peers words)
     else Err BadCommand
 
 -- a command by its name
@@ -147,7 +150,7 @@ Asks (name ∷ words) asked = AsksOf name words asked
 
 -- What can be asked for: neither a count nor a dump from an index that begins with a minus, since such a word is read as a
 -- switch; nor a dump of no kind of elements, since that without switches is one of all kinds; nor settings of no option, since
--- `configure` names one at least.
+-- `configure` names one at least, or of a line by a number of more than 64 bits; nor a widget of a path that none can have.
 abbrev pub CanBeAsked : Request → Type 0
 CanBeAsked (Count measures from to) = is_switch from ≡ false
 CanBeAsked (Dump kinds from to) = IsTrue (shows_some kinds) × (is_switch from ≡ false)
@@ -161,5 +164,6 @@ CanBeAsked (Search request) = Unit {0}
 CanBeAsked (Mark request) = Unit {0}
 CanBeAsked (Tag request) = Unit {0}
 CanBeAsked (Edit request) = Unit {0}
-CanBeAsked (Configure settings) = IsTrue (sets_some settings)
+CanBeAsked (Configure settings) = IsTrue (sets_some settings) × AreKept settings
 CanBeAsked (Cget option) = Unit {0}
+CanBeAsked (Peer request) = CanBeAskedOfPeers request

@@ -1,9 +1,13 @@
 pub mod Asking
 pub mod EditWords
+pub mod LimitWords
 pub mod MarkWords
 pub mod OptionWords
 pub mod Parts
+pub mod Paths
+pub mod PeerWords
 pub mod SearchWords
+pub mod SettingWords
 pub mod Switches
 pub mod TagWords
 pub mod Truth

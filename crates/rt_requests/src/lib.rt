@@ -1,18 +1,24 @@
-//! Requests: what is asked of a widget, with its parts by name and type, and the words that ask for it.
+//! Requests: what is asked of a widget, with its parts by name and type, and the words that ask for it. So is what is
+//! asked of its peers, of its options, and of a site by the line `destroy PATH`.
 #![tactic(auto)]
 
 pub mod comparison;
 mod configuring;
+pub mod destroying;
 mod editing;
 pub mod kinds;
 pub mod laws;
+pub mod limits;
 mod marking;
 pub mod measure;
 pub mod options;
+pub mod path;
+pub mod peers;
 mod reading;
 pub mod request;
 mod search_switches;
 mod searching;
+pub mod settings;
 mod switches;
 mod tagging;
 pub mod texts;
@@ -20,9 +26,14 @@ mod undoing;
 pub mod word;
 
 pub use comparison::Comparison;
+pub use destroying::Destroy;
 pub use kinds::Kinds;
+pub use limits::Limit;
 pub use measure::{Measure, Measures};
-pub use options::{Settings, WidgetOption};
+pub use options::{NamedOption, Settings, WidgetOption};
+pub use path::Path;
+pub use peers::PeerRequest;
 pub use request::{EditRequest, MarkRequest, Request, SearchRequest, TagRequest, Wanted};
+pub use settings::WidgetSettings;
 pub use texts::{Piece, Texts};
 pub use word::{Word, Words};

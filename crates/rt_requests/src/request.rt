@@ -4,14 +4,16 @@ ghost use Rattle.rt_stamps.specs.Words.{as_words};
 ghost use Rattle.rt_requests.specs.Asking.{Asks, AsksOf};
 
 use crate::comparison::Comparison;
-use crate::configuring::{cget, configure};
+use crate::configuring::{cget, configure, peer};
 use crate::editing::{delete, insert, replace};
 use crate::kinds::Kinds;
 use crate::marking::mark;
 use crate::measure::Measures;
-use crate::options::{Settings, WidgetOption};
+use crate::options::NamedOption;
+use crate::peers::PeerRequest;
 use crate::reading::{compare, count, dump, get, index};
 use crate::searching::search;
+use crate::settings::WidgetSettings;
 use crate::tagging::tag;
 use crate::texts::Texts;
 use crate::undoing::edit;
@@ -75,12 +77,14 @@ pub enum Request<'a> {
     Edit(EditRequest),
     /// Options are set.
     Configure {
-        settings: Settings,
+        settings: WidgetSettings,
     },
     /// What an option is set to.
     Cget {
-        option: WidgetOption,
+        option: NamedOption,
     },
+    /// Something is asked of the widget's peers.
+    Peer(PeerRequest<'a>),
 }
 
 /// Which matches are wanted (Tk text manual, "search").
@@ -200,8 +204,8 @@ pub enum EditRequest {
 }
 
 impl<'a> Request<'a> {
-    /// What `COMMAND ?WORD ...?` asks for. Refused by the first of `BadCommand`, `BadOption` and
-    /// `BadQuoting` for a list of tags, and by want of memory in place of any.
+    /// What `COMMAND ?WORD ...?` asks for. Refused by the first of `BadCommand`, `BadOption`, and then `BadQuoting` for a
+    /// list of tags or `BadName` for the path of a new widget, and by want of memory in place of any.
     pub fn of(alloc: Global, words: &'a [String]) -> Result<Request<'a>, Fault>
         ensures { Asks (as_words words.now) result ⊎ (result ≡ Err Fault.NoMemory) }
     {
@@ -231,6 +235,7 @@ fn by_name<'a>(alloc: Global, name: &str, words: &'a [String]) -> Result<Request
         "edit" => edit(words),
         "configure" => configure(words),
         "cget" => cget(words),
+        "peer" => peer(words),
         _ => Err(Fault::BadCommand),
     }
 }

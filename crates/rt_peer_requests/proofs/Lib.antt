@@ -1,4 +1,0 @@
-pub mod Numbers
-pub mod ReadSettings
-pub mod Spelled
-pub mod WithoutLimits

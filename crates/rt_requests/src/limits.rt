@@ -1,0 +1,60 @@
+// Limits of what a widget shows.
+ghost use Rattle.std.specs.Prelude.{◌≡◌, ◌<◌, true, length};
+ghost use Rattle.std.specs.Char.{is_ascii_digit};
+ghost use Rattle.std.specs.List.{list_all};
+ghost use Rattle.std.specs.Str.{all_ascii_digits};
+ghost use Rattle.std.specs.Str.Parse.{digits_value};
+ghost use Rattle.rt_requests.specs.LimitWords.{limit_of, line_of};
+
+/// What a limit of a widget is set to (Tk text manual, -startline and -endline): a line of the shared text, by its
+/// number, or no limit.
+#[derive(Clone, Copy, Debug, PartialEq, Eq)]
+pub enum Limit {
+    /// No limit.
+    Absent,
+    /// A line by its number. It may be one that no line has.
+    Line(usize),
+    /// A line by a number that is too great to be kept. No text has so many lines.
+    PastEveryLine,
+}
+
+impl Limit {
+    /// The limit that a word says: the empty word no limit, and digits alone a line by its number. It takes no memory.
+    pub fn of(word: &str) -> Option<Limit>
+        ensures { result ≡ limit_of word.now }
+    {
+        if word.is_empty() {
+            return Some(Limit::Absent);
+        }
+        if !are_digits(word.as_bytes()) {
+            return None;
+        }
+        Some(line_of(word))
+    }
+}
+
+// Whether a text is digits alone.
+fn are_digits(text: &[u8]) -> bool
+    ensures { result ≡ all_ascii_digits text.now }
+{
+    are_all_digits(text)
+}
+
+// The same, as a test of each of them.
+fn are_all_digits(text: &[u8]) -> bool
+    ensures { result ≡ list_all (λ c. is_ascii_digit c) text.now }
+{
+    text.iter().all(|byte| byte.is_ascii_digit())
+}
+
+// The line of the number that digits write.
+fn line_of(digits: &str) -> Limit
+    requires digits { all_ascii_digits digits.now ≡ true }
+    requires some { 0 < length digits.now }
+    ensures { result ≡ line_of (digits_value 10 digits.now) }
+{
+    match digits.parse::<usize>() {
+        Ok(number) => Limit::Line(number),
+        Err(_) => Limit::PastEveryLine,
+    }
+}
