@@ -1,33 +1,30 @@
 -- Each call of a site accepts nothing, or makes operations of its own, or receives a file; so the site lives on.
-use Rattle.std.proofs.Common.{◌≡◌, ℕ, Bool, true, false, List, [], ◌∷◌, Option, None, Some, Ok, Err, Result, inl, inr, ap, refl, subst, sym}
-use Rattle.std.specs.Prelude.{MatchBool, codes}
-use Rattle.std.specs.Str.{bytes_eq}
+use Rattle.std.proofs.Common.{◌≡◌, ◌∙◌, ℕ, Bool, true, false, List, [], Option, None, Some, Ok, Err, Result, inl, inr, ap, arith, length, refl, subst, sym}
+use Rattle.std.specs.Prelude.{MatchBool}
 use Rattle.std.proofs.lemmas.List.{append-nil}
 use Rattle.rt_stamps.specs.declared.fault.Fault.{Fault}
-use Rattle.rt_stamps.specs.declared.fault.Fault.TheVariants.{NoWidget}
 use Rattle.rt_stamps.specs.Outcomes.{Answers}
 use Rattle.rt_stamps.specs.Words.{Word}
-use Rattle.rt_peer_requests.specs.declared.options.NamedOption.{NamedOption}
-use Rattle.rt_peer_requests.specs.declared.peers.PeerRequest.{PeerRequest}
-use Rattle.rt_peer_requests.specs.declared.peers.PeerRequest.TheVariants.{Create, Names}
-use Rattle.rt_peer_requests.specs.declared.settings.WidgetSettings.{WidgetSettings}
-use Rattle.rt_peer_requests.specs.PeerWords.{AskedOfPeers, asked_of_peers}
-use Rattle.rt_peer_requests.specs.SettingWords.{AskedOfSettings, asked_named_option, asked_settings}
+use Rattle.rt_requests.specs.declared.options.NamedOption.{NamedOption}
+use Rattle.rt_requests.specs.declared.peers.PeerRequest.{PeerRequest}
+use Rattle.rt_requests.specs.declared.peers.PeerRequest.TheVariants.{Create, Names}
+use Rattle.rt_requests.specs.declared.request.Request.TheVariants.{Cget, Configure, Peer}
+use Rattle.rt_requests.specs.declared.settings.WidgetSettings.{WidgetSettings}
 use Rattle.rt_ops.specs.Operations.{Operation}
 use Rattle.rt_text.specs.Limited.{limited, with_peer}
 use Rattle.rt_editing.specs.EditedValue.{EditedValue}
 use Rattle.rt_editing.proofs.Outcomes.{given}
 use Rattle.rt_holding.specs.declared.receiving.Received.{Received}
 use Rattle.rt_peers.specs.Lives.{IsOfFile, KeepsOrMakes, Lives, LivesOn, came_to, keeps, made_by, makes, receives}
-use Rattle.rt_peers.specs.Options.{choice_of, option_outcome, option_step, settings_outcome, settings_step, text_set}
+use Rattle.rt_peers.specs.Options.{choice_of, option_step, settings_step, text_set}
 use Rattle.rt_peers.specs.Peers.{text_led, with_widget, without_widget}
-use Rattle.rt_peers.specs.PeerStep.{created, destroyed, destroyed_at, last_check, path_check, peer_outcome, peer_step, text_with_peer}
-use Rattle.rt_peers.specs.SiteStep.{AnswersInTurn, CommandGives, Gives, KeepsOperations, MakesAndTries, SiteReceives, WidgetGives, at_widget, by_widget, option_at, peer_step_at, settings_at}
+use Rattle.rt_peers.specs.PeerStep.{created, destroyed, destroyed_at, last_check, path_check, peer_step, text_with_peer}
+use Rattle.rt_peers.specs.SiteStep.{AnswersInTurn, Gives, KeepsOperations, MakesAndTries, SiteReceives, at_widget, by_widget, step_at}
 use Rattle.rt_peers.specs.SiteValue.{SiteValue, place_of}
 use Rattle.rt_peers.specs.ViewStep.{Outcome, as_outcome, changed_step, one_word}
-use Rattle.rt_peers.proofs.OptionLaws.{configured_is, limited_leaves, one_more}
+use Rattle.rt_peers.proofs.OptionLaws.{configured_is, limited_leaves, one_more, told_unchanged}
 use Rattle.rt_peers.proofs.Coming.{file_of, made_of}
-use Rattle.rt_peers.proofs.InTurn.{all_kept}
+use Rattle.rt_peers.proofs.InTurn.{all_kept, left_kept, made_none}
 
 -- CALLS THAT ACCEPT NOTHING
 
@@ -78,14 +75,16 @@ by_keeps : (place : ℕ) (state new : SiteValue) (does : EditedValue → Outcome
 by_keeps place state new does (Ok words) stays h = led_keeps place state new words (does (text_led place state.text)) (λ after said e. stays (text_led place state.text) after said e) h
 by_keeps place state new does (Err fault) stays h = same_keeps state new h.0
 
-refused_keeps : (state new : SiteValue) (fault : Fault) (result : Result (List Word) Fault) → Answers (Err fault) state result new → KeepsOperations state new
-refused_keeps state new fault (Ok words) h = absurd (cc h)
-refused_keeps state new fault (Err found) h = same_keeps state new h.0
+-- what is so where nothing changes, and by the widget at each place, is so
+at_each : (found : Option ℕ) (does : ℕ → Outcome SiteValue) (state new : SiteValue) (result : Result (List Word) Fault) (P : Type 0) → (new ≡ state → P)
+    → ((place : ℕ) → Answers (does place) state result new → P) → Answers (at_widget found does) state result new → P
+at_each None does state new (Ok words) P same each h = absurd (cc h)
+at_each None does state new (Err fault) P same each h = same h.0
+at_each (Some place) does state new result P same each h = each place h
 
 at_keeps : (found : Option ℕ) (does : ℕ → Outcome SiteValue) (state new : SiteValue) (result : Result (List Word) Fault)
     → ((place : ℕ) → Answers (does place) state result new → KeepsOperations state new) → Answers (at_widget found does) state result new → KeepsOperations state new
-at_keeps None does state new result each h = refused_keeps state new NoWidget result h
-at_keeps (Some place) does state new result each h = each place h
+at_keeps found does state new result each h = at_each found does state new result (KeepsOperations state new) (same_keeps state new) each h
 
 -- OPTIONS
 
@@ -97,14 +96,6 @@ set_stays settings text after words h =
 
 told_stays : (option : NamedOption) → StaysBy (λ text. option_step text option)
 told_stays option text after words h = ap (λ (o : Outcome EditedValue). (left_in o text).view.doc) (sym h)
-
-asked_set_stays : (asked : AskedOfSettings) → StaysBy (λ text. settings_outcome text asked)
-asked_set_stays (Ok settings) text after words h = set_stays settings text after words h
-asked_set_stays (Err fault) text after words h = absurd (cc h)
-
-asked_told_stays : (asked : Result NamedOption Fault) → StaysBy (λ text. option_outcome text asked)
-asked_told_stays (Ok option) text after words h = told_stays option text after words h
-asked_told_stays (Err fault) text after words h = absurd (cc h)
 
 -- PEERS
 
@@ -132,10 +123,13 @@ peer_keeps path place state new (Create name settings) (Ok words) h = created_ke
 peer_keeps path place state new Names (Ok words) h = same_keeps state new (ap (λ (o : Outcome SiteValue). left_in o state) (sym h))
 peer_keeps path place state new request (Err fault) h = same_keeps state new h.0
 
-asked_peer_keeps : (path : Word) (place : ℕ) (state new : SiteValue) (asked : AskedOfPeers) (result : Result (List Word) Fault)
-    → Answers (peer_outcome path place state asked) state result new → KeepsOperations state new
-asked_peer_keeps path place state new (Ok request) result h = peer_keeps path place state new request result h
-asked_peer_keeps path place state new (Err fault) result h = refused_keeps state new fault result h
+-- so it is answered in turn, with no try behind
+pub peers_answer : (path : Word) (place : ℕ) (state new : SiteValue) (request : PeerRequest) (result : Result (List Word) Fault)
+    → Answers (peer_step path place state request) state result new → AnswersInTurn (peer_step path place state request) state result new
+peers_answer path place state new request result h =
+    let keeps = peer_keeps path place state new request result h in
+    let same = ap length keeps.log in
+    made_none (peer_step path place state request) state new result h (omega (arith, same)) keeps
 
 destroyed_keeps : (found : Option ℕ) (state new : SiteValue) → destroyed_at found state ≡ Ok new → KeepsOperations state new
 destroyed_keeps None state new h = absurd (cc h)
@@ -151,52 +145,50 @@ tried false old mid new h = inl (subst (KeepsOperations old) (sym h.1) h.0)
 pub answered : (outcome : Outcome SiteValue) (old new : SiteValue) (result : Result (List Word) Fault) → AnswersInTurn outcome old result new → KeepsOrMakes old new
 answered outcome old new result h = tried _ old h.0 new h.2
 
-pub settings_kept : (path : Word) (settings : WidgetSettings) (old new : SiteValue) (result : Result (List Word) Fault) → Answers (settings_at path old settings) old result new
-    → KeepsOperations old new
+-- what accepts nothing when it is answered, accepts nothing
+kept_in_turn : (outcome : Outcome SiteValue) (old new : SiteValue) (result : Result (List Word) Fault) → ((mid : SiteValue) → Answers outcome old result mid → KeepsOperations old mid)
+    → AnswersInTurn outcome old result new → KeepsOperations old new
+kept_in_turn outcome old new result keeps h =
+    let k = keeps h.0 h.1 in
+    subst (KeepsOperations old) (sym (left_kept old h.0 new k h.2)) k
+
+pub settings_kept : (path : Word) (settings : WidgetSettings) (old new : SiteValue) (result : Result (List Word) Fault)
+    → AnswersInTurn (step_at path old (Configure settings)) old result new → KeepsOperations old new
 settings_kept path settings old new result h =
-    at_keeps (place_of path old.paths) (λ place. by_widget place old (λ text. settings_step text settings)) old new result
-    (λ place a. by_keeps place old new (λ text. settings_step text settings) result (set_stays settings) a) h
+    kept_in_turn (step_at path old (Configure settings)) old new result
+    (λ mid a. at_keeps (place_of path old.paths) (λ place. by_widget place old (λ text. settings_step text settings)) old mid result
+    (λ place b. by_keeps place old mid (λ text. settings_step text settings) result (set_stays settings) b) a) h
 
-pub option_kept : (path : Word) (option : NamedOption) (old new : SiteValue) (result : Result (List Word) Fault) → Answers (option_at path old option) old result new → KeepsOperations old new
+pub option_kept : (path : Word) (option : NamedOption) (old new : SiteValue) (result : Result (List Word) Fault)
+    → AnswersInTurn (step_at path old (Cget option)) old result new → KeepsOperations old new
 option_kept path option old new result h =
-    at_keeps (place_of path old.paths) (λ place. by_widget place old (λ text. option_step text option)) old new result
-    (λ place a. by_keeps place old new (λ text. option_step text option) result (told_stays option) a) h
+    kept_in_turn (step_at path old (Cget option)) old new result
+    (λ mid a. at_keeps (place_of path old.paths) (λ place. by_widget place old (λ text. option_step text option)) old mid result
+    (λ place b. by_keeps place old mid (λ text. option_step text option) result (told_stays option) b) a) h
 
-pub peers_kept : (path : Word) (request : PeerRequest) (old new : SiteValue) (result : Result (List Word) Fault) → Answers (peer_step_at path old request) old result new → KeepsOperations old new
+-- and leaves the site as it was
+pub option_leaves : (path : Word) (option : NamedOption) (old new : SiteValue) (result : Result (List Word) Fault)
+    → AnswersInTurn (step_at path old (Cget option)) old result new → new ≡ old
+option_leaves path option old new result h =
+    let mid : SiteValue = h.0 in
+    let told : mid ≡ old = at_each (place_of path old.paths) (λ place. by_widget place old (λ text. option_step text option)) old mid result (mid ≡ old) (λ e. e)
+    (λ place b. told_unchanged place old mid option result b) h.1 in
+    left_kept old mid new (same_keeps old mid told) h.2 ∙ told
+
+pub peers_kept : (path : Word) (request : PeerRequest) (old new : SiteValue) (result : Result (List Word) Fault)
+    → AnswersInTurn (step_at path old (Peer request)) old result new → KeepsOperations old new
 peers_kept path request old new result h =
-    at_keeps (place_of path old.paths) (λ place. peer_step path place old request) old new result (λ place a. peer_keeps path place old new request result a) h
+    kept_in_turn (step_at path old (Peer request)) old new result
+    (λ mid a. at_keeps (place_of path old.paths) (λ place. peer_step path place old request) old mid result
+    (λ place b. peer_keeps path place old mid request result b) a) h
 
 pub destroyed_kept : (path : Word) (old new : SiteValue) → destroyed path old ≡ Ok new → KeepsOperations old new
 destroyed_kept path old new h = destroyed_keeps (place_of path old.paths) old new h
 
 -- COMMANDS
 
-widget_gives : (place : ℕ) (words : List Word) (old new : SiteValue) (result : Result (List Word) Fault) → WidgetGives place words old result new → KeepsOrMakes old new
-widget_gives place words old new result h = answered _ old new result h.2
-
-one_of : (b : Bool) (P Q : Type 0) (old new : SiteValue) → (P → KeepsOrMakes old new) → (Q → KeepsOrMakes old new) → MatchBool b P Q → KeepsOrMakes old new
-one_of true P Q old new f g h = f h
-one_of false P Q old new f g h = g h
-
-command_gives : (path : Word) (place : ℕ) (words : List Word) (old new : SiteValue) (result : Result (List Word) Fault) → CommandGives path place words old result new → KeepsOrMakes old new
-command_gives path place [] old new result h = widget_gives place [] old new result h
-command_gives path place (name ∷ words) old new result h =
-    one_of (bytes_eq name (codes "peer")) _ _ old new (λ a. inl (asked_peer_keeps path place old new (asked_of_peers words) result a))
-    (one_of (bytes_eq name (codes "configure")) _ _ old new
-    (λ a. inl (by_keeps place old new (λ text. settings_outcome text (asked_settings words)) result (asked_set_stays (asked_settings words)) a))
-    (one_of (bytes_eq name (codes "cget")) _ _ old new
-    (λ a. inl (by_keeps place old new (λ text. option_outcome text (asked_named_option words)) result (asked_told_stays (asked_named_option words)) a))
-    (widget_gives place (name ∷ words) old new result))) h
-
 pub given_by : (path : Word) (words : List Word) (old new : SiteValue) (result : Result (List Word) Fault) → Gives path words old result new → KeepsOrMakes old new
-given_by path words old new result h = found (place_of path old.paths) refl
-  where
-    no_widget : (result ≡ Err NoWidget) × (new ≡ old) → Answers (Err NoWidget) old result new
-    no_widget e = subst (λ r. Answers (Err NoWidget) old r new) (sym e.0) (e.1, inr refl)
-
-    found : (o : Option ℕ) → place_of path old.paths ≡ o → KeepsOrMakes old new
-    found None e = inl (refused_keeps old new NoWidget result (no_widget (h.none e)))
-    found (Some place) e = command_gives path place words old new result (h.some place e)
+given_by path words old new result h = answered _ old new result h.answers
 
 -- LIVES
 

@@ -6,13 +6,13 @@ use Rattle.rt_stamps.specs.declared.fault.Fault.{Fault}
 use Rattle.rt_stamps.specs.Words.{Word}
 use Rattle.rt_ops.specs.Operations.{Operation}
 use Rattle.rt_oplog.specs.Logs.{Has}
-use Rattle.rt_peers.specs.Events.{Answer, AnswerPeers, Cget, Command, Configure, Destroy, Event, EventFoundMemory, EventGives, EventsFoundMemory, EventsGive, IsOfReceived, OfFile, Receive, Replied, Told}
+use Rattle.rt_peers.specs.Events.{Answer, Command, Destroy, Event, EventFoundMemory, EventGives, EventsFoundMemory, EventsGive, IsOfReceived, OfFile, Receive, Replied, Told}
 use Rattle.rt_peers.specs.PeerStep.{Destroys}
 use Rattle.rt_peers.specs.Lives.{IsOfFile, Lives, LivesOn}
-use Rattle.rt_peers.specs.SiteStep.{option_at, peer_step_at, settings_at, step_at}
+use Rattle.rt_peers.specs.SiteStep.{step_at}
 use Rattle.rt_peers.specs.SiteValue.{SiteValue}
-use Rattle.rt_peers.proofs.Calls.{answered, destroyed_on, gives_on, goes_on, kept_on, option_kept, peers_kept, received_on, same_keeps, settings_kept}
-use Rattle.rt_peers.proofs.OneWay.{answers_once, commands_once, receiving_once, requests_once}
+use Rattle.rt_peers.proofs.Calls.{answered, destroyed_on, gives_on, goes_on, kept_on, received_on, same_keeps}
+use Rattle.rt_peers.proofs.OneWay.{commands_once, receiving_once, requests_once}
 
 -- ONE EVENT
 
@@ -31,12 +31,6 @@ event_once : (event : Event) (old : SiteValue) (one two : Told) (new left : Site
 event_once (Command path words) old (Replied a) (Replied b) new left h k f g = replied_once a b new left (commands_once path words old a b new left h k f g)
 event_once (Answer path request) old (Replied a) (Replied b) new left h k f g =
     replied_once a b new left (requests_once (step_at path old request) old a b new left h k f g)
-event_once (Configure path settings) old (Replied a) (Replied b) new left h k f g =
-    replied_once a b new left (answers_once (settings_at path old settings) old a b new left h k f g)
-event_once (Cget path option) old (Replied a) (Replied b) new left h k f g =
-    replied_once a b new left (answers_once (option_at path old option) old a b new left h k f g)
-event_once (AnswerPeers path request) old (Replied a) (Replied b) new left h k f g =
-    replied_once a b new left (answers_once (peer_step_at path old request) old a b new left h k f g)
 event_once (Destroy path) old (Replied a) (Replied b) new left h k f g = replied_once a b new left (destroys_once path old a b new left h k)
 event_once (Receive bytes) old (OfFile a) (OfFile b) new left h k f g =
     let same = receiving_once bytes old a b new left h k f g in (ap OfFile same.0, same.1)
@@ -97,9 +91,6 @@ destroys_on IsOther path old new (Err fault) h = kept_on IsOther old new (same_k
 event_on : (event : Event) (events : List Event) (old new : SiteValue) (told : Told) → EventGives event old told new → LivesOn (IsOfReceived (event ∷ events)) old new
 event_on (Command path words) events old new (Replied result) h = gives_on _ path words old new result h
 event_on (Answer path request) events old new (Replied result) h = goes_on _ old new (answered (step_at path old request) old new result h)
-event_on (Configure path settings) events old new (Replied result) h = kept_on _ old new (settings_kept path settings old new result h)
-event_on (Cget path option) events old new (Replied result) h = kept_on _ old new (option_kept path option old new result h)
-event_on (AnswerPeers path request) events old new (Replied result) h = kept_on _ old new (peers_kept path request old new result h)
 event_on (Destroy path) events old new (Replied result) h = destroys_on _ path old new result h
 event_on (Receive bytes) events old new (OfFile received) h =
     known_on (IsOfFile bytes) (IsOfReceived (Receive bytes ∷ events)) old new (λ op i. (bytes, is_first (Receive bytes) events, i)) (received_on bytes received old new h)

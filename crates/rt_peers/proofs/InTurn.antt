@@ -1,19 +1,21 @@
 -- Requests that are answered before held operations are tried.
-use Rattle.std.proofs.Common.{◌≡◌, ◌⊎◌, ◌≤◌, ◌<◌, ℕ, Bool, true, false, List, Result, Ok, Err, inl, inr, length, refl, subst, sym, arith}
+use Rattle.std.proofs.Common.{◌≡◌, ◌⊎◌, ◌≤◌, ◌<◌, ℕ, Bool, true, false, List, Option, None, Some, Result, Ok, Err, ap, inl, inr, length, refl, subst, sym, arith}
 use Rattle.std.specs.Prelude.{MatchBool, nat_lt}
 use Rattle.std.proofs.lemmas.Bool.Decides.{nat_tests}
+use Rattle.rt_requests.specs.declared.peers.PeerRequest.{PeerRequest}
 use Rattle.rt_requests.specs.declared.request.Request.{Request}
+use Rattle.rt_requests.specs.declared.request.Request.TheVariants.{Insert, Delete, Get, Index, Compare, Count, Search, Replace, Dump, Mark, Tag, Edit, Configure, Cget, Peer}
 use Rattle.rt_requests.specs.Asking.{Asked, Asks}
 use Rattle.rt_requests.proofs.AskedAlways.{asked_some}
 use Rattle.rt_stamps.specs.declared.fault.Fault.{Fault}
-use Rattle.rt_stamps.specs.declared.fault.Fault.TheVariants.{NoMemory}
+use Rattle.rt_stamps.specs.declared.fault.Fault.TheVariants.{NoMemory, NoWidget}
 use Rattle.rt_stamps.specs.Outcomes.{Answers}
 use Rattle.rt_stamps.specs.Words.{Word}
 use Rattle.rt_editing.specs.EditedValue.{EditedValue}
 use Rattle.rt_peers.specs.Peers.{text_led}
-use Rattle.rt_peers.specs.SiteStep.{AnswersInTurn, KeepsOperations, MakesAndTries, WidgetGives, by_widget, log_of}
-use Rattle.rt_peers.specs.SiteValue.{SiteValue}
-use Rattle.rt_peers.specs.Step.{outcome, step}
+use Rattle.rt_peers.specs.SiteStep.{AnswersInTurn, Gives, KeepsOperations, MakesAndTries, at_widget, by_widget, has_made, log_of, outcome_at, widget_step}
+use Rattle.rt_peers.specs.SiteValue.{SiteValue, place_of}
+use Rattle.rt_peers.specs.Step.{step}
 use Rattle.rt_peers.specs.ViewStep.{Outcome}
 use Rattle.rt_peers.proofs.Gaining.{Gains}
 use Rattle.rt_peers.proofs.PeerLaws.{by_led}
@@ -38,6 +40,13 @@ pub made_none : (outcome : Outcome SiteValue) (old mid : SiteValue) (result : Re
 made_none outcome old mid result answers none keeps =
     let test = not_less (length (log_of old)) (length (log_of mid)) none in
     (mid, answers, subst (λ (b : Bool). MatchBool b (MakesAndTries old mid mid) (KeepsOperations old mid × (mid ≡ mid))) (sym test) (keeps, refl))
+
+-- so it is left where a call accepted nothing
+pub left_kept : (old mid new : SiteValue) → KeepsOperations old mid → MatchBool (has_made old mid) (MakesAndTries old mid new) (KeepsOperations old mid × (new ≡ mid)) → new ≡ mid
+left_kept old mid new keeps h =
+    let same = ap length keeps.log in
+    let test = not_less (length (log_of old)) (length (log_of mid)) (omega (arith, same)) in
+    (subst (λ (b : Bool). MatchBool b (MakesAndTries old mid new) (KeepsOperations old mid × (new ≡ mid))) test h).1
 
 -- what is as it was keeps its operations
 pub all_kept : (state : SiteValue) → KeepsOperations state state
@@ -64,18 +73,68 @@ request_gains place request state led after back result l a b =
     let steps = answer_stays led request result after a in
     subst (λ (t : EditedValue). Gains state.text.view.doc t.view.doc) (sym b) (subst (λ (t : EditedValue). Gains t.view.doc after.view.doc) l steps.gains)
 
+-- what isn't asked of peers is asked of the text
+pub of_text : (path : Word) (place : ℕ) (state : SiteValue) (request : Request) → ((asked : PeerRequest) → request ≡ Peer asked → ⊥)
+    → widget_step path place state request ≡ by_widget place state (λ text. step text request)
+of_text path place state (Insert index texts) other = refl
+of_text path place state (Delete indices) other = refl
+of_text path place state (Replace from to texts) other = refl
+of_text path place state (Get indices) other = refl
+of_text path place state (Index index) other = refl
+of_text path place state (Compare first comparison second) other = refl
+of_text path place state (Count measures from to) other = refl
+of_text path place state (Search request) other = refl
+of_text path place state (Dump kinds from to) other = refl
+of_text path place state (Mark request) other = refl
+of_text path place state (Tag request) other = refl
+of_text path place state (Edit request) other = refl
+of_text path place state (Configure settings) other = refl
+of_text path place state (Cget option) other = refl
+of_text path place state (Peer request) other = absurd (other request refl)
+
+-- COMMANDS
+
+no_widget : (path : Word) (state : SiteValue) (asked : Asked) → place_of path state.paths ≡ None → outcome_at path state asked ≡ Err NoWidget
+no_widget path state (Ok request) none = ap (λ o. at_widget o (λ place. widget_step path place state request)) none
+no_widget path state (Err fault) none = ap (λ o. at_widget o (λ place. Err fault)) none
+
+-- where there is no widget of the path
+pub nowhere : (path : Word) (words : List Word) (old : SiteValue) → place_of path old.paths ≡ None → Gives path words old (Err NoWidget) old
+nowhere path words old none =
+    let reading = asked_some words in
+    record {
+      asked = reading.0;
+      asks = reading.1;
+      answers = at_once (outcome_at path old reading.0) old (Err NoWidget) (refl, inr (no_widget path old reading.0 none));
+      none = λ h. (refl, refl);
+    }
+
 -- words that are refused, and words that ask for something; where memory was wanting before that was known, they ask for something too
-pub refused_words : (place : ℕ) (words : List Word) (old : SiteValue) (asked : Asked) (fault : Fault) → Asks words asked ⊎ (asked ≡ Err NoMemory) → asked ≡ Err fault
-    → WidgetGives place words old (Err fault) old
-refused_words place words old asked fault (inl asks) is =
-    (Err fault, subst (Asks words) is asks, at_once (by_widget place old (λ text. outcome text (Err fault))) old (Err fault) (refl, inr refl))
-refused_words place words old asked fault (inr none) is =
+pub refused_at : (path : Word) (place : ℕ) (words : List Word) (old : SiteValue) (asked : Asked) (fault : Fault) → place_of path old.paths ≡ Some place
+    → Asks words asked ⊎ (asked ≡ Err NoMemory) → asked ≡ Err fault → Gives path words old (Err fault) old
+refused_at path place words old asked fault found (inl asks) is = record {
+  asked = Err fault;
+  asks = subst (Asks words) is asks;
+  answers = at_once (outcome_at path old (Err fault)) old (Err fault) (refl, inr (ap (λ o. at_widget o (λ place. Err fault)) found));
+  none = λ h. absurd (cc (found, h));
+}
+refused_at path place words old asked fault found (inr none) is =
     let same : fault ≡ NoMemory = cc (is, none) in
     let reading = asked_some words in
-    (reading.0, reading.1, at_once (by_widget place old (λ text. outcome text reading.0)) old (Err fault) (refl, inl same))
+    record {
+      asked = reading.0;
+      asks = reading.1;
+      answers = at_once (outcome_at path old reading.0) old (Err fault) (refl, inl same);
+      none = λ h. absurd (cc (found, h));
+    }
 
-pub asked_words : (place : ℕ) (words : List Word) (old new : SiteValue) (asked : Asked) (request : Request) (result : Result (List Word) Fault)
-    → Asks words asked ⊎ (asked ≡ Err NoMemory) → asked ≡ Ok request → AnswersInTurn (by_widget place old (λ text. step text request)) old result new
-    → WidgetGives place words old result new
-asked_words place words old new asked request result (inl asks) is answers = (Ok request, subst (Asks words) is asks, answers)
-asked_words place words old new asked request result (inr none) is answers = let no : ⊥ = cc (is, none) in absurd no
+pub asked_at : (path : Word) (place : ℕ) (words : List Word) (old new : SiteValue) (asked : Asked) (request : Request) (result : Result (List Word) Fault)
+    → place_of path old.paths ≡ Some place → Asks words asked ⊎ (asked ≡ Err NoMemory) → asked ≡ Ok request
+    → AnswersInTurn (widget_step path place old request) old result new → Gives path words old result new
+asked_at path place words old new asked request result found (inl asks) is answers = record {
+  asked = Ok request;
+  asks = subst (Asks words) is asks;
+  answers = subst (λ (o : Option ℕ). AnswersInTurn (at_widget o (λ place. widget_step path place old request)) old result new) (sym found) answers;
+  none = λ h. absurd (cc (found, h));
+}
+asked_at path place words old new asked request result found (inr none) is answers = let no : ⊥ = cc (is, none) in absurd no

@@ -1,7 +1,6 @@
 -- Calls for which no memory was wanting have one answer, and leave one state.
-use Rattle.std.proofs.Common.{◌≡◌, ◌≢◌, ◌∙◌, ℕ, Bool, true, false, List, [], ◌∷◌, Option, None, Some, Ok, Err, Result, ap, inl, inr, refl, subst, sym, codes}
+use Rattle.std.proofs.Common.{◌≡◌, ◌≢◌, ◌∙◌, ℕ, Bool, true, false, List, Ok, Err, Result, ap, inl, inr, subst, sym}
 use Rattle.std.specs.Prelude.{MatchBool}
-use Rattle.std.specs.Str.{bytes_eq}
 use Rattle.rt_stamps.specs.declared.fault.Fault.{Fault}
 use Rattle.rt_stamps.specs.declared.fault.Fault.TheVariants.{NoMemory}
 use Rattle.rt_stamps.specs.Outcomes.{Answers}
@@ -14,11 +13,9 @@ use Rattle.rt_holding.specs.declared.receiving.Received.{Received}
 use Rattle.rt_holding.proofs.Finding.{files_find}
 use Rattle.rt_holding.proofs.OneWay.{files_go, one_try}
 use Rattle.rt_holding.specs.Receiving.{State as Holder}
-use Rattle.rt_peers.specs.Memory.{CommandFoundMemory, GivesFoundMemory, OnFalse, ReceivingFindsMemory, ReceivingFoundMemory, RequestFoundMemory, TriesFoundMemory, WidgetFoundMemory}
-use Rattle.rt_peers.specs.Memory.{AskingFoundMemory, OwnFoundMemory}
-use Rattle.rt_peers.specs.SiteStep.{AnswersInTurn, CommandGives, Gives, KeepsOperations, MakesAndTries, SiteReceives, WidgetGives, by_widget, has_made, text_limit, text_log}
-use Rattle.rt_peers.specs.SiteValue.{SiteValue, holding_of, place_of}
-use Rattle.rt_peers.specs.Step.{outcome}
+use Rattle.rt_peers.specs.Memory.{GivesFoundMemory, ReceivingFindsMemory, ReceivingFoundMemory, RequestFoundMemory, TriesFoundMemory}
+use Rattle.rt_peers.specs.SiteStep.{AnswersInTurn, Gives, KeepsOperations, MakesAndTries, SiteReceives, has_made, outcome_at, text_limit, text_log}
+use Rattle.rt_peers.specs.SiteValue.{SiteValue, holding_of}
 use Rattle.rt_peers.specs.ViewStep.{Outcome}
 
 -- ANSWERS
@@ -31,7 +28,7 @@ abbrev fault_in : {T : Type 0} → Fault → Result T Fault → Fault
 fault_in other (Ok value) = other
 fault_in other (Err fault) = fault
 
-pub answers_once : (outcome : Outcome SiteValue) (old : SiteValue) (one two : Result (List Word) Fault) (new left : SiteValue) → Answers outcome old one new → Answers outcome old two left
+answers_once : (outcome : Outcome SiteValue) (old : SiteValue) (one two : Result (List Word) Fault) (new left : SiteValue) → Answers outcome old one new → Answers outcome old two left
     → one ≢ Err NoMemory → two ≢ Err NoMemory → (one ≡ two) × (new ≡ left)
 answers_once outcome old (Ok reply) (Ok other) new left h k f g =
     let same = ap (got (reply, new)) (sym h ∙ k) in (ap (λ (p : List Word × SiteValue). Ok p.0) same, ap (λ (p : List Word × SiteValue). p.1) same)
@@ -67,43 +64,13 @@ requests_once outcome old one two new left h k f g =
 
 -- COMMANDS
 
-module _ (old : SiteValue) (one two : Result (List Word) Fault) (new left : SiteValue) where
-  abbrev Same : Type 0
-  Same = (one ≡ two) × (new ≡ left)
-
-  widget_once : (place : ℕ) (words : List Word) (h : WidgetGives place words old one new) (k : WidgetGives place words old two left)
-      → WidgetFoundMemory place words old one new h → WidgetFoundMemory place words old two left k → Same
-  widget_once place words h k f g =
-      let asked = one_asked words h.0 k.0 h.1 k.1 in
-      let at : Asked → Outcome SiteValue = λ a. by_widget place old (λ text. outcome text a) in
-      subst (λ (a : Asked). (l : AnswersInTurn (by_widget place old (λ text. outcome text a)) old two left)
-      → RequestFoundMemory (by_widget place old (λ text. outcome text a)) old two left l → Same) asked
-      (λ l e. requests_once (at h.0) old one two new left h.2 l f e) k.2 g
-
-  either_once : (b : Bool) (A B C D : Type 0) (P : B → Type 0) (Q : D → Type 0) → (A → C → Same) → ((h : B) (k : D) → P h → Q k → Same)
-      → (h : MatchBool b A B) (k : MatchBool b C D) → OnFalse A B P b h → OnFalse C D Q b k → Same
-  either_once true A B C D P Q f g h k p q = f h k
-  either_once false A B C D P Q f g h k p q = g h k p q
-
-  command_once : (path : Word) (place : ℕ) (words : List Word) → one ≢ Err NoMemory → two ≢ Err NoMemory
-      → (h : CommandGives path place words old one new) (k : CommandGives path place words old two left)
-      → CommandFoundMemory path place words old one new h → CommandFoundMemory path place words old two left k → Same
-  command_once path place [] m n h k f g = widget_once place [] h k f g
-  command_once path place (name ∷ words) m n h k f g =
-      let others = λ (outcome : Outcome SiteValue) (a : Answers outcome old one new) (b : Answers outcome old two left). answers_once outcome old one two new left a b m n in
-      either_once (bytes_eq name (codes "peer")) _ _ _ _ (OwnFoundMemory place name words old one new) (OwnFoundMemory place name words old two left) (others _)
-      (either_once (bytes_eq name (codes "configure")) _ _ _ _ (AskingFoundMemory place name words old one new) (AskingFoundMemory place name words old two left) (others _)
-      (either_once (bytes_eq name (codes "cget")) _ _ _ _ (WidgetFoundMemory place (name ∷ words) old one new) (WidgetFoundMemory place (name ∷ words) old two left) (others _)
-      (widget_once place (name ∷ words)))) h k f g
-
 pub commands_once : (path : Word) (words : List Word) (old : SiteValue) (one two : Result (List Word) Fault) (new left : SiteValue)
     (h : Gives path words old one new) (k : Gives path words old two left)
     → GivesFoundMemory path words old one new h → GivesFoundMemory path words old two left k → (one ≡ two) × (new ≡ left)
-commands_once path words old one two new left h k f g = found (place_of path old.paths) refl
-  where
-    found : (o : Option ℕ) → place_of path old.paths ≡ o → (one ≡ two) × (new ≡ left)
-    found None e = ((h.none e).0 ∙ sym (k.none e).0, (h.none e).1 ∙ sym (k.none e).1)
-    found (Some place) e = command_once old one two new left path place words f.0 g.0 (h.some place e) (k.some place e) (f.1 place e) (g.1 place e)
+commands_once path words old one two new left h k f g =
+    let asked = one_asked words h.asked k.asked h.asks k.asks in
+    subst (λ (a : Asked). (l : AnswersInTurn (outcome_at path old a) old two left) → RequestFoundMemory (outcome_at path old a) old two left l → (one ≡ two) × (new ≡ left)) asked
+    (λ l e. requests_once (outcome_at path old h.asked) old one two new left h.answers l f e) k.answers g
 
 -- A FILE
 

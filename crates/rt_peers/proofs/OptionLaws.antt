@@ -2,28 +2,26 @@
 use Rattle.std.proofs.Common.{◌≡◌, ◌∙◌, ◌+◌, ◌<◌, ◌++◌, ℕ, List, [], ◌∷◌, None, Some, Ok, Err, Result, ap, arith, cond, false, inl, inr, length, subst, sym, true}
 use Rattle.std.specs.Prelude.{IfErr, OnErr, OnOk, is_some}
 use Rattle.std.proofs.lemmas.List.{length-append}
-use Rattle.rt_edits.specs.DocValue.{DocValue}
 use Rattle.rt_stamps.specs.declared.fault.Fault.{Fault}
 use Rattle.rt_stamps.specs.declared.fault.Fault.TheVariants.{WidgetExists}
 use Rattle.rt_stamps.specs.Outcomes.{Answers, Refuses}
 use Rattle.rt_stamps.specs.Words.{Word}
+use Rattle.rt_requests.specs.declared.options.NamedOption.{NamedOption}
 use Rattle.rt_requests.specs.declared.options.Settings.{Settings}
-use Rattle.rt_peer_requests.specs.declared.options.NamedOption.{NamedOption}
-use Rattle.rt_peer_requests.specs.declared.settings.WidgetSettings.{WidgetSettings}
+use Rattle.rt_requests.specs.declared.settings.WidgetSettings.{WidgetSettings}
 use Rattle.rt_editing.specs.EditedValue.{EditedValue}
 use Rattle.rt_text.specs.Limited.{limited, new_peer, with_limits, with_new_peer, with_peer}
 use Rattle.rt_text.specs.Widgets.{ViewValue}
 use Rattle.rt_views.specs.declared.choice.Choice.{Choice}
 use Rattle.rt_views.specs.declared.limits.Limits.{Limits}
 use Rattle.rt_views.specs.Choices.{limits_chosen}
-use Rattle.rt_peers.specs.Options.{choice_of, option_step, settings_step, text_configured}
+use Rattle.rt_peers.specs.Options.{choice_of, option_step, text_configured}
 use Rattle.rt_peers.specs.Peers.{text_led, widgets_of, with_widget}
 use Rattle.rt_peers.specs.PeerStep.{created, path_check, text_with_peer}
 use Rattle.rt_peers.specs.SiteStep.{by_widget}
 use Rattle.rt_peers.specs.SiteValue.{SiteValue, place_of}
-use Rattle.rt_peers.specs.ViewStep.{Outcome, as_outcome, changed_step, one_word}
+use Rattle.rt_peers.specs.ViewStep.{Outcome, as_outcome, one_word}
 use Rattle.rt_peers.proofs.PeerLaws.{led_number, text_back}
-use Rattle.rt_peers.proofs.Staying.{Stay}
 
 -- WHAT A VIEW IS LEFT
 
@@ -64,31 +62,6 @@ text_one_more text new settings h =
     let start = choice_of settings.start_line in
     let end = choice_of settings.end_line in
     (one_more text.view new.view start end (configured_is text new settings.shared (with_peer text.view start end) h)).1
-
-abbrev outcome_in : Outcome EditedValue → EditedValue → EditedValue
-outcome_in (Ok answer) none = answer.1
-outcome_in (Err fault) none = none
-
-changed_is : (said : Result EditedValue Fault) (words : List Word) (new : EditedValue) → changed_step said ≡ Ok (words, new) → said ≡ Ok new
-changed_is (Ok text) words new h = ap (λ (o : Outcome EditedValue). Ok (outcome_in o text)) h
-changed_is (Err fault) words new h = absurd (cc h)
-
-pub settings_stay : (old : EditedValue) (settings : WidgetSettings) (result : Result (List Word) Fault) (new : EditedValue) → Answers (settings_step old settings) old result new → Stay old.view new.view
-settings_stay old settings (Ok words) new h =
-    let start = choice_of settings.start_line in
-    let end = choice_of settings.end_line in
-    let said : limited old.view start end ≡ Ok new.view = configured_is old new settings.shared (limited old.view start end) (changed_is _ words new h) in
-    sym (ap length (limited_leaves old.view new.view start end said).1)
-settings_stay old settings (Err fault) new h = ap (λ (t : EditedValue). length t.view.others) h.0
-
--- and the document stays
-pub settings_doc : (old : EditedValue) (settings : WidgetSettings) (result : Result (List Word) Fault) (new : EditedValue) → Answers (settings_step old settings) old result new → old.view.doc ≡ new.view.doc
-settings_doc old settings (Ok words) new h =
-    let start = choice_of settings.start_line in
-    let end = choice_of settings.end_line in
-    let said : limited old.view start end ≡ Ok new.view = configured_is old new settings.shared (limited old.view start end) (changed_is _ words new h) in
-    (limited_leaves old.view new.view start end said).0
-settings_doc old settings (Err fault) new h = ap (λ (t : EditedValue). t.view.doc) (sym h.0)
 
 -- ONE MORE WIDGET, which one that commands in the place of the first makes
 

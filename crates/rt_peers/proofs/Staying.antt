@@ -19,13 +19,14 @@ use Rattle.rt_requests.specs.declared.request.EditRequest.TheVariants as edits
 use Rattle.rt_requests.specs.declared.request.MarkRequest.{MarkRequest}
 use Rattle.rt_requests.specs.declared.request.MarkRequest.TheVariants as marks
 use Rattle.rt_requests.specs.declared.request.Request.{Request}
-use Rattle.rt_requests.specs.declared.request.Request.TheVariants.{Insert, Delete, Get, Index, Compare, Count, Search, Replace, Dump, Mark, Tag, Edit, Configure, Cget}
+use Rattle.rt_requests.specs.declared.request.Request.TheVariants.{Insert, Delete, Get, Index, Compare, Count, Search, Replace, Dump, Mark, Tag, Edit, Configure, Cget, Peer}
 use Rattle.rt_requests.specs.declared.request.TagRequest.{TagRequest}
 use Rattle.rt_requests.specs.declared.request.TagRequest.TheVariants as tags
 use Rattle.rt_requests.specs.Parts.{all_of}
 use Rattle.rt_tags.specs.Tags.{lowered, raised, sel}
 use Rattle.rt_queries.specs.Dumping.{dumped}
 use Rattle.rt_edits.specs.declared.range.Range.{Range}
+use Rattle.rt_edits.specs.DocValue.{DocValue}
 use Rattle.rt_edits.specs.Insertions.{Piece}
 use Rattle.rt_queries.specs.SearchCommand.{searched}
 use Rattle.rt_store.specs.Shown.{TaggedCell}
@@ -34,6 +35,7 @@ use Rattle.rt_tagcmd.specs.TagCommands.{tag_written}
 use Rattle.rt_text.specs.declared.own_mark.OwnMark.{OwnMark}
 use Rattle.rt_text.specs.Commands.{compared, counted, deleted, got, got_list, got_one, inserted, insertion_place, position_of_index, replaced, with_pieces_at, with_range_replaced, with_tag_in, with_tags_deleted, without_ranges}
 use Rattle.rt_text.specs.Index.{place_at_index}
+use Rattle.rt_text.specs.Limited.{limited}
 use Rattle.rt_text.specs.Ranges.{ranges_of}
 use Rattle.rt_text.specs.Widgets.{WidgetValue, ViewValue, length_shown, own_mark_of, widget_of, with_marks, with_selections, with_tags}
 use Rattle.rt_undo.specs.declared.action.Kind.{Kind}
@@ -52,6 +54,8 @@ use Rattle.rt_holding.specs.Receiving.{Behind, Offers, Receives, State as Holder
 use Rattle.rt_holding.specs.Holding.{Holding, with_taken}
 use Rattle.rt_holding.specs.Taken.{AreTried, IsOffered, all_after, holding}
 use Rattle.rt_peers.specs.SiteStep.{text_limit, text_log}
+use Rattle.rt_peers.specs.Options.{choice_of, text_set}
+use Rattle.rt_peers.proofs.OptionLaws.{configured_is, limited_leaves}
 use Rattle.rt_peers.proofs.Gaining.{Gains, IsOfSame, deleted_gain, gains_none, gains_then, group_gains, pieces_gain, ranges_gain, write_gains}
 use Rattle.rt_peers.specs.Step.{edit_step, on_view, step}
 use Rattle.rt_peers.specs.ViewStep.{Outcome, as_piece, changed_step, element_words, get_step, mark_step, one_word, tag_step, text_of_bool, told_step}
@@ -259,8 +263,14 @@ step_stays text new (Dump shown from to) words h = told_stays (flat_map element_
 step_stays text new (Mark request) words h = mark_stays text.view new.view request words (shown_is text new (mark_step text.view request) words h)
 step_stays text new (Tag request) words h = tag_stays text.view new.view request words (shown_is text new (tag_step text.view request) words h)
 step_stays text new (Edit request) words h = edit_stays text new request words h
-step_stays text new (Configure settings) words h = same text.view new.view (ap (λ (o : Outcome EditedValue). (left_by o text).view) h)
+step_stays text new (Configure settings) words h =
+    let start = choice_of settings.start_line in
+    let end = choice_of settings.end_line in
+    let said : limited text.view start end ≡ Ok new.view = configured_is text new settings.shared (limited text.view start end) (changed_is (text_set text settings) words new h) in
+    let leaves = limited_leaves text.view new.view start end said in
+    record { number = sym (ap length leaves.1); gains = subst (λ (doc : DocValue). Gains text.view.doc doc) leaves.0 (gains_none text.view.doc) }
 step_stays text new (Cget option) words h = same text.view new.view (ap (λ (o : Outcome EditedValue). (left_by o text).view) h)
+step_stays text new (Peer request) words h = absurd (cc h)
 
 pub answer_stays : (old : EditedValue) (request : Request) (result : Result (List Word) Fault) (new : EditedValue) → Answers (step old request) old result new → Steps old.view new.view
 answer_stays old request (Ok words) new h = step_stays old new request words h

@@ -1,21 +1,16 @@
 -- Calls of a site, one after the other, and what they are answered. Where no memory was wanting, the first state and the calls decide all
 -- answers and the state in the end.
-use Rattle.std.specs.Prelude.{◌≡◌, ◌≢◌, ℕ, List, [], ◌∷◌, Result, Err}
+use Rattle.std.specs.Prelude.{◌≡◌, ℕ, List, [], ◌∷◌, Result}
 use Rattle.std.specs.List.{Contains}
 use Rattle.rt_stamps.specs.declared.fault.Fault.{Fault}
-use Rattle.rt_stamps.specs.declared.fault.Fault.TheVariants.{NoMemory}
-use Rattle.rt_stamps.specs.Outcomes.{Answers}
 use Rattle.rt_stamps.specs.Words.{Word}
 use Rattle.rt_requests.specs.declared.request.Request.{Request}
-use Rattle.rt_peer_requests.specs.declared.options.NamedOption.{NamedOption}
-use Rattle.rt_peer_requests.specs.declared.peers.PeerRequest.{PeerRequest}
-use Rattle.rt_peer_requests.specs.declared.settings.WidgetSettings.{WidgetSettings}
 use Rattle.rt_ops.specs.Operations.{Operation}
 use Rattle.rt_holding.specs.declared.receiving.Received.{Received}
 use Rattle.rt_peers.specs.Lives.{IsOfFile, LivesOn}
 use Rattle.rt_peers.specs.Memory.{GivesFoundMemory, ReceivingFoundMemory, RequestFoundMemory}
 use Rattle.rt_peers.specs.PeerStep.{Destroys}
-use Rattle.rt_peers.specs.SiteStep.{AnswersInTurn, Gives, SiteReceives, option_at, peer_step_at, settings_at, step_at}
+use Rattle.rt_peers.specs.SiteStep.{AnswersInTurn, Gives, SiteReceives, step_at}
 use Rattle.rt_peers.specs.SiteValue.{SiteValue}
 
 -- CALLS
@@ -26,12 +21,6 @@ pub data Event : Type 0 where
   Command : (path : Word) (words : List Word) → Event
   -- a request to it
   Answer : (path : Word) (request : Request) → Event
-  -- its options are set
-  Configure : (path : Word) (settings : WidgetSettings) → Event
-  -- one of its options is told
-  Cget : (path : Word) (option : NamedOption) → Event
-  -- a request about its peers
-  AnswerPeers : (path : Word) (request : PeerRequest) → Event
   -- it goes
   Destroy : (path : Word) → Event
   -- the bytes of a file
@@ -47,9 +36,6 @@ pub data Told : Type 0 where
 abbrev pub EventGives : Event → SiteValue → Told → SiteValue → Type 0
 EventGives (Command path words) old (Replied result) new = Gives path words old result new
 EventGives (Answer path request) old (Replied result) new = AnswersInTurn (step_at path old request) old result new
-EventGives (Configure path settings) old (Replied result) new = Answers (settings_at path old settings) old result new
-EventGives (Cget path option) old (Replied result) new = Answers (option_at path old option) old result new
-EventGives (AnswerPeers path request) old (Replied result) new = Answers (peer_step_at path old request) old result new
 EventGives (Destroy path) old (Replied result) new = Destroys path old result new
 EventGives (Receive bytes) old (OfFile received) new = SiteReceives bytes old received new
 EventGives event old told new = ⊥
@@ -67,9 +53,6 @@ EventsGive (event ∷ events) old [] new = ⊥
 abbrev pub EventFoundMemory : (event : Event) (old : SiteValue) (told : Told) (new : SiteValue) → EventGives event old told new → Type 0
 EventFoundMemory (Command path words) old (Replied result) new h = GivesFoundMemory path words old result new h
 EventFoundMemory (Answer path request) old (Replied result) new h = RequestFoundMemory (step_at path old request) old result new h
-EventFoundMemory (Configure path settings) old (Replied result) new h = result ≢ Err NoMemory
-EventFoundMemory (Cget path option) old (Replied result) new h = result ≢ Err NoMemory
-EventFoundMemory (AnswerPeers path request) old (Replied result) new h = result ≢ Err NoMemory
 EventFoundMemory (Destroy path) old (Replied result) new h = Unit {0}
 EventFoundMemory (Receive bytes) old (OfFile received) new h = ReceivingFoundMemory bytes old received new h
 EventFoundMemory event old told new h = Unit {0}

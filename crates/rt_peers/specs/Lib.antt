@@ -16,8 +16,8 @@ pub use Rattle.rt_stamps.specs.Outcomes
 pub use Rattle.rt_stamps.specs.Places
 pub use Rattle.rt_stamps.specs.Words
 pub use Rattle.rt_edits.specs.DocValue
-pub use Rattle.rt_peer_requests.specs.PeerWords
-pub use Rattle.rt_peer_requests.specs.SettingWords
+pub use Rattle.rt_requests.specs.PeerWords
+pub use Rattle.rt_requests.specs.SettingWords
 pub use Rattle.rt_text.specs.Index
 pub use Rattle.rt_text.specs.Commands
 pub use Rattle.rt_text.specs.Limited

@@ -1,23 +1,23 @@
 -- The options of a widget (Tk text manual, "WIDGET-SPECIFIC OPTIONS"): those that all widgets of a site share, and the limits of
 -- what this one shows. What sets them, and what they tell.
-use Rattle.std.specs.Prelude.{ℕ, ◌-◌, ◌^◌, [], Option, Some, None, Result, Ok, Err}
+use Rattle.std.specs.Prelude.{ℕ, ◌-◌, ◌^◌, [], Bool, Option, Some, None, unwrap_or, Result, Ok, Err}
 use Rattle.std.specs.Fmt.{decimal}
 use Rattle.rt_stamps.specs.declared.fault.Fault.{Fault}
 use Rattle.rt_stamps.specs.Words.{Word}
 use Rattle.rt_requests.specs.declared.options.Settings.{Settings}
-use Rattle.rt_peer_requests.specs.declared.limits.Limit.{Limit}
-use Rattle.rt_peer_requests.specs.declared.limits.Limit.TheVariants as limits
-use Rattle.rt_peer_requests.specs.declared.options.NamedOption.{NamedOption}
-use Rattle.rt_peer_requests.specs.declared.options.NamedOption.TheVariants.{Shared, StartLine, EndLine}
-use Rattle.rt_peer_requests.specs.declared.settings.WidgetSettings.{WidgetSettings}
-use Rattle.rt_peer_requests.specs.SettingWords.{AskedOfSettings}
+use Rattle.rt_requests.specs.declared.limits.Limit.{Limit}
+use Rattle.rt_requests.specs.declared.limits.Limit.TheVariants as limits
+use Rattle.rt_requests.specs.declared.options.NamedOption.{NamedOption}
+use Rattle.rt_requests.specs.declared.options.NamedOption.TheVariants.{Shared, StartLine, EndLine}
+use Rattle.rt_requests.specs.declared.options.WidgetOption.{WidgetOption}
+use Rattle.rt_requests.specs.declared.options.WidgetOption.TheVariants.{Undo, AutoSeparators}
+use Rattle.rt_requests.specs.declared.settings.WidgetSettings.{WidgetSettings}
 use Rattle.rt_editing.specs.EditedValue.{EditedValue}
 use Rattle.rt_text.specs.Limited.{limited}
 use Rattle.rt_text.specs.Widgets.{ViewValue}
 use Rattle.rt_views.specs.declared.choice.Choice.{Choice}
 use Rattle.rt_views.specs.declared.choice.Choice.TheVariants.{Kept, Away, Line}
 use Rattle.rt_views.specs.Limits.{end_number, start_number}
-use Rattle.rt_peers.specs.Step.{configured, option_value}
 use Rattle.rt_peers.specs.ViewStep.{Outcome, changed_step, one_word, text_of_bool}
 
 -- SETTING
@@ -28,6 +28,10 @@ choice_of None = Kept
 choice_of (Some limits.Absent) = Away
 choice_of (Some (limits.Line number)) = Line number
 choice_of (Some limits.PastEveryLine) = Line (2 ^ 64 - 1)
+
+-- shared options that are given a value; the others stay
+abbrev pub configured : EditedValue → Settings → EditedValue
+configured text settings = record text { undo = unwrap_or settings.undo text.undo; auto = unwrap_or settings.auto_separators text.auto }
 
 -- where what a widget shows can be set, the shared options are set too
 abbrev pub text_configured : EditedValue → Settings → Result ViewValue Fault → Result EditedValue Fault
@@ -41,12 +45,12 @@ text_set text settings = text_configured text settings.shared (limited text.view
 abbrev pub settings_step : EditedValue → WidgetSettings → Outcome EditedValue
 settings_step text settings = changed_step (text_set text settings)
 
--- words that set options, or that are refused
-abbrev pub settings_outcome : EditedValue → AskedOfSettings → Outcome EditedValue
-settings_outcome text (Ok settings) = settings_step text settings
-settings_outcome text (Err fault) = Err fault
-
 -- TELLING
+
+-- what a shared option is set to
+abbrev pub option_value : EditedValue → WidgetOption → Bool
+option_value text Undo = text.undo
+option_value text AutoSeparators = text.auto
 
 -- a number of a line, and the empty word without one
 abbrev pub number_word : Option ℕ → Word
@@ -62,8 +66,3 @@ option_value_word text EndLine = number_word (end_number text.view.doc.cells tex
 -- cget OPTION
 abbrev pub option_step : EditedValue → NamedOption → Outcome EditedValue
 option_step text option = Ok (one_word (option_value_word text option), text)
-
--- a word that names an option, or that is refused
-abbrev pub option_outcome : EditedValue → Result NamedOption Fault → Outcome EditedValue
-option_outcome text (Ok option) = option_step text option
-option_outcome text (Err fault) = Err fault

@@ -6,10 +6,9 @@ use Rattle.rt_stamps.specs.declared.fault.Fault.{Fault}
 use Rattle.rt_stamps.specs.declared.fault.Fault.TheVariants.{LastWidget, NoWidget, WidgetExists}
 use Rattle.rt_stamps.specs.Outcomes.{unless}
 use Rattle.rt_stamps.specs.Words.{Word}
-use Rattle.rt_peer_requests.specs.declared.peers.PeerRequest.{PeerRequest}
-use Rattle.rt_peer_requests.specs.declared.peers.PeerRequest.TheVariants.{Create, Names}
-use Rattle.rt_peer_requests.specs.declared.settings.WidgetSettings.{WidgetSettings}
-use Rattle.rt_peer_requests.specs.PeerWords.{AskedOfPeers}
+use Rattle.rt_requests.specs.declared.peers.PeerRequest.{PeerRequest}
+use Rattle.rt_requests.specs.declared.peers.PeerRequest.TheVariants.{Create, Names}
+use Rattle.rt_requests.specs.declared.settings.WidgetSettings.{WidgetSettings}
 use Rattle.rt_editing.specs.EditedValue.{EditedValue}
 use Rattle.rt_text.specs.Limited.{with_peer}
 use Rattle.rt_peers.specs.SiteValue.{SiteValue, is_widget, place_of}
@@ -42,11 +41,6 @@ other_paths path paths = filter (λ other. not (bytes_eq other path)) paths
 abbrev pub peer_step : Word → ℕ → SiteValue → PeerRequest → Outcome SiteValue
 peer_step path place state (Create new settings) = created place new state settings (path_check new state.paths)
 peer_step path place state Names = Ok (other_paths path state.paths, state)
-
--- words that ask for something of peers, or that are refused
-abbrev pub peer_outcome : Word → ℕ → SiteValue → AskedOfPeers → Outcome SiteValue
-peer_outcome path place state (Ok request) = peer_step path place state request
-peer_outcome path place state (Err fault) = Err fault
 
 -- `destroy PATH`
 

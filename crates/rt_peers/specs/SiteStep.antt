@@ -1,17 +1,12 @@
 -- What the commands of a site's widgets do: the reply and the site after it, or why it is refused.
-use Rattle.std.specs.Prelude.{◌≡◌, ℕ, Bool, true, nat_lt, List, [], ◌∷◌, length, Option, Some, None, Result, Err, MatchBool, codes}
-use Rattle.std.specs.Str.{bytes_eq}
+use Rattle.std.specs.Prelude.{◌≡◌, ℕ, Bool, true, nat_lt, List, length, Option, Some, None, Result, Ok, Err, MatchBool}
 use Rattle.rt_stamps.specs.declared.fault.Fault.{Fault}
 use Rattle.rt_stamps.specs.declared.fault.Fault.TheVariants.{NoWidget}
 use Rattle.rt_stamps.specs.Outcomes.{Answers}
 use Rattle.rt_stamps.specs.Words.{Word}
 use Rattle.rt_requests.specs.declared.request.Request.{Request}
+use Rattle.rt_requests.specs.declared.request.Request.TheVariants.{Peer}
 use Rattle.rt_requests.specs.Asking.{Asked, Asks}
-use Rattle.rt_peer_requests.specs.declared.peers.PeerRequest.{PeerRequest}
-use Rattle.rt_peer_requests.specs.declared.options.NamedOption.{NamedOption}
-use Rattle.rt_peer_requests.specs.declared.settings.WidgetSettings.{WidgetSettings}
-use Rattle.rt_peer_requests.specs.PeerWords.{asked_of_peers}
-use Rattle.rt_peer_requests.specs.SettingWords.{asked_named_option, asked_settings}
 use Rattle.rt_editing.specs.EditedValue.{EditedValue}
 use Rattle.rt_editing.specs.Edits.{text_with_new}
 use Rattle.rt_holding.specs.declared.receiving.Received.{Received}
@@ -20,10 +15,9 @@ use Rattle.rt_holding.specs.Taken.{AreTried}
 use Rattle.rt_ops.specs.Operations.{Body, Operation}
 use Rattle.rt_rga.specs.Drafts.{with_drafts}
 use Rattle.rt_rga.specs.Requests.{MayBeMade, fit}
-use Rattle.rt_peers.specs.Options.{option_outcome, option_step, settings_outcome, settings_step}
-use Rattle.rt_peers.specs.PeerStep.{peer_outcome, peer_step}
+use Rattle.rt_peers.specs.PeerStep.{peer_step}
 use Rattle.rt_peers.specs.SiteValue.{SiteValue, holding_of, place_of}
-use Rattle.rt_peers.specs.Step.{outcome, step}
+use Rattle.rt_peers.specs.Step.{step}
 use Rattle.rt_peers.specs.ViewStep.{Outcome, as_outcome}
 use Rattle.rt_peers.specs.Peers.{text_led}
 
@@ -36,21 +30,19 @@ abbrev pub at_widget : Option ℕ → (ℕ → Outcome SiteValue) → Outcome Si
 at_widget None does = Err NoWidget
 at_widget (Some place) does = does place
 
+-- a request to the widget of a path, which is the one at a place: of its peers the site answers, and of all else its text
+abbrev pub widget_step : Word → ℕ → SiteValue → Request → Outcome SiteValue
+widget_step path place state (Peer request) = peer_step path place state request
+widget_step path place state request = by_widget place state (λ text. step text request)
+
 -- a request to the widget of a path
 abbrev pub step_at : Word → SiteValue → Request → Outcome SiteValue
-step_at path state request = at_widget (place_of path state.paths) (λ place. by_widget place state (λ text. step text request))
+step_at path state request = at_widget (place_of path state.paths) (λ place. widget_step path place state request)
 
--- what its options are set to
-abbrev pub settings_at : Word → SiteValue → WidgetSettings → Outcome SiteValue
-settings_at path state settings = at_widget (place_of path state.paths) (λ place. by_widget place state (λ text. settings_step text settings))
-
--- what one of them tells
-abbrev pub option_at : Word → SiteValue → NamedOption → Outcome SiteValue
-option_at path state option = at_widget (place_of path state.paths) (λ place. by_widget place state (λ text. option_step text option))
-
--- a request about its peers
-abbrev pub peer_step_at : Word → SiteValue → PeerRequest → Outcome SiteValue
-peer_step_at path state request = at_widget (place_of path state.paths) (λ place. peer_step path place state request)
+-- words that ask it for something, or that are refused
+abbrev pub outcome_at : Word → SiteValue → Asked → Outcome SiteValue
+outcome_at path state (Ok request) = step_at path state request
+outcome_at path state (Err fault) = at_widget (place_of path state.paths) (λ place. Err fault)
 
 -- HELD OPERATIONS
 
@@ -113,35 +105,13 @@ AnswersInTurn outcome old result new =
 
 -- COMMANDS
 
--- a widget's command answers what its words ask for
-abbrev pub WidgetGives : ℕ → List Word → SiteValue → Result (List Word) Fault → SiteValue → Type 0
-WidgetGives place words old result new =
-    (asked : Asked) × Asks words asked × AnswersInTurn (by_widget place old (λ text. outcome text asked)) old result new
-
--- COMMAND WORDS of a widget that is neither about widgets nor sets options: `cget` tells an option of this widget, and every other
--- command is about what it shows
-abbrev pub AskingGives : ℕ → Word → List Word → SiteValue → Result (List Word) Fault → SiteValue → Type 0
-AskingGives place name words old result new = MatchBool (bytes_eq name (codes "cget"))
-    (Answers (by_widget place old (λ text. option_outcome text (asked_named_option words))) old result new)
-    (WidgetGives place (name ∷ words) old result new)
-
--- one that isn't about widgets: `configure` sets options of this widget
-abbrev pub OwnGives : ℕ → Word → List Word → SiteValue → Result (List Word) Fault → SiteValue → Type 0
-OwnGives place name words old result new = MatchBool (bytes_eq name (codes "configure"))
-    (Answers (by_widget place old (λ text. settings_outcome text (asked_settings words))) old result new)
-    (AskingGives place name words old result new)
-
--- any: `peer` is about the widgets of the site
-abbrev pub CommandGives : Word → ℕ → List Word → SiteValue → Result (List Word) Fault → SiteValue → Type 0
-CommandGives path place [] old result new = WidgetGives place [] old result new
-CommandGives path place (name ∷ words) old result new = MatchBool (bytes_eq name (codes "peer"))
-    (Answers (peer_outcome path place old (asked_of_peers words)) old result new)
-    (OwnGives place name words old result new)
-
--- What PATH COMMAND WORDS gives in a state: a reply or a fault, and the state after it.
+-- What PATH COMMAND WORDS gives in a state: a reply or a fault, and the state after it. Its words ask for something or are refused.
+-- That there is no widget of the path comes first, and takes no memory.
 pub record Gives (path : Word) (words : List Word) (old : SiteValue) (result : Result (List Word) Fault) (new : SiteValue) : Type 0 where
+  pub asked : Asked
+  pub asks : Asks words asked
+  pub answers : AnswersInTurn (outcome_at path old asked) old result new
   pub none : place_of path old.paths ≡ None → (result ≡ Err NoWidget) × (new ≡ old)
-  pub some : (place : ℕ) → place_of path old.paths ≡ Some place → CommandGives path place words old result new
 
 -- OPERATIONS OF OTHER SITES
 

@@ -1,16 +1,13 @@
 -- What a request to a widget does to the text as that widget shows it: the reply and the text after it, or why it is refused. Which
--- words ask for what stands in rt_requests (`Asks`).
-use Rattle.std.specs.Prelude.{◌&&◌, [], map, flat_map, Bool, is_some, unwrap_or, Ok, Err, if◌then◌else◌}
+-- words ask for what stands in rt_requests (`Asks`). What is asked of its peers, the site answers (`PeerStep`, `SiteStep`).
+use Rattle.std.specs.Prelude.{◌&&◌, [], map, flat_map, Bool, is_some, Ok, Err, if◌then◌else◌}
 use Rattle.std.specs.Fmt.{signed_decimal}
 use Rattle.rt_stamps.specs.Places.{text_of_position}
-use Rattle.rt_requests.specs.declared.options.Settings.{Settings}
-use Rattle.rt_requests.specs.declared.options.WidgetOption.{WidgetOption}
-use Rattle.rt_requests.specs.declared.options.WidgetOption.TheVariants.{Undo, AutoSeparators}
+use Rattle.rt_stamps.specs.declared.fault.Fault.TheVariants.{BadCommand}
 use Rattle.rt_requests.specs.declared.request.EditRequest.{EditRequest}
 use Rattle.rt_requests.specs.declared.request.EditRequest.TheVariants as edits
 use Rattle.rt_requests.specs.declared.request.Request.{Request}
-use Rattle.rt_requests.specs.declared.request.Request.TheVariants.{Insert, Delete, Get, Index, Compare, Count, Search, Replace, Dump, Mark, Tag, Edit, Configure, Cget}
-use Rattle.rt_requests.specs.Asking.{Asked}
+use Rattle.rt_requests.specs.declared.request.Request.TheVariants.{Insert, Delete, Get, Index, Compare, Count, Search, Replace, Dump, Mark, Tag, Edit, Configure, Cget, Peer}
 use Rattle.rt_requests.specs.Parts.{all_of}
 use Rattle.rt_queries.specs.Dumping.{dumped}
 use Rattle.rt_editing.specs.EditedValue.{EditedValue}
@@ -20,6 +17,7 @@ use Rattle.rt_queries.specs.SearchCommand.{searched}
 use Rattle.rt_text.specs.Commands.{position_of_index, compared, counted}
 use Rattle.rt_text.specs.Widgets.{ViewValue}
 use Rattle.rt_undo.specs.Undo.{emptied, forced_on, is_modified, next_redo, next_undo, separated, unmodified}
+use Rattle.rt_peers.specs.Options.{option_step, settings_step}
 use Rattle.rt_peers.specs.ViewStep.{Outcome, as_outcome, as_piece, changed_step, element_words, get_step, mark_step, one_word, tag_step, text_of_bool, told_step}
 
 -- what a request does to what the widget shows, as one to the text: the history of its edits stays
@@ -44,16 +42,7 @@ edit_step text edits.CanRedo = Ok (one_word (text_of_bool (can_redo text)), text
 edit_step text edits.Modified = Ok (one_word (text_of_bool (is_modified text.history)), text)
 edit_step text (edits.SetModified on) = Ok ([], record text { history = if on then forced_on text.history else unmodified text.history })
 
--- options that are given a value; the others stay
-abbrev pub configured : EditedValue → Settings → EditedValue
-configured text settings = record text { undo = unwrap_or settings.undo text.undo; auto = unwrap_or settings.auto_separators text.auto }
-
--- what an option is set to
-abbrev pub option_value : EditedValue → WidgetOption → Bool
-option_value text Undo = text.undo
-option_value text AutoSeparators = text.auto
-
--- what is asked of a widget
+-- what is asked of a widget; a text by itself has no peers
 abbrev pub step : EditedValue → Request → Outcome EditedValue
 step text (Insert index texts) = changed_step (text_inserted text index (map as_piece texts.pieces) texts.rest)
 step text (Delete indices) = changed_step (text_deleted text (all_of indices))
@@ -68,10 +57,6 @@ step text (Dump kinds from to) = on_view text (told_step (flat_map element_words
 step text (Mark request) = on_view text (mark_step text.view request)
 step text (Tag request) = on_view text (tag_step text.view request)
 step text (Edit request) = edit_step text request
-step text (Configure settings) = Ok ([], configured text settings)
-step text (Cget option) = Ok (one_word (text_of_bool (option_value text option)), text)
-
--- words that ask for something, or that are refused
-abbrev pub outcome : EditedValue → Asked → Outcome EditedValue
-outcome text (Ok request) = step text request
-outcome text (Err fault) = Err fault
+step text (Configure settings) = settings_step text settings
+step text (Cget option) = option_step text option
+step text (Peer request) = Err BadCommand

@@ -2,7 +2,7 @@
 ghost use Rattle.std.specs.Prelude.{◌≡◌};
 ghost use Rattle.rt_peers.specs.Options.{choice_of};
 
-use rt_peer_requests::Limit;
+use rt_requests::Limit;
 use rt_views::Choice;
 
 /// What a limit asks for. A line whose number is too great to be kept is asked for by the greatest number.

@@ -2,33 +2,35 @@
 ghost use Rattle.std.specs.Prelude.{◌≡◌, ℕ, List, Ok, Result, Some};
 ghost use Rattle.rt_stamps.specs.declared.fault.Fault.{Fault};
 ghost use Rattle.rt_stamps.specs.declared.stamp.Stamp.{Stamp};
-ghost use Rattle.rt_stamps.specs.Outcomes.{Answers};
 ghost use Rattle.rt_stamps.specs.Words.{Word};
 ghost use Rattle.rt_rga.specs.Texts.{tagged_text};
 ghost use Rattle.rt_editing.specs.EditedValue.{EditedValue};
 ghost use Rattle.rt_oplog.specs.Logs.{AreOf};
-ghost use Rattle.rt_peer_requests.specs.declared.options.NamedOption.{NamedOption};
-ghost use Rattle.rt_peer_requests.specs.declared.peers.PeerRequest.{PeerRequest};
-ghost use Rattle.rt_peer_requests.specs.declared.settings.WidgetSettings.{WidgetSettings};
+ghost use Rattle.rt_requests.specs.declared.options.NamedOption.{NamedOption};
+ghost use Rattle.rt_requests.specs.declared.peers.PeerRequest.{PeerRequest};
+ghost use Rattle.rt_requests.specs.declared.request.Request.TheVariants.{Cget, Configure, Peer};
+ghost use Rattle.rt_requests.specs.declared.settings.WidgetSettings.{WidgetSettings};
 ghost use Rattle.rt_peers.specs.Cursors.{place_by, stamp_by};
 ghost use Rattle.rt_peers.specs.Events.{EventsGoOneWay, EventsLive};
 ghost use Rattle.rt_peers.specs.Exchange.{AgreeOnceCaughtUp, AgreeOnceExchanged, ExchangeAgrees, ReceivesAny, ReceivesLacking, ReceivesWhole, TellsClash};
 ghost use Rattle.rt_peers.specs.Lives.{AcceptsGreatest, AcceptsHistory, AgreeInAnyOrder, KeepsOrMakes, SitesHold};
-ghost use Rattle.rt_peers.specs.Memory.{CommandsGoOneWay, OthersGoOneWay, ReceivingFindsMemory, ReceivingGoesOneWay, RequestsGoOneWay};
+ghost use Rattle.rt_peers.specs.Memory.{CommandsGoOneWay, ReceivingFindsMemory, ReceivingGoesOneWay, RequestsGoOneWay};
 ghost use Rattle.rt_peers.specs.Peers.{text_led};
 ghost use Rattle.rt_peers.specs.PeerStep.{destroyed};
-ghost use Rattle.rt_peers.specs.SiteStep.{AnswersInTurn, Gives, KeepsOperations, by_widget, log_of, option_at, peer_step_at, settings_at};
+ghost use Rattle.rt_peers.specs.SiteStep.{AnswersInTurn, Gives, KeepsOperations, by_widget, log_of, step_at};
 ghost use Rattle.rt_peers.specs.SiteValue.{SiteValue};
 ghost use Rattle.rt_peers.specs.ViewStep.{Outcome};
 
 use crate::SiteState;
 
 /// A widget that commands changes places with the first one, and then back again: so a step that leaves the text as it
-/// was leaves the site as it was.
+/// was leaves the site as it was. So a site is left as it was that tells what an option is set to.
 pub fn telling()
     ensures back { (place : ℕ) (text : EditedValue) → text_led place (text_led place text) ≡ text }
     ensures told { (place : ℕ) (state : SiteValue) (reply : List Word)
         → by_widget place state (λ text. Ok (reply, text)) ≡ Ok (reply, state) }
+    ensures option { (path : Word) (option : NamedOption) (old new : SiteValue) (result : Result (List Word) Fault)
+        → AnswersInTurn (step_at path old (Cget option)) old result new → new ≡ old }
 {}
 
 /// The stamp of a character that a widget shows finds the place at which it stands there.
@@ -104,19 +106,19 @@ pub fn accepted()
 {}
 
 /// What a call of a site does to its operations, by what its own clause says: it accepts nothing, or it makes
-/// operations of the site's own, after which held ones are tried. Besides these calls there are `SiteState::receive` and
-/// `receive_telling`.
+/// operations of the site's own, after which held ones are tried. Where options or peers are asked for it accepts nothing.
+/// Besides these calls there are `SiteState::receive` and `receive_telling`.
 pub fn calls()
     ensures answers { (outcome : Outcome SiteValue) (old new : SiteValue) (result : Result (List Word) Fault)
         → AnswersInTurn outcome old result new → KeepsOrMakes old new }
     ensures commands { (path : Word) (words : List Word) (old new : SiteValue) (result : Result (List Word) Fault)
         → Gives path words old result new → KeepsOrMakes old new }
     ensures settings { (path : Word) (settings : WidgetSettings) (old new : SiteValue) (result : Result (List Word) Fault)
-        → Answers (settings_at path old settings) old result new → KeepsOperations old new }
+        → AnswersInTurn (step_at path old (Configure settings)) old result new → KeepsOperations old new }
     ensures options { (path : Word) (option : NamedOption) (old new : SiteValue) (result : Result (List Word) Fault)
-        → Answers (option_at path old option) old result new → KeepsOperations old new }
+        → AnswersInTurn (step_at path old (Cget option)) old result new → KeepsOperations old new }
     ensures peers { (path : Word) (request : PeerRequest) (old new : SiteValue) (result : Result (List Word) Fault)
-        → Answers (peer_step_at path old request) old result new → KeepsOperations old new }
+        → AnswersInTurn (step_at path old (Peer request)) old result new → KeepsOperations old new }
     ensures destroyed { (path : Word) (old new : SiteValue) → destroyed path old ≡ Ok new → KeepsOperations old new }
 {}
 
@@ -130,7 +132,6 @@ pub fn lives_on()
 /// are asked the same go on as one. So it is of any calls, one after the other. Each file that is read can be received so.
 pub fn one_way()
     ensures requests { RequestsGoOneWay }
-    ensures others { OthersGoOneWay }
     ensures commands { CommandsGoOneWay }
     ensures receiving { ReceivingGoesOneWay }
     ensures found { ReceivingFindsMemory }

@@ -1,5 +1,5 @@
 // The paths of a site's widgets.
-ghost use Rattle.std.specs.Prelude.{◌≡◌, IfOk, IsOkUnless, codes, string_bytes};
+ghost use Rattle.std.specs.Prelude.{◌≡◌, IfOk, IsOkUnless, string_bytes};
 ghost use Rattle.std.specs.List.{position};
 ghost use Rattle.std.specs.Str.{bytes_eq};
 ghost use Rattle.rt_stamps.specs.Words.{as_words};
@@ -35,25 +35,4 @@ pub(crate) fn other_paths(alloc: Global, paths: &[String], path: &str) -> Result
         }
     }
     Ok(others)
-}
-
-/// Whether a command's name is `peer`.
-pub(crate) fn is_peer(name: &str) -> bool
-    ensures { result ≡ bytes_eq name.now (codes "peer") }
-{
-    name == "peer"
-}
-
-/// Whether a command's name is `configure`.
-pub(crate) fn is_configure(name: &str) -> bool
-    ensures { result ≡ bytes_eq name.now (codes "configure") }
-{
-    name == "configure"
-}
-
-/// Whether a command's name is `cget`.
-pub(crate) fn is_cget(name: &str) -> bool
-    ensures { result ≡ bytes_eq name.now (codes "cget") }
-{
-    name == "cget"
 }

@@ -1,19 +1,18 @@
 // A site, and what is asked of its widgets.
-ghost use Rattle.std.specs.Prelude.{◌≡◌, ◌∷◌, ◌<◌, ◌≤◌, Err, IfOk, IsOkUnless, None, length};
+ghost use Rattle.std.specs.Prelude.{◌≡◌, ◌<◌, ◌≤◌, Err, IfOk, IsOkUnless, None, length};
 ghost use Rattle.rt_stamps.specs.declared.limits.TheConstants.{MOST_CELLS};
 ghost use Rattle.rt_stamps.specs.Words.{as_words};
 ghost use Rattle.rt_peers.specs.Peers.{HavePaths};
-ghost use Rattle.rt_peers.specs.SiteStep.{AnswersInTurn, AskingGives, CommandGives, Gives, OwnGives, WidgetGives, by_widget, step_at};
+ghost use Rattle.rt_peers.specs.SiteStep.{AnswersInTurn, Gives, by_widget, step_at, widget_step};
 ghost use Rattle.rt_peers.specs.SiteValue.{new_site, place_of};
 ghost use Rattle.rt_peers.specs.Step.{step};
 
 mod cursors;
 mod exchange;
-mod options;
 mod peers;
 mod undoing;
 
-use crate::paths::{is_cget, is_configure, is_peer, place_of};
+use crate::paths::place_of;
 use crate::reply::Reply;
 use crate::text::EditedText;
 use rt_holding::Held;
@@ -87,9 +86,9 @@ impl SiteState {
         &self.paths
     }
 
-    // What is asked of the widget at a place. Refused by the request's own faults, or for want of
+    // What is asked of what the widget at a place shows. Refused by the request's own faults, or for want of
     // memory; then the site is as it was. Where it made operations, held ones are tried then.
-    fn request(&mut self, place: usize, request: &Request<'_>) -> Result<Reply, Fault>
+    fn ask_text(&mut self, place: usize, request: &Request<'_>) -> Result<Reply, Fault>
         requires { place < length self.old.paths }
         ensures { AnswersInTurn (by_widget place self.old (λ text. step text request.now)) self.old result self.new }
     {
@@ -104,6 +103,17 @@ impl SiteState {
         reply
     }
 
+    // What is asked of the widget of a path, which is the one at a place.
+    fn request(&mut self, path: &str, place: usize, request: &Request<'_>) -> Result<Reply, Fault>
+        requires { place < length self.old.paths }
+        ensures { AnswersInTurn (widget_step path.now place self.old request.now) self.old result self.new }
+    {
+        match request {
+            Request::Peer(request) => self.peers(path, place, request),
+            _ => self.ask_text(place, request),
+        }
+    }
+
     /// What is asked of the widget of a path. Refused by the first of `NoWidget` and the request's own
     /// faults, or for want of memory; then the site is as it was. Where the site made operations for it, those that
     /// it holds are tried then, and those that can be taken change text, marks and tags as received ones do; the
@@ -115,73 +125,11 @@ impl SiteState {
         let Some(place) = place_of(&self.paths, path) else {
             return Err(Fault::NoWidget);
         };
-        self.request(place, request)
+        self.request(path, place, request)
     }
 
-    // COMMAND WORDS of the widget at a place, where the command is about what that widget shows.
-    fn run_words(&mut self, place: usize, words: &[String]) -> Result<Reply, Fault>
-        requires { place < length self.old.paths }
-        ensures { WidgetGives place (as_words words.now) self.old result self.new }
-    {
-        match Request::of(self.alloc, words) {
-            Ok(request) => self.request(place, &request),
-            Err(fault) => Err(fault),
-        }
-    }
-
-    // NAME WORDS of the widget at a place, which is neither `peer` nor `configure`.
-    fn run_asking(
-        &mut self,
-        place: usize,
-        words: &[String],
-        name: &str,
-        rest: &[String],
-    ) -> Result<Reply, Fault>
-        requires place { place < length self.old.paths }
-        requires words { as_words words.now ≡ name.now ∷ as_words rest.now }
-        ensures { AskingGives place name.now (as_words rest.now) self.old result self.new }
-    {
-        if is_cget(name) {
-            return self.run_cget(place, rest);
-        }
-        self.run_words(place, words)
-    }
-
-    // NAME WORDS of the widget at a place, which isn't `peer`.
-    fn run_own(
-        &mut self,
-        place: usize,
-        words: &[String],
-        name: &str,
-        rest: &[String],
-    ) -> Result<Reply, Fault>
-        requires place { place < length self.old.paths }
-        requires words { as_words words.now ≡ name.now ∷ as_words rest.now }
-        ensures { OwnGives place name.now (as_words rest.now) self.old result self.new }
-    {
-        if is_configure(name) {
-            return self.run_configure(place, rest);
-        }
-        self.run_asking(place, words, name, rest)
-    }
-
-    // COMMAND WORDS of the widget of a path, which is the one at a place.
-    fn run(&mut self, path: &str, place: usize, words: &[String]) -> Result<Reply, Fault>
-        requires { place < length self.old.paths }
-        ensures { CommandGives path.now place (as_words words.now) self.old result self.new }
-    {
-        let Some((name, rest)) = words.split_first() else {
-            return self.run_words(place, words);
-        };
-        if is_peer(name) {
-            return self.run_peer(path, place, rest);
-        }
-        self.run_own(place, words, name, rest)
-    }
-
-    /// `PATH COMMAND WORDS` (Tk text manual): runs a command of the widget of a path. Refused by the
-    /// first of `NoWidget`, the faults of the words (`PeerRequest::of` behind `peer`, `WidgetSettings::of` behind
-    /// `configure`, `NamedOption::asked` behind `cget`, `Request::of`) and of the request, and want of memory in place of any;
+    /// `PATH COMMAND WORDS` (Tk text manual): what words ask of the widget of a path (`Request::of`). Refused by the first
+    /// of `NoWidget`, the faults of the words and of the request, and want of memory in place of any but the first;
     /// then the site is as it was.
     pub fn command(&mut self, path: &str, words: &[String]) -> Result<Reply, Fault>
         ensures { Gives path.now (as_words words.now) self.old result self.new }
@@ -189,6 +137,9 @@ impl SiteState {
         let Some(place) = place_of(&self.paths, path) else {
             return Err(Fault::NoWidget);
         };
-        self.run(path, place, words)
+        match Request::of(self.alloc, words) {
+            Ok(request) => self.request(path, place, &request),
+            Err(fault) => Err(fault),
+        }
     }
 }

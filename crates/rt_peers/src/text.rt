@@ -76,7 +76,7 @@ impl EditedText {
     }
 
     /// What is asked of the widget. Refused by the request's own faults, or for want of memory; then
-    /// all is as it was.
+    /// all is as it was. What is asked of its peers isn't the text's to answer.
     pub(crate) fn request(&mut self, request: &Request<'_>) -> Result<Reply, Fault>
         ensures { Answers (step self.old request.now) self.old result self.new }
     {
@@ -101,8 +101,9 @@ impl EditedText {
             Request::Mark(request) => self.mark(request),
             Request::Tag(request) => self.tag(request),
             Request::Edit(request) => self.edit(*request),
-            Request::Configure { settings } => self.configure(*settings),
-            Request::Cget { option } => self.cget(*option),
+            Request::Configure { settings } => self.set(settings),
+            Request::Cget { option } => self.tell(*option),
+            Request::Peer(_) => Err(Fault::BadCommand),
         }
     }
 }

@@ -1,18 +1,15 @@
 // What is asked of the widgets of a site.
-ghost use Rattle.std.specs.Prelude.{◌≡◌, ◌∷◌, ◌++◌, ◌<◌, [], None, Ok, Err, IfOk, IfErr, OnErr, OnOk, length};
+ghost use Rattle.std.specs.Prelude.{◌≡◌, ◌∷◌, ◌++◌, ◌<◌, [], None, Ok, IfErr, OnErr, OnOk, length};
 ghost use Rattle.rt_stamps.specs.Outcomes.{Answers, Refuses};
-ghost use Rattle.rt_stamps.specs.Words.{as_words};
-ghost use Rattle.rt_peer_requests.specs.PeerWords.{asked_of_peers};
 ghost use Rattle.rt_peers.specs.Peers.{text_led};
-ghost use Rattle.rt_peers.specs.PeerStep.{Destroys, created, other_paths, path_check, peer_outcome, peer_step, text_with_peer};
-ghost use Rattle.rt_peers.specs.SiteStep.{peer_step_at};
+ghost use Rattle.rt_peers.specs.PeerStep.{Destroys, created, other_paths, path_check, peer_step, text_with_peer};
 ghost use Rattle.rt_peers.specs.SiteValue.{place_of};
 
 use super::SiteState;
 use crate::paths::{other_paths, place_of};
 use crate::replies::{no_words, one_word};
 use crate::reply::Reply;
-use rt_peer_requests::{Path, PeerRequest, WidgetSettings};
+use rt_requests::{Path, PeerRequest, WidgetSettings};
 use rt_stamps::Fault;
 
 impl SiteState {
@@ -65,8 +62,14 @@ impl SiteState {
         Ok(Reply { words })
     }
 
-    // What is asked of the peers of the widget of a path, which is the one at a place.
-    fn peers(&mut self, path: &str, place: usize, request: &PeerRequest<'_>) -> Result<Reply, Fault>
+    // What is asked of the peers of the widget of a path, which is the one at a place (Tk text manual, "Peer widgets").
+    // Refused by the first of `WidgetExists` and `BadView`, or for want of memory; then the site is as it was.
+    pub(super) fn peers(
+        &mut self,
+        path: &str,
+        place: usize,
+        request: &PeerRequest<'_>,
+    ) -> Result<Reply, Fault>
         requires { place < length self.old.paths }
         ensures { Answers (peer_step path.now place self.old request.now) self.old result self.new }
     {
@@ -77,32 +80,6 @@ impl SiteState {
             } => self.create(place, new, settings),
             PeerRequest::Names => self.peer_names(path),
         }
-    }
-
-    // The words behind `peer`, of a command of the widget of a path.
-    pub(super) fn run_peer(
-        &mut self,
-        path: &str,
-        place: usize,
-        words: &[String],
-    ) -> Result<Reply, Fault>
-        requires { place < length self.old.paths }
-        ensures { Answers (peer_outcome path.now place self.old (asked_of_peers (as_words words.now))) self.old result self.new }
-    {
-        let request = PeerRequest::of(words)?;
-        self.peers(path, place, &request)
-    }
-
-    /// What is asked of the peers of the widget of a path (Tk text manual, "Peer widgets"). Refused by the first of `NoWidget`, `WidgetExists` and
-    /// `BadView`, or for want of memory; then the site is as it was.
-    pub fn answer_peers(&mut self, path: &str, request: &PeerRequest<'_>) -> Result<Reply, Fault>
-        ensures answers { Answers (peer_step_at path.now self.old request.now) self.old result self.new }
-        ensures none { place_of path.now self.old.paths ≡ None → result ≡ Err Fault.NoWidget }
-    {
-        let Some(place) = place_of(&self.paths, path) else {
-            return Err(Fault::NoWidget);
-        };
-        self.peers(path, place, request)
     }
 
     /// `destroy PATH`: the widget of a path is no longer there. It has no words in its reply, and takes

@@ -1,16 +1,14 @@
 // The options of a widget: those that all widgets of a site share, and the limits of what this one shows.
-ghost use Rattle.std.specs.Prelude.{◌≡◌, [], Ok};
+ghost use Rattle.std.specs.Prelude.{◌≡◌, Ok};
 ghost use Rattle.rt_stamps.specs.Outcomes.{Answers};
-ghost use Rattle.rt_peers.specs.Options.{option_step, settings_step};
-ghost use Rattle.rt_peers.specs.Step.{configured, option_value};
+ghost use Rattle.rt_peers.specs.Options.{configured, option_step, option_value, settings_step};
 ghost use Rattle.rt_peers.specs.ViewStep.{one_word, text_of_bool};
 
 use super::EditedText;
 use crate::choices::choice_of;
 use crate::replies::{no_words, number_reply, truth};
 use crate::reply::Reply;
-use rt_peer_requests::{NamedOption, WidgetSettings};
-use rt_requests::{Settings, WidgetOption};
+use rt_requests::{NamedOption, Settings, WidgetOption, WidgetSettings};
 use rt_stamps::Fault;
 
 impl EditedText {
@@ -26,16 +24,8 @@ impl EditedText {
         self.recorder.set_auto_separators(auto);
     }
 
-    // Shared options are set.
-    pub(super) fn configure(&mut self, settings: Settings) -> Result<Reply, Fault>
-        ensures { Answers (Ok ([], configured self.old settings)) self.old result self.new }
-    {
-        self.set_options(settings);
-        Ok(no_words(self.alloc))
-    }
-
-    /// Options are set: the widget shows the lines that are asked for.
-    pub(crate) fn set(&mut self, settings: &WidgetSettings) -> Result<Reply, Fault>
+    // Options are set: the widget shows the lines that are asked for.
+    pub(super) fn set(&mut self, settings: &WidgetSettings) -> Result<Reply, Fault>
         ensures { Answers (settings_step self.old settings.now) self.old result self.new }
     {
         let start = choice_of(settings.start_line);
@@ -56,18 +46,18 @@ impl EditedText {
     }
 
     // It, as a reply.
-    pub(super) fn cget(&self, option: WidgetOption) -> Result<Reply, Fault>
+    fn tell_shared(&self, option: WidgetOption) -> Result<Reply, Fault>
         ensures { Answers (Ok (one_word (text_of_bool (option_value self.now option)), self.now)) self.now result self.now }
     {
         truth(self.alloc, self.option(option))
     }
 
-    /// What an option is set to.
-    pub(crate) fn tell(&self, option: NamedOption) -> Result<Reply, Fault>
+    // What an option is set to.
+    pub(super) fn tell(&self, option: NamedOption) -> Result<Reply, Fault>
         ensures { Answers (option_step self.now option) self.now result self.now }
     {
         match option {
-            NamedOption::Shared(option) => self.cget(option),
+            NamedOption::Shared(option) => self.tell_shared(option),
             NamedOption::StartLine => number_reply(self.alloc, self.viewer.start_number()),
             NamedOption::EndLine => number_reply(self.alloc, self.viewer.end_number()),
         }

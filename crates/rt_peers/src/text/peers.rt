@@ -6,7 +6,7 @@ ghost use Rattle.rt_peers.specs.PeerStep.{text_with_peer};
 
 use super::EditedText;
 use crate::choices::choice_of;
-use rt_peer_requests::WidgetSettings;
+use rt_requests::WidgetSettings;
 use rt_stamps::Fault;
 use rt_views::Limits;
 

@@ -1,12 +1,9 @@
 use Rattle.rt_peers.proofs.Events.{events_once}
-use Rattle.rt_peers.proofs.OneWay.{answers_once, commands_once, receiving_once, requests_once, receiving_finds}
+use Rattle.rt_peers.proofs.OneWay.{commands_once, receiving_once, requests_once, receiving_finds}
 use Rattle.rt_peers.proofs.laws.one_way.Goals as goal
 
 pub returns-clause-requests : goal.returns-clause-requests
 returns-clause-requests c = requests_once
-
-pub returns-clause-others : goal.returns-clause-others
-returns-clause-others c = answers_once
 
 pub returns-clause-commands : goal.returns-clause-commands
 returns-clause-commands c = commands_once

@@ -1,4 +1,4 @@
-use Rattle.std.proofs.Common.{map, flat_map, subst}
+use Rattle.std.proofs.Common.{map, flat_map, inr, refl, subst}
 use Rattle.std.specs.Fmt.{signed_decimal}
 use Rattle.rt_stamps.specs.Outcomes.{Answers}
 use Rattle.rt_stamps.specs.Places.{text_of_position}
@@ -73,7 +73,10 @@ pub returns-in-Edit : goal.returns-in-Edit
 returns-in-Edit c = rw c.in-Edit.is c.edit.ensures
 
 pub returns-in-Configure : goal.returns-in-Configure
-returns-in-Configure c = rw c.in-Configure.is c.configure.ensures
+returns-in-Configure c = rw c.in-Configure.is c.set.ensures
 
 pub returns-in-Cget : goal.returns-in-Cget
-returns-in-Cget c = rw c.in-Cget.is c.cget.ensures
+returns-in-Cget c = rw c.in-Cget.is c.tell.ensures
+
+pub returns-in-Peer : goal.returns-in-Peer
+returns-in-Peer c = rw c.in-Peer.is (refl, inr refl)
