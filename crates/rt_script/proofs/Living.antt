@@ -13,8 +13,8 @@ use Rattle.rt_stamps.specs.Words.{Word}
 use Rattle.rt_ops.specs.Operations.{Operation}
 use Rattle.rt_oplog.specs.Logs.{Has}
 use Rattle.rt_holding.specs.declared.receiving.Received.{Received}
-use Rattle.rt_peer_requests.specs.declared.destroying.Destroy.{Destroy}
-use Rattle.rt_peer_requests.specs.PeerWords.{asked_destroy}
+use Rattle.rt_requests.specs.declared.destroying.Destroy.{Destroy}
+use Rattle.rt_requests.specs.PeerWords.{asked_destroy}
 use Rattle.rt_peers.specs.Lives.{IsOfFile, Lives, LivesOn, begins}
 use Rattle.rt_peers.specs.PeerStep.{destroyed}
 use Rattle.rt_peers.specs.SiteStep.{SiteReceives}

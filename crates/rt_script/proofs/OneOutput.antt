@@ -11,8 +11,8 @@ use Rattle.rt_stamps.specs.Words.{Word}
 use Rattle.rt_words.specs.Spelling.{IsBadlyQuoted, Spells}
 use Rattle.rt_words.proofs.Spelling.{line_spells_one}
 use Rattle.rt_holding.specs.declared.receiving.Received.{Received}
-use Rattle.rt_peer_requests.specs.declared.destroying.Destroy.{Destroy}
-use Rattle.rt_peer_requests.specs.PeerWords.{asked_destroy}
+use Rattle.rt_requests.specs.declared.destroying.Destroy.{Destroy}
+use Rattle.rt_requests.specs.PeerWords.{asked_destroy}
 use Rattle.rt_peers.specs.Memory.{GivesFoundMemory, ReceivingFoundMemory}
 use Rattle.rt_peers.specs.PeerStep.{destroyed}
 use Rattle.rt_peers.specs.SiteStep.{SiteReceives}

@@ -57,7 +57,7 @@ pub record Headline (one other : SiteValue) : Type 0 where
   -- which is want of memory or of room, or Conflict, and then the join is Conflict too (`exchange` of rt_peers).
   pub exchange : ReceivesAny one (log_of other)
   -- The words of a command ask for one request, or are refused with one fault (`reading_is_total`, `reading_is_unique` of
-  -- rt_requests). Those of `peer`, `configure` and `cget` a site reads by functions of their own.
+  -- rt_requests).
   pub words : WordsAskOnce
   -- A request has the reply of its step and leaves its state, or is refused.
   pub replies : RepliesByStep

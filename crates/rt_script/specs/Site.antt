@@ -9,7 +9,7 @@ use Rattle.rt_stamps.specs.Words.{Word}
 use Rattle.rt_script.specs.declared.answer.Answer.{Answer}
 use Rattle.rt_script.specs.declared.answer.Answer.TheVariants as answers
 use Rattle.rt_holding.specs.declared.receiving.Received.{Received}
-use Rattle.rt_peer_requests.specs.PeerWords.{asked_destroy}
+use Rattle.rt_requests.specs.PeerWords.{asked_destroy}
 use Rattle.rt_peers.specs.PeerStep.{destroyed}
 use Rattle.rt_peers.specs.SiteStep.{Gives, SiteReceives}
 use Rattle.rt_peers.specs.SiteValue.{SiteValue}

@@ -10,8 +10,8 @@ ghost use Rattle.rt_script.specs.Site.{AreWithin, DestroyGives, IsDone, ReceiveG
 use crate::answer::Answer;
 use crate::commands::Commands;
 use indexmap::IndexMap;
-use rt_peer_requests::Destroy;
 use rt_peers::SiteState;
+use rt_requests::Destroy;
 use rt_stamps::Fault;
 use std::alloc::Global;
 use std::marker::Model;

@@ -1,8 +1,7 @@
 // The calls by which a program that embeds a site makes widgets, and sets and asks what they show.
 use crate::checks::same;
 use crate::sites::{Script, answered, new_site};
-use rt_peer_requests::{Limit, NamedOption, Path, PeerRequest, WidgetSettings};
-use rt_requests::Settings;
+use rt_requests::{Limit, NamedOption, Path, PeerRequest, Request, Settings, WidgetSettings};
 use rt_script::{Reply, SiteState};
 use rt_stamps::Fault;
 use rt_stamps::limits::MOST_CELLS;
@@ -38,33 +37,34 @@ pub(crate) fn replies(rt: &impl Abort, alloc: Global, reply: Result<Reply, Fault
     same(rt, word.as_str(), wanted);
 }
 
+// What an option of a widget is set to, as a request.
+fn option(option: NamedOption) -> Request<'static> {
+    Request::Cget { option }
+}
+
 // Makes a widget that shows a text from its second line on, and asks for what it shows.
 fn create(rt: &impl Abort, alloc: Global, site: &mut SiteState) {
     let path = Path::of(".p").expect(rt, "a path");
     let settings = settings(Limit::Line(2), Limit::Absent, None);
-    let create = PeerRequest::Create { path, settings };
-    replies(rt, alloc, site.answer_peers(".t", &create), ".p");
-    replies(
-        rt,
-        alloc,
-        site.answer_peers(".p", &PeerRequest::Names),
-        ".t",
-    );
-    replies(rt, alloc, site.cget(".p", NamedOption::StartLine), "2");
-    replies(rt, alloc, site.cget(".p", NamedOption::EndLine), "");
+    let create = Request::Peer(PeerRequest::Create { path, settings });
+    let names = Request::Peer(PeerRequest::Names);
+    replies(rt, alloc, site.answer(".t", &create), ".p");
+    replies(rt, alloc, site.answer(".p", &names), ".t");
+    let start = option(NamedOption::StartLine);
+    replies(rt, alloc, site.answer(".p", &start), "2");
+    let end = option(NamedOption::EndLine);
+    replies(rt, alloc, site.answer(".p", &end), "");
 }
 
 // Sets what the new widget shows, and looks at what is refused.
 fn configure(rt: &impl Abort, site: &mut SiteState) {
-    let second = settings(Limit::Line(2), Limit::Line(3), Some(true));
-    same(rt, site.configure(".p", &second).err(), None);
-    same(
-        rt,
-        site.configure(".x", &second).err(),
-        Some(Fault::NoWidget),
-    );
-    let empty = settings(Limit::Line(2), Limit::Line(2), Some(false));
-    same(rt, site.configure(".p", &empty).err(), Some(Fault::BadView));
+    let shown = settings(Limit::Line(2), Limit::Line(3), Some(true));
+    let second = Request::Configure { settings: shown };
+    same(rt, site.answer(".p", &second).err(), None);
+    same(rt, site.answer(".x", &second).err(), Some(Fault::NoWidget));
+    let none = settings(Limit::Line(2), Limit::Line(2), Some(false));
+    let empty = Request::Configure { settings: none };
+    same(rt, site.answer(".p", &empty).err(), Some(Fault::BadView));
 }
 
 #[test]
