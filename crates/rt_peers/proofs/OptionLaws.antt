@@ -1,5 +1,5 @@
 -- Limits and new widgets leave the document and the other widgets as they are.
-use Rattle.std.proofs.Common.{◌≡◌, ◌∙◌, ◌+◌, ◌<◌, ◌++◌, ℕ, List, [], ◌∷◌, None, Some, Ok, Err, Result, ap, arith, cond, false, inl, inr, length, subst, sym, true}
+use Rattle.std.proofs.Common.{◌≡◌, ◌∙◌, ◌+◌, ◌<◌, ◌++◌, ℕ, List, [], ◌∷◌, None, Some, Ok, Err, Result, ap, arith, cond, false, inl, inr, length, subst, sym}
 use Rattle.std.specs.Prelude.{IfErr, OnErr, OnOk, is_some}
 use Rattle.std.proofs.lemmas.List.{length-append}
 use Rattle.rt_stamps.specs.declared.fault.Fault.{Fault}

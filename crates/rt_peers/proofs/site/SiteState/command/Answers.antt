@@ -1,4 +1,4 @@
-use Rattle.std.proofs.Common.{◌≡◌, ◌∙◌, None, Some, ap}
+use Rattle.std.proofs.Common.{◌≡◌, ◌∙◌, ap}
 use Rattle.rt_stamps.specs.Words.{as_words}
 use Rattle.rt_peers.specs.SiteValue.{place_of}
 use Rattle.rt_peers.proofs.InTurn.{asked_at, nowhere, refused_at}
