@@ -36,10 +36,10 @@ pub none_taken : (cells : List TaggedCell) (h : History (List Word)) → h ≡ n
 none_taken cells h e = subst (λ (x : History (List Word)). AreGoneOnce cells (all_taken x)) (sym e) (λ s. omega arith)
 
 -- a site stays settled where what its widget shows is changed so
-pub viewer_settled : (view new : ViewValue) (recording : Recording) (outcome : Outcome ViewValue) (result : Result (List Word) Fault) → Answers outcome view result new
+pub view_settled : (view new : ViewValue) (recording : Recording) (outcome : Outcome ViewValue) (result : Result (List Word) Fault) → Answers outcome view result new
     → ((words : List Word) → outcome ≡ Ok (words, new) → Grows view.doc.log new.doc.log) → IsSettled view recording → IsOfLog view.doc → IsOfLog new.doc → IsSettled new recording
-viewer_settled view new recording outcome (Ok words) h grows settled kept same = settled_same view new recording recording refl settled kept same (grows words h)
-viewer_settled view new recording outcome (Err fault) h grows settled kept same = subst (λ (v : ViewValue). IsSettled v recording) (sym h.0) settled
+view_settled view new recording outcome (Ok words) h grows settled kept same = settled_same view new recording recording refl settled kept same (grows words h)
+view_settled view new recording outcome (Err fault) h grows settled kept same = subst (λ (v : ViewValue). IsSettled v recording) (sym h.0) settled
 
 -- what is settled stays so where the document does
 pub settled_with : (view new : ViewValue) (recording : Recording) → view.doc ≡ new.doc → IsSettled view recording → IsSettled new recording

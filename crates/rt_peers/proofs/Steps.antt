@@ -108,7 +108,7 @@ pub lifted : (state : EditedValue) (outcome : Outcome ViewValue) (result : Resul
 lifted state outcome (Ok reply) new h = ap (on_view state) h
 lifted state outcome (Err fault) new h = (λ i. record state { view = h.0 i }, refused_by (λ answer. (answer.0, record state { view = answer.1 })) outcome fault fault h.1 refl)
 
-pub told_to : (state : EditedValue) (viewer : ViewValue) (recording : Recording) → edited viewer recording ≡ state → (outcome : ViewValue → Outcome ViewValue) (result : Result (List Word) Fault)
-    → Answers (outcome viewer) viewer result viewer → Answers (on_view state (outcome state.view)) state result state
-told_to state viewer recording e outcome result h =
-    subst (λ (s : EditedValue). Answers (on_view s (outcome s.view)) s result s) e (lifted (edited viewer recording) (outcome viewer) result viewer h)
+pub told_to : (state : EditedValue) (view : ViewValue) (recording : Recording) → edited view recording ≡ state → (outcome : ViewValue → Outcome ViewValue) (result : Result (List Word) Fault)
+    → Answers (outcome view) view result view → Answers (on_view state (outcome state.view)) state result state
+told_to state view recording e outcome result h =
+    subst (λ (s : EditedValue). Answers (on_view s (outcome s.view)) s result s) e (lifted (edited view recording) (outcome view) result view h)

@@ -2,6 +2,7 @@
 #![tactic(auto)]
 
 mod choices;
+mod commands;
 pub mod laws;
 mod paths;
 mod pieces;
@@ -11,7 +12,7 @@ mod sending;
 pub mod site;
 mod text;
 pub mod told;
-mod viewer;
+mod widgets;
 
 pub use reply::Reply;
 pub use rt_changes::ToldChange;

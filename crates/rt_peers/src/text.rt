@@ -5,6 +5,7 @@ ghost use Rattle.rt_stamps.specs.Outcomes.{Answers};
 ghost use Rattle.rt_peers.specs.SiteValue.{new_text};
 ghost use Rattle.rt_peers.specs.Step.{step};
 
+mod editing;
 mod exchange;
 mod marking;
 mod options;
@@ -12,8 +13,8 @@ mod peers;
 mod telling;
 mod undoing;
 
+use crate::commands;
 use crate::reply::Reply;
-use crate::viewer::Viewer;
 use rt_editing::Recorder;
 use rt_requests::Request;
 use rt_stamps::{Fault, Site};
@@ -25,7 +26,7 @@ use std::marker::Model;
 /// A site's document as one of its widgets shows it, with what it recorded of its edits.
 pub(crate) struct EditedText {
     alloc: Global,
-    viewer: Viewer,
+    view: View<TreeStore>,
     recorder: Recorder,
 }
 
@@ -35,7 +36,7 @@ impl Drop for EditedText {
     fn drop(self) {
         let EditedText {
             alloc: _,
-            viewer: _,
+            view: _,
             recorder: _,
         } = self;
     }
@@ -47,9 +48,9 @@ impl Model for EditedText {
 
     ghost Value = { EditedValue };
 
-    ghost view = { λ s. edited s.viewer s.recorder };
+    ghost view = { λ s. edited s.view s.recorder };
 
-    ghost invariant = { λ s. IsSettled s.viewer s.recorder };
+    ghost invariant = { λ s. IsSettled s.view s.recorder };
 }
 
 impl EditedText {
@@ -59,11 +60,12 @@ impl EditedText {
         ensures ok { IfOk result (λ text. text ≡ new_text site.number limit) }
         ensures err { IsOkUnless result Fault.NoMemory }
     {
-        let viewer = Viewer::new(alloc, site, limit)?;
+        let store = TreeStore::new(alloc)?;
+        let view = View::new(alloc, store, site, limit)?;
         let recorder = Recorder::new(alloc)?;
         Ok(EditedText {
             alloc,
-            viewer,
+            view,
             recorder,
         })
     }
@@ -72,7 +74,7 @@ impl EditedText {
     pub(crate) fn view(&self) -> &View<TreeStore>
         ensures { result.now ≡ self.now.view }
     {
-        self.viewer.view()
+        &self.view
     }
 
     /// What is asked of the widget. Refused by the request's own faults, or for want of memory; then
@@ -81,23 +83,23 @@ impl EditedText {
         ensures { Answers (step self.old request.now) self.old result self.new }
     {
         match request {
-            Request::Insert { index, texts } => self
-                .viewer
-                .insert(&mut self.recorder, index, texts),
-            Request::Delete { indices } => self.viewer.delete(&mut self.recorder, indices),
-            Request::Replace { from, to, texts } => {
-                self.viewer.replace(&mut self.recorder, from, to, texts)
-            }
-            Request::Get { indices } => self.viewer.get(indices),
-            Request::Index { index } => self.viewer.index(index),
+            Request::Insert { index, texts } => self.insert(index, texts),
+            Request::Delete { indices } => self.delete(indices),
+            Request::Replace { from, to, texts } => self.replace(from, to, texts),
+            Request::Get { indices } => commands::get(self.alloc, &self.view, indices),
+            Request::Index { index } => commands::index(self.alloc, &self.view, index),
             Request::Compare {
                 first,
                 comparison,
                 second,
-            } => self.viewer.compare(first, *comparison, second),
-            Request::Count { measures, from, to } => self.viewer.count(measures, from, to),
-            Request::Search(request) => self.viewer.search(request),
-            Request::Dump { kinds, from, to } => self.viewer.dump(*kinds, from, to),
+            } => commands::compare(self.alloc, &self.view, first, *comparison, second),
+            Request::Count { measures, from, to } => {
+                commands::count(self.alloc, &self.view, measures, from, to)
+            }
+            Request::Search(request) => commands::search(self.alloc, &self.view, request),
+            Request::Dump { kinds, from, to } => {
+                commands::dump(self.alloc, &self.view, *kinds, from, to)
+            }
             Request::Mark(request) => self.mark(request),
             Request::Tag(request) => self.tag(request),
             Request::Edit(request) => self.edit(*request),

@@ -25,19 +25,19 @@ impl Taking for EditedText {
 
     fn answer(&self, op: &Op) -> Result<Offer, Fault> {
         let _ = self.log();
-        self.viewer.answer(op)
+        self.view.answer(op)
     }
 
     fn known(&self, site: u16) -> u64 {
-        self.viewer.log().known(site)
+        self.log().known(site)
     }
 
     fn has_gap(&self, span: Span) -> bool {
-        self.viewer.has_gap(span)
+        self.view.has_gap(span)
     }
 
     fn take(&mut self, op: Op) -> Result<(), Op> {
-        match self.viewer.take(&mut self.recorder, op) {
+        match rt_editing::take(&mut self.view, &mut self.recorder, op) {
             Ok(_) => Ok(()),
             Err(op) => Err(op),
         }
@@ -49,7 +49,7 @@ impl EditedText {
     pub(crate) fn site(&self) -> Site
         ensures { result.number ≡ self.now.view.doc.site }
     {
-        self.viewer.site()
+        self.view.doc().site()
     }
 
     /// The log of the document, which is a history: the cells are its cells. Each widget's limits are none or newlines
@@ -63,7 +63,8 @@ impl EditedText {
         ensures site { 0 < self.now.view.doc.site }
         ensures limits { AllByRecursion (AreInOrder self.now.view.doc.cells) (limits_of self.now.view) }
     {
-        self.viewer.log()
+        let _ = self.view.widget();
+        self.view.doc().log()
     }
 
     /// Takes an operation that is new, and tells what changed in the text; or gives it back for want of memory.
@@ -74,6 +75,6 @@ impl EditedText {
         ensures same { OnErr result (self.new ≡ self.old) }
         ensures back { IfErr result (λ back. back ≡ op) }
     {
-        self.viewer.take(&mut self.recorder, op)
+        rt_editing::take(&mut self.view, &mut self.recorder, op)
     }
 }

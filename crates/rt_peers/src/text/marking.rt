@@ -4,6 +4,7 @@ ghost use Rattle.rt_peers.specs.Step.{on_view};
 ghost use Rattle.rt_peers.specs.ViewStep.{mark_step, tag_step};
 
 use super::EditedText;
+use crate::commands;
 use crate::reply::Reply;
 use rt_requests::{MarkRequest, TagRequest};
 use rt_stamps::Fault;
@@ -13,9 +14,9 @@ impl EditedText {
     pub(super) fn mark(&mut self, request: &MarkRequest<'_>) -> Result<Reply, Fault>
         ensures { Answers (on_view self.old (mark_step self.old.view request.now)) self.old result self.new }
     {
-        let _ = self.viewer.log();
-        let reply = self.viewer.mark(request);
-        let _ = self.viewer.log();
+        let _ = self.view.doc().log();
+        let reply = commands::mark(self.alloc, &mut self.view, request);
+        let _ = self.view.doc().log();
         reply
     }
 
@@ -23,9 +24,9 @@ impl EditedText {
     pub(super) fn tag(&mut self, request: &TagRequest<'_>) -> Result<Reply, Fault>
         ensures { Answers (on_view self.old (tag_step self.old.view request.now)) self.old result self.new }
     {
-        let _ = self.viewer.log();
-        let reply = self.viewer.tag(request);
-        let _ = self.viewer.log();
+        let _ = self.view.doc().log();
+        let reply = commands::tag(self.alloc, &mut self.view, request);
+        let _ = self.view.doc().log();
         reply
     }
 }

@@ -30,7 +30,7 @@ impl EditedText {
     {
         let start = choice_of(settings.start_line);
         let end = choice_of(settings.end_line);
-        self.viewer.set_lines(start, end)?;
+        self.view.set_lines(start, end)?;
         self.set_options(settings.shared);
         Ok(no_words(self.alloc))
     }
@@ -58,8 +58,8 @@ impl EditedText {
     {
         match option {
             NamedOption::Shared(option) => self.tell_shared(option),
-            NamedOption::StartLine => number_reply(self.alloc, self.viewer.start_number()),
-            NamedOption::EndLine => number_reply(self.alloc, self.viewer.end_number()),
+            NamedOption::StartLine => number_reply(self.alloc, self.view.start_number()),
+            NamedOption::EndLine => number_reply(self.alloc, self.view.end_number()),
         }
     }
 }

@@ -6,6 +6,7 @@ ghost use Rattle.rt_peers.specs.PeerStep.{text_with_peer};
 
 use super::EditedText;
 use crate::choices::choice_of;
+use crate::widgets;
 use rt_requests::WidgetSettings;
 use rt_stamps::Fault;
 use rt_views::Limits;
@@ -16,7 +17,7 @@ impl EditedText {
         requires { place < length (widgets_of self.old.view) }
         ensures { self.new ≡ text_led place self.old }
     {
-        self.viewer.lead(place);
+        widgets::lead(&mut self.view, place);
     }
 
     /// The limits of the widget at a place.
@@ -41,7 +42,7 @@ impl EditedText {
     {
         let start = choice_of(settings.start_line);
         let end = choice_of(settings.end_line);
-        self.viewer.add_peer(start, end)?;
+        self.view.add_peer(start, end)?;
         self.set_options(settings.shared);
         Ok(())
     }
@@ -66,6 +67,6 @@ impl EditedText {
         requires several { 1 < length (widgets_of self.old.view) }
         ensures { self.new ≡ record self.old { view = view_without place self.old.view } }
     {
-        self.viewer.remove_widget(place);
+        widgets::remove_at(&mut self.view, place);
     }
 }

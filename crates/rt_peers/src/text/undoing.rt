@@ -2,13 +2,16 @@
 ghost use Rattle.std.specs.Prelude.{◌≡◌};
 ghost use Rattle.rt_stamps.specs.Outcomes.{Answers};
 ghost use Rattle.rt_undo.specs.Undo.{is_modified};
+ghost use Rattle.rt_editing.specs.Reverts.{text_redone, text_undone};
 ghost use Rattle.rt_peers.specs.Step.{can_redo, can_undo, edit_step};
+ghost use Rattle.rt_peers.specs.ViewStep.{changed_step};
 
 use super::EditedText;
-use crate::replies::{no_words, truth};
+use crate::replies::{changed, no_words, truth};
 use crate::reply::Reply;
 use rt_requests::EditRequest;
 use rt_stamps::Fault;
+use rt_tree::TreeStore;
 
 impl EditedText {
     /// Whether edits are recorded and there is a group to undo.
@@ -32,13 +35,31 @@ impl EditedText {
         self.recorder.modified()
     }
 
+    // The last group of edits is undone.
+    fn undo(&mut self) -> Result<Reply, Fault>
+        ensures { Answers (changed_step (text_undone self.old)) self.old result self.new }
+    {
+        let copy = TreeStore::new(self.alloc)?;
+        let undone = rt_editing::undo(&mut self.view, &mut self.recorder, copy);
+        changed(self.alloc, undone)
+    }
+
+    // The group that was undone last is done again.
+    fn redo(&mut self) -> Result<Reply, Fault>
+        ensures { Answers (changed_step (text_redone self.old)) self.old result self.new }
+    {
+        let copy = TreeStore::new(self.alloc)?;
+        let redone = rt_editing::redo(&mut self.view, &mut self.recorder, copy);
+        changed(self.alloc, redone)
+    }
+
     // What is asked of the undo mechanism.
     pub(super) fn edit(&mut self, request: EditRequest) -> Result<Reply, Fault>
         ensures { Answers (edit_step self.old request) self.old result self.new }
     {
         match request {
-            EditRequest::Undo => self.viewer.undo(&mut self.recorder),
-            EditRequest::Redo => self.viewer.redo(&mut self.recorder),
+            EditRequest::Undo => self.undo(),
+            EditRequest::Redo => self.redo(),
             EditRequest::Separator => {
                 self.recorder.separate();
                 Ok(no_words(self.alloc))

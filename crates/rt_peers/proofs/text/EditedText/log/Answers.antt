@@ -6,4 +6,4 @@ use Rattle.rt_views.specs.Ordered.{AreInOrder}
 use Rattle.rt_peers.proofs.text.EditedText.log.Goals as goal
 
 pub returns-clause-limits : goal.returns-clause-limits
-returns-clause-limits c = subst (λ (t : EditedValue). AllByRecursion (AreInOrder t.view.doc.cells) (limits_of t.view)) c.self.view_is c.log.ensures.limits
+returns-clause-limits c = subst (λ (t : EditedValue). AllByRecursion (AreInOrder t.view.doc.cells) (limits_of t.view)) c.self.view_is c.widget.ensures.limits

@@ -24,10 +24,15 @@ invariant_of-result c =
       undone = subst (λ (h : History (List Word)). AllByRecursion AreSound h.undone) (sym none) tt;
     }
 
-pub returns-in_err-viewer : goal.returns-in_err-viewer
-returns-in_err-viewer c =
+pub returns-in_err-store : goal.returns-in_err-store
+returns-in_err-store c =
     let (y, is, gives) = err_from_is_err_and c.from_residual.result c.from_residual.ensures.1 in
-    rw (is, gives) (record { ok = tt; err = c.in_err-viewer.ensures.err })
+    rw (is, gives) (record { ok = tt; err = c.in_err-store.ensures.err })
+
+pub returns-in_err-view : goal.returns-in_err-view
+returns-in_err-view c =
+    let (y, is, gives) = err_from_is_err_and c.from_residual-in_err-view.result c.from_residual-in_err-view.ensures.1 in
+    rw (is, gives) (record { ok = tt; err = c.in_err-view.ensures.err })
 
 pub returns-in_err-recorder-clause-ok : goal.returns-in_err-recorder-clause-ok
 returns-in_err-recorder-clause-ok c =

@@ -1,66 +1,57 @@
 use Rattle.std.proofs.Common.{map, flat_map, inr, refl, subst}
 use Rattle.std.specs.Fmt.{signed_decimal}
-use Rattle.rt_stamps.specs.Outcomes.{Answers}
 use Rattle.rt_stamps.specs.Places.{text_of_position}
 use Rattle.rt_requests.specs.Parts.{all_of}
 use Rattle.rt_queries.specs.Dumping.{dumped}
-use Rattle.rt_editing.specs.EditedValue.{EditedValue, edited}
-use Rattle.rt_editing.specs.Edits.{text_deleted, text_inserted, text_replaced}
 use Rattle.rt_queries.specs.SearchCommand.{searched}
 use Rattle.rt_text.specs.Commands.{compared, counted, position_of_index}
-use Rattle.rt_peers.specs.ViewStep.{as_piece, changed_step, element_words, get_step, one_word, text_of_bool, told_step}
+use Rattle.rt_peers.specs.ViewStep.{element_words, get_step, one_word, text_of_bool, told_step}
 use Rattle.rt_peers.proofs.Steps.{told_to}
 use Rattle.rt_peers.proofs.text.EditedText.request.Goals as goal
 
 pub returns-in-Insert : goal.returns-in-Insert
-returns-in-Insert c =
-    rw c.in-Insert.is
-    (subst (λ (s : EditedValue). Answers (changed_step (text_inserted s c.in-Insert.index (map as_piece c.in-Insert.texts.pieces) c.in-Insert.texts.rest)) s c.insert.result (edited c.insert.new.self c.insert.new.recorder)) c.self.view_is c.insert.ensures.answers)
+returns-in-Insert c = rw c.in-Insert.is c.insert.ensures
 
 pub returns-in-Delete : goal.returns-in-Delete
-returns-in-Delete c =
-    rw c.in-Delete.is
-    (subst (λ (s : EditedValue). Answers (changed_step (text_deleted s (all_of c.in-Delete.indices))) s c.delete.result (edited c.delete.new.self c.delete.new.recorder)) c.self-in-Delete.view_is c.delete.ensures.answers)
+returns-in-Delete c = rw c.in-Delete.is c.delete.ensures
 
 pub returns-in-Replace : goal.returns-in-Replace
-returns-in-Replace c =
-    rw c.in-Replace.is
-    (subst (λ (s : EditedValue). Answers (changed_step (text_replaced s c.in-Replace.from c.in-Replace.to (map as_piece c.in-Replace.texts.pieces) c.in-Replace.texts.rest)) s c.replace.result (edited c.replace.new.self c.replace.new.recorder)) c.self-in-Replace.view_is c.replace.ensures.answers)
+returns-in-Replace c = rw c.in-Replace.is c.replace.ensures
 
 pub returns-in-Index : goal.returns-in-Index
 returns-in-Index c =
     rw c.in-Index.is
-    (told_to c.args.self.now c.self-in-Index.inside.viewer c.self-in-Index.inside.recorder c.self-in-Index.view_is
+    (told_to c.args.self.now c.self-in-Index.inside.view c.self-in-Index.inside.recorder c.self-in-Index.view_is
     (λ view. told_step (λ position. one_word (text_of_position position)) view (position_of_index view c.in-Index.index)) c.index.result c.index.ensures)
 
 pub returns-in-Compare : goal.returns-in-Compare
 returns-in-Compare c =
     rw c.in-Compare.is
-    (told_to c.args.self.now c.self-in-Compare.inside.viewer c.self-in-Compare.inside.recorder c.self-in-Compare.view_is
+    (told_to c.args.self.now c.self-in-Compare.inside.view c.self-in-Compare.inside.recorder c.self-in-Compare.view_is
     (λ view. told_step (λ holds. one_word (text_of_bool holds)) view (compared view c.in-Compare.first c.in-Compare.comparison c.in-Compare.second)) c.compare.result c.compare.ensures)
 
 pub returns-in-Count : goal.returns-in-Count
 returns-in-Count c =
     rw c.in-Count.is
-    (told_to c.args.self.now c.self-in-Count.inside.viewer c.self-in-Count.inside.recorder c.self-in-Count.view_is
+    (told_to c.args.self.now c.self-in-Count.inside.view c.self-in-Count.inside.recorder c.self-in-Count.view_is
     (λ view. told_step (map signed_decimal) view (counted view c.in-Count.measures c.in-Count.from c.in-Count.to)) c.count.result c.count.ensures)
 
 pub returns-in-Search : goal.returns-in-Search
 returns-in-Search c =
     rw c.in-Search.is
-    (told_to c.args.self.now c.self-in-Search.inside.viewer c.self-in-Search.inside.recorder c.self-in-Search.view_is
+    (told_to c.args.self.now c.self-in-Search.inside.view c.self-in-Search.inside.recorder c.self-in-Search.view_is
     (λ view. told_step (map text_of_position) view (searched view c.in-Search.request)) c.search.result c.search.ensures)
 
 pub returns-in-Dump : goal.returns-in-Dump
 returns-in-Dump c =
     rw c.in-Dump.is
-    (told_to c.args.self.now c.self-in-Dump.inside.viewer c.self-in-Dump.inside.recorder c.self-in-Dump.view_is
+    (told_to c.args.self.now c.self-in-Dump.inside.view c.self-in-Dump.inside.recorder c.self-in-Dump.view_is
     (λ view. told_step (flat_map element_words) view (dumped view c.in-Dump.kinds c.in-Dump.from c.in-Dump.to)) c.dump.result c.dump.ensures)
 
 pub returns-in-Get : goal.returns-in-Get
 returns-in-Get c =
     rw c.in-Get.is
-    (told_to c.args.self.now c.self-in-Get.inside.viewer c.self-in-Get.inside.recorder c.self-in-Get.view_is
+    (told_to c.args.self.now c.self-in-Get.inside.view c.self-in-Get.inside.recorder c.self-in-Get.view_is
     (λ view. get_step view (all_of c.in-Get.indices)) c.get.result c.get.ensures)
 
 pub returns-in-Mark : goal.returns-in-Mark

@@ -10,7 +10,7 @@ invariant_of-self c = subst (λ (v : ViewValue). IsSettled v c.self.inside.recor
 
 pub invariant_of-self-2 : goal.invariant_of-self-2
 invariant_of-self-2 c =
-    let view = c.self.inside.viewer in
+    let view = c.self.inside.view in
     let start = c.choice_of-start.result in
     let end = c.choice_of-end.result in
     let said = c.in_ok-set_lines.ensures.ok in

@@ -1,0 +1,17 @@
+use Rattle.std.proofs.Common.{◌∙◌, ap, map, inl, refl}
+use Rattle.std.proofs.lemmas.Result.{err_from_is_err_and}
+use Rattle.rt_editing.specs.Edits.{text_replaced}
+use Rattle.rt_peers.specs.ViewStep.{as_piece}
+use Rattle.rt_peers.proofs.Steps.{changed_answers}
+use Rattle.rt_peers.proofs.text.EditedText.replace.Goals as goal
+
+pub returns-in_err-pieces : goal.returns-in_err-pieces
+returns-in_err-pieces c =
+    let (y, is, gives) = err_from_is_err_and c.from_residual.result c.from_residual.ensures.1 in
+    rw (is, gives) (refl, inl c.in_err-pieces.ensures.err)
+
+pub returns : goal.returns
+returns c =
+    let pieces = c.deref.ensures.value ∙ c.in_ok-pieces.ensures.ok ∙ ap (map as_piece) c.pieces.ensures in
+    changed_answers c.args.self.now _ _ _ _ c.replace-replaced.result c.changed.result c.self.view_is
+    (λ i. text_replaced (c.self.view_is i) (c.text.ensures i) (c.text-2.ensures i) (pieces i) (c.rest.ensures i)) c.replace-replaced.ensures.ok c.replace-replaced.ensures.err c.replace-replaced.ensures.unchanged c.changed.ensures

@@ -1,8 +1,0 @@
-use Rattle.rt_tagcmd.specs.TagCommands.{tag_added}
-use Rattle.rt_peers.proofs.Steps.{changed_answers}
-use Rattle.rt_peers.proofs.viewer.Viewer.add_tag.Goals as goal
-
-pub returns : goal.returns
-returns c =
-    changed_answers c.args.self.now _ _ _ _ c.tag_add-added.result c.changed.result c.self.view_is (λ i. tag_added (c.self.view_is i) (c.text.ensures i) (c.all.ensures i))
-    c.tag_add-added.ensures.ok c.tag_add-added.ensures.err c.tag_add-added.ensures.unchanged c.changed.ensures

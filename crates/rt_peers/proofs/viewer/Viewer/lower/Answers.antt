@@ -1,8 +1,0 @@
-use Rattle.rt_tagcmd.specs.TagCommands.{tag_lowered}
-use Rattle.rt_peers.proofs.Steps.{changed_exactly}
-use Rattle.rt_peers.proofs.viewer.Viewer.lower.Goals as goal
-
-pub returns : goal.returns
-returns c =
-    changed_exactly c.args.self.now _ _ _ _ c.tag_lower-lowered.result c.changed.result c.self.view_is (λ i. tag_lowered (c.self.view_is i) (c.text.ensures i) (c.text_of.ensures i))
-    c.tag_lower-lowered.ensures.ok c.tag_lower-lowered.ensures.err c.tag_lower-lowered.ensures.unchanged c.changed.ensures

@@ -1,8 +1,0 @@
-use Rattle.rt_tagcmd.specs.MarkCommands.{mark_gravity_set}
-use Rattle.rt_peers.proofs.Steps.{changed_exactly}
-use Rattle.rt_peers.proofs.viewer.Viewer.set_gravity.Goals as goal
-
-pub returns : goal.returns
-returns c =
-    changed_exactly c.args.self.now _ _ _ _ c.set_mark_gravity-set.result c.changed.result c.self.view_is (λ i. mark_gravity_set (c.self.view_is i) (c.text.ensures i) c.args.gravity)
-    c.set_mark_gravity-set.ensures.ok c.set_mark_gravity-set.ensures.err c.set_mark_gravity-set.ensures.unchanged c.changed.ensures

@@ -1,8 +1,0 @@
-use Rattle.rt_tagcmd.specs.MarkCommands.{mark_set}
-use Rattle.rt_peers.proofs.Steps.{changed_answers}
-use Rattle.rt_peers.proofs.viewer.Viewer.set_mark.Goals as goal
-
-pub returns : goal.returns
-returns c =
-    changed_answers c.args.self.now _ _ _ _ c.mark_set-set.result c.changed.result c.self.view_is (λ i. mark_set (c.self.view_is i) (c.text.ensures i) (c.text-2.ensures i))
-    c.mark_set-set.ensures.ok c.mark_set-set.ensures.err c.mark_set-set.ensures.unchanged c.changed.ensures
