@@ -1,8 +1,10 @@
 pub mod Characters
+pub mod Comparisons
 pub mod Expression
 pub mod Grammar
 pub mod Index
 pub mod KeptWords
+pub mod Measures
 pub mod Reading
 pub mod Values
 pub mod Widget

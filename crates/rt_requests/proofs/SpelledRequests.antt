@@ -9,11 +9,11 @@ use Rattle.rt_marks.specs.Marks.{gravity_word}
 use Rattle.rt_stamps.specs.Words.{Word}
 use Rattle.rt_words.proofs.WrittenWords.{listed, spaced_words}
 use Rattle.rt_words.proofs.BareWords.{both_false, both_true}
-use Rattle.rt_requests.specs.declared.comparison.Comparison.{Comparison}
-use Rattle.rt_requests.specs.declared.comparison.Comparison.TheVariants.{Less, LessOrEqual, Equal, GreaterOrEqual, Greater, NotEqual}
+use Rattle.rt_index.specs.declared.comparison.Comparison.{Comparison}
+use Rattle.rt_index.specs.declared.comparison.Comparison.TheVariants.{Less, LessOrEqual, Equal, GreaterOrEqual, Greater, NotEqual}
 use Rattle.rt_requests.specs.declared.kinds.Kinds.{Kinds}
-use Rattle.rt_requests.specs.declared.measure.Measure.{Measure}
-use Rattle.rt_requests.specs.declared.measure.Measure.TheVariants.{Chars, Indices, Lines}
+use Rattle.rt_index.specs.declared.measure.Measure.{Measure}
+use Rattle.rt_index.specs.declared.measure.Measure.TheVariants.{Chars, Indices, Lines}
 use Rattle.rt_requests.specs.declared.request.MarkRequest.{MarkRequest}
 use Rattle.rt_requests.specs.declared.request.MarkRequest.TheVariants as marks
 use Rattle.rt_requests.specs.declared.request.Request.{Request}
@@ -22,7 +22,9 @@ use Rattle.rt_requests.specs.declared.request.TagRequest.{TagRequest}
 use Rattle.rt_requests.specs.declared.request.TagRequest.TheVariants as tags
 use Rattle.rt_requests.specs.Parts.{PieceValue, all_of}
 use Rattle.rt_requests.specs.Asking.{AreTexts, Asked, Asks, CanBeAsked, as_request, asked_count, asked_distances, asked_dump, asked_elements}
-use Rattle.rt_requests.specs.Switches.{is_switch, kinds_of, measures_of, operator_of, shows_some, switch_of}
+use Rattle.rt_index.specs.Comparisons.{operator_of}
+use Rattle.rt_index.specs.Measures.{switch_of}
+use Rattle.rt_requests.specs.Switches.{is_switch, kinds_of, measures_of, shows_some}
 use Rattle.rt_requests.proofs.ReadSettings.{named_word}
 use Rattle.rt_requests.proofs.SpelledEdits.{edit_asked, edit_words}
 use Rattle.rt_requests.proofs.SpelledSearches.{any_search_asked, maybe_word, search_words}

@@ -16,7 +16,8 @@ use Rattle.rt_requests.specs.Parts.{PieceValue, TextsValue, of_several}
 use Rattle.rt_requests.specs.PeerWords.{CanBeAskedOfPeers, asked_of_peers}
 use Rattle.rt_requests.specs.SearchWords.{asked_of_search}
 use Rattle.rt_requests.specs.SettingWords.{AreKept, asked_named_option, asked_settings, sets_some}
-use Rattle.rt_requests.specs.Switches.{comparison_of, is_switch, kinds_of, measures_of, shows_some}
+use Rattle.rt_index.specs.Comparisons.{comparison_of}
+use Rattle.rt_requests.specs.Switches.{is_switch, kinds_of, measures_of, shows_some}
 use Rattle.rt_requests.specs.TagWords.{asked_of_tags}
 
 -- what words ask for, or why they are refused

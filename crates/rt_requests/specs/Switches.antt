@@ -1,33 +1,11 @@
--- The words of comparisons, of what is counted and of what is dumped (Tk text manual, "compare", "count" and "dump").
+-- The switches for what is counted and what is dumped (Tk text manual, "count" and "dump").
 use Rattle.std.specs.Prelude.{List, [], ◌∷◌, ◌==◌, ◌||◌, Bool, false, true, Option, Some, None, option_map, option_and_then, if◌then◌else◌, codes}
 use Rattle.std.specs.List.{list_all, list_any}
 use Rattle.std.specs.Str.{bytes_eq}
 use Rattle.rt_stamps.specs.Words.{Word}
-use Rattle.rt_requests.specs.declared.comparison.Comparison.{Comparison}
-use Rattle.rt_requests.specs.declared.comparison.Comparison.TheVariants.{Less, LessOrEqual, Equal, GreaterOrEqual, Greater, NotEqual}
 use Rattle.rt_requests.specs.declared.kinds.Kinds.{Kinds}
-use Rattle.rt_requests.specs.declared.measure.Measure.{Measure}
-use Rattle.rt_requests.specs.declared.measure.Measure.TheVariants.{Chars, Indices, Lines}
-
--- a comparison as it is written
-abbrev pub operator_of : Comparison → Word
-operator_of Less = codes "<"
-operator_of LessOrEqual = codes "<="
-operator_of Equal = codes "=="
-operator_of GreaterOrEqual = codes ">="
-operator_of Greater = codes ">"
-operator_of NotEqual = codes "!="
-
--- the comparison that an operator names
-abbrev pub comparison_of : Word → Option Comparison
-comparison_of operator =
-    if bytes_eq operator (codes "<") then Some Less
-    else if bytes_eq operator (codes "<=") then Some LessOrEqual
-    else if bytes_eq operator (codes "==") then Some Equal
-    else if bytes_eq operator (codes ">=") then Some GreaterOrEqual
-    else if bytes_eq operator (codes ">") then Some Greater
-    else if bytes_eq operator (codes "!=") then Some NotEqual
-    else None
+use Rattle.rt_index.specs.declared.measure.Measure.{Measure}
+use Rattle.rt_index.specs.Measures.{measure_of}
 
 -- a word that begins with a minus is a switch
 abbrev pub is_switch : Word → Bool
@@ -37,20 +15,6 @@ is_switch (c ∷ word) = c == 45
 -- a switch is given
 abbrev pub has : List Word → Word → Bool
 has switches name = list_any (λ switch. bytes_eq switch name) switches
-
--- a measure as it is written
-abbrev pub switch_of : Measure → Word
-switch_of Chars = codes "-chars"
-switch_of Indices = codes "-indices"
-switch_of Lines = codes "-lines"
-
--- what a switch asks to be counted
-abbrev pub measure_of : Word → Option Measure
-measure_of switch =
-    if bytes_eq switch (codes "-chars") then Some Chars
-    else if bytes_eq switch (codes "-indices") then Some Indices
-    else if bytes_eq switch (codes "-lines") then Some Lines
-    else None
 
 -- what switches ask for in turn; none where one of them is unknown
 abbrev pub measures_of : List Word → Option (List Measure)

@@ -2,7 +2,6 @@
 //! asked of its peers, of its options, and of a site by the line `destroy PATH`.
 #![tactic(auto)]
 
-pub mod comparison;
 mod configuring;
 pub mod destroying;
 mod editing;
@@ -10,7 +9,7 @@ pub mod kinds;
 pub mod laws;
 pub mod limits;
 mod marking;
-pub mod measure;
+pub mod measures;
 pub mod options;
 pub mod path;
 pub mod peers;
@@ -25,11 +24,11 @@ pub mod texts;
 mod undoing;
 pub mod word;
 
-pub use comparison::Comparison;
+pub use rt_index::{Comparison, Measure};
 pub use destroying::Destroy;
 pub use kinds::Kinds;
 pub use limits::Limit;
-pub use measure::{Measure, Measures};
+pub use measures::Measures;
 pub use options::{NamedOption, Settings, WidgetOption};
 pub use path::Path;
 pub use peers::PeerRequest;

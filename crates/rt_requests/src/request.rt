@@ -3,12 +3,12 @@ ghost use Rattle.std.specs.Prelude.{◌≡◌, ◌⊎◌, Err};
 ghost use Rattle.rt_stamps.specs.Words.{as_words};
 ghost use Rattle.rt_requests.specs.Asking.{Asks, AsksOf};
 
-use crate::comparison::Comparison;
+use rt_index::Comparison;
 use crate::configuring::{cget, configure, peer};
 use crate::editing::{delete, insert, replace};
 use crate::kinds::Kinds;
 use crate::marking::mark;
-use crate::measure::Measures;
+use crate::measures::Measures;
 use crate::options::NamedOption;
 use crate::peers::PeerRequest;
 use crate::reading::{compare, count, dump, get, index};

@@ -2,8 +2,8 @@
 use Rattle.std.proofs.Common.{◌≡◌, ℕ, ◌+◌, ◌-◌, ◌≤◌, List, [], ◌∷◌, map, refl, ◌∙◌, arith}
 use Rattle.std.specs.Prelude.{pos, ◌-ℤ◌}
 use Rattle.std.proofs.lemmas.Int.{ints}
-use Rattle.rt_requests.specs.declared.measure.Measure.{Measure}
-use Rattle.rt_requests.specs.declared.measure.Measure.TheVariants.{Chars, Indices, Lines}
+use Rattle.rt_index.specs.declared.measure.Measure.{Measure}
+use Rattle.rt_index.specs.declared.measure.Measure.TheVariants.{Chars, Indices, Lines}
 use Rattle.rt_stamps.specs.Places.{line_of}
 use Rattle.rt_text.specs.Distances.{distance_of}
 use Rattle.rt_text.specs.Lines.{AreLines}

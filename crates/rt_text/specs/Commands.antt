@@ -21,8 +21,8 @@ use Rattle.rt_edits.specs.Deletions.{delete_drafts, loss_in, without_text}
 use Rattle.rt_edits.specs.DocValue.{left_of, logged, put_after}
 use Rattle.rt_edits.specs.InsertionDrafts.{insertion_drafts}
 use Rattle.rt_edits.specs.Insertions.{Insertion, Piece, insertion_of, left_neighbour, right_neighbour, with_pieces}
-use Rattle.rt_requests.specs.declared.comparison.Comparison.{Comparison}
-use Rattle.rt_requests.specs.declared.measure.Measure.{Measure}
+use Rattle.rt_index.specs.declared.comparison.Comparison.{Comparison}
+use Rattle.rt_index.specs.declared.measure.Measure.{Measure}
 use Rattle.rt_text.specs.Comparisons.{holds_of}
 use Rattle.rt_text.specs.Distances.{or_indices, distance_of}
 use Rattle.rt_text.specs.Index.{index_check, place_at_index}

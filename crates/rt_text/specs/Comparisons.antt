@@ -1,7 +1,7 @@
 -- The comparisons of two places (Tk text manual).
 use Rattle.std.specs.Prelude.{ℕ, nat_lt, nat_le, ◌==◌, not, Bool}
-use Rattle.rt_requests.specs.declared.comparison.Comparison.{Comparison}
-use Rattle.rt_requests.specs.declared.comparison.Comparison.TheVariants.{Less, LessOrEqual, Equal, GreaterOrEqual, Greater, NotEqual}
+use Rattle.rt_index.specs.declared.comparison.Comparison.{Comparison}
+use Rattle.rt_index.specs.declared.comparison.Comparison.TheVariants.{Less, LessOrEqual, Equal, GreaterOrEqual, Greater, NotEqual}
 
 -- a comparison holds of two places
 abbrev pub holds_of : Comparison → ℕ → ℕ → Bool

@@ -1,8 +1,8 @@
 -- How far one place of a text is from another (Tk text manual).
 use Rattle.std.specs.Prelude.{ℕ, List, [], ◌∷◌, ℤ, pos, ◌-ℤ◌}
 use Rattle.rt_stamps.specs.Places.{line_of}
-use Rattle.rt_requests.specs.declared.measure.Measure.{Measure}
-use Rattle.rt_requests.specs.declared.measure.Measure.TheVariants.{Chars, Indices, Lines}
+use Rattle.rt_index.specs.declared.measure.Measure.{Measure}
+use Rattle.rt_index.specs.declared.measure.Measure.TheVariants.{Chars, Indices, Lines}
 
 -- indices are counted where no measure is given
 abbrev pub or_indices : List Measure → List Measure

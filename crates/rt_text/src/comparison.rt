@@ -2,7 +2,7 @@
 ghost use Rattle.std.specs.Prelude.{◌≡◌};
 ghost use Rattle.rt_text.specs.Comparisons.{holds_of};
 
-use rt_requests::Comparison;
+use rt_index::Comparison;
 
 /// Whether a comparison holds of two places.
 pub(crate) fn holds(comparison: Comparison, first: usize, second: usize) -> bool

@@ -4,7 +4,7 @@ ghost use Rattle.rt_stamps.specs.declared.limits.TheConstants.{MOST_CELLS};
 ghost use Rattle.rt_store.specs.Cells.{text_of};
 ghost use Rattle.rt_text.specs.Distances.{or_indices, distance_of};
 
-use rt_requests::Measure;
+use rt_index::Measure;
 use rt_stamps::Fault;
 use rt_store::TextStore;
 use std::alloc::Global;

@@ -16,7 +16,7 @@ use crate::distance::distances_of;
 use crate::range::{ranges_at, shown_between, texts_of};
 use rt_edits::Range;
 use rt_index::place_of;
-use rt_requests::{Comparison, Measure};
+use rt_index::{Comparison, Measure};
 use rt_stamps::{Fault, Position};
 use rt_store::TextStore;
 use rt_views::Stretch;

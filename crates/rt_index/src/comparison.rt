@@ -1,6 +1,6 @@
 // Comparisons of two places.
 ghost use Rattle.std.specs.Prelude.{◌≡◌};
-ghost use Rattle.rt_requests.specs.Switches.{comparison_of, operator_of};
+ghost use Rattle.rt_index.specs.Comparisons.{comparison_of, operator_of};
 
 /// A comparison of two places (Tk text manual, "compare").
 #[derive(Clone, Copy, Debug, PartialEq, Eq)]

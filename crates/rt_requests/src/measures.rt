@@ -1,47 +1,12 @@
-// What is counted between two places.
+// What is counted, a number for each in turn.
 ghost use Rattle.std.specs.Prelude.{◌≡◌, ◌⊎◌, IfOk, IfErr, Some, None};
 ghost use Rattle.rt_stamps.specs.Words.{as_words};
-ghost use Rattle.rt_requests.specs.Switches.{measure_of, measures_of, switch_of};
+ghost use Rattle.rt_requests.specs.Switches.{measures_of};
 
+use rt_index::Measure;
 use rt_stamps::Fault;
 use std::alloc::Global;
 use std::marker::Model;
-
-/// What is counted between two places (Tk text manual, "count").
-#[derive(Clone, Copy, Debug, PartialEq, Eq)]
-pub enum Measure {
-    /// `-chars`: characters.
-    Chars,
-    /// `-indices`: indices, one for each character.
-    Indices,
-    /// `-lines`: the line of the second place less that of the first.
-    Lines,
-}
-
-impl Measure {
-    /// What a switch asks to be counted. It takes no memory.
-    pub fn of(switch: &str) -> Option<Measure>
-        ensures { result ≡ measure_of switch.now }
-    {
-        match switch {
-            "-chars" => Some(Measure::Chars),
-            "-indices" => Some(Measure::Indices),
-            "-lines" => Some(Measure::Lines),
-            _ => None,
-        }
-    }
-
-    /// The switch that asks for it.
-    pub fn switch(self) -> &'static str
-        ensures { result.now ≡ switch_of self }
-    {
-        match self {
-            Measure::Chars => "-chars",
-            Measure::Indices => "-indices",
-            Measure::Lines => "-lines",
-        }
-    }
-}
 
 /// What is counted, a number for each in turn.
 #[derive(Drop)]
@@ -51,7 +16,7 @@ pub struct Measures {
 
 impl Model for Measures {
     ghost use Rattle.std.specs.Prelude.{List};
-    ghost use Rattle.rt_requests.specs.declared.measure.Measure.{Measure};
+    ghost use Rattle.rt_index.specs.declared.measure.Measure.{Measure};
 
     ghost Value = { List Measure };
 
