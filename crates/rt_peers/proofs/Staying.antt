@@ -24,11 +24,11 @@ use Rattle.rt_requests.specs.declared.request.TagRequest.{TagRequest}
 use Rattle.rt_requests.specs.declared.request.TagRequest.TheVariants as tags
 use Rattle.rt_requests.specs.Parts.{all_of}
 use Rattle.rt_tags.specs.Tags.{lowered, raised, sel}
-use Rattle.rt_queries.specs.Dumping.{dumped}
+use Rattle.rt_tagcmd.specs.Dumping.{dumped}
 use Rattle.rt_edits.specs.declared.range.Range.{Range}
 use Rattle.rt_edits.specs.DocValue.{DocValue}
 use Rattle.rt_edits.specs.Insertions.{Piece}
-use Rattle.rt_queries.specs.SearchCommand.{searched}
+use Rattle.rt_tagcmd.specs.SearchCommand.{searched}
 use Rattle.rt_store.specs.Shown.{TaggedCell}
 use Rattle.rt_tagcmd.specs.MarkCommands.{set_at, with_gravity}
 use Rattle.rt_tagcmd.specs.TagCommands.{tag_written}

@@ -1,10 +1,15 @@
+pub mod Dumping
+pub mod Elements
 pub mod Examples
 pub mod Looking
 pub mod MarkCommands
 pub mod MarkLists
+pub mod SearchCommand
+pub mod Stretches
 pub mod TagCommands
 pub mod TagRanges
-pub use Rattle.rt_marks.specs.Marks
-pub use Rattle.rt_stamps.specs.Outcomes
 pub use Rattle.rt_edits.specs.DocValue
+pub use Rattle.rt_marks.specs.Marks
+pub use Rattle.rt_search.specs.Searches
+pub use Rattle.rt_stamps.specs.Outcomes
 pub use Rattle.rt_text.specs.Widgets

@@ -2,13 +2,13 @@
 ghost use Rattle.std.specs.Prelude.{◌≡◌, ◌++◌, flat_map, IfOk, IsOkUnless, OnOk};
 ghost use Rattle.rt_stamps.specs.Outcomes.{Answers};
 ghost use Rattle.rt_stamps.specs.Words.{as_words};
-ghost use Rattle.rt_queries.specs.Dumping.{dumped};
+ghost use Rattle.rt_tagcmd.specs.Dumping.{dumped};
 ghost use Rattle.rt_peers.specs.ViewStep.{element_words, told_step};
 
 use super::tagging::text_of;
 use crate::replies::position_text;
 use crate::reply::Reply;
-use rt_queries::Element;
+use rt_tagcmd::Element;
 use rt_requests::{Kinds, Word};
 use rt_stamps::Fault;
 use rt_text::View;
@@ -48,6 +48,6 @@ pub(crate) fn dump(
 ) -> Result<Reply, Fault>
     ensures { Answers (told_step (flat_map element_words) view.now (dumped view.now kinds from.now to.now)) view.now result view.now }
 {
-    let elements = rt_queries::dump(alloc, view, kinds, from.text(), text_of(to))?;
+    let elements = rt_tagcmd::dump(alloc, view, kinds, from.text(), text_of(to))?;
     elements_reply(alloc, &elements)
 }

@@ -2,7 +2,7 @@
 ghost use Rattle.std.specs.Prelude.{map};
 ghost use Rattle.rt_stamps.specs.Outcomes.{Answers};
 ghost use Rattle.rt_stamps.specs.Places.{text_of_position};
-ghost use Rattle.rt_queries.specs.SearchCommand.{searched};
+ghost use Rattle.rt_tagcmd.specs.SearchCommand.{searched};
 ghost use Rattle.rt_peers.specs.ViewStep.{told_step};
 
 use crate::replies::positions_reply;
@@ -21,6 +21,6 @@ pub(crate) fn search(
 ) -> Result<Reply, Fault>
     ensures { Answers (told_step (map text_of_position) view.now (searched view.now request.now)) view.now result view.now }
 {
-    let positions = rt_queries::search(alloc, view, request)?;
+    let positions = rt_tagcmd::search(alloc, view, request)?;
     positions_reply(alloc, &positions)
 }

@@ -1,6 +1,6 @@
 use Rattle.std.proofs.Common.{flat_map, refl}
 use Rattle.std.proofs.lemmas.Result.{err_from_is_err_and}
-use Rattle.rt_queries.specs.Dumping.{dumped}
+use Rattle.rt_tagcmd.specs.Dumping.{dumped}
 use Rattle.rt_peers.specs.ViewStep.{element_words}
 use Rattle.rt_peers.proofs.Steps.{refused_as, replied_as}
 use Rattle.rt_peers.proofs.commands.dumping.dump.Goals as goal

@@ -1,7 +1,7 @@
 use Rattle.std.proofs.Common.{map, refl}
 use Rattle.std.proofs.lemmas.Result.{err_from_is_err_and}
 use Rattle.rt_stamps.specs.Places.{text_of_position}
-use Rattle.rt_queries.specs.SearchCommand.{searched}
+use Rattle.rt_tagcmd.specs.SearchCommand.{searched}
 use Rattle.rt_peers.proofs.Steps.{refused_as, replied_as}
 use Rattle.rt_peers.proofs.commands.searching.search.Goals as goal
 

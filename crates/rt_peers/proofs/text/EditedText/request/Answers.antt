@@ -2,8 +2,8 @@ use Rattle.std.proofs.Common.{map, flat_map, inr, refl, subst}
 use Rattle.std.specs.Fmt.{signed_decimal}
 use Rattle.rt_stamps.specs.Places.{text_of_position}
 use Rattle.rt_requests.specs.Parts.{all_of}
-use Rattle.rt_queries.specs.Dumping.{dumped}
-use Rattle.rt_queries.specs.SearchCommand.{searched}
+use Rattle.rt_tagcmd.specs.Dumping.{dumped}
+use Rattle.rt_tagcmd.specs.SearchCommand.{searched}
 use Rattle.rt_text.specs.Commands.{compared, counted, position_of_index}
 use Rattle.rt_peers.specs.ViewStep.{element_words, get_step, one_word, text_of_bool, told_step}
 use Rattle.rt_peers.proofs.Steps.{told_to}

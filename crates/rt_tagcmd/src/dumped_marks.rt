@@ -1,0 +1,31 @@
+// The marks of a stretch.
+ghost use Rattle.std.specs.Prelude.{◌≡◌, ◌++◌, IsOkUnless, OnOk};
+ghost use Rattle.rt_tagcmd.specs.Dumping.{marks_standing};
+ghost use Rattle.rt_tagcmd.specs.Stretches.{within};
+
+use crate::Key;
+use crate::placed::Placed;
+use crate::stretch::Stretch;
+use rt_stamps::Fault;
+use rt_store::TextStore;
+use crate::marks_between;
+use rt_text::View;
+use std::alloc::Global;
+
+/// Puts the marks of a stretch behind other elements, in their order. `NoMemory` is its only fault.
+pub(crate) fn push_marks<S: TextStore>(
+    alloc: Global,
+    view: &View<S>,
+    stretch: Stretch,
+    elements: &mut Vec<Placed>,
+) -> Result<(), Fault>
+    ensures ok { OnOk result (elements.new.items ≡ elements.old.items ++ within stretch (marks_standing view.now)) }
+    ensures err { IsOkUnless result Fault.NoMemory }
+{
+    let marks = marks_between(alloc, view, stretch.from, stretch.behind)?;
+    for mark in &marks {
+        let name = String::from_str(alloc, mark.name)?;
+        elements.push(Placed::new(Key::Mark, name, mark.place))?;
+    }
+    Ok(())
+}
