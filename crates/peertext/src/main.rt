@@ -180,7 +180,7 @@ fn run_with<'a, A: Ledger, B: Ledger, C: Ledger, D: Ledger, S: Read + Drop, W: W
     (failure, script, lines)
 }
 
-// The same for `run_begun`, which asks for no reader and no writer.
+// Runs a script as `run_with` does, for `run_begun`, which asks for no reader and no writer.
 fn run_over<'a, A: Ledger, B: Ledger, C: Ledger, D: Ledger, S: Read + Drop, W: Write + Drop>(
     rt: &HostRuntime,
     site: SiteState,

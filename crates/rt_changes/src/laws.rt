@@ -15,14 +15,14 @@ pub fn changes()
     ensures differ { RetaggedDiffer }
 {}
 
-/// The same of the characters alone.
+/// What `changes` says of the text with its tags, of the characters alone.
 pub fn characters()
     ensures inserted { InsertsPutTextIn }
     ensures deleted { DeletesTakeTextAway }
     ensures tagged { TagsLeaveText }
 {}
 
-/// The same of the stamps of the visible characters, which tell one character from another.
+/// What `changes` says of the text, of the stamps of the visible characters, which tell one character from another.
 pub fn stamps()
     ensures inserted { InsertsPutStampsIn }
     ensures deleted { DeletesTakeStampsAway }

@@ -29,6 +29,7 @@ impl Before {
         ensures kept { IsOfLog view.now.doc }
     {
         let doc = view.doc();
+        // For its clauses alone.
         let _ = doc.log();
         Before {
             site: doc.site(),
@@ -44,6 +45,7 @@ impl Before {
         ensures kept { IsOfLog view.now.doc }
     {
         let doc = view.doc();
+        // For its clauses alone.
         let _ = doc.log();
         self.cells < doc.cells() || doc.visible() < self.visible
     }

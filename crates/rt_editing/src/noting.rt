@@ -54,7 +54,7 @@ fn prepare<S: TextStore>(
     recorder.prepare(&lost, states)
 }
 
-/// The same for a deletion, by its indices, where edits are recorded. Its faults, or want of memory.
+/// Makes ready as `prepare` does, for a deletion by its indices, where edits are recorded. Its faults, or want of memory.
 pub(crate) fn prepare_deletion<S: TextStore>(
     view: &View<S>,
     recorder: &mut Recorder,
@@ -86,7 +86,7 @@ fn found<S: TextStore>(view: &View<S>, index: &str) -> Result<Option<usize>, Fau
     }
 }
 
-/// The same for a replacement, by its indices. Where one is none, nothing is prepared, since the replacement
+/// Makes ready as `prepare` does, for a replacement by its indices. Where one is none, nothing is prepared, since the replacement
 /// is refused: for what, it tells itself. Want of memory.
 pub(crate) fn prepare_replacement<S: TextStore>(
     view: &View<S>,

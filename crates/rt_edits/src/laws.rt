@@ -65,7 +65,7 @@ pub fn tags_of_stamps()
         → map (with_state []) (with_tag flat name on stamps).cells ≡ map (with_state []) flat.cells }
 {}
 
-/// The same of the characters at some places; and no write is newer than the document then.
+/// What `tags_of_stamps` says, of the characters at some places; and no write is newer than the document then.
 pub fn tags_at_places()
     ensures named { (flat : DocValue) (places : ℕ → Bool) (on : Bool) (name : Word) → AreWritten flat.count flat.cells
         → All (λ cell. is_on name cell.state ≡ on) (cells_at places 0 (with_tag_at flat places on name).cells) }

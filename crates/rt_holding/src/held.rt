@@ -118,6 +118,7 @@ impl Held {
         ensures same { OnErr result (self.new.held ≡ self.old.held) }
         ensures tried { (limit : ℕ) (log : List Operation) → AreTriedAt limit log self.old → AreTriedAt limit log self.new }
     {
+        // For its clauses alone.
         let _ = op.edit();
         let arrival = self.arrivals;
         let place = (op.stamp(), arrival);

@@ -173,7 +173,7 @@ fn is_waiting<T: Taking>(site: &T, keys: &KeySet, spans: &[Span], key: Key) -> b
     is_pending(keys, spans, index + 1, key, site.known(key.site)) || is_any_open(site, spans, index)
 }
 
-/// The same of an operation, which names spans.
+/// Whether an operation waits at a key, as `is_waiting` has it, for the spans that it names.
 fn waits_on<T: Taking>(site: &T, keys: &KeySet, op: &Op, key: Key) -> bool
     ensures { IsTrue result → IsStillWaiting (T.log site.now) keys.now key (targets op.now.body) }
 {

@@ -56,7 +56,7 @@ pub(crate) fn line_end_place<G: Ground>(ground: &G, line: usize) -> usize
     }
 }
 
-/// The same character of a line further on, or its newline.
+/// The place so many lines further on, at as many characters into the line, or at its newline.
 fn lines_forward<G: Ground>(ground: &G, place: usize, count: usize) -> usize
     requires { place ≤ length (G.widget ground.now).text }
     ensures value { result ≡ lines_forward (G.widget ground.now).text place count }
@@ -71,7 +71,7 @@ fn lines_forward<G: Ground>(ground: &G, place: usize, count: usize) -> usize
     character_place(ground, line, character)
 }
 
-/// The same character of a line further back, or its newline.
+/// The place so many lines back, at as many characters into the line, or at its newline.
 fn lines_back<G: Ground>(ground: &G, place: usize, count: usize) -> usize
     requires { place ≤ length (G.widget ground.now).text }
     ensures value { result ≡ lines_back (G.widget ground.now).text place count }

@@ -37,6 +37,7 @@ pub fn telling()
 pub fn cursors(site: &SiteState)
     ensures { (path : Word) (place : ℕ) (stamp : Stamp) → stamp_by path place site.now ≡ Some stamp → place_by path stamp site.now ≡ Some place }
 {
+    // For its clauses alone.
     let _ = site.log();
 }
 
@@ -47,6 +48,7 @@ pub fn sites_agree(one: &SiteState, other: &SiteState)
     ensures text { AreOf one.now.text.view.doc.log other.now.text.view.doc.log
         → tagged_text one.now.text.view.doc.cells ≡ tagged_text other.now.text.view.doc.cells }
 {
+    // For their clauses alone.
     let _ = one.log();
     let _ = other.log();
 }
@@ -59,6 +61,7 @@ pub fn sites_agree_in_any_order(one: &SiteState, other: &SiteState)
     ensures cells { AgreeInAnyOrder (λ state. state.text.view.doc.cells) one.now other.now }
     ensures text { AgreeInAnyOrder (λ state. tagged_text state.text.view.doc.cells) one.now other.now }
 {
+    // For their clauses alone.
     let _ = one.log();
     let _ = other.log();
 }
@@ -76,6 +79,7 @@ pub fn exchange(one: &SiteState, other: &SiteState)
     ensures lacking { ReceivesLacking one.now (log_of other.now) }
     ensures agree { ExchangeAgrees one.now other.now }
 {
+    // For their clauses alone.
     let _ = one.log();
     let _ = other.log();
 }
@@ -91,6 +95,7 @@ pub fn exchanged(one: &SiteState, other: &SiteState, left_one: &SiteState, left_
     ensures lacking_cells { AgreeOnceCaughtUp (λ state. state.text.view.doc.cells) one.now other.now left_one.now left_other.now }
     ensures lacking_text { AgreeOnceCaughtUp (λ state. tagged_text state.text.view.doc.cells) one.now other.now left_one.now left_other.now }
 {
+    // For their clauses alone.
     let _ = one.log();
     let _ = other.log();
     let _ = left_one.log();

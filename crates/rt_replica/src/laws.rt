@@ -12,6 +12,7 @@ pub fn agreement<S: TextStore, T: TextStore>(one: &HoldingReplica<S>, other: &Ho
     ensures cells { AreOf one.now.log other.now.log → one.now.cells ≡ other.now.cells }
     ensures text { AreOf one.now.log other.now.log → tagged_text one.now.cells ≡ tagged_text other.now.cells }
 {
+    // For their clauses alone.
     let _ = one.log();
     let _ = other.log();
 }

@@ -83,6 +83,7 @@ impl<S: TextStore> HoldingReplica<S> {
         ensures history { IsHistory self.now.log }
         ensures cells { self.now.cells ≡ cells_of self.now.log }
     {
+        // For its clauses alone.
         let _ = self.telling.replica().store();
         self.telling.replica().log()
     }
@@ -118,9 +119,11 @@ impl<S: TextStore> HoldingReplica<S> {
         ensures site { self.new.site ≡ self.old.site }
         ensures limit { self.new.limit ≡ self.old.limit }
     {
+        // For its clauses alone.
         let _ = self.telling.replica().log();
         match self.held.offer(&mut self.telling, op) {
             Ok(Offered::New { more: _ }) => {
+                // For its clauses alone.
                 let _ = self.telling.replica().log();
                 Ok(Taken::New(self.telling.told()))
             }
@@ -144,12 +147,15 @@ impl<S: TextStore> HoldingReplica<S> {
         ensures site { self.new.site ≡ self.old.site }
         ensures limit { self.new.limit ≡ self.old.limit }
     {
+        // For its clauses alone.
         let _ = self.telling.replica().log();
         let ops = self.telling.make(drafts)?;
         let own = self.telling.replica();
+        // For its clauses alone.
         let _ = own.log();
         let site = own.site().number();
         self.held.settle(&mut self.telling, site);
+        // For its clauses alone.
         let _ = self.telling.replica().log();
         Ok(Made {
             ops,

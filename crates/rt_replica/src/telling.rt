@@ -58,6 +58,7 @@ impl<S: TextStore> Taking for Telling<S> {
     ghost after = { after_taken };
 
     fn answer(&self, op: &Op) -> Result<Offer, Fault> {
+        // For its clauses alone.
         let _ = self.replica.log();
         self.replica.answer(op)
     }
@@ -71,6 +72,7 @@ impl<S: TextStore> Taking for Telling<S> {
     }
 
     fn take(&mut self, op: Op) -> Result<(), Op> {
+        // For their clauses alone.
         let _ = self.replica.log();
         let _ = self.replica.store();
         let _ = op.edit();
@@ -80,6 +82,7 @@ impl<S: TextStore> Taking for Telling<S> {
         match self.replica.take(op) {
             Err(op) => Err(op),
             Ok(change) => {
+                // For its clauses alone.
                 let _ = self.replica.store();
                 self.changes.push_reserved(change);
                 Ok(())

@@ -48,7 +48,7 @@ fn all_known(switches: &[String]) -> bool
     are_known(switches)
 }
 
-// The same, of the strings themselves.
+// What `all_known` asks, of the strings themselves.
 fn are_known(switches: &[String]) -> bool
     ensures { result ≡ list_all (λ w. is_dump_switch (string_bytes w)) switches.now }
 {

@@ -40,7 +40,7 @@ fn are_digits(text: &[u8]) -> bool
     are_all_digits(text)
 }
 
-// The same, as a test of each of them.
+// What `are_digits` asks, as a test of each byte.
 fn are_all_digits(text: &[u8]) -> bool
     ensures { result ≡ list_all (λ c. is_ascii_digit c) text.now }
 {

@@ -43,7 +43,7 @@ fn search_switches_len(words: &[String]) -> usize
     count_switches(words)
 }
 
-// The same, of the strings themselves.
+// What `search_switches_len` counts, of the strings themselves.
 fn count_switches(words: &[String]) -> usize
     ensures value { result ≡ prefix_len (λ w. is_search_switch (string_bytes w)) words.now }
     ensures within { result ≤ length words.now }

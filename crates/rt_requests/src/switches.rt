@@ -20,7 +20,7 @@ pub(crate) fn switches_len(words: &[String]) -> usize
     count_switches(words)
 }
 
-// The same, of the strings themselves.
+// What `switches_len` counts, of the strings themselves.
 fn count_switches(words: &[String]) -> usize
     ensures value { result ≡ prefix_len (λ w. is_switch (string_bytes w)) words.now }
     ensures within { result ≤ length words.now }
@@ -35,7 +35,7 @@ pub(crate) fn has(switches: &[String], name: &str) -> bool
     is_among(switches, name)
 }
 
-// The same, of the strings themselves.
+// What `has` asks, of the strings themselves.
 fn is_among(switches: &[String], name: &str) -> bool
     ensures { result ≡ list_any (λ w. bytes_eq (string_bytes w) name.now) switches.now }
 {

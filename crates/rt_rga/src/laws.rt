@@ -193,6 +193,7 @@ pub fn replicas_agree<S: TextStore, T: TextStore>(one: &Replica<S>, other: &Repl
     ensures cells { AreOf one.now.log other.now.log → one.now.cells ≡ other.now.cells }
     ensures text { AreOf one.now.log other.now.log → tagged_text one.now.cells ≡ tagged_text other.now.cells }
 {
+    // For their clauses alone.
     let _ = one.log();
     let _ = one.store();
     let _ = other.log();

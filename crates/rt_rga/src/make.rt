@@ -289,7 +289,7 @@ fn put<'a, S: TextStore>(
     }
 }
 
-/// The same of several operations, one after the other. Takes no memory.
+/// Puts in what several operations do, as `put` does for one, one after the other. Takes no memory.
 #[inline(always)]
 pub(crate) fn put_all<S: TextStore>(
     store: &mut S,
@@ -384,7 +384,7 @@ fn push_newest(log: &mut OpLog, clock: &mut Clock, op: Op)
     log.append(op);
 }
 
-// The same of a list of operations.
+// Logs the operations of a list, as `push_newest` does one.
 fn push_all(log: &mut OpLog, clock: &mut Clock, ops: Vec<Op>)
     requires continues { ContinueInTurn log.old.operations ops.items }
     requires newest { AreNewest log.old.operations ops.items }

@@ -63,6 +63,7 @@ pub fn headline(one: &SiteState, other: &SiteState)
     reading_is_unique();
     runs();
     one_output();
+    // For their clauses alone.
     let _ = one.log();
     let _ = other.log();
 }

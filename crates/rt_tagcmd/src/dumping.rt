@@ -40,6 +40,7 @@ fn stretch_of<S: TextStore>(view: &View<S>, from: usize, to: usize) -> Stretch
     requires { to ≤ length_shown view.now }
     ensures { result ≡ record { from = from; behind = if to == length_shown view.now then to + 1 else to } }
 {
+    // For its clauses alone.
     let _ = view.store();
     let behind = if to == view.visible() { to + 1 } else { to };
     Stretch { from, behind }

@@ -20,6 +20,7 @@ pub(crate) fn order<S: TextStore>(view: &View<S>)
         ≡ option_map (mark_seen (stretch_by view.now)) (named name view.now.doc.marks) }
 {
     view.doc().marks().order();
+    // For its clauses alone.
     let _ = view.widget();
 }
 

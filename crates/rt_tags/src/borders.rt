@@ -27,7 +27,7 @@ impl Toggles {
         self.add_each_beyond(states, here, there);
     }
 
-    // The same one by one.
+    // What `add_beyond` does, one tag after the other.
     fn add_each_beyond(&mut self, states: &StateTable, here: StateId, there: StateId)
         requires here { IsState states.now here }
         requires there { IsState states.now there }

@@ -184,7 +184,7 @@ impl Toggles {
         self.add_each(other);
     }
 
-    // The same one by one.
+    // What `add_all` does, one tag after the other.
     fn add_each(&mut self, other: &Toggles)
         requires room { HasRoomFor (more_tags other.now.counts self.old.counts) self.old }
         requires few { (tag : ℕ) → count_of tag self.old + count_of tag other.now < 2 ^ 32 }
@@ -212,7 +212,7 @@ impl Toggles {
         self.take_each(other);
     }
 
-    // The same one by one.
+    // What `take_all` does, one tag after the other.
     fn take_each(&mut self, other: &Toggles)
         requires { (tag : ℕ) → count_of tag other.now ≤ count_of tag self.old }
         ensures counts { (tag : ℕ) → count_of tag self.old ≡ count_of tag self.new + count_of tag other.now }

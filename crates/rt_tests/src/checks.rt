@@ -13,7 +13,7 @@ where
     assert_eq!(rt; found, wanted);
 }
 
-/// The same in a row of a table, which is told too.
+/// `same` in a row of a table, which is told too.
 pub(crate) fn same_in<T>(rt: &impl Abort, found: T, wanted: T, row: &str)
 where
     T: PartialEq + Debug + Copy,
@@ -21,7 +21,7 @@ where
     assert_eq!(rt; found, wanted, "in {row:?}");
 }
 
-/// The same of a length, which is known from then on.
+/// `same` of a length, which is known from then on.
 pub(crate) fn same_len(rt: &impl Abort, found: usize, wanted: usize)
     ensures { found ≡ wanted }
 {

@@ -17,7 +17,7 @@ fn typed_in_front(alloc: Global) -> Result<Pair, Fault> {
     Ok(pair)
 }
 
-// The same by a replica of site 1, which makes each insertion.
+// What `typed_in_front` gives, by a replica of site 1 that makes each insertion.
 fn made_in_front(alloc: Global) -> Result<Own, Fail> {
     let mut own = Own::new(alloc, 3000)?;
     for _ in 0..2000 {

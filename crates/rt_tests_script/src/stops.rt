@@ -218,7 +218,7 @@ impl<'a> Cut<'a> {
         self.after(rt, len, is_whole)
     }
 
-    // The same where so many bytes do.
+    // What `after_reads` answers, where so many bytes give all that comes of it.
     fn after(&self, rt: &impl Abort, len: usize, is_whole: bool) -> (&'a [u8], Option<Fault>) {
         if is_whole {
             (self.replies.as_bytes(), None)
@@ -301,14 +301,14 @@ fn stops_at_reads(rt: &impl Abort, alloc: Global, cut: &Cut, most: usize) {
     }
 }
 
-// The same at each byte.
+// A run is stopped at each byte of its script.
 fn stops_at_bytes(rt: &impl Abort, alloc: Global, cut: &Cut) {
     for number in 0..cut.lines.len().saturating_add(2) {
         bytes_are_bounded(rt, alloc, cut, number);
     }
 }
 
-// The same at each of its reply lines (fewer than ten), and at each byte of them.
+// A run is stopped at each of its reply lines (fewer than ten), and at each byte of them.
 fn stops_at_writes(rt: &impl Abort, alloc: Global, cut: &Cut) {
     for number in 0..10 {
         write_fails(rt, alloc, cut, number);

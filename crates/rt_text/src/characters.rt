@@ -104,7 +104,7 @@ fn next_with<S: TextStore>(
     }
 }
 
-/// The same of a stretch of the text, and of places in it.
+/// What `next_with` finds, of a stretch of the text, by places in it.
 pub(crate) fn next_within<S: TextStore>(
     store: &S,
     states: &StateTable,

@@ -116,6 +116,7 @@ impl<S: TextStore> Doc<S> {
         ensures count { self.now.count ≡ greatest_last_count self.now.log }
         ensures site { 0 < self.now.site }
     {
+        // For their clauses alone.
         let _ = self.replica.store();
         let _ = self.replica.site();
         self.replica.log()
@@ -141,6 +142,7 @@ impl<S: TextStore> Doc<S> {
         ensures document { IsDocument self.now.site self.now.log self.now }
         ensures site { 0 < self.now.site }
     {
+        // For their clauses alone.
         let _ = self.replica.log();
         let _ = self.replica.site();
         (self.replica.store(), self.replica.states())

@@ -76,7 +76,7 @@ pub(crate) fn unselect(held: bool, last: Stamp, selection: &mut Selection, other
     }
 }
 
-/// The same of a widget.
+/// What `unselect` does, for a widget and the others.
 pub(crate) fn unselect_last(held: bool, last: Stamp, widget: &mut Widget, others: &mut [Parts])
     ensures own { widget.new ≡ record widget.old { sel = if held then unselected (last ∷ []) widget.old.sel else widget.old.sel } }
     ensures others { map own_in others.new

@@ -31,7 +31,7 @@ pub(crate) struct Change {
     pub(crate) more: usize,
 }
 
-// The same, and the run that was put in with the leaf where it stands, if there is one, and the spot of its last cell.
+// The root after a change, the run that was put in with the leaf where it stands, if there is one, and the spot of its last cell.
 #[derive(Clone, Copy)]
 pub(crate) struct Parted {
     pub(crate) change: Change,
@@ -252,7 +252,7 @@ fn inside(mem: &Mem, root: NodeId, stamp: Stamp, homes: &Homes) -> Option<usize>
     inside_by_walk(mem, root, stamp)
 }
 
-// The same, by a walk from run to run.
+// What `inside` finds, by a walk from run to run.
 fn inside_by_walk(mem: &Mem, root: NodeId, stamp: Stamp) -> Option<usize>
     requires tree { IsTree mem.now root.index }
     requires kept { AreKept (tree_runs mem.now root.index) }

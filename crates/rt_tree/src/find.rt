@@ -67,7 +67,7 @@ pub(crate) fn seek(mem: &Mem, root: NodeId, by: Measure, place: usize) -> Found
     requires within { place < amount by (counts_of (tree_runs mem.now root.index)) }
     ensures { StandsAt by (tree_runs mem.now root.index) result.run result.before result.spot.offset place }
 {
-    // Its clause bounds the levels, and so the looks; the value isn't needed.
+    // For its clause alone: it bounds the levels, and so the looks.
     height(mem, root);
     let mut looks = 0;
     find(mem, root, by, place, &mut looks)

@@ -102,7 +102,7 @@ impl Home {
         }
     }
 
-    // The same position, if the run doesn't begin with it.
+    // The position of a stamp's cell, if the run doesn't begin with it.
     pub(crate) fn inside(self, stamp: Stamp) -> Option<usize>
         requires has { has self.run stamp ≡ true }
         requires few { self.before.cells + self.run.len < 2 ^ 33 }
@@ -476,7 +476,7 @@ fn home_at(mem: &Mem, root: NodeId, leaf: NodeId, entry: usize) -> Option<Home>
     match *mem.entry(leaf, entry) {
         Entry::Down(..) => None,
         Entry::Here(run) => {
-            // Its clause bounds the levels, and so the looks; the value isn't needed.
+            // For its clause alone: it bounds the levels, and so the looks.
             height(mem, root);
             let mut looks = 0;
             let looks = &mut looks;

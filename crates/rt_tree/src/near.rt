@@ -40,7 +40,7 @@ pub(crate) fn is_in(last: &Option<Found>, by: Measure, place: usize) -> bool
     }
 }
 
-// The same spot, so far into its run.
+// The spot in the run that was found, so far into it.
 #[inline(always)]
 fn moved(found: &Found, offset: usize) -> Found
     ensures spot { result.spot ≡ record { leaf = found.now.spot.leaf; entry = found.now.spot.entry; offset = offset } }
@@ -135,7 +135,7 @@ pub(crate) fn found_near(
             return there;
         }
     }
-    // Its clause bounds the levels, and so the looks; the value isn't needed.
+    // For its clause alone: it bounds the levels, and so the looks.
     height(mem, root);
     let mut looks = 0;
     let looks = &mut looks;
@@ -195,7 +195,7 @@ pub(crate) fn counts_before(mem: &Mem, root: NodeId, last: &Option<Found>, spot:
             return found.before;
         }
     }
-    // Its clause bounds the levels, and so the looks; the value isn't needed.
+    // For its clause alone: it bounds the levels, and so the looks.
     height(mem, root);
     let mut looks = 0;
     let looks = &mut looks;

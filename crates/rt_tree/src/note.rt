@@ -92,7 +92,7 @@ pub(crate) fn note(
     note_up(each, minus, plus, states, mem, top, restated);
 }
 
-// The same of what doesn't come in behind a run of its leaf in the same state.
+// What `note` does, of what doesn't come in behind a run of its leaf in the same state.
 #[inline(never)]
 fn note_up(
     each: &mut [Summary],

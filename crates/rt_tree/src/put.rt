@@ -102,7 +102,7 @@ pub(crate) fn found_at(mem: &Mem, root: NodeId, at: usize) -> Found
     ensures spot { IsSpot mem.now root.index Cells at result.spot.leaf.index result.spot.entry result.spot.offset result.run }
     ensures run { StandsAt Cells (tree_runs mem.now root.index) result.run result.before result.spot.offset at }
 {
-    // Its clause bounds the levels, and so the looks; the value isn't needed.
+    // For its clause alone: it bounds the levels, and so the looks.
     crate::find::height(mem, root);
     let mut looks = 0;
     let looks = &mut looks;
@@ -252,7 +252,7 @@ pub(crate) struct NewRun {
     pub(crate) newest: u64,
 }
 
-// The same, and tells where the run's stamps are.
+// Puts a run in, and tells where its stamps are.
 #[inline(always)]
 pub(crate) fn put_home(
     mem: &mut Mem,

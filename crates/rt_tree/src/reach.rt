@@ -241,7 +241,7 @@ pub(crate) fn next_place(
     ensures { (text : List ℕ) → AllByRecursion (IsRun text) (tree_runs mem.now root.index)
         → result ≡ next_place (tag_is states.now wanted.now.tag wanted.now.on) (visible_of (cells_of text (tree_runs mem.now root.index))) place }
 {
-    // Its clause bounds the levels, and so the looks; the value isn't needed.
+    // For its clause alone: it bounds the levels, and so the looks.
     height(mem, root);
     let mut looks = 0;
     let looks = &mut looks;

@@ -121,7 +121,7 @@ pub(crate) fn make_room(
     cut_for_room(mem, sums, states, top, place)
 }
 
-// The same where the leaf is full.
+// What `make_room` sees to, where the leaf is full.
 #[inline(never)]
 fn cut_for_room(
     mem: &mut Mem,
@@ -215,7 +215,7 @@ pub(crate) fn top_room(
     cut_root(mem, sums, states, root, height)
 }
 
-// The same where the root is full.
+// What `top_room` sees to, where the root is full.
 #[inline(never)]
 fn cut_root(
     mem: &mut Mem,

@@ -135,7 +135,7 @@ pub(crate) fn widened(
     ensures after { result.after ≡ either around.now.after
         (first (shown_states (all_below mem.now (level_of mem.now node.index) (drop (i + 1) (entries mem.now node.index))))) }
 {
-    // Its clause says that a node has sixteen entries at most, so `i + 1` can't overflow; the value isn't needed.
+    // For its clause alone: a node has sixteen entries at most, so `i + 1` can't overflow.
     mem.len(node);
     let before = wider_before(each, mem, node, i, &around.before);
     let after = wider_after(each, mem, node, i + 1, &around.after);
@@ -170,10 +170,10 @@ pub(crate) fn replace_at(
 {
     count_around(minus, states, around, &change.from);
     count_around(plus, states, around, &change.to);
-    // Its clause says that the counts stand in the order of their tags; the value isn't needed.
+    // For its clause alone: the counts stand in the order of their tags.
     plus.counts();
     let own = &mut each[node.index as usize];
-    // The same of these.
+    // For its clause alone: these counts stand in that order too.
     own.counts.counts();
     own.replace(around, &change.to, minus, plus);
 }

@@ -85,7 +85,7 @@ impl Summary {
         ensures capacity { self.new.counts.capacity ≡ self.old.counts.capacity }
     {
         self.counts.add_border(states, self.last, other.first);
-        // Their clauses say that the counts stand in the order of their tags; the values aren't needed.
+        // For their clauses alone: the counts stand in the order of their tags.
         self.counts.counts();
         other.counts.counts();
         self.counts.add_all(&other.counts);

@@ -361,7 +361,7 @@ impl Tree {
         }
     }
 
-    // The same where it isn't in the run that is known.
+    // What `position_of` answers, where the cell isn't in the run that is known.
     #[inline(never)]
     fn sought_position(&self, stamp: Stamp) -> Option<usize>
         ensures { result ≡ position_of self.now.cells stamp }
@@ -439,7 +439,7 @@ impl Tree {
         if let Some(home) = self.homes.near(&self.mem, self.root, &self.last, stamp) {
             return Some(place_in(home.run, home.before, stamp));
         }
-        // Its clause bounds the levels, and so the looks; the value isn't needed.
+        // For its clause alone: it bounds the levels, and so the looks.
         self.height();
         let mut looks = 0;
         self.climb(stamp, &mut looks)
@@ -451,7 +451,7 @@ impl Tree {
         requires { StandsBefore self.now.cells left }
         ensures { result ≡ after_element self.now.cells left }
     {
-        // Its clause says that a `usize` holds the number of cells, so `+ 1` can't overflow; the value isn't needed.
+        // For its clause alone: a `usize` holds the number of cells, so `+ 1` can't overflow.
         self.cells();
         if left == ROOT {
             0

@@ -106,7 +106,7 @@ fn removed_now(
 }
 
 impl Action {
-    /// The same action, by the stamps that its characters have now. Want of memory.
+    /// The action by the stamps that its characters have now. Want of memory.
     pub fn renamed(&self, alloc: Global, renames: &Renames) -> Result<Action, Fault>
         ensures ok { IfOk result (λ copy. action_of copy ≡ with_stamps (now_of renames.now) (action_of self.now)) }
         ensures fault { IsOkUnless result Fault.NoMemory }

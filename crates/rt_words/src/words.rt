@@ -25,7 +25,7 @@ pub fn words(alloc: Global, line: &str) -> Result<Vec<String>, Fault>
     Ok(words)
 }
 
-/// The same, in memory that words of former lines had. `BadQuoting` where the line spells no list of
+/// The words of a line, as `words` has them, in memory that words of former lines had. `BadQuoting` where the line spells no list of
 /// words, `NoMemory` where they can't be stored.
 pub fn words_in<'a>(alloc: Global, spare: &'a mut Spare, line: &str) -> Result<&'a [String], Fault>
     ensures ok { IfOk result (λ words. Spells line.now (as_words words.now)) }
@@ -266,7 +266,7 @@ fn bare_len(separators: Separators, text: &[u8]) -> usize
     }
 }
 
-// The same, of a text that begins with no separator: its first character needs no look.
+// What `bare_len` counts, of a text that begins with no separator: its first character needs no look.
 fn dark_len(separators: Separators, text: &[u8]) -> usize
     requires some { 0 < length text.now }
     requires dark { separates separators (slice_index text.now 0) ≡ false }

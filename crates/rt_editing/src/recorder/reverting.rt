@@ -64,6 +64,7 @@ impl Recorder {
             ⊎ (reversion_check view.old.doc (named_group self.old.table (group_of group.now)) ≡ Some fault)) }
         ensures unchanged { OnErr result (view.new ≡ view.old) }
     {
+        // For their clauses alone.
         let _ = view.doc().log();
         let _ = view.doc().site();
         let most = most_returns(group)?;

@@ -24,6 +24,7 @@ impl Taking for EditedText {
     ghost after = { text_with_new };
 
     fn answer(&self, op: &Op) -> Result<Offer, Fault> {
+        // For its clauses alone.
         let _ = self.log();
         self.view.answer(op)
     }
@@ -63,6 +64,7 @@ impl EditedText {
         ensures site { 0 < self.now.view.doc.site }
         ensures limits { AllByRecursion (AreInOrder self.now.view.doc.cells) (limits_of self.now.view) }
     {
+        // For its clauses alone.
         let _ = self.view.widget();
         self.view.doc().log()
     }

@@ -14,8 +14,10 @@ impl EditedText {
     pub(super) fn mark(&mut self, request: &MarkRequest<'_>) -> Result<Reply, Fault>
         ensures { Answers (on_view self.old (mark_step self.old.view request.now)) self.old result self.new }
     {
+        // For its clauses alone.
         let _ = self.view.doc().log();
         let reply = commands::mark(self.alloc, &mut self.view, request);
+        // For its clauses alone.
         let _ = self.view.doc().log();
         reply
     }
@@ -24,8 +26,10 @@ impl EditedText {
     pub(super) fn tag(&mut self, request: &TagRequest<'_>) -> Result<Reply, Fault>
         ensures { Answers (on_view self.old (tag_step self.old.view request.now)) self.old result self.new }
     {
+        // For its clauses alone.
         let _ = self.view.doc().log();
         let reply = commands::tag(self.alloc, &mut self.view, request);
+        // For its clauses alone.
         let _ = self.view.doc().log();
         reply
     }

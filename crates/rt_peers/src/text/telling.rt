@@ -59,6 +59,7 @@ impl Told {
         ensures untold { OnErr result (self.new ≡ self.old) }
         ensures back { IfErr result (λ back. back ≡ op) }
     {
+        // For its clauses alone.
         let _ = text.log();
         let Ok(to_tell) = ToTell::of(alloc, &op) else {
             return Err(op);
@@ -168,10 +169,12 @@ impl EditedText {
             ≡ tagged_text self.new.view.doc.cells }
         ensures within { AreInText (all_changes_in result.changes.items) (tagged_text self.old.view.doc.cells) }
     {
+        // For its clauses alone.
         let _ = self.log();
         let alloc = self.alloc;
         let mut told = Told::nothing(alloc);
         let received = receive_told(alloc, self, &mut told, held, bytes);
+        // For its clauses alone.
         let _ = self.log();
         ReceivedChanges {
             received,

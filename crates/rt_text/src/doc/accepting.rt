@@ -42,6 +42,7 @@ impl<S: TextStore> Doc<S> {
         ensures unchanged { OnErr result (self.new ≡ self.old) }
         ensures back { IfErr result (λ back. back ≡ op) }
     {
+        // For its clauses alone.
         let _ = self.kept();
         if prepare_lists(&mut self.tags, op.edit()).is_err() {
             return Err(op);
@@ -49,6 +50,7 @@ impl<S: TextStore> Doc<S> {
         match self.replica.take(op) {
             Err(op) => Err(op),
             Ok(change) => {
+                // For their clauses alone.
                 let _ = self.replica.log();
                 let _ = self.replica.store();
                 follow(&mut self.marks, &change);

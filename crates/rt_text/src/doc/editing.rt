@@ -170,7 +170,7 @@ impl<S: TextStore> Doc<S> {
         ensures own { IsOwnOf (length (text_of self.new.cells)) widget.new }
         ensures others { AllByRecursion (IsOwnOf (length (text_of self.new.cells))) (map own_in others.new) }
     {
-        // Its clauses say where the place lies; the value isn't needed.
+        // For its clauses alone: they say where the place lies.
         let _ = self.kept();
         let at = stretch.begin + place;
         let stamp = Stamp {
@@ -217,7 +217,7 @@ impl<S: TextStore> Doc<S> {
         ensures others { AllByRecursion (IsOwnOf (length (text_of self.new.cells))) (map own_in others.new) }
     {
         let mut plan = plan;
-        // Its clauses say where the place lies; the value isn't needed.
+        // For its clauses alone: they say where the place lies.
         let _ = self.kept();
         let at = stretch.begin + place;
         let drafts = replace(&mut plan.drafts, Few::none(self.alloc));

@@ -63,6 +63,7 @@ impl<S: TextStore> Doc<S> {
         ensures stamps { AreDistinct self.now.cells }
         ensures writes { AreWritten self.now.count self.now.cells }
     {
+        // For its clauses alone.
         let _ = self.log();
     }
 

@@ -41,11 +41,13 @@ impl<S: TextStore> View<S> {
         ensures unchanged { OnErr result (self.new ≡ self.old) }
         ensures back { IfErr result (λ back. back ≡ op) }
     {
+        // For their clauses alone.
         let _ = self.doc.log();
         let _ = self.doc.kept();
         match self.doc.take(op) {
             Err(op) => Err(op),
             Ok(change) => {
+                // For its clauses alone.
                 let _ = self.doc.log();
                 self.widget.follow(&change);
                 follow_each(&mut self.others, &change);

@@ -28,6 +28,7 @@ impl<S: TextStore> View<S> {
         check_names(pieces)?;
         let (place, stretch) = self.place_within(index)?;
         let place = place.min(stretch.end - stretch.begin - 1);
+        // For its clauses alone.
         let _ = self.doc.kept();
         self.doc.focus(stretch.begin + place);
         let done = self.doc.insert_at(
@@ -38,6 +39,7 @@ impl<S: TextStore> View<S> {
             pieces,
             rest,
         );
+        // For its clauses alone.
         let _ = self.doc.log();
         done
     }
@@ -55,10 +57,12 @@ impl<S: TextStore> View<S> {
         ensures unchanged { OnErr result (self.new ≡ self.old) }
     {
         let ranges = self.ranges(indices)?;
+        // For its clauses alone.
         let _ = self.doc.kept();
         let done = self
             .doc
             .delete_in(&mut self.widget, &mut self.others, &ranges);
+        // For its clauses alone.
         let _ = self.doc.log();
         done
     }

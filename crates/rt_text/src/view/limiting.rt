@@ -20,6 +20,7 @@ impl<S: TextStore> View<S> {
         ensures err { IfErr result (λ fault. limited self.old start end ≡ Err fault) }
         ensures unchanged { OnErr result (self.new ≡ self.old) }
     {
+        // For its clauses alone.
         let _ = self.doc.kept();
         let limits = self.doc.limits_chosen(self.widget.limits(), start, end)?;
         self.widget.set_limits(limits);
@@ -34,6 +35,7 @@ impl<S: TextStore> View<S> {
         ensures err { IfErr result (Refuses (with_peer self.old start end)) }
         ensures unchanged { OnErr result (self.new ≡ self.old) }
     {
+        // For its clauses alone.
         let _ = self.doc.kept();
         let limits = self.doc.limits_chosen(self.widget.limits(), start, end)?;
         let begin = self.doc.stretch(limits).begin;

@@ -44,10 +44,12 @@ impl<S: TextStore> View<S> {
         let begin = self.place(from)?;
         let end = self.place(to)?;
         let range = forward(begin, end)?;
+        // For its clauses alone.
         let _ = self.doc.kept();
         let done = self
             .doc
             .replace_in(&mut self.widget, &mut self.others, range, pieces, rest);
+        // For its clauses alone.
         let _ = self.doc.log();
         done
     }

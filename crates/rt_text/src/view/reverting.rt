@@ -46,6 +46,7 @@ impl<S: TextStore> View<S> {
             ⊎ (reversion_check self.old.doc (named_group kept.old (group_of group.now)) ≡ Some fault)) }
         ensures unchanged { OnErr result (self.new ≡ self.old) }
     {
+        // For its clauses alone.
         let _ = self.doc.kept();
         self.doc
             .revert_in(&mut self.widget, &mut self.others, copy, group, kept)

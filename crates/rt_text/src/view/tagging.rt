@@ -66,6 +66,7 @@ impl<S: TextStore> View<S> {
             return self.widget.select(self.alloc, store, &ranges, on);
         }
         let done = self.doc.write_shared(on, name, &ranges);
+        // For its clauses alone.
         let _ = self.doc.log();
         done
     }
@@ -80,8 +81,10 @@ impl<S: TextStore> View<S> {
             ⊎ (clock_check (with_tags_deleted self.old (as_words names.now)).doc.count ≡ Some fault)) }
         ensures unchanged { OnErr result (self.new ≡ self.old) }
     {
+        // For its clauses alone.
         let _ = self.doc.kept();
         let done = self.doc.delete_tags(names);
+        // For its clauses alone.
         let _ = self.doc.log();
         done
     }

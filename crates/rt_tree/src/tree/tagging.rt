@@ -38,7 +38,7 @@ impl Tree {
         self.next_wanted(states, tag, true, place)
     }
 
-    /// The same place, with at most thirty-two looks a level added to the counter.
+    /// The place that `next_tagged` answers, with at most thirty-two looks a level added to the counter.
     pub fn find_tagged(
         &self,
         states: &StateTable,
