@@ -11,7 +11,7 @@ use Rattle.rt_program.specs.Readers.{ReadsFresh, fresh}
 use Rattle.rt_script.specs.Site.{NamedFile}
 use Rattle.rt_script.specs.SiteRun.{Begins, RunsScript}
 use Rattle.rt_script.specs.SiteValue.{SiteValue}
-use Rattle.rt_script.specs.declared.site_run.Outcome.{Outcome}
+use Rattle.rt_script.specs.declared.site_run.ScriptRun.{ScriptRun}
 
 -- A site begins with all bytes of a file. Or it doesn't, as these were not read, or as it refuses them.
 abbrev pub BeginsFresh : ℕ → Option (List ℕ) → Stream → Result SiteValue (Fault × ℕ) → Type 0
@@ -21,7 +21,7 @@ BeginsFresh site file left result =
     (λ fault. result ≡ Err (fault, 0))
 
 -- a script is run by a site, and the lines of its answers stand behind what was written before
-abbrev pub RunsFresh : List NamedFile → SiteValue → Bool → Option (List ℕ) → Stream → Option (List ℕ) → Stream → Outcome → Type 0
+abbrev pub RunsFresh : List NamedFile → SiteValue → Bool → Option (List ℕ) → Stream → Option (List ℕ) → Stream → ScriptRun → Type 0
 RunsFresh files site wants_log script left before after outcome = RunsScript files site wants_log (fresh script) left (fresh before) after outcome
 
 -- Where the log is told and wanted its file was written, or it wasn't. Where telling it found no memory, that is the failure.
@@ -34,5 +34,5 @@ WritesLog (Some path) (Some (Ok bytes)) written = (written ≡ None) ⊎ ((kind 
 -- The program fails as the run did; or else as the log's file was written.
 abbrev pub ProgramRuns : List NamedFile → SiteValue → Option (Bor (List ℕ)) → Option (List ℕ) → Stream → Option (List ℕ) → Stream → Option Failure → Type 0
 ProgramRuns files site out script left before after failure =
-    (outcome : Outcome) × (written : Option Failure) × RunsFresh files site (is_some out) script left before after outcome
+    (outcome : ScriptRun) × (written : Option Failure) × RunsFresh files site (is_some out) script left before after outcome
     × WritesLog out outcome.log written × (failure ≡ first_failure outcome.fault written)

@@ -8,7 +8,7 @@ ghost use Rattle.rt_program.specs.Readers.{ReadsFresh, JoinsFresh, ShowsFresh, s
 ghost use Rattle.rt_script.specs.Site.{AreWithin, named_files};
 
 use rt_program::{join_readers, read_bytes, show_lines};
-use rt_script::{JoinFault, Outcome, SiteState, begun, run_site};
+use rt_script::{JoinFault, ScriptRun, SiteState, begun, run_site};
 use rt_stamps::std_ends::{Count, Reader, Writer};
 use rt_stamps::{Fault, Site};
 use std::alloc::Global;
@@ -53,7 +53,7 @@ pub(crate) fn run_counted<
     script: S,
     out: W,
     counts: Counts,
-) -> (Outcome, Reader<S, A, B>, Writer<W, C, D>)
+) -> (ScriptRun, Reader<S, A, B>, Writer<W, C, D>)
     requires files { AreWithin files.now }
     requires a { (counts.reads.name ≡ A.name) × (counts.reads.parts ≡ A.parts) × (0 < A.parts) }
     requires b { (counts.failed_reads.name ≡ B.name) × (counts.failed_reads.parts ≡ B.parts) × (0 < B.parts) }

@@ -22,7 +22,7 @@ use rt_program::ending::{
     status, write_failure,
 };
 use rt_program::{LazyFile, write_whole};
-use rt_script::{JoinFault, Outcome, SiteState, begun};
+use rt_script::{JoinFault, ScriptRun, SiteState, begun};
 use rt_stamps::std_ends::{Reader, Writer};
 use rt_stamps::{Fault, Site};
 use std::alloc::Global;
@@ -173,7 +173,7 @@ fn run_with<'a, A: Ledger, B: Ledger, C: Ledger, D: Ledger, S: Read + Drop, W: W
         lines,
         counts,
     );
-    let Outcome { site, fault, log } = outcome;
+    let ScriptRun { site, fault, log } = outcome;
     let failure = first_failure(fault, write_log(rt, out, log));
     // The program ends here: the site's memory goes with it as a whole, not cell by cell.
     forget(site);

@@ -13,7 +13,7 @@ use Rattle.rt_holding.specs.declared.held.Offered.TheVariants as offered
 use Rattle.rt_holding.specs.declared.receiving.Received.{Received}
 use Rattle.rt_holding.specs.Holding.{Holding, is_early, is_full, put_held, reply_to, settled, taken_then, with_taken}
 use Rattle.rt_holding.specs.Memory.{FilesFindMemory, FoundMemory, OfferFoundMemory, OffersFindMemory, OffersFoundMemory, TakesNew}
-use Rattle.rt_holding.specs.Receiving.{Ended, Offers, State, none_accepted, one_more, reply_at}
+use Rattle.rt_holding.specs.Receiving.{AtEnd, Offers, State, none_accepted, one_more, reply_at}
 use Rattle.rt_holding.specs.Replies.{Reply}
 use Rattle.rt_holding.specs.Replies as replies
 use Rattle.rt_holding.specs.Runs.{AreTakenInTurn}
@@ -147,8 +147,8 @@ module _ {Site : Type 0} (log : Site → List Operation) (limit : Site → ℕ) 
 
   all_find : TakesNew log limit after → (ops : List Operation) (offsets : List ℕ) (ending : Option (Fault × ℕ)) (old : State Site)
       → length offsets ≡ length ops
-      → (received : Received) × (new : State Site) × (h : Offers log limit after ops offsets (Ended ending) old received new)
-      × OffersFoundMemory log limit after ops offsets (Ended ending) old received new h
+      → (received : Received) × (new : State Site) × (h : Offers log limit after ops offsets (AtEnd ending) old received new)
+      × OffersFoundMemory log limit after ops offsets (AtEnd ending) old received new h
   all_find t [] offsets ending old l = (none_accepted ending old.held, old, record { told = ending; ends = refl; counted = refl; same = refl }, tt)
   all_find t (op ∷ ops) [] ending old l = absurd (omega (arith, l))
   all_find t (op ∷ ops) (offset ∷ offsets) ending old l = elim (either t op old (reply_at log limit after op old) refl) [
@@ -172,4 +172,4 @@ module _ {Site : Type 0} (log : Site → List Operation) (limit : Site → ℕ) 
   pub files_find : FilesFindMemory log limit after
   files_find t bytes ops offsets ending old reads =
       let k = all_find t ops offsets ending old (reads_length bytes ops offsets ending reads) in
-      (k.0, k.1, record { ops = ops; offsets = offsets; behind = Ended ending; read = reads; offers = k.2 }, k.3)
+      (k.0, k.1, record { ops = ops; offsets = offsets; behind = AtEnd ending; read = reads; offers = k.2 }, k.3)

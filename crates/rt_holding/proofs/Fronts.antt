@@ -13,7 +13,7 @@ use Rattle.rt_ops.proofs.Fronts.{front_of_read, two_fronts}
 use Rattle.rt_ops.proofs.Unique.{one_reading}
 use Rattle.rt_oplog.specs.Logs.{Has}
 use Rattle.rt_holding.specs.declared.receiving.Received.{Received}
-use Rattle.rt_holding.specs.Receiving.{Behind, Ended, EndsWith, Offers, ReadsUpTo, State, Unread, Wanting}
+use Rattle.rt_holding.specs.Receiving.{Behind, AtEnd, EndsWith, Offers, ReadsUpTo, State, Unread, Wanting}
 use Rattle.rt_holding.proofs.Receptions.{same_fault}
 
 -- ONE READING
@@ -25,7 +25,7 @@ offsets_read None bytes ops offsets ending h = h.3
 
 -- each operation has the offset of its record
 pub offsets_are : (bytes : List ℕ) (ops : List Operation) (offsets : List ℕ) (behind : Behind) → ReadsUpTo bytes ops offsets behind → offsets ≡ offsets_from 8 ops
-offsets_are bytes ops offsets (Ended ending) h = offsets_read (head_fault (take 8 bytes)) bytes ops offsets ending h
+offsets_are bytes ops offsets (AtEnd ending) h = offsets_read (head_fault (take 8 bytes)) bytes ops offsets ending h
 offsets_are bytes ops offsets (Wanting offset) h = h.2
 offsets_are bytes ops offsets Unread h = h.1
 
@@ -37,7 +37,7 @@ begun_read None bytes ops offsets ending h op i = (h.0, h.1, h.2)
 -- where some were read, the file begins with them
 pub begun_with : (bytes : List ℕ) (ops : List Operation) (offsets : List ℕ) (behind : Behind) → ReadsUpTo bytes ops offsets behind
     → (op : Operation) → Has ops op → IsBegun bytes ops
-begun_with bytes ops offsets (Ended ending) h op i = begun_read (head_fault (take 8 bytes)) bytes ops offsets ending h op i
+begun_with bytes ops offsets (AtEnd ending) h op i = begun_read (head_fault (take 8 bytes)) bytes ops offsets ending h op i
 begun_with bytes ops offsets (Wanting offset) h op i = h.0
 begun_with bytes ops offsets Unread h op i = h.0
 
@@ -55,9 +55,9 @@ read_rules bytes ops offsets behind h op i = all_rules ops (begun_with bytes ops
 
 -- behind operations that were read up to the end or to a fault there are no more, and others were read up to the same
 abbrev pub Agree : Behind → List Operation → Behind → Type 0
-Agree (Ended ending) more (Ended other) = (more ≡ []) × (ending ≡ other)
-Agree (Ended ending) more (Wanting offset) = ⊥
-Agree (Ended ending) more Unread = ⊥
+Agree (AtEnd ending) more (AtEnd other) = (more ≡ []) × (ending ≡ other)
+Agree (AtEnd ending) more (Wanting offset) = ⊥
+Agree (AtEnd ending) more Unread = ⊥
 Agree (Wanting offset) more beyond = Unit {0}
 Agree Unread more beyond = Unit {0}
 
@@ -69,19 +69,19 @@ pub record GoesNoFurther (ops other : List Operation) (behind beyond : Behind) :
 
 pub one_or_other : (bytes : List ℕ) (ops other : List Operation) (offsets places : List ℕ) (behind beyond : Behind)
     → ReadsUpTo bytes ops offsets behind → ReadsUpTo bytes other places beyond → GoesNoFurther ops other behind beyond ⊎ GoesNoFurther other ops beyond behind
-one_or_other bytes ops other offsets places (Ended a) (Ended b) h k =
+one_or_other bytes ops other offsets places (AtEnd a) (AtEnd b) h k =
     let one = one_reading bytes ops other offsets places a b h k in
     inl (record { more = []; is = sym one.0 ∙ sym (append-nil ops); agree = (refl, one.2) })
-one_or_other bytes ops other offsets places (Ended a) (Wanting n) h k =
+one_or_other bytes ops other offsets places (AtEnd a) (Wanting n) h k =
     let f = front_of_read bytes other ops offsets a k.0 h in
     inr (record { more = f.0; is = f.1; agree = tt })
-one_or_other bytes ops other offsets places (Ended a) Unread h k =
+one_or_other bytes ops other offsets places (AtEnd a) Unread h k =
     let f = front_of_read bytes other ops offsets a k.0 h in
     inr (record { more = f.0; is = f.1; agree = tt })
-one_or_other bytes ops other offsets places (Wanting m) (Ended b) h k =
+one_or_other bytes ops other offsets places (Wanting m) (AtEnd b) h k =
     let f = front_of_read bytes ops other places b h.0 k in
     inl (record { more = f.0; is = f.1; agree = tt })
-one_or_other bytes ops other offsets places Unread (Ended b) h k =
+one_or_other bytes ops other offsets places Unread (AtEnd b) h k =
     let f = front_of_read bytes ops other places b h.0 k in
     inl (record { more = f.0; is = f.1; agree = tt })
 one_or_other bytes ops other offsets places (Wanting m) (Wanting n) h k = elim (two_fronts bytes ops other h.0 k.0) [
@@ -105,13 +105,13 @@ one_or_other bytes ops other offsets places Unread Unread h k = elim (two_fronts
 
 -- no fault of reading came behind
 abbrev pub EndsWell : Behind → Type 0
-EndsWell (Ended ending) = ending ≡ None
+EndsWell (AtEnd ending) = ending ≡ None
 EndsWell (Wanting offset) = Unit {0}
 EndsWell Unread = Unit {0}
 
 -- so nothing else is told than want of memory
 pub well_told : (P : Fault × ℕ → Type 0) (behind : Behind) (told : Option (Fault × ℕ)) → EndsWell behind → EndsWith behind told → ((offset : ℕ) → P (NoMemory, offset)) → IfSome told P
-well_told P (Ended ending) told w e n = subst (λ t. IfSome t P) (sym (e ∙ w)) tt
+well_told P (AtEnd ending) told w e n = subst (λ t. IfSome t P) (sym (e ∙ w)) tt
 well_told P (Wanting offset) told w e n = subst (λ t. IfSome t P) (sym e) (n offset)
 well_told P Unread told w e n = absurd e
 
@@ -123,7 +123,7 @@ pub record IsFront (all ops : List Operation) (behind : Behind) : Type 0 where
 
 pub front_read : (bytes : List ℕ) (all ops : List Operation) (places offsets : List ℕ) (behind : Behind) → Reads bytes all places None → ReadsUpTo bytes ops offsets behind
     → IsFront all ops behind
-front_read bytes all ops places offsets (Ended ending) r h =
+front_read bytes all ops places offsets (AtEnd ending) r h =
     let one = one_reading bytes all ops places offsets None ending r h in
     record { more = []; is = one.0 ∙ sym (append-nil ops); well = sym one.2 }
 front_read bytes all ops places offsets (Wanting offset) r h = let f = front_of_read bytes ops all places None h.0 r in record { more = f.0; is = f.1; well = tt }
@@ -132,8 +132,8 @@ front_read bytes all ops places offsets Unread r h = let f = front_of_read bytes
 module _ {Site : Type 0} (log : Site → List Operation) (limit : Site → ℕ) (after : Operation → Site → Site) where
   -- where no fault is told, the file was read to its end
   pub read_to_end : (ops : List Operation) (offsets : List ℕ) (behind : Behind) (old : State Site) (received : Received) (new : State Site)
-      → Offers log limit after ops offsets behind old received new → received.fault ≡ None → behind ≡ Ended None
-  read_to_end [] offsets (Ended ending) old received new h e = let same : ending ≡ None = sym h.ends ∙ sym (ap (λ (r : Received). r.fault) h.counted) ∙ e in ap (λ x. Ended x) same
+      → Offers log limit after ops offsets behind old received new → received.fault ≡ None → behind ≡ AtEnd None
+  read_to_end [] offsets (AtEnd ending) old received new h e = let same : ending ≡ None = sym h.ends ∙ sym (ap (λ (r : Received). r.fault) h.counted) ∙ e in ap (λ x. AtEnd x) same
   read_to_end [] offsets (Wanting offset) old received new h e =
       let same : ◌≡◌ {A = Option (Fault × ℕ)} None (Some (_, offset)) = sym e ∙ ap (λ (r : Received). r.fault) h.counted ∙ h.ends in absurd (cc same)
   read_to_end [] offsets Unread old received new h e = absurd h.ends

@@ -10,7 +10,7 @@ use Rattle.rt_holding.specs.declared.held.Offered.TheVariants as offered
 use Rattle.rt_holding.specs.declared.receiving.Received.{Received}
 use Rattle.rt_holding.specs.Holding.{Holding, with_taken}
 use Rattle.rt_holding.specs.Memory.{FilesGoOneWay, FoundMemory, OfferFoundMemory, OffersFoundMemory}
-use Rattle.rt_holding.specs.Receiving.{Behind, Ended, Offers, State, Unread, Wanting, none_accepted, one_more, reply_at}
+use Rattle.rt_holding.specs.Receiving.{Behind, AtEnd, Offers, State, Unread, Wanting, none_accepted, one_more, reply_at}
 use Rattle.rt_holding.specs.Replies.{Reply}
 use Rattle.rt_holding.specs.Replies as replies
 use Rattle.rt_holding.specs.Taken.{AreTried, IsOffered, IsRefused, all_after, holding, replied}
@@ -85,10 +85,10 @@ module _ {Site : Type 0} (log : Site → List Operation) (limit : Site → ℕ) 
       → (received ≡ other) × (new ≡ left)
   one_run [] more at (Wanting m) beyond old received other new left a h k f g = absurd f
   one_run [] more at Unread beyond old received other new left a h k f g = absurd h.ends
-  one_run [] more at (Ended x) (Wanting n) old received other new left a h k f g = absurd a
-  one_run [] more at (Ended x) Unread old received other new left a h k f g = absurd a
-  one_run [] (op ∷ more) at (Ended x) (Ended y) old received other new left a h k f g = absurd (let e = a.0 in cc e)
-  one_run [] [] at (Ended x) (Ended y) old received other new left a h k f g =
+  one_run [] more at (AtEnd x) (Wanting n) old received other new left a h k f g = absurd a
+  one_run [] more at (AtEnd x) Unread old received other new left a h k f g = absurd a
+  one_run [] (op ∷ more) at (AtEnd x) (AtEnd y) old received other new left a h k f g = absurd (let e = a.0 in cc e)
+  one_run [] [] at (AtEnd x) (AtEnd y) old received other new left a h k f g =
       let same : h.told ≡ k.told = h.ends ∙ a.1 ∙ sym k.ends in
       (h.counted ∙ ap (λ told. none_accepted told old.held) same ∙ sym k.counted, h.same ∙ sym k.same)
   one_run (op ∷ ops) more at behind beyond old received other new left a (inl h) (inl k) f g =

@@ -15,7 +15,7 @@ use Rattle.rt_holding.specs.declared.held.Offered.TheVariants as offered
 use Rattle.rt_holding.specs.declared.receiving.Received.{Received}
 use Rattle.rt_holding.specs.Holding.{Holding, Settles, rest, takes, drops, lacks, with_taken, no_more_held}
 use Rattle.rt_holding.specs.Taken.{IsOffered, IsRefused, holding, replied}
-use Rattle.rt_holding.specs.Receiving.{Behind, Ended, EndsWith, Offers, ReadsUpTo, Receives, State, Unread, Wanting, count_of, none_accepted, one_more, reply_at}
+use Rattle.rt_holding.specs.Receiving.{Behind, AtEnd, EndsWith, Offers, ReadsUpTo, Receives, State, Unread, Wanting, count_of, none_accepted, one_more, reply_at}
 use Rattle.rt_holding.proofs.Keeping.{next_is}
 use Rattle.rt_holding.proofs.Settling.{without_le, without_lt}
 use Rattle.rt_holding.proofs.Sites.{length_put}
@@ -173,7 +173,7 @@ module _ {Site : Type 0} (log : Site → List Operation) (limit : Site → ℕ) 
   pub receives_whole : (bytes : List ℕ) (left : Left) (start : State Site) (before : Received) (now : State Site) → left.bytes ≡ bytes → left.rest ≡ []
       → HasOffered left start before now → Receives log limit after bytes start (record before { held = length now.held; fault = None }) now
   receives_whole bytes left start before now e none h =
-      ends_so bytes left start before now (Ended None) None h refl
+      ends_so bytes left start before now (AtEnd None) None h refl
       (reads_records bytes h.ops (offsets_from 8 h.ops) None left.rest (sym e ∙ h.taken.bytes) h.taken.are refl none)
 
   -- at a record that isn't read
@@ -184,7 +184,7 @@ module _ {Site : Type 0} (log : Site → List Operation) (limit : Site → ℕ) 
       ends_so bytes left start before now (Wanting offset) (Some (fault, offset)) h (ap (λ f. Some (f, offset)) lack.0)
       ((left.rest, sym e ∙ h.taken.bytes, h.taken.are), lack.1, refl, at h.ops h.taken)
   receives_front bytes left start before now fault offset e at (inr ends) h =
-      ends_so bytes left start before now (Ended (Some (fault, offset))) (Some (fault, offset)) h refl
+      ends_so bytes left start before now (AtEnd (Some (fault, offset))) (Some (fault, offset)) h refl
       (reads_records bytes h.ops (offsets_from 8 h.ops) (Some (fault, offset)) left.rest (sym e ∙ h.taken.bytes) h.taken.are refl
       (subst (λ n. IsEnd h.ops left.rest (Some (fault, n))) (sym (at h.ops h.taken)) (ends h.ops h.taken)))
 
@@ -218,7 +218,7 @@ module _ {Site : Type 0} (log : Site → List Operation) (limit : Site → ℕ) 
   receives_none bytes start fault e = record {
     ops = [];
     offsets = [];
-    behind = Ended (Some (fault, 0));
+    behind = AtEnd (Some (fault, 0));
     read = subst (λ found. ReadsAs found bytes [] [] (Some (fault, 0))) (sym e) (refl, refl, refl);
     offers = record { told = Some (fault, 0); ends = refl; counted = refl; same = refl };
   }

@@ -15,15 +15,15 @@ use Rattle.rt_oplog.proofs.Sets.{operation_refl, with_has}
 use Rattle.rt_rga.specs.Answers.{Answer, New, Repeat, Refused, answer_within}
 use Rattle.rt_rga.specs.Histories.{IsHistory}
 use Rattle.rt_rga.proofs.Skipping.{split}
-use Rattle.rt_holding.specs.declared.trying.Outcome.{Outcome}
-use Rattle.rt_holding.specs.declared.trying.Outcome.TheVariants.{Taken, Waits, Stays, Dropped, Absent}
+use Rattle.rt_holding.specs.declared.trying.AfterTry.{AfterTry}
+use Rattle.rt_holding.specs.declared.trying.AfterTry.TheVariants.{Taken, Waits, Stays, Dropped, Absent}
 use Rattle.rt_holding.specs.declared.waits.Keys.{Keys}
 use Rattle.rt_holding.specs.declared.waits.Waits.{Waits as Table}
 use Rattle.rt_holding.specs.Grown.{HasGrownBy}
 use Rattle.rt_holding.specs.Holding.{Holding, is_left, is_new, stays}
-use Rattle.rt_holding.specs.Kept.{AreHeld, Entry, IsAt, IsNewAt, Standing, by_stamp_and_arrival, ops_in, outcome_of}
+use Rattle.rt_holding.specs.Kept.{AreHeld, Entry, IsAt, IsNewAt, Standing, by_stamp_and_arrival, ops_in, after_try_of}
 use Rattle.rt_holding.specs.Taken.{AreTried, holding}
-use Rattle.rt_holding.specs.Waits.{IfIsThere, IsFirstDue, IsSetAt, KeepsOthers, are_kept, are_tried_at, is_due, is_listed, key_at, outcome_there, sleeps}
+use Rattle.rt_holding.specs.Waits.{IfIsThere, IsFirstDue, IsSetAt, KeepsOthers, are_kept, are_tried_at, is_due, is_listed, key_at, after_try_there, sleeps}
 use Rattle.rt_holding.specs.Waking.{IsWoken}
 use Rattle.rt_holding.proofs.Due.{stays_waits}
 use Rattle.rt_holding.proofs.Going.{AreReady, IsLeftAt, both, either, left_if_stays, next_due, none_due, or_left, or_right, tried_in, tried_now}
@@ -66,7 +66,7 @@ grown_by older log by op h b l = record {
 
 -- OUTCOMES
 
-stays_if : (lacks : Bool) (a : Answer) → Stays ≡ outcome_of lacks a → stays a ≡ true
+stays_if : (lacks : Bool) (a : Answer) → Stays ≡ after_try_of lacks a → stays a ≡ true
 stays_if true New e = absurd (cc e)
 stays_if false New e = absurd (cc e)
 stays_if lacks Repeat e = absurd (cc e)
@@ -74,7 +74,7 @@ stays_if lacks (Refused NotYet) e = refl
 stays_if lacks (Refused TextFull) e = refl
 stays_if lacks (Refused _) e = absurd (cc e)
 
-never_absent : (lacks : Bool) (a : Answer) → Absent ≡ outcome_of lacks a → ⊥
+never_absent : (lacks : Bool) (a : Answer) → Absent ≡ after_try_of lacks a → ⊥
 never_absent true New e = cc e
 never_absent false New e = cc e
 never_absent lacks Repeat e = cc e
@@ -82,7 +82,7 @@ never_absent lacks (Refused NotYet) e = cc e
 never_absent lacks (Refused TextFull) e = cc e
 never_absent lacks (Refused _) e = cc e
 
-waits_if : (lacks : Bool) (a : Answer) → Waits ≡ outcome_of lacks a → (is_new a ≡ true) × (lacks ≡ true)
+waits_if : (lacks : Bool) (a : Answer) → Waits ≡ after_try_of lacks a → (is_new a ≡ true) × (lacks ≡ true)
 waits_if true New e = (refl, refl)
 waits_if false New e = absurd (cc e)
 waits_if lacks Repeat e = absurd (cc e)
@@ -90,7 +90,7 @@ waits_if lacks (Refused NotYet) e = absurd (cc e)
 waits_if lacks (Refused TextFull) e = absurd (cc e)
 waits_if lacks (Refused _) e = absurd (cc e)
 
-taken_if : (lacks : Bool) (a : Answer) → Taken ≡ outcome_of lacks a → (a ≡ New) × (lacks ≡ false)
+taken_if : (lacks : Bool) (a : Answer) → Taken ≡ after_try_of lacks a → (a ≡ New) × (lacks ≡ false)
 taken_if true New e = absurd (cc e)
 taken_if false New e = (refl, refl)
 taken_if lacks Repeat e = absurd (cc e)
@@ -98,7 +98,7 @@ taken_if lacks (Refused NotYet) e = absurd (cc e)
 taken_if lacks (Refused TextFull) e = absurd (cc e)
 taken_if lacks (Refused _) e = absurd (cc e)
 
-dropped_if : (lacks : Bool) (a : Answer) → Dropped ≡ outcome_of lacks a → (is_new a ≡ false) × (stays a ≡ false)
+dropped_if : (lacks : Bool) (a : Answer) → Dropped ≡ after_try_of lacks a → (is_new a ≡ false) × (stays a ≡ false)
 dropped_if true New e = absurd (cc e)
 dropped_if false New e = absurd (cc e)
 dropped_if lacks Repeat e = (refl, refl)
@@ -111,13 +111,13 @@ pub record IsThere (m : BTreeMap Standing (Option Operation)) (p : Standing) : T
   pub op : Operation
   pub found : get by_stamp_and_arrival m p ≡ Some (Some op)
 
-pub there_if : (lacks : Bool) (limit : ℕ) (log : List Operation) (m : BTreeMap Standing (Option Operation)) (p : Standing) (o : Outcome) → o ≡ outcome_there lacks limit log (get by_stamp_and_arrival m p)
+pub there_if : (lacks : Bool) (limit : ℕ) (log : List Operation) (m : BTreeMap Standing (Option Operation)) (p : Standing) (o : AfterTry) → o ≡ after_try_there lacks limit log (get by_stamp_and_arrival m p)
     → (Absent ≡ o → ⊥) → IsThere m p
 there_if lacks limit log m p o e n = one (get by_stamp_and_arrival m p) refl
   where
     one : (v : Option (Option Operation)) → get by_stamp_and_arrival m p ≡ v → IsThere m p
-    one None f = absurd (n (sym (e ∙ ap (outcome_there lacks limit log) f)))
-    one (Some None) f = absurd (n (sym (e ∙ ap (outcome_there lacks limit log) f)))
+    one None f = absurd (n (sym (e ∙ ap (after_try_there lacks limit log) f)))
+    one (Some None) f = absurd (n (sym (e ∙ ap (after_try_there lacks limit log) f)))
     one (Some (Some op)) f = record { op = op; found = f }
 
 -- one that waits on could be taken, but memory is wanting
@@ -125,21 +125,21 @@ pub record WaitsOn (lacks : Bool) (limit : ℕ) (log : List Operation) (m : BTre
   pub there : IsThere m p
   pub why : (is_new (answer_within limit there.op log) ≡ true) × (lacks ≡ true)
 
-pub outcome_here : (lacks : Bool) (limit : ℕ) (log : List Operation) (m : BTreeMap Standing (Option Operation)) (p : Standing) (o : Outcome) (x : Operation) → o ≡ outcome_there lacks limit log (get by_stamp_and_arrival m p)
-    → get by_stamp_and_arrival m p ≡ Some (Some x) → o ≡ outcome_of lacks (answer_within limit x log)
-outcome_here lacks limit log m p o x e f = e ∙ ap (outcome_there lacks limit log) f
+pub outcome_here : (lacks : Bool) (limit : ℕ) (log : List Operation) (m : BTreeMap Standing (Option Operation)) (p : Standing) (o : AfterTry) (x : Operation) → o ≡ after_try_there lacks limit log (get by_stamp_and_arrival m p)
+    → get by_stamp_and_arrival m p ≡ Some (Some x) → o ≡ after_try_of lacks (answer_within limit x log)
+outcome_here lacks limit log m p o x e f = e ∙ ap (after_try_there lacks limit log) f
 
-pub waits_there : (lacks : Bool) (limit : ℕ) (log : List Operation) (m : BTreeMap Standing (Option Operation)) (p : Standing) (o : Outcome) → o ≡ Waits → o ≡ outcome_there lacks limit log (get by_stamp_and_arrival m p)
+pub waits_there : (lacks : Bool) (limit : ℕ) (log : List Operation) (m : BTreeMap Standing (Option Operation)) (p : Standing) (o : AfterTry) → o ≡ Waits → o ≡ after_try_there lacks limit log (get by_stamp_and_arrival m p)
     → WaitsOn lacks limit log m p
 waits_there lacks limit log m p o i e =
     let t = there_if lacks limit log m p o e (λ j. let k : Absent ≡ Waits = j ∙ i in cc k) in
     record { there = t; why = waits_if lacks (answer_within limit t.op log) (sym i ∙ outcome_here lacks limit log m p o t.op e t.found) }
 
 -- one that would stay
-pub stays_here : (lacks : Bool) (limit : ℕ) (log : List Operation) (o : Outcome) (x : Operation) → o ≡ Stays → o ≡ outcome_of lacks (answer_within limit x log) → stays (answer_within limit x log) ≡ true
+pub stays_here : (lacks : Bool) (limit : ℕ) (log : List Operation) (o : AfterTry) (x : Operation) → o ≡ Stays → o ≡ after_try_of lacks (answer_within limit x log) → stays (answer_within limit x log) ≡ true
 stays_here lacks limit log o x i e = stays_if lacks (answer_within limit x log) (sym i ∙ e)
 
-pub stays_sound : (lacks : Bool) (limit : ℕ) (log : List Operation) (o : Outcome) (v : Option (Option Operation)) → o ≡ Stays → o ≡ outcome_there lacks limit log v → IfIsThere (λ x. has_bad_stamp x ≡ false) v
+pub stays_sound : (lacks : Bool) (limit : ℕ) (log : List Operation) (o : AfterTry) (v : Option (Option Operation)) → o ≡ Stays → o ≡ after_try_there lacks limit log v → IfIsThere (λ x. has_bad_stamp x ≡ false) v
 stays_sound lacks limit log o None i e = tt
 stays_sound lacks limit log o (Some None) i e = tt
 stays_sound lacks limit log o (Some (Some x)) i e = (waiting_from log x (stays_waits limit log x (stays_here lacks limit log o x i e))).stamp
@@ -199,7 +199,7 @@ module _ {Site : Type 0} (log : Site → List Operation) (after : Operation → 
     due_on q d = elim (either (is_due q due) (is_at (by_stamp_and_arrival q) p) (first.others q d)) [ inl i ↦ inl i | inr i ↦ inr (this_place q p i) ]
 
     -- none stands there
-    pub absent : (o : Outcome) → o ≡ Absent → o ≡ outcome_there lacks limit (log now) (get by_stamp_and_arrival m p)
+    pub absent : (o : AfterTry) → o ≡ Absent → o ≡ after_try_there lacks limit (log now) (get by_stamp_and_arrival m p)
         → IsGoing lacks limit state then_site now m (record { keys = old.keys; due = due; again = old.again }) count
     absent o i e = record {
       wanting = g.wanting;
@@ -216,7 +216,7 @@ module _ {Site : Type 0} (log : Site → List Operation) (after : Operation → 
     }
 
     -- it sleeps, or is looked at again
-    pub slept : (o : Outcome) → o ≡ Stays → o ≡ outcome_there lacks limit (log now) (get by_stamp_and_arrival m p)
+    pub slept : (o : AfterTry) → o ≡ Stays → o ≡ after_try_there lacks limit (log now) (get by_stamp_and_arrival m p)
         → (new : Table) → KeepsOthers p old.keys new.keys → heap_items new.due ≡ heap_items due → ((q : Standing) → is_listed q old.again.items ≡ true → is_listed q new.again.items ≡ true)
         → IfIsThere (λ x. (is_listed p new.again.items || are_kept new.keys (log now) p x) ≡ true) (get by_stamp_and_arrival m p)
         → IsGoing lacks limit state then_site now m new count
@@ -299,7 +299,7 @@ module _ {Site : Type 0} (log : Site → List Operation) (after : Operation → 
       pub held : AreHeld arrivals less.entries
       pub length : suc (length less.entries) ≡ length m.entries
 
-    pub dropped : (o : Outcome) → o ≡ Dropped → o ≡ outcome_there lacks limit (log now) (get by_stamp_and_arrival m p) → IsOrdered by_stamp_and_arrival m
+    pub dropped : (o : AfterTry) → o ≡ Dropped → o ≡ after_try_there lacks limit (log now) (get by_stamp_and_arrival m p) → IsOrdered by_stamp_and_arrival m
         → (arrivals : ℕ) (less : BTreeMap Standing (Option Operation)) (keys : Keys) → AreHeld arrivals m.entries → IsSetAt p None m less → KeepsOthers p old.keys keys
         → less.entries ≡ remove_entry (is_at (by_stamp_and_arrival p)) m.entries → IsGone lacks now less (record { keys = keys; due = due; again = old.again }) arrivals count
     dropped o i e s arrivals less keys h set others r =
@@ -326,7 +326,7 @@ module _ {Site : Type 0} (log : Site → List Operation) (after : Operation → 
         }
 
     -- what is to be taken is new
-    pub taken_new : (o : Outcome) → o ≡ Taken → o ≡ outcome_there lacks limit (log now) (get by_stamp_and_arrival m p) → IsOrdered by_stamp_and_arrival m
+    pub taken_new : (o : AfterTry) → o ≡ Taken → o ≡ after_try_there lacks limit (log now) (get by_stamp_and_arrival m p) → IsOrdered by_stamp_and_arrival m
         → IsNewAt limit (log now) m.entries p × (lacks ≡ false)
     taken_new o i e s =
         let t = there_if lacks limit (log now) m p o e (λ j. let k : Absent ≡ Taken = j ∙ i in cc k) in

@@ -10,8 +10,8 @@ use Rattle.rt_ops.specs.Operations.{Operation, has_bad_stamp, stamp_of}
 use Rattle.rt_ops.specs.Rules.{keeps_rules}
 use Rattle.rt_oplog.specs.Logs.{Has}
 use Rattle.rt_rga.specs.Answers.{Answer, New, answer_within}
-use Rattle.rt_holding.specs.declared.trying.Outcome.{Outcome}
-use Rattle.rt_holding.specs.declared.trying.Outcome.TheVariants.{Taken, Waits, Stays, Dropped}
+use Rattle.rt_holding.specs.declared.trying.AfterTry.{AfterTry}
+use Rattle.rt_holding.specs.declared.trying.AfterTry.TheVariants.{Taken, Waits, Stays, Dropped}
 use Rattle.rt_holding.specs.declared.held.TheConstants.{MOST_HELD}
 use Rattle.rt_holding.specs.Holding.{is_new, stays}
 use Rattle.rt_holding.specs.Runs.{AreOnce, AreRising}
@@ -57,8 +57,8 @@ pub record IsAt (place : Standing) (op : Operation) (entries : List Entry) : Typ
   pub before : AllByRecursion (λ e. by_stamp_and_arrival place e.0 ≡ Greater) front
 
 -- what becomes of a held operation that is tried: by whether memory was wanting before, and by what is answered
-abbrev pub outcome_of : Bool → Answer → Outcome
-outcome_of lacks answer =
+abbrev pub after_try_of : Bool → Answer → AfterTry
+after_try_of lacks answer =
     if is_new answer then if lacks then Waits else Taken
     else if stays answer then Stays
     else Dropped

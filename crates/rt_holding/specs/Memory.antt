@@ -11,7 +11,7 @@ use Rattle.rt_holding.specs.declared.held.Offered.{Offered}
 use Rattle.rt_holding.specs.declared.held.Offered.TheVariants as offered
 use Rattle.rt_holding.specs.declared.receiving.Received.{Received}
 use Rattle.rt_holding.specs.Holding.{Holding, Settles, rest, takes, drops, lacks, settled, taken_then}
-use Rattle.rt_holding.specs.Receiving.{Behind, Ended, Offers, Receives, State, Unread, Wanting, reply_at}
+use Rattle.rt_holding.specs.Receiving.{Behind, AtEnd, Offers, Receives, State, Unread, Wanting, reply_at}
 use Rattle.rt_holding.specs.Replies.{Refused}
 use Rattle.rt_holding.specs.Taken.{IsOffered, replied}
 
@@ -34,7 +34,7 @@ SettledFindsMemory = (limit : ℕ) (s : Holding) → (h : Settles limit [] s (se
 
 -- no memory was wanting for what came behind the operations of a file
 abbrev pub WasRead : Behind → Type 0
-WasRead (Ended ending) = Unit {0}
+WasRead (AtEnd ending) = Unit {0}
 WasRead (Wanting offset) = ⊥
 WasRead Unread = Unit {0}
 

@@ -17,20 +17,20 @@ use Rattle.rt_holding.specs.Taken.{IsOffered, IsRefused, holding, replied}
 -- What came behind the operations that were read: the end of the file, or the first fault of its reading; or a record for which memory
 -- was wanting, with its offset. Or it stays unread, as one of the operations was refused.
 pub data Behind : Type 0 where
-  Ended : (ending : Option (Fault × ℕ)) → Behind
+  AtEnd : (ending : Option (Fault × ℕ)) → Behind
   Wanting : (offset : ℕ) → Behind
   Unread : Behind
 
 -- the bytes of a file are read as these operations, each with the offset of its record, and then comes what is behind them
 abbrev pub ReadsUpTo : List ℕ → List Operation → List ℕ → Behind → Type 0
-ReadsUpTo bytes ops offsets (Ended ending) = Reads bytes ops offsets ending
+ReadsUpTo bytes ops offsets (AtEnd ending) = Reads bytes ops offsets ending
 ReadsUpTo bytes ops offsets (Wanting offset) =
     (begun : IsBegun bytes ops) × StandsWhole begun.0 × (offsets ≡ offsets_from 8 ops) × (offset ≡ length (spelling ops))
 ReadsUpTo bytes ops offsets Unread = IsBegun bytes ops × (offsets ≡ offsets_from 8 ops)
 
 -- What is told where none of the operations was refused. It doesn't come to that where what is behind them stays unread.
 abbrev pub EndsWith : Behind → Option (Fault × ℕ) → Type 0
-EndsWith (Ended ending) told = told ≡ ending
+EndsWith (AtEnd ending) told = told ≡ ending
 EndsWith (Wanting offset) told = told ≡ Some (NoMemory, offset)
 EndsWith Unread told = ⊥
 

@@ -18,10 +18,10 @@ use Rattle.rt_rga.specs.Kept.{goes_past}
 use Rattle.rt_holding.specs.declared.waits.Key.{Key}
 use Rattle.rt_holding.specs.declared.waits.Keys.{Keys}
 use Rattle.rt_holding.specs.declared.waits.Waits.{Waits}
-use Rattle.rt_holding.specs.declared.trying.Outcome.{Outcome}
-use Rattle.rt_holding.specs.declared.trying.Outcome.TheVariants.{Absent}
+use Rattle.rt_holding.specs.declared.trying.AfterTry.{AfterTry}
+use Rattle.rt_holding.specs.declared.trying.AfterTry.TheVariants.{Absent}
 use Rattle.rt_holding.specs.Holding.{stays}
-use Rattle.rt_holding.specs.Kept.{Entry, Standing, by_stamp_and_arrival, outcome_of}
+use Rattle.rt_holding.specs.Kept.{Entry, Standing, by_stamp_and_arrival, after_try_of}
 use Rattle.rt_holding.specs.Waiting.{targets}
 
 -- keys in order: by site, then by count, then by where the operations stand
@@ -178,10 +178,10 @@ IsSetAt place kept old new =
     (at : Standing) → get by_stamp_and_arrival new at ≡ cond (is_at (by_stamp_and_arrival place) at) kept (get by_stamp_and_arrival old at)
 
 -- what becomes of the operation at a place; nothing does where there is none
-abbrev pub outcome_there : Bool → ℕ → List Operation → Option (Option Operation) → Outcome
-outcome_there lacks limit log None = Absent
-outcome_there lacks limit log (Some None) = Absent
-outcome_there lacks limit log (Some (Some op)) = outcome_of lacks (answer_within limit op log)
+abbrev pub after_try_there : Bool → ℕ → List Operation → Option (Option Operation) → AfterTry
+after_try_there lacks limit log None = Absent
+after_try_there lacks limit log (Some None) = Absent
+after_try_there lacks limit log (Some (Some op)) = after_try_of lacks (answer_within limit op log)
 
 -- what is said of the operation at a place, if there is one
 abbrev pub IfIsThere : (Operation → Type 0) → Option (Option Operation) → Type 0

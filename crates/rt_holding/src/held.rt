@@ -5,7 +5,7 @@ ghost use Rattle.rt_ops.specs.Operations.{Operation};
 ghost use Rattle.rt_oplog.specs.Logs.{holds};
 
 use crate::taking::Taking;
-use crate::trying::{Ops, Outcome, drop_at, outcome_at, place_of, sleep, take_at, take_away};
+use crate::trying::{AfterTry, Ops, after_try_at, drop_at, sleep, standing_of, take_at, take_away};
 use crate::waits::{Waits, forget, keep, pop_first, prepare};
 use crate::waking::wake;
 use rt_oplog::Op;
@@ -105,7 +105,7 @@ impl Held {
     pub fn contains(&self, op: &Op) -> bool
         ensures { result ≡ holds self.now.held op.now }
     {
-        place_of(&self.ops, self.arrivals, op).is_some()
+        standing_of(&self.ops, self.arrivals, op).is_some()
     }
 
     /// Holds one more. Want of memory.
@@ -159,8 +159,8 @@ impl Held {
         let mut taken = 0;
         let mut lacks = false;
         while let Some(place) = pop_first(&mut self.waits.due) {
-            match outcome_at(site, &self.ops, place, lacks) {
-                Outcome::Taken => {
+            match after_try_at(site, &self.ops, place, lacks) {
+                AfterTry::Taken => {
                     match take_at(site, &mut self.ops, place) {
                         Ok(by) => {
                             taken += 1;
@@ -172,10 +172,10 @@ impl Held {
                         }
                     }
                 }
-                Outcome::Waits => keep(&mut self.waits, place),
-                Outcome::Stays => sleep(site, &self.ops, &mut self.waits, place),
-                Outcome::Absent => {}
-                Outcome::Dropped => drop_at(site, &mut self.ops, &mut self.waits.keys, place),
+                AfterTry::Waits => keep(&mut self.waits, place),
+                AfterTry::Stays => sleep(site, &self.ops, &mut self.waits, place),
+                AfterTry::Absent => {}
+                AfterTry::Dropped => drop_at(site, &mut self.ops, &mut self.waits.keys, place),
             }
         }
         taken
@@ -218,7 +218,7 @@ impl Held {
         ensures limit { T.limit site.new ≡ T.limit site.old }
         ensures log { OnOk result (AreTriedAt (T.limit site.new) (T.log site.new) self.new) }
     {
-        let held = place_of(&self.ops, self.arrivals, &op);
+        let held = standing_of(&self.ops, self.arrivals, &op);
         let made_by = op.site();
         match site.take(op) {
             Ok(()) => {}

@@ -7,8 +7,8 @@ ghost use Rattle.std.specs.List.{AllByRecursion};
 ghost use Rattle.rt_ops.specs.Operations.{Operation, has_bad_stamp};
 ghost use Rattle.rt_oplog.specs.Logs.{holds, with_operation};
 ghost use Rattle.rt_rga.specs.Answers.{answer_within};
-ghost use Rattle.rt_holding.specs.Kept.{IsAt, IsInPlace, IsNewAt, Standing, by_stamp_and_arrival, ops_in, outcome_of};
-ghost use Rattle.rt_holding.specs.Waits.{HasLess, IfIsThere, IsReady, IsSetAt, KeepsOthers, are_kept, is_any_kept, is_listed, key_count, outcome_there};
+ghost use Rattle.rt_holding.specs.Kept.{IsAt, IsInPlace, IsNewAt, Standing, by_stamp_and_arrival, ops_in, after_try_of};
+ghost use Rattle.rt_holding.specs.Waits.{HasLess, IfIsThere, IsReady, IsSetAt, KeepsOthers, are_kept, is_any_kept, is_listed, key_count, after_try_there};
 
 use crate::taking::Taking;
 use crate::waits::{Keys, Waits, forget, keep, put_keys};
@@ -26,7 +26,7 @@ pub(crate) type Ops = BTreeMap<Standing, Option<Op>>;
 
 /// What becomes of a held operation that is tried.
 #[derive(Clone, Copy, Debug, PartialEq, Eq)]
-pub(crate) enum Outcome {
+pub(crate) enum AfterTry {
     /// It is taken.
     Taken,
     /// It could be taken, but memory was wanting: it is looked at again.
@@ -40,31 +40,31 @@ pub(crate) enum Outcome {
 }
 
 /// What becomes of a held operation that is tried. Where memory was wanting before, none is taken.
-fn outcome_for<T: Taking>(site: &T, op: &Op, lacks: bool) -> Outcome
-    ensures { result ≡ outcome_of lacks (answer_within (T.limit site.now) op.now (T.log site.now)) }
+fn after_try_for<T: Taking>(site: &T, op: &Op, lacks: bool) -> AfterTry
+    ensures { result ≡ after_try_of lacks (answer_within (T.limit site.now) op.now (T.log site.now)) }
 {
     match site.answer(op) {
         Ok(Offer::New) => {
             if lacks {
-                Outcome::Waits
+                AfterTry::Waits
             } else {
-                Outcome::Taken
+                AfterTry::Taken
             }
         }
-        Ok(Offer::Repeat) => Outcome::Dropped,
-        Err(Fault::NotYet) => Outcome::Stays,
-        Err(Fault::TextFull) => Outcome::Stays,
-        Err(_) => Outcome::Dropped,
+        Ok(Offer::Repeat) => AfterTry::Dropped,
+        Err(Fault::NotYet) => AfterTry::Stays,
+        Err(Fault::TextFull) => AfterTry::Stays,
+        Err(_) => AfterTry::Dropped,
     }
 }
 
 /// What becomes of the operation at a place that is tried.
-pub(crate) fn outcome_at<T: Taking>(site: &T, ops: &Ops, place: Standing, lacks: bool) -> Outcome
-    ensures { result ≡ outcome_there lacks (T.limit site.now) (T.log site.now) (get by_stamp_and_arrival ops.now place) }
+pub(crate) fn after_try_at<T: Taking>(site: &T, ops: &Ops, place: Standing, lacks: bool) -> AfterTry
+    ensures { result ≡ after_try_there lacks (T.limit site.now) (T.log site.now) (get by_stamp_and_arrival ops.now place) }
 {
     match ops.get(&place) {
-        Some(Some(op)) => outcome_for(site, op, lacks),
-        _ => Outcome::Absent,
+        Some(Some(op)) => after_try_for(site, op, lacks),
+        _ => AfterTry::Absent,
     }
 }
 
@@ -88,7 +88,7 @@ pub(crate) fn sleep<T: Taking>(site: &T, ops: &Ops, waits: &mut Waits, place: St
 }
 
 /// Where an operation is held, if it is: looks at those of its stamp.
-pub(crate) fn place_of(ops: &Ops, arrivals: u64, op: &Op) -> Option<Standing>
+pub(crate) fn standing_of(ops: &Ops, arrivals: u64, op: &Op) -> Option<Standing>
     requires { AllByRecursion (IsInPlace arrivals) ops.now.entries }
     ensures some { IfSome result (λ place. IsAt place op.now ops.now.entries) }
     ensures none { IfNone result (holds (ops_in ops.now.entries) op.now ≡ false) }

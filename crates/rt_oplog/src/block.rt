@@ -30,7 +30,7 @@ fn is_earlier(ops: &[Op], place: usize, stamp: Stamp) -> bool
 }
 
 /// How many operations are before a stamp.
-pub(crate) fn place_of(ops: &[Op], order: &[usize], stamp: Stamp) -> usize
+pub(crate) fn ops_before(ops: &[Op], order: &[usize], stamp: Stamp) -> usize
     requires { IsFalling (newest_first ops.now order.now) }
     ensures place { result ≡ leading (λ place. is_before (stamp_of (op_at ops.now place)) stamp) order.now }
     ensures within { result ≤ length order.now }

@@ -11,7 +11,7 @@ ghost use Rattle.rt_oplog.specs.Spares.{AreSpare, IsSpare};
 ghost use Rattle.rt_oplog.specs.Blocks.{AreHalfFull, IsFull, all_pass, in_blocks, places_before, room_of};
 
 use crate::Op;
-use crate::block::{Block, place_of};
+use crate::block::{Block, ops_before};
 use rt_stamps::Stamp;
 use std::alloc::{AllocError, Global};
 
@@ -45,7 +45,7 @@ pub(crate) fn find(ops: &[Op], blocks: &[Block], stamp: Stamp) -> Option<usize>
     }
     let before = blocks_before(ops, blocks, stamp);
     let block = &blocks[before];
-    let at = place_of(ops, &block.places, stamp);
+    let at = ops_before(ops, &block.places, stamp);
     Some(block.places[at])
 }
 
@@ -189,7 +189,7 @@ fn insert_at(
     ensures len { vec_len blocks.new + vec_len spare.new ≡ vec_len blocks.old + vec_len spare.old }
     ensures capacity { vec_capacity blocks.new ≡ vec_capacity blocks.old }
 {
-    let at = place_of(ops, &blocks[block].places, stamp);
+    let at = ops_before(ops, &blocks[block].places, stamp);
     put_at(blocks, spare, block, at, place);
 }
 

@@ -21,7 +21,7 @@ pub(crate) struct Ends {
 
 /// How many sites are lesser.
 #[inline(always)]
-fn place_of(ends: &[SiteEnd], site: u16) -> usize
+fn sites_below(ends: &[SiteEnd], site: u16) -> usize
     requires { are_rising ends.now ≡ true }
     ensures place { result ≡ leading (is_lower site) ends.now }
     ensures within { result ≤ length ends.now }
@@ -55,7 +55,7 @@ impl Ends {
     pub(crate) fn get(&self, site: u16) -> u64
         ensures { result ≡ end_in self.now.ends.items site }
     {
-        let place = place_of(&self.ends, site);
+        let place = sites_below(&self.ends, site);
         if place < self.ends.len() && self.ends[place].site == site {
             self.ends[place].last
         } else {
@@ -73,7 +73,7 @@ impl Ends {
         ensures capacity { vec_capacity self.new.ends ≡ vec_capacity self.old.ends }
         ensures len { vec_len self.new.ends ≤ vec_len self.old.ends + 1 }
     {
-        let place = place_of(&self.ends, site);
+        let place = sites_below(&self.ends, site);
         if place < self.ends.len() && self.ends[place].site == site {
             let known = self.ends[place].last;
             self.ends[place] = SiteEnd {

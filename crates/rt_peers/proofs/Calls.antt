@@ -12,8 +12,8 @@ use Rattle.rt_requests.specs.declared.request.Request.TheVariants.{Cget, Configu
 use Rattle.rt_requests.specs.declared.settings.WidgetSettings.{WidgetSettings}
 use Rattle.rt_ops.specs.Operations.{Operation}
 use Rattle.rt_text.specs.Limited.{limited, with_peer}
-use Rattle.rt_editing.specs.EditedValue.{EditedValue}
-use Rattle.rt_editing.proofs.Outcomes.{given}
+use Rattle.rt_recording.specs.EditedValue.{EditedValue}
+use Rattle.rt_recording.proofs.Outcomes.{given}
 use Rattle.rt_holding.specs.declared.receiving.Received.{Received}
 use Rattle.rt_peers.specs.Lives.{IsOfFile, KeepsOrMakes, Lives, LivesOn, came_to, keeps, made_by, makes, receives}
 use Rattle.rt_peers.specs.Options.{choice_of, option_step, settings_step, text_set}

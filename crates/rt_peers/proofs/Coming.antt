@@ -3,8 +3,8 @@ use Rattle.std.proofs.Common.{◌≡◌, ◌∙◌, ℕ, Bool, true, false, cond
 use Rattle.rt_ops.specs.Operations.{Body, Operation}
 use Rattle.rt_oplog.specs.Logs.{Has, with_operation}
 use Rattle.rt_rga.specs.Drafts.{next_operation, operations_of}
-use Rattle.rt_editing.specs.EditedValue.{EditedValue}
-use Rattle.rt_editing.specs.Edits.{text_with_new}
+use Rattle.rt_recording.specs.EditedValue.{EditedValue}
+use Rattle.rt_recording.specs.Edits.{text_with_new}
 use Rattle.rt_holding.specs.declared.receiving.Received.{Received}
 use Rattle.rt_holding.specs.Came.{came_with, is_want, offered_in}
 use Rattle.rt_holding.specs.Receiving.{Behind, Offers, Receives, State as Holder}

@@ -7,10 +7,10 @@ use Rattle.rt_stamps.specs.Words.{Word}
 use Rattle.rt_store.specs.declared.cell.Cell.{Cell}
 use Rattle.rt_store.specs.Cells.{AreDistinct, position_of, visible_before, visible_of}
 use Rattle.rt_rga.proofs.RemovedPlaces.{found_visible}
-use Rattle.rt_views.specs.declared.limits.Limits.{Limits}
-use Rattle.rt_views.specs.declared.stretch.Stretch.{Stretch}
-use Rattle.rt_views.specs.Limits.{place_of}
-use Rattle.rt_views.specs.Stretches.{seen_place, stretch_of}
+use Rattle.rt_lines.specs.declared.limits.Limits.{Limits}
+use Rattle.rt_lines.specs.declared.stretch.Stretch.{Stretch}
+use Rattle.rt_lines.specs.Limits.{place_of}
+use Rattle.rt_lines.specs.Stretches.{seen_place, stretch_of}
 use Rattle.rt_text.specs.Cursors.{place_of_stamp, stamp_at}
 use Rattle.rt_peers.specs.Cursors.{limits_by, place_by, stamp_by}
 use Rattle.rt_peers.specs.SiteValue.{SiteValue}

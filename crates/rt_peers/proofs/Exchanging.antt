@@ -8,8 +8,8 @@ use Rattle.rt_oplog.proofs.Joins.{commutative, joined_err, joined_ok}
 use Rattle.rt_rga.specs.Histories.{IsHistory}
 use Rattle.rt_rga.proofs.Accepting.{log_of as is_log}
 use Rattle.rt_rga.proofs.Joining.{joined_free_histories}
-use Rattle.rt_editing.specs.EditedValue.{EditedValue}
-use Rattle.rt_editing.specs.Edits.{text_with_new}
+use Rattle.rt_recording.specs.EditedValue.{EditedValue}
+use Rattle.rt_recording.specs.Edits.{text_with_new}
 use Rattle.rt_holding.specs.Receiving.{State as Holder}
 use Rattle.rt_holding.proofs.Exchanged.{in_reverse}
 use Rattle.rt_peers.specs.Exchange.{AgreeOnceExchanged, ExchangeAgrees, ReceivesAny, ReceivesWhole, TellsClash}

@@ -11,14 +11,14 @@ use Rattle.rt_rga.proofs.Appending.{drafts_append}
 use Rattle.rt_store.specs.Shown.{TaggedCell}
 use Rattle.rt_tags.specs.Tags.{sel, without}
 use Rattle.rt_tags.specs.States.{names_on}
-use Rattle.rt_edits.specs.declared.range.Range.{Range}
-use Rattle.rt_edits.specs.Deletions.{Loss, delete_drafts, loss_in, newline_of, without_places, without_text}
-use Rattle.rt_edits.specs.DocValue.{DocValue, logged}
-use Rattle.rt_edits.specs.Insertions.{Piece}
-use Rattle.rt_edits.specs.Removals.{is_covered, stamps_at}
-use Rattle.rt_edits.specs.Selections.{selection_with}
-use Rattle.rt_edits.specs.TagDrafts.{deletion_drafts, tag_drafts_at}
-use Rattle.rt_edits.specs.TagWrites.{bared, listed_if, with_tag, with_tag_at, without_tag, without_tags}
+use Rattle.rt_plans.specs.declared.range.Range.{Range}
+use Rattle.rt_plans.specs.Deletions.{Loss, delete_drafts, loss_in, newline_of, without_places, without_text}
+use Rattle.rt_plans.specs.DocValue.{DocValue, logged}
+use Rattle.rt_plans.specs.Insertions.{Piece}
+use Rattle.rt_plans.specs.Removals.{is_covered, stamps_at}
+use Rattle.rt_plans.specs.Selections.{selection_with}
+use Rattle.rt_plans.specs.TagDrafts.{deletion_drafts, tag_drafts_at}
+use Rattle.rt_plans.specs.TagWrites.{bared, listed_if, with_tag, with_tag_at, without_tag, without_tags}
 use Rattle.rt_undo.specs.Actions.{Action, Removed}
 use Rattle.rt_revert.specs.Reverting.{Reversion, as_it_is, gone_cell_of, reversion, stamp_after, with_character, with_each_reverted, with_gone, with_return, with_returns, with_reverted}
 use Rattle.rt_text.specs.Commands.{with_pieces_at, with_tag_in, with_tags_deleted, without_ranges}

@@ -5,16 +5,16 @@ use Rattle.rt_stamps.specs.Outcomes.{Answers}
 use Rattle.rt_stamps.specs.Words.{Word}
 use Rattle.rt_ops.specs.Operations.{Operation}
 use Rattle.rt_store.specs.Shown.{TaggedCell}
-use Rattle.rt_edits.specs.DocValue.{DocValue}
+use Rattle.rt_plans.specs.DocValue.{DocValue}
 use Rattle.rt_undo.specs.Undo.{History, no_history}
 use Rattle.rt_requests.specs.declared.request.MarkRequest.{MarkRequest}
 use Rattle.rt_requests.specs.declared.request.TagRequest.{TagRequest}
 use Rattle.rt_text.specs.Widgets.{ViewValue}
-use Rattle.rt_editing.specs.Recordings.{Recording}
-use Rattle.rt_editing.specs.Settled.{AreGoneOnce, IsSettled, all_taken, is_gone}
-use Rattle.rt_editing.specs.Noting.{IsOfLog}
+use Rattle.rt_recording.specs.Recordings.{Recording}
+use Rattle.rt_recording.specs.Settled.{AreGoneOnce, IsSettled, all_taken, is_gone}
+use Rattle.rt_recording.specs.Noting.{IsOfLog}
 use Rattle.rt_text.proofs.Growing.{Grows, grows_drafts}
-use Rattle.rt_editing.proofs.Noted.{settled_same}
+use Rattle.rt_recording.proofs.Noted.{settled_same}
 use Rattle.rt_peers.specs.Peers.{view_led, view_without}
 use Rattle.rt_peers.specs.ViewStep.{Outcome, mark_step, tag_step}
 use Rattle.rt_peers.proofs.Staying.{Steps, mark_stays, tag_stays}

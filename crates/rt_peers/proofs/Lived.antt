@@ -6,8 +6,8 @@ use Rattle.rt_rga.specs.Cells.{cells_of}
 use Rattle.rt_rga.specs.Drafts.{with_drafts}
 use Rattle.rt_rga.specs.Histories.{IsHistory}
 use Rattle.rt_rga.specs.Requests.{Make, Request}
-use Rattle.rt_editing.specs.EditedValue.{EditedValue}
-use Rattle.rt_editing.specs.Edits.{text_with_new}
+use Rattle.rt_recording.specs.EditedValue.{EditedValue}
+use Rattle.rt_recording.specs.Edits.{text_with_new}
 use Rattle.rt_holding.specs.declared.receiving.Received.{Received}
 use Rattle.rt_holding.specs.Holding.{Holding, Settles, nothing}
 use Rattle.rt_holding.specs.Receiving.{State as Holder}

@@ -7,8 +7,8 @@ use Rattle.rt_stamps.specs.Outcomes.{Answers}
 use Rattle.rt_stamps.specs.Words.{Word}
 use Rattle.rt_requests.specs.Asking.{Asked}
 use Rattle.rt_requests.proofs.AskedOnce.{one_asked}
-use Rattle.rt_editing.specs.EditedValue.{EditedValue}
-use Rattle.rt_editing.specs.Edits.{text_with_new}
+use Rattle.rt_recording.specs.EditedValue.{EditedValue}
+use Rattle.rt_recording.specs.Edits.{text_with_new}
 use Rattle.rt_holding.specs.declared.receiving.Received.{Received}
 use Rattle.rt_holding.proofs.Finding.{files_find}
 use Rattle.rt_holding.proofs.OneWay.{files_go, one_try}

@@ -9,12 +9,12 @@ use Rattle.rt_stamps.specs.Words.{Word}
 use Rattle.rt_requests.specs.declared.options.NamedOption.{NamedOption}
 use Rattle.rt_requests.specs.declared.options.Settings.{Settings}
 use Rattle.rt_requests.specs.declared.settings.WidgetSettings.{WidgetSettings}
-use Rattle.rt_editing.specs.EditedValue.{EditedValue}
+use Rattle.rt_recording.specs.EditedValue.{EditedValue}
 use Rattle.rt_text.specs.Limited.{limited, new_peer, with_limits, with_new_peer, with_peer}
 use Rattle.rt_text.specs.Widgets.{ViewValue}
-use Rattle.rt_views.specs.declared.choice.Choice.{Choice}
-use Rattle.rt_views.specs.declared.limits.Limits.{Limits}
-use Rattle.rt_views.specs.Choices.{limits_chosen}
+use Rattle.rt_lines.specs.declared.choice.Choice.{Choice}
+use Rattle.rt_lines.specs.declared.limits.Limits.{Limits}
+use Rattle.rt_lines.specs.Choices.{limits_chosen}
 use Rattle.rt_peers.specs.Options.{choice_of, option_step, text_configured}
 use Rattle.rt_peers.specs.Peers.{text_led, widgets_of, with_widget}
 use Rattle.rt_peers.specs.PeerStep.{created, path_check, text_with_peer}

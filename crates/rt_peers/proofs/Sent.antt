@@ -12,7 +12,7 @@ use Rattle.rt_rga.specs.Orders.{ComeInTime, HasBasesIn}
 use Rattle.rt_rga.proofs.Accepting.{clash_from_end, sound_in}
 use Rattle.rt_rga.proofs.Joining.{all_free, joined_free_histories, union_history}
 use Rattle.rt_rga.proofs.Later.{bad_prev}
-use Rattle.rt_editing.specs.Edits.{text_with_new}
+use Rattle.rt_recording.specs.Edits.{text_with_new}
 use Rattle.rt_holding.proofs.Exchanged.{HasLog, by_stamp, in_reverse, of_reverse, part_ends, part_joins}
 use Rattle.rt_peers.specs.Exchange.{AgreeOnceCaughtUp, AreApart, ReceivesLacking}
 use Rattle.rt_peers.specs.Lacking.{is_past, since}

@@ -25,9 +25,9 @@ use Rattle.rt_requests.specs.declared.request.TagRequest.TheVariants as tags
 use Rattle.rt_requests.specs.Parts.{all_of}
 use Rattle.rt_tags.specs.Tags.{lowered, raised, sel}
 use Rattle.rt_tagcmd.specs.Dumping.{dumped}
-use Rattle.rt_edits.specs.declared.range.Range.{Range}
-use Rattle.rt_edits.specs.DocValue.{DocValue}
-use Rattle.rt_edits.specs.Insertions.{Piece}
+use Rattle.rt_plans.specs.declared.range.Range.{Range}
+use Rattle.rt_plans.specs.DocValue.{DocValue}
+use Rattle.rt_plans.specs.Insertions.{Piece}
 use Rattle.rt_tagcmd.specs.SearchCommand.{searched}
 use Rattle.rt_store.specs.Shown.{TaggedCell}
 use Rattle.rt_tagcmd.specs.MarkCommands.{set_at, with_gravity}
@@ -42,11 +42,11 @@ use Rattle.rt_undo.specs.declared.action.Kind.{Kind}
 use Rattle.rt_undo.specs.declared.action.Kind.TheVariants as kinds
 use Rattle.rt_undo.specs.Actions.{Action}
 use Rattle.rt_undo.specs.Undo.{History, next_redo, next_undo, redo_done, undo_done}
-use Rattle.rt_editing.specs.Reversals.{redone, reverted_by, undone}
-use Rattle.rt_editing.specs.EditedValue.{EditedValue}
-use Rattle.rt_editing.specs.Edits.{lost_between, lost_from, recorded_edit, text_deleted, text_inserted, text_replaced, text_with_new}
-use Rattle.rt_editing.specs.Reverts.{text_redone, text_undone, with_history}
-use Rattle.rt_editing.proofs.Outcomes.{given}
+use Rattle.rt_recording.specs.Reversals.{redone, reverted_by, undone}
+use Rattle.rt_recording.specs.EditedValue.{EditedValue}
+use Rattle.rt_recording.specs.Edits.{lost_between, lost_from, recorded_edit, text_deleted, text_inserted, text_replaced, text_with_new}
+use Rattle.rt_recording.specs.Reverts.{text_redone, text_undone, with_history}
+use Rattle.rt_recording.proofs.Outcomes.{given}
 use Rattle.rt_holding.specs.declared.held.Offered.{Offered}
 use Rattle.rt_holding.specs.declared.held.Offered.TheVariants as offerings
 use Rattle.rt_holding.specs.declared.receiving.Received.{Received}

@@ -8,8 +8,8 @@ use Rattle.rt_stamps.specs.Outcomes.{Answers, Refuses}
 use Rattle.rt_stamps.specs.Words.{Word, as_words}
 use Rattle.rt_text.specs.Commands.{got_list}
 use Rattle.rt_text.specs.Widgets.{ViewValue}
-use Rattle.rt_editing.specs.EditedValue.{EditedValue, edited}
-use Rattle.rt_editing.specs.Recordings.{Recording}
+use Rattle.rt_recording.specs.EditedValue.{EditedValue, edited}
+use Rattle.rt_recording.specs.Recordings.{Recording}
 use Rattle.rt_peers.specs.Step.{on_view}
 use Rattle.rt_peers.specs.ViewStep.{Outcome, as_outcome, changed_step, get_step, told_step}
 

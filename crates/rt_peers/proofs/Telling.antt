@@ -22,8 +22,8 @@ use Rattle.rt_holding.specs.Seeing.{BecameByTaking}
 use Rattle.rt_holding.specs.Taken.{all_after}
 use Rattle.rt_holding.proofs.Keeping.{with_all}
 use Rattle.rt_holding.proofs.Seen.{files_seen, files_taken}
-use Rattle.rt_editing.specs.EditedValue.{EditedValue}
-use Rattle.rt_editing.specs.Edits.{text_with_new}
+use Rattle.rt_recording.specs.EditedValue.{EditedValue}
+use Rattle.rt_recording.specs.Edits.{text_with_new}
 use Rattle.rt_peers.specs.declared.text.telling.TellingText.{TellingText}
 use Rattle.rt_peers.specs.SiteStep.{text_limit, text_log}
 use Rattle.rt_peers.specs.Telling.{AreToldBetween, HasToldMore, changes_each, telling_with_new}

@@ -2,7 +2,7 @@
 use Rattle.std.specs.Prelude.{ℕ, Option, option_and_then, option_map, slice_get}
 use Rattle.rt_stamps.specs.declared.stamp.Stamp.{Stamp}
 use Rattle.rt_stamps.specs.Words.{Word}
-use Rattle.rt_views.specs.declared.limits.Limits.{Limits}
+use Rattle.rt_lines.specs.declared.limits.Limits.{Limits}
 use Rattle.rt_text.specs.Cursors.{place_of_stamp, stamp_at}
 use Rattle.rt_peers.specs.Peers.{widgets_of}
 use Rattle.rt_peers.specs.SiteValue.{SiteValue, place_of}

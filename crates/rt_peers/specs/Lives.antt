@@ -5,7 +5,7 @@ use Rattle.rt_ops.specs.Reading.{IsBegun}
 use Rattle.rt_oplog.specs.Logs.{AreOf, Has}
 use Rattle.rt_rga.specs.Drafts.{operations_of}
 use Rattle.rt_rga.specs.Histories.{IsHistory}
-use Rattle.rt_editing.specs.Edits.{text_with_new}
+use Rattle.rt_recording.specs.Edits.{text_with_new}
 use Rattle.rt_holding.specs.declared.receiving.Received.{Received}
 use Rattle.rt_holding.specs.Came.{came_with}
 use Rattle.rt_holding.specs.Runs.{AreFree, IsGreatestHistoryWithin, IsHolding, NoneCouldBeTaken}

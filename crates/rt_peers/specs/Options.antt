@@ -12,12 +12,12 @@ use Rattle.rt_requests.specs.declared.options.NamedOption.TheVariants.{Shared, S
 use Rattle.rt_requests.specs.declared.options.WidgetOption.{WidgetOption}
 use Rattle.rt_requests.specs.declared.options.WidgetOption.TheVariants.{Undo, AutoSeparators}
 use Rattle.rt_requests.specs.declared.settings.WidgetSettings.{WidgetSettings}
-use Rattle.rt_editing.specs.EditedValue.{EditedValue}
+use Rattle.rt_recording.specs.EditedValue.{EditedValue}
 use Rattle.rt_text.specs.Limited.{limited}
 use Rattle.rt_text.specs.Widgets.{ViewValue}
-use Rattle.rt_views.specs.declared.choice.Choice.{Choice}
-use Rattle.rt_views.specs.declared.choice.Choice.TheVariants.{Kept, Away, Line}
-use Rattle.rt_views.specs.Limits.{end_number, start_number}
+use Rattle.rt_lines.specs.declared.choice.Choice.{Choice}
+use Rattle.rt_lines.specs.declared.choice.Choice.TheVariants.{Kept, Away, Line}
+use Rattle.rt_lines.specs.Limits.{end_number, start_number}
 use Rattle.rt_peers.specs.ViewStep.{Outcome, changed_step, one_word, text_of_bool}
 
 -- SETTING

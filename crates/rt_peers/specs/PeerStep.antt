@@ -9,7 +9,7 @@ use Rattle.rt_stamps.specs.Words.{Word}
 use Rattle.rt_requests.specs.declared.peers.PeerRequest.{PeerRequest}
 use Rattle.rt_requests.specs.declared.peers.PeerRequest.TheVariants.{Create, Names}
 use Rattle.rt_requests.specs.declared.settings.WidgetSettings.{WidgetSettings}
-use Rattle.rt_editing.specs.EditedValue.{EditedValue}
+use Rattle.rt_recording.specs.EditedValue.{EditedValue}
 use Rattle.rt_text.specs.Limited.{with_peer}
 use Rattle.rt_peers.specs.SiteValue.{SiteValue, is_widget, place_of}
 use Rattle.rt_peers.specs.Options.{choice_of, text_configured}

@@ -7,8 +7,8 @@ use Rattle.rt_stamps.specs.Words.{Word}
 use Rattle.rt_requests.specs.declared.request.Request.{Request}
 use Rattle.rt_requests.specs.declared.request.Request.TheVariants.{Peer}
 use Rattle.rt_requests.specs.Asking.{Asked, Asks}
-use Rattle.rt_editing.specs.EditedValue.{EditedValue}
-use Rattle.rt_editing.specs.Edits.{text_with_new}
+use Rattle.rt_recording.specs.EditedValue.{EditedValue}
+use Rattle.rt_recording.specs.Edits.{text_with_new}
 use Rattle.rt_holding.specs.declared.receiving.Received.{Received}
 use Rattle.rt_holding.specs.Receiving.{Receives}
 use Rattle.rt_holding.specs.Taken.{AreTried}

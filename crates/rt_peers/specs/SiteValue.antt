@@ -4,8 +4,8 @@ use Rattle.std.specs.List.{position}
 use Rattle.std.specs.Str.{bytes_eq}
 use Rattle.rt_stamps.specs.Words.{Word}
 use Rattle.rt_ops.specs.Operations.{Operation}
-use Rattle.rt_edits.specs.DocValue.{new_doc}
-use Rattle.rt_editing.specs.EditedValue.{EditedValue}
+use Rattle.rt_plans.specs.DocValue.{new_doc}
+use Rattle.rt_recording.specs.EditedValue.{EditedValue}
 use Rattle.rt_holding.specs.Holding.{Holding}
 use Rattle.rt_text.specs.Widgets.{ViewValue, new_own}
 use Rattle.rt_undo.specs.Undo.{no_history}

@@ -10,9 +10,9 @@ use Rattle.rt_requests.specs.declared.request.Request.{Request}
 use Rattle.rt_requests.specs.declared.request.Request.TheVariants.{Insert, Delete, Get, Index, Compare, Count, Search, Replace, Dump, Mark, Tag, Edit, Configure, Cget, Peer}
 use Rattle.rt_requests.specs.Parts.{all_of}
 use Rattle.rt_tagcmd.specs.Dumping.{dumped}
-use Rattle.rt_editing.specs.EditedValue.{EditedValue}
-use Rattle.rt_editing.specs.Edits.{text_deleted, text_inserted, text_replaced}
-use Rattle.rt_editing.specs.Reverts.{text_redone, text_undone}
+use Rattle.rt_recording.specs.EditedValue.{EditedValue}
+use Rattle.rt_recording.specs.Edits.{text_deleted, text_inserted, text_replaced}
+use Rattle.rt_recording.specs.Reverts.{text_redone, text_undone}
 use Rattle.rt_tagcmd.specs.SearchCommand.{searched}
 use Rattle.rt_text.specs.Commands.{position_of_index, compared, counted}
 use Rattle.rt_text.specs.Widgets.{ViewValue}

@@ -8,8 +8,8 @@ use Rattle.rt_changes.specs.declared.change.ToldChange.{ToldChange}
 use Rattle.rt_changes.specs.Replays.{VisibleChange, changes_of}
 use Rattle.rt_changes.specs.Telling.{AreChangesBetween, all_changes_in, changes_in}
 use Rattle.rt_holding.specs.Runs.{AreTakenInTurn}
-use Rattle.rt_editing.specs.EditedValue.{EditedValue}
-use Rattle.rt_editing.specs.Edits.{text_with_new}
+use Rattle.rt_recording.specs.EditedValue.{EditedValue}
+use Rattle.rt_recording.specs.Edits.{text_with_new}
 use Rattle.rt_peers.specs.declared.text.telling.TellingText.{TellingText}
 use Rattle.rt_peers.specs.SiteStep.{text_limit, text_log}
 

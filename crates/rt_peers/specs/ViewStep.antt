@@ -9,9 +9,9 @@ use Rattle.rt_requests.specs.declared.request.MarkRequest.{MarkRequest}
 use Rattle.rt_requests.specs.declared.request.MarkRequest.TheVariants as marks
 use Rattle.rt_requests.specs.declared.request.TagRequest.{TagRequest}
 use Rattle.rt_requests.specs.declared.request.TagRequest.TheVariants as tags
-use Rattle.rt_requests.specs.Parts.{PieceValue, all_of}
+use Rattle.rt_requests.specs.Parts.{TaggedTextValue, all_of}
 use Rattle.rt_tagcmd.specs.Elements.{Element, key_word}
-use Rattle.rt_edits.specs.Insertions.{Piece}
+use Rattle.rt_plans.specs.Insertions.{Piece}
 use Rattle.rt_tagcmd.specs.MarkCommands.{mark_set, mark_unset, mark_gravity, mark_gravity_set, mark_names, mark_next, mark_previous}
 use Rattle.rt_tagcmd.specs.TagCommands.{tag_added, tag_removed, tags_deleted, tag_raised, tag_lowered, tag_names, tag_names_at, tag_ranges, tag_nextrange, tag_prevrange}
 use Rattle.rt_text.specs.Commands.{got_one, got, got_list}
@@ -56,7 +56,7 @@ element_words element = key_word element.key ∷ element.value ∷ text_of_posit
 -- REQUESTS
 
 -- a text with its tags, as an insertion takes it
-abbrev pub as_piece : PieceValue → Piece
+abbrev pub as_piece : TaggedTextValue → Piece
 as_piece piece = record { text = piece.text; tags = piece.tags }
 
 -- of one index or two the reply is one word, the text; of more, a word for each text that isn't empty

@@ -2,8 +2,8 @@
 ghost use Rattle.std.specs.Prelude.{◌≡◌};
 ghost use Rattle.rt_peers.specs.Options.{choice_of};
 
+use rt_lines::Choice;
 use rt_requests::Limit;
-use rt_views::Choice;
 
 /// What a limit asks for. A line whose number is too great to be kept is asked for by the greatest number.
 pub(crate) fn choice_of(limit: Option<Limit>) -> Choice

@@ -4,7 +4,7 @@ ghost use Rattle.rt_stamps.specs.declared.fault.Fault.{Fault};
 ghost use Rattle.rt_stamps.specs.declared.stamp.Stamp.{Stamp};
 ghost use Rattle.rt_stamps.specs.Words.{Word};
 ghost use Rattle.rt_rga.specs.Texts.{tagged_text};
-ghost use Rattle.rt_editing.specs.EditedValue.{EditedValue};
+ghost use Rattle.rt_recording.specs.EditedValue.{EditedValue};
 ghost use Rattle.rt_oplog.specs.Logs.{AreOf};
 ghost use Rattle.rt_requests.specs.declared.options.NamedOption.{NamedOption};
 ghost use Rattle.rt_requests.specs.declared.peers.PeerRequest.{PeerRequest};

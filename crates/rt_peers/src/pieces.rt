@@ -20,7 +20,7 @@ fn copied(alloc: Global, words: &[String]) -> Result<Vec<String>, Fault>
 }
 
 // A copy of a text with its tags.
-fn owned_piece(alloc: Global, piece: &rt_requests::Piece<'_>) -> Result<Piece, Fault>
+fn owned_piece(alloc: Global, piece: &rt_requests::TaggedText<'_>) -> Result<Piece, Fault>
     ensures ok { IfOk result (λ owned. owned ≡ as_piece piece.now) }
     ensures err { IsOkUnless result Fault.NoMemory }
 {
@@ -30,7 +30,10 @@ fn owned_piece(alloc: Global, piece: &rt_requests::Piece<'_>) -> Result<Piece, F
 
 /// Copies of texts with their tags, or want of memory.
 #[inline(always)]
-pub(crate) fn owned(alloc: Global, pieces: &[rt_requests::Piece<'_>]) -> Result<Vec<Piece>, Fault>
+pub(crate) fn owned(
+    alloc: Global,
+    pieces: &[rt_requests::TaggedText<'_>],
+) -> Result<Vec<Piece>, Fault>
     ensures ok { IfOk result (λ owned. owned.items ≡ map as_piece pieces.now) }
     ensures err { IsOkUnless result Fault.NoMemory }
 {

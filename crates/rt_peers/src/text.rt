@@ -15,7 +15,7 @@ mod undoing;
 
 use crate::commands;
 use crate::reply::Reply;
-use rt_editing::Recorder;
+use rt_recording::Recorder;
 use rt_requests::Request;
 use rt_stamps::{Fault, Site};
 use rt_text::View;
@@ -43,8 +43,8 @@ impl Drop for EditedText {
 }
 
 impl Model for EditedText {
-    ghost use Rattle.rt_editing.specs.Settled.{IsSettled};
-    ghost use Rattle.rt_editing.specs.EditedValue.{EditedValue, edited};
+    ghost use Rattle.rt_recording.specs.Settled.{IsSettled};
+    ghost use Rattle.rt_recording.specs.EditedValue.{EditedValue, edited};
 
     ghost Value = { EditedValue };
 

@@ -6,7 +6,7 @@ use Rattle.rt_words.specs.Spelling.{SpellsList}
 use Rattle.rt_words.proofs.Spelling.{list_spells_one}
 use Rattle.rt_requests.specs.declared.request.Request.{Request}
 use Rattle.rt_requests.specs.declared.request.Request.TheVariants.{Insert, Replace}
-use Rattle.rt_requests.specs.Parts.{PieceValue, TextsValue}
+use Rattle.rt_requests.specs.Parts.{TaggedTextValue, TextsValue}
 use Rattle.rt_requests.specs.Asking.{Asked, Asks, AsksInsert, AsksReplace, AsksTexts, asked_of}
 use Rattle.rt_requests.proofs.ReadTexts.{one_reading}
 
@@ -14,11 +14,11 @@ use Rattle.rt_requests.proofs.ReadTexts.{one_reading}
 abbrev Unique : Type 0
 Unique = (list : List ℕ) (a b : List Word) → SpellsList list a → SpellsList list b → a ≡ b
 
-abbrev texts_of : List PieceValue → Word → TextsValue
+abbrev texts_of : List TaggedTextValue → Word → TextsValue
 texts_of pieces rest = record { pieces = pieces; rest = rest }
 
 same_texts : (x y : TextsValue) → x.pieces ≡ y.pieces → x.rest ≡ y.rest → x ≡ y
-same_texts x y e f = subst (λ (v : List PieceValue). texts_of x.pieces x.rest ≡ texts_of v y.rest) e (ap (texts_of x.pieces) f)
+same_texts x y e f = subst (λ (v : List TaggedTextValue). texts_of x.pieces x.rest ≡ texts_of v y.rest) e (ap (texts_of x.pieces) f)
 
 one_of_texts : Unique → (request : TextsValue → Request) (words : List Word) (one other : Asked) → AsksTexts request words one → AsksTexts request words other → one ≡ other
 one_of_texts unique request words one other (inl h) (inl k) =

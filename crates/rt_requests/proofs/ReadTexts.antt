@@ -3,29 +3,29 @@ use Rattle.std.proofs.Common.{◌≡◌, ◌∙◌, ℕ, ◌≤◌, ◌-◌, Lis
 use Rattle.std.proofs.lemmas.List.{take_all}
 use Rattle.rt_stamps.specs.Words.{Word, as_words}
 use Rattle.rt_words.specs.Spelling.{SpellsList}
-use Rattle.rt_requests.specs.Parts.{PieceValue}
+use Rattle.rt_requests.specs.Parts.{TaggedTextValue}
 use Rattle.rt_requests.specs.Asking.{AreTexts}
 
 -- some pieces were read of words, and so many words are left
-pub record Reading (words left : List Word) (pieces : List PieceValue) : Type 0 where
-  pub reads_on : (more : List PieceValue) (rest : Word) → AreTexts left more rest → AreTexts words (pieces ++ more) rest
-  pub needs : (others : List PieceValue) (rest : Word) → AreTexts words others rest → (more : List PieceValue) × AreTexts left more rest
+pub record Reading (words left : List Word) (pieces : List TaggedTextValue) : Type 0 where
+  pub reads_on : (more : List TaggedTextValue) (rest : Word) → AreTexts left more rest → AreTexts words (pieces ++ more) rest
+  pub needs : (others : List TaggedTextValue) (rest : Word) → AreTexts words others rest → (more : List TaggedTextValue) × AreTexts left more rest
 
 -- what follows a text and its list
-after : (left : List Word) (text list rest : Word) (more : List PieceValue) → AreTexts (text ∷ list ∷ left) more rest → (more : List PieceValue) × AreTexts left more rest
+after : (left : List Word) (text list rest : Word) (more : List TaggedTextValue) → AreTexts (text ∷ list ∷ left) more rest → (more : List TaggedTextValue) × AreTexts left more rest
 after left text list rest [] h = absurd h
 after left text list rest (piece ∷ more) h = (more, h.2)
 
-pub next : (words left : List Word) (text list : Word) (pieces : List PieceValue) (piece : PieceValue) → piece.text ≡ text → SpellsList list piece.tags
+pub next : (words left : List Word) (text list : Word) (pieces : List TaggedTextValue) (piece : TaggedTextValue) → piece.text ≡ text → SpellsList list piece.tags
     → Reading words (text ∷ list ∷ left) pieces → Reading words left (pieces ++ piece ∷ [])
 next words left text list pieces piece e s r = record {
-  reads_on = λ more rest h. subst (λ (v : List PieceValue). AreTexts words v rest) (sym (append_assoc pieces (piece ∷ []) more)) (r.reads_on (piece ∷ more) rest (e, s, h));
+  reads_on = λ more rest h. subst (λ (v : List TaggedTextValue). AreTexts words v rest) (sym (append_assoc pieces (piece ∷ []) more)) (r.reads_on (piece ∷ more) rest (e, s, h));
   needs = λ others rest h. let n = r.needs others rest h in after left text list rest n.0 n.1;
 }
 
 -- what is left is a text without a list, or nothing
-pub read_all : (words left : List Word) (rest : Word) (pieces : List PieceValue) → AreTexts left [] rest → Reading words left pieces → AreTexts words pieces rest
-read_all words left rest pieces h r = subst (λ (v : List PieceValue). AreTexts words v rest) (append-nil pieces) (r.reads_on [] rest h)
+pub read_all : (words left : List Word) (rest : Word) (pieces : List TaggedTextValue) → AreTexts left [] rest → Reading words left pieces → AreTexts words pieces rest
+read_all words left rest pieces h r = subst (λ (v : List TaggedTextValue). AreTexts words v rest) (append-nil pieces) (r.reads_on [] rest h)
 
 -- a text and a list in front, and those behind them, as a slice has them
 pub behind_two : (w v : String Global) (words : List (String Global)) → take (length (w ∷ v ∷ words) - 2) (drop 2 (w ∷ v ∷ words)) ≡ words
@@ -39,17 +39,17 @@ two_and_more (w ∷ v ∷ words) x y h a b = rw (a, b, behind_two w v words) ref
 
 -- ONE READING
 
-abbrev piece_of : Word → List Word → PieceValue
+abbrev piece_of : Word → List Word → TaggedTextValue
 piece_of text tags = record { text = text; tags = tags }
 
-same_piece : (x y : PieceValue) → x.text ≡ y.text → x.tags ≡ y.tags → x ≡ y
+same_piece : (x y : TaggedTextValue) → x.text ≡ y.text → x.tags ≡ y.tags → x ≡ y
 same_piece x y e f = subst (λ (v : Word). piece_of x.text x.tags ≡ piece_of v y.tags) e (ap (piece_of x.text) f)
 
-same_front : (x y : PieceValue) (xs ys : List PieceValue) → x ≡ y → xs ≡ ys → x ∷ xs ≡ y ∷ ys
-same_front x y xs ys e f = subst (λ (v : PieceValue). x ∷ xs ≡ v ∷ ys) e (ap (λ l. x ∷ l) f)
+same_front : (x y : TaggedTextValue) (xs ys : List TaggedTextValue) → x ≡ y → xs ≡ ys → x ∷ xs ≡ y ∷ ys
+same_front x y xs ys e f = subst (λ (v : TaggedTextValue). x ∷ xs ≡ v ∷ ys) e (ap (λ l. x ∷ l) f)
 
 pub one_reading : ((list : List ℕ) (a b : List Word) → SpellsList list a → SpellsList list b → a ≡ b)
-    → (words : List Word) (pieces others : List PieceValue) (rest other : Word) → AreTexts words pieces rest → AreTexts words others other → (pieces ≡ others) × (rest ≡ other)
+    → (words : List Word) (pieces others : List TaggedTextValue) (rest other : Word) → AreTexts words pieces rest → AreTexts words others other → (pieces ≡ others) × (rest ≡ other)
 one_reading unique [] pieces others rest other h k = (h.0 ∙ sym k.0, h.1 ∙ sym k.1)
 one_reading unique (text ∷ []) pieces others rest other h k = (h.0 ∙ sym k.0, h.1 ∙ sym k.1)
 one_reading unique (text ∷ list ∷ words) [] others rest other h k = absurd h

@@ -20,7 +20,7 @@ use Rattle.rt_requests.specs.declared.request.Request.{Request}
 use Rattle.rt_requests.specs.declared.request.Request.TheVariants.{Insert, Delete, Replace, Get, Index, Compare, Count, Search, Dump, Mark, Tag, Edit, Configure, Cget, Peer}
 use Rattle.rt_requests.specs.declared.request.TagRequest.{TagRequest}
 use Rattle.rt_requests.specs.declared.request.TagRequest.TheVariants as tags
-use Rattle.rt_requests.specs.Parts.{PieceValue, all_of}
+use Rattle.rt_requests.specs.Parts.{TaggedTextValue, all_of}
 use Rattle.rt_requests.specs.Asking.{AreTexts, Asked, Asks, CanBeAsked, as_request, asked_count, asked_distances, asked_dump, asked_elements}
 use Rattle.rt_index.specs.Comparisons.{operator_of}
 use Rattle.rt_index.specs.Measures.{switch_of}
@@ -33,20 +33,20 @@ use Rattle.rt_requests.proofs.SpelledSettings.{option_asked, peer_asked, peer_wo
 -- TEXTS
 
 -- texts with their lists, and the text without one
-abbrev texts_words : List PieceValue → Word → List Word
+abbrev texts_words : List TaggedTextValue → Word → List Word
 texts_words [] rest = rest ∷ []
 texts_words (piece ∷ pieces) rest = piece.text ∷ spaced_words piece.tags ∷ texts_words pieces rest
 
-are_texts : (pieces : List PieceValue) (rest : Word) → AreTexts (texts_words pieces rest) pieces rest
+are_texts : (pieces : List TaggedTextValue) (rest : Word) → AreTexts (texts_words pieces rest) pieces rest
 are_texts [] rest = (refl, refl)
 are_texts (piece ∷ pieces) rest = (refl, listed piece.tags, are_texts pieces rest)
 
-insert_asked : (index : Word) (pieces : List PieceValue) (rest : Word)
+insert_asked : (index : Word) (pieces : List TaggedTextValue) (rest : Word)
     → Asks (codes "insert" ∷ index ∷ texts_words pieces rest) (Ok (Insert index (record { pieces = pieces; rest = rest })))
 insert_asked index [] rest = inl (record { pieces = []; rest = rest }, are_texts [] rest, refl)
 insert_asked index (piece ∷ pieces) rest = inl (record { pieces = piece ∷ pieces; rest = rest }, are_texts (piece ∷ pieces) rest, refl)
 
-replace_asked : (from to : Word) (pieces : List PieceValue) (rest : Word)
+replace_asked : (from to : Word) (pieces : List TaggedTextValue) (rest : Word)
     → Asks (codes "replace" ∷ from ∷ to ∷ texts_words pieces rest) (Ok (Replace from to (record { pieces = pieces; rest = rest })))
 replace_asked from to [] rest = inl (record { pieces = []; rest = rest }, are_texts [] rest, refl)
 replace_asked from to (piece ∷ pieces) rest = inl (record { pieces = piece ∷ pieces; rest = rest }, are_texts (piece ∷ pieces) rest, refl)

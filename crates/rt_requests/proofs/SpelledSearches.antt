@@ -6,8 +6,8 @@ use Rattle.rt_search.specs.declared.search.Case.{Case}
 use Rattle.rt_search.specs.declared.search.Case.TheVariants.{Exact, Ignored}
 use Rattle.rt_search.specs.declared.search.Direction.{Direction}
 use Rattle.rt_search.specs.declared.search.Direction.TheVariants.{Forwards, Backwards}
-use Rattle.rt_search.specs.declared.search.Limits.{Limits}
-use Rattle.rt_search.specs.declared.search.Limits.TheVariants.{First, Strict}
+use Rattle.rt_search.specs.declared.search.Strictness.{Strictness}
+use Rattle.rt_search.specs.declared.search.Strictness.TheVariants.{First, Strict}
 use Rattle.rt_search.specs.declared.search.Overlaps.TheVariants.{PassedOver, Taken}
 use Rattle.rt_search.specs.declared.search.Search.{Search}
 use Rattle.rt_stamps.specs.Words.{Word}
@@ -30,20 +30,20 @@ abbrev case_words : Case → List Word
 case_words Exact = []
 case_words Ignored = codes "-nocase" ∷ []
 
-abbrev limits_words : Limits → List Word
-limits_words First = []
-limits_words Strict = codes "-strictlimits" ∷ []
+abbrev strictness_words : Strictness → List Word
+strictness_words First = []
+strictness_words Strict = codes "-strictlimits" ∷ []
 
 abbrev wanted_words : Wanted → List Word
 wanted_words One = []
 wanted_words (Each PassedOver) = codes "-all" ∷ []
 wanted_words (Each Taken) = codes "-all" ∷ codes "-overlap" ∷ []
 
-abbrev search_switches : Direction → Case → Limits → Wanted → List Word
-search_switches direction case limits wanted = direction_word direction ∷ (case_words case ++ limits_words limits ++ wanted_words wanted)
+abbrev search_switches : Direction → Case → Strictness → Wanted → List Word
+search_switches direction case strictness wanted = direction_word direction ∷ (case_words case ++ strictness_words strictness ++ wanted_words wanted)
 
-abbrev search_by : Direction → Case → Limits → Search
-search_by direction case limits = record { direction = direction; case = case; limits = limits }
+abbrev search_by : Direction → Case → Strictness → Search
+search_by direction case strictness = record { direction = direction; case = case; strictness = strictness }
 
 -- switches that a search has, and what they ask for
 record AreFor (how : Search) (wanted : Wanted) (switches : List Word) : Type 0 where
@@ -52,10 +52,10 @@ record AreFor (how : Search) (wanted : Wanted) (switches : List Word) : Type 0 w
   pub searches : search_of switches ≡ how
   pub wants : wanted_of switches ≡ wanted
 
-abbrev are_for : Direction → Case → Limits → Wanted → Type 0
-are_for direction case limits wanted = AreFor (search_by direction case limits) wanted (search_switches direction case limits wanted)
+abbrev are_for : Direction → Case → Strictness → Wanted → Type 0
+are_for direction case strictness wanted = AreFor (search_by direction case strictness) wanted (search_switches direction case strictness wanted)
 
-search_switches_asked : (direction : Direction) (case : Case) (limits : Limits) (wanted : Wanted) → are_for direction case limits wanted
+search_switches_asked : (direction : Direction) (case : Case) (strictness : Strictness) (wanted : Wanted) → are_for direction case strictness wanted
 search_switches_asked Forwards Exact First One = record { switches_all = refl; checked = refl; searches = refl; wants = refl }
 search_switches_asked Forwards Exact First (Each PassedOver) = record { switches_all = refl; checked = refl; searches = refl; wants = refl }
 search_switches_asked Forwards Exact First (Each Taken) = record { switches_all = refl; checked = refl; searches = refl; wants = refl }
@@ -97,9 +97,9 @@ search_asked how wanted switches pattern start (Some stop) a =
 
 abbrev pub search_words : SearchRequest → List Word
 search_words r =
-    search_switches r.search.direction r.search.case r.search.limits r.wanted ++ codes "--" ∷ r.pattern ∷ r.start ∷ maybe_word r.stop
+    search_switches r.search.direction r.search.case r.search.strictness r.wanted ++ codes "--" ∷ r.pattern ∷ r.start ∷ maybe_word r.stop
 
 pub any_search_asked : (r : SearchRequest) → asked_of_search (search_words r) ≡ Ok r
 any_search_asked r =
-    search_asked r.search r.wanted (search_switches r.search.direction r.search.case r.search.limits r.wanted) r.pattern r.start r.stop
-    (search_switches_asked r.search.direction r.search.case r.search.limits r.wanted)
+    search_asked r.search r.wanted (search_switches r.search.direction r.search.case r.search.strictness r.wanted) r.pattern r.start r.stop
+    (search_switches_asked r.search.direction r.search.case r.search.strictness r.wanted)

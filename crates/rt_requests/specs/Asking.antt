@@ -12,7 +12,7 @@ use Rattle.rt_requests.specs.declared.request.Request.{Request}
 use Rattle.rt_requests.specs.declared.request.Request.TheVariants.{Insert, Delete, Replace, Get, Index, Compare, Count, Search, Dump, Mark, Tag, Edit, Configure, Cget, Peer}
 use Rattle.rt_requests.specs.EditWords.{asked_of_edits}
 use Rattle.rt_requests.specs.MarkWords.{asked_of_marks}
-use Rattle.rt_requests.specs.Parts.{PieceValue, TextsValue, of_several}
+use Rattle.rt_requests.specs.Parts.{TaggedTextValue, TextsValue, of_several}
 use Rattle.rt_requests.specs.PeerWords.{CanBeAskedOfPeers, asked_of_peers}
 use Rattle.rt_requests.specs.SearchWords.{asked_of_search}
 use Rattle.rt_requests.specs.SettingWords.{AreKept, asked_named_option, asked_settings, sets_some}
@@ -27,7 +27,7 @@ Asked = Result Request Fault
 -- TEXTS WITH TAGS
 
 -- words are texts with their lists of tags, in pairs, and then a text without a list, which is empty where there is no such word
-abbrev pub AreTexts : List Word → List PieceValue → Word → Type 0
+abbrev pub AreTexts : List Word → List TaggedTextValue → Word → Type 0
 AreTexts [] pieces rest = (pieces ≡ []) × (rest ≡ [])
 AreTexts (text ∷ []) pieces rest = (pieces ≡ []) × (rest ≡ text)
 AreTexts (text ∷ list ∷ words) [] rest = ⊥
@@ -35,7 +35,7 @@ AreTexts (text ∷ list ∷ words) (piece ∷ pieces) rest = (piece.text ≡ tex
 
 -- one of their lists spells no words
 abbrev pub AreNoTexts : List Word → Type 0
-AreNoTexts words = (pieces : List PieceValue) (rest : Word) → AreTexts words pieces rest → ⊥
+AreNoTexts words = (pieces : List TaggedTextValue) (rest : Word) → AreTexts words pieces rest → ⊥
 
 -- a request of words that are texts, or else are badly quoted
 abbrev pub AsksTexts : (TextsValue → Request) → List Word → Asked → Type 0

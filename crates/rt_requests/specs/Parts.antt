@@ -22,13 +22,13 @@ several_or_empty [] = record { first = []; others = [] }
 several_or_empty (word ∷ words) = record { first = word; others = words }
 
 -- a text with the names of its tags
-pub record PieceValue : Type 0 where
+pub record TaggedTextValue : Type 0 where
   pub text : Word
   pub tags : List Word
 
 -- texts with tags, and a text without a list behind them
 pub record TextsValue : Type 0 where
-  pub pieces : List PieceValue
+  pub pieces : List TaggedTextValue
   pub rest : Word
 
 -- a request of one word or more

@@ -6,8 +6,8 @@ use Rattle.rt_search.specs.declared.search.Case.{Case}
 use Rattle.rt_search.specs.declared.search.Case.TheVariants.{Exact, Ignored}
 use Rattle.rt_search.specs.declared.search.Direction.{Direction}
 use Rattle.rt_search.specs.declared.search.Direction.TheVariants.{Forwards, Backwards}
-use Rattle.rt_search.specs.declared.search.Limits.{Limits}
-use Rattle.rt_search.specs.declared.search.Limits.TheVariants.{First, Strict}
+use Rattle.rt_search.specs.declared.search.Strictness.{Strictness}
+use Rattle.rt_search.specs.declared.search.Strictness.TheVariants.{First, Strict}
 use Rattle.rt_search.specs.declared.search.Overlaps.{Overlaps}
 use Rattle.rt_search.specs.declared.search.Overlaps.TheVariants.{PassedOver, Taken}
 use Rattle.rt_search.specs.declared.search.Search.{Search}
@@ -47,14 +47,14 @@ direction_of switches = fold turned Forwards switches
 abbrev pub case_of : List Word → Case
 case_of switches = if has switches (codes "-nocase") then Ignored else Exact
 
-abbrev pub limits_of : List Word → Limits
-limits_of switches = if has switches (codes "-strictlimits") then Strict else First
+abbrev pub strictness_of : List Word → Strictness
+strictness_of switches = if has switches (codes "-strictlimits") then Strict else First
 
 abbrev pub overlaps_of : List Word → Overlaps
 overlaps_of switches = if has switches (codes "-overlap") then Taken else PassedOver
 
 abbrev pub search_of : List Word → Search
-search_of switches = record { direction = direction_of switches; case = case_of switches; limits = limits_of switches }
+search_of switches = record { direction = direction_of switches; case = case_of switches; strictness = strictness_of switches }
 
 -- one match, or each of them
 abbrev pub wanted_of : List Word → Wanted

@@ -7,7 +7,7 @@ ghost use Rattle.rt_requests.specs.Asking.{AreTexts, AreNoTexts, AsksInsert, Ask
 ghost use Rattle.rt_requests.specs.Parts.{of_several};
 
 use crate::request::Request;
-use crate::texts::{Piece, Texts};
+use crate::texts::{TaggedText, Texts};
 use crate::word::{Word, Words};
 use rt_stamps::Fault;
 use rt_words::words::list_words;
@@ -82,13 +82,13 @@ fn replace_by_texts<'a>(
 }
 
 // A text with the words of its list. `BadQuoting` where the list spells no words.
-fn piece<'a>(alloc: Global, text: &'a str, list: &str) -> Result<Piece<'a>, Fault>
+fn piece<'a>(alloc: Global, text: &'a str, list: &str) -> Result<TaggedText<'a>, Fault>
     ensures ok { IfOk result (λ piece. (piece.text ≡ text.now) × SpellsList list.now piece.tags) }
     ensures quoting { result ≡ Err Fault.BadQuoting → IsBadlyQuotedList list.now }
     ensures fault { IfErr result (λ fault. (fault ≡ Fault.NoMemory) ⊎ (fault ≡ Fault.BadQuoting)) }
 {
     let tags = list_words(alloc, list)?;
-    Ok(Piece::new(text, tags))
+    Ok(TaggedText::new(text, tags))
 }
 
 // The text that is the only word, or an empty one where there is no word.

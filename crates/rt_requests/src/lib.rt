@@ -24,7 +24,6 @@ pub mod texts;
 mod undoing;
 pub mod word;
 
-pub use rt_index::{Comparison, Measure};
 pub use destroying::Destroy;
 pub use kinds::Kinds;
 pub use limits::Limit;
@@ -33,6 +32,7 @@ pub use options::{NamedOption, Settings, WidgetOption};
 pub use path::Path;
 pub use peers::PeerRequest;
 pub use request::{EditRequest, MarkRequest, Request, SearchRequest, TagRequest, Wanted};
+pub use rt_index::{Comparison, Measure};
 pub use settings::WidgetSettings;
-pub use texts::{Piece, Texts};
+pub use texts::{TaggedText, Texts};
 pub use word::{Word, Words};

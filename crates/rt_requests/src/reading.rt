@@ -5,12 +5,12 @@ ghost use Rattle.rt_requests.specs.declared.request.Request.TheVariants.{Get};
 ghost use Rattle.rt_requests.specs.Asking.{asked_compare, asked_count, asked_distances, asked_dump, asked_elements, asked_from, asked_index};
 ghost use Rattle.rt_requests.specs.Parts.{of_several};
 
-use rt_index::Comparison;
 use crate::kinds::Kinds;
 use crate::measures::Measures;
 use crate::request::Request;
 use crate::switches::switches_len;
 use crate::word::{Word, Words};
+use rt_index::Comparison;
 use rt_stamps::Fault;
 use std::alloc::Global;
 

@@ -3,7 +3,6 @@ ghost use Rattle.std.specs.Prelude.{◌≡◌, ◌⊎◌, Err};
 ghost use Rattle.rt_stamps.specs.Words.{as_words};
 ghost use Rattle.rt_requests.specs.Asking.{Asks, AsksOf};
 
-use rt_index::Comparison;
 use crate::configuring::{cget, configure, peer};
 use crate::editing::{delete, insert, replace};
 use crate::kinds::Kinds;
@@ -18,6 +17,7 @@ use crate::tagging::tag;
 use crate::texts::Texts;
 use crate::undoing::edit;
 use crate::word::{Word, Words};
+use rt_index::Comparison;
 use rt_marks::Gravity;
 use rt_search::{Overlaps, Search};
 use rt_stamps::Fault;

@@ -1,13 +1,13 @@
 // The switches of a search.
 ghost use Rattle.std.specs.Prelude.{◌≡◌, string_bytes};
 ghost use Rattle.std.specs.List.{list_all};
-ghost use Rattle.rt_requests.specs.SearchWords.{case_of, direction_of, is_known, limits_of, overlap_fits, overlaps_of, search_of, switch_check, turned, wanted_of};
+ghost use Rattle.rt_requests.specs.SearchWords.{case_of, direction_of, is_known, strictness_of, overlap_fits, overlaps_of, search_of, switch_check, turned, wanted_of};
 ghost use Rattle.rt_stamps.specs.Outcomes.{unless};
 ghost use Rattle.rt_stamps.specs.Words.{as_words};
 
 use crate::request::Wanted;
 use crate::switches::has;
-use rt_search::{Case, Direction, Limits, Overlaps, Search};
+use rt_search::{Case, Direction, Overlaps, Search, Strictness};
 use rt_stamps::Fault;
 
 // Whether a search has such a switch.
@@ -85,13 +85,13 @@ fn case_of(switches: &[String]) -> Case
 }
 
 // What of a match must lie in the stretch that is searched.
-fn limits_of(switches: &[String]) -> Limits
-    ensures { result ≡ limits_of (as_words switches.now) }
+fn strictness_of(switches: &[String]) -> Strictness
+    ensures { result ≡ strictness_of (as_words switches.now) }
 {
     if has(switches, "-strictlimits") {
-        Limits::Strict
+        Strictness::Strict
     } else {
-        Limits::First
+        Strictness::First
     }
 }
 
@@ -113,7 +113,7 @@ pub(crate) fn search_of(switches: &[String]) -> Search
     Search {
         direction: direction_of(switches),
         case: case_of(switches),
-        limits: limits_of(switches),
+        strictness: strictness_of(switches),
     }
 }
 

@@ -6,26 +6,26 @@ use std::marker::Model;
 
 /// A text with the names of its tags, in any order, repeated or not.
 #[derive(Drop)]
-pub struct Piece<'a> {
+pub struct TaggedText<'a> {
     text: &'a str,
     tags: Vec<String>,
 }
 
-impl<'a> Model for Piece<'a> {
+impl<'a> Model for TaggedText<'a> {
     ghost use Rattle.rt_stamps.specs.Words.{as_words};
-    ghost use Rattle.rt_requests.specs.Parts.{PieceValue};
+    ghost use Rattle.rt_requests.specs.Parts.{TaggedTextValue};
 
-    ghost Value = { PieceValue };
+    ghost Value = { TaggedTextValue };
 
     ghost view = { λ p. record { text = p.text.now; tags = as_words p.tags.items } };
 }
 
-impl<'a> Piece<'a> {
+impl<'a> TaggedText<'a> {
     /// A text with the names of its tags.
-    pub fn new(text: &'a str, tags: Vec<String>) -> Piece<'a>
+    pub fn new(text: &'a str, tags: Vec<String>) -> TaggedText<'a>
         ensures { result ≡ record { text = text.now; tags = as_words tags.items } }
     {
-        Piece { text, tags }
+        TaggedText { text, tags }
     }
 
     /// The text.
@@ -46,7 +46,7 @@ impl<'a> Piece<'a> {
 /// Texts with their tags, and a text without a list of tags behind them, perhaps an empty one.
 #[derive(Drop)]
 pub struct Texts<'a> {
-    pieces: Vec<Piece<'a>>,
+    pieces: Vec<TaggedText<'a>>,
     rest: &'a str,
 }
 
@@ -60,14 +60,14 @@ impl<'a> Model for Texts<'a> {
 
 impl<'a> Texts<'a> {
     /// Texts with their tags, and a text without a list.
-    pub fn new(pieces: Vec<Piece<'a>>, rest: &'a str) -> Texts<'a>
+    pub fn new(pieces: Vec<TaggedText<'a>>, rest: &'a str) -> Texts<'a>
         ensures { result ≡ record { pieces = pieces.entry.items; rest = rest.now } }
     {
         Texts { pieces, rest }
     }
 
     /// The texts that have a list of tags.
-    pub fn pieces(&self) -> &[Piece<'a>]
+    pub fn pieces(&self) -> &[TaggedText<'a>]
         ensures { result.now ≡ self.now.pieces }
     {
         &self.pieces

@@ -11,11 +11,11 @@ use Rattle.rt_store.specs.Cells.{after_element, cell_of, map_state, position_of,
 use Rattle.rt_store.specs.Shown.{TaggedCell}
 use Rattle.rt_store.proofs.Shown.{after_shown, length_shown, map_append, position_shown, stamps_shown, visible_shown}
 use Rattle.rt_tags.specs.States.{names_on}
-use Rattle.rt_edits.specs.DocValue.{put_after}
-use Rattle.rt_edits.specs.NamedSpans.{parts_of, spans_in}
-use Rattle.rt_edits.specs.RemovalDrafts.{removal_drafts}
-use Rattle.rt_edits.specs.Removals.{cells_at, gone_at, stamps_at}
-use Rattle.rt_edits.proofs.Shown.{cells_at_shown, stamps_at_shown}
+use Rattle.rt_plans.specs.DocValue.{put_after}
+use Rattle.rt_plans.specs.NamedSpans.{parts_of, spans_in}
+use Rattle.rt_plans.specs.RemovalDrafts.{removal_drafts}
+use Rattle.rt_plans.specs.Removals.{cells_at, gone_at, stamps_at}
+use Rattle.rt_plans.proofs.Shown.{cells_at_shown, stamps_at_shown}
 use Rattle.rt_undo.specs.Actions.{Removed}
 use Rattle.rt_revert.specs.Portions.{place_in}
 use Rattle.rt_revert.specs.Progress.{LookAlike, with_names}

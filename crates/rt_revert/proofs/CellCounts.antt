@@ -9,14 +9,14 @@ use Rattle.rt_store.specs.Cells.{after_element}
 use Rattle.rt_store.specs.Shown.{TaggedCell}
 use Rattle.rt_rga.specs.Requests.{characters_in_all}
 use Rattle.rt_rga.proofs.Appending.{characters_append}
-use Rattle.rt_edits.specs.DocValue.{DocValue, put_after}
-use Rattle.rt_edits.specs.InsertionDrafts.{text_drafts}
-use Rattle.rt_edits.specs.Insertions.{inserts_for, tagged_cells}
-use Rattle.rt_edits.specs.NamedSpans.{parts_of, spans_in}
-use Rattle.rt_edits.specs.RemovalDrafts.{removal_drafts}
-use Rattle.rt_edits.specs.Removals.{gone_at, stamps_at}
-use Rattle.rt_edits.proofs.CharacterCounts.{cells_length, deletes_none, text_characters}
-use Rattle.rt_edits.proofs.NamedSpanLaws.{cut}
+use Rattle.rt_plans.specs.DocValue.{DocValue, put_after}
+use Rattle.rt_plans.specs.InsertionDrafts.{text_drafts}
+use Rattle.rt_plans.specs.Insertions.{inserts_for, tagged_cells}
+use Rattle.rt_plans.specs.NamedSpans.{parts_of, spans_in}
+use Rattle.rt_plans.specs.RemovalDrafts.{removal_drafts}
+use Rattle.rt_plans.specs.Removals.{gone_at, stamps_at}
+use Rattle.rt_plans.proofs.CharacterCounts.{cells_length, deletes_none, text_characters}
+use Rattle.rt_plans.proofs.NamedSpanLaws.{cut}
 use Rattle.rt_undo.specs.Actions.{Action, Removed}
 use Rattle.rt_revert.specs.Reverting.{Reversion, are_at, as_it_is, gone_cell_of, reversion, stamp_after, with_character, with_each_reverted, with_gone, with_return, with_returns, with_reverted}
 

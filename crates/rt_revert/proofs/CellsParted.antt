@@ -10,7 +10,7 @@ use Rattle.rt_store.specs.Cells.{AreDistinct, after_element, position_of, stamps
 use Rattle.rt_store.specs.Spans.{is_among}
 use Rattle.rt_store.proofs.Distinct.{distinct_more, first_apart, others_distinct, split}
 use Rattle.rt_store.proofs.Nearest.{position_cons}
-use Rattle.rt_edits.specs.DocValue.{put_after}
+use Rattle.rt_plans.specs.DocValue.{put_after}
 use Rattle.rt_revert.specs.Portions.{place_in}
 
 -- the cells in front of the first one with a stamp, and those behind it

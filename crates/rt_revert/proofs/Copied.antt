@@ -13,7 +13,7 @@ use Rattle.rt_store.proofs.GivenStates.{kept_states, one_state}
 use Rattle.rt_store.proofs.Shown.{length_shown, shown_later, stamps_shown}
 use Rattle.rt_tags.specs.States.{IsByName, IsState, KeepsIds, TagStates, Write, names_on, state_at}
 use Rattle.rt_tags.specs.Writers.{listed_by, state_after}
-use Rattle.rt_edits.proofs.LastNames.{after_rising}
+use Rattle.rt_plans.proofs.LastNames.{after_rising}
 use Rattle.rt_revert.specs.Plans.{AreUpTo}
 use Rattle.rt_revert.specs.Progress.{LookAlike, with_names}
 use Rattle.rt_revert.proofs.Counted.{up_to_stamps}

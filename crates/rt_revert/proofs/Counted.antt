@@ -10,7 +10,7 @@ use Rattle.rt_store.specs.Cells.{after_element, stamps_of}
 use Rattle.rt_store.specs.Spans.{is_among}
 use Rattle.rt_store.specs.Written.{AreBelowNext, IsBelowNext}
 use Rattle.rt_store.proofs.Distinct.{split}
-use Rattle.rt_edits.specs.DocValue.{put_after}
+use Rattle.rt_plans.specs.DocValue.{put_after}
 use Rattle.rt_revert.specs.Plans.{AreUpTo, IsUpTo}
 
 pub one_below : (count : ℕ) (s : Stamp) → IsUpTo count s → IsBelowNext count s

@@ -11,9 +11,9 @@ use Rattle.rt_ops.specs.Operations.{Operation}
 use Rattle.rt_rga.specs.Cells.{cell_in}
 use Rattle.rt_rga.specs.Histories.{IsHistory, final_character}
 use Rattle.rt_rga.proofs.Final.{cells_last}
-use Rattle.rt_edits.specs.DraftLaws.{IsDocument, SparesLast}
-use Rattle.rt_edits.specs.DocValue.{DocValue}
-use Rattle.rt_edits.proofs.NewlineDrafts.{EndsAs, document_ends, length_ends}
+use Rattle.rt_plans.specs.DraftLaws.{IsDocument, SparesLast}
+use Rattle.rt_plans.specs.DocValue.{DocValue}
+use Rattle.rt_plans.proofs.NewlineDrafts.{EndsAs, document_ends, length_ends}
 use Rattle.rt_revert.specs.Reverting.{are_at}
 
 at_end : {X : Type 0} (xs : List X) (x : X) → slice_get (xs ++ x ∷ []) (length xs) ≡ Some x

@@ -23,13 +23,13 @@ use Rattle.rt_store.proofs.Distinct.{split}
 use Rattle.rt_store.proofs.Shown.{length_shown, stamps_shown}
 use Rattle.rt_spans.specs.Shown.{Shown}
 use Rattle.rt_tags.specs.States.{KeepsIds, TagStates, names_on, state_at}
-use Rattle.rt_edits.specs.DocValue.{DocValue}
-use Rattle.rt_edits.specs.Insertions.{all_listed}
+use Rattle.rt_plans.specs.DocValue.{DocValue}
+use Rattle.rt_plans.specs.Insertions.{all_listed}
 use Rattle.rt_undo.specs.declared.action.Action.{Action as KeptAction}
 use Rattle.rt_undo.specs.Actions.{Action, Removed, group_of, with_stamp}
 use Rattle.rt_undo.specs.Renames.{is_moved, now_of}
 use Rattle.rt_undo.specs.Undo.{with_stamps_in}
-use Rattle.rt_rga.specs.Few.{items_in}
+use Rattle.rt_rga.specs.OneOrMany.{items_in}
 use Rattle.rt_revert.specs.declared.progress.Progress.{Progress}
 use Rattle.rt_revert.specs.Named.{is_named, named_by, named_in}
 use Rattle.rt_revert.specs.Plans.{AreGiven, AreUpTo, IsChange, IsOf, IsUpTo, RemovedAreGiven, marks_after, named_group, named_removed}

@@ -10,9 +10,9 @@ use Rattle.rt_store.specs.Cells.{text_of}
 use Rattle.rt_store.specs.Shown.{TaggedCell}
 use Rattle.rt_rga.specs.Drafts.{with_drafts}
 use Rattle.rt_rga.specs.Histories.{IsHistory}
-use Rattle.rt_edits.specs.Deletions.{without_places}
-use Rattle.rt_edits.specs.DraftLaws.{AreTagNames, IsDocument, SparesLast}
-use Rattle.rt_edits.specs.DocValue.{DocValue}
+use Rattle.rt_plans.specs.Deletions.{without_places}
+use Rattle.rt_plans.specs.DraftLaws.{AreTagNames, IsDocument, SparesLast}
+use Rattle.rt_plans.specs.DocValue.{DocValue}
 use Rattle.rt_undo.specs.Actions.{Action, Removed}
 use Rattle.rt_revert.specs.Reverting.{Reversion, are_at, as_it_is, gone_cell_of, reversion, stamp_after, with_character, with_copy, with_each_reverted, with_gone, with_return, with_returns, with_reverted}
 use Rattle.rt_revert.specs.ReversionLaws.{AreSound, IsSound, MayReturn}

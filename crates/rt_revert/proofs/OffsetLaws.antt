@@ -14,7 +14,7 @@ use Rattle.rt_store.specs.Cells.{position_of, stamps_of, visible_before}
 use Rattle.rt_store.specs.Spans.{is_among}
 use Rattle.rt_store.proofs.Distinct.{split}
 use Rattle.rt_spans.specs.Shown.{Shown, is_in_span, value_of}
-use Rattle.rt_edits.specs.Removals.{cells_at, stamps_at}
+use Rattle.rt_plans.specs.Removals.{cells_at, stamps_at}
 use Rattle.rt_revert.specs.Plans.{AreUpTo, IsUpTo}
 use Rattle.rt_revert.specs.Portions.{AreSmall, offset_behind, offset_of, place_in}
 use Rattle.rt_revert.proofs.CellsParted.{among_both}

@@ -13,7 +13,7 @@ use Rattle.rt_store.specs.Spans.{is_among}
 use Rattle.rt_store.proofs.Distinct.{split}
 use Rattle.rt_store.proofs.Finding.{place_found}
 use Rattle.rt_rga.proofs.RemovedPlaces.{found_visible}
-use Rattle.rt_edits.specs.Removals.{is_covered, is_in}
+use Rattle.rt_plans.specs.Removals.{is_covered, is_in}
 use Rattle.rt_revert.specs.Planning.{range_at, ranges_of, visible_place}
 use Rattle.rt_revert.specs.Reverting.{are_at}
 

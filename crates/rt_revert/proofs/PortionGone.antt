@@ -13,8 +13,8 @@ use Rattle.rt_store.specs.Cells.{AreDistinct, stamps_of, visible_of}
 use Rattle.rt_store.specs.Shown.{TaggedCell}
 use Rattle.rt_store.specs.Spans.{is_among}
 use Rattle.rt_store.proofs.Distinct.{differs, first_apart, others_distinct, split}
-use Rattle.rt_edits.specs.declared.range.Range.{Range}
-use Rattle.rt_edits.specs.Removals.{AreInOrder, gone_at, is_covered, is_in, stamps_at}
+use Rattle.rt_plans.specs.declared.range.Range.{Range}
+use Rattle.rt_plans.specs.Removals.{AreInOrder, gone_at, is_covered, is_in, stamps_at}
 use Rattle.rt_revert.specs.Portions.{only, others_before, place_in}
 use Rattle.rt_revert.specs.Reverting.{are_at, as_removed, still_visible}
 use Rattle.rt_revert.proofs.CellsParted.{place_first, place_next}

@@ -13,8 +13,8 @@ use Rattle.rt_store.specs.declared.cell.Cell.{Cell}
 use Rattle.rt_store.specs.Cells.{after_element, cell_of, position_of, stamps_of, visible_before, visible_of}
 use Rattle.rt_store.specs.Spans.{is_among}
 use Rattle.rt_store.proofs.Distinct.{split}
-use Rattle.rt_edits.specs.DocValue.{put_after}
-use Rattle.rt_edits.proofs.InsertDraftLaws.{put_behind}
+use Rattle.rt_plans.specs.DocValue.{put_after}
+use Rattle.rt_plans.proofs.InsertDraftLaws.{put_behind}
 use Rattle.rt_revert.specs.Portions.{only, others_before, place_in}
 use Rattle.rt_revert.specs.Reverting.{gone_cell_of}
 use Rattle.rt_revert.proofs.CellsParted.{among_both, found_behind, parted, take_front}

@@ -20,7 +20,7 @@ use Rattle.rt_store.specs.Written.{AreBelowNext}
 use Rattle.rt_store.proofs.Distinct.{first_apart, others_distinct, split}
 use Rattle.rt_store.proofs.Nearest.{position_cons}
 use Rattle.rt_store.proofs.Places.{final_last}
-use Rattle.rt_edits.proofs.CellLaws.{skip_from_newest}
+use Rattle.rt_plans.proofs.CellLaws.{skip_from_newest}
 use Rattle.rt_revert.specs.Named.{AreAt, holds, stands_at}
 use Rattle.rt_revert.specs.Portions.{only}
 use Rattle.rt_revert.proofs.CellsParted.{among_both, found_behind, parted}

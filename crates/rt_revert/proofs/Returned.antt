@@ -25,14 +25,14 @@ use Rattle.rt_store.proofs.Shown.{stamps_shown}
 use Rattle.rt_tags.specs.States.{IsByName, IsState, TagStates, Write, names_on, state_at}
 use Rattle.rt_tags.proofs.Sorted.{every_append}
 use Rattle.rt_rga.proofs.RemovedPlaces.{fewer}
-use Rattle.rt_rga.specs.Few.{items_in}
-use Rattle.rt_edits.specs.DraftLaws.{AreTagNames}
-use Rattle.rt_edits.specs.DocValue.{put_after}
-use Rattle.rt_edits.specs.InsertionDrafts.{text_drafts}
-use Rattle.rt_edits.specs.Insertions.{all_listed, counts_for, new_state, tagged_cells}
-use Rattle.rt_edits.proofs.CellLaws.{skip_from_newest}
-use Rattle.rt_edits.proofs.LastNames.{Rise, new_names, rise_to, sorted_filter}
-use Rattle.rt_edits.proofs.PlanLaws.{all_append}
+use Rattle.rt_rga.specs.OneOrMany.{items_in}
+use Rattle.rt_plans.specs.DraftLaws.{AreTagNames}
+use Rattle.rt_plans.specs.DocValue.{put_after}
+use Rattle.rt_plans.specs.InsertionDrafts.{text_drafts}
+use Rattle.rt_plans.specs.Insertions.{all_listed, counts_for, new_state, tagged_cells}
+use Rattle.rt_plans.proofs.CellLaws.{skip_from_newest}
+use Rattle.rt_plans.proofs.LastNames.{Rise, new_names, rise_to, sorted_filter}
+use Rattle.rt_plans.proofs.PlanLaws.{all_append}
 use Rattle.rt_undo.specs.Actions.{Removed, group_of}
 use Rattle.rt_undo.specs.Renames.{is_moved, now_of, replaced}
 use Rattle.rt_revert.specs.declared.plan.TextChange.TheVariants.{Inserted}

@@ -16,8 +16,8 @@ use Rattle.rt_store.specs.Spans.{is_among}
 use Rattle.rt_store.proofs.Distinct.{differs}
 use Rattle.rt_rga.specs.Cells.{cells_of}
 use Rattle.rt_rga.specs.Histories.{IsHistory}
-use Rattle.rt_edits.specs.DraftLaws.{AreTagNames}
-use Rattle.rt_edits.proofs.TagNames.{cells_have_names}
+use Rattle.rt_plans.specs.DraftLaws.{AreTagNames}
+use Rattle.rt_plans.proofs.TagNames.{cells_have_names}
 use Rattle.rt_undo.specs.Actions.{Action, Removed, with_stamp}
 use Rattle.rt_undo.specs.Undo.{with_stamps_in}
 use Rattle.rt_revert.specs.Reverting.{Return, as_removed, stamp_after, still_visible}

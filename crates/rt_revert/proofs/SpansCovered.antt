@@ -7,8 +7,8 @@ use Rattle.rt_stamps.specs.declared.stamp.Span.{Span}
 use Rattle.rt_stamps.specs.declared.stamp.Stamp.{Stamp}
 use Rattle.rt_ops.specs.Operations.{stamps_from, stamps_in, stamps_of_span}
 use Rattle.rt_store.specs.declared.cell.Cell.{Cell}
-use Rattle.rt_edits.specs.declared.range.Range.{Range}
-use Rattle.rt_edits.specs.Removals.{AreInOrder, is_covered, is_in}
+use Rattle.rt_plans.specs.declared.range.Range.{Range}
+use Rattle.rt_plans.specs.Removals.{AreInOrder, is_covered, is_in}
 use Rattle.rt_revert.specs.Planning.{is_behind, range_at, ranges_of, visible_place}
 
 or_left_assoc : (a b d : Bool) → ((a || b) || d) ≡ (a || (b || d))

@@ -22,14 +22,14 @@ use Rattle.rt_rga.specs.Histories.{IsHistory, greatest_last_count, has_character
 use Rattle.rt_rga.specs.Requests.{MayBeMade}
 use Rattle.rt_rga.proofs.Appending.{drafts_append, may_append}
 use Rattle.rt_rga.proofs.Corollaries.{cells_have}
-use Rattle.rt_edits.specs.Deletions.{without_places}
-use Rattle.rt_edits.specs.DraftLaws.{AreTagNames, IsDocument, IsElement}
-use Rattle.rt_edits.specs.DocValue.{DocValue, put_after}
-use Rattle.rt_edits.specs.InsertionDrafts.{text_drafts}
-use Rattle.rt_edits.specs.Insertions.{counts_for, tagged_cells}
-use Rattle.rt_edits.specs.RemovalDrafts.{removal_drafts}
-use Rattle.rt_edits.proofs.InsertRules.{text_is_counted, text_is_made, text_may}
-use Rattle.rt_edits.proofs.RemovalDraftLaws.{removal_made, removal_may}
+use Rattle.rt_plans.specs.Deletions.{without_places}
+use Rattle.rt_plans.specs.DraftLaws.{AreTagNames, IsDocument, IsElement}
+use Rattle.rt_plans.specs.DocValue.{DocValue, put_after}
+use Rattle.rt_plans.specs.InsertionDrafts.{text_drafts}
+use Rattle.rt_plans.specs.Insertions.{counts_for, tagged_cells}
+use Rattle.rt_plans.specs.RemovalDrafts.{removal_drafts}
+use Rattle.rt_plans.proofs.InsertRules.{text_is_counted, text_is_made, text_may}
+use Rattle.rt_plans.proofs.RemovalDraftLaws.{removal_made, removal_may}
 use Rattle.rt_undo.specs.Actions.{Action, Removed}
 use Rattle.rt_revert.specs.Reverting.{Reversion, are_at, as_it_is, gone_cell_of, next_in, reversion, reverted_group, since, stamp_after, still_visible, with_character, with_copy, with_each_reverted, with_gone, with_return, with_returns, with_reverted}
 use Rattle.rt_revert.specs.ReversionLaws.{AreSound, IsSound, MayReturn}

@@ -21,17 +21,17 @@ use Rattle.rt_store.proofs.Distinct.{differs, first_apart, new_apart, others_dis
 use Rattle.rt_rga.specs.Histories.{IsHistory, greatest_last_count}
 use Rattle.rt_rga.specs.Texts.{TaggedCharacter, tagged_text}
 use Rattle.rt_rga.proofs.Corollaries.{cells_distinct, cells_older, root_absent}
-use Rattle.rt_edits.specs.Deletions.{without_places}
-use Rattle.rt_edits.specs.DraftLaws.{IsDocument}
-use Rattle.rt_edits.specs.DocValue.{DocValue, logged, put_after}
-use Rattle.rt_edits.specs.Insertions.{new_state, tagged_cells}
-use Rattle.rt_edits.specs.Removals.{cells_at, gone_at, left_at}
-use Rattle.rt_edits.proofs.ChosenLaws.{chosen, chosen_visible}
-use Rattle.rt_edits.proofs.DeletionDraftLaws.{stamps_gone}
-use Rattle.rt_edits.proofs.InsertDraftLaws.{put_behind}
-use Rattle.rt_edits.proofs.LastNames.{Rise, new_names, rise_to, sorted_filter}
-use Rattle.rt_edits.proofs.RemovedText.{text_left}
-use Rattle.rt_edits.proofs.TagNames.{AreNamed, CellsNamed, every_named}
+use Rattle.rt_plans.specs.Deletions.{without_places}
+use Rattle.rt_plans.specs.DraftLaws.{IsDocument}
+use Rattle.rt_plans.specs.DocValue.{DocValue, logged, put_after}
+use Rattle.rt_plans.specs.Insertions.{new_state, tagged_cells}
+use Rattle.rt_plans.specs.Removals.{cells_at, gone_at, left_at}
+use Rattle.rt_plans.proofs.ChosenLaws.{chosen, chosen_visible}
+use Rattle.rt_plans.proofs.DeletionDraftLaws.{stamps_gone}
+use Rattle.rt_plans.proofs.InsertDraftLaws.{put_behind}
+use Rattle.rt_plans.proofs.LastNames.{Rise, new_names, rise_to, sorted_filter}
+use Rattle.rt_plans.proofs.RemovedText.{text_left}
+use Rattle.rt_plans.proofs.TagNames.{AreNamed, CellsNamed, every_named}
 use Rattle.rt_undo.specs.Actions.{Action, with_stamp}
 use Rattle.rt_undo.specs.Renames.{replaced}
 use Rattle.rt_undo.specs.Undo.{with_stamps_in}

@@ -30,16 +30,16 @@ use Rattle.rt_tags.specs.States.{TagStates, state_at}
 use Rattle.rt_tags.proofs.Sorted.{every_append}
 use Rattle.rt_rga.proofs.RemovedPlaces.{fewer}
 use Rattle.rt_rga.proofs.Writes.{spans_name}
-use Rattle.rt_rga.specs.Few.{items_in}
-use Rattle.rt_edits.specs.declared.range.Range.{Range}
-use Rattle.rt_edits.specs.Insertions.{all_listed}
-use Rattle.rt_edits.specs.NamedSpans.{parts_for, parts_of, spans_in}
-use Rattle.rt_edits.specs.RemovalDrafts.{removal_drafts}
-use Rattle.rt_edits.specs.Removals.{AreInOrder, cells_at, gone_at, is_covered, operations_for, span_count, stamps_at}
-use Rattle.rt_edits.proofs.DistinctLaws.{distinct_at}
-use Rattle.rt_edits.proofs.GoneLaws.{gone_from_spans}
-use Rattle.rt_edits.proofs.NamedSpanLaws.{length_parts, spans_counted}
-use Rattle.rt_edits.proofs.Shown.{stamps_at_shown}
+use Rattle.rt_rga.specs.OneOrMany.{items_in}
+use Rattle.rt_plans.specs.declared.range.Range.{Range}
+use Rattle.rt_plans.specs.Insertions.{all_listed}
+use Rattle.rt_plans.specs.NamedSpans.{parts_for, parts_of, spans_in}
+use Rattle.rt_plans.specs.RemovalDrafts.{removal_drafts}
+use Rattle.rt_plans.specs.Removals.{AreInOrder, cells_at, gone_at, is_covered, operations_for, span_count, stamps_at}
+use Rattle.rt_plans.proofs.DistinctLaws.{distinct_at}
+use Rattle.rt_plans.proofs.GoneLaws.{gone_from_spans}
+use Rattle.rt_plans.proofs.NamedSpanLaws.{length_parts, spans_counted}
+use Rattle.rt_plans.proofs.Shown.{stamps_at_shown}
 use Rattle.rt_undo.specs.declared.action.RemovedSpan.{RemovedSpan}
 use Rattle.rt_undo.specs.Actions.{Removed, group_of, removed_in, removed_of, removed_with}
 use Rattle.rt_undo.specs.Renames.{is_moved, now_of}

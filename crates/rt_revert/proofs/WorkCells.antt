@@ -11,13 +11,13 @@ use Rattle.rt_store.proofs.Finding.{position_within}
 use Rattle.rt_store.proofs.Shown.{visible_at_shown}
 use Rattle.rt_tags.specs.States.{IsState, TagStates, state_at}
 use Rattle.rt_rga.proofs.RemovedPlaces.{fewer}
-use Rattle.rt_edits.proofs.Shown.{cells_at_shown}
+use Rattle.rt_plans.proofs.Shown.{cells_at_shown}
 use Rattle.rt_undo.specs.Actions.{Removed}
 use Rattle.rt_revert.specs.Planning.{cell_removed}
 use Rattle.rt_revert.specs.Plans.{named_removed}
 use Rattle.rt_revert.proofs.TakenBack.{still_is}
 use Rattle.rt_store.specs.Spans.{is_among}
-use Rattle.rt_edits.specs.Removals.{cells_at}
+use Rattle.rt_plans.specs.Removals.{cells_at}
 use Rattle.rt_revert.specs.Reverting.{are_at, as_removed, still_visible}
 
 -- THE PLACES OF CHARACTERS

@@ -6,7 +6,7 @@ use Rattle.rt_stamps.specs.Words.{Word}
 use Rattle.rt_store.specs.Shown.{TaggedCell}
 use Rattle.rt_tags.specs.Writers.{listed_by, state_after}
 use Rattle.rt_rga.specs.Examples.{at, only_t}
-use Rattle.rt_edits.specs.DocValue.{DocValue, new_doc}
+use Rattle.rt_plans.specs.DocValue.{DocValue, new_doc}
 use Rattle.rt_undo.specs.declared.action.Kind.TheVariants.{Insert, Delete}
 use Rattle.rt_undo.specs.Actions.{Action}
 

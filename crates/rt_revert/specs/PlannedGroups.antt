@@ -1,11 +1,11 @@
 -- The plan of a group that is reverted in a document.
 use Rattle.std.specs.Prelude.{◌≡◌, List, map}
-use Rattle.rt_rga.specs.Few.{items_in}
+use Rattle.rt_rga.specs.OneOrMany.{items_in}
 use Rattle.rt_stamps.specs.Words.{Word, as_words}
 use Rattle.rt_ops.specs.Edits.{body_of}
 use Rattle.rt_tags.specs.States.{TagStates}
-use Rattle.rt_edits.specs.DocValue.{DocValue}
-use Rattle.rt_edits.specs.Insertions.{all_listed}
+use Rattle.rt_plans.specs.DocValue.{DocValue}
+use Rattle.rt_plans.specs.Insertions.{all_listed}
 use Rattle.rt_undo.specs.Actions.{Action, group_of}
 use Rattle.rt_revert.specs.declared.plan.Reversal.{Reversal}
 use Rattle.rt_revert.specs.Plans.{marks_after, named_group}

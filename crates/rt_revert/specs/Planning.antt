@@ -3,7 +3,7 @@ use Rattle.std.specs.Prelude.{ℕ, ◌+◌, ◌==◌, ◌&&◌, nat_le, Bool, Li
 use Rattle.rt_stamps.specs.declared.stamp.Stamp.{Stamp}
 use Rattle.rt_store.specs.declared.cell.Cell.{Cell}
 use Rattle.rt_store.specs.Cells.{cell_of, position_of, visible_before}
-use Rattle.rt_edits.specs.declared.range.Range.{Range}
+use Rattle.rt_plans.specs.declared.range.Range.{Range}
 use Rattle.rt_undo.specs.Actions.{Removed}
 
 -- the place of a stamp's character, if it is visible

@@ -9,8 +9,8 @@ use Rattle.rt_store.specs.declared.cell.Cell.{Cell}
 use Rattle.rt_store.specs.Cells.{position_of, stamps_of, visible_before}
 use Rattle.rt_store.specs.Spans.{is_among}
 use Rattle.rt_spans.specs.Shown.{Shown, value_of}
-use Rattle.rt_edits.specs.declared.range.Range.{Range}
-use Rattle.rt_edits.specs.DocValue.{DocValue}
+use Rattle.rt_plans.specs.declared.range.Range.{Range}
+use Rattle.rt_plans.specs.DocValue.{DocValue}
 use Rattle.rt_undo.specs.Actions.{Action, Removed}
 
 -- a document, and the stamps of those of its cells, now and later, that a working copy has

@@ -14,8 +14,8 @@ use Rattle.rt_store.specs.Cells.{AreDistinct, map_state}
 use Rattle.rt_store.specs.Shown.{TaggedCell, shown}
 use Rattle.rt_store.specs.Tagged.{AreStates}
 use Rattle.rt_tags.specs.States.{TagStates, names_on}
-use Rattle.rt_edits.specs.Insertions.{all_listed}
-use Rattle.rt_rga.specs.Few.{items_in}
+use Rattle.rt_plans.specs.Insertions.{all_listed}
+use Rattle.rt_rga.specs.OneOrMany.{items_in}
 use Rattle.rt_undo.specs.declared.action.RemovedSpan.{RemovedSpan}
 use Rattle.rt_undo.specs.Actions.{group_of}
 use Rattle.rt_undo.specs.Renames.{is_moved, now_of}

@@ -10,8 +10,8 @@ use Rattle.rt_store.specs.Spans.{is_among}
 use Rattle.rt_rga.specs.Drafts.{with_drafts}
 use Rattle.rt_rga.specs.Histories.{IsHistory}
 use Rattle.rt_rga.specs.Requests.{MayBeMade, characters_in_all}
-use Rattle.rt_edits.specs.DraftLaws.{AreTagNames, IsDocument}
-use Rattle.rt_edits.specs.DocValue.{DocValue}
+use Rattle.rt_plans.specs.DraftLaws.{AreTagNames, IsDocument}
+use Rattle.rt_plans.specs.DocValue.{DocValue}
 use Rattle.rt_undo.specs.Actions.{Action, Removed}
 use Rattle.rt_revert.specs.Reverting.{reversion, reverted_group}
 

@@ -12,11 +12,11 @@ use Rattle.rt_store.specs.Shown.{TaggedCell}
 use Rattle.rt_store.specs.Spans.{is_among}
 use Rattle.rt_tags.specs.States.{names_on}
 pub use Rattle.rt_revert.specs.declared.plan.Return.{Return}
-use Rattle.rt_edits.specs.Deletions.{without_places}
-use Rattle.rt_edits.specs.DocValue.{DocValue, logged, put_after}
-use Rattle.rt_edits.specs.InsertionDrafts.{text_drafts}
-use Rattle.rt_edits.specs.Insertions.{all_listed, counts_for, tagged_cells}
-use Rattle.rt_edits.specs.RemovalDrafts.{removal_drafts}
+use Rattle.rt_plans.specs.Deletions.{without_places}
+use Rattle.rt_plans.specs.DocValue.{DocValue, logged, put_after}
+use Rattle.rt_plans.specs.InsertionDrafts.{text_drafts}
+use Rattle.rt_plans.specs.Insertions.{all_listed, counts_for, tagged_cells}
+use Rattle.rt_plans.specs.RemovalDrafts.{removal_drafts}
 use Rattle.rt_undo.specs.Actions.{Action, Removed}
 use Rattle.rt_undo.specs.Renames.{replaced}
 use Rattle.rt_undo.specs.Undo.{with_stamps_in}

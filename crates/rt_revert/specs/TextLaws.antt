@@ -7,10 +7,10 @@ use Rattle.rt_store.specs.Cells.{stamps_of, text_of}
 use Rattle.rt_store.specs.Spans.{is_among}
 use Rattle.rt_rga.specs.Histories.{IsHistory}
 use Rattle.rt_rga.specs.Texts.{tagged_text}
-use Rattle.rt_edits.specs.Deletions.{without_places}
-use Rattle.rt_edits.specs.DraftLaws.{IsDocument}
-use Rattle.rt_edits.specs.DocValue.{DocValue}
-use Rattle.rt_edits.specs.Removals.{cells_at, left_at}
+use Rattle.rt_plans.specs.Deletions.{without_places}
+use Rattle.rt_plans.specs.DraftLaws.{IsDocument}
+use Rattle.rt_plans.specs.DocValue.{DocValue}
+use Rattle.rt_plans.specs.Removals.{cells_at, left_at}
 use Rattle.rt_undo.specs.Actions.{Action}
 use Rattle.rt_revert.specs.Reverting.{are_at, as_removed, reverted, reverted_group}
 

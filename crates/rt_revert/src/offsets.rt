@@ -4,13 +4,13 @@ ghost use Rattle.rt_stamps.specs.declared.limits.TheConstants.{GREATEST_COUNT, M
 ghost use Rattle.rt_stamps.specs.declared.stamp.Stamp.{Stamp};
 ghost use Rattle.rt_store.specs.Cells.{stamps_of, visible_of};
 ghost use Rattle.rt_store.specs.Spans.{is_among};
-ghost use Rattle.rt_edits.specs.Removals.{AreInOrder, is_covered, stamps_at};
+ghost use Rattle.rt_plans.specs.Removals.{AreInOrder, is_covered, stamps_at};
 ghost use Rattle.rt_revert.specs.Plans.{AreUpTo};
 ghost use Rattle.rt_revert.specs.Portions.{AreSmall, offset_behind, offset_of, place_in, whole_ranges};
 
 use crate::work::push_place;
-use rt_edits::Range;
-use rt_edits::cells::cells_in;
+use rt_plans::Range;
+use rt_plans::cells::cells_in;
 use rt_spans::SpanMap;
 use rt_stamps::{Fault, ROOT, Span, Stamp};
 use rt_store::TextStore;

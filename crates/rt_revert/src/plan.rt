@@ -1,6 +1,6 @@
 // Plans of reverted groups.
-use rt_edits::Range;
-use rt_rga::{Draft, Few};
+use rt_plans::Range;
+use rt_rga::{Draft, OneOrMany};
 use rt_stamps::Stamp;
 use rt_undo::Action;
 
@@ -23,7 +23,7 @@ pub enum TextChange {
 /// the text in turn, the characters that came back, and the group for the other stack.
 #[derive(Drop)]
 pub struct Reversal {
-    pub drafts: Few<Draft>,
+    pub drafts: OneOrMany<Draft>,
     pub names: Vec<String>,
     pub changes: Vec<TextChange>,
     pub returns: Vec<Return>,

@@ -5,9 +5,9 @@ ghost use Rattle.rt_stamps.specs.declared.stamp.Stamp.{Stamp};
 ghost use Rattle.rt_stamps.specs.Stamps.{is_same};
 ghost use Rattle.rt_stamps.specs.Words.{as_words};
 ghost use Rattle.rt_ops.specs.Edits.{body_of};
-ghost use Rattle.rt_rga.specs.Few.{items_in};
-ghost use Rattle.rt_edits.specs.InsertionDrafts.{text_drafts};
-ghost use Rattle.rt_edits.specs.Insertions.{counts_for};
+ghost use Rattle.rt_rga.specs.OneOrMany.{items_in};
+ghost use Rattle.rt_plans.specs.InsertionDrafts.{text_drafts};
+ghost use Rattle.rt_plans.specs.Insertions.{counts_for};
 ghost use Rattle.rt_undo.specs.Actions.{group_of};
 ghost use Rattle.rt_undo.specs.Renames.{is_moved, now_of, replaced};
 ghost use Rattle.rt_undo.specs.Undo.{with_stamps_in};
@@ -16,9 +16,9 @@ ghost use Rattle.rt_revert.specs.Progress.{TellsTheSame};
 
 use crate::offsets::offset_behind;
 use crate::plan::{Return, Reversal, TextChange};
-use rt_edits::Range;
-use rt_edits::inserts::Inserts;
-use rt_rga::{Draft, Few};
+use rt_plans::Range;
+use rt_plans::inserts::Inserts;
+use rt_rga::{Draft, OneOrMany};
 use rt_spans::SpanMap;
 use rt_stamps::{Fault, ROOT, Site, Span, Stamp, count_after};
 use rt_undo::{Action, Renames, group_now};
@@ -53,7 +53,7 @@ impl Progress {
     {
         Progress {
             texts: Inserts {
-                drafts: Few::none(alloc),
+                drafts: OneOrMany::none(alloc),
                 count,
                 behind: ROOT,
             },
@@ -90,7 +90,7 @@ impl Progress {
     {
         let count = count_after(self.texts.count, drafts.len() as u64)?;
         self.changes.reserve(1)?;
-        self.texts.drafts.append(alloc, Few::Many(drafts))?;
+        self.texts.drafts.append(alloc, OneOrMany::Many(drafts))?;
         self.changes.push_reserved(TextChange::Removed(places));
         self.texts.count = count;
         Ok(())

@@ -3,13 +3,13 @@ ghost use Rattle.std.specs.Prelude.{◌≡◌, ℕ, ◌*◌, ◌≤◌, ◌<◌,
 ghost use Rattle.rt_stamps.specs.declared.limits.TheConstants.{MOST_CELLS};
 ghost use Rattle.rt_ops.specs.Operations.{stamps_in, stamps_of_span};
 ghost use Rattle.rt_store.specs.Cells.{AreDistinct, visible_of};
-ghost use Rattle.rt_edits.specs.declared.range.Range.{Range};
-ghost use Rattle.rt_edits.specs.Removals.{AreInOrder, is_covered};
+ghost use Rattle.rt_plans.specs.declared.range.Range.{Range};
+ghost use Rattle.rt_plans.specs.Removals.{AreInOrder, is_covered};
 ghost use Rattle.rt_revert.specs.Planning.{is_behind, range_at, ranges_of, visible_place};
 ghost use Rattle.rt_revert.specs.Reverting.{are_at};
 
-use rt_edits::Range;
-use rt_edits::removal::ranges_within;
+use rt_plans::Range;
+use rt_plans::removal::ranges_within;
 use rt_stamps::{Fault, Span, Stamp};
 use rt_store::TextStore;
 use std::alloc::Global;

@@ -7,19 +7,19 @@ use Rattle.std.specs.List.{AllByRecursion, filter, flat_map}
 use Rattle.rt_stamps.specs.declared.stamp.Stamp.{Stamp}
 use Rattle.rt_stamps.specs.Stamps.{is_before, is_same}
 use Rattle.rt_stamps.specs.declared.stamp.TheConstants.{ROOT}
-use Rattle.rt_rga.specs.Reading.{Character, descendants, reading_by_stamp, children, forest, reading, Reads, none, next, IsReading}
+use Rattle.rt_rga.specs.Reading.{Character, descendants, reading_by_stamp, children, forest, reading, ReadsSiblings, none, next, IsReading}
 use Rattle.rt_rga.proofs.Rooted.{IsAscending, IsRooted, IsTree}
 use Rattle.rt_rga.proofs.Skipping.{AllAfter, all_weaker}
 use Rattle.rt_stamps.proofs.Order.{before_irrefl}
 
-pub reads_once : {cs ks xs ys : List Character} → Reads cs ks xs → Reads cs ks ys → xs ≡ ys
+pub reads_once : {cs ks xs ys : List Character} → ReadsSiblings cs ks xs → ReadsSiblings cs ks ys → xs ≡ ys
 reads_once none none = refl
 reads_once (next {c = c} {inner = i} {rest = r} a b) (next {inner = j} {rest = s} d e) =
     let p : i ≡ j = reads_once a d in
     let q : r ≡ s = reads_once b e in
     cc
 
-pub reads_append : {cs ks xs : List Character} → Reads cs ks xs → {js ys : List Character} → Reads cs js ys → Reads cs (ks ++ js) (xs ++ ys)
+pub reads_append : {cs ks xs : List Character} → ReadsSiblings cs ks xs → {js ys : List Character} → ReadsSiblings cs js ys → ReadsSiblings cs (ks ++ js) (xs ++ ys)
 reads_append none k = k
 reads_append (next {c = c} {inner = i} {rest = r} a b) {ys = ys} k = rw (append_assoc i r ys) (next a (reads_append b k))
 
@@ -32,23 +32,23 @@ kept_bound s m c h k = grind (arith, nat_tests)
 abbrev of_parent : Stamp → List Character → List Character
 of_parent s cs = filter (λ c. is_same c.left s) cs
 
-alone : (all : List Character) (c : Character) (inner : List Character) → Reads all (children all c.stamp) inner → Reads all (c ∷ []) (c ∷ inner)
-alone all c inner r = subst (λ xs. Reads all (c ∷ []) (c ∷ xs)) (append-nil inner) (next r none)
+alone : (all : List Character) (c : Character) (inner : List Character) → ReadsSiblings all (children all c.stamp) inner → ReadsSiblings all (c ∷ []) (c ∷ inner)
+alone all c inner r = subst (λ xs. ReadsSiblings all (c ∷ []) (c ∷ xs)) (append-nil inner) (next r none)
 
 -- The characters after a stamp m have all children of what isn't before m.
 reads_from : (all : List Character) (cs : List Character) (m : Stamp)
     → ((s : Stamp) → is_before s m ≡ false → of_parent s all ≡ of_parent s cs)
     → AllAfter m cs → IsAscending cs → AllByRecursion (λ d. is_before d.left d.stamp ≡ true) cs
-    → (p : Stamp) → Reads all (children cs p) (descendants cs p)
+    → (p : Stamp) → ReadsSiblings all (children cs p) (descendants cs p)
 reads_from all [] m f a asc g p = none
 reads_from all (c ∷ cs) m f a asc g p =
     let f' : (s : Stamp) → is_before s c.stamp ≡ false → of_parent s all ≡ of_parent s cs
     = λ s h. f s (kept_bound s m c.stamp a.0 h) ∙ rw (kept_left c.left s c.stamp g.0 h) in
     let own : children all c.stamp ≡ children cs c.stamp = ap reverse (f' c.stamp (before_irrefl c.stamp)) in
-    elim (is_same c.left p) as (λ t. Reads all (reverse (cond t (c ∷ of_parent p cs) (of_parent p cs))) (cond t (descendants cs p ++ c ∷ descendants cs c.stamp) (descendants cs p))) [
-      | true ↦ subst (λ ks. Reads all ks (descendants cs p ++ c ∷ descendants cs c.stamp)) (sym (reverse-cons c (of_parent p cs)))
+    elim (is_same c.left p) as (λ t. ReadsSiblings all (reverse (cond t (c ∷ of_parent p cs) (of_parent p cs))) (cond t (descendants cs p ++ c ∷ descendants cs c.stamp) (descendants cs p))) [
+      | true ↦ subst (λ ks. ReadsSiblings all ks (descendants cs p ++ c ∷ descendants cs c.stamp)) (sym (reverse-cons c (of_parent p cs)))
           (reads_append (reads_from all cs c.stamp f' asc.0 asc.1 g.1 p) (alone all c (descendants cs c.stamp)
-          (subst (λ ks. Reads all ks (descendants cs c.stamp)) (sym own) (reads_from all cs c.stamp f' asc.0 asc.1 g.1 c.stamp))))
+          (subst (λ ks. ReadsSiblings all ks (descendants cs c.stamp)) (sym own) (reads_from all cs c.stamp f' asc.0 asc.1 g.1 c.stamp))))
       | false ↦ reads_from all cs c.stamp f' asc.0 asc.1 g.1 p
     ]
 

@@ -10,7 +10,7 @@ pub mod Laws
 pub mod Made
 pub mod Making
 pub mod Names
-pub mod Few
+pub mod OneOrMany
 pub mod Orders
 pub mod Reading
 pub mod NamedRuns

@@ -32,13 +32,13 @@ abbrev pub reading : List Character → List Character
 reading characters = forest (length characters) characters (children characters ROOT)
 
 -- The same as a relation: the reading of siblings is each, followed by the reading of its children.
-pub data Reads (characters : List Character) : List Character → List Character → Type 0 where
-  none : Reads characters [] []
-  next : {c : Character} {inner siblings rest : List Character} → Reads characters (children characters c.stamp) inner → Reads characters siblings rest
-      → Reads characters (c ∷ siblings) (c ∷ inner ++ rest)
+pub data ReadsSiblings (characters : List Character) : List Character → List Character → Type 0 where
+  none : ReadsSiblings characters [] []
+  next : {c : Character} {inner siblings rest : List Character} → ReadsSiblings characters (children characters c.stamp) inner → ReadsSiblings characters siblings rest
+      → ReadsSiblings characters (c ∷ siblings) (c ∷ inner ++ rest)
 
 abbrev pub IsReading : List Character → List Character → Type 0
-IsReading characters list = Reads characters (children characters ROOT) list
+IsReading characters list = ReadsSiblings characters (children characters ROOT) list
 
 -- The same in one pass by rising stamp, as a child is greater than its left element: what stands below an element.
 abbrev pub descendants : List Character → Stamp → List Character

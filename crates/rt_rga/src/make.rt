@@ -11,7 +11,7 @@ ghost use Rattle.rt_store.specs.Tagged.{AreStates};
 ghost use Rattle.rt_tags.specs.States.{KeepsIds, TagStates};
 ghost use Rattle.rt_oplog.specs.Logs.{with_operation};
 ghost use Rattle.rt_rga.specs.Drafts.{ContinueInTurn, with_operations};
-ghost use Rattle.rt_rga.specs.Few.{items_in};
+ghost use Rattle.rt_rga.specs.OneOrMany.{items_in};
 ghost use Rattle.rt_rga.specs.Histories.{Continues, greatest_last_count};
 ghost use Rattle.rt_rga.specs.Made.{RefusesFor, refusal_from};
 ghost use Rattle.rt_rga.specs.Making.{AreNewest, CanAllBePut, CanBePut, cuts_by, cuts_of, fresh_by, fresh_cells, kept_after, operations_from, put_by_kept};
@@ -20,8 +20,8 @@ ghost use Rattle.rt_rga.specs.Replicas.{IsReplica};
 
 use crate::Draft;
 use crate::edits::{change, set_all_gone};
-use crate::few::Few;
 use crate::new_cells::NewCells;
+use crate::one_or_many::OneOrMany;
 use crate::plan::planned_states;
 use crate::tagging::put_states;
 use rt_oplog::{Edit, Op, OpLog};
@@ -121,7 +121,7 @@ fn stamped_list(
     last: u64,
     prev: u64,
     drafts: Vec<Draft>,
-) -> Result<Few<Op>, Fault>
+) -> Result<OneOrMany<Op>, Fault>
     requires rules { All (λ draft. keeps_rules (body_of draft) ≡ true) drafts.items }
     requires fits { last_count_after last (map body_of drafts.items) ≤ GREATEST_COUNT }
     ensures ops { IfOk result (λ ops. items_in ops ≡ operations_from site last prev (map body_of drafts.items)) }
@@ -134,11 +134,11 @@ fn stamped_list(
                 count: last + 1,
                 site,
             };
-            return Ok(Few::One(Op::of(stamp, prev, draft)));
+            return Ok(OneOrMany::One(Op::of(stamp, prev, draft)));
         }
         drafts.push_reserved(draft);
     }
-    Ok(Few::Many(all_stamped(alloc, site, last, prev, drafts)?))
+    Ok(OneOrMany::Many(all_stamped(alloc, site, last, prev, drafts)?))
 }
 
 /// The operations of drafts: the first count is one above the last one of all operations, and the
@@ -150,44 +150,44 @@ pub(crate) fn stamped(
     site: u16,
     last: u64,
     prev: u64,
-    drafts: Few<Draft>,
-) -> Result<Few<Op>, Fault>
+    drafts: OneOrMany<Draft>,
+) -> Result<OneOrMany<Op>, Fault>
     requires rules { All (λ draft. keeps_rules (body_of draft) ≡ true) (items_in drafts) }
     requires fits { last_count_after last (map body_of (items_in drafts)) ≤ GREATEST_COUNT }
     ensures ops { IfOk result (λ ops. items_in ops ≡ operations_from site last prev (map body_of (items_in drafts))) }
     ensures fault { IsOkUnless result Fault.NoMemory }
 {
     match drafts {
-        Few::One(draft) => {
+        OneOrMany::One(draft) => {
             let stamp = Stamp {
                 count: last + 1,
                 site,
             };
-            Ok(Few::One(Op::of(stamp, prev, draft)))
+            Ok(OneOrMany::One(Op::of(stamp, prev, draft)))
         }
-        Few::Many(drafts) => stamped_list(alloc, site, last, prev, drafts),
+        OneOrMany::Many(drafts) => stamped_list(alloc, site, last, prev, drafts),
     }
 }
 
 // Drafts, in a list.
 #[inline(always)]
-fn drafts_in(drafts: &Few<Draft>) -> &[Draft]
+fn drafts_in(drafts: &OneOrMany<Draft>) -> &[Draft]
     ensures { result.now ≡ items_in drafts.now }
 {
     match drafts {
-        Few::One(draft) => slice::from_ref(draft),
-        Few::Many(drafts) => drafts.as_slice(),
+        OneOrMany::One(draft) => slice::from_ref(draft),
+        OneOrMany::Many(drafts) => drafts.as_slice(),
     }
 }
 
 /// Operations, in a list.
 #[inline(always)]
-pub(crate) fn list_of(ops: &Few<Op>) -> &[Op]
+pub(crate) fn list_of(ops: &OneOrMany<Op>) -> &[Op]
     ensures { result.now ≡ items_in ops.now }
 {
     match ops {
-        Few::One(op) => slice::from_ref(op),
-        Few::Many(ops) => ops.as_slice(),
+        OneOrMany::One(op) => slice::from_ref(op),
+        OneOrMany::Many(ops) => ops.as_slice(),
     }
 }
 
@@ -401,7 +401,7 @@ fn push_all(log: &mut OpLog, clock: &mut Clock, ops: Vec<Op>)
 /// Logs operations that are newer than all before them, each of which continues the log with those before it, where
 /// there is room.
 #[inline(always)]
-pub(crate) fn push_few(log: &mut OpLog, clock: &mut Clock, ops: Few<Op>)
+pub(crate) fn push_few(log: &mut OpLog, clock: &mut Clock, ops: OneOrMany<Op>)
     requires continues { ContinueInTurn log.old.operations (items_in ops) }
     requires newest { AreNewest log.old.operations (items_in ops) }
     requires room { length (items_in ops) ≤ log.old.room }
@@ -410,8 +410,8 @@ pub(crate) fn push_few(log: &mut OpLog, clock: &mut Clock, ops: Few<Op>)
     ensures seen { clock.new ≡ greatest_last_count log.new.operations }
 {
     match ops {
-        Few::One(op) => push_newest(log, clock, op),
-        Few::Many(ops) => push_all(log, clock, ops),
+        OneOrMany::One(op) => push_newest(log, clock, op),
+        OneOrMany::Many(ops) => push_all(log, clock, ops),
     }
 }
 
@@ -425,8 +425,8 @@ pub(crate) fn prepared(
     prev: u64,
     cells: usize,
     limit: usize,
-    drafts: Few<Draft>,
-) -> Result<Few<Op>, Fault>
+    drafts: OneOrMany<Draft>,
+) -> Result<OneOrMany<Op>, Fault>
     requires last { last ≤ GREATEST_COUNT }
     requires cells { cells ≤ limit }
     requires rules { All (λ draft. keeps_rules (body_of draft) ≡ true) (items_in drafts) }

@@ -3,7 +3,7 @@ ghost use Rattle.std.specs.Prelude.{◌≡◌, ◌+◌, ◌≤◌, ◌++◌, [],
 ghost use Rattle.rt_stamps.specs.declared.limits.TheConstants.{GREATEST_COUNT};
 ghost use Rattle.rt_store.specs.Cells.{cells_from};
 
-use crate::few::Few;
+use crate::one_or_many::OneOrMany;
 use rt_stamps::{Fault, Stamp};
 use rt_store::Cell;
 use rt_tags::StateId;
@@ -14,7 +14,7 @@ use std::slice;
 /// Cells of new characters.
 #[derive(Drop)]
 pub(crate) struct NewCells {
-    kept: Few<Cell<StateId>>,
+    kept: OneOrMany<Cell<StateId>>,
 }
 
 impl Model for NewCells {
@@ -23,7 +23,7 @@ impl Model for NewCells {
 
     ghost Value = { List (StoreCell ℕ) };
 
-    ghost use Rattle.rt_rga.specs.Few.{items_in};
+    ghost use Rattle.rt_rga.specs.OneOrMany.{items_in};
 
     ghost view = { λ cells. items_in cells.kept };
 }
@@ -34,7 +34,7 @@ impl NewCells {
         ensures { result ≡ [] }
     {
         NewCells {
-            kept: Few::Many(Vec::new(alloc)),
+            kept: OneOrMany::Many(Vec::new(alloc)),
         }
     }
 
@@ -43,8 +43,8 @@ impl NewCells {
         ensures { result.now ≡ self.now }
     {
         match &self.kept {
-            Few::One(cell) => slice::from_ref(cell),
-            Few::Many(cells) => cells.as_slice(),
+            OneOrMany::One(cell) => slice::from_ref(cell),
+            OneOrMany::Many(cells) => cells.as_slice(),
         }
     }
 
@@ -63,16 +63,16 @@ impl NewCells {
         ensures fault { IsOkUnless result Fault.NoMemory }
     {
         match &mut self.kept {
-            Few::One(cell) => {
+            OneOrMany::One(cell) => {
                 let mut cells = Vec::new(alloc);
                 cells.push(*cell)?;
                 push_new(&mut cells, first, state, text)?;
-                self.kept = Few::Many(cells);
+                self.kept = OneOrMany::Many(cells);
                 Ok(())
             }
-            Few::Many(cells) => match text {
+            OneOrMany::Many(cells) => match text {
                 [ch] if cells.is_empty() => {
-                    self.kept = Few::One(new_cell(first, state, *ch));
+                    self.kept = OneOrMany::One(new_cell(first, state, *ch));
                     Ok(())
                 }
                 _ => push_new(cells, first, state, text),

@@ -10,7 +10,7 @@ ghost use Rattle.rt_oplog.specs.Logs.{with_operation};
 ghost use Rattle.rt_rga.specs.Answers.{answer_within, has_gap};
 ghost use Rattle.rt_rga.specs.Cells.{cells_of};
 ghost use Rattle.rt_rga.specs.Drafts.{ContinueInTurn, one_character, operations_of, with_drafts, with_operations};
-ghost use Rattle.rt_rga.specs.Few.{items_in};
+ghost use Rattle.rt_rga.specs.OneOrMany.{items_in};
 ghost use Rattle.rt_rga.specs.Kept.{said};
 ghost use Rattle.rt_ops.specs.Rules.{keeps_rules};
 ghost use Rattle.rt_rga.specs.Made.{Makes, RefusesFor, refusal_of};
@@ -25,8 +25,8 @@ use crate::answer::{Offer, answer_within, has_gap};
 use crate::character::{push_character, put_character};
 use crate::describe::describe;
 use crate::edits::change;
-use crate::few::Few;
 use crate::make::{change_all, copied, list_of, prepared, push_few};
+use crate::one_or_many::OneOrMany;
 use crate::taken::Change;
 use rt_oplog::{Op, OpLog};
 use rt_stamps::limits::GREATEST_COUNT;
@@ -217,7 +217,7 @@ impl<S: TextStore> Replica<S> {
     /// Logs operations that are newer than all before them, each of which continues the log with those
     /// before it, within the limit of cells. Want of memory.
     #[inline(always)]
-    fn make_all(&mut self, ops: Few<Op>) -> Result<(), Fault>
+    fn make_all(&mut self, ops: OneOrMany<Op>) -> Result<(), Fault>
         requires continues { ContinueInTurn self.old.log (items_in ops) }
         requires newest { AreNewest self.old.log (items_in ops) }
         requires room { length self.old.cells + length (fresh_cells (items_in ops)) ≤ self.old.limit }
@@ -244,7 +244,7 @@ impl<S: TextStore> Replica<S> {
 
     // The operations of drafts, which the log and the limit of cells have room for. The faults of `make`.
     #[inline(always)]
-    fn planned(&self, drafts: Few<Draft>) -> Result<Few<Op>, Fault>
+    fn planned(&self, drafts: OneOrMany<Draft>) -> Result<OneOrMany<Op>, Fault>
         requires { MayBeMade self.now.site self.now.log (map body_of (items_in drafts)) }
         ensures made { IfOk result (λ ops. items_in ops ≡ operations_of self.now.site (map body_of (items_in drafts)) self.now.log) }
         ensures fits { OnOk result (refusal_of self.now.limit (map body_of (items_in drafts)) self.now.log ≡ None) }
@@ -277,7 +277,7 @@ impl<S: TextStore> Replica<S> {
         ensures made { IfOk result (λ ops. ops.items ≡ operations_of self.old.site (map body_of drafts.items) self.old.log) }
         ensures makes { Makes (map body_of drafts.items) self.old self.new result }
     {
-        let ops = self.planned(Few::Many(drafts))?;
+        let ops = self.planned(OneOrMany::Many(drafts))?;
         let copies = copied(self.alloc, list_of(&ops))?;
         self.make_all(ops)?;
         Ok(copies)
@@ -285,7 +285,7 @@ impl<S: TextStore> Replica<S> {
 
     // Makes operations of drafts, as `make` does.
     #[inline(always)]
-    fn commit_few(&mut self, drafts: Few<Draft>) -> Result<(), Fault>
+    fn commit_few(&mut self, drafts: OneOrMany<Draft>) -> Result<(), Fault>
         requires { MayBeMade self.old.site self.old.log (map body_of (items_in drafts)) }
         ensures { Makes (map body_of (items_in drafts)) self.old self.new result }
     {
@@ -298,15 +298,15 @@ impl<S: TextStore> Replica<S> {
     /// Makes operations of the site's own, as `make` does, and answers no copies of them: for a caller who
     /// reads them in the log, where they stand in order behind all that it had. Refused as `make` is.
     #[inline(always)]
-    pub fn commit(&mut self, drafts: Few<Draft>) -> Result<(), Fault>
+    pub fn commit(&mut self, drafts: OneOrMany<Draft>) -> Result<(), Fault>
         requires { MayBeMade self.old.site self.old.log (map body_of (items_in drafts)) }
         ensures { Makes (map body_of (items_in drafts)) self.old self.new result }
     {
         // What is done for a draft is compiled once for a single one, as typing makes it, without the steps of a list; and into
         // its callers, which know mostly whether it is one.
         match drafts {
-            Few::One(draft) => self.commit_few(Few::One(draft)),
-            Few::Many(drafts) => self.commit_few(Few::Many(drafts)),
+            OneOrMany::One(draft) => self.commit_few(OneOrMany::One(draft)),
+            OneOrMany::Many(drafts) => self.commit_few(OneOrMany::Many(drafts)),
         }
     }
 

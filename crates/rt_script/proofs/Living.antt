@@ -23,7 +23,7 @@ use Rattle.rt_peers.proofs.Calls.{destroyed_on, gives_on, received_on}
 use Rattle.rt_peers.proofs.Events.{either_of, known_on, then_on as goes_on}
 use Rattle.rt_script.specs.declared.answer.Answer.{Answer}
 use Rattle.rt_script.specs.declared.answer.Answer.TheVariants as answers
-use Rattle.rt_script.specs.declared.site_run.Outcome.{Outcome}
+use Rattle.rt_script.specs.declared.site_run.ScriptRun.{ScriptRun}
 use Rattle.rt_script.specs.Lived.{IsOfLog, IsOfNamed, RunsLive}
 use Rattle.rt_script.specs.Lines.{answered, complete_of, lines_of}
 use Rattle.rt_script.specs.Run.{Ends, LineGives, Point, Ran, RanUnwritten, Runs, point}
@@ -116,7 +116,7 @@ module _ (files : List NamedFile) (old new : Point Session) (e : old.state.files
     ]
   ]
 
-pub script_on : (files : List NamedFile) (site : SiteValue) (wants_log : Bool) (script left before after : Stream) (outcome : Outcome)
+pub script_on : (files : List NamedFile) (site : SiteValue) (wants_log : Bool) (script left before after : Stream) (outcome : ScriptRun)
     → RunsScript files site wants_log script left before after outcome → LivesOn (IsOfNamed files) site outcome.site
 script_on files site wants_log script left before after outcome h =
     ends_on files (point (record { site = site; files = files }) before) (point (record { site = outcome.site; files = files }) after) refl FILE_BOUNDS outcome.fault script left h.0

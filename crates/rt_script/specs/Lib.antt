@@ -20,7 +20,7 @@ pub use Rattle.rt_stamps.specs.Places
 pub use Rattle.rt_stamps.specs.Words
 pub use Rattle.rt_stamps.specs.Written
 pub use Rattle.rt_files.specs.Files
-pub use Rattle.rt_edits.specs.DocValue
+pub use Rattle.rt_plans.specs.DocValue
 pub use Rattle.rt_text.specs.Index
 pub use Rattle.rt_text.specs.Commands
 pub use Rattle.rt_holding.specs.Receiving

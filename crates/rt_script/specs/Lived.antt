@@ -8,7 +8,7 @@ use Rattle.rt_ops.specs.Operations.{Operation}
 use Rattle.rt_oplog.specs.Logs.{Has}
 use Rattle.rt_peers.specs.Lives.{IsOfFile, Lives, LivesOn}
 use Rattle.rt_peers.specs.SiteValue.{SiteValue}
-use Rattle.rt_script.specs.declared.site_run.Outcome.{Outcome}
+use Rattle.rt_script.specs.declared.site_run.ScriptRun.{ScriptRun}
 use Rattle.rt_script.specs.Site.{NamedFile, file_named}
 use Rattle.rt_script.specs.SiteRun.{Begins, RunsScript}
 
@@ -23,7 +23,7 @@ pub record IsRun (number : ℕ) (end : SiteValue) : Type 0 where
   pub left : Stream
   pub before : Stream
   pub after : Stream
-  pub outcome : Outcome
+  pub outcome : ScriptRun
   pub runs : RunsScript files start wants_log script left before after outcome
   pub is_end : outcome.site ≡ end
 
@@ -48,5 +48,5 @@ RunsLive =
 -- lines may name.
 abbrev pub ScriptsLiveOn : Type 0
 ScriptsLiveOn =
-    (files : List NamedFile) (site : SiteValue) (wants_log : Bool) (script left before after : Stream) (outcome : Outcome)
+    (files : List NamedFile) (site : SiteValue) (wants_log : Bool) (script left before after : Stream) (outcome : ScriptRun)
     → RunsScript files site wants_log script left before after outcome → LivesOn (IsOfNamed files) site outcome.site

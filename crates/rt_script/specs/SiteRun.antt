@@ -12,7 +12,7 @@ use Rattle.rt_script.specs.SiteValue.{SiteValue, new_site}
 use Rattle.rt_script.specs.Site.{NamedFile, Session, SiteGives}
 use Rattle.rt_script.specs.SiteStep.{SiteReceives}
 use Rattle.rt_holding.specs.declared.receiving.Received.{Received}
-use Rattle.rt_script.specs.declared.site_run.Outcome.{Outcome}
+use Rattle.rt_script.specs.declared.site_run.ScriptRun.{ScriptRun}
 
 -- A site begins as a new one, which has room for all cells there may be; or with all that it receives of a log.
 abbrev pub BeginsWith : ℕ → Option (Bor (List ℕ)) → SiteValue → Type 0
@@ -42,7 +42,7 @@ TellsLog false state log = log ≡ None
 TellsLog true state log = (told : Result (Vec ℕ Global) Fault) × (log ≡ Some told) × Exports state told
 
 -- A script was run by a site, which is told as the run left it, with its log where that is wanted.
-abbrev pub RunsScript : List NamedFile → SiteValue → Bool → Stream → Stream → Stream → Stream → Outcome → Type 0
+abbrev pub RunsScript : List NamedFile → SiteValue → Bool → Stream → Stream → Stream → Stream → ScriptRun → Type 0
 RunsScript files site wants_log script left before after outcome =
     Ends SiteGives FILE_BOUNDS (point (record { site = site; files = files }) before) (point (record { site = outcome.site; files = files }) after) script left
     outcome.fault

@@ -20,4 +20,4 @@ pub use rt_peers::{Received, ReceivedChanges, Reply, SiteState, ToldChange};
 pub use rt_words::words;
 pub use scripts::{run, run_bounded};
 pub use site_lines::Session;
-pub use site_run::{Outcome, begun, run_site};
+pub use site_run::{ScriptRun, begun, run_site};

@@ -14,7 +14,7 @@ use std::alloc::Global;
 
 /// How the run of a script ended, and the site with its log then.
 #[derive(Drop)]
-pub struct Outcome {
+pub struct ScriptRun {
     /// The site, as the run left it.
     pub site: SiteState,
     /// Why the run ended before the script did.
@@ -69,7 +69,7 @@ pub fn run_site<R: Source, W: Sink>(
     wants_log: bool,
     script: &mut R,
     out: &mut W,
-) -> Outcome
+) -> ScriptRun
     requires { AreWithin files.now }
     ensures runs { RunsScript (named_files files.now) site wants_log (R.stream script.old) (R.stream script.new)
         (W.stream out.old) (W.stream out.new) result }
@@ -80,5 +80,5 @@ pub fn run_site<R: Source, W: Sink>(
 {
     let Ended { site, fault } = run(alloc, site, script, files, out);
     let log = log_of(&site, wants_log);
-    Outcome { site, fault, log }
+    ScriptRun { site, fault, log }
 }

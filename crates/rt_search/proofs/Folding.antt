@@ -4,7 +4,7 @@ use Rattle.std.specs.Prelude.{fold}
 use Rattle.rt_search.specs.declared.search.Direction.{Direction}
 use Rattle.rt_search.specs.declared.search.Direction.TheVariants.{Forwards, Backwards}
 use Rattle.rt_search.specs.declared.search.Overlaps.{Overlaps}
-use Rattle.rt_views.specs.declared.stretch.Stretch.{Stretch}
+use Rattle.rt_lines.specs.declared.stretch.Stretch.{Stretch}
 use Rattle.rt_search.specs.Searches.{is_taken, ordered_places, with_match}
 use Rattle.rt_search.proofs.Ending.{IsAt}
 use Rattle.rt_search.proofs.Orders.{backwards_at, forwards_at}

@@ -4,7 +4,7 @@ use Rattle.std.specs.Prelude.{filter, slice_get, Option, Some, None}
 use Rattle.rt_search.specs.declared.search.Direction.{Direction}
 use Rattle.rt_search.specs.declared.search.Direction.TheVariants.{Forwards, Backwards}
 use Rattle.rt_search.specs.declared.search.Search.{Search}
-use Rattle.rt_views.specs.declared.stretch.Stretch.{Stretch}
+use Rattle.rt_lines.specs.declared.stretch.Stretch.{Stretch}
 use Rattle.rt_search.specs.Searches.{IsMatchIn, is_match, matches_in, ordered_places}
 use Rattle.rt_search.proofs.Orders.{backwards_at, forwards_at, length_ordered}
 

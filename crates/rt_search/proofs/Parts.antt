@@ -1,8 +1,8 @@
 -- Lines of what stands at the places of a stretch.
 use Rattle.std.proofs.Common.{◌≡◌, ℕ, zero, suc, ◌+◌, ◌-◌, ◌<◌, ◌≤◌, List, [], ◌∷◌, Bool, true, false, cond, length, refl, sym, ap, ◌∙◌, arith, add-one, take, drop}
 use Rattle.rt_stamps.specs.Places.{is_newline, newlines, after_newlines, line_of, line_start}
-use Rattle.rt_views.specs.declared.stretch.Stretch.{Stretch}
-use Rattle.rt_views.specs.Stretches.{part}
+use Rattle.rt_lines.specs.declared.stretch.Stretch.{Stretch}
+use Rattle.rt_lines.specs.Stretches.{part}
 
 -- TAKING AND DROPPING
 

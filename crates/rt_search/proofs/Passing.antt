@@ -4,7 +4,7 @@ use Rattle.std.specs.Prelude.{slice_get, filter, Some}
 use Rattle.std.proofs.lemmas.List.{get_or_default}
 use Rattle.rt_search.specs.declared.pass.Pass.{Pass}
 use Rattle.rt_search.specs.declared.search.Search.{Search}
-use Rattle.rt_views.specs.declared.stretch.Stretch.{Stretch}
+use Rattle.rt_lines.specs.declared.stretch.Stretch.{Stretch}
 use Rattle.rt_search.specs.Borders.{Agrees, IsBorder, IsFurther, IsNext, IsPass, key, left, pattern_read, place_read, read_at, text_read}
 use Rattle.rt_search.specs.Searches.{matches_in, ordered_places, stands_at}
 use Rattle.rt_search.specs.Windows.{Shows}

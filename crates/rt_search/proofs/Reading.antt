@@ -10,7 +10,7 @@ use Rattle.rt_search.specs.declared.search.Case.TheVariants.{Exact, Ignored}
 use Rattle.rt_search.specs.declared.search.Direction.{Direction}
 use Rattle.rt_search.specs.declared.search.Direction.TheVariants.{Forwards, Backwards}
 use Rattle.rt_search.specs.declared.search.Search.{Search}
-use Rattle.rt_views.specs.declared.stretch.Stretch.{Stretch}
+use Rattle.rt_lines.specs.declared.stretch.Stretch.{Stretch}
 use Rattle.rt_search.specs.Borders.{Agrees, key, pattern_read, place_read, read_at, text_read}
 use Rattle.rt_search.specs.Searches.{agree, ordered_places, stands_at}
 use Rattle.rt_search.proofs.Falling.{fewer_agree}

@@ -8,10 +8,10 @@ use Rattle.std.proofs.lemmas.List.{drop_all, drop_more, reverse-append}
 use Rattle.std.proofs.lemmas.List.Elements.{filter-append}
 use Rattle.rt_search.specs.declared.search.Direction.{Direction}
 use Rattle.rt_search.specs.declared.search.Direction.TheVariants.{Forwards, Backwards}
-use Rattle.rt_search.specs.declared.search.Limits.{Limits}
-use Rattle.rt_search.specs.declared.search.Limits.TheVariants.{First, Strict}
+use Rattle.rt_search.specs.declared.search.Strictness.{Strictness}
+use Rattle.rt_search.specs.declared.search.Strictness.TheVariants.{First, Strict}
 use Rattle.rt_search.specs.declared.search.Search.{Search}
-use Rattle.rt_views.specs.declared.stretch.Stretch.{Stretch}
+use Rattle.rt_lines.specs.declared.stretch.Stretch.{Stretch}
 use Rattle.rt_search.specs.Ends.{IsBefore}
 use Rattle.rt_search.specs.Searches.{is_match, ordered_places, stands_at}
 use Rattle.rt_search.proofs.Finding.{tested}
@@ -60,7 +60,7 @@ with_room Backwards f g stretch room b h e n =
     ∙ sym (turned g (range_with_len room.begin (room.end - room.begin)))
 
 -- a match may end behind its stretch, or at its end
-pub last_late : (limits : Limits) (end size last : ℕ) → end ≤ size → (limits ≡ First → last ≡ size) → (limits ≡ Strict → last ≡ end) → end ≤ last
+pub last_late : (strictness : Strictness) (end size last : ℕ) → end ≤ size → (strictness ≡ First → last ≡ size) → (strictness ≡ Strict → last ≡ end) → end ≤ last
 last_late First end size last h f g = omega (arith, f refl)
 last_late Strict end size last h f g = omega (arith, g refl)
 
@@ -83,7 +83,7 @@ ends a b h = grind (arith, nat_tests)
 runs_on : (a b : ℕ) → b < a → nat_le a b ≡ false
 runs_on a b h = grind (arith, nat_tests)
 
-module _ (search : Search) (pattern text : List ℕ) (stretch : Stretch) (last place : ℕ) (within : place < stretch.end) (there : stretch.end ≤ length text) (first : search.limits ≡ First → last ≡ length text) (strict : search.limits ≡ Strict → last ≡ stretch.end) where
+module _ (search : Search) (pattern text : List ℕ) (stretch : Stretch) (last place : ℕ) (within : place < stretch.end) (there : stretch.end ≤ length text) (first : search.strictness ≡ First → last ≡ length text) (strict : search.strictness ≡ Strict → last ≡ stretch.end) where
   test : is_match search pattern text stretch place ≡ (stands_at search.case pattern text place && nat_le (place + length pattern) last)
   test = tested search pattern text stretch place last (length text) _ _ within there refl first strict refl refl
 

@@ -7,7 +7,7 @@ use Rattle.rt_search.specs.declared.search.Direction.{Direction}
 use Rattle.rt_search.specs.declared.search.Direction.TheVariants.{Forwards, Backwards}
 use Rattle.rt_search.specs.declared.search.Overlaps.{Overlaps}
 use Rattle.rt_search.specs.declared.search.Search.{Search}
-use Rattle.rt_views.specs.declared.stretch.Stretch.{Stretch}
+use Rattle.rt_lines.specs.declared.stretch.Stretch.{Stretch}
 use Rattle.rt_search.specs.Searches.{all_matches, first_match, is_match, is_taken, matches, matches_in, ordered_places, stretches, with_match}
 use Rattle.rt_search.proofs.Orders.{backwards_at, forwards_at, length_ordered}
 

@@ -8,7 +8,7 @@ use Rattle.rt_search.specs.declared.search.Case.TheVariants.{Exact, Ignored}
 use Rattle.rt_search.specs.declared.search.Direction.{Direction}
 use Rattle.rt_search.specs.declared.search.Direction.TheVariants.{Forwards, Backwards}
 use Rattle.rt_search.specs.declared.search.Search.{Search}
-use Rattle.rt_views.specs.declared.stretch.Stretch.{Stretch}
+use Rattle.rt_lines.specs.declared.stretch.Stretch.{Stretch}
 use Rattle.rt_search.specs.Searches.{ordered_places, stands_at}
 use Rattle.rt_search.specs.Windows.{Shows}
 

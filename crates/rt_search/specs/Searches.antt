@@ -6,12 +6,12 @@ use Rattle.rt_search.specs.declared.search.Case.{Case}
 use Rattle.rt_search.specs.declared.search.Case.TheVariants.{Exact, Ignored}
 use Rattle.rt_search.specs.declared.search.Direction.{Direction}
 use Rattle.rt_search.specs.declared.search.Direction.TheVariants.{Forwards, Backwards}
-use Rattle.rt_search.specs.declared.search.Limits.{Limits}
-use Rattle.rt_search.specs.declared.search.Limits.TheVariants.{First, Strict}
+use Rattle.rt_search.specs.declared.search.Strictness.{Strictness}
+use Rattle.rt_search.specs.declared.search.Strictness.TheVariants.{First, Strict}
 use Rattle.rt_search.specs.declared.search.Overlaps.{Overlaps}
 use Rattle.rt_search.specs.declared.search.Overlaps.TheVariants.{PassedOver, Taken}
 use Rattle.rt_search.specs.declared.search.Search.{Search}
-use Rattle.rt_views.specs.declared.stretch.Stretch.{Stretch}
+use Rattle.rt_lines.specs.declared.stretch.Stretch.{Stretch}
 
 -- MATCHES
 
@@ -40,13 +40,13 @@ ordered_places Forwards stretch = range_with_len stretch.begin (stretch.end - st
 ordered_places Backwards stretch = reverse (range_with_len stretch.begin (stretch.end - stretch.begin))
 
 -- A match belongs to the stretch that has its first character. With strict limits its last character must lie there too.
-abbrev pub ends_within : Limits → Stretch → ℕ → ℕ → Bool
+abbrev pub ends_within : Strictness → Stretch → ℕ → ℕ → Bool
 ends_within First stretch length place = true
 ends_within Strict stretch length place = nat_le (place + length) stretch.end
 
 -- the pattern stands at a place of a stretch, and ends in it if it must
 abbrev pub is_match : Search → List ℕ → List ℕ → Stretch → ℕ → Bool
-is_match search pattern text stretch place = stands_at search.case pattern text place && ends_within search.limits stretch (length pattern) place
+is_match search pattern text stretch place = stands_at search.case pattern text place && ends_within search.strictness stretch (length pattern) place
 
 -- the matches of a stretch, in order
 abbrev pub matches_in : Search → List ℕ → List ℕ → Stretch → List ℕ

@@ -9,9 +9,9 @@ use crate::find::stretches;
 use crate::part::Part;
 use crate::pass::{Pass, room};
 use crate::search::{Overlaps, Search, nth};
+use rt_lines::Stretch;
 use rt_stamps::Fault;
 use rt_store::TextStore;
-use rt_views::Stretch;
 use std::alloc::Global;
 
 /// Whether two matches of one length share a character.

@@ -7,10 +7,10 @@ ghost use Rattle.rt_search.specs.Searches.{first_match, matches_in, stretches};
 use crate::borders::borders_of;
 use crate::part::Part;
 use crate::pass::{Pass, room};
-use crate::search::{Direction, Limits, Search, nth};
+use crate::search::{Direction, Search, Strictness, nth};
+use rt_lines::Stretch;
 use rt_stamps::Fault;
 use rt_store::TextStore;
-use rt_views::Stretch;
 use std::alloc::Global;
 
 /// The stretches that a search goes through: one, or two.
@@ -53,13 +53,13 @@ pub(crate) fn stretches(
 }
 
 /// Where a match must end at the latest: at the end of the text, or of its stretch.
-pub(crate) fn last_end(limits: Limits, stretch: Stretch, end: usize) -> usize
-    ensures first { limits ≡ Limits.First → result ≡ end }
-    ensures strict { limits ≡ Limits.Strict → result ≡ stretch.end }
+pub(crate) fn last_end(strictness: Strictness, stretch: Stretch, end: usize) -> usize
+    ensures first { strictness ≡ Strictness.First → result ≡ end }
+    ensures strict { strictness ≡ Strictness.Strict → result ≡ stretch.end }
 {
-    match limits {
-        Limits::First => end,
-        Limits::Strict => stretch.end,
+    match strictness {
+        Strictness::First => end,
+        Strictness::Strict => stretch.end,
     }
 }
 

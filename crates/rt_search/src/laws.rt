@@ -2,7 +2,7 @@
 ghost use Rattle.std.specs.Prelude.{◌≡◌, ◌≤◌, ℕ, List, Some, None, slice_get};
 ghost use Rattle.rt_search.specs.declared.search.Direction.{Direction};
 ghost use Rattle.rt_search.specs.declared.search.Search.{Search};
-ghost use Rattle.rt_views.specs.declared.stretch.Stretch.{Stretch};
+ghost use Rattle.rt_lines.specs.declared.stretch.Stretch.{Stretch};
 ghost use Rattle.rt_search.specs.Searches.{IsMatchIn, matches_in};
 
 /// The first match of a stretch is the least place in it where a search finds the pattern, or the greatest when

@@ -15,5 +15,5 @@ mod window;
 pub use all::find_all;
 pub use find::find_first;
 pub use part::Part;
-pub use search::{Case, Direction, Limits, Overlaps, Search};
+pub use search::{Case, Direction, Overlaps, Search, Strictness};
 pub use walk::positions;

@@ -2,10 +2,10 @@
 ghost use Rattle.std.specs.Prelude.{◌≡◌, ◌-◌, ◌<◌, ◌≤◌, drop, length, min, take};
 ghost use Rattle.rt_stamps.specs.Places.{line_of, line_start};
 ghost use Rattle.rt_store.specs.Cells.{text_of};
-ghost use Rattle.rt_views.specs.Stretches.{part};
+ghost use Rattle.rt_lines.specs.Stretches.{part};
 
+use rt_lines::Stretch;
 use rt_store::TextStore;
-use rt_views::Stretch;
 use std::marker::Model;
 
 /// The characters of a stretch of a store's text. Contracts see it as the list of them: places count from its beginning.
@@ -18,7 +18,7 @@ pub struct Part<'a, S: TextStore> {
 impl<'a, S: TextStore> Model for Part<'a, S> {
     ghost use Rattle.std.specs.Prelude.{ℕ, List, length};
     ghost use Rattle.rt_store.specs.Cells.{text_of};
-    ghost use Rattle.rt_views.specs.Stretches.{part};
+    ghost use Rattle.rt_lines.specs.Stretches.{part};
     ghost use Rattle.rt_search.specs.Parts.{IsStretchIn};
 
     ghost Value = { List ℕ };

@@ -9,8 +9,8 @@ use crate::find::last_end;
 use crate::part::Part;
 use crate::search::{Search, nth, places};
 use crate::window::Window;
+use rt_lines::Stretch;
 use rt_store::TextStore;
-use rt_views::Stretch;
 
 /// The places of a stretch where a match has room: at the others it would run on behind where it must end.
 pub(crate) fn room<S: TextStore>(
@@ -27,7 +27,7 @@ pub(crate) fn room<S: TextStore>(
     ensures matches { matches_in search pattern.now text.now stretch
         ≡ filter (stands_at search.case pattern.now text.now) (ordered_places search.direction result) }
 {
-    let last = last_end(search.limits, stretch, text.len());
+    let last = last_end(search.strictness, stretch, text.len());
     let end = last.saturating_sub(pattern.len().saturating_sub(1));
     Stretch {
         begin: stretch.begin,

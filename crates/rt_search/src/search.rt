@@ -2,7 +2,7 @@
 ghost use Rattle.std.specs.Prelude.{◌≡◌, ◌-◌, ◌<◌, ◌≤◌, slice_index_or};
 ghost use Rattle.rt_search.specs.Searches.{agree, ordered_places};
 
-use rt_views::Stretch;
+use rt_lines::Stretch;
 use unicode::case::simple_fold;
 
 /// Which way a search goes (Tk text manual, "search").
@@ -25,7 +25,7 @@ pub enum Case {
 
 /// What of a match must lie in the stretch that is searched.
 #[derive(Clone, Copy, Debug, PartialEq, Eq)]
-pub enum Limits {
+pub enum Strictness {
     /// Its first character.
     First,
     /// `-strictlimits`: all of it.
@@ -46,7 +46,7 @@ pub enum Overlaps {
 pub struct Search {
     pub direction: Direction,
     pub case: Case,
-    pub limits: Limits,
+    pub strictness: Strictness,
 }
 
 /// How many places a stretch has: none if the end isn't behind the beginning.

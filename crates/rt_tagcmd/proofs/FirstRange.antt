@@ -3,7 +3,7 @@ use Rattle.std.proofs.Common.{◌≡◌, ℕ, zero, suc, ◌+◌, ◌-◌, ◌<�
 use Rattle.std.specs.Prelude.{Any, Decides, eqb, slice_get, unwrap_or}
 use Rattle.std.specs.Option.{option_eq}
 use Rattle.std.proofs.lemmas.Bool.{cases_eq, cases_lt, eq-eqb, eqb-true}
-use Rattle.rt_edits.specs.declared.range.Range.{Range}
+use Rattle.rt_plans.specs.declared.range.Range.{Range}
 use Rattle.rt_tagcmd.specs.TagRanges.{IsClearFrom, IsIn, IsMaximal, PassUpTo, first_range_from, passing_ranges}
 use Rattle.rt_store.specs.Tagged.{Passes, IsLeastFrom, next_place}
 use Rattle.rt_store.proofs.Least.{least, no_next}

@@ -3,7 +3,7 @@ use Rattle.std.proofs.Common.{◌≡◌, ℕ, ◌+◌, ◌-◌, ◌<◌, ◌≤�
 use Rattle.std.specs.Prelude.{Decides, find, nat_le, nat_lt}
 use Rattle.std.specs.Option.{option_or}
 use Rattle.std.proofs.lemmas.Bool.{cases_eq, cases_lt, le-leb, le-ltb, lt-leb, lt-ltb, ltb-true, and_from, and_left, and_right}
-use Rattle.rt_edits.specs.declared.range.Range.{Range}
+use Rattle.rt_plans.specs.declared.range.Range.{Range}
 use Rattle.rt_tagcmd.specs.TagRanges.{BeginFrom, IsBegin, PassThrough, PassUpTo, begins_between, passing_ranges, previous_range}
 use Rattle.rt_store.specs.Tagged.{Passes, IsGreatestBelow, next_place, previous_place}
 use Rattle.rt_store.proofs.Least.{greatest, least, no_next, no_previous}

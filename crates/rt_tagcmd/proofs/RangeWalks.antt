@@ -5,7 +5,7 @@ use Rattle.std.specs.Option.{option_or}
 use Rattle.std.proofs.lemmas.List.{append-nil, reverse-append}
 use Rattle.std.proofs.lemmas.List.Elements.{All-head, All-tail}
 use Rattle.std.proofs.lemmas.Bool.{le-leb, le-ltb, leb-true, lt-leb, lt-ltb, cond-true, cond-false, and_left, and_right, and_from}
-use Rattle.rt_edits.specs.declared.range.Range.{Range}
+use Rattle.rt_plans.specs.declared.range.Range.{Range}
 use Rattle.rt_tagcmd.specs.TagRanges.{IsMaximal, begins_between, first_range_from, next_range, passing_ranges}
 use Rattle.rt_store.specs.Tagged.{Passes}
 use Rattle.rt_tagcmd.proofs.Runs.{AreRuns, text_runs}

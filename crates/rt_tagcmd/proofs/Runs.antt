@@ -3,7 +3,7 @@ use Rattle.std.proofs.Common.{◌≡◌, ℕ, zero, suc, ◌+◌, ◌-◌, ◌<�
 use Rattle.std.specs.Prelude.{◌==◌, Any, AllPairs, get_or}
 use Rattle.std.specs.List.{AllByRecursion}
 use Rattle.std.proofs.lemmas.Bool.{cases_eq, cases_lt, cases_order, eqb-true, eqb-false, le-leb, lt-leb, cond-true, cond-false}
-use Rattle.rt_edits.specs.declared.range.Range.{Range}
+use Rattle.rt_plans.specs.declared.range.Range.{Range}
 use Rattle.rt_tagcmd.specs.TagRanges.{IsIn, with_place, ranges_from, first_range_from}
 use Rattle.rt_store.specs.Tagged.{Passes}
 
@@ -68,7 +68,7 @@ runs_with P b (r ∷ rs) p h = runs_joined P b r rs p h (r.from == b + 1) refl
 -- ALL PLACES OF A TEXT
 
 -- characters pass as the places from one on do
-record Reads {A : Type 0} (P : ℕ → Type 0) (b : ℕ) (test : A → Bool) (cs : List A) : Type 0 where
+record ReadsRuns {A : Type 0} (P : ℕ → Type 0) (b : ℕ) (test : A → Bool) (cs : List A) : Type 0 where
   into : (k j : ℕ) → j ≡ b + k → P j → Passes test cs k
   out : (k j : ℕ) → j ≡ b + k → Passes test cs k → P j
 
@@ -78,14 +78,14 @@ none_pass test k h = let bad : ⊥ = cc in bad
 not_first : {A : Type 0} (test : A → Bool) (c : A) (cs : List A) → test c ≡ false → Passes test (c ∷ cs) 0 → ⊥
 not_first test c cs e h = let bad : ⊥ = cc in bad
 
-reads_rest : {A : Type 0} (P : ℕ → Type 0) (b : ℕ) (test : A → Bool) (c : A) (cs : List A) → Reads P b test (c ∷ cs) → Reads P (b + 1) test cs
+reads_rest : {A : Type 0} (P : ℕ → Type 0) (b : ℕ) (test : A → Bool) (c : A) (cs : List A) → ReadsRuns P b test (c ∷ cs) → ReadsRuns P (b + 1) test cs
 reads_rest P b test c cs h = record { into = λ k j e p. h.into (suc k) j (omega arith) p; out = λ k j e p. h.out (suc k) j (omega arith) p }
 
-one_more : {A : Type 0} (P : ℕ → Type 0) (b : ℕ) (test : A → Bool) (c : A) (cs : List A) (rs : List Range) → Reads P b test (c ∷ cs) → AreRuns P (b + 1) rs → (t : Bool) → test c ≡ t → AreRuns P b (cond t (with_place b rs) rs)
+one_more : {A : Type 0} (P : ℕ → Type 0) (b : ℕ) (test : A → Bool) (c : A) (cs : List A) (rs : List Range) → ReadsRuns P b test (c ∷ cs) → AreRuns P (b + 1) rs → (t : Bool) → test c ≡ t → AreRuns P b (cond t (with_place b rs) rs)
 one_more P b test c cs rs h more true e = runs_with P b rs (h.out 0 b (omega arith) (ap (λ t. Some t) e)) more
 one_more P b test c cs rs h more false e = runs_clear P b rs (λ p. not_first test c cs e (h.into 0 b (omega arith) p)) more
 
-runs_of : {A : Type 0} (P : ℕ → Type 0) (b : ℕ) (test : A → Bool) (cs : List A) → Reads P b test cs → AreRuns P b (ranges_from test b cs)
+runs_of : {A : Type 0} (P : ℕ → Type 0) (b : ℕ) (test : A → Bool) (cs : List A) → ReadsRuns P b test cs → AreRuns P b (ranges_from test b cs)
 runs_of P b test [] h = λ k l p. none_pass test (k - b) (h.into (k - b) k (omega arith) p)
 runs_of P b test (c ∷ cs) h = one_more P b test c cs (ranges_from test (b + 1) cs) h (runs_of P (b + 1) test cs (reads_rest P b test c cs h)) (test c) refl
 

@@ -9,8 +9,8 @@ use Rattle.rt_marks.specs.Marks.{Mark, HaveOwnNames, IsName, AreInOrder, in_orde
 use Rattle.rt_marks.proofs.InOrder.{each_in_order, each_with, in_order_same, split}
 use Rattle.rt_marks.proofs.Moving.{named_moved, own_moved}
 use Rattle.rt_marks.proofs.Names.{clash, named_in_order, named_with, none_cons, ordered_in_order, ordered_with, same_name}
-use Rattle.rt_views.specs.declared.stretch.Stretch.{Stretch}
-use Rattle.rt_views.specs.Stretches.{seen_place}
+use Rattle.rt_lines.specs.declared.stretch.Stretch.{Stretch}
+use Rattle.rt_lines.specs.Stretches.{seen_place}
 use Rattle.rt_text.specs.Widgets.{AreSiteMarks, WidgetValue, ViewValue, is_own, mark_among, mark_of, mark_seen, marks_of, marks_shown, own_or, own_shown, stretch_by}
 use Rattle.rt_text.specs.declared.own_mark.OwnMark.TheVariants.{Insert, Current}
 

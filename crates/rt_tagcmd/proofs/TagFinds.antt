@@ -10,14 +10,14 @@ use Rattle.rt_marks.proofs.Names.{clash, same_name}
 use Rattle.rt_stamps.specs.Words.{Word}
 use Rattle.rt_tags.specs.States.{is_on}
 use Rattle.rt_tags.specs.Tags.{is_listed, sel}
-use Rattle.rt_edits.specs.declared.range.Range.{Range}
+use Rattle.rt_plans.specs.declared.range.Range.{Range}
 use Rattle.rt_store.specs.Shown.{TaggedCell}
-use Rattle.rt_edits.specs.Listed.{AreListed}
+use Rattle.rt_plans.specs.Listed.{AreListed}
 use Rattle.rt_store.specs.Spans.{is_among}
 use Rattle.rt_store.specs.Cells.{visible_of}
 use Rattle.rt_text.specs.Widgets.{ViewValue, is_tagged, length_shown, shown_by, stretch_by}
-use Rattle.rt_views.specs.Stretches.{part}
-use Rattle.rt_views.specs.declared.stretch.Stretch.{Stretch}
+use Rattle.rt_lines.specs.Stretches.{part}
+use Rattle.rt_lines.specs.declared.stretch.Stretch.{Stretch}
 use Rattle.rt_tagcmd.specs.TagCommands.{tagged_ranges}
 use Rattle.rt_tagcmd.specs.TagRanges.{IsMaximal, begins_between, ranges_from, passing_ranges, next_range, previous_range}
 use Rattle.rt_tagcmd.proofs.TagRangeLaws.{each_maximal}

@@ -3,7 +3,7 @@ use Rattle.std.proofs.Common.{ℕ, zero, suc, ◌-◌, ◌<◌, ◌≤◌, List,
 use Rattle.std.specs.Prelude.{Any, AllPairs}
 use Rattle.std.specs.List.{AllByRecursion}
 use Rattle.std.proofs.lemmas.List.Elements.{All-from_recursion}
-use Rattle.rt_edits.specs.declared.range.Range.{Range}
+use Rattle.rt_plans.specs.declared.range.Range.{Range}
 use Rattle.rt_tagcmd.specs.TagRanges.{IsIn, IsMaximal, passing_ranges}
 use Rattle.rt_store.specs.Tagged.{Passes}
 use Rattle.rt_tagcmd.proofs.Runs.{IsMax, apart, contained, covered, each_max, text_runs}

@@ -3,7 +3,7 @@ use Rattle.std.proofs.Common.{◌≡◌, ℕ, zero, suc, ◌+◌, ◌-◌, ◌<�
 use Rattle.std.specs.Prelude.{◌==◌}
 use Rattle.std.proofs.lemmas.Bool.{cases_lt, eq-eqb, eqb-true, cond-true, cond-false}
 use Rattle.std.proofs.lemmas.List.{append_assoc, drop-drop}
-use Rattle.rt_edits.specs.declared.range.Range.{Range}
+use Rattle.rt_plans.specs.declared.range.Range.{Range}
 use Rattle.rt_store.specs.Tagged.{IsLeastFrom, Passes}
 use Rattle.rt_tagcmd.specs.TagRanges.{ranges_from, with_place}
 use Rattle.rt_tagcmd.specs.declared.stretch.Stretch.{Stretch}

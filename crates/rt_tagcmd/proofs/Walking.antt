@@ -5,7 +5,7 @@ use Rattle.rt_marks.specs.declared.spot.Spot.{Spot}
 use Rattle.rt_marks.specs.Seen.{spotted}
 use Rattle.rt_marks.specs.Marks.{Mark, HaveOwnNames, AreInOrder, in_order}
 use Rattle.rt_marks.proofs.Names.{ordered_in_order}
-use Rattle.rt_views.specs.declared.stretch.Stretch.{Stretch}
+use Rattle.rt_lines.specs.declared.stretch.Stretch.{Stretch}
 use Rattle.rt_text.specs.Widgets.{mark_seen}
 use Rattle.rt_tagcmd.proofs.ShownMarks.{own_seen_names}
 

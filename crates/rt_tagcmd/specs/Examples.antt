@@ -1,6 +1,6 @@
 -- The ranges of the worked examples.
 use Rattle.std.specs.Prelude.{ℕ, List, [], ◌∷◌}
-use Rattle.rt_edits.specs.declared.range.Range.{Range}
+use Rattle.rt_plans.specs.declared.range.Range.{Range}
 
 -- the characters from a place up to before another
 abbrev pub range : ℕ → ℕ → Range

@@ -8,7 +8,7 @@ pub mod SearchCommand
 pub mod Stretches
 pub mod TagCommands
 pub mod TagRanges
-pub use Rattle.rt_edits.specs.DocValue
+pub use Rattle.rt_plans.specs.DocValue
 pub use Rattle.rt_marks.specs.Marks
 pub use Rattle.rt_search.specs.Searches
 pub use Rattle.rt_stamps.specs.Outcomes

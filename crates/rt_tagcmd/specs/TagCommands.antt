@@ -9,7 +9,7 @@ use Rattle.rt_stamps.specs.Outcomes.{first_of, unless}
 use Rattle.rt_stamps.specs.Places.{position_at}
 use Rattle.rt_stamps.specs.Words.{Word}
 use Rattle.rt_tags.specs.Tags.{is_listed, raised, lowered}
-use Rattle.rt_edits.specs.declared.range.Range.{Range}
+use Rattle.rt_plans.specs.declared.range.Range.{Range}
 use Rattle.rt_stamps.specs.Names.{name_check}
 use Rattle.rt_text.specs.Commands.{clock_check, with_tag_in, with_tags_deleted}
 use Rattle.rt_text.specs.Index.{index_check, place_at_index}

@@ -1,7 +1,7 @@
 -- Ranges of characters that have a tag: the maximal ones whose characters pass a test (Tk text manual, "tag ranges", "tag nextrange", "tag prevrange").
 use Rattle.std.specs.Prelude.{◌≡◌, ℕ, ◌+◌, ◌<◌, ◌≤◌, ◌==◌, nat_le, nat_lt, ◌&&◌, Bool, if◌then◌else◌, List, [], ◌∷◌, length, find, reverse, Option}
 use Rattle.rt_store.specs.Tagged.{Passes}
-use Rattle.rt_edits.specs.declared.range.Range.{Range}
+use Rattle.rt_plans.specs.declared.range.Range.{Range}
 
 -- one place before ranges that begin behind it: it joins the first where that begins right behind it, and is a range of its own elsewhere
 abbrev pub with_place : ℕ → List Range → List Range

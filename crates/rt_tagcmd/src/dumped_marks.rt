@@ -3,12 +3,11 @@ ghost use Rattle.std.specs.Prelude.{◌≡◌, ◌++◌, IsOkUnless, OnOk};
 ghost use Rattle.rt_tagcmd.specs.Dumping.{marks_standing};
 ghost use Rattle.rt_tagcmd.specs.Stretches.{within};
 
-use crate::Key;
 use crate::placed::Placed;
 use crate::stretch::Stretch;
+use crate::{Key, marks_between};
 use rt_stamps::Fault;
 use rt_store::TextStore;
-use crate::marks_between;
 use rt_text::View;
 use std::alloc::Global;
 

@@ -6,7 +6,7 @@ ghost use Rattle.rt_tags.specs.Tags.{HaveNoRepeats, is_listed};
 ghost use Rattle.rt_tagcmd.specs.MarkCommands.{by_bytes};
 ghost use Rattle.rt_tagcmd.specs.TagRanges.{IsIn, IsMaximal, passing_ranges};
 ghost use Rattle.rt_store.specs.Tagged.{Passes};
-ghost use Rattle.rt_edits.specs.declared.range.Range.{Range};
+ghost use Rattle.rt_plans.specs.declared.range.Range.{Range};
 
 /// The ranges whose characters pass a test are the maximal ones: each is maximal, each place that
 /// passes is in one, a place that doesn't lies between one and the next, and each maximal range is

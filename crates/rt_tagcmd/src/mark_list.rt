@@ -8,11 +8,11 @@ ghost use Rattle.rt_text.specs.Widgets.{mark_seen, marks_of};
 
 use crate::nearest::{first_after, last_of, shows_all};
 use crate::seen::{order, own_spot, seen};
+use rt_lines::Stretch;
 use rt_marks::{Gravity, Marks, Spot};
 use rt_stamps::Fault;
 use rt_store::TextStore;
 use rt_text::{OwnMark, View};
-use rt_views::Stretch;
 use std::alloc::Global;
 use std::cmp::Ordering;
 

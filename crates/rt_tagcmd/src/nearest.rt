@@ -6,10 +6,10 @@ ghost use Rattle.rt_store.specs.Cells.{text_of};
 ghost use Rattle.rt_text.specs.Widgets.{mark_seen, marks_of, marks_shown, stretch_by};
 
 use crate::seen::{order, own_spot, seen};
+use rt_lines::Stretch;
 use rt_marks::{Marks, Spot};
 use rt_store::TextStore;
 use rt_text::{OwnMark, View};
-use rt_views::Stretch;
 
 /// The first mark after a spot, of the one that was found and one more.
 fn nearer_after<'a>(here: &Spot<'_>, found: Option<Spot<'a>>, own: Spot<'a>) -> Option<Spot<'a>>

@@ -32,7 +32,7 @@ fn characters_of(alloc: Global, pattern: &str) -> Result<Vec<char>, Fault>
 }
 
 /// The place of an index.
-fn place_of<S: TextStore>(view: &View<S>, index: &Word<'_>) -> Result<usize, Fault>
+fn place_of_index<S: TextStore>(view: &View<S>, index: &Word<'_>) -> Result<usize, Fault>
     ensures ok { IfOk result (λ place. place ≡ place_at_index (widget_of view.now) index.now) }
     ensures checked { IfOk result (λ place. index_check (widget_of view.now) index.now ≡ None) }
     ensures within { IfOk result (λ place. place ≤ length_shown view.now) }
@@ -50,7 +50,7 @@ fn stop_of<S: TextStore>(view: &View<S>, stop: &Option<Word<'_>>) -> Result<Opti
         ⊎ (first_of (map (index_check (widget_of view.now)) (option_to_list stop.now)) ≡ Some fault)) }
 {
     match stop {
-        Some(index) => Ok(Some(place_of(view, index)?)),
+        Some(index) => Ok(Some(place_of_index(view, index)?)),
         None => Ok(None),
     }
 }
@@ -133,7 +133,7 @@ pub fn search<S: TextStore>(
     ensures ok { IfOk result (λ found. searched view.now request.now ≡ Ok found.items) }
     ensures err { IfErr result (Refuses (searched view.now request.now)) }
 {
-    let start = place_of(view, &request.start)?;
+    let start = place_of_index(view, &request.start)?;
     let stop = stop_of(view, &request.stop)?;
     let pattern = request.pattern.text();
     if pattern.is_empty() {

@@ -5,10 +5,10 @@ ghost use Rattle.rt_marks.specs.Marks.{AreInOrder, IsName, named, with_mark};
 ghost use Rattle.rt_marks.specs.Seen.{spotted};
 ghost use Rattle.rt_text.specs.Widgets.{mark_of, mark_seen, marks_of, marks_shown, own_mark, own_shown, stretch_by};
 
+use rt_lines::Stretch;
 use rt_marks::Spot;
 use rt_store::TextStore;
 use rt_text::{OwnMark, View};
-use rt_views::Stretch;
 
 /// The marks of a widget are in order, each has a name, and a name names what it names among them.
 pub(crate) fn order<S: TextStore>(view: &View<S>)

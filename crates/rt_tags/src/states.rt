@@ -115,7 +115,7 @@ fn is_on_side(entry: Entry, names: &[String], name: &str, side: Ordering) -> boo
 }
 
 // How many entries stand before a name.
-fn place_of(names: &[String], entries: &[Entry], name: &str) -> usize
+fn entries_below(names: &[String], entries: &[Entry], name: &str) -> usize
     requires { IsByName (all_seen (as_words names.now) entries.now) }
     ensures place { result ≡ prefix_len (is_on_side (as_words names.now) name.now Less) entries.now }
     ensures within { result ≤ length entries.now }
@@ -138,7 +138,7 @@ fn found(names: &[String], entries: &[Entry], tag: TagId) -> Option<Entry>
     requires { IsByName (all_seen (as_words names.now) entries.now) }
     ensures { result ≡ entry_of tag entries.now }
 {
-    let at = place_of(names, entries, name_at(names, tag));
+    let at = entries_below(names, entries, name_at(names, tag));
     if_of(entries.get(at).copied(), tag)
 }
 

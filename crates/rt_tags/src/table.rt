@@ -80,7 +80,7 @@ impl TagTable {
     pub fn has(&self, name: &str) -> bool
         ensures { result ≡ is_listed name.now self.now.names }
     {
-        self.place_of(name).is_some()
+        self.listed_place(name).is_some()
     }
 
     /// The names that are listed, lowest priority first. `NoMemory` is its only fault.
@@ -155,13 +155,13 @@ impl TagTable {
         ensures answer { result ≡ (if is_listed name.now self.old.names
             && is_place (option_copied above.entry) self.old.names then Ok tt else Err Fault.NoTag) }
     {
-        let from = match self.place_of(name) {
+        let from = match self.listed_place(name) {
             Some(from) => from,
             None => return Err(Fault::NoTag),
         };
         match above {
             None => names::shift_highest(&mut self.names, self.listed, from),
-            Some(other) => match self.place_of(other) {
+            Some(other) => match self.listed_place(other) {
                 Some(to) => names::shift_above(&mut self.names, self.listed, from, to),
                 None => return Err(Fault::NoTag),
             },
@@ -178,13 +178,13 @@ impl TagTable {
         ensures answer { result ≡ (if is_listed name.now self.old.names
             && is_place (option_copied below.entry) self.old.names then Ok tt else Err Fault.NoTag) }
     {
-        let from = match self.place_of(name) {
+        let from = match self.listed_place(name) {
             Some(from) => from,
             None => return Err(Fault::NoTag),
         };
         match below {
             None => names::shift(&mut self.names, self.listed, from, 0),
-            Some(other) => match self.place_of(other) {
+            Some(other) => match self.listed_place(other) {
                 Some(to) => names::shift_below(&mut self.names, self.listed, from, to),
                 None => return Err(Fault::NoTag),
             },
@@ -193,7 +193,7 @@ impl TagTable {
     }
 
     // Where a name stands among those that are listed.
-    fn place_of(&self, name: &str) -> Option<usize>
+    fn listed_place(&self, name: &str) -> Option<usize>
         ensures found { is_some result ≡ is_listed name.now self.now.names }
         ensures index { IfSome result (λ i. IsAt name.now self.now.names i) }
     {

@@ -44,7 +44,7 @@ pub(crate) struct Spot {
 }
 
 // How many counts are those of lesser tags.
-fn place_of(counts: &[TagCount], tag: TagId) -> usize
+fn tags_below(counts: &[TagCount], tag: TagId) -> usize
     requires { AreFrom 0 counts.now }
     ensures place { result ≡ prefix_len (is_tag_before tag) counts.now }
     ensures within { result ≤ length counts.now }
@@ -59,7 +59,7 @@ pub(crate) fn spot_of(counts: &[TagCount], tag: TagId) -> Spot
     ensures within { result.place ≤ length counts.now }
     ensures count { result.count ≡ count_in tag counts.now }
 {
-    let place = place_of(counts, tag);
+    let place = tags_below(counts, tag);
     let count = if place < counts.len() && counts[place].tag == tag {
         counts[place].count
     } else {

@@ -2,11 +2,11 @@
 // scripts (rt_tests_script).
 use crate::checks::same;
 use crate::store::Text;
-use rt_edits::removal::{ranges_shown, removed_ranges};
-use rt_edits::{Range, Selection};
+use rt_lines::Stretch;
+use rt_plans::removal::{ranges_shown, removed_ranges};
+use rt_plans::{Range, Selection};
 use rt_stamps::{Fault, Stamp};
 use rt_store::TextStore;
-use rt_views::Stretch;
 use std::alloc::Global;
 use std::process::Abort;
 use std::test::Fail;
@@ -51,7 +51,7 @@ fn ends_with_the_lines(rt: &impl Abort, alloc: Global) -> Result<(), Fault> {
 
 // A removal of no ranges takes nothing.
 #[test]
-#[tactic(auto, using(rt_edits::proofs::PlaceLaws::length_text))]
+#[tactic(auto, using(rt_plans::proofs::PlaceLaws::length_text))]
 fn no_ranges(rt: HostRuntime) -> Result<(), Fail> {
     let text = Text::of(rt.alloc(), &[(2, 'b', false), (1, 'a', false)])?;
     let end = text.store.visible();

@@ -8,7 +8,7 @@ ghost use Rattle.rt_revert.specs.Plans.{AreGiven, named_group};
 ghost use Rattle.rt_revert.specs.ReversionLaws.{AreSound};
 
 use crate::checks::same;
-use rt_edits::Author;
+use rt_plans::Author;
 use rt_revert::losses::planned_losses;
 use rt_revert::{Return, Reversal, planned_reversion};
 use rt_rga::Draft;

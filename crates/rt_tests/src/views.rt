@@ -2,9 +2,9 @@
 // tell it.
 use crate::checks::same;
 use crate::store::Text;
+use rt_lines::{Limits, Stretch};
 use rt_stamps::{Fault, Stamp};
 use rt_store::TextStore;
-use rt_views::{Limits, Stretch};
 use std::alloc::Global;
 use std::test::Fail;
 

@@ -3,9 +3,9 @@ ghost use Rattle.std.specs.Prelude.{◌≤◌};
 
 use crate::checks::same;
 use crate::sparing::{Sparing, new_sparing};
-use rt_editing::{Recorder, delete, insert, redo, replace, take, undo};
-use rt_edits::Piece;
 use rt_oplog::Op;
+use rt_plans::Piece;
+use rt_recording::{Recorder, delete, insert, redo, replace, take, undo};
 use rt_rga::Offer;
 use rt_stamps::limits::MOST_CELLS;
 use rt_stamps::{Fault, Site};
@@ -102,8 +102,8 @@ fn tagged(rt: &impl Abort, alloc: Global, view: &mut Text, line: &str) -> usize 
 }
 
 impl Model for EditedText {
-    ghost use Rattle.rt_editing.specs.Settled.{IsSettled};
-    ghost use Rattle.rt_editing.specs.EditedValue.{EditedValue, edited};
+    ghost use Rattle.rt_recording.specs.Settled.{IsSettled};
+    ghost use Rattle.rt_recording.specs.EditedValue.{EditedValue, edited};
 
     ghost Value = { EditedValue };
 

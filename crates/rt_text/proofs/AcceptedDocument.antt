@@ -38,14 +38,14 @@ use Rattle.rt_rga.proofs.Merging.{cells_with}
 use Rattle.rt_rga.proofs.Room.{new_within}
 use Rattle.rt_rga.proofs.Sel.{no_sel}
 use Rattle.rt_rga.proofs.Within.{continues_new}
-use Rattle.rt_edits.specs.DocValue.{DocValue}
-use Rattle.rt_edits.specs.Insertions.{all_listed}
-use Rattle.rt_edits.specs.Listed.{AreListed, IsShared}
-use Rattle.rt_edits.specs.Removals.{gone_at}
-use Rattle.rt_edits.proofs.InsertedText.{text_append}
-use Rattle.rt_edits.proofs.PlaceLaws.{text_within}
-use Rattle.rt_edits.proofs.StateChanges.{ChangesState, text_changed, visible_changed}
-use Rattle.rt_edits.proofs.WriterLaws.{all_map, written_on}
+use Rattle.rt_plans.specs.DocValue.{DocValue}
+use Rattle.rt_plans.specs.Insertions.{all_listed}
+use Rattle.rt_plans.specs.Listed.{AreListed, IsShared}
+use Rattle.rt_plans.specs.Removals.{gone_at}
+use Rattle.rt_plans.proofs.InsertedText.{text_append}
+use Rattle.rt_plans.proofs.PlaceLaws.{text_within}
+use Rattle.rt_plans.proofs.StateChanges.{ChangesState, text_changed, visible_changed}
+use Rattle.rt_plans.proofs.WriterLaws.{all_map, written_on}
 use Rattle.rt_text.specs.Accepted.{with_new}
 use Rattle.rt_text.specs.Kept.{IsDoc}
 use Rattle.rt_text.specs.Widgets.{AreSiteMarks}

@@ -10,8 +10,8 @@ use Rattle.rt_rga.specs.Taken.{IsChange, is_in_runs, place_in, takes_away}
 use Rattle.rt_rga.specs.declared.taken.Change.{Change}
 use Rattle.rt_stamps.specs.declared.limits.TheConstants.{MOST_CELLS}
 use Rattle.rt_store.specs.Cells.{text_of, visible_of}
-use Rattle.rt_edits.specs.DocValue.{DocValue}
-use Rattle.rt_edits.proofs.PlaceLaws.{length_text, text_within}
+use Rattle.rt_plans.specs.DocValue.{DocValue}
+use Rattle.rt_plans.proofs.PlaceLaws.{length_text, text_within}
 use Rattle.rt_text.specs.Accepted.{answer_of, own_with_new, with_new}
 use Rattle.rt_text.specs.Widgets.{IsOwnOf, WidgetValue, own_inserted, own_left}
 use Rattle.rt_text.proofs.AcceptedDocument.{accepted_length, accepted_room}

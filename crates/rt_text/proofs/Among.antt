@@ -15,7 +15,7 @@ use Rattle.rt_rga.proofs.Histories.{tree_of}
 use Rattle.rt_rga.proofs.Merging.{cells_are, map_map}
 use Rattle.rt_rga.proofs.Rooted.{IsAscending}
 use Rattle.rt_store.specs.Shown.{TaggedCell}
-use Rattle.rt_views.specs.Ordered.{StandAmong, letter_of, letters_of}
+use Rattle.rt_lines.specs.Ordered.{StandAmong, letter_of, letters_of}
 
 -- LISTS
 

@@ -18,15 +18,15 @@ use Rattle.rt_tags.specs.States.{IsByName, Write, is_on, names_on, written}
 use Rattle.rt_tags.specs.Tags.{is_listed, sel}
 use Rattle.rt_tags.proofs.Commuting.{on_is_listed}
 use Rattle.rt_tags.proofs.Places.{same_name}
-use Rattle.rt_edits.specs.DocValue.{DocValue}
-use Rattle.rt_edits.specs.InsertionDrafts.{behind, insertion_drafts, pieces_drafts, text_drafts}
-use Rattle.rt_edits.specs.Insertions.{Insertion, Piece, all_listed, are_among, counts_for, inserts_for, insertion_of, last_of, selected_if, shared_names, tagged_cells, tags_between, with_listed, with_pieces, with_unlisted}
-use Rattle.rt_edits.specs.TagWrites.{bared, tag_write, tagged, with_tag}
-use Rattle.rt_edits.proofs.PlanLaws.{among_with}
-use Rattle.rt_edits.proofs.Putting.{tagged_state}
-use Rattle.rt_edits.proofs.RestLaws.{pieces_others}
-use Rattle.rt_edits.proofs.TagEffects.{elsewhere, says, stamp_kept}
-use Rattle.rt_edits.proofs.WriterLaws.{operation_within, written_known, written_on}
+use Rattle.rt_plans.specs.DocValue.{DocValue}
+use Rattle.rt_plans.specs.InsertionDrafts.{behind, insertion_drafts, pieces_drafts, text_drafts}
+use Rattle.rt_plans.specs.Insertions.{Insertion, Piece, all_listed, are_among, counts_for, inserts_for, insertion_of, last_of, selected_if, shared_names, tagged_cells, tags_between, with_listed, with_pieces, with_unlisted}
+use Rattle.rt_plans.specs.TagWrites.{bared, tag_write, tagged, with_tag}
+use Rattle.rt_plans.proofs.PlanLaws.{among_with}
+use Rattle.rt_plans.proofs.Putting.{tagged_state}
+use Rattle.rt_plans.proofs.RestLaws.{pieces_others}
+use Rattle.rt_plans.proofs.TagEffects.{elsewhere, says, stamp_kept}
+use Rattle.rt_plans.proofs.WriterLaws.{operation_within, written_known, written_on}
 use Rattle.rt_text.proofs.NewCells.{AreNew, inserts_new}
 
 -- ONE TAG TAKEN OFF A CELL

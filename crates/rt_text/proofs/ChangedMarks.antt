@@ -5,7 +5,7 @@ use Rattle.std.proofs.lemmas.List.{drop_more}
 use Rattle.std.proofs.lemmas.List.Elements.{All-from_recursion, All-get_or}
 use Rattle.rt_marks.specs.Marks.{Mark, is_moved_on, mark_left, marks_inserted, place_left}
 use Rattle.rt_marks.proofs.InOrder.{each_in_order}
-use Rattle.rt_edits.specs.Removals.{is_covered}
+use Rattle.rt_plans.specs.Removals.{is_covered}
 use Rattle.rt_revert.specs.declared.plan.TextChange.{TextChange}
 use Rattle.rt_revert.specs.declared.plan.TextChange.TheVariants.{Inserted, Removed as Gone}
 use Rattle.rt_revert.specs.Plans.{IsChange, marks_after, marks_changed}

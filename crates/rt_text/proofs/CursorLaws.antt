@@ -6,11 +6,11 @@ use Rattle.rt_stamps.specs.declared.stamp.Stamp.{Stamp}
 use Rattle.rt_store.specs.declared.cell.Cell.{Cell}
 use Rattle.rt_store.specs.Cells.{map_state, visible_of}
 use Rattle.rt_store.proofs.Shown.{visible_at_shown}
-use Rattle.rt_views.specs.declared.limits.Limits.{Limits}
-use Rattle.rt_views.specs.declared.stretch.Stretch.{Stretch}
-use Rattle.rt_views.specs.Limits.{place_of}
-use Rattle.rt_views.specs.Stretches.{seen_place, stretch_of}
-use Rattle.rt_views.proofs.Shown.{place_shown}
+use Rattle.rt_lines.specs.declared.limits.Limits.{Limits}
+use Rattle.rt_lines.specs.declared.stretch.Stretch.{Stretch}
+use Rattle.rt_lines.specs.Limits.{place_of}
+use Rattle.rt_lines.specs.Stretches.{seen_place, stretch_of}
+use Rattle.rt_lines.proofs.Shown.{place_shown}
 use Rattle.rt_text.specs.Cursors.{place_of_stamp, stamp_at}
 
 -- from the end on there is none

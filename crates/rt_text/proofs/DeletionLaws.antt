@@ -14,13 +14,13 @@ use Rattle.rt_tags.specs.States.{Write, is_on, names_on, write_of, written, says
 use Rattle.rt_tags.specs.Tags.{is_listed, sel}
 use Rattle.rt_tags.proofs.Greatest.{newer, write_of_written}
 use Rattle.rt_tags.proofs.Places.{same_name}
-use Rattle.rt_edits.specs.Deletions.{Loss, newline_of, without_places, without_text}
-use Rattle.rt_edits.specs.DocValue.{DocValue}
-use Rattle.rt_edits.specs.Listed.{AreListed, IsShared}
-use Rattle.rt_edits.specs.Removals.{gone_at}
-use Rattle.rt_edits.specs.TagWrites.{bared, tagged, tag_write, with_tag}
-use Rattle.rt_edits.proofs.NewlineDrafts.{loss_has, newline_at}
-use Rattle.rt_edits.proofs.ListedWrites.{shared_names_on, shared_tagged}
+use Rattle.rt_plans.specs.Deletions.{Loss, newline_of, without_places, without_text}
+use Rattle.rt_plans.specs.DocValue.{DocValue}
+use Rattle.rt_plans.specs.Listed.{AreListed, IsShared}
+use Rattle.rt_plans.specs.Removals.{gone_at}
+use Rattle.rt_plans.specs.TagWrites.{bared, tagged, tag_write, with_tag}
+use Rattle.rt_plans.proofs.NewlineDrafts.{loss_has, newline_at}
+use Rattle.rt_plans.proofs.ListedWrites.{shared_names_on, shared_tagged}
 
 -- TAGS THAT ARE ON
 

@@ -7,8 +7,8 @@ use Rattle.rt_index.specs.declared.measure.Measure.TheVariants.{Chars, Indices, 
 use Rattle.rt_stamps.specs.Places.{line_of}
 use Rattle.rt_text.specs.Distances.{distance_of}
 use Rattle.rt_text.specs.Lines.{AreLines}
-use Rattle.rt_views.specs.declared.stretch.Stretch.{Stretch}
-use Rattle.rt_views.specs.Stretches.{part}
+use Rattle.rt_lines.specs.declared.stretch.Stretch.{Stretch}
+use Rattle.rt_lines.specs.Stretches.{part}
 use Rattle.rt_text.proofs.PartLines.{before, line_in_part}
 
 -- numbers that are both greater by one are as far apart

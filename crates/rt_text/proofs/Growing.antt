@@ -9,11 +9,11 @@ use Rattle.rt_oplog.proofs.Sets.{with_has}
 use Rattle.rt_ops.specs.Operations.{Body, Operation}
 use Rattle.rt_rga.specs.Drafts.{operations_of, with_drafts, with_operations}
 use Rattle.rt_rga.specs.Orders.{AreIn}
-use Rattle.rt_edits.specs.declared.range.Range.{Range}
-use Rattle.rt_edits.specs.Deletions.{delete_drafts, loss_in}
-use Rattle.rt_edits.specs.DocValue.{DocValue, left_of, logged}
-use Rattle.rt_edits.specs.InsertionDrafts.{insertion_drafts}
-use Rattle.rt_edits.specs.Insertions.{Piece, insertion_of, left_neighbour}
+use Rattle.rt_plans.specs.declared.range.Range.{Range}
+use Rattle.rt_plans.specs.Deletions.{delete_drafts, loss_in}
+use Rattle.rt_plans.specs.DocValue.{DocValue, left_of, logged}
+use Rattle.rt_plans.specs.InsertionDrafts.{insertion_drafts}
+use Rattle.rt_plans.specs.Insertions.{Piece, insertion_of, left_neighbour}
 use Rattle.rt_text.specs.Accepted.{own_with_new, view_with_new}
 use Rattle.rt_text.specs.Commands.{last_unselected, none_inserted, right_behind, with_pieces_at, with_range_replaced, without_ranges}
 use Rattle.rt_text.specs.Widgets.{WidgetValue, ViewValue, begin_of, in_text, length_shown, limits_of, own_inserted, own_left, reselected, shown_by, text_shown, with_selections}

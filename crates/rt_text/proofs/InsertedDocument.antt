@@ -22,18 +22,18 @@ use Rattle.rt_rga.specs.Requests.{MayBeMade}
 use Rattle.rt_rga.proofs.Corollaries.{all_states}
 use Rattle.rt_rga.proofs.Requests.{all_count_on}
 use Rattle.rt_rga.proofs.Writes.{state_sorted}
-use Rattle.rt_edits.specs.DeletionLaws.{IsPiece}
-use Rattle.rt_edits.specs.declared.inserting.Plan.{Plan}
-use Rattle.rt_edits.specs.DraftLaws.{IsDocument, IsInsertion, IsText}
-use Rattle.rt_edits.specs.DocValue.{DocValue, left_of, logged, put_after}
-use Rattle.rt_edits.specs.InsertionDrafts.{insertion_drafts}
-use Rattle.rt_edits.specs.InsertionPlans.{Plans}
-use Rattle.rt_edits.specs.Insertions.{Insertion, Piece, insertion_of, last_of, left_neighbour, tags_between, with_pieces}
-use Rattle.rt_edits.specs.Listed.{AreListed}
-use Rattle.rt_edits.proofs.CharacterCounts.{insertion_length}
-use Rattle.rt_edits.proofs.ListedLaws.{listed_more}
-use Rattle.rt_edits.proofs.PieceDraftLaws.{insertion_counted, insertion_made, insertion_may}
-use Rattle.rt_edits.proofs.PremiseLaws.{may_begin, pieces_are}
+use Rattle.rt_plans.specs.DeletionLaws.{IsPiece}
+use Rattle.rt_plans.specs.declared.inserting.Plan.{Plan}
+use Rattle.rt_plans.specs.DraftLaws.{IsDocument, IsInsertion, IsText}
+use Rattle.rt_plans.specs.DocValue.{DocValue, left_of, logged, put_after}
+use Rattle.rt_plans.specs.InsertionDrafts.{insertion_drafts}
+use Rattle.rt_plans.specs.InsertionPlans.{Plans}
+use Rattle.rt_plans.specs.Insertions.{Insertion, Piece, insertion_of, last_of, left_neighbour, tags_between, with_pieces}
+use Rattle.rt_plans.specs.Listed.{AreListed}
+use Rattle.rt_plans.proofs.CharacterCounts.{insertion_length}
+use Rattle.rt_plans.proofs.ListedLaws.{listed_more}
+use Rattle.rt_plans.proofs.PieceDraftLaws.{insertion_counted, insertion_made, insertion_may}
+use Rattle.rt_plans.proofs.PremiseLaws.{may_begin, pieces_are}
 use Rattle.rt_text.specs.Commands.{cell_check, clock_check, names_in, none_inserted, right_behind, with_pieces_at}
 use Rattle.rt_text.specs.Kept.{IsDoc}
 use Rattle.rt_text.specs.Replacements.{drafts_at, insertion_at}

@@ -23,19 +23,19 @@ use Rattle.rt_tags.specs.States.{TagStates, state_at}
 use Rattle.rt_rga.specs.Histories.{IsHistory}
 use Rattle.rt_rga.proofs.Corollaries.{cells_distinct, cells_older, root_absent}
 use Rattle.rt_rga.proofs.Final.{ends_final}
-use Rattle.rt_edits.specs.DraftLaws.{IsDocument}
-use Rattle.rt_edits.specs.DocValue.{DocValue, left_of, put_after}
-use Rattle.rt_edits.specs.InsertionDrafts.{behind, insertion_drafts, pieces_drafts, text_drafts}
-use Rattle.rt_edits.specs.Insertions.{Insertion, Piece, insertion_of, last_of, left_neighbour, right_neighbour, tags_between, with_pieces, with_unlisted}
-use Rattle.rt_edits.specs.Removals.{is_covered}
-use Rattle.rt_edits.proofs.RestLaws.{element_shown, left_shown}
-use Rattle.rt_views.specs.declared.limits.Limits.{Limits}
-use Rattle.rt_views.specs.declared.stretch.Stretch.{Stretch}
-use Rattle.rt_views.specs.Limits.{place_of}
-use Rattle.rt_views.specs.Stretches.{shown_part, stretch_of}
-use Rattle.rt_views.proofs.Parts.{part_get}
-use Rattle.rt_views.proofs.Shown.{place_shown}
-use Rattle.rt_views.proofs.Whole.{stretch_within}
+use Rattle.rt_plans.specs.DraftLaws.{IsDocument}
+use Rattle.rt_plans.specs.DocValue.{DocValue, left_of, put_after}
+use Rattle.rt_plans.specs.InsertionDrafts.{behind, insertion_drafts, pieces_drafts, text_drafts}
+use Rattle.rt_plans.specs.Insertions.{Insertion, Piece, insertion_of, last_of, left_neighbour, right_neighbour, tags_between, with_pieces, with_unlisted}
+use Rattle.rt_plans.specs.Removals.{is_covered}
+use Rattle.rt_plans.proofs.RestLaws.{element_shown, left_shown}
+use Rattle.rt_lines.specs.declared.limits.Limits.{Limits}
+use Rattle.rt_lines.specs.declared.stretch.Stretch.{Stretch}
+use Rattle.rt_lines.specs.Limits.{place_of}
+use Rattle.rt_lines.specs.Stretches.{shown_part, stretch_of}
+use Rattle.rt_lines.proofs.Parts.{part_get}
+use Rattle.rt_lines.proofs.Shown.{place_shown}
+use Rattle.rt_lines.proofs.Whole.{stretch_within}
 use Rattle.rt_text.specs.Commands.{none_inserted, right_behind}
 use Rattle.rt_text.specs.Neighbours.{are_sides_shown, is_ahead, is_behind, limit_left, pieces_text}
 use Rattle.rt_text.specs.Widgets.{WidgetValue, ViewValue, in_text, length_shown, shown_by}

@@ -10,12 +10,12 @@ use Rattle.rt_store.specs.declared.cell.Cell.{Cell}
 use Rattle.rt_store.specs.Cells.{visible_of}
 use Rattle.rt_tags.specs.States.{TagStates, state_at}
 use Rattle.rt_tags.specs.Tags.{IsName, with_name, sel}
-use Rattle.rt_edits.specs.TagWrites.{listed_if, with_tag_at}
+use Rattle.rt_plans.specs.TagWrites.{listed_if, with_tag_at}
 use Rattle.rt_text.specs.Commands.{clock_check}
-use Rattle.rt_edits.specs.DocValue.{DocValue}
+use Rattle.rt_plans.specs.DocValue.{DocValue}
 use Rattle.rt_store.specs.Shown.{TaggedCell, shown}
-use Rattle.rt_edits.specs.Listed.{AreListed}
-use Rattle.rt_edits.proofs.ListedWrites.{written_listed}
+use Rattle.rt_plans.specs.Listed.{AreListed}
+use Rattle.rt_plans.proofs.ListedWrites.{written_listed}
 use Rattle.rt_store.proofs.Shown.{visible_shown, length_shown}
 
 -- WRITTEN TAGS

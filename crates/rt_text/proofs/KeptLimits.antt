@@ -26,10 +26,10 @@ use Rattle.rt_rga.specs.Histories.{IsHistory, greatest_last_count}
 use Rattle.rt_rga.proofs.Appending.{drafts_append}
 use Rattle.rt_rga.proofs.Corollaries.{cells_distinct, cells_older, root_absent}
 use Rattle.rt_rga.proofs.Final.{ends_final}
-use Rattle.rt_edits.specs.DraftLaws.{IsDocument}
-use Rattle.rt_edits.specs.DocValue.{DocValue, put_after}
-use Rattle.rt_edits.specs.Insertions.{new_state}
-use Rattle.rt_edits.specs.RemovalDrafts.{removal_drafts}
+use Rattle.rt_plans.specs.DraftLaws.{IsDocument}
+use Rattle.rt_plans.specs.DocValue.{DocValue, put_after}
+use Rattle.rt_plans.specs.Insertions.{new_state}
+use Rattle.rt_plans.specs.RemovalDrafts.{removal_drafts}
 use Rattle.rt_undo.specs.Actions.{Action, Removed}
 use Rattle.rt_revert.specs.declared.plan.Return.{Return}
 use Rattle.rt_revert.specs.Reverting.{Reversion, are_at, as_it_is, gone_cell_of, next_in, reversion, reverted, stamp_after, with_character, with_each_reverted, with_gone, with_return, with_returns, with_reverted}
@@ -42,13 +42,13 @@ use Rattle.rt_text.specs.Changes.{limits_after}
 use Rattle.rt_text.specs.Commands.{cell_check}
 use Rattle.rt_text.specs.Reversions.{own_reverted, reversion_check, view_reverted}
 use Rattle.rt_text.specs.Widgets.{AreWidgetsOf, WidgetValue, ViewValue, limits_of, own_set, own_with_gravity}
-use Rattle.rt_views.specs.declared.choice.Choice.{Choice}
-use Rattle.rt_views.specs.declared.limits.Limits.{Limits}
-use Rattle.rt_views.specs.Choices.{limits_chosen}
-use Rattle.rt_views.specs.Limits.{limits_renamed}
-use Rattle.rt_views.specs.Ordered.{AreInOrder}
-use Rattle.rt_views.proofs.ChosenOrder.{order_chosen}
-use Rattle.rt_views.proofs.InOrder.{order_grown, order_renamed, position_is}
+use Rattle.rt_lines.specs.declared.choice.Choice.{Choice}
+use Rattle.rt_lines.specs.declared.limits.Limits.{Limits}
+use Rattle.rt_lines.specs.Choices.{limits_chosen}
+use Rattle.rt_lines.specs.Limits.{limits_renamed}
+use Rattle.rt_lines.specs.Ordered.{AreInOrder}
+use Rattle.rt_lines.proofs.ChosenOrder.{order_chosen}
+use Rattle.rt_lines.proofs.InOrder.{order_grown, order_renamed, position_is}
 use Rattle.rt_text.proofs.Among.{cells_among}
 use Rattle.rt_text.proofs.Growing.{Grows, GrowsTo, grows_drafts}
 use Rattle.rt_text.proofs.MarkLaws.{own_of_selecting}

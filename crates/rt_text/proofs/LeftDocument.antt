@@ -13,21 +13,21 @@ use Rattle.rt_store.specs.Cells.{EndsFinal, map_state, text_of, visible_of}
 use Rattle.rt_store.specs.Shown.{TaggedCell}
 use Rattle.rt_tags.specs.States.{names_on}
 use Rattle.rt_rga.specs.Histories.{IsHistory}
-use Rattle.rt_edits.specs.declared.range.Range.{Range}
-use Rattle.rt_edits.specs.Deletions.{Loss, without_places, without_text}
-use Rattle.rt_edits.specs.DraftLaws.{IsDocument}
-use Rattle.rt_edits.specs.DocValue.{DocValue}
-use Rattle.rt_edits.specs.Removals.{gone_at, is_removed}
-use Rattle.rt_edits.specs.TagWrites.{bared, tagged, with_tag}
-use Rattle.rt_edits.proofs.DeletionDraftLaws.{loss_history, loss_made}
-use Rattle.rt_edits.proofs.NewlineDrafts.{loss_has}
-use Rattle.rt_edits.proofs.Putting.{tagged_state}
-use Rattle.rt_edits.proofs.StateChanges.{ChangesState}
-use Rattle.rt_views.specs.declared.limits.Limits.{Limits}
-use Rattle.rt_views.specs.declared.stretch.Stretch.{Stretch}
-use Rattle.rt_views.specs.Stretches.{part, stretch_of}
-use Rattle.rt_views.proofs.Shown.{stretch_shown}
-use Rattle.rt_views.proofs.Whole.{stretch_some, stretch_within}
+use Rattle.rt_plans.specs.declared.range.Range.{Range}
+use Rattle.rt_plans.specs.Deletions.{Loss, without_places, without_text}
+use Rattle.rt_plans.specs.DraftLaws.{IsDocument}
+use Rattle.rt_plans.specs.DocValue.{DocValue}
+use Rattle.rt_plans.specs.Removals.{gone_at, is_removed}
+use Rattle.rt_plans.specs.TagWrites.{bared, tagged, with_tag}
+use Rattle.rt_plans.proofs.DeletionDraftLaws.{loss_history, loss_made}
+use Rattle.rt_plans.proofs.NewlineDrafts.{loss_has}
+use Rattle.rt_plans.proofs.Putting.{tagged_state}
+use Rattle.rt_plans.proofs.StateChanges.{ChangesState}
+use Rattle.rt_lines.specs.declared.limits.Limits.{Limits}
+use Rattle.rt_lines.specs.declared.stretch.Stretch.{Stretch}
+use Rattle.rt_lines.specs.Stretches.{part, stretch_of}
+use Rattle.rt_lines.proofs.Shown.{stretch_shown}
+use Rattle.rt_lines.proofs.Whole.{stretch_some, stretch_within}
 use Rattle.rt_text.specs.Replacements.{left_by}
 use Rattle.rt_text.specs.Widgets.{WidgetValue, ViewValue, in_text, length_shown, stretch_by}
 use Rattle.rt_text.proofs.InsertedSides.{IsPlace, document_final}

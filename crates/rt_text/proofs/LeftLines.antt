@@ -6,8 +6,8 @@ use Rattle.std.specs.Prelude.{IfSome, option_map, slice_get}
 use Rattle.rt_marks.specs.Marks.{place_left}
 use Rattle.rt_marks.proofs.Leaving.{place_rising}
 use Rattle.rt_stamps.specs.Places.{EndsWithNewline, after_newlines, is_newline, line_end, line_of, line_start, newlines}
-use Rattle.rt_edits.specs.Removals.{left_at}
-use Rattle.rt_views.proofs.Lines.{after_all, after_rises, after_some, after_within, end_is, ends_with, starts_below}
+use Rattle.rt_plans.specs.Removals.{left_at}
+use Rattle.rt_lines.proofs.Lines.{after_all, after_rises, after_some, after_within, end_is, ends_with, starts_below}
 use Rattle.rt_text.proofs.LineCounts.{behind_few, counts_more, counts_rise, few_behind, next_count}
 use Rattle.rt_text.proofs.NeighbourLines.{first_at, last_at, start_at}
 

@@ -9,13 +9,13 @@ use Rattle.rt_stamps.specs.Stamps.{is_same}
 use Rattle.rt_store.specs.declared.cell.Cell.{Cell}
 use Rattle.rt_store.specs.Cells.{EndsFinal, cell_of, text_of, visible_of}
 use Rattle.rt_store.specs.Shown.{TaggedCell}
-use Rattle.rt_edits.specs.Removals.{gone_at}
-use Rattle.rt_edits.proofs.RemovedText.{text_left}
-use Rattle.rt_views.specs.declared.limits.Limits.{Limits}
-use Rattle.rt_views.specs.Limits.{first_line, is_gone, last_line, place_of}
-use Rattle.rt_views.specs.Ordered.{IsNewline}
-use Rattle.rt_views.specs.Stretches.{stretch_of}
-use Rattle.rt_views.proofs.Places.{ends_text, first_line_within, last_line_within}
+use Rattle.rt_plans.specs.Removals.{gone_at}
+use Rattle.rt_plans.proofs.RemovedText.{text_left}
+use Rattle.rt_lines.specs.declared.limits.Limits.{Limits}
+use Rattle.rt_lines.specs.Limits.{first_line, is_gone, last_line, place_of}
+use Rattle.rt_lines.specs.Ordered.{IsNewline}
+use Rattle.rt_lines.specs.Stretches.{stretch_of}
+use Rattle.rt_lines.proofs.Places.{ends_text, first_line_within, last_line_within}
 use Rattle.rt_text.proofs.LeftLines.{AreInside, begin_left, end_left, first_left, kept_from, kept_whole, last_left}
 use Rattle.rt_text.proofs.MarkLaws.{length_gone}
 use Rattle.rt_text.proofs.NeighbourLines.{last_at, start_at}

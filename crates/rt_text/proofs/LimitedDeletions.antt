@@ -22,23 +22,23 @@ use Rattle.rt_rga.specs.Made.{refusal_of}
 use Rattle.rt_rga.specs.Requests.{MayBeMade}
 use Rattle.rt_rga.proofs.Final.{ends_final}
 use Rattle.rt_rga.proofs.Requests.{all_count_on}
-use Rattle.rt_edits.specs.declared.range.Range.{Range}
-use Rattle.rt_edits.specs.Deletions.{Loss, delete_drafts, loss_in, without_places, without_text}
-use Rattle.rt_edits.specs.DraftLaws.{IsDocument, SparesLast}
-use Rattle.rt_edits.specs.DocValue.{DocValue, logged}
-use Rattle.rt_edits.specs.Selections.{unselected}
-use Rattle.rt_edits.specs.TagWrites.{bared, tagged, with_tag}
-use Rattle.rt_edits.proofs.CharacterCounts.{loss_inserts_none}
-use Rattle.rt_edits.proofs.DeletionDraftLaws.{loss_counted, loss_made, loss_may, spares_last}
-use Rattle.rt_edits.proofs.NewlineDrafts.{loss_has}
-use Rattle.rt_edits.proofs.Putting.{tagged_state}
-use Rattle.rt_edits.proofs.StateChanges.{text_changed}
-use Rattle.rt_views.specs.declared.limits.Limits.{Limits}
-use Rattle.rt_views.specs.declared.stretch.Stretch.{Stretch}
-use Rattle.rt_views.specs.Stretches.{part, stretch_of}
-use Rattle.rt_views.proofs.Parts.{part_length, part_map}
-use Rattle.rt_views.proofs.Shown.{stretch_shown}
-use Rattle.rt_views.proofs.Whole.{stretch_some, stretch_within}
+use Rattle.rt_plans.specs.declared.range.Range.{Range}
+use Rattle.rt_plans.specs.Deletions.{Loss, delete_drafts, loss_in, without_places, without_text}
+use Rattle.rt_plans.specs.DraftLaws.{IsDocument, SparesLast}
+use Rattle.rt_plans.specs.DocValue.{DocValue, logged}
+use Rattle.rt_plans.specs.Selections.{unselected}
+use Rattle.rt_plans.specs.TagWrites.{bared, tagged, with_tag}
+use Rattle.rt_plans.proofs.CharacterCounts.{loss_inserts_none}
+use Rattle.rt_plans.proofs.DeletionDraftLaws.{loss_counted, loss_made, loss_may, spares_last}
+use Rattle.rt_plans.proofs.NewlineDrafts.{loss_has}
+use Rattle.rt_plans.proofs.Putting.{tagged_state}
+use Rattle.rt_plans.proofs.StateChanges.{text_changed}
+use Rattle.rt_lines.specs.declared.limits.Limits.{Limits}
+use Rattle.rt_lines.specs.declared.stretch.Stretch.{Stretch}
+use Rattle.rt_lines.specs.Stretches.{part, stretch_of}
+use Rattle.rt_lines.proofs.Parts.{part_length, part_map}
+use Rattle.rt_lines.proofs.Shown.{stretch_shown}
+use Rattle.rt_lines.proofs.Whole.{stretch_some, stretch_within}
 use Rattle.rt_text.specs.Widgets.{WidgetValue, AreSiteMarks, IsOwnOf, last_newline, own_left, reselected}
 use Rattle.rt_text.specs.Commands.{clock_check, without_ranges}
 use Rattle.rt_text.proofs.MadeDocument.{seen, seen_made, counts_alone, clock_fits}

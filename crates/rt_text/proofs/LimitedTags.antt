@@ -14,18 +14,18 @@ use Rattle.rt_store.specs.Tagged.{last_place, next_place, previous_place}
 use Rattle.rt_store.proofs.Shown.{last_map, next_map, visible_shown}
 use Rattle.rt_tags.specs.States.{TagStates, state_at}
 use Rattle.rt_tags.specs.Tags.{sel}
-use Rattle.rt_edits.specs.declared.range.Range.{Range}
-use Rattle.rt_edits.specs.Deletions.{places_from}
-use Rattle.rt_edits.specs.DocValue.{logged}
-use Rattle.rt_edits.specs.Removals.{is_covered, stamps_at}
-use Rattle.rt_edits.specs.Selections.{selection_with}
-use Rattle.rt_edits.specs.TagDrafts.{tag_drafts_at}
-use Rattle.rt_edits.specs.TagWrites.{listed_if, with_tag_at}
-use Rattle.rt_edits.proofs.Shown.{stamps_at_shown}
-use Rattle.rt_views.specs.declared.limits.Limits.{Limits}
-use Rattle.rt_views.specs.declared.stretch.Stretch.{Stretch}
-use Rattle.rt_views.specs.Stretches.{part, shown_part, stretch_of}
-use Rattle.rt_views.proofs.Parts.{part_get, part_length, part_map}
+use Rattle.rt_plans.specs.declared.range.Range.{Range}
+use Rattle.rt_plans.specs.Deletions.{places_from}
+use Rattle.rt_plans.specs.DocValue.{logged}
+use Rattle.rt_plans.specs.Removals.{is_covered, stamps_at}
+use Rattle.rt_plans.specs.Selections.{selection_with}
+use Rattle.rt_plans.specs.TagDrafts.{tag_drafts_at}
+use Rattle.rt_plans.specs.TagWrites.{listed_if, with_tag_at}
+use Rattle.rt_plans.proofs.Shown.{stamps_at_shown}
+use Rattle.rt_lines.specs.declared.limits.Limits.{Limits}
+use Rattle.rt_lines.specs.declared.stretch.Stretch.{Stretch}
+use Rattle.rt_lines.specs.Stretches.{part, shown_part, stretch_of}
+use Rattle.rt_lines.proofs.Parts.{part_get, part_length, part_map}
 use Rattle.rt_text.specs.Commands.{with_tag_in}
 use Rattle.rt_text.specs.Widgets.{WidgetValue, ViewValue, length_shown, places_in_text, stretch_by}
 use Rattle.rt_text.proofs.LimitedDeletions.{stretch_kept}

@@ -19,11 +19,11 @@ use Rattle.rt_tags.specs.Writers.{listed_by, state_after}
 use Rattle.rt_tags.proofs.Commuting.{on_is_listed}
 use Rattle.rt_tags.proofs.Places.{name_itself, same_name, split}
 use Rattle.rt_tags.proofs.Sorted.{written_sorted}
-use Rattle.rt_edits.specs.DocValue.{put_after}
+use Rattle.rt_plans.specs.DocValue.{put_after}
 use Rattle.rt_store.specs.Shown.{TaggedCell}
-use Rattle.rt_edits.specs.Insertions.{Insertion, Piece, all_listed, cells_of_inserts, further_tags, inserts_for, insertion_of, last_of, left_neighbour, new_state, put_on, shared_names, tagged_cells, tags_between, with_listed, with_pieces, with_unlisted}
+use Rattle.rt_plans.specs.Insertions.{Insertion, Piece, all_listed, cells_of_inserts, further_tags, inserts_for, insertion_of, last_of, left_neighbour, new_state, put_on, shared_names, tagged_cells, tags_between, with_listed, with_pieces, with_unlisted}
 use Rattle.rt_text.specs.Commands.{names_in}
-use Rattle.rt_edits.specs.Listed.{AreListed, IsShared, listed_name}
+use Rattle.rt_plans.specs.Listed.{AreListed, IsShared, listed_name}
 
 -- NAMES IN STATES
 

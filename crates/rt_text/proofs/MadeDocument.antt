@@ -17,8 +17,8 @@ use Rattle.rt_rga.specs.Made.{refusal_of}
 use Rattle.rt_rga.specs.Requests.{characters_in_all, last_count_after}
 use Rattle.rt_rga.proofs.Corollaries.{cells_written}
 use Rattle.rt_store.specs.Written.{AreWritten}
-use Rattle.rt_edits.specs.DraftLaws.{IsDocument}
-use Rattle.rt_edits.specs.DocValue.{DocValue, logged}
+use Rattle.rt_plans.specs.DraftLaws.{IsDocument}
+use Rattle.rt_plans.specs.DocValue.{DocValue, logged}
 use Rattle.rt_text.specs.Commands.{clock_check, cell_check}
 
 -- what is seen of a replica, with marks and tags

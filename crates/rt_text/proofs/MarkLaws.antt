@@ -15,11 +15,11 @@ use Rattle.rt_stamps.specs.declared.limits.TheConstants.{MOST_NAME_BYTES}
 use Rattle.rt_stamps.specs.declared.stamp.Stamp.{Stamp}
 use Rattle.rt_store.specs.declared.cell.Cell.{Cell}
 use Rattle.rt_store.specs.Cells.{text_of, after_element}
-use Rattle.rt_edits.specs.DocValue.{put_after}
-use Rattle.rt_edits.specs.Removals.{gone_at, left_at}
+use Rattle.rt_plans.specs.DocValue.{put_after}
+use Rattle.rt_plans.specs.Removals.{gone_at, left_at}
 use Rattle.rt_text.specs.Widgets.{WidgetValue, IsOwnOf, IsSiteMark, AreSiteMarks, is_own, own_inserted, own_left}
-use Rattle.rt_edits.proofs.InsertedText.{text_append}
-use Rattle.rt_edits.proofs.RemovedText.{text_left}
+use Rattle.rt_plans.proofs.InsertedText.{text_append}
+use Rattle.rt_plans.proofs.RemovedText.{text_left}
 
 -- A MARK THAT IS FOUND
 

@@ -3,10 +3,10 @@ use Rattle.std.proofs.Common.{◌≡◌, ℕ, zero, suc, ◌+◌, ◌-◌, ◌<�
 use Rattle.std.proofs.lemmas.List.{drop_more}
 use Rattle.rt_marks.specs.Marks.{Mark, marks_removed, marks_left, place_removed, place_left, is_within_or}
 use Rattle.rt_marks.proofs.Leaving.{marks_then, place_then}
-use Rattle.rt_edits.specs.declared.range.Range.{Range}
-use Rattle.rt_edits.specs.Removals.{is_covered, AreInOrder}
+use Rattle.rt_plans.specs.declared.range.Range.{Range}
+use Rattle.rt_plans.specs.Removals.{is_covered, AreInOrder}
 use Rattle.rt_text.specs.Widgets.{WidgetValue, own_removed, own_left}
-use Rattle.rt_edits.proofs.StampLaws.{before_all, order_weaker}
+use Rattle.rt_plans.proofs.StampLaws.{before_all, order_weaker}
 
 order_drop : (place : ℕ) (ranges : List Range) (i : ℕ) → AreInOrder place ranges → AreInOrder 0 (drop i ranges)
 order_drop place ranges zero h = order_weaker place 0 ranges (omega arith) h

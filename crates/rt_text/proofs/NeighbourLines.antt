@@ -5,7 +5,7 @@ use Rattle.std.proofs.lemmas.Bool.Decides.{nat_tests}
 use Rattle.std.proofs.lemmas.List.{take_all}
 use Rattle.std.specs.Prelude.{IfSome, nat_le, nat_lt, option_map, slice_get, unwrap_or}
 use Rattle.rt_stamps.specs.Places.{EndsWithNewline, after_newlines, line_end, line_of, line_start, newlines}
-use Rattle.rt_views.proofs.Lines.{end_is, line_within, lines_some}
+use Rattle.rt_lines.proofs.Lines.{end_is, line_within, lines_some}
 use Rattle.rt_text.specs.Neighbours.{are_sides_shown, ends_with_newline, is_ahead, is_behind}
 use Rattle.rt_text.proofs.LineCounts.{behind_few, counts_more, counts_rise, few_behind, last_counted, some_counted, put_among, put_before, put_behind, put_in, put_length}
 

@@ -14,8 +14,8 @@ use Rattle.rt_store.specs.Spans.{is_among}
 use Rattle.rt_store.specs.Written.{AreBelowNext}
 use Rattle.rt_store.proofs.Distinct.{differs, new_apart}
 use Rattle.rt_tags.specs.States.{Write}
-use Rattle.rt_edits.specs.Insertions.{Insertion, Piece, cells_of_inserts, further_tags, inserts_for, new_state, shared_names, tagged_cells, with_listed, with_pieces}
-use Rattle.rt_edits.proofs.InsertedText.{text_append, text_tagged}
+use Rattle.rt_plans.specs.Insertions.{Insertion, Piece, cells_of_inserts, further_tags, inserts_for, new_state, shared_names, tagged_cells, with_listed, with_pieces}
+use Rattle.rt_plans.proofs.InsertedText.{text_append, text_tagged}
 use Rattle.rt_text.specs.Neighbours.{pieces_text}
 
 -- a cell is visible, and its stamp is of a site and has a count behind another

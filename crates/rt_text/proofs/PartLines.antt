@@ -9,13 +9,13 @@ use Rattle.rt_store.specs.declared.cell.Cell.{Cell}
 use Rattle.rt_store.specs.Cells.{EndsFinal, text_of}
 use Rattle.rt_store.proofs.Distinct.{split}
 use Rattle.rt_text.specs.Lines.{AreLines}
-use Rattle.rt_views.specs.declared.stretch.Stretch.{Stretch}
-use Rattle.rt_views.specs.declared.limits.Limits.{Limits}
-use Rattle.rt_views.specs.Limits.{first_line, last_line}
-use Rattle.rt_views.specs.Stretches.{part, stretch_of}
-use Rattle.rt_views.proofs.Lines.{after_within, end_is, ends_with, starts_below}
-use Rattle.rt_views.proofs.Parts.{part_length}
-use Rattle.rt_views.proofs.Places.{first_line_within, last_line_within}
+use Rattle.rt_lines.specs.declared.stretch.Stretch.{Stretch}
+use Rattle.rt_lines.specs.declared.limits.Limits.{Limits}
+use Rattle.rt_lines.specs.Limits.{first_line, last_line}
+use Rattle.rt_lines.specs.Stretches.{part, stretch_of}
+use Rattle.rt_lines.proofs.Lines.{after_within, end_is, ends_with, starts_below}
+use Rattle.rt_lines.proofs.Parts.{part_length}
+use Rattle.rt_lines.proofs.Places.{first_line_within, last_line_within}
 
 -- NEWLINES
 

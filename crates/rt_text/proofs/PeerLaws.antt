@@ -3,9 +3,9 @@ use Rattle.std.proofs.Common.{◌≡◌, ℕ, ◌+◌, ◌<◌, ◌≤◌, Bool,
 use Rattle.std.specs.List.{AllByRecursion}
 use Rattle.std.proofs.lemmas.List.Elements.{All-cons, All-nil}
 use Rattle.rt_stamps.specs.declared.stamp.Stamp.{Stamp}
-use Rattle.rt_edits.specs.declared.inserting.Between.{Between}
-use Rattle.rt_edits.specs.InsertionPlans.{selected_between}
-use Rattle.rt_edits.proofs.SelectionLaws.{same_here}
+use Rattle.rt_plans.specs.declared.inserting.Between.{Between}
+use Rattle.rt_plans.specs.InsertionPlans.{selected_between}
+use Rattle.rt_plans.proofs.SelectionLaws.{same_here}
 use Rattle.rt_text.specs.declared.parts.Parts.{Parts}
 use Rattle.rt_text.specs.Parts.{own_in}
 use Rattle.rt_text.specs.Widgets.{IsOwnOf, WidgetValue, own_inserted, own_left, reselected, selections_of, with_selections}

@@ -17,22 +17,22 @@ use Rattle.rt_store.specs.Shown.{TaggedCell, shown}
 use Rattle.rt_store.proofs.Distinct.{split}
 use Rattle.rt_tags.specs.States.{TagStates, state_at}
 use Rattle.rt_rga.specs.Histories.{IsHistory}
-use Rattle.rt_edits.specs.declared.inserting.Plan.{Plan}
-use Rattle.rt_edits.specs.declared.range.Range.{Range}
-use Rattle.rt_edits.specs.Deletions.{Loss, delete_drafts, loss_in, without_text}
-use Rattle.rt_edits.specs.DraftLaws.{IsDocument}
-use Rattle.rt_edits.specs.DocValue.{DocValue}
-use Rattle.rt_edits.specs.InsertionDrafts.{insertion_drafts}
-use Rattle.rt_edits.specs.InsertionPlans.{Plans}
-use Rattle.rt_edits.specs.Insertions.{Insertion, Piece, insertion_of, left_neighbour, right_neighbour}
-use Rattle.rt_edits.specs.Removals.{gone_at, is_covered}
-use Rattle.rt_edits.proofs.PieceDraftLaws.{insertion_grows}
-use Rattle.rt_edits.proofs.PlaceLaws.{length_text, text_within}
-use Rattle.rt_edits.proofs.RestLaws.{left_shown}
-use Rattle.rt_views.specs.declared.limits.Limits.{Limits}
-use Rattle.rt_views.specs.declared.stretch.Stretch.{Stretch}
-use Rattle.rt_views.specs.Limits.{place_of}
-use Rattle.rt_views.specs.Stretches.{part, stretch_of}
+use Rattle.rt_plans.specs.declared.inserting.Plan.{Plan}
+use Rattle.rt_plans.specs.declared.range.Range.{Range}
+use Rattle.rt_plans.specs.Deletions.{Loss, delete_drafts, loss_in, without_text}
+use Rattle.rt_plans.specs.DraftLaws.{IsDocument}
+use Rattle.rt_plans.specs.DocValue.{DocValue}
+use Rattle.rt_plans.specs.InsertionDrafts.{insertion_drafts}
+use Rattle.rt_plans.specs.InsertionPlans.{Plans}
+use Rattle.rt_plans.specs.Insertions.{Insertion, Piece, insertion_of, left_neighbour, right_neighbour}
+use Rattle.rt_plans.specs.Removals.{gone_at, is_covered}
+use Rattle.rt_plans.proofs.PieceDraftLaws.{insertion_grows}
+use Rattle.rt_plans.proofs.PlaceLaws.{length_text, text_within}
+use Rattle.rt_plans.proofs.RestLaws.{left_shown}
+use Rattle.rt_lines.specs.declared.limits.Limits.{Limits}
+use Rattle.rt_lines.specs.declared.stretch.Stretch.{Stretch}
+use Rattle.rt_lines.specs.Limits.{place_of}
+use Rattle.rt_lines.specs.Stretches.{part, stretch_of}
 use Rattle.rt_text.specs.Commands.{none_inserted, right_behind, with_range_replaced}
 use Rattle.rt_text.specs.Neighbours.{are_sides_shown, limit_left, pieces_text}
 use Rattle.rt_text.specs.Replacements.{drafts_at, insertion_at, left_by, loss_at}

@@ -12,8 +12,8 @@ use Rattle.rt_store.specs.Cells.{text_of}
 use Rattle.rt_tags.specs.States.{TagStates}
 use Rattle.rt_tags.specs.Tags.{IsName}
 use Rattle.rt_rga.specs.Histories.{IsHistory}
-use Rattle.rt_edits.specs.DraftLaws.{IsDocument}
-use Rattle.rt_edits.specs.DocValue.{DocValue}
+use Rattle.rt_plans.specs.DraftLaws.{IsDocument}
+use Rattle.rt_plans.specs.DocValue.{DocValue}
 use Rattle.rt_undo.specs.Actions.{Action}
 use Rattle.rt_revert.specs.declared.plan.Reversal.{Reversal}
 use Rattle.rt_revert.specs.PlannedGroups.{IsPlanOf}

@@ -14,9 +14,9 @@ use Rattle.rt_store.specs.Cells.{after_element, map_state, visible_of}
 use Rattle.rt_tags.specs.States.{TagStates, state_at}
 use Rattle.rt_stamps.specs.Names.{name_check}
 use Rattle.rt_text.specs.Commands.{cell_check, clock_check, inserted, names_in, with_pieces_at}
-use Rattle.rt_edits.specs.DocValue.{DocValue, put_after}
+use Rattle.rt_plans.specs.DocValue.{DocValue, put_after}
 use Rattle.rt_store.specs.Shown.{TaggedCell, shown}
-use Rattle.rt_edits.specs.Insertions.{Piece}
+use Rattle.rt_plans.specs.Insertions.{Piece}
 use Rattle.rt_text.specs.Widgets.{ViewValue, length_shown, widget_of}
 use Rattle.rt_text.proofs.ReadyLaws.{first_none, first_some}
 use Rattle.rt_store.proofs.Shown.{visible_shown}

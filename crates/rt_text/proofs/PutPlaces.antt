@@ -8,7 +8,7 @@ use Rattle.rt_store.specs.declared.cell.Cell.{Cell}
 use Rattle.rt_store.specs.Cells.{cell_of, position_of, stamps_of, visible_before, visible_of}
 use Rattle.rt_store.specs.Spans.{is_among}
 use Rattle.rt_store.proofs.Nearest.{position_cons}
-use Rattle.rt_views.specs.Limits.{place_of}
+use Rattle.rt_lines.specs.Limits.{place_of}
 use Rattle.rt_text.proofs.NeighbourLines.{moved_by}
 
 -- ONE CELL MORE

@@ -13,8 +13,8 @@ use Rattle.rt_tags.specs.Tags.{AlsoReady, IsName, Tags, is_listed, is_ready, wit
 use Rattle.rt_tags.proofs.Places.{clash, name_itself, same_name, split}
 use Rattle.rt_stamps.specs.Names.{name_check}
 use Rattle.rt_text.specs.Commands.{names_in}
-use Rattle.rt_edits.specs.Insertions.{Piece, all_listed}
-use Rattle.rt_edits.proofs.PlanLaws.{pieces_from}
+use Rattle.rt_plans.specs.Insertions.{Piece, all_listed}
+use Rattle.rt_plans.proofs.PlanLaws.{pieces_from}
 
 -- CHECKS
 

@@ -8,9 +8,9 @@ use Rattle.rt_stamps.specs.declared.fault.Fault.TheVariants.{NoMemory}
 use Rattle.rt_stamps.specs.Names.{name_check}
 use Rattle.rt_stamps.specs.Outcomes.{Refuses, first_of, unless}
 use Rattle.rt_stamps.specs.Words.{Word}
-use Rattle.rt_edits.specs.declared.range.Range.{Range}
-use Rattle.rt_edits.specs.DocValue.{DocValue}
-use Rattle.rt_edits.specs.Insertions.{Piece}
+use Rattle.rt_plans.specs.declared.range.Range.{Range}
+use Rattle.rt_plans.specs.DocValue.{DocValue}
+use Rattle.rt_plans.specs.Insertions.{Piece}
 use Rattle.rt_text.specs.Commands.{backwards_check, cell_check, clock_check, names_in, replaced, with_range_replaced}
 use Rattle.rt_text.specs.Index.{index_check, place_at_index}
 use Rattle.rt_text.specs.Widgets.{ViewValue, widget_of}

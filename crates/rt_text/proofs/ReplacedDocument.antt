@@ -20,24 +20,24 @@ use Rattle.rt_rga.specs.Made.{refusal_of}
 use Rattle.rt_rga.specs.Requests.{MayBeMade, characters_in_all, last_count_after}
 use Rattle.rt_rga.proofs.Appending.{characters_append, count_append, drafts_append, may_append}
 use Rattle.rt_rga.proofs.Requests.{all_count_on}
-use Rattle.rt_edits.specs.declared.inserting.Plan.{Plan}
-use Rattle.rt_edits.specs.declared.range.Range.{Range}
-use Rattle.rt_edits.specs.DeletionLaws.{IsPiece}
-use Rattle.rt_edits.specs.Deletions.{delete_drafts, without_text}
-use Rattle.rt_edits.specs.DraftLaws.{IsDocument, SparesLast}
-use Rattle.rt_edits.specs.DocValue.{DocValue, logged}
-use Rattle.rt_edits.specs.InsertionPlans.{Plans}
-use Rattle.rt_edits.specs.Insertions.{Insertion, Piece}
-use Rattle.rt_edits.specs.Listed.{AreListed}
-use Rattle.rt_edits.proofs.FoundLaws.{left_stamps}
-use Rattle.rt_edits.proofs.CharacterCounts.{loss_inserts_none}
-use Rattle.rt_edits.proofs.DeletionDraftLaws.{loss_history, loss_made, loss_may}
-use Rattle.rt_edits.proofs.PlaceLaws.{text_within}
+use Rattle.rt_plans.specs.declared.inserting.Plan.{Plan}
+use Rattle.rt_plans.specs.declared.range.Range.{Range}
+use Rattle.rt_plans.specs.DeletionLaws.{IsPiece}
+use Rattle.rt_plans.specs.Deletions.{delete_drafts, without_text}
+use Rattle.rt_plans.specs.DraftLaws.{IsDocument, SparesLast}
+use Rattle.rt_plans.specs.DocValue.{DocValue, logged}
+use Rattle.rt_plans.specs.InsertionPlans.{Plans}
+use Rattle.rt_plans.specs.Insertions.{Insertion, Piece}
+use Rattle.rt_plans.specs.Listed.{AreListed}
+use Rattle.rt_plans.proofs.FoundLaws.{left_stamps}
+use Rattle.rt_plans.proofs.CharacterCounts.{loss_inserts_none}
+use Rattle.rt_plans.proofs.DeletionDraftLaws.{loss_history, loss_made, loss_may}
+use Rattle.rt_plans.proofs.PlaceLaws.{text_within}
 use Rattle.rt_tags.specs.Tags.{IsName}
 use Rattle.rt_text.specs.Commands.{cell_check, clock_check, with_pieces_at, with_range_replaced, without_ranges}
 use Rattle.rt_text.specs.Kept.{IsDoc}
 use Rattle.rt_text.specs.Replacements.{left_by, loss_at}
-use Rattle.rt_views.specs.declared.stretch.Stretch.{Stretch}
+use Rattle.rt_lines.specs.declared.stretch.Stretch.{Stretch}
 use Rattle.rt_text.specs.Widgets.{AreSiteMarks, IsOwnOf, WidgetValue, ViewValue, begin_of, in_text, last_newline, length_shown, own_inserted, selections_of, with_selections}
 use Rattle.rt_text.proofs.DeletionLaws.{deletion_listed}
 use Rattle.rt_text.proofs.InsertedDocument.{all_fit, kept_made, made_drafts, made_flat, made_is, made_new, may_make, names_given, others_made, own_made, put_made, refused_as}

@@ -26,23 +26,23 @@ use Rattle.rt_rga.specs.Requests.{last_count_after}
 use Rattle.rt_rga.proofs.Corollaries.{all_states, cells_distinct}
 use Rattle.rt_rga.proofs.Requests.{all_count_on}
 use Rattle.rt_rga.proofs.Writes.{state_sorted}
-use Rattle.rt_edits.specs.declared.range.Range.{Range}
-use Rattle.rt_edits.specs.Deletions.{Loss, delete_drafts, newline_of, without_places, without_text}
-use Rattle.rt_edits.specs.DraftLaws.{IsDocument}
-use Rattle.rt_edits.specs.DocValue.{DocValue, left_of}
-use Rattle.rt_edits.specs.Insertions.{Insertion, Piece, insertion_of, left_neighbour, right_neighbour, with_pieces}
-use Rattle.rt_edits.specs.InsertionDrafts.{insertion_drafts}
-use Rattle.rt_edits.specs.RemovalDrafts.{removal_drafts}
-use Rattle.rt_edits.specs.Removals.{is_covered, is_in}
-use Rattle.rt_edits.specs.Selections.{unselected}
-use Rattle.rt_edits.specs.TagDrafts.{newline_drafts}
-use Rattle.rt_edits.specs.TagWrites.{bared}
-use Rattle.rt_edits.proofs.DeletionDraftLaws.{loss_counted, stamps_gone}
-use Rattle.rt_edits.proofs.PieceDraftLaws.{apart_front}
-use Rattle.rt_views.specs.declared.limits.Limits.{Limits}
-use Rattle.rt_views.specs.declared.stretch.Stretch.{Stretch}
-use Rattle.rt_views.specs.Limits.{place_of}
-use Rattle.rt_views.specs.Stretches.{part}
+use Rattle.rt_plans.specs.declared.range.Range.{Range}
+use Rattle.rt_plans.specs.Deletions.{Loss, delete_drafts, newline_of, without_places, without_text}
+use Rattle.rt_plans.specs.DraftLaws.{IsDocument}
+use Rattle.rt_plans.specs.DocValue.{DocValue, left_of}
+use Rattle.rt_plans.specs.Insertions.{Insertion, Piece, insertion_of, left_neighbour, right_neighbour, with_pieces}
+use Rattle.rt_plans.specs.InsertionDrafts.{insertion_drafts}
+use Rattle.rt_plans.specs.RemovalDrafts.{removal_drafts}
+use Rattle.rt_plans.specs.Removals.{is_covered, is_in}
+use Rattle.rt_plans.specs.Selections.{unselected}
+use Rattle.rt_plans.specs.TagDrafts.{newline_drafts}
+use Rattle.rt_plans.specs.TagWrites.{bared}
+use Rattle.rt_plans.proofs.DeletionDraftLaws.{loss_counted, stamps_gone}
+use Rattle.rt_plans.proofs.PieceDraftLaws.{apart_front}
+use Rattle.rt_lines.specs.declared.limits.Limits.{Limits}
+use Rattle.rt_lines.specs.declared.stretch.Stretch.{Stretch}
+use Rattle.rt_lines.specs.Limits.{place_of}
+use Rattle.rt_lines.specs.Stretches.{part}
 use Rattle.rt_text.specs.Commands.{none_inserted, right_behind, stretch_with}
 use Rattle.rt_text.specs.Neighbours.{are_sides_shown, pieces_text}
 use Rattle.rt_text.specs.Replacements.{drafts_at, insertion_at}

@@ -33,14 +33,14 @@ use Rattle.rt_rga.specs.Made.{refusal_of}
 use Rattle.rt_rga.specs.Requests.{MayBeMade, characters_in_all, last_count_after}
 use Rattle.rt_rga.proofs.Corollaries.{cells_have, character_count}
 use Rattle.rt_rga.proofs.Requests.{all_count_on}
-use Rattle.rt_edits.specs.Deletions.{without_places}
-use Rattle.rt_edits.specs.DraftLaws.{AreTagNames, IsDocument, SparesLast}
-use Rattle.rt_edits.specs.DocValue.{DocValue}
-use Rattle.rt_edits.specs.Insertions.{all_listed, inserts_for, tagged_cells}
-use Rattle.rt_edits.specs.Removals.{gone_at}
-use Rattle.rt_edits.proofs.CharacterCounts.{cells_length}
-use Rattle.rt_edits.proofs.ListedLaws.{listed_more}
-use Rattle.rt_edits.proofs.NamedSpanLaws.{cut}
+use Rattle.rt_plans.specs.Deletions.{without_places}
+use Rattle.rt_plans.specs.DraftLaws.{AreTagNames, IsDocument, SparesLast}
+use Rattle.rt_plans.specs.DocValue.{DocValue}
+use Rattle.rt_plans.specs.Insertions.{all_listed, inserts_for, tagged_cells}
+use Rattle.rt_plans.specs.Removals.{gone_at}
+use Rattle.rt_plans.proofs.CharacterCounts.{cells_length}
+use Rattle.rt_plans.proofs.ListedLaws.{listed_more}
+use Rattle.rt_plans.proofs.NamedSpanLaws.{cut}
 use Rattle.rt_undo.specs.Actions.{Action}
 use Rattle.rt_revert.specs.Plans.{AreUpTo, IsUpTo}
 use Rattle.rt_revert.specs.Reverting.{reversion, reverted, with_copy}

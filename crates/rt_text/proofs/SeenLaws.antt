@@ -20,11 +20,11 @@ use Rattle.rt_store.specs.Shown.{TaggedCell, shown}
 use Rattle.rt_text.specs.Proper.{ends_by, tag_by, ends_in}
 use Rattle.rt_text.specs.Grounds.{widget_over}
 use Rattle.rt_text.specs.Widgets.{WidgetValue, ViewValue, is_tagged, is_tagged_in, length_shown, mark_among, mark_seen, marks_shown, own_mark_of, own_or, own_seen, own_shown, shown_by, stretch_by, tag_ends, tags_on, text_shown, widget_of}
-use Rattle.rt_views.specs.declared.stretch.Stretch.{Stretch}
-use Rattle.rt_views.specs.Stretches.{part, seen_place, stretch_of}
-use Rattle.rt_views.specs.declared.limits.Limits.{Limits}
-use Rattle.rt_views.proofs.Parts.{part_length, part_map}
-use Rattle.rt_edits.specs.DocValue.{DocValue}
+use Rattle.rt_lines.specs.declared.stretch.Stretch.{Stretch}
+use Rattle.rt_lines.specs.Stretches.{part, seen_place, stretch_of}
+use Rattle.rt_lines.specs.declared.limits.Limits.{Limits}
+use Rattle.rt_lines.proofs.Parts.{part_length, part_map}
+use Rattle.rt_plans.specs.DocValue.{DocValue}
 use Rattle.rt_store.proofs.Shown.{visible_shown, visible_at_shown, next_map, last_map}
 
 -- LOOK-UPS

@@ -15,13 +15,13 @@ use Rattle.rt_store.specs.Written.{AreBelowNext}
 use Rattle.rt_store.proofs.Distinct.{first_apart, others_distinct}
 use Rattle.rt_store.proofs.Finding.{place_found, stamp_held}
 use Rattle.rt_rga.proofs.PlacesAt.{position_at}
-use Rattle.rt_edits.specs.DocValue.{left_of, put_after}
-use Rattle.rt_edits.proofs.InsertedText.{text_inserted}
-use Rattle.rt_views.specs.declared.limits.Limits.{Limits}
-use Rattle.rt_views.specs.Limits.{first_line, is_gone, last_line, line_at, line_behind, place_of}
-use Rattle.rt_views.specs.Ordered.{IsNewline}
-use Rattle.rt_views.specs.Stretches.{stretch_of}
-use Rattle.rt_views.proofs.Places.{ends_text, place_of_within}
+use Rattle.rt_plans.specs.DocValue.{left_of, put_after}
+use Rattle.rt_plans.proofs.InsertedText.{text_inserted}
+use Rattle.rt_lines.specs.declared.limits.Limits.{Limits}
+use Rattle.rt_lines.specs.Limits.{first_line, is_gone, last_line, line_at, line_behind, place_of}
+use Rattle.rt_lines.specs.Ordered.{IsNewline}
+use Rattle.rt_lines.specs.Stretches.{stretch_of}
+use Rattle.rt_lines.proofs.Places.{ends_text, place_of_within}
 use Rattle.rt_text.specs.Neighbours.{are_sides_shown}
 use Rattle.rt_text.proofs.LineCounts.{put_in}
 use Rattle.rt_text.proofs.NeighbourLines.{both_sides, first_at, last_at, moved_by, start_at}

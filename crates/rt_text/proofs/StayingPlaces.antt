@@ -10,9 +10,9 @@ use Rattle.rt_stamps.specs.declared.limits.TheConstants.{MOST_CELLS}
 use Rattle.rt_store.specs.declared.cell.Cell.{Cell}
 use Rattle.rt_store.specs.Cells.{map_state, visible_of}
 use Rattle.rt_store.proofs.Distinct.{split}
-use Rattle.rt_edits.specs.declared.range.Range.{Range}
-use Rattle.rt_edits.specs.Removals.{AreInOrder, gone_at, is_covered, is_in}
-use Rattle.rt_edits.proofs.StampLaws.{before_all, in_after, order_weaker}
+use Rattle.rt_plans.specs.declared.range.Range.{Range}
+use Rattle.rt_plans.specs.Removals.{AreInOrder, gone_at, is_covered, is_in}
+use Rattle.rt_plans.proofs.StampLaws.{before_all, in_after, order_weaker}
 
 -- CHARACTERS THAT STAY
 

@@ -22,16 +22,16 @@ use Rattle.rt_rga.specs.Kept.{ReplicaValue}
 use Rattle.rt_rga.specs.Made.{refusal_of}
 use Rattle.rt_rga.specs.Requests.{MayBeMade, characters_in_all}
 use Rattle.rt_rga.proofs.Requests.{all_count_on}
-use Rattle.rt_edits.specs.DraftLaws.{IsDocument}
-use Rattle.rt_edits.specs.DocValue.{DocValue, logged}
-use Rattle.rt_edits.specs.Listed.{AreListed}
-use Rattle.rt_edits.specs.TagDrafts.{deletion_drafts, tag_drafts_at, tags_drafts_at}
-use Rattle.rt_edits.specs.TagWrites.{with_tag_at, without_tags}
-use Rattle.rt_edits.proofs.ForgottenNames.{forgotten_in_turn, in_turn}
-use Rattle.rt_edits.proofs.CharacterCounts.{deletions_insert_none, tags_insert_none}
-use Rattle.rt_edits.proofs.DeletedNames.{deletions_made, deletions_may}
-use Rattle.rt_edits.proofs.TagDocuments.{all_deletions_counted, all_tags_counted, tags_made, tags_may}
-use Rattle.rt_edits.proofs.TagPlaces.{tag_text}
+use Rattle.rt_plans.specs.DraftLaws.{IsDocument}
+use Rattle.rt_plans.specs.DocValue.{DocValue, logged}
+use Rattle.rt_plans.specs.Listed.{AreListed}
+use Rattle.rt_plans.specs.TagDrafts.{deletion_drafts, tag_drafts_at, tags_drafts_at}
+use Rattle.rt_plans.specs.TagWrites.{with_tag_at, without_tags}
+use Rattle.rt_plans.proofs.ForgottenNames.{forgotten_in_turn, in_turn}
+use Rattle.rt_plans.proofs.CharacterCounts.{deletions_insert_none, tags_insert_none}
+use Rattle.rt_plans.proofs.DeletedNames.{deletions_made, deletions_may}
+use Rattle.rt_plans.proofs.TagDocuments.{all_deletions_counted, all_tags_counted, tags_made, tags_may}
+use Rattle.rt_plans.proofs.TagPlaces.{tag_text}
 use Rattle.rt_text.specs.Commands.{clock_check}
 use Rattle.rt_text.specs.Kept.{IsDoc}
 use Rattle.rt_text.specs.Widgets.{AreSiteMarks}

@@ -6,8 +6,8 @@ use Rattle.std.proofs.lemmas.Bool.{cases_lt}
 use Rattle.std.proofs.lemmas.List.{drop-drop, take-take, take_all, take-append-le, length-drop, length-take}
 use Rattle.std.proofs.lemmas.Str.{encodes-append}
 use Rattle.rt_text.specs.Ranges.{text_between}
-use Rattle.rt_views.specs.declared.stretch.Stretch.{Stretch}
-use Rattle.rt_views.specs.Stretches.{part}
+use Rattle.rt_lines.specs.declared.stretch.Stretch.{Stretch}
+use Rattle.rt_lines.specs.Stretches.{part}
 use Rattle.rt_text.proofs.PartPlaces.{drop_part}
 
 -- some characters more, as they were read

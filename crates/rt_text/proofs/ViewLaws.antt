@@ -1,6 +1,6 @@
 -- A document as a widget shows it.
 use Rattle.std.proofs.Common.{List}
-use Rattle.rt_edits.specs.DocValue.{DocValue}
+use Rattle.rt_plans.specs.DocValue.{DocValue}
 use Rattle.rt_text.specs.Widgets.{WidgetValue, ViewValue}
 
 -- a document on which a widget works, beside others

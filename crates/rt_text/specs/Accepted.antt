@@ -7,8 +7,8 @@ use Rattle.rt_rga.specs.Answers.{Answer, answer_within}
 use Rattle.rt_rga.specs.Cells.{cells_of}
 use Rattle.rt_rga.specs.Histories.{greatest_last_count, inserted}
 use Rattle.rt_rga.specs.Taken.{lists_of, place_in, takes_away}
-use Rattle.rt_edits.specs.DocValue.{DocValue}
-use Rattle.rt_edits.specs.Insertions.{all_listed}
+use Rattle.rt_plans.specs.DocValue.{DocValue}
+use Rattle.rt_plans.specs.Insertions.{all_listed}
 use Rattle.rt_text.specs.Widgets.{WidgetValue, ViewValue, each_widget, own_inserted, own_left}
 
 -- A document with an operation that is new to it: the log gains it, and the cells are the log's. Marks move for the characters

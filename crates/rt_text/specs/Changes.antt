@@ -1,12 +1,12 @@
 -- A widget's own marks after changes of the text, in the order of the changes, and its limits after newlines came back.
 use Rattle.std.specs.Prelude.{List, [], ◌∷◌}
-use Rattle.rt_edits.specs.Removals.{is_covered}
+use Rattle.rt_plans.specs.Removals.{is_covered}
 use Rattle.rt_revert.specs.declared.plan.Return.{Return}
 use Rattle.rt_revert.specs.declared.plan.TextChange.{TextChange}
 use Rattle.rt_revert.specs.declared.plan.TextChange.TheVariants.{Inserted, Removed as Gone}
 use Rattle.rt_text.specs.Widgets.{WidgetValue, own_inserted, own_left}
-use Rattle.rt_views.specs.declared.limits.Limits.{Limits}
-use Rattle.rt_views.specs.Limits.{limits_renamed}
+use Rattle.rt_lines.specs.declared.limits.Limits.{Limits}
+use Rattle.rt_lines.specs.Limits.{limits_renamed}
 
 abbrev pub own_changed : TextChange → WidgetValue → WidgetValue
 own_changed (Gone ranges) own = own_left (is_covered ranges.items) own

@@ -16,23 +16,23 @@ use Rattle.rt_stamps.specs.Words.{Word}
 pub use Rattle.rt_rga.specs.Made.{cell_check}
 use Rattle.rt_store.specs.Shown.{TaggedCell}
 use Rattle.rt_tags.specs.Tags.{sel}
-use Rattle.rt_edits.specs.declared.range.Range.{Range}
-use Rattle.rt_edits.specs.Deletions.{delete_drafts, loss_in, without_text}
-use Rattle.rt_edits.specs.DocValue.{left_of, logged, put_after}
-use Rattle.rt_edits.specs.InsertionDrafts.{insertion_drafts}
-use Rattle.rt_edits.specs.Insertions.{Insertion, Piece, insertion_of, left_neighbour, right_neighbour, with_pieces}
+use Rattle.rt_plans.specs.declared.range.Range.{Range}
+use Rattle.rt_plans.specs.Deletions.{delete_drafts, loss_in, without_text}
+use Rattle.rt_plans.specs.DocValue.{left_of, logged, put_after}
+use Rattle.rt_plans.specs.InsertionDrafts.{insertion_drafts}
+use Rattle.rt_plans.specs.Insertions.{Insertion, Piece, insertion_of, left_neighbour, right_neighbour, with_pieces}
 use Rattle.rt_index.specs.declared.comparison.Comparison.{Comparison}
 use Rattle.rt_index.specs.declared.measure.Measure.{Measure}
 use Rattle.rt_text.specs.Comparisons.{holds_of}
 use Rattle.rt_text.specs.Distances.{or_indices, distance_of}
 use Rattle.rt_text.specs.Index.{index_check, place_at_index}
 use Rattle.rt_text.specs.Ranges.{text_between, texts_of, ranges_of}
-use Rattle.rt_edits.specs.Removals.{cells_at, is_covered, stamps_at}
-use Rattle.rt_edits.specs.Selections.{unselected, selection_with}
-use Rattle.rt_edits.specs.TagDrafts.{deletion_drafts, tag_drafts_at}
-use Rattle.rt_edits.specs.TagWrites.{listed_if, with_tag_at, without_tags}
-use Rattle.rt_views.specs.declared.stretch.Stretch.{Stretch}
-use Rattle.rt_views.specs.Stretches.{stretch_of}
+use Rattle.rt_plans.specs.Removals.{cells_at, is_covered, stamps_at}
+use Rattle.rt_plans.specs.Selections.{unselected, selection_with}
+use Rattle.rt_plans.specs.TagDrafts.{deletion_drafts, tag_drafts_at}
+use Rattle.rt_plans.specs.TagWrites.{listed_if, with_tag_at, without_tags}
+use Rattle.rt_lines.specs.declared.stretch.Stretch.{Stretch}
+use Rattle.rt_lines.specs.Stretches.{stretch_of}
 use Rattle.rt_text.specs.Widgets.{ViewValue, begin_of, each_widget, in_text, last_newline, length_shown, own_inserted, own_left, places_in_text, reselected, selections_of, shown_by, text_shown, widget_of, with_selections}
 
 -- CHECKS

@@ -3,9 +3,9 @@ use Rattle.std.specs.Prelude.{ℕ, ◌+◌, ◌-◌, nat_lt, List, Option, None,
 use Rattle.rt_stamps.specs.declared.stamp.Stamp.{Stamp}
 use Rattle.rt_store.specs.declared.cell.Cell.{Cell}
 use Rattle.rt_store.specs.Cells.{visible_of}
-use Rattle.rt_views.specs.declared.limits.Limits.{Limits}
-use Rattle.rt_views.specs.Limits.{place_of}
-use Rattle.rt_views.specs.Stretches.{seen_place, stretch_of}
+use Rattle.rt_lines.specs.declared.limits.Limits.{Limits}
+use Rattle.rt_lines.specs.Limits.{place_of}
+use Rattle.rt_lines.specs.Stretches.{seen_place, stretch_of}
 
 -- the stamp of the character at a place of what is shown within limits; none from the end on
 abbrev pub stamp_at : {T : Type 0} → Limits → ℕ → List (Cell T) → Option Stamp

@@ -5,8 +5,8 @@ use Rattle.rt_marks.specs.Marks.{Mark}
 use Rattle.rt_stamps.specs.Words.{Word}
 use Rattle.rt_store.specs.Cells.{text_of, visible_of}
 use Rattle.rt_store.specs.Shown.{TaggedCell}
-use Rattle.rt_views.specs.declared.stretch.Stretch.{Stretch}
-use Rattle.rt_views.specs.Stretches.{part}
+use Rattle.rt_lines.specs.declared.stretch.Stretch.{Stretch}
+use Rattle.rt_lines.specs.Stretches.{part}
 use Rattle.rt_text.specs.Widgets.{WidgetValue, mark_among, mark_seen, own_seen, tag_ends}
 
 -- the characters of a stretch, the places of marks among them, and the tags of a widget

@@ -1,6 +1,6 @@
 -- What is so of a document between commands, beside what is so of its replica.
 use Rattle.std.specs.Prelude.{List, length}
-use Rattle.rt_edits.specs.Listed.{AreListed}
+use Rattle.rt_plans.specs.Listed.{AreListed}
 use Rattle.rt_marks.specs.Marks.{Mark}
 use Rattle.rt_stamps.specs.Words.{Word}
 use Rattle.rt_store.specs.Cells.{text_of}

@@ -1,12 +1,12 @@
 -- Which lines a widget shows (Tk text manual, "Peer widgets"): the options -startline and -endline.
 use Rattle.std.specs.Prelude.{◌++◌, [], ◌∷◌, Result, Ok, Err}
-use Rattle.rt_edits.specs.DocValue.{DocValue}
+use Rattle.rt_plans.specs.DocValue.{DocValue}
 use Rattle.rt_stamps.specs.declared.fault.Fault.{Fault}
 use Rattle.rt_text.specs.Widgets.{WidgetValue, ViewValue, own_at}
-use Rattle.rt_views.specs.declared.choice.Choice.{Choice}
-use Rattle.rt_views.specs.declared.limits.Limits.{Limits}
-use Rattle.rt_views.specs.Choices.{limits_chosen}
-use Rattle.rt_views.specs.Stretches.{stretch_of}
+use Rattle.rt_lines.specs.declared.choice.Choice.{Choice}
+use Rattle.rt_lines.specs.declared.limits.Limits.{Limits}
+use Rattle.rt_lines.specs.Choices.{limits_chosen}
+use Rattle.rt_lines.specs.Stretches.{stretch_of}
 
 -- the widget that commands with other limits: its marks stay where they stand in the text
 abbrev pub with_limits : ViewValue → Result Limits Fault → Result ViewValue Fault

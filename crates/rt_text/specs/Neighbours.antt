@@ -6,8 +6,8 @@ use Rattle.rt_marks.specs.Marks.{place_left}
 use Rattle.rt_stamps.specs.declared.stamp.Stamp.{Stamp}
 use Rattle.rt_stamps.specs.Places.{is_newline}
 use Rattle.rt_store.specs.declared.cell.Cell.{Cell}
-use Rattle.rt_edits.specs.Insertions.{Piece}
-use Rattle.rt_views.specs.Limits.{place_of}
+use Rattle.rt_plans.specs.Insertions.{Piece}
+use Rattle.rt_lines.specs.Limits.{place_of}
 
 -- LIMITS
 

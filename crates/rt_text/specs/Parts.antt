@@ -1,8 +1,8 @@
 -- What contracts see of the parts of widgets.
 use Rattle.std.specs.Prelude.{true, length, ◌≡◌, ◌≤◌, ◌&&◌, List, All, Option, None, Some, codes}
 use Rattle.rt_store.specs.Spans.{is_among}
-use Rattle.rt_edits.specs.declared.inserting.Between.{Between}
-use Rattle.rt_edits.specs.Selected.{room_in, selected_stamps}
+use Rattle.rt_plans.specs.declared.inserting.Between.{Between}
+use Rattle.rt_plans.specs.Selected.{room_in, selected_stamps}
 use Rattle.rt_text.specs.declared.parts.Parts.{Parts}
 use Rattle.rt_text.specs.Widgets.{WidgetValue}
 

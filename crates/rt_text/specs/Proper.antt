@@ -12,14 +12,14 @@ use Rattle.rt_store.specs.Cells.{text_of, visible_of}
 use Rattle.rt_store.specs.Tagged.{last_with, last_place, next_place}
 use Rattle.rt_tags.specs.Tags.{sel, is_listed}
 use Rattle.rt_store.specs.Shown.{TaggedCell}
-use Rattle.rt_edits.specs.Listed.{AreListed, listed_name, named_as}
+use Rattle.rt_plans.specs.Listed.{AreListed, listed_name, named_as}
 use Rattle.rt_stamps.specs.Places.{EndsWithNewline}
 use Rattle.rt_text.specs.declared.own_mark.OwnMark.TheVariants.{Insert, Current}
 use Rattle.rt_text.specs.Lines.{AreLines}
 use Rattle.rt_text.specs.Grounds.{widget_over}
 use Rattle.rt_text.specs.Widgets.{WidgetValue, own_or, own_seen, mark_seen, ends_of, is_tagged}
-use Rattle.rt_views.specs.declared.stretch.Stretch.{Stretch}
-use Rattle.rt_views.specs.Stretches.{part, seen_cursor, seen_place}
+use Rattle.rt_lines.specs.declared.stretch.Stretch.{Stretch}
+use Rattle.rt_lines.specs.Stretches.{part, seen_cursor, seen_place}
 
 -- MARKS
 

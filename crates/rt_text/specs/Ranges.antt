@@ -1,7 +1,7 @@
 -- Ranges of places, and the texts in them.
 use Rattle.std.specs.Prelude.{ℕ, ◌+◌, ◌-◌, List, [], ◌∷◌, take, drop, map, filter, Bool, true, false, encode_utf8_all}
 use Rattle.rt_stamps.specs.Words.{Word}
-use Rattle.rt_edits.specs.declared.range.Range.{Range}
+use Rattle.rt_plans.specs.declared.range.Range.{Range}
 
 -- The ranges that places name in pairs, each from its first place up to before its second. The last pair may lack its
 -- second place, which is then the next one.

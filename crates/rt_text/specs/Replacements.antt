@@ -4,12 +4,12 @@ use Rattle.rt_stamps.specs.declared.limits.TheConstants.{MOST_CHARACTERS, MOST_S
 use Rattle.rt_stamps.specs.Words.{Word}
 use Rattle.rt_ops.specs.Edits.{body_of}
 use Rattle.rt_ops.specs.Operations.{Body}
-use Rattle.rt_edits.specs.declared.range.Range.{Range}
-use Rattle.rt_edits.specs.Deletions.{Loss, delete_drafts, loss_in}
-use Rattle.rt_edits.specs.DocValue.{left_of}
-use Rattle.rt_edits.specs.InsertionDrafts.{insertion_drafts}
-use Rattle.rt_edits.specs.InsertionPlans.{Plans}
-use Rattle.rt_edits.specs.Insertions.{Insertion, Piece, insertion_of, left_neighbour}
+use Rattle.rt_plans.specs.declared.range.Range.{Range}
+use Rattle.rt_plans.specs.Deletions.{Loss, delete_drafts, loss_in}
+use Rattle.rt_plans.specs.DocValue.{left_of}
+use Rattle.rt_plans.specs.InsertionDrafts.{insertion_drafts}
+use Rattle.rt_plans.specs.InsertionPlans.{Plans}
+use Rattle.rt_plans.specs.Insertions.{Insertion, Piece, insertion_of, left_neighbour}
 use Rattle.rt_text.specs.declared.doc.replacing.Replacement.{Replacement}
 use Rattle.rt_text.specs.Commands.{none_inserted, right_behind, without_ranges}
 use Rattle.rt_text.specs.Widgets.{ViewValue, begin_of, in_text, length_shown, selections_of, shown_by, text_shown}

@@ -4,7 +4,7 @@ use Rattle.rt_marks.specs.Marks.{Mark}
 use Rattle.rt_stamps.specs.declared.fault.Fault.{Fault}
 use Rattle.rt_stamps.specs.Outcomes.{first_of}
 use Rattle.rt_stamps.specs.Words.{Word}
-use Rattle.rt_edits.specs.DocValue.{DocValue}
+use Rattle.rt_plans.specs.DocValue.{DocValue}
 use Rattle.rt_undo.specs.Actions.{Action}
 use Rattle.rt_revert.specs.Reverting.{reversion, reverted}
 use Rattle.rt_text.specs.Changes.{limits_after}

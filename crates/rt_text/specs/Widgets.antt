@@ -15,15 +15,15 @@ use Rattle.rt_tags.specs.States.{is_on}
 use Rattle.rt_tags.specs.Tags.{sel, is_listed}
 use Rattle.rt_text.specs.declared.own_mark.OwnMark.{OwnMark}
 use Rattle.rt_text.specs.declared.own_mark.OwnMark.TheVariants.{Insert, Current}
-use Rattle.rt_edits.specs.Deletions.{places_from}
-use Rattle.rt_edits.specs.DocValue.{DocValue}
+use Rattle.rt_plans.specs.Deletions.{places_from}
+use Rattle.rt_plans.specs.DocValue.{DocValue}
 use Rattle.rt_store.specs.Shown.{TaggedCell}
 use Rattle.rt_store.specs.Spans.{is_among}
-use Rattle.rt_views.specs.declared.limits.Limits.{Limits}
-use Rattle.rt_views.specs.declared.stretch.Stretch.{Stretch}
-use Rattle.rt_views.specs.Limits.{no_limits}
-use Rattle.rt_views.specs.Ordered.{AreInOrder}
-use Rattle.rt_views.specs.Stretches.{part, seen_cursor, seen_place, stretch_of}
+use Rattle.rt_lines.specs.declared.limits.Limits.{Limits}
+use Rattle.rt_lines.specs.declared.stretch.Stretch.{Stretch}
+use Rattle.rt_lines.specs.Limits.{no_limits}
+use Rattle.rt_lines.specs.Ordered.{AreInOrder}
+use Rattle.rt_lines.specs.Stretches.{part, seen_cursor, seen_place, stretch_of}
 
 -- OWN MARKS
 

@@ -3,17 +3,17 @@ ghost use Rattle.std.specs.Prelude.{◌≡◌, ◌≤◌, length, take, true, fa
 ghost use Rattle.rt_store.specs.Cells.{visible_of};
 ghost use Rattle.rt_store.specs.Tagged.{last_place, next_place, previous_place};
 ghost use Rattle.rt_tags.specs.States.{IsState};
-ghost use Rattle.rt_edits.specs.Selected.{selected_stamps};
+ghost use Rattle.rt_plans.specs.Selected.{selected_stamps};
 ghost use Rattle.rt_store.specs.Spans.{is_among};
 ghost use Rattle.rt_text.specs.Widgets.{is_tagged_in};
 ghost use Rattle.rt_store.specs.Shown.{shown};
-ghost use Rattle.rt_views.specs.Stretches.{part};
+ghost use Rattle.rt_lines.specs.Stretches.{part};
 
-use rt_edits::Selection;
+use rt_lines::Stretch;
+use rt_plans::Selection;
 use rt_stamps::Stamp;
 use rt_store::{Cell, TextStore};
 use rt_tags::{StateId, StateTable};
-use rt_views::Stretch;
 
 /// Whether a tag is on the character of a cell: `sel` where the character is selected.
 pub(crate) fn cell_has(

@@ -5,9 +5,9 @@ ghost use Rattle.rt_store.specs.Cells.{AreDistinct, final_cell};
 ghost use Rattle.rt_store.specs.Shown.{shown};
 ghost use Rattle.rt_store.specs.Tagged.{AreStates};
 ghost use Rattle.rt_tags.specs.Tags.{sel};
-ghost use Rattle.rt_edits.specs.DraftLaws.{IsDocument};
-ghost use Rattle.rt_edits.specs.DocValue.{new_doc};
-ghost use Rattle.rt_edits.specs.Listed.{AreListed};
+ghost use Rattle.rt_plans.specs.DraftLaws.{IsDocument};
+ghost use Rattle.rt_plans.specs.DocValue.{new_doc};
+ghost use Rattle.rt_plans.specs.Listed.{AreListed};
 ghost use Rattle.rt_rga.specs.Cells.{cells_of};
 ghost use Rattle.rt_rga.specs.Histories.{IsHistory, greatest_last_count};
 
@@ -51,7 +51,7 @@ impl<S: TextStore> Drop for Doc<S> {
 }
 
 impl<S: TextStore> Model for Doc<S> {
-    ghost use Rattle.rt_edits.specs.DocValue.{DocValue};
+    ghost use Rattle.rt_plans.specs.DocValue.{DocValue};
     ghost use Rattle.rt_rga.specs.Histories.{greatest_last_count};
     ghost use Rattle.rt_text.specs.Kept.{IsDoc};
 

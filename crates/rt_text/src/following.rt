@@ -11,9 +11,9 @@ ghost use Rattle.rt_text.specs.Widgets.{own_inserted, own_left};
 
 use crate::parts::Parts;
 use crate::preparing::prepare_tags;
-use rt_edits::listing::prepare_if;
 use rt_marks::Marks;
 use rt_oplog::Edit;
+use rt_plans::listing::prepare_if;
 use rt_rga::Change;
 use rt_stamps::Fault;
 use rt_tags::TagTable;

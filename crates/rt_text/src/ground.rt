@@ -4,7 +4,7 @@ ghost use Rattle.rt_marks.specs.Marks.{IsName, named};
 ghost use Rattle.rt_stamps.specs.declared.limits.TheConstants.{MOST_CELLS};
 ghost use Rattle.rt_stamps.specs.Places.{line_of};
 ghost use Rattle.rt_store.specs.Cells.{text_of};
-ghost use Rattle.rt_edits.specs.Listed.{AreListed};
+ghost use Rattle.rt_plans.specs.Listed.{AreListed};
 ghost use Rattle.rt_store.specs.Shown.{shown};
 ghost use Rattle.rt_text.specs.Lines.{AreLines};
 
@@ -12,10 +12,10 @@ use crate::characters::{last_within, next_within};
 use crate::index::last_line;
 use crate::{Doc, OwnMark, Widget};
 use rt_index::Ground;
+use rt_lines::Stretch;
 use rt_marks::Marks;
 use rt_store::TextStore;
 use rt_tags::{StateTable, TagTable};
-use rt_views::Stretch;
 
 /// A widget with the text, the marks and the tags of its site, the stretch of the text that it shows, and
 /// the line of the whole text where that begins.

@@ -1,13 +1,13 @@
 // Positions and lines of places.
 ghost use Rattle.std.specs.Prelude.{◌≡◌, ◌-◌, ◌≤◌, length};
 ghost use Rattle.rt_stamps.specs.Places.{line_of, position_at};
-ghost use Rattle.rt_views.specs.Stretches.{part};
+ghost use Rattle.rt_lines.specs.Stretches.{part};
 ghost use Rattle.rt_store.specs.Cells.{text_of, visible_of};
 ghost use Rattle.rt_text.specs.Lines.{AreLines};
 
+use rt_lines::Stretch;
 use rt_stamps::Position;
 use rt_store::TextStore;
-use rt_views::Stretch;
 
 // The position of a place, which is at most the text's end.
 fn position_at<S: TextStore>(store: &S, place: usize) -> Position

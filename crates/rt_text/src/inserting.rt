@@ -2,9 +2,9 @@
 ghost use Rattle.std.specs.Prelude.{◌≡◌, ◌+◌, ◌≤◌, All, length, map};
 ghost use Rattle.std.specs.List.{AllByRecursion};
 ghost use Rattle.rt_marks.specs.Marks.{marks_inserted};
-ghost use Rattle.rt_edits.specs.InsertionPlans.{selected_between};
-ghost use Rattle.rt_edits.specs.Selected.{room_in, selected_stamps};
-ghost use Rattle.rt_edits.specs.Selections.{with_stamps};
+ghost use Rattle.rt_plans.specs.InsertionPlans.{selected_between};
+ghost use Rattle.rt_plans.specs.Selected.{room_in, selected_stamps};
+ghost use Rattle.rt_plans.specs.Selections.{with_stamps};
 ghost use Rattle.rt_text.specs.Parts.{HaveRoomFor, own_in};
 ghost use Rattle.rt_text.specs.Widgets.{own_inserted, reselected};
 
@@ -12,9 +12,9 @@ use crate::Widget;
 use crate::others::insert_each;
 use crate::parts::Parts;
 use crate::preparing::select_between;
-use rt_edits::Selection;
-use rt_edits::inserting::Between;
 use rt_marks::Marks;
+use rt_plans::Selection;
+use rt_plans::inserting::Between;
 use rt_stamps::Stamp;
 
 /// Selects characters in a widget, and those between two others in the selections that have both. It takes

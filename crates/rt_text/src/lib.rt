@@ -25,6 +25,6 @@ pub mod widget;
 pub use doc::Doc;
 pub use own_mark::OwnMark;
 pub use reverted::Reverted;
-pub use rt_edits::{Piece, Range};
+pub use rt_plans::{Piece, Range};
 pub use view::View;
 pub use widget::Widget;

@@ -1,17 +1,17 @@
 // What a removal of text leaves of marks and selections.
 ghost use Rattle.std.specs.Prelude.{◌≡◌, ◌≤◌, ◌∷◌, [], false, if◌then◌else◌, map};
 ghost use Rattle.rt_marks.specs.Marks.{marks_left};
-ghost use Rattle.rt_edits.specs.Removals.{is_covered, AreInOrder};
-ghost use Rattle.rt_edits.specs.Selected.{room_in, selected_stamps};
-ghost use Rattle.rt_edits.specs.Selections.{unselected};
+ghost use Rattle.rt_plans.specs.Removals.{is_covered, AreInOrder};
+ghost use Rattle.rt_plans.specs.Selected.{room_in, selected_stamps};
+ghost use Rattle.rt_plans.specs.Selections.{unselected};
 ghost use Rattle.rt_text.specs.Parts.{own_in};
 ghost use Rattle.rt_text.specs.Widgets.{own_left, reselected};
 
 use crate::Widget;
 use crate::others::{leave_each, remove_from_each};
 use crate::parts::Parts;
-use rt_edits::{Range, Selection};
 use rt_marks::Marks;
+use rt_plans::{Range, Selection};
 use rt_stamps::Stamp;
 
 /// Moves the marks of a site for ranges that are removed. The last range goes first, so that the places

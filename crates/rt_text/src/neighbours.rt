@@ -9,16 +9,16 @@ ghost use Rattle.rt_stamps.specs.Places.{is_newline};
 ghost use Rattle.rt_store.specs.Cells.{visible_of};
 ghost use Rattle.rt_store.specs.Tagged.{AreStates};
 ghost use Rattle.rt_tags.specs.States.{IsState, TagStates};
-ghost use Rattle.rt_edits.specs.Insertions.{left_neighbour, right_neighbour};
-ghost use Rattle.rt_edits.specs.Removals.{AreInOrder, gone_at, is_covered};
+ghost use Rattle.rt_plans.specs.Insertions.{left_neighbour, right_neighbour};
+ghost use Rattle.rt_plans.specs.Removals.{AreInOrder, gone_at, is_covered};
 ghost use Rattle.rt_text.specs.Neighbours.{are_sides_shown, ends_behind, ends_with_newline, is_ahead, is_behind, limit_left, pieces_text};
 
 use crate::staying::{place_after, right_after};
-use rt_edits::{Piece, Range};
+use rt_lines::Limits;
+use rt_plans::{Piece, Range};
 use rt_stamps::{ROOT, Stamp};
 use rt_store::{Cell, TextStore};
 use rt_tags::StateId;
-use rt_views::Limits;
 
 /// The visible cell before a place, if there is one.
 #[inline(always)]

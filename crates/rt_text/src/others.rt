@@ -1,10 +1,10 @@
 // The other widgets of a site.
 ghost use Rattle.std.specs.Prelude.{ℕ, ◌≡◌, ◌+◌, ◌≤◌, ◌∷◌, [], ◌&&◌, true, All, IsOkUnless, OnOk, length, map};
 ghost use Rattle.std.specs.List.{AllByRecursion};
-ghost use Rattle.rt_edits.specs.Insertions.{selected_with};
-ghost use Rattle.rt_edits.specs.Removals.{AreInOrder, is_covered};
-ghost use Rattle.rt_edits.specs.Selected.{room_in, selected_stamps};
-ghost use Rattle.rt_edits.specs.Selections.{unselected};
+ghost use Rattle.rt_plans.specs.Insertions.{selected_with};
+ghost use Rattle.rt_plans.specs.Removals.{AreInOrder, is_covered};
+ghost use Rattle.rt_plans.specs.Selected.{room_in, selected_stamps};
+ghost use Rattle.rt_plans.specs.Selections.{unselected};
 ghost use Rattle.rt_revert.specs.Plans.{IsChange};
 ghost use Rattle.rt_rga.specs.Taken.{AreFallingRuns, is_in_runs};
 ghost use Rattle.rt_store.specs.Spans.{is_among};
@@ -13,7 +13,7 @@ ghost use Rattle.rt_text.specs.Parts.{own_in};
 ghost use Rattle.rt_text.specs.Widgets.{own_inserted, own_left, reselected};
 
 use crate::parts::Parts;
-use rt_edits::Range;
+use rt_plans::Range;
 use rt_revert::{Return, TextChange};
 use rt_rga::Change;
 use rt_stamps::{Fault, Stamp};

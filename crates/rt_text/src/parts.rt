@@ -1,17 +1,17 @@
 // The parts of a widget.
 ghost use Rattle.std.specs.Prelude.{◌≡◌, ◌+◌, ◌≤◌, ◌∷◌, [], ◌&&◌, true, IsOkUnless, OnOk, length};
-ghost use Rattle.rt_edits.specs.Insertions.{selected_with};
-ghost use Rattle.rt_edits.specs.Selected.{room_in, selected_stamps};
-ghost use Rattle.rt_edits.specs.Selections.{unselected};
+ghost use Rattle.rt_plans.specs.Insertions.{selected_with};
+ghost use Rattle.rt_plans.specs.Selected.{room_in, selected_stamps};
+ghost use Rattle.rt_plans.specs.Selections.{unselected};
 ghost use Rattle.rt_store.specs.Spans.{is_among};
 ghost use Rattle.rt_text.specs.Parts.{own_in};
 ghost use Rattle.rt_text.specs.Widgets.{new_own, own_at, own_inserted, own_removed, reselected};
 
-use rt_edits::Selection;
+use rt_lines::Limits;
 use rt_marks::Gravity;
 use rt_marks::place::{place_inserted, place_removed};
+use rt_plans::Selection;
 use rt_stamps::{Fault, Stamp};
-use rt_views::Limits;
 use std::alloc::Global;
 
 /// A mark without its name.

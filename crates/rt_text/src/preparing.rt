@@ -5,24 +5,24 @@ ghost use Rattle.rt_tags.specs.Tags.{IsName, is_listed, is_ready};
 ghost use Rattle.rt_stamps.specs.Names.{name_check};
 ghost use Rattle.rt_stamps.specs.Words.{as_words};
 ghost use Rattle.rt_text.specs.Commands.{names_in};
-ghost use Rattle.rt_edits.specs.DeletionLaws.{IsPiece};
-ghost use Rattle.rt_edits.specs.Insertions.{all_listed};
-ghost use Rattle.rt_edits.specs.InsertionPlans.{selected_between};
-ghost use Rattle.rt_edits.specs.Selected.{room_in, selected_stamps};
+ghost use Rattle.rt_plans.specs.DeletionLaws.{IsPiece};
+ghost use Rattle.rt_plans.specs.Insertions.{all_listed};
+ghost use Rattle.rt_plans.specs.InsertionPlans.{selected_between};
+ghost use Rattle.rt_plans.specs.Selected.{room_in, selected_stamps};
 ghost use Rattle.rt_text.specs.Widgets.{reselected};
 ghost use Rattle.rt_text.specs.Parts.{HaveRoomFor, own_in};
 ghost use Rattle.rt_ops.specs.Edits.{body_of};
 ghost use Rattle.rt_rga.specs.Cells.{cells_of};
 ghost use Rattle.rt_rga.specs.Drafts.{with_drafts};
-ghost use Rattle.rt_rga.specs.Few.{items_in};
+ghost use Rattle.rt_rga.specs.OneOrMany.{items_in};
 ghost use Rattle.rt_rga.specs.Made.{refusal_of};
 ghost use Rattle.rt_rga.specs.Requests.{MayBeMade};
 
 use crate::others::{add_between, reserve_between};
 use crate::parts::Parts;
-use rt_edits::inserting::{Between, Plan};
-use rt_edits::{Piece, Selection};
-use rt_rga::{Draft, Few, Replica};
+use rt_plans::inserting::{Between, Plan};
+use rt_plans::{Piece, Selection};
+use rt_rga::{Draft, OneOrMany, Replica};
 use rt_stamps::Fault;
 use rt_store::TextStore;
 use rt_tags::TagTable;
@@ -131,7 +131,7 @@ pub(crate) fn make_planned<S: TextStore>(
     tags: &mut TagTable,
     selection: &mut Selection,
     others: &mut [Parts],
-    drafts: Few<Draft>,
+    drafts: OneOrMany<Draft>,
     plan: &Plan,
 ) -> Result<(), Fault>
     requires names { All (λ w. IsName (string_bytes w)) plan.now.names.items }

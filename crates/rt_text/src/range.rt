@@ -1,5 +1,5 @@
 // Ranges of places.
-ghost use Rattle.rt_views.specs.Stretches.{part};
+ghost use Rattle.rt_lines.specs.Stretches.{part};
 ghost use Rattle.std.specs.Prelude.{◌≡◌, ◌≤◌, ◌⊎◌, ◌++◌, All, IfOk, IfErr, IsOkUnless, OnOk, map, length, string_bytes, encode_utf8_all};
 ghost use Rattle.rt_stamps.specs.declared.limits.TheConstants.{MOST_CELLS};
 ghost use Rattle.rt_stamps.specs.Outcomes.{first_of};
@@ -8,11 +8,11 @@ ghost use Rattle.rt_store.specs.Cells.{text_of};
 ghost use Rattle.rt_text.specs.Index.{index_check, place_at_index};
 ghost use Rattle.rt_text.specs.Ranges.{text_between, ranges_of, texts_of};
 
-use rt_edits::Range;
 use rt_index::{Ground, place_of};
+use rt_lines::Stretch;
+use rt_plans::Range;
 use rt_stamps::Fault;
 use rt_store::TextStore;
-use rt_views::Stretch;
 use std::alloc::Global;
 
 // How many characters are read at a time.

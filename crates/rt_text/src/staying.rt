@@ -5,11 +5,11 @@ ghost use Rattle.rt_stamps.specs.declared.limits.TheConstants.{MOST_CELLS};
 ghost use Rattle.rt_store.specs.Cells.{visible_of};
 ghost use Rattle.rt_store.specs.Tagged.{AreStates};
 ghost use Rattle.rt_tags.specs.States.{IsState, TagStates};
-ghost use Rattle.rt_edits.specs.Insertions.{left_neighbour, right_neighbour};
-ghost use Rattle.rt_edits.specs.Removals.{AreInOrder, gone_at, is_covered};
+ghost use Rattle.rt_plans.specs.Insertions.{left_neighbour, right_neighbour};
+ghost use Rattle.rt_plans.specs.Removals.{AreInOrder, gone_at, is_covered};
 
-use rt_edits::Range;
 use rt_marks::place::place_removed;
+use rt_plans::Range;
 use rt_store::{Cell, TextStore};
 use rt_tags::StateId;
 

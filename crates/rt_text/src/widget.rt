@@ -1,9 +1,9 @@
 // A widget's own marks.
 ghost use Rattle.std.specs.Prelude.{ℕ, ◌≡◌, ◌+◌, ◌≤◌, All, IsOkUnless, OnErr, OnOk, length};
 ghost use Rattle.std.specs.List.{AllByRecursion};
-ghost use Rattle.rt_edits.specs.Removals.{AreInOrder, is_covered, stamps_at};
-ghost use Rattle.rt_edits.specs.Selected.{selected_stamps};
-ghost use Rattle.rt_edits.specs.Selections.{selection_with};
+ghost use Rattle.rt_plans.specs.Removals.{AreInOrder, is_covered, stamps_at};
+ghost use Rattle.rt_plans.specs.Selected.{selected_stamps};
+ghost use Rattle.rt_plans.specs.Selections.{selection_with};
 ghost use Rattle.rt_store.specs.Cells.{visible_of};
 ghost use Rattle.rt_revert.specs.Plans.{IsChange};
 ghost use Rattle.rt_rga.specs.Taken.{AreFallingRuns, is_in_runs};
@@ -13,13 +13,13 @@ ghost use Rattle.rt_text.specs.Widgets.{new_own, own_mark, own_set, own_with_gra
 
 use crate::OwnMark;
 use crate::parts::Parts;
-use rt_edits::{Range, Selection, listing};
+use rt_lines::Limits;
 use rt_marks::Gravity;
+use rt_plans::{Range, Selection, listing};
 use rt_revert::{Return, TextChange};
 use rt_rga::Change;
 use rt_stamps::Fault;
 use rt_store::TextStore;
-use rt_views::Limits;
 use std::alloc::Global;
 use std::marker::Model;
 use std::mem::swap;

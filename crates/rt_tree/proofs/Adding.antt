@@ -15,7 +15,7 @@ use Rattle.rt_tree.specs.Changes.{HasGrown, IsRight, adds_up, entry_totals, join
 use Rattle.rt_tree.specs.Shape.{Memory, all_below, below}
 use Rattle.rt_tree.specs.Runs.{first_stamp}
 use Rattle.rt_tree.specs.Sums.{AreFew, least_first, lesser, plus, totals_of}
-use Rattle.rt_tree.proofs.Measures.{counts-append, none-plus, plus_assoc, plus_comm}
+use Rattle.rt_tree.proofs.Amounts.{counts-append, none-plus, plus_assoc, plus_comm}
 
 cases : (b : Bool) → (b ≡ true) ⊎ (b ≡ false)
 cases true = inl refl

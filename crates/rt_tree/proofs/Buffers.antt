@@ -6,7 +6,7 @@ use Rattle.std.proofs.lemmas.List.{append_assoc, drop-append-le, drop-drop, drop
 use Rattle.rt_store.specs.declared.cell.Cell.{Cell}
 use Rattle.rt_store.specs.Cells.{text_of, visible_of}
 use Rattle.rt_tree.specs.declared.node.Counts.{Counts}
-use Rattle.rt_tree.specs.declared.node.Measure.TheVariants.{Visible}
+use Rattle.rt_tree.specs.declared.node.CountedBy.TheVariants.{Visible}
 use Rattle.rt_tree.specs.declared.node.Run.{Run}
 use Rattle.rt_tree.specs.Runs.{IsRun, cells_of, characters, run_cells}
 use Rattle.rt_tree.specs.Walks.{StandsAt}

@@ -9,7 +9,7 @@ use Rattle.rt_store.specs.declared.cell.Cell.{Cell}
 use Rattle.rt_store.specs.Cells.{cells_from, text_of, visible_of}
 use Rattle.rt_store.proofs.Places.{length_from}
 use Rattle.rt_tree.specs.declared.node.Counts.{Counts}
-use Rattle.rt_tree.specs.declared.node.Measure.TheVariants.{Cells, Visible}
+use Rattle.rt_tree.specs.declared.node.CountedBy.TheVariants.{Cells, Visible}
 use Rattle.rt_tree.specs.declared.node.Run.{Run}
 use Rattle.rt_tree.specs.Runs.{IsRun, cells_of, characters, run_cells, with_gone}
 use Rattle.rt_tree.specs.Sums.{counts_of}

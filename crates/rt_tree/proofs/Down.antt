@@ -10,7 +10,7 @@ use Rattle.rt_tree.specs.declared.node.Totals.{Totals}
 use Rattle.rt_tree.specs.Shape.{Memory, Fits, IsChild, IsExact, IsTree, all_below, below, runs, count_of, entry_counts, left_of, ahead, level_of, sum_of}
 use Rattle.rt_tree.specs.Sums.{counts_of, plus}
 use Rattle.rt_tree.proofs.Around.{below_top, leads_to, take-left}
-use Rattle.rt_tree.proofs.Measures.{counts-append, counts-exact, sum-exact}
+use Rattle.rt_tree.proofs.Amounts.{counts-append, counts-exact, sum-exact}
 
 module _ {X : Type 0} (P : X → Type 0) where
   pub each-at : (xs : List X) (i : ℕ) (x : X) → AllByRecursion P xs → i < length xs → x ≡ get_or xs i x → P x

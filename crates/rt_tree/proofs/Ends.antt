@@ -6,7 +6,7 @@ use Rattle.rt_nodes.specs.Nodes.{entries}
 use Rattle.rt_tree.specs.declared.node.Counts.{Counts}
 use Rattle.rt_tree.specs.declared.node.Entry.{Entry}
 use Rattle.rt_tree.specs.declared.node.Entry.TheVariants.{Here}
-use Rattle.rt_tree.specs.declared.node.Measure.TheVariants.{Cells}
+use Rattle.rt_tree.specs.declared.node.CountedBy.TheVariants.{Cells}
 use Rattle.rt_tree.specs.declared.node.Run.{Run}
 use Rattle.rt_tree.specs.declared.put.Known.{Known}
 use Rattle.rt_tree.specs.declared.put.Known.TheVariants.{Behind, Nothing}
@@ -17,7 +17,7 @@ use Rattle.rt_tree.specs.Shape.{Memory, ahead, all_below, below, level_of, runs_
 use Rattle.rt_tree.specs.Sums.{counts_of, counts_of_run, plus}
 use Rattle.rt_tree.specs.Walks.{IsSpot}
 use Rattle.rt_tree.proofs.Edges.{counts_mid}
-use Rattle.rt_tree.proofs.Measures.{counts-append, plus-none}
+use Rattle.rt_tree.proofs.Amounts.{counts-append, plus-none}
 
 -- the runs of the first entries of a leaf, and one more
 taken : (m : Memory) (es : List Entry) (i : ℕ) (run : Run) → slice_get es i ≡ Some (Here run) → all_below m 0 (take (suc i) es) ≡ all_below m 0 (take i es) ++ run ∷ []

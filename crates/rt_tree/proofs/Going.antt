@@ -6,17 +6,17 @@ use Rattle.rt_tree.specs.declared.node.Counts.{Counts}
 use Rattle.rt_tree.specs.declared.node.Run.{Run}
 use Rattle.rt_tree.specs.declared.node.Entry.{Entry}
 use Rattle.rt_tree.specs.declared.node.Entry.TheVariants.{Down, Here}
-use Rattle.rt_tree.specs.declared.node.Measure.{Measure}
+use Rattle.rt_tree.specs.declared.node.CountedBy.{CountedBy}
 use Rattle.rt_tree.specs.declared.node.Totals.{Totals}
 use Rattle.rt_tree.specs.Shape.{Memory, Fits, IsTree, all_below, runs, runs_before, tree_runs, entry_counts, ahead, behind, level_of, sum_of}
 use Rattle.rt_tree.specs.Sums.{AreFew, amount, counts_of, no_counts, plus}
 use Rattle.rt_tree.specs.Walks.{IsSpot}
 use Rattle.rt_tree.proofs.Around.{cut_at}
 use Rattle.rt_tree.proofs.Down.{down, fits-at, low, sum-front, sum-node}
-use Rattle.rt_tree.proofs.Measures.{amount-none, amount-plus, counts-append}
+use Rattle.rt_tree.proofs.Amounts.{amount-none, amount-plus, counts-append}
 
 -- the place that a walk looks for is in the runs below a node, so much into them
-pub record Going (m : Memory) (root : ℕ) (by : Measure) (place id rest : ℕ) (front : Counts) : Type 0 where
+pub record Going (m : Memory) (root : ℕ) (by : CountedBy) (place id rest : ℕ) (front : Counts) : Type 0 where
   pub is : id < length m.heads
   pub low : level_of m id ≤ level_of m root
   pub at : amount by front + rest ≡ place
@@ -24,7 +24,7 @@ pub record Going (m : Memory) (root : ℕ) (by : Measure) (place id rest : ℕ) 
   pub within : rest < amount by (counts_of (runs m (level_of m id) id))
 
 -- the entry of a node to which it goes on
-pub record Into (m : Memory) (by : Measure) (id rest : ℕ) (front : Counts) (i : ℕ) (e : Entry) (inside : ℕ) (next : Counts) : Type 0 where
+pub record Into (m : Memory) (by : CountedBy) (id rest : ℕ) (front : Counts) (i : ℕ) (e : Entry) (inside : ℕ) (next : Counts) : Type 0 where
   pub lt : i < length (entries m id)
   pub here : e ≡ get_or (entries m id) i e
   pub before : next ≡ plus front (sum_of (take i (entries m id)))
@@ -36,7 +36,7 @@ get-at [] i x lt is = absurd (omega arith)
 get-at (y ∷ xs) zero x lt is = ap (λ z. Some z) (sym is)
 get-at (y ∷ xs) (suc i) x lt is = get-at xs i x (omega arith) is
 
-module _ (m : Memory) (root : ℕ) (t : IsTree m root) (by : Measure) (place : ℕ) where
+module _ (m : Memory) (root : ℕ) (t : IsTree m root) (by : CountedBy) (place : ℕ) where
   pub begins : place < amount by (counts_of (tree_runs m root)) → Going m root by place root place no_counts
   begins within =
       let z : level_of m root - level_of m root ≡ 0 = omega arith in

@@ -5,7 +5,7 @@ use Rattle.rt_nodes.specs.Nodes.{entries, with_entries}
 use Rattle.rt_tree.specs.declared.node.Counts.{Counts}
 use Rattle.rt_tree.specs.declared.node.Entry.{Entry}
 use Rattle.rt_tree.specs.declared.node.Entry.TheVariants.{Down, Here}
-use Rattle.rt_tree.specs.declared.node.Measure.{Measure}
+use Rattle.rt_tree.specs.declared.node.CountedBy.{CountedBy}
 use Rattle.rt_tree.specs.declared.node.Run.{Run}
 use Rattle.rt_tree.specs.Changes.{bare, links, strip}
 use Rattle.rt_tree.specs.Holds.{IsHeld}
@@ -52,7 +52,7 @@ set_here (e ∷ es) zero y b is = refl
 set_here (e ∷ es) (suc i) y b is = set_here es i y b is
 
 -- a place in the run
-pub held_spot : (m : Memory) (root : ℕ) (by : Measure) (place leaf entry offset : ℕ) (run : Run) (front : Counts) → IsHeld m root leaf entry run front → amount by front + offset ≡ place → offset < amount by (counts_of_run run) → IsSpot m root by place leaf entry offset run
+pub held_spot : (m : Memory) (root : ℕ) (by : CountedBy) (place leaf entry offset : ℕ) (run : Run) (front : Counts) → IsHeld m root leaf entry run front → amount by front + offset ≡ place → offset < amount by (counts_of_run run) → IsSpot m root by place leaf entry offset run
 held_spot m root by place leaf entry offset run front held at inside = record {
   is = held.is;
   low = held.low;
@@ -61,7 +61,7 @@ held_spot m root by place leaf entry offset run front held at inside = record {
   inside = inside;
 }
 
-pub spot_held : (m : Memory) (root : ℕ) (by : Measure) (place leaf entry offset : ℕ) (run : Run) (front : Counts) → IsSpot m root by place leaf entry offset run → front ≡ counts_of (runs_before m root leaf entry) → IsHeld m root leaf entry run front
+pub spot_held : (m : Memory) (root : ℕ) (by : CountedBy) (place leaf entry offset : ℕ) (run : Run) (front : Counts) → IsSpot m root by place leaf entry offset run → front ≡ counts_of (runs_before m root leaf entry) → IsHeld m root leaf entry run front
 spot_held m root by place leaf entry offset run front spot is = record { is = spot.is; low = spot.low; here = spot.here; before = is }
 
 module _ (m new : Memory) (root height x i : ℕ) (run before : Run) (front : Counts) (t : IsTree m root) (top : height ≡ level_of m root)

@@ -1,4 +1,4 @@
--- Runs whose stamps have their leaves in the map, once a run was put in, made longer, cut or marked.
+-- Runs whose stamps have their leaves in the map, once a run was put in, made longer, cut or updated.
 use Rattle.std.proofs.Common.{◌≡◌, ℕ, ◌+◌, ◌-◌, ◌<◌, ◌⊎◌, inl, inr, Bool, true, false, true≢false, List, [], ◌∷◌, ◌++◌, length, length-append, map, refl, sym, ap, ◌∙◌, arith, subst, Some}
 use Rattle.std.specs.Prelude.{◌==◌, ◌&&◌, nat_le, nat_lt, if◌then◌else◌}
 use Rattle.std.specs.List.{AllByRecursion}
@@ -9,8 +9,8 @@ use Rattle.rt_stamps.specs.declared.stamp.Span.{Span}
 use Rattle.rt_stamps.specs.declared.stamp.Stamp.{Stamp}
 use Rattle.rt_store.specs.Cells.{is_in_span}
 use Rattle.rt_store.proofs.Distinct.{split}
-use Rattle.rt_tree.specs.declared.mark.Mark.{Mark}
-use Rattle.rt_tree.specs.declared.mark.Mark.TheVariants.{Gone, State}
+use Rattle.rt_tree.specs.declared.update.CellUpdate.{CellUpdate}
+use Rattle.rt_tree.specs.declared.update.CellUpdate.TheVariants.{Gone, State}
 use Rattle.rt_tree.specs.declared.node.Run.{Run}
 use Rattle.rt_tree.specs.Additions.{are_joint, joined}
 use Rattle.rt_tree.specs.Homes.{AreOnceEach, IsNew}
@@ -19,7 +19,7 @@ use Rattle.rt_tree.specs.Shape.{IsTree, Memory, tree_runs}
 use Rattle.rt_tree.specs.Sharing.{run_in}
 use Rattle.rt_tree.specs.Skips.{HasCells}
 use Rattle.rt_tree.specs.Standing.{AreHoused, HasLeaf, HaveLeavesBelow, IsBordered, IsParted, HaveSameStamps, IsEntered, Stands, StayBut, StampsStay}
-use Rattle.rt_tree.specs.Stretches.{back_of, marked_run}
+use Rattle.rt_tree.specs.Stretches.{back_of, updated_run}
 use Rattle.rt_tree.specs.Walks.{IsPutAt}
 use Rattle.rt_tree.proofs.Frame.{each-append, each-back, each-front}
 use Rattle.rt_tree.proofs.Apart.{bit}
@@ -174,32 +174,32 @@ has_alike : (a b : Run) (stamp : Stamp) → HaveSameStamps a b → has b stamp �
 has_alike a b stamp same i = (same.site i == stamp.site) && (nat_le (same.first i) stamp.count && nat_lt (stamp.count - same.first i) (same.len i))
 
 module _ (leaves : Shown NodeId) where
-  marked_border : (in_span : Bool) (mark : Mark) (r : Run) → IsBordered leaves r → IsBordered leaves (if in_span then marked_run mark r else r)
-  marked_border true Gone r was = record { begins = was.begins; ends = was.ends; bound = was.bound }
-  marked_border true (State state) r was = record { begins = was.begins; ends = was.ends; bound = was.bound }
-  marked_border false mark r was = was
+  updated_border : (in_span : Bool) (update : CellUpdate) (r : Run) → IsBordered leaves r → IsBordered leaves (if in_span then updated_run update r else r)
+  updated_border true Gone r was = record { begins = was.begins; ends = was.ends; bound = was.bound }
+  updated_border true (State state) r was = record { begins = was.begins; ends = was.ends; bound = was.bound }
+  updated_border false update r was = was
 
-  marked_borders : (span : Span) (mark : Mark) (rs : List Run) → AllByRecursion (IsBordered leaves) rs → AllByRecursion (IsBordered leaves) (map (run_in span mark) rs)
-  marked_borders span mark [] was = tt
-  marked_borders span mark (r ∷ rs) was = (marked_border (is_in_span span (first_stamp r)) mark r was.0, marked_borders span mark rs was.1)
+  updated_borders : (span : Span) (update : CellUpdate) (rs : List Run) → AllByRecursion (IsBordered leaves) rs → AllByRecursion (IsBordered leaves) (map (run_in span update) rs)
+  updated_borders span update [] was = tt
+  updated_borders span update (r ∷ rs) was = (updated_border (is_in_span span (first_stamp r)) update r was.0, updated_borders span update rs was.1)
 
-  pub marked_housed : (m n : Memory) (root : ℕ) (span : Span) (mark : Mark) → tree_runs n root ≡ map (run_in span mark) (tree_runs m root) → StampsStay m n → AreHoused m root leaves → AreHoused n root leaves
-  marked_housed m n root span mark is stay h = record {
-    bordered = subst (AllByRecursion (IsBordered leaves)) (sym is) (marked_borders span mark (tree_runs m root) h.bordered);
+  pub updated_housed : (m n : Memory) (root : ℕ) (span : Span) (update : CellUpdate) → tree_runs n root ≡ map (run_in span update) (tree_runs m root) → StampsStay m n → AreHoused m root leaves → AreHoused n root leaves
+  updated_housed m n root span update is stay h = record {
+    bordered = subst (AllByRecursion (IsBordered leaves)) (sym is) (updated_borders span update (tree_runs m root) h.bordered);
     there = λ at r stands stamp own. let before = stay at r stands in h.there at before.was before.stood stamp (sym (has_alike before.was r stamp before.same) ∙ own);
   }
 
--- the marked run stands where the run stood
-marked_alike : (mark : Mark) (r : Run) → HaveSameStamps r (marked_run mark r)
-marked_alike Gone r = record { first = refl; len = refl; site = refl }
-marked_alike (State state) r = record { first = refl; len = refl; site = refl }
+-- the updated run stands where the run stood
+updated_alike : (update : CellUpdate) (r : Run) → HaveSameStamps r (updated_run update r)
+updated_alike Gone r = record { first = refl; len = refl; site = refl }
+updated_alike (State state) r = record { first = refl; len = refl; site = refl }
 
-pub marked_stay : (m n : Memory) (at : ℕ) (mark : Mark) (run : Run) → Stands m at run → StayBut m n at (marked_run mark run) → length n.heads ≡ length m.heads → StampsStay m n
-marked_stay m n at mark run stood stay same b r stands = elim (stay b r stands) [
+pub updated_stay : (m n : Memory) (at : ℕ) (update : CellUpdate) (run : Run) → Stands m at run → StayBut m n at (updated_run update run) → length n.heads ≡ length m.heads → StampsStay m n
+updated_stay m n at update run stood stay same b r stands = elim (stay b r stands) [
   | inl high ↦ let low = stands.is in absurd (omega (arith, high, low, same))
   | inr rest ↦ elim rest [
     | inl was ↦ record { was = r; stood = was; same = record { first = refl; len = refl; site = refl } }
-    | inr own ↦ record { was = run; stood = subst (λ k. Stands m k run) (sym own.0) stood; same = subst (HaveSameStamps run) (sym own.1) (marked_alike mark run) }
+    | inr own ↦ record { was = run; stood = subst (λ k. Stands m k run) (sym own.0) stood; same = subst (HaveSameStamps run) (sym own.1) (updated_alike update run) }
   ]
 ]
 

@@ -13,10 +13,10 @@ use Rattle.rt_stamps.specs.Stamps.{is_same}
 use Rattle.rt_store.specs.declared.cell.Cell.{Cell}
 use Rattle.rt_store.specs.Cells.{cells_from, is_in_span, position_of}
 use Rattle.rt_store.proofs.Distinct.{split}
-use Rattle.rt_tree.specs.declared.mark.Mark.{Mark}
-use Rattle.rt_tree.specs.declared.mark.Mark.TheVariants.{Gone, State}
+use Rattle.rt_tree.specs.declared.update.CellUpdate.{CellUpdate}
+use Rattle.rt_tree.specs.declared.update.CellUpdate.TheVariants.{Gone, State}
 use Rattle.rt_tree.specs.declared.node.Counts.{Counts}
-use Rattle.rt_tree.specs.declared.node.Measure.TheVariants.{Cells}
+use Rattle.rt_tree.specs.declared.node.CountedBy.TheVariants.{Cells}
 use Rattle.rt_tree.specs.declared.node.Run.{Run}
 use Rattle.rt_tree.specs.Additions.{are_joint, joined}
 use Rattle.rt_tree.specs.Homes.{AreHome, AreOnceEach, IsAmong, IsNew, IsPlaced, IsUnknown, KeepsAll, KeepsOthers, holders}
@@ -176,21 +176,21 @@ recut_home leaves old new kept recut home = same_home leaves old new (recut_hold
 
 -- MARKS
 
-marked_has : (span : Span) (mark : Mark) (r : Run) (stamp : Stamp) → has (run_in span mark r) stamp ≡ has r stamp
-marked_has span Gone r stamp = split (is_in_span span (first_stamp r)) (λ e. rw e refl) (λ e. rw e refl)
-marked_has span (State state) r stamp = split (is_in_span span (first_stamp r)) (λ e. rw e refl) (λ e. rw e refl)
+updated_has : (span : Span) (update : CellUpdate) (r : Run) (stamp : Stamp) → has (run_in span update r) stamp ≡ has r stamp
+updated_has span Gone r stamp = split (is_in_span span (first_stamp r)) (λ e. rw e refl) (λ e. rw e refl)
+updated_has span (State state) r stamp = split (is_in_span span (first_stamp r)) (λ e. rw e refl) (λ e. rw e refl)
 
-marked_holders : (span : Span) (mark : Mark) (rs : List Run) (stamp : Stamp) → holders stamp (map (run_in span mark) rs) ≡ holders stamp rs
-marked_holders span mark [] stamp = refl
-marked_holders span mark (r ∷ rs) stamp =
-    let a = holders-cons stamp (run_in span mark r) (map (run_in span mark) rs) in
+updated_holders : (span : Span) (update : CellUpdate) (rs : List Run) (stamp : Stamp) → holders stamp (map (run_in span update) rs) ≡ holders stamp rs
+updated_holders span update [] stamp = refl
+updated_holders span update (r ∷ rs) stamp =
+    let a = holders-cons stamp (run_in span update r) (map (run_in span update) rs) in
     let b = holders-cons stamp r rs in
-    let h = ap bit (marked_has span mark r stamp) in
-    let i = marked_holders span mark rs stamp in
+    let h = ap bit (updated_has span update r stamp) in
+    let i = updated_holders span update rs stamp in
     omega (arith, a, b, h, i)
 
-pub marked_home : (leaves : Shown NodeId) (span : Span) (mark : Mark) (old new : List Run) → new ≡ map (run_in span mark) old → AreHome leaves old → AreHome leaves new
-marked_home leaves span mark old new is home = same_home leaves old new (λ stamp. ap (holders stamp) is ∙ marked_holders span mark old stamp) home
+pub updated_home : (leaves : Shown NodeId) (span : Span) (update : CellUpdate) (old new : List Run) → new ≡ map (run_in span update) old → AreHome leaves old → AreHome leaves new
+updated_home leaves span update old new is home = same_home leaves old new (λ stamp. ap (holders stamp) is ∙ updated_holders span update old stamp) home
 
 -- NEW RUNS SHARE NO STAMP
 

@@ -1,4 +1,4 @@
-mod Measures
+mod Amounts
 mod Around
 mod Filled
 mod Down
@@ -38,7 +38,7 @@ mod Apart
 mod Pieces
 mod Walking
 mod Cutting
-mod Marking
+mod Updating
 mod Roomier
 mod Following
 mod Joining

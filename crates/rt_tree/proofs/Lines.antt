@@ -7,7 +7,7 @@ use Rattle.rt_stamps.specs.Places.{after_newlines, newlines}
 use Rattle.rt_store.specs.declared.cell.Cell.{Cell}
 use Rattle.rt_store.specs.Cells.{text_of, visible_of}
 use Rattle.rt_tree.specs.declared.node.Counts.{Counts}
-use Rattle.rt_tree.specs.declared.node.Measure.TheVariants.{Visible, Newlines}
+use Rattle.rt_tree.specs.declared.node.CountedBy.TheVariants.{Visible, Newlines}
 use Rattle.rt_tree.specs.declared.node.Run.{Run}
 use Rattle.rt_tree.specs.Runs.{IsRun, cells_of, characters, run_cells}
 use Rattle.rt_tree.specs.Walks.{StandsAt}

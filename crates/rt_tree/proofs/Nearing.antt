@@ -18,7 +18,7 @@ use Rattle.rt_tree.specs.Shape.{Memory, IsExact, IsTree, all_below, below, entry
 use Rattle.rt_tree.specs.Summaries.{AreSummed, IsSummary, shown_states, summary_of}
 use Rattle.rt_tree.specs.Sums.{AreFew, counts_of, plus}
 use Rattle.rt_tree.proofs.Down.{down, each-at, sum-front}
-use Rattle.rt_tree.proofs.Measures.{counts-append, counts-exact, sum-more}
+use Rattle.rt_tree.proofs.Amounts.{counts-append, counts-exact, sum-more}
 use Rattle.rt_tree.proofs.Passes.{each-append, parts-at}
 use Rattle.rt_tree.proofs.Reaching.{first_given, reached-append, reached-front, reached-le, shown-append, shown_here, visible}
 

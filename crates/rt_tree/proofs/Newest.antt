@@ -8,12 +8,12 @@ use Rattle.rt_store.proofs.Distinct.{split}
 use Rattle.rt_store.specs.declared.cell.Cell.{Cell}
 use Rattle.rt_store.specs.Cells.{cells_from, is_in_span, put_at}
 use Rattle.rt_stamps.specs.declared.stamp.Span.{Span}
-use Rattle.rt_tree.specs.declared.mark.Mark.{Mark}
-use Rattle.rt_tree.specs.declared.mark.Mark.TheVariants.{Gone, State}
+use Rattle.rt_tree.specs.declared.update.CellUpdate.{CellUpdate}
+use Rattle.rt_tree.specs.declared.update.CellUpdate.TheVariants.{Gone, State}
 use Rattle.rt_tree.specs.declared.node.Run.{Run}
 use Rattle.rt_tree.specs.Runs.{IsRun, cells_of, characters, run_cells, with_gone}
 use Rattle.rt_tree.specs.Sharing.{AreKnown, AreUpTo, cell_in, is_shared_by}
-use Rattle.rt_tree.specs.Stretches.{marked_cell}
+use Rattle.rt_tree.specs.Stretches.{updated_cell}
 use Rattle.rt_tree.proofs.CellLaws.{characters_length}
 use Rattle.rt_tree.proofs.Shared.{none_shared}
 
@@ -59,23 +59,23 @@ upto_next n m at done len cells cs now new le was is known more =
     let both = subst (AreUpTo m) (sym (take-add done len cells)) (upto_both m (take done cells) (take len (drop done cells)) front more) in
     subst (AreUpTo m) (sym is) (upto_put m at (take (done + len) cells) cs old both)
 
--- a mark keeps counts
-same_count : (mark : Mark) (c : Cell ℕ) → (marked_cell mark c).stamp.count ≡ c.stamp.count
+-- a update keeps counts
+same_count : (update : CellUpdate) (c : Cell ℕ) → (updated_cell update c).stamp.count ≡ c.stamp.count
 same_count Gone c = refl
 same_count (State state) c = refl
 
-pub upto_marked : (n : ℕ) (span : Span) (mark : Mark) (cs : List (Cell ℕ)) → AreUpTo n cs → AreUpTo n (map (cell_in span mark) cs)
-upto_marked n span mark [] all = tt
-upto_marked n span mark (c ∷ cs) all =
-    (split (is_in_span span c.stamp) (λ e. rw e (let s = same_count mark c in let h = all.0 in omega (arith, s, h))) (λ e. rw e all.0), upto_marked n span mark cs all.1)
+pub upto_updated : (n : ℕ) (span : Span) (update : CellUpdate) (cs : List (Cell ℕ)) → AreUpTo n cs → AreUpTo n (map (cell_in span update) cs)
+upto_updated n span update [] all = tt
+upto_updated n span update (c ∷ cs) all =
+    (split (is_in_span span c.stamp) (λ e. rw e (let s = same_count update c in let h = all.0 in omega (arith, s, h))) (λ e. rw e all.0), upto_updated n span update cs all.1)
 
-kept_count : (span : Span) (mark : Mark) (c : Cell ℕ) → (cell_in span mark c).stamp.count ≡ c.stamp.count
-kept_count span mark c = split (is_in_span span c.stamp) (λ e. rw e (same_count mark c)) (λ e. rw e refl)
+kept_count : (span : Span) (update : CellUpdate) (c : Cell ℕ) → (cell_in span update c).stamp.count ≡ c.stamp.count
+kept_count span update c = split (is_in_span span c.stamp) (λ e. rw e (same_count update c)) (λ e. rw e refl)
 
-pub upto_unmarked : (n : ℕ) (span : Span) (mark : Mark) (cs : List (Cell ℕ)) → AreUpTo n (map (cell_in span mark) cs) → AreUpTo n cs
-upto_unmarked n span mark [] all = tt
-upto_unmarked n span mark (c ∷ cs) all =
-    (let k = kept_count span mark c in let h = all.0 in omega (arith, k, h), upto_unmarked n span mark cs all.1)
+pub upto_not_updated : (n : ℕ) (span : Span) (update : CellUpdate) (cs : List (Cell ℕ)) → AreUpTo n (map (cell_in span update) cs) → AreUpTo n cs
+upto_not_updated n span update [] all = tt
+upto_not_updated n span update (c ∷ cs) all =
+    (let k = kept_count span update c in let h = all.0 in omega (arith, k, h), upto_not_updated n span update cs all.1)
 
 -- RUNS WITH COUNTS THAT NO CELL HAS
 

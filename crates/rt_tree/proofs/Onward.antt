@@ -9,7 +9,7 @@ use Rattle.rt_stamps.specs.declared.stamp.Stamp.{Stamp}
 use Rattle.rt_store.specs.declared.cell.Cell.{Cell}
 use Rattle.rt_store.specs.Cells.{GoOnTo, position_of}
 use Rattle.rt_tree.specs.declared.node.Counts.{Counts}
-use Rattle.rt_tree.specs.declared.node.Measure.TheVariants.{Cells}
+use Rattle.rt_tree.specs.declared.node.CountedBy.TheVariants.{Cells}
 use Rattle.rt_tree.specs.declared.node.Run.{Run}
 use Rattle.rt_tree.specs.Runs.{IsRun, cells_of, characters, has, run_cells}
 use Rattle.rt_tree.specs.Walks.{IsBehind, StandsAt}

@@ -15,7 +15,7 @@ use Rattle.rt_tree.specs.Shape.{Memory, IsExact, IsTree, all_below, below, entry
 use Rattle.rt_tree.specs.Skips.{HasCells, are_passed, passed}
 use Rattle.rt_tree.specs.Sums.{counts_of, plus, totals_of}
 use Rattle.rt_tree.proofs.Down.{down, each-at, sum-front}
-use Rattle.rt_tree.proofs.Measures.{counts-append, counts-exact, sum-more}
+use Rattle.rt_tree.proofs.Amounts.{counts-append, counts-exact, sum-more}
 use Rattle.rt_tree.proofs.Passing.{cells, passed-append, passed-front, passed-le, passed-whole}
 
 pub parts-at : {X : Type 0} (xs : List X) (i : ℕ) (x : X) → i < length xs → x ≡ get_or xs i x → xs ≡ take i xs ++ x ∷ drop (suc i) xs

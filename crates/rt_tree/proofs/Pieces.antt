@@ -1,4 +1,4 @@
--- Runs cut, marked and put in, and their cells.
+-- Runs cut, updated and put in, and their cells.
 use Rattle.std.proofs.Common.{◌≡◌, ℕ, ◌+◌, ◌-◌, ◌<◌, ◌≤◌, Bool, true, false, List, [], ◌∷◌, ◌++◌, length, take, drop, map, refl, sym, ap, ◌∙◌, arith, append_assoc, length-append}
 use Rattle.std.specs.List.{AllByRecursion}
 use Rattle.std.proofs.lemmas.List.{drop-append-le, drop-drop, length-drop, map-append, take-append-le, take-take}
@@ -6,12 +6,12 @@ use Rattle.std.proofs.lemmas.List.Concat.{flat_map-append}
 use Rattle.std.proofs.Math.Seq.{take-add}
 use Rattle.rt_stamps.specs.Places.{newlines}
 use Rattle.rt_store.specs.Cells.{cells_from}
-use Rattle.rt_tree.specs.declared.mark.Mark.{Mark}
-use Rattle.rt_tree.specs.declared.mark.Mark.TheVariants.{Gone, State}
+use Rattle.rt_tree.specs.declared.update.CellUpdate.{CellUpdate}
+use Rattle.rt_tree.specs.declared.update.CellUpdate.TheVariants.{Gone, State}
 use Rattle.rt_tree.specs.declared.node.Run.{Run}
 use Rattle.rt_tree.specs.Runs.{IsRun, cells_of, characters, run_cells, with_gone}
 use Rattle.rt_tree.specs.Sharing.{IsRecut}
-use Rattle.rt_tree.specs.Stretches.{back_of, front_of, marked_cell, marked_run}
+use Rattle.rt_tree.specs.Stretches.{back_of, front_of, updated_cell, updated_run}
 use Rattle.rt_tree.proofs.Apart.{apart_cut, begins_cut}
 use Rattle.rt_tree.proofs.CellLaws.{characters_length}
 use Rattle.rt_tree.proofs.Edges.{edge_cut}
@@ -105,21 +105,21 @@ from-gone : (gone : Bool) (count site state : ℕ) (cs : List ℕ) → map (with
 from-gone gone count site state [] = refl
 from-gone gone count site state (c ∷ cs) = ap (λ l. record { stamp = record { count = count; site = site }; ch = c; gone = true; state = state } ∷ l) (from-gone gone (count + 1) site state cs)
 
-from-state : (gone : Bool) (count site old new : ℕ) (cs : List ℕ) → map (with_gone gone) (cells_from count site new cs) ≡ map (marked_cell (State new)) (map (with_gone gone) (cells_from count site old cs))
+from-state : (gone : Bool) (count site old new : ℕ) (cs : List ℕ) → map (with_gone gone) (cells_from count site new cs) ≡ map (updated_cell (State new)) (map (with_gone gone) (cells_from count site old cs))
 from-state gone count site old new [] = refl
 from-state gone count site old new (c ∷ cs) = ap (λ l. record { stamp = record { count = count; site = site }; ch = c; gone = gone; state = new } ∷ l) (from-state gone (count + 1) site old new cs)
 
-pub marked_cells : (text : List ℕ) (mark : Mark) (r : Run) → run_cells text (marked_run mark r) ≡ map (marked_cell mark) (run_cells text r)
-marked_cells text Gone r = from-gone r.gone r.first r.site r.state (characters text r)
-marked_cells text (State state) r = from-state r.gone r.first r.site r.state state (characters text r)
+pub updated_cells : (text : List ℕ) (update : CellUpdate) (r : Run) → run_cells text (updated_run update r) ≡ map (updated_cell update) (run_cells text r)
+updated_cells text Gone r = from-gone r.gone r.first r.site r.state (characters text r)
+updated_cells text (State state) r = from-state r.gone r.first r.site r.state state (characters text r)
 
-pub run_marked : (text : List ℕ) (mark : Mark) (r : Run) → IsRun text r → IsRun text (marked_run mark r)
-run_marked text Gone r is = record { some = is.some; stands = is.stands; counts = is.counts; plain = is.plain; ends = is.ends }
-run_marked text (State state) r is = record { some = is.some; stands = is.stands; counts = is.counts; plain = is.plain; ends = is.ends }
+pub run_updated : (text : List ℕ) (update : CellUpdate) (r : Run) → IsRun text r → IsRun text (updated_run update r)
+run_updated text Gone r is = record { some = is.some; stands = is.stands; counts = is.counts; plain = is.plain; ends = is.ends }
+run_updated text (State state) r is = record { some = is.some; stands = is.stands; counts = is.counts; plain = is.plain; ends = is.ends }
 
-pub marked_length : (mark : Mark) (r : Run) → (marked_run mark r).len ≡ r.len
-marked_length Gone r = refl
-marked_length (State state) r = refl
+pub updated_length : (update : CellUpdate) (r : Run) → (updated_run update r).len ≡ r.len
+updated_length Gone r = refl
+updated_length (State state) r = refl
 
 -- OTHER RUNS IN PLACE OF ONE
 

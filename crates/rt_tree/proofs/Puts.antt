@@ -5,7 +5,7 @@ use Rattle.std.proofs.lemmas.List.Concat.{flat_map-append}
 use Rattle.rt_nodes.specs.Nodes.{entries}
 use Rattle.rt_tree.specs.declared.node.Entry.{Entry}
 use Rattle.rt_tree.specs.declared.node.Entry.TheVariants.{Here}
-use Rattle.rt_tree.specs.declared.node.Measure.TheVariants.{Cells}
+use Rattle.rt_tree.specs.declared.node.CountedBy.TheVariants.{Cells}
 use Rattle.rt_tree.specs.declared.node.Run.{Run}
 use Rattle.rt_tree.specs.Changes.{AreExact, bare, links}
 use Rattle.rt_tree.specs.Shape.{AreFilled, IsShape, IsTree, Memory, ahead, all_below, behind, below, level_of, runs, runs_before, tree_runs}
@@ -15,7 +15,7 @@ use Rattle.rt_tree.specs.Walks.{IsPutAt, IsReplacedAt, IsSpot, StandsAt}
 use Rattle.rt_tree.proofs.Around.{regroup}
 use Rattle.rt_tree.proofs.Down.{each-take}
 use Rattle.rt_tree.proofs.Edges.{stands_first}
-use Rattle.rt_tree.proofs.Measures.{Le}
+use Rattle.rt_tree.proofs.Amounts.{Le}
 use Rattle.rt_tree.proofs.NewLeaf.{IsLeafEntry, leaf-entries}
 use Rattle.rt_tree.proofs.Rooms.{insert_at_end, length-leaf}
 use Rattle.rt_tree.proofs.Stands.{parted, stands}

@@ -14,7 +14,7 @@ use Rattle.rt_tree.specs.Shape.{Memory, IsExact, IsTree, ahead, all_below, aroun
 use Rattle.rt_tree.specs.Sums.{AreFew, counts_of, plus}
 use Rattle.rt_tree.proofs.Around.{cut_at, cut_around, test_other, test_same}
 use Rattle.rt_tree.proofs.Down.{sum-front}
-use Rattle.rt_tree.proofs.Measures.{Le, counts-append, none-plus, plus_assoc, plus_comm, sum-exact}
+use Rattle.rt_tree.proofs.Amounts.{Le, counts-append, none-plus, plus_assoc, plus_comm, sum-exact}
 
 -- what the runs before an entry of a leaf count is what stands before a node above it, and so much more
 pub record Rising (m : Memory) (root leaf entry id : ℕ) (before : Counts) : Type 0 where

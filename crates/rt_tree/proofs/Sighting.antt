@@ -23,7 +23,7 @@ use Rattle.rt_tree.specs.Sights.{borders_in, first_in}
 use Rattle.rt_tree.specs.Skips.{HasCells}
 use Rattle.rt_tree.specs.Summaries.{AreSummed, IsSummary, shown_states, summary_of}
 use Rattle.rt_tree.proofs.Down.{sum-node}
-use Rattle.rt_tree.proofs.Measures.{sum-more}
+use Rattle.rt_tree.proofs.Amounts.{sum-more}
 use Rattle.rt_tree.proofs.Nearing.{counted, fits-entry, goes_further, near, stops_here, visible-entry, visible-front}
 use Rattle.rt_tree.proofs.Passes.{get-any, some-entry}
 use Rattle.rt_tree.proofs.Reaching.{visible}

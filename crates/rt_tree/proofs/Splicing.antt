@@ -8,7 +8,7 @@ use Rattle.rt_stamps.specs.declared.limits.TheConstants.{MOST_CELLS}
 use Rattle.rt_store.specs.declared.cell.Cell.{Cell}
 use Rattle.rt_store.specs.Cells.{put_at}
 use Rattle.rt_tree.specs.declared.node.Counts.{Counts}
-use Rattle.rt_tree.specs.declared.node.Measure.TheVariants.{Cells}
+use Rattle.rt_tree.specs.declared.node.CountedBy.TheVariants.{Cells}
 use Rattle.rt_tree.specs.declared.node.Run.{Run}
 use Rattle.rt_tree.specs.Additions.{EndsWith, IsFrontOf, IsRunOf, IsStretch, are_joint, joined, stretches}
 use Rattle.rt_tree.specs.Runs.{IsRun, cells_of, run_cells}

@@ -4,7 +4,7 @@ use Rattle.rt_nodes.specs.Nodes.{entries}
 use Rattle.rt_tree.specs.declared.node.Counts.{Counts}
 use Rattle.rt_tree.specs.declared.node.Entry.{Entry}
 use Rattle.rt_tree.specs.declared.node.Entry.TheVariants.{Here}
-use Rattle.rt_tree.specs.declared.node.Measure.{Measure}
+use Rattle.rt_tree.specs.declared.node.CountedBy.{CountedBy}
 use Rattle.rt_tree.specs.declared.node.Run.{Run}
 use Rattle.rt_tree.specs.Shape.{Memory, IsTree, ahead, all_below, behind, below, level_of, runs_before, tree_runs}
 use Rattle.rt_tree.specs.Sums.{amount, counts_of}
@@ -31,7 +31,7 @@ parted m root t leaf entry run front is low here counts =
     }
 
 -- the run of a spot stands where the spot's place is
-abbrev pub stands : (m : Memory) (root : ℕ) → IsTree m root → (by : Measure) (place leaf entry offset : ℕ) (run : Run) (front : Counts) → IsSpot m root by place leaf entry offset run → front ≡ counts_of (runs_before m root leaf entry) → StandsAt by (tree_runs m root) run front offset place
+abbrev pub stands : (m : Memory) (root : ℕ) → IsTree m root → (by : CountedBy) (place leaf entry offset : ℕ) (run : Run) (front : Counts) → IsSpot m root by place leaf entry offset run → front ≡ counts_of (runs_before m root leaf entry) → StandsAt by (tree_runs m root) run front offset place
 stands m root t by place leaf entry offset run front spot is =
     let behind_it = parted m root t leaf entry run front spot.is spot.low spot.here is in
     let count = ap (amount by) is in

@@ -9,8 +9,8 @@ use Rattle.rt_store.proofs.Distinct.{split}
 use Rattle.rt_store.specs.declared.cell.Cell.{Cell}
 use Rattle.rt_stamps.specs.Stamps.{is_same}
 use Rattle.rt_store.specs.Cells.{AreDistinct, is_in_span, put_at}
-use Rattle.rt_tree.specs.declared.mark.Mark.{Mark}
-use Rattle.rt_tree.specs.declared.mark.Mark.TheVariants.{Gone, State}
+use Rattle.rt_tree.specs.declared.update.CellUpdate.{CellUpdate}
+use Rattle.rt_tree.specs.declared.update.CellUpdate.TheVariants.{Gone, State}
 use Rattle.rt_tree.specs.declared.node.Run.{Run}
 use Rattle.rt_tree.specs.Additions.{IsFrontOf}
 use Rattle.rt_tree.specs.Homes.{AreOnceEach, IsNew, KeepsOthers, holders}
@@ -18,7 +18,7 @@ use Rattle.rt_tree.specs.Runs.{IsRun, cells_of, characters, has}
 use Rattle.rt_tree.specs.Shape.{IsTree, Memory, tree_runs}
 use Rattle.rt_tree.specs.Sharing.{AreBelowGreatest, AreOnce, AreUpTo, cell_in, occurrences}
 use Rattle.rt_tree.specs.Standing.{AreHoused, IsBordered, IsEntered, IsParted, Stands}
-use Rattle.rt_tree.specs.Stretches.{marked_cell}
+use Rattle.rt_tree.specs.Stretches.{updated_cell}
 use Rattle.rt_tree.proofs.Apart.{bit}
 use Rattle.rt_tree.proofs.CellLaws.{characters_length}
 use Rattle.rt_tree.proofs.Frame.{each-back}
@@ -99,25 +99,25 @@ module _ (text : List ℕ) (old new : List Run) (at : ℕ) (cells : List (Cell �
 
 -- MARKS
 
-same_stamp : (mark : Mark) (c : Cell ℕ) → (marked_cell mark c).stamp ≡ c.stamp
+same_stamp : (update : CellUpdate) (c : Cell ℕ) → (updated_cell update c).stamp ≡ c.stamp
 same_stamp Gone c = refl
 same_stamp (State state) c = refl
 
-kept_stamp : (span : Span) (mark : Mark) (c : Cell ℕ) → (cell_in span mark c).stamp ≡ c.stamp
-kept_stamp span mark c = split (is_in_span span c.stamp) (λ e. rw e (same_stamp mark c)) (λ e. rw e refl)
+kept_stamp : (span : Span) (update : CellUpdate) (c : Cell ℕ) → (cell_in span update c).stamp ≡ c.stamp
+kept_stamp span update c = split (is_in_span span c.stamp) (λ e. rw e (same_stamp update c)) (λ e. rw e refl)
 
-occurs_marked : (span : Span) (mark : Mark) (stamp : Stamp) (cs : List (Cell ℕ)) → occurrences stamp (map (cell_in span mark) cs) ≡ occurrences stamp cs
-occurs_marked span mark stamp [] = refl
-occurs_marked span mark stamp (c ∷ cs) =
-    let a = occurs-cons stamp (cell_in span mark c) (map (cell_in span mark) cs) in
+occurs_updated : (span : Span) (update : CellUpdate) (stamp : Stamp) (cs : List (Cell ℕ)) → occurrences stamp (map (cell_in span update) cs) ≡ occurrences stamp cs
+occurs_updated span update stamp [] = refl
+occurs_updated span update stamp (c ∷ cs) =
+    let a = occurs-cons stamp (cell_in span update c) (map (cell_in span update) cs) in
     let b = occurs-cons stamp c cs in
-    let h = ap (λ s. bit (is_same s stamp)) (kept_stamp span mark c) in
-    let i = occurs_marked span mark stamp cs in
+    let h = ap (λ s. bit (is_same s stamp)) (kept_stamp span update c) in
+    let i = occurs_updated span update stamp cs in
     omega (arith, a, b, h, i)
 
--- where no stamp is in two runs once cells were marked, none was before
-pub marked_before : (span : Span) (mark : Mark) (text : List ℕ) (old new : List Run) → AllByRecursion (IsRun text) old → AllByRecursion (IsRun text) new → cells_of text new ≡ map (cell_in span mark) (cells_of text old) → AreOnceEach new → AreOnceEach old
-marked_before span mark text old new was kept is once stamp =
-    let same = sym (all_occurs text new stamp kept) ∙ ap (occurrences stamp) is ∙ occurs_marked span mark stamp (cells_of text old) ∙ all_occurs text old stamp was in
+-- where no stamp is in two runs once cells were updated, none was before
+pub updated_before : (span : Span) (update : CellUpdate) (text : List ℕ) (old new : List Run) → AllByRecursion (IsRun text) old → AllByRecursion (IsRun text) new → cells_of text new ≡ map (cell_in span update) (cells_of text old) → AreOnceEach new → AreOnceEach old
+updated_before span update text old new was kept is once stamp =
+    let same = sym (all_occurs text new stamp kept) ∙ ap (occurrences stamp) is ∙ occurs_updated span update stamp (cells_of text old) ∙ all_occurs text old stamp was in
     let o = once stamp in
     omega (arith, same, o)

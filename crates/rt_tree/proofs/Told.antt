@@ -7,12 +7,12 @@ use Rattle.rt_store.specs.declared.cell.Cell.{Cell}
 use Rattle.rt_store.specs.Cells.{cells_from, final_cell}
 use Rattle.rt_store.specs.Tagged.{AreStates}
 use Rattle.rt_tags.specs.States.{IsState, TagStates}
-use Rattle.rt_tree.specs.declared.mark.Mark.{Mark}
-use Rattle.rt_tree.specs.declared.mark.Mark.TheVariants.{Gone, State}
+use Rattle.rt_tree.specs.declared.update.CellUpdate.{CellUpdate}
+use Rattle.rt_tree.specs.declared.update.CellUpdate.TheVariants.{Gone, State}
 use Rattle.rt_tree.specs.declared.node.Run.{Run}
 use Rattle.rt_tree.specs.Additions.{IsFrontOf}
 use Rattle.rt_tree.specs.Runs.{IsRun, characters, run_cells, with_gone}
-use Rattle.rt_tree.specs.Stretches.{AreKept, IsGiven, marked_run}
+use Rattle.rt_tree.specs.Stretches.{AreKept, IsGiven, updated_run}
 use Rattle.rt_tree.specs.declared.summed.Summaries.{Summaries}
 use Rattle.rt_tree.specs.Shape.{Memory}
 use Rattle.rt_tree.specs.Summaries.{AreSummed, AreTold, HaveMemory, shown_states}
@@ -100,10 +100,10 @@ told_next m n table s s' old new given told summed many memory tags room = recor
   given = given;
 }
 
--- what a mark makes of a run has a state that was given out
-pub marked_given : (table : TagStates) (mark : Mark) (r : Run) → IsGiven table mark → IsState table r.state → IsState table (marked_run mark r).state
-marked_given table Gone r given own = own
-marked_given table (State state) r given own = given
+-- what a update makes of a run has a state that was given out
+pub updated_given : (table : TagStates) (update : CellUpdate) (r : Run) → IsGiven table update → IsState table r.state → IsState table (updated_run update r).state
+updated_given table Gone r given own = own
+updated_given table (State state) r given own = given
 
 -- the state of a run is that of its cells
 first_given : (table : TagStates) (r : Run) (chars : List ℕ) → 0 < length chars → AreStates table (map (with_gone r.gone) (cells_from r.first r.site r.state chars)) → IsState table r.state

@@ -8,10 +8,10 @@ use Rattle.rt_store.specs.Cells.{is_in_span}
 use Rattle.rt_tree.specs.declared.homes.Home.{Home}
 use Rattle.rt_tree.specs.declared.homes.Sought.{Sought}
 use Rattle.rt_tree.specs.declared.homes.Sought.TheVariants.{At, Nowhere, Unknown}
-use Rattle.rt_tree.specs.declared.mark.Mark.{Mark}
+use Rattle.rt_tree.specs.declared.update.CellUpdate.{CellUpdate}
 use Rattle.rt_tree.specs.declared.node.Run.{Run}
 use Rattle.rt_tree.specs.Runs.{first_stamp, has}
-use Rattle.rt_tree.specs.Stretches.{marked_run}
+use Rattle.rt_tree.specs.Stretches.{updated_run}
 use Rattle.rt_tree.specs.Walks.{IsBehind}
 
 -- how many runs have a stamp
@@ -82,11 +82,11 @@ pub record IsAmong (all : List Run) (run : Run) : Type 0 where
   pub right : List Run
   pub here : all ≡ left ++ run ∷ right
 
--- a run is marked if its first stamp is in a span and comes before a count
-abbrev pub run_to : Span → ℕ → Mark → Run → Run
-run_to span count mark r = if is_in_span span (first_stamp r) && nat_lt r.first count then marked_run mark r else r
+-- a run is updated if its first stamp is in a span and comes before a count
+abbrev pub run_to : Span → ℕ → CellUpdate → Run → Run
+run_to span count update r = if is_in_span span (first_stamp r) && nat_lt r.first count then updated_run update r else r
 
--- where runs were marked up to a count of a span, they are marked up to a later one now
-pub record MarksOn (span : Span) (mark : Mark) (count next : ℕ) (old new : List Run) : Type 0 where
+-- where runs were updated up to a count of a span, they are updated up to a later one now
+pub record UpdatesOn (span : Span) (update : CellUpdate) (count next : ℕ) (old new : List Run) : Type 0 where
   pub later : count < next
-  pub marks : (rs : List Run) → old ≡ map (run_to span count mark) rs → new ≡ map (run_to span next mark) rs
+  pub updates : (rs : List Run) → old ≡ map (run_to span count update) rs → new ≡ map (run_to span next update) rs

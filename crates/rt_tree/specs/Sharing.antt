@@ -6,12 +6,12 @@ use Rattle.rt_stamps.specs.declared.stamp.Stamp.{Stamp}
 use Rattle.rt_stamps.specs.Stamps.{is_same}
 use Rattle.rt_store.specs.declared.cell.Cell.{Cell}
 use Rattle.rt_store.specs.Cells.{is_in_span}
-use Rattle.rt_tree.specs.declared.mark.Mark.{Mark}
+use Rattle.rt_tree.specs.declared.update.CellUpdate.{CellUpdate}
 use Rattle.rt_tree.specs.declared.node.Counts.{Counts}
-use Rattle.rt_tree.specs.declared.node.Measure.TheVariants.{Cells}
+use Rattle.rt_tree.specs.declared.node.CountedBy.TheVariants.{Cells}
 use Rattle.rt_tree.specs.declared.node.Run.{Run}
 use Rattle.rt_tree.specs.Runs.{IsRun, cells_of, first_stamp, has}
-use Rattle.rt_tree.specs.Stretches.{IsEdge, back_of, front_of, lengths, marked_cell, marked_run}
+use Rattle.rt_tree.specs.Stretches.{IsEdge, back_of, front_of, lengths, updated_cell, updated_run}
 use Rattle.rt_tree.specs.Sums.{counts_of}
 use Rattle.rt_tree.specs.Walks.{StandsAt}
 
@@ -58,13 +58,13 @@ pub record IsInside (rs : List Run) (stamp : Stamp) (at : ℕ) : Type 0 where
   pub later : run.first < stamp.count
   pub place : (counts_of left).cells + (stamp.count - run.first) ≡ at
 
--- a run is marked if its first stamp is in a span
-abbrev pub run_in : Span → Mark → Run → Run
-run_in span mark r = if is_in_span span (first_stamp r) then marked_run mark r else r
+-- a run is updated if its first stamp is in a span
+abbrev pub run_in : Span → CellUpdate → Run → Run
+run_in span update r = if is_in_span span (first_stamp r) then updated_run update r else r
 
--- a cell is marked if its stamp is in a span
-abbrev pub cell_in : Span → Mark → Cell ℕ → Cell ℕ
-cell_in span mark cell = if is_in_span span cell.stamp then marked_cell mark cell else cell
+-- a cell is updated if its stamp is in a span
+abbrev pub cell_in : Span → CellUpdate → Cell ℕ → Cell ℕ
+cell_in span update cell = if is_in_span span cell.stamp then updated_cell update cell else cell
 
 -- the run that has the cell at a position is changed in a way; it has so many cells
 pub record IsChangedAt (old new : List Run) (at : ℕ) (f : Run → Run) (len : ℕ) : Type 0 where

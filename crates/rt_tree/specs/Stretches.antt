@@ -6,21 +6,21 @@ use Rattle.rt_store.specs.declared.cell.Cell.{Cell}
 use Rattle.rt_store.specs.Cells.{with_state}
 use Rattle.rt_tags.specs.States.{IsState, TagStates}
 use Rattle.rt_tree.specs.declared.node.Run.{Run}
-use Rattle.rt_tree.specs.declared.mark.Mark.{Mark}
-use Rattle.rt_tree.specs.declared.mark.Mark.TheVariants.{Gone, State}
+use Rattle.rt_tree.specs.declared.update.CellUpdate.{CellUpdate}
+use Rattle.rt_tree.specs.declared.update.CellUpdate.TheVariants.{Gone, State}
 use Rattle.rt_tree.specs.Runs.{IsRun, cells_of, with_gone}
 
--- what a mark makes of a cell, and of a run
-abbrev pub marked_cell : Mark → Cell ℕ → Cell ℕ
-marked_cell Gone cell = with_gone true cell
-marked_cell (State state) cell = with_state state cell
+-- what a update makes of a cell, and of a run
+abbrev pub updated_cell : CellUpdate → Cell ℕ → Cell ℕ
+updated_cell Gone cell = with_gone true cell
+updated_cell (State state) cell = with_state state cell
 
-abbrev pub marked_run : Mark → Run → Run
-marked_run Gone r = record r { gone = true }
-marked_run (State state) r = record r { state = state }
+abbrev pub updated_run : CellUpdate → Run → Run
+updated_run Gone r = record r { gone = true }
+updated_run (State state) r = record r { state = state }
 
--- the state that a mark gives was given out
-abbrev pub IsGiven : TagStates → Mark → Type 0
+-- the state that a update gives was given out
+abbrev pub IsGiven : TagStates → CellUpdate → Type 0
 IsGiven table Gone = Unit {0}
 IsGiven table (State state) = IsState table state
 

@@ -5,8 +5,8 @@ use Rattle.rt_stamps.specs.declared.stamp.Stamp.{Stamp}
 use Rattle.rt_stamps.specs.Stamps.{is_before}
 use Rattle.rt_tree.specs.declared.node.Run.{Run}
 use Rattle.rt_tree.specs.declared.node.Counts.{Counts}
-use Rattle.rt_tree.specs.declared.node.Measure.{Measure}
-use Rattle.rt_tree.specs.declared.node.Measure.TheVariants.{Cells, Visible, Newlines}
+use Rattle.rt_tree.specs.declared.node.CountedBy.{CountedBy}
+use Rattle.rt_tree.specs.declared.node.CountedBy.TheVariants.{Cells, Visible, Newlines}
 use Rattle.rt_tree.specs.declared.node.Totals.{Totals}
 use Rattle.rt_tree.specs.Runs.{first_stamp}
 
@@ -26,7 +26,7 @@ counts_of [] = no_counts
 counts_of (r ∷ rs) = plus (counts_of_run r) (counts_of rs)
 
 -- one of the three numbers
-abbrev pub amount : Measure → Counts → ℕ
+abbrev pub amount : CountedBy → Counts → ℕ
 amount Cells counts = counts.cells
 amount Visible counts = counts.visible
 amount Newlines counts = counts.newlines

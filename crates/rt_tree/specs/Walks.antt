@@ -4,15 +4,15 @@ use Rattle.rt_nodes.specs.Nodes.{entries}
 use Rattle.rt_stamps.specs.declared.stamp.Stamp.{Stamp}
 use Rattle.rt_tree.specs.declared.node.Counts.{Counts}
 use Rattle.rt_tree.specs.declared.node.Entry.TheVariants.{Here}
-use Rattle.rt_tree.specs.declared.node.Measure.{Measure}
-use Rattle.rt_tree.specs.declared.node.Measure.TheVariants.{Cells}
+use Rattle.rt_tree.specs.declared.node.CountedBy.{CountedBy}
+use Rattle.rt_tree.specs.declared.node.CountedBy.TheVariants.{Cells}
 use Rattle.rt_tree.specs.declared.node.Run.{Run}
 use Rattle.rt_tree.specs.Runs.{has}
 use Rattle.rt_tree.specs.Shape.{Memory, level_of, runs_before}
 use Rattle.rt_tree.specs.Sums.{amount, counts_of, counts_of_run}
 
 -- A place, counted in cells, visible characters or newlines, is so much into the run at an entry of a leaf.
-pub record IsSpot (m : Memory) (root : ℕ) (by : Measure) (place leaf entry offset : ℕ) (run : Run) : Type 0 where
+pub record IsSpot (m : Memory) (root : ℕ) (by : CountedBy) (place leaf entry offset : ℕ) (run : Run) : Type 0 where
   pub is : leaf < length m.heads
   pub low : level_of m leaf ≡ 0
   pub here : slice_get (entries m leaf) entry ≡ Some (Here run)
@@ -20,7 +20,7 @@ pub record IsSpot (m : Memory) (root : ℕ) (by : Measure) (place leaf entry off
   pub inside : offset < amount by (counts_of_run run)
 
 -- A run stands among others so that a place is so much into it; the runs before it count so many.
-pub record StandsAt (by : Measure) (all : List Run) (run : Run) (front : Counts) (offset place : ℕ) : Type 0 where
+pub record StandsAt (by : CountedBy) (all : List Run) (run : Run) (front : Counts) (offset place : ℕ) : Type 0 where
   pub left : List Run
   pub right : List Run
   pub here : all ≡ left ++ run ∷ right

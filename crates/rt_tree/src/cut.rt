@@ -13,10 +13,10 @@ ghost use Rattle.rt_tree.specs.Summaries.{AreTold};
 ghost use Rattle.rt_tree.specs.Sums.{counts_of};
 ghost use Rattle.rt_tree.specs.Trees.{HasNodes};
 
-use crate::find::{cells_of, has, seek, sum_of};
+use crate::find::{cells_of, has, run_at, sum_of};
 use crate::homes::Homes;
 use crate::near::found_near;
-use crate::node::{Measure, Mem, Run};
+use crate::node::{CountedBy, Mem, Run};
 use crate::put::{Known, put, replace_at};
 use crate::summed::Summaries;
 use crate::walk::{Found, Spot};
@@ -26,7 +26,7 @@ use rt_tags::StateTable;
 
 // The root after a change, and how many runs were put in.
 #[derive(Clone, Copy)]
-pub(crate) struct Change {
+pub(crate) struct RootChange {
     pub(crate) root: NodeId,
     pub(crate) more: usize,
 }
@@ -34,7 +34,7 @@ pub(crate) struct Change {
 // The root after a change, the run that was put in with the leaf where it stands, if there is one, and the spot of its last cell.
 #[derive(Clone, Copy)]
 pub(crate) struct Parted {
-    pub(crate) change: Change,
+    pub(crate) change: RootChange,
     pub(crate) front: Option<Front>,
     pub(crate) end: Option<Spot>,
 }
@@ -51,7 +51,7 @@ fn uncut(root: NodeId) -> Parted
     ensures { result ≡ record { change = record { root = root; more = 0 }; front = None; end = None } }
 {
     Parted {
-        change: Change { root, more: 0 },
+        change: RootChange { root, more: 0 },
         front: None,
         end: None,
     }
@@ -124,7 +124,7 @@ pub(crate) fn cut(
     if at == sum_of(mem, root).cells as usize {
         return uncut(root);
     }
-    let found = found_near(mem, root, last, Measure::Cells, at);
+    let found = found_near(mem, root, last, CountedBy::Cells, at);
     let offset = found.spot.offset;
     if offset == 0 {
         return uncut(root);
@@ -141,7 +141,7 @@ pub(crate) fn cut(
         offset: offset - 1,
     };
     Parted {
-        change: Change {
+        change: RootChange {
             root: placed.root,
             more: 1,
         },
@@ -167,8 +167,8 @@ pub(crate) struct Gap<'a> {
 
 // The root after a cut, how many runs were put in, and the spot of the last cell of the run that ends there, if that is known.
 #[derive(Clone, Copy)]
-pub(crate) struct Ended {
-    pub(crate) change: Change,
+pub(crate) struct CutEnd {
+    pub(crate) change: RootChange,
     pub(crate) end: Option<Spot>,
 }
 
@@ -182,7 +182,7 @@ pub(crate) fn cut_home(
     root: NodeId,
     gap: &Gap<'_>,
     homes: &mut Homes,
-) -> Ended
+) -> CutEnd
     requires tree { IsTree mem.old root.index }
     requires kept { AreKept (tree_runs mem.old root.index) }
     requires few { (counts_of (tree_runs mem.old root.index)).cells ≤ MOST_CELLS }
@@ -212,8 +212,8 @@ pub(crate) fn cut_home(
     ensures still { gap.now.is_edge ≡ true → (mem.new ≡ mem.old) × (result.change.root ≡ root) }
 {
     if gap.is_edge {
-        return Ended {
-            change: Change { root, more: 0 },
+        return CutEnd {
+            change: RootChange { root, more: 0 },
             end: gap.end,
         };
     }
@@ -223,7 +223,7 @@ pub(crate) fn cut_home(
         homes.place(&front.run, front.leaf);
         homes.note_new(mem, nodes);
     }
-    Ended { change, end }
+    CutEnd { change, end }
 }
 
 // Whether a run has a stamp and doesn't begin with it.
@@ -263,7 +263,7 @@ fn inside_by_walk(mem: &Mem, root: NodeId, stamp: Stamp) -> Option<usize>
     let all = cells_of(mem, root);
     let mut at = 0;
     while at < all {
-        let found = seek(mem, root, Measure::Cells, at);
+        let found = run_at(mem, root, CountedBy::Cells, at);
         if is_within(&found.run, stamp) {
             return Some(at + (stamp.count - found.run.first) as usize);
         }
@@ -280,7 +280,7 @@ pub(crate) fn part(
     root: NodeId,
     stamp: Stamp,
     homes: &mut Homes,
-) -> Change
+) -> RootChange
     requires home { homes.old.sure ≡ true → AreHome homes.old.leaves (tree_runs mem.old root.index) }
     requires housed { homes.old.sure ≡ true → AreHoused mem.old root.index homes.old.leaves }
     requires left { 0 < homes.old.left }
@@ -304,7 +304,7 @@ pub(crate) fn part(
     ensures tags { sums.new.tags ≡ sums.old.tags }
 {
     match inside(mem, root, stamp, homes) {
-        None => Change { root, more: 0 },
+        None => RootChange { root, more: 0 },
         Some(at) => {
             let last = None;
             let gap = Gap {

@@ -7,7 +7,7 @@ ghost use Rattle.rt_tree.specs.Sums.{AreFew, amount, counts_of};
 ghost use Rattle.rt_tree.specs.Walks.{StandsAt};
 
 use crate::looks::Counted;
-use crate::node::{Counts, Measure, Mem, Run};
+use crate::node::{CountedBy, Counts, Mem, Run};
 use crate::sums::{entry_counts, no_counts, plus};
 use crate::walk::{Found, descend_by};
 use rt_nodes::NodeId;
@@ -47,7 +47,7 @@ pub(crate) fn height(mem: &Mem, root: NodeId) -> usize
 }
 
 // The run that has a place, with so many looks at entries.
-pub(crate) fn find(mem: &Mem, root: NodeId, by: Measure, place: usize, looks: &mut u64) -> Found
+pub(crate) fn find(mem: &Mem, root: NodeId, by: CountedBy, place: usize, looks: &mut u64) -> Found
     requires tree { IsTree mem.now root.index }
     requires few { AreFew (counts_of (tree_runs mem.now root.index)) }
     requires within { place < amount by (counts_of (tree_runs mem.now root.index)) }
@@ -61,7 +61,7 @@ pub(crate) fn find(mem: &Mem, root: NodeId, by: Measure, place: usize, looks: &m
 }
 
 // The run that has a place.
-pub(crate) fn seek(mem: &Mem, root: NodeId, by: Measure, place: usize) -> Found
+pub(crate) fn run_at(mem: &Mem, root: NodeId, by: CountedBy, place: usize) -> Found
     requires tree { IsTree mem.now root.index }
     requires few { AreFew (counts_of (tree_runs mem.now root.index)) }
     requires within { place < amount by (counts_of (tree_runs mem.now root.index)) }

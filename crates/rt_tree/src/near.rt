@@ -1,7 +1,7 @@
 // Runs that are looked for first where one is known to stand.
 ghost use Rattle.std.specs.Prelude.{◌≡◌, ◌+◌, ◌==◌, ◌<◌, ◌≤◌, IfSome, MatchOption, length, true};
 ghost use Rattle.rt_nodes.specs.Nodes.{IsNode, entries};
-ghost use Rattle.rt_tree.specs.declared.node.Measure.TheVariants.{Cells};
+ghost use Rattle.rt_tree.specs.declared.node.CountedBy.TheVariants.{Cells};
 ghost use Rattle.rt_tree.specs.Holds.{Holds};
 ghost use Rattle.rt_tree.specs.Shape.{IsTree, level_of, runs_before, tree_runs};
 ghost use Rattle.rt_tree.specs.Sums.{AreFew, amount, counts_of, counts_of_run};
@@ -9,7 +9,7 @@ ghost use Rattle.rt_tree.specs.Walks.{IsSpot, StandsAt};
 
 use crate::find::height;
 use crate::looks::Counted;
-use crate::node::{Counts, Entry, Measure, Mem, Run};
+use crate::node::{CountedBy, Counts, Entry, Mem, Run};
 use crate::sums::{amount, counts_of_run, plus};
 use crate::up::rise_from;
 use crate::walk::{Found, Spot, descend_by};
@@ -17,7 +17,7 @@ use rt_nodes::NodeId;
 
 // How far into the run of a spot a place is, if it is in it.
 #[inline(always)]
-fn offset_in(found: &Found, by: Measure, place: usize) -> Option<usize>
+fn offset_in(found: &Found, by: CountedBy, place: usize) -> Option<usize>
     ensures { IfSome result (λ offset. (amount by found.now.before + offset ≡ place) × (offset < amount by (counts_of_run found.now.run))) }
 {
     let offset = place.checked_sub(amount(by, found.before))?;
@@ -30,7 +30,7 @@ fn offset_in(found: &Found, by: Measure, place: usize) -> Option<usize>
 
 // Whether the run that is known to stand somewhere has a place.
 #[inline(always)]
-pub(crate) fn is_in(last: &Option<Found>, by: Measure, place: usize) -> bool
+pub(crate) fn is_in(last: &Option<Found>, by: CountedBy, place: usize) -> bool
     ensures { result ≡ true → MatchOption last.now ⊥
         (λ found. (amount by found.before ≤ place) × (place < amount by found.before + amount by (counts_of_run found.run))) }
 {
@@ -56,7 +56,7 @@ fn moved(found: &Found, offset: usize) -> Found
 
 // Whether a run that is known to stand somewhere ends at a place.
 #[inline(always)]
-fn ends_at(found: &Found, by: Measure, place: usize) -> bool
+fn ends_at(found: &Found, by: CountedBy, place: usize) -> bool
     ensures { result ≡ (amount by found.now.before + amount by (counts_of_run found.now.run) == place) }
 {
     let before = amount(by, found.before);
@@ -94,7 +94,7 @@ fn behind(mem: &Mem, root: NodeId, found: &Found) -> Option<Found>
 // The run that has a place: one that is known to stand somewhere, or the one behind it in its leaf, if either has it. It is
 // compiled into its callers, as what it answers is large.
 #[inline(always)]
-fn known(mem: &Mem, root: NodeId, found: &Found, by: Measure, place: usize) -> Option<Found>
+fn known(mem: &Mem, root: NodeId, found: &Found, by: CountedBy, place: usize) -> Option<Found>
     requires tree { IsTree mem.now root.index }
     requires few { AreFew (counts_of (tree_runs mem.now root.index)) }
     requires held { Holds mem.now root.index found.now }
@@ -119,7 +119,7 @@ pub(crate) fn found_near(
     mem: &Mem,
     root: NodeId,
     last: &Option<Found>,
-    by: Measure,
+    by: CountedBy,
     place: usize,
 ) -> Found
     requires tree { IsTree mem.now root.index }
@@ -145,11 +145,11 @@ pub(crate) fn found_near(
 
 // The run that has a place. It is compiled into its callers too.
 #[inline(always)]
-pub(crate) fn seek_near(
+pub(crate) fn run_near(
     mem: &Mem,
     root: NodeId,
     last: &Option<Found>,
-    by: Measure,
+    by: CountedBy,
     place: usize,
 ) -> Found
     requires tree { IsTree mem.now root.index }
@@ -177,7 +177,7 @@ pub(crate) fn cell_near(mem: &Mem, root: NodeId, last: &Option<Found>, at: usize
     requires held { IfSome last.now (Holds mem.now root.index) }
     ensures { IsSpot mem.now root.index Cells at result.spot.leaf.index result.spot.entry result.spot.offset result.run }
 {
-    let Found { spot, run, .. } = found_near(mem, root, last, Measure::Cells, at);
+    let Found { spot, run, .. } = found_near(mem, root, last, CountedBy::Cells, at);
     Seen { spot, run }
 }
 

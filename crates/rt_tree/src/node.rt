@@ -54,7 +54,7 @@ pub struct Head {
 
 /// One of the three counts.
 #[derive(Clone, Copy, Debug, PartialEq, Eq)]
-pub enum Measure {
+pub enum CountedBy {
     Cells,
     Visible,
     Newlines,

@@ -4,7 +4,7 @@ ghost use Rattle.rt_nodes.specs.Nodes.{IsNode, entries};
 ghost use Rattle.rt_tags.specs.States.{IsState};
 ghost use Rattle.rt_tree.specs.declared.node.Counts.{Counts};
 ghost use Rattle.rt_tree.specs.declared.node.Entry.TheVariants.{Here};
-ghost use Rattle.rt_tree.specs.declared.node.Measure.TheVariants.{Cells};
+ghost use Rattle.rt_tree.specs.declared.node.CountedBy.TheVariants.{Cells};
 ghost use Rattle.rt_tree.specs.declared.node.Run.{Run};
 ghost use Rattle.rt_tree.specs.declared.put.Known.TheVariants.{Behind, Nothing};
 ghost use Rattle.rt_tree.specs.Changes.{AreExact, bare};
@@ -21,7 +21,7 @@ ghost use Rattle.rt_tree.specs.Walks.{IsPutAt, IsReplacedAt, IsSpot, StandsAt};
 
 use crate::homes::Homes;
 use crate::looks::Counted;
-use crate::node::{Entry, Measure, Mem, Run};
+use crate::node::{CountedBy, Entry, Mem, Run};
 use crate::resum::{insert_run, replace_run};
 use crate::room::{Place, Top, make_room, top_room};
 use crate::settle::level_of;
@@ -107,7 +107,7 @@ pub(crate) fn found_at(mem: &Mem, root: NodeId, at: usize) -> Found
     let mut looks = 0;
     let looks = &mut looks;
     let mut sight = Counted { mem, looks };
-    descend_by(&mut sight, root, Measure::Cells, at)
+    descend_by(&mut sight, root, CountedBy::Cells, at)
 }
 
 // The spot of the cell at a position.

@@ -16,11 +16,11 @@ ghost use Rattle.rt_tree.specs.Summaries.{AreTold};
 ghost use Rattle.rt_tree.specs.Sums.{counts_of};
 ghost use Rattle.rt_tree.specs.Trees.{HasNodes};
 
-use crate::cut::{Change, Ended, Gap, cut_home};
+use crate::cut::{CutEnd, Gap, RootChange, cut_home};
 use crate::extend::{New, extend};
-use crate::find::{cells_of, first_stamp, has, seek};
+use crate::find::{cells_of, first_stamp, has, run_at};
 use crate::homes::Homes;
-use crate::node::{Measure, Mem, Run};
+use crate::node::{CountedBy, Mem, Run};
 use crate::put::{NewRun, behind, put_home};
 use crate::summed::Summaries;
 use crate::walk::{Found, Spot};
@@ -156,7 +156,7 @@ pub(crate) fn is_shared(mem: &Mem, root: NodeId, newest: u64, run: &Run) -> bool
     let all = cells_of(mem, root);
     let mut at = 0;
     while at < all {
-        let found = seek(mem, root, Measure::Cells, at);
+        let found = run_at(mem, root, CountedBy::Cells, at);
         if is_shared_by(run, &found.run) {
             return true;
         }
@@ -247,7 +247,7 @@ fn put_runs(
     new: &New<'_>,
     homes: &mut Homes,
     end: Option<Spot>,
-) -> Change
+) -> RootChange
     requires home { homes.old.sure ≡ true → AreHome homes.old.leaves (tree_runs mem.old root.index) }
     requires housed { homes.old.sure ≡ true → AreHoused mem.old root.index homes.old.leaves }
     requires left { length new.now.cells.now ≤ homes.old.left }
@@ -301,7 +301,7 @@ fn put_runs(
         lone = next.lone;
         more += 1;
     }
-    Change { root, more }
+    RootChange { root, more }
 }
 
 // The root after a change, how many runs were put in, and a run that got longer, if nothing else was changed.
@@ -386,7 +386,7 @@ pub(crate) fn put_cells(
         end: extended.end,
         last,
     };
-    let Ended { change: first, end } = cut_home(mem, sums, states, root, &gap, homes);
+    let CutEnd { change: first, end } = cut_home(mem, sums, states, root, &gap, homes);
     let newest = newest_of(new.newest, &new.cells[..done]);
     let root = first.root;
     let rest = New {

@@ -3,7 +3,7 @@ ghost use Rattle.std.specs.Prelude.{◌≡◌, ◌+◌, ◌<◌, ◌^◌};
 ghost use Rattle.rt_tree.specs.Shape.{entry_counts};
 ghost use Rattle.rt_tree.specs.Sums.{AreFew, amount, counts_of_run, no_counts, plus};
 
-use crate::node::{Counts, Entry, Measure, Run};
+use crate::node::{CountedBy, Counts, Entry, Run};
 
 // What no run counts.
 pub(crate) fn no_counts() -> Counts
@@ -29,13 +29,13 @@ pub(crate) fn plus(a: Counts, b: Counts) -> Counts
 }
 
 // One of the counts.
-pub(crate) fn amount(by: Measure, counts: Counts) -> usize
+pub(crate) fn amount(by: CountedBy, counts: Counts) -> usize
     ensures { result ≡ amount by counts }
 {
     let amount = match by {
-        Measure::Cells => counts.cells,
-        Measure::Visible => counts.visible,
-        Measure::Newlines => counts.newlines,
+        CountedBy::Cells => counts.cells,
+        CountedBy::Visible => counts.visible,
+        CountedBy::Newlines => counts.newlines,
     };
     amount as usize
 }

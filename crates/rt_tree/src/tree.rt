@@ -17,8 +17,8 @@ use crate::copy::copy;
 use crate::find::{cell_in, find, has, height};
 use crate::homes::{Homes, Sought, is_leaf};
 use crate::looks::Counted;
-use crate::near::{found_near, is_in, seek_near};
-use crate::node::{Counts, Entry, Head, Measure, Mem, Run};
+use crate::near::{found_near, is_in, run_near};
+use crate::node::{CountedBy, Counts, Entry, Head, Mem, Run};
 use crate::skip::{is_low, passed};
 use crate::summed::Summaries;
 use crate::sums::counts_of_run;
@@ -189,7 +189,7 @@ impl Tree {
         requires { position < length self.now.cells }
         ensures { slice_get self.now.cells position ≡ Some result }
     {
-        let found = seek_near(&self.mem, self.root, &self.last, Measure::Cells, position);
+        let found = run_near(&self.mem, self.root, &self.last, CountedBy::Cells, position);
         cell_in(&self.text, &found.run, found.spot.offset)
     }
 
@@ -201,7 +201,7 @@ impl Tree {
         ensures counted { looks.old + self.now.height ≤ looks.new }
         ensures cost { looks.new ≤ looks.old + 16 * self.now.height }
     {
-        let found = find(&self.mem, self.root, Measure::Visible, place, looks);
+        let found = find(&self.mem, self.root, CountedBy::Visible, place, looks);
         cell_in(&self.text, &found.run, found.spot.offset)
     }
 
@@ -214,11 +214,11 @@ impl Tree {
         if place == 0 || place > self.counts.visible as usize {
             return;
         }
-        if is_in(&self.last, Measure::Visible, place - 1) {
+        if is_in(&self.last, CountedBy::Visible, place - 1) {
             return;
         }
         let (mem, root) = (&self.mem, self.root);
-        let found = found_near(mem, root, &self.last, Measure::Visible, place - 1);
+        let found = found_near(mem, root, &self.last, CountedBy::Visible, place - 1);
         self.last = Some(found);
     }
 
@@ -228,7 +228,7 @@ impl Tree {
         requires { place < length (visible_of self.now.cells) }
         ensures { slice_get (visible_of self.now.cells) place ≡ Some result }
     {
-        let shown = seek_near(&self.mem, self.root, &self.last, Measure::Visible, place);
+        let shown = run_near(&self.mem, self.root, &self.last, CountedBy::Visible, place);
         cell_in(&self.text, &shown.run, shown.spot.offset)
     }
 
@@ -252,11 +252,11 @@ impl Tree {
         let count = left.min(buffer.len());
         let mut done = 0;
         while done < count {
-            let found = seek_near(
+            let found = run_near(
                 &self.mem,
                 self.root,
                 &self.last,
-                Measure::Visible,
+                CountedBy::Visible,
                 place + done,
             );
             let rest = found.run.len as usize - found.spot.offset;
@@ -276,11 +276,11 @@ impl Tree {
         if line == 1 {
             return 0;
         }
-        let found = seek_near(
+        let found = run_near(
             &self.mem,
             self.root,
             &self.last,
-            Measure::Newlines,
+            CountedBy::Newlines,
             line - 2,
         );
         found.before.visible as usize + found.run.len as usize
@@ -295,7 +295,7 @@ impl Tree {
         if place == all.visible as usize {
             return all.newlines as usize + 1;
         }
-        let found = seek_near(&self.mem, self.root, &self.last, Measure::Visible, place);
+        let found = run_near(&self.mem, self.root, &self.last, CountedBy::Visible, place);
         found.before.newlines as usize + 1
     }
 
@@ -326,13 +326,13 @@ impl Tree {
     }
 
     // The position of the first cell that has a stamp, by a walk from run to run.
-    fn seek_stamp(&self, stamp: Stamp) -> Option<usize>
+    fn walk_to_stamp(&self, stamp: Stamp) -> Option<usize>
         ensures { result ≡ position_of self.now.cells stamp }
     {
         let all = self.cells();
         let mut at = 0;
         while at < all {
-            let found = seek_near(&self.mem, self.root, &self.last, Measure::Cells, at);
+            let found = run_near(&self.mem, self.root, &self.last, CountedBy::Cells, at);
             let begin = at - found.spot.offset;
             if has(found.run, stamp) {
                 return Some(begin + (stamp.count - found.run.first) as usize);
@@ -343,10 +343,10 @@ impl Tree {
     }
 
     // The first cell that has a stamp, by that walk.
-    fn seek_cell(&self, stamp: Stamp) -> Option<Cell<StateId>>
+    fn walked_cell(&self, stamp: Stamp) -> Option<Cell<StateId>>
         ensures { result ≡ cell_of self.now.cells stamp }
     {
-        let position = self.seek_stamp(stamp)?;
+        let position = self.walk_to_stamp(stamp)?;
         Some(self.nth(position))
     }
 
@@ -369,7 +369,7 @@ impl Tree {
         match self.homes.look_up(&self.mem, self.root, &self.last, stamp) {
             Sought::Nowhere => None,
             Sought::At(home) => Some(home.position(stamp)),
-            Sought::Unknown => self.seek_stamp(stamp),
+            Sought::Unknown => self.walk_to_stamp(stamp),
         }
     }
 
@@ -380,7 +380,7 @@ impl Tree {
         match self.homes.look_up(&self.mem, self.root, &self.last, stamp) {
             Sought::Nowhere => None,
             Sought::At(home) => Some(home.cell(&self.text, stamp)),
-            Sought::Unknown => self.seek_cell(stamp),
+            Sought::Unknown => self.walked_cell(stamp),
         }
     }
 
@@ -389,15 +389,15 @@ impl Tree {
         requires { position < length self.now.cells }
         ensures { result ≡ visible_before self.now.cells position }
     {
-        let found = seek_near(&self.mem, self.root, &self.last, Measure::Cells, position);
+        let found = run_near(&self.mem, self.root, &self.last, CountedBy::Cells, position);
         found.before.visible as usize + visible_part(found.run, found.spot.offset)
     }
 
     // How many visible cells stand before the first cell that has a stamp, by a walk from run to run.
-    fn seek_place(&self, stamp: Stamp) -> Option<usize>
+    fn walked_place(&self, stamp: Stamp) -> Option<usize>
         ensures { result ≡ option_map (visible_before self.now.cells) (position_of self.now.cells stamp) }
     {
-        let position = self.seek_stamp(stamp)?;
+        let position = self.walk_to_stamp(stamp)?;
         Some(self.visible_before(position))
     }
 
@@ -420,7 +420,7 @@ impl Tree {
         ensures cost { looks.new ≤ looks.old + 16 * self.now.height }
     {
         if !self.homes.sure {
-            return self.seek_place(stamp);
+            return self.walked_place(stamp);
         }
         let leaf = self.homes.leaf_of(stamp)?;
         if !is_leaf(&self.mem, leaf) {

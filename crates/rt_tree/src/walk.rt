@@ -1,14 +1,14 @@
 // Walks from the root down.
 ghost use Rattle.std.specs.Prelude.{◌≡◌, ◌+◌, ◌*◌, ◌<◌, ◌≤◌, ◌^◌, IfNone, IfSome, length, take, slice_index_or};
 ghost use Rattle.rt_nodes.specs.Nodes.{IsNode, entries};
-ghost use Rattle.rt_tree.specs.declared.node.Measure.TheVariants.{Visible};
+ghost use Rattle.rt_tree.specs.declared.node.CountedBy.TheVariants.{Visible};
 ghost use Rattle.rt_tree.specs.declared.node.Run.{Run};
 ghost use Rattle.rt_tree.specs.Shape.{IsTree, entry_counts, level_of, runs_before, sum_of, tree_runs};
 ghost use Rattle.rt_tree.specs.Sums.{AreFew, amount, counts_of, plus};
 ghost use Rattle.rt_tree.specs.Walks.{IsSpot};
 
 use crate::looks::Looks;
-use crate::node::{Counts, Entry, Measure, Run};
+use crate::node::{CountedBy, Counts, Entry, Run};
 use crate::sums::{amount, counts_of_run, no_counts, plus};
 use rt_nodes::NodeId;
 
@@ -46,7 +46,7 @@ struct Passed {
 
 // Behind so many, if the place isn't among them.
 #[inline(always)]
-fn past(by: Measure, rest: usize, before: Counts, counts: Counts) -> Option<Passed>
+fn past(by: CountedBy, rest: usize, before: Counts, counts: Counts) -> Option<Passed>
     requires { AreFew (plus before counts) }
     ensures rest { IfSome result (λ past. past.rest + amount by counts ≡ rest) }
     ensures before { IfSome result (λ past. past.before ≡ plus before counts) }
@@ -64,7 +64,7 @@ fn past(by: Measure, rest: usize, before: Counts, counts: Counts) -> Option<Pass
 
 // Behind an entry, if the place isn't in it. Each kind of entry is gone past by itself, as it keeps its counts in another way.
 #[inline(always)]
-fn past_entry(by: Measure, rest: usize, before: Counts, entry: &Entry) -> Option<Passed>
+fn past_entry(by: CountedBy, rest: usize, before: Counts, entry: &Entry) -> Option<Passed>
     requires { AreFew (plus before (entry_counts entry.now)) }
     ensures rest { IfSome result (λ past. past.rest + amount by (entry_counts entry.now) ≡ rest) }
     ensures before { IfSome result (λ past. past.before ≡ plus before (entry_counts entry.now)) }
@@ -77,7 +77,13 @@ fn past_entry(by: Measure, rest: usize, before: Counts, entry: &Entry) -> Option
 }
 
 // The entry of a node that has a place, after so much before the node.
-fn entry_at<L: Looks>(looks: &mut L, node: NodeId, by: Measure, place: usize, ahead: Counts) -> Step
+fn entry_at<L: Looks>(
+    looks: &mut L,
+    node: NodeId,
+    by: CountedBy,
+    place: usize,
+    ahead: Counts,
+) -> Step
     requires node { IsNode (L.nodes looks.old) node.index }
     requires within { place < amount by (sum_of (entries (L.nodes looks.old) node.index)) }
     requires few { AreFew (plus ahead (sum_of (entries (L.nodes looks.old) node.index))) }
@@ -132,7 +138,12 @@ impl Found {
 
 // The spot of a place that is counted by a measure. It is compiled into its callers, as `found_near` is.
 #[inline(always)]
-pub(crate) fn descend_by<L: Looks>(looks: &mut L, root: NodeId, by: Measure, place: usize) -> Found
+pub(crate) fn descend_by<L: Looks>(
+    looks: &mut L,
+    root: NodeId,
+    by: CountedBy,
+    place: usize,
+) -> Found
     requires tree { IsTree (L.nodes looks.old) root.index }
     requires few { AreFew (counts_of (tree_runs (L.nodes looks.old) root.index)) }
     requires within { place < amount by (counts_of (tree_runs (L.nodes looks.old) root.index)) }
@@ -178,5 +189,5 @@ pub fn descend<L: Looks>(looks: &mut L, root: NodeId, place: usize) -> Spot
     ensures kept { L.summaries looks.new ≡ L.summaries looks.old }
     ensures lent { L.counter looks.new ≡ L.counter looks.old }
 {
-    descend_by(looks, root, Measure::Visible, place).spot
+    descend_by(looks, root, CountedBy::Visible, place).spot
 }

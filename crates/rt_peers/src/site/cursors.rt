@@ -4,8 +4,8 @@ ghost use Rattle.rt_peers.specs.Cursors.{limits_by, place_by, stamp_by};
 
 use super::SiteState;
 use crate::paths::place_of;
+use rt_lines::Limits;
 use rt_stamps::Stamp;
-use rt_views::Limits;
 
 impl SiteState {
     // The limits of the widget of a path; none where there is no such widget.

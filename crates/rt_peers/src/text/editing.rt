@@ -2,7 +2,7 @@
 ghost use Rattle.std.specs.Prelude.{map};
 ghost use Rattle.rt_stamps.specs.Outcomes.{Answers};
 ghost use Rattle.rt_requests.specs.Parts.{all_of};
-ghost use Rattle.rt_editing.specs.Edits.{text_deleted, text_inserted, text_replaced};
+ghost use Rattle.rt_recording.specs.Edits.{text_deleted, text_inserted, text_replaced};
 ghost use Rattle.rt_peers.specs.ViewStep.{as_piece, changed_step};
 
 use super::EditedText;
@@ -22,7 +22,7 @@ impl EditedText {
         if texts.pieces().is_empty() {
             let view = &mut self.view;
             let recorder = &mut self.recorder;
-            let plain = rt_editing::insert(view, recorder, index.text(), &[], texts.rest());
+            let plain = rt_recording::insert(view, recorder, index.text(), &[], texts.rest());
             return changed(self.alloc, plain);
         }
         self.insert_pieces(index, texts)
@@ -37,7 +37,7 @@ impl EditedText {
         let pieces = owned(self.alloc, texts.pieces())?;
         let view = &mut self.view;
         let recorder = &mut self.recorder;
-        let inserted = rt_editing::insert(view, recorder, index.text(), &pieces, texts.rest());
+        let inserted = rt_recording::insert(view, recorder, index.text(), &pieces, texts.rest());
         changed(self.alloc, inserted)
     }
 
@@ -55,7 +55,7 @@ impl EditedText {
         let pieces = owned(self.alloc, texts.pieces())?;
         let view = &mut self.view;
         let recorder = &mut self.recorder;
-        let replaced = rt_editing::replace(
+        let replaced = rt_recording::replace(
             view,
             recorder,
             from.text(),
@@ -70,7 +70,7 @@ impl EditedText {
     pub(super) fn delete(&mut self, indices: &Words<'_>) -> Result<Reply, Fault>
         ensures { Answers (changed_step (text_deleted self.old (all_of indices.now))) self.old result self.new }
     {
-        let deleted = rt_editing::delete(&mut self.view, &mut self.recorder, indices.all());
+        let deleted = rt_recording::delete(&mut self.view, &mut self.recorder, indices.all());
         changed(self.alloc, deleted)
     }
 }

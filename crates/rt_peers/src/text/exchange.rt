@@ -6,9 +6,9 @@ ghost use Rattle.rt_rga.specs.Cells.{cells_of};
 ghost use Rattle.rt_rga.specs.Histories.{IsHistory, greatest_last_count};
 ghost use Rattle.rt_rga.specs.Taken.{IsChange};
 ghost use Rattle.rt_text.specs.Accepted.{answer_of};
-ghost use Rattle.rt_editing.specs.Edits.{text_with_new};
+ghost use Rattle.rt_recording.specs.Edits.{text_with_new};
 ghost use Rattle.rt_text.specs.Widgets.{limits_of};
-ghost use Rattle.rt_views.specs.Ordered.{AreInOrder};
+ghost use Rattle.rt_lines.specs.Ordered.{AreInOrder};
 
 use super::EditedText;
 use rt_holding::Taking;
@@ -38,7 +38,7 @@ impl Taking for EditedText {
     }
 
     fn take(&mut self, op: Op) -> Result<(), Op> {
-        match rt_editing::take(&mut self.view, &mut self.recorder, op) {
+        match rt_recording::take(&mut self.view, &mut self.recorder, op) {
             Ok(_) => Ok(()),
             Err(op) => Err(op),
         }
@@ -77,6 +77,6 @@ impl EditedText {
         ensures same { OnErr result (self.new ≡ self.old) }
         ensures back { IfErr result (λ back. back ≡ op) }
     {
-        rt_editing::take(&mut self.view, &mut self.recorder, op)
+        rt_recording::take(&mut self.view, &mut self.recorder, op)
     }
 }

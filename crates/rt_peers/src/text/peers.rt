@@ -7,9 +7,9 @@ ghost use Rattle.rt_peers.specs.PeerStep.{text_with_peer};
 use super::EditedText;
 use crate::choices::choice_of;
 use crate::widgets;
+use rt_lines::Limits;
 use rt_requests::WidgetSettings;
 use rt_stamps::Fault;
-use rt_views::Limits;
 
 impl EditedText {
     /// Lets the widget at a place command: it and the first one change places. It takes no memory.

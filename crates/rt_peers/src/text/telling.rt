@@ -7,7 +7,7 @@ ghost use Rattle.rt_rga.specs.Texts.{tagged_text};
 ghost use Rattle.rt_changes.specs.Replays.{AreInText, changes_of, replayed};
 ghost use Rattle.rt_changes.specs.Telling.{all_changes_in, changes_in};
 ghost use Rattle.rt_text.specs.Accepted.{answer_of};
-ghost use Rattle.rt_editing.specs.Edits.{text_with_new};
+ghost use Rattle.rt_recording.specs.Edits.{text_with_new};
 ghost use Rattle.rt_holding.specs.Grown.{AreTriedAt};
 ghost use Rattle.rt_holding.specs.Receiving.{Receives};
 ghost use Rattle.rt_peers.specs.SiteStep.{text_limit, text_log};

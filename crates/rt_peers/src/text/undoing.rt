@@ -2,7 +2,7 @@
 ghost use Rattle.std.specs.Prelude.{◌≡◌};
 ghost use Rattle.rt_stamps.specs.Outcomes.{Answers};
 ghost use Rattle.rt_undo.specs.Undo.{is_modified};
-ghost use Rattle.rt_editing.specs.Reverts.{text_redone, text_undone};
+ghost use Rattle.rt_recording.specs.Reverts.{text_redone, text_undone};
 ghost use Rattle.rt_peers.specs.Step.{can_redo, can_undo, edit_step};
 ghost use Rattle.rt_peers.specs.ViewStep.{changed_step};
 
@@ -40,7 +40,7 @@ impl EditedText {
         ensures { Answers (changed_step (text_undone self.old)) self.old result self.new }
     {
         let copy = TreeStore::new(self.alloc)?;
-        let undone = rt_editing::undo(&mut self.view, &mut self.recorder, copy);
+        let undone = rt_recording::undo(&mut self.view, &mut self.recorder, copy);
         changed(self.alloc, undone)
     }
 
@@ -49,7 +49,7 @@ impl EditedText {
         ensures { Answers (changed_step (text_redone self.old)) self.old result self.new }
     {
         let copy = TreeStore::new(self.alloc)?;
-        let redone = rt_editing::redo(&mut self.view, &mut self.recorder, copy);
+        let redone = rt_recording::redo(&mut self.view, &mut self.recorder, copy);
         changed(self.alloc, redone)
     }
 

@@ -5,21 +5,21 @@ ghost use Rattle.rt_stamps.specs.declared.limits.TheConstants.{GREATEST_COUNT, M
 ghost use Rattle.rt_stamps.specs.Words.{Word};
 ghost use Rattle.rt_store.specs.Shown.{shown};
 ghost use Rattle.rt_tags.specs.States.{IsState};
-ghost use Rattle.rt_edits.specs.InsertionDrafts.{insertion_drafts};
-ghost use Rattle.rt_edits.specs.InsertionPlans.{Plans, with_typed};
-ghost use Rattle.rt_edits.specs.Insertions.{insertion_of};
+ghost use Rattle.rt_plans.specs.InsertionDrafts.{insertion_drafts};
+ghost use Rattle.rt_plans.specs.InsertionPlans.{Plans, with_typed};
+ghost use Rattle.rt_plans.specs.Insertions.{insertion_of};
 ghost use Rattle.rt_rga.specs.Drafts.{one_character};
-ghost use Rattle.rt_rga.specs.Few.{items_in};
+ghost use Rattle.rt_rga.specs.OneOrMany.{items_in};
 ghost use Rattle.rt_text.specs.Replacements.{drafts_at, insertion_at};
 ghost use Rattle.rt_stamps.specs.Outcomes.{first_of};
 ghost use Rattle.rt_store.specs.Cells.{text_of, visible_of};
 ghost use Rattle.rt_text.specs.Widgets.{IsOwnOf, WidgetValue, ViewValue, selections_of};
 ghost use Rattle.rt_text.specs.Commands.{cell_check, clock_check, none_inserted, with_pieces_at, without_ranges};
-ghost use Rattle.rt_edits.specs.DeletionLaws.{IsPiece};
+ghost use Rattle.rt_plans.specs.DeletionLaws.{IsPiece};
 ghost use Rattle.rt_text.specs.Parts.{own_in};
 ghost use Rattle.std.specs.List.{AllByRecursion};
-ghost use Rattle.rt_views.specs.Ordered.{AreInOrder};
-ghost use Rattle.rt_views.specs.Stretches.{shown_part, stretch_of};
+ghost use Rattle.rt_lines.specs.Ordered.{AreInOrder};
+ghost use Rattle.rt_lines.specs.Stretches.{shown_part, stretch_of};
 
 use super::Doc;
 use crate::Widget;
@@ -29,14 +29,14 @@ use crate::neighbours::{left_of, shown_at, shown_before, stamp_or_root};
 use crate::others::{add_between, reserve_between};
 use crate::parts::Parts;
 use crate::preparing::{list_tags, make_planned};
-use rt_edits::drafting::planned_deletion;
-use rt_edits::inserting::{Gap, Plan, Typed, planned_between, typed_between};
-use rt_edits::{Author, Piece, Range};
-use rt_rga::Few;
+use rt_lines::Stretch;
+use rt_plans::drafting::planned_deletion;
+use rt_plans::inserting::{Gap, Plan, Typed, planned_between, typed_between};
+use rt_plans::{Author, Piece, Range};
+use rt_rga::OneOrMany;
 use rt_stamps::{Fault, Stamp};
 use rt_store::TextStore;
 use rt_tags::StateTable;
-use rt_views::Stretch;
 use std::mem::replace;
 use std::slice;
 
@@ -108,7 +108,7 @@ impl<S: TextStore> Doc<S> {
         )
     }
 
-    // What they come to there, where it is what typing mostly comes to (`typed_between` of rt_edits); else none.
+    // What they come to there, where it is what typing mostly comes to (`typed_between` of rt_plans); else none.
     #[inline(always)]
     fn typed(
         &self,
@@ -220,7 +220,7 @@ impl<S: TextStore> Doc<S> {
         // For its clauses alone: they say where the place lies.
         let _ = self.kept();
         let at = stretch.begin + place;
-        let drafts = replace(&mut plan.drafts, Few::none(self.alloc));
+        let drafts = replace(&mut plan.drafts, OneOrMany::none(self.alloc));
         make_planned(
             &mut self.replica,
             &mut self.tags,
@@ -330,7 +330,7 @@ impl<S: TextStore> Doc<S> {
         let stretch = widget.limits().stretch(store);
         let last = store.cell_at(stretch.end - 1).stamp;
         let deletion = planned_deletion(self.alloc, store, states, stretch, ranges)?;
-        self.replica.commit(Few::Many(deletion.drafts))?;
+        self.replica.commit(OneOrMany::Many(deletion.drafts))?;
         leave_all(&mut self.marks, widget, others, &deletion.removed);
         unselect_last(deletion.held, last, widget, others);
         Ok(())

@@ -1,14 +1,14 @@
 // The lines of a document between limits.
 ghost use Rattle.std.specs.Prelude.{◌≡◌, ◌≤◌, ◌<◌, length};
 ghost use Rattle.rt_store.specs.Cells.{text_of};
-ghost use Rattle.rt_views.specs.Choices.{limits_chosen};
-ghost use Rattle.rt_views.specs.Limits.{end_number, start_number};
-ghost use Rattle.rt_views.specs.Stretches.{stretch_of};
+ghost use Rattle.rt_lines.specs.Choices.{limits_chosen};
+ghost use Rattle.rt_lines.specs.Limits.{end_number, start_number};
+ghost use Rattle.rt_lines.specs.Stretches.{stretch_of};
 
 use super::Doc;
+use rt_lines::{Choice, Limits, Stretch};
 use rt_stamps::Fault;
 use rt_store::TextStore;
-use rt_views::{Choice, Limits, Stretch};
 
 impl<S: TextStore> Doc<S> {
     // The places between limits.

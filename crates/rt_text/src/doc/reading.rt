@@ -6,15 +6,15 @@ ghost use Rattle.rt_store.specs.Shown.{shown};
 ghost use Rattle.rt_marks.specs.Marks.{HaveOwnNames};
 ghost use Rattle.rt_stamps.specs.declared.limits.TheConstants.{MOST_CELLS};
 ghost use Rattle.rt_text.specs.Lines.{AreLines};
-ghost use Rattle.rt_views.specs.Stretches.{part, stretch_of};
+ghost use Rattle.rt_lines.specs.Stretches.{part, stretch_of};
 
 use super::Doc;
 use crate::Widget;
 use crate::ground::WidgetGround;
 use crate::index::{line_at, position_within};
+use rt_lines::{Limits, Stretch};
 use rt_stamps::{Position, Site};
 use rt_store::TextStore;
-use rt_views::{Limits, Stretch};
 
 impl<S: TextStore> Doc<S> {
     // The store, and the stretch of its text between limits.

@@ -6,12 +6,12 @@ ghost use Rattle.rt_store.specs.Cells.{text_of};
 ghost use Rattle.rt_text.specs.Commands.{cell_check, clock_check, with_range_replaced};
 ghost use Rattle.rt_text.specs.Replacements.{PlansReplacement, loss_at};
 ghost use Rattle.rt_text.specs.Widgets.{IsOwnOf, WidgetValue, ViewValue};
-ghost use Rattle.rt_edits.specs.DeletionLaws.{IsPiece};
-ghost use Rattle.rt_edits.specs.Deletions.{without_text};
-ghost use Rattle.rt_edits.specs.Removals.{AreInOrder, is_covered};
+ghost use Rattle.rt_plans.specs.DeletionLaws.{IsPiece};
+ghost use Rattle.rt_plans.specs.Deletions.{without_text};
+ghost use Rattle.rt_plans.specs.Removals.{AreInOrder, is_covered};
 ghost use Rattle.rt_text.specs.Parts.{own_in};
 ghost use Rattle.std.specs.List.{AllByRecursion};
-ghost use Rattle.rt_views.specs.Ordered.{AreInOrder as LimitsAreInOrder};
+ghost use Rattle.rt_lines.specs.Ordered.{AreInOrder as LimitsAreInOrder};
 
 use super::Doc;
 use crate::Widget;
@@ -21,10 +21,10 @@ use crate::neighbours::{shown_after, shown_before, stamp_or_root};
 use crate::parts::Parts;
 use crate::preparing::{list_tags, make_planned};
 use crate::staying::{left_after, place_after};
-use rt_edits::drafting::planned_deletion;
-use rt_edits::inserting::{Gap, Plan, planned_between};
-use rt_edits::{Author, Piece, Range};
-use rt_rga::{Draft, Few};
+use rt_plans::drafting::planned_deletion;
+use rt_plans::inserting::{Gap, Plan, planned_between};
+use rt_plans::{Author, Piece, Range};
+use rt_rga::{Draft, OneOrMany};
 use rt_stamps::{Fault, count_after};
 use rt_store::TextStore;
 use std::mem::replace;
@@ -107,7 +107,7 @@ impl<S: TextStore> Doc<S> {
             drafts: deletion.drafts,
             plan,
         };
-        let inserts = replace(&mut both.plan.drafts, Few::none(self.alloc));
+        let inserts = replace(&mut both.plan.drafts, OneOrMany::none(self.alloc));
         inserts.move_to(&mut both.drafts)?;
         Ok(both)
     }
@@ -147,7 +147,7 @@ impl<S: TextStore> Doc<S> {
             &mut self.tags,
             &mut widget.parts.selection,
             others,
-            Few::Many(drafts),
+            OneOrMany::Many(drafts),
             &planned.plan,
         )?;
         unselect(planned.held, last, &mut widget.parts.selection, others);

@@ -16,7 +16,7 @@ use crate::changing::revert_all;
 use crate::parts::Parts;
 use crate::preparing::{list_tags, prepare_tags};
 use crate::{Reverted, Widget};
-use rt_edits::Author;
+use rt_plans::Author;
 use rt_revert::planned_reversion;
 use rt_stamps::Fault;
 use rt_store::TextStore;

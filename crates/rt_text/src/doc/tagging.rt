@@ -5,28 +5,28 @@ ghost use Rattle.rt_marks.specs.Marks.{IsName};
 ghost use Rattle.rt_stamps.specs.declared.limits.TheConstants.{GREATEST_COUNT, MOST_SPANS};
 ghost use Rattle.rt_stamps.specs.Words.{as_words};
 ghost use Rattle.rt_store.specs.Cells.{AreDistinct, text_of, visible_of};
-ghost use Rattle.rt_edits.specs.Removals.{is_covered, AreInOrder};
+ghost use Rattle.rt_plans.specs.Removals.{is_covered, AreInOrder};
 ghost use Rattle.rt_text.specs.Widgets.{is_tagged, is_tagged_in, tags_on};
 ghost use Rattle.rt_store.specs.Tagged.{next_place, previous_place};
 ghost use Rattle.rt_tags.specs.States.{IsState};
 ghost use Rattle.rt_tags.specs.Tags.{is_listed, is_place, lowered, raised, sel};
-ghost use Rattle.rt_edits.specs.DocValue.{logged};
-ghost use Rattle.rt_edits.specs.TagDrafts.{deletion_drafts, tag_drafts_at};
-ghost use Rattle.rt_edits.specs.TagWrites.{listed_if, with_tag_at, without_tags};
+ghost use Rattle.rt_plans.specs.DocValue.{logged};
+ghost use Rattle.rt_plans.specs.TagDrafts.{deletion_drafts, tag_drafts_at};
+ghost use Rattle.rt_plans.specs.TagWrites.{listed_if, with_tag_at, without_tags};
 ghost use Rattle.rt_text.specs.Commands.{clock_check};
-ghost use Rattle.rt_edits.specs.Listed.{AreListed};
-ghost use Rattle.rt_edits.specs.Selected.{selected_stamps};
+ghost use Rattle.rt_plans.specs.Listed.{AreListed};
+ghost use Rattle.rt_plans.specs.Selected.{selected_stamps};
 ghost use Rattle.rt_store.specs.Shown.{shown};
 ghost use Rattle.rt_store.specs.Written.{AreWritten};
-ghost use Rattle.rt_views.specs.Stretches.{shown_part};
+ghost use Rattle.rt_lines.specs.Stretches.{shown_part};
 
 use super::Doc;
 use crate::Widget;
 use crate::characters::{cell_has, next_within, previous_within};
-use rt_edits::drafting::{planned_tag, planned_tag_deletion};
-use rt_edits::listing::{forget_all, list_if, prepare_if};
-use rt_edits::{Range, Selection};
-use rt_rga::Few;
+use rt_plans::drafting::{planned_tag, planned_tag_deletion};
+use rt_plans::listing::{forget_all, list_if, prepare_if};
+use rt_plans::{Range, Selection};
+use rt_rga::OneOrMany;
 use rt_stamps::Fault;
 use rt_store::{Cell, TextStore};
 use rt_tags::{StateId, StateTable, TagTable};
@@ -136,7 +136,7 @@ impl<S: TextStore> Doc<S> {
         let (store, states) = self.kept();
         let drafts = planned_tag(self.alloc, store, states, ranges, name, on)?;
         prepare_if(&mut self.tags, on, name)?;
-        self.replica.commit(Few::Many(drafts))?;
+        self.replica.commit(OneOrMany::Many(drafts))?;
         list_if(&mut self.tags, on, name);
         Ok(())
     }
@@ -153,7 +153,7 @@ impl<S: TextStore> Doc<S> {
     {
         let (store, states) = self.kept();
         let drafts = planned_tag_deletion(self.alloc, store, states, &self.tags, names)?;
-        self.replica.commit(Few::Many(drafts))?;
+        self.replica.commit(OneOrMany::Many(drafts))?;
         forget_all(&mut self.tags, names);
         Ok(())
     }

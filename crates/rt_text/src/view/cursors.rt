@@ -3,9 +3,9 @@ ghost use Rattle.std.specs.Prelude.{◌≡◌, ◌<◌, Some, length, option_map
 ghost use Rattle.rt_text.specs.Cursors.{place_of_stamp, stamp_at};
 
 use super::View;
+use rt_lines::Limits;
 use rt_stamps::Stamp;
 use rt_store::TextStore;
-use rt_views::Limits;
 
 impl<S: TextStore> View<S> {
     /// The limits of what one of the other widgets shows; `other` counts from 0 the widgets behind the one that commands.

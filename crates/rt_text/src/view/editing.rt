@@ -6,7 +6,7 @@ ghost use Rattle.rt_text.specs.Commands.{inserted, deleted};
 
 use super::View;
 use crate::preparing::check_names;
-use rt_edits::Piece;
+use rt_plans::Piece;
 use rt_stamps::Fault;
 use rt_store::TextStore;
 

@@ -2,13 +2,13 @@
 ghost use Rattle.std.specs.Prelude.{◌≡◌, Ok, Err, IfErr, OnErr, OnOk};
 ghost use Rattle.rt_stamps.specs.Outcomes.{Refuses};
 ghost use Rattle.rt_text.specs.Limited.{limited, with_peer};
-ghost use Rattle.rt_views.specs.Limits.{end_number, start_number};
+ghost use Rattle.rt_lines.specs.Limits.{end_number, start_number};
 
 use super::View;
 use crate::parts::Parts;
+use rt_lines::Choice;
 use rt_stamps::Fault;
 use rt_store::TextStore;
-use rt_views::Choice;
 
 impl<S: TextStore> View<S> {
     /// Sets which lines the widget shows, by lines of the whole text (Tk text manual, "Peer widgets":

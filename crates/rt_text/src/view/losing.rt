@@ -5,9 +5,9 @@ ghost use Rattle.rt_store.specs.Tagged.{AreStates};
 ghost use Rattle.rt_text.specs.Commands.{lost_in};
 
 use super::View;
-use rt_edits::Range;
-use rt_edits::cells::cells_in;
-use rt_edits::removal::removed_ranges;
+use rt_plans::Range;
+use rt_plans::cells::cells_in;
+use rt_plans::removal::removed_ranges;
 use rt_stamps::Fault;
 use rt_store::{Cell, TextStore};
 use rt_tags::{StateId, StateTable};

@@ -14,12 +14,11 @@ use super::View;
 use crate::comparison::holds;
 use crate::distance::distances_of;
 use crate::range::{ranges_at, shown_between, texts_of};
-use rt_edits::Range;
-use rt_index::place_of;
-use rt_index::{Comparison, Measure};
+use rt_index::{Comparison, Measure, place_of};
+use rt_lines::Stretch;
+use rt_plans::Range;
 use rt_stamps::{Fault, Position};
 use rt_store::TextStore;
-use rt_views::Stretch;
 
 impl<S: TextStore> View<S> {
     /// The place of an index, from 0 to the number of characters (Tk text manual, "Indices").

@@ -5,7 +5,7 @@ ghost use Rattle.rt_text.specs.Commands.{backwards_check, replaced};
 
 use super::View;
 use crate::preparing::check_names;
-use rt_edits::{Piece, Range};
+use rt_plans::{Piece, Range};
 use rt_stamps::Fault;
 use rt_store::TextStore;
 

@@ -7,8 +7,8 @@ ghost use Rattle.rt_text.specs.Commands.{clock_check, with_tag_in, with_tags_del
 ghost use Rattle.rt_text.specs.Widgets.{is_tagged, shown_by, tags_on, with_tags};
 
 use super::View;
-use rt_edits::Range;
-use rt_edits::removal::ranges_shown;
+use rt_plans::Range;
+use rt_plans::removal::ranges_shown;
 use rt_stamps::Fault;
 use rt_store::TextStore;
 

@@ -13,9 +13,9 @@ use crate::copy::push_characters;
 use crate::extend::New;
 use crate::find::sum_of;
 use crate::homes::spans_for;
-use crate::mark::{Mark, mark_span};
 use crate::splice::{newest_of, put_cells};
 use crate::tally::counts_with;
+use crate::update::{CellUpdate, update_span};
 use crate::walk::Found;
 use rt_stamps::limits::MOST_CELLS;
 use rt_stamps::{Fault, Span};
@@ -91,24 +91,24 @@ impl Tree {
         Ok(())
     }
 
-    // Marks the cells of a span.
-    fn apply(&mut self, states: &StateTable, span: Span, mark: Mark)
+    // Updates the cells of a span.
+    fn apply(&mut self, states: &StateTable, span: Span, update: CellUpdate)
         requires room { HasRoom self.old.room 0 2 (length states.now.names) }
-        requires mark { IsGiven states.now mark }
+        requires update { IsGiven states.now update }
         requires agrees { Agrees states.now self.old }
-        ensures cells { self.new.cells ≡ map (cell_in span mark) self.old.cells }
+        ensures cells { self.new.cells ≡ map (cell_in span update) self.old.cells }
         ensures runs { self.new.runs ≤ self.old.runs + 2 }
         ensures room { Spends self.old.room self.new.room 0 2 }
         ensures agrees { Agrees states.now self.new }
         ensures own { HasOwn self.new }
     {
-        let change = mark_span(
+        let change = update_span(
             &mut self.mem,
             &mut self.sums,
             states,
             self.root,
             span,
-            mark,
+            update,
             &mut self.homes,
         );
         self.root = change.root;
@@ -128,7 +128,7 @@ impl Tree {
         ensures agrees { Agrees states.now self.new }
         ensures own { HasOwn self.new }
     {
-        self.apply(states, span, Mark::Gone);
+        self.apply(states, span, CellUpdate::Gone);
     }
 
     /// Puts the cells of a span of stamps in a state, gone ones too, in two runs more at most. Takes
@@ -143,7 +143,7 @@ impl Tree {
         ensures agrees { Agrees states.now self.new }
         ensures own { HasOwn self.new }
     {
-        self.apply(states, span, Mark::State(state));
+        self.apply(states, span, CellUpdate::State(state));
     }
 
     /// Puts new cells in before the one at a position. A run that they go on with gets longer; each

@@ -9,12 +9,12 @@ use rt_store::CellRun;
 
 impl Tree {
     // The first cell that has a stamp, as a run of its own, by a walk from run to run.
-    fn seek_run(&self, stamp: Stamp) -> Option<CellRun>
+    fn walked_run(&self, stamp: Stamp) -> Option<CellRun>
         ensures cell { option_map (λ run. run.cell) result ≡ cell_of self.now.cells stamp }
         ensures run { IfSome result (λ run. GoOnTo self.now.cells run.cell run.last) }
         ensures last { IfSome result (λ run. run.last ≡ stamp.count) }
     {
-        let cell = self.seek_cell(stamp)?;
+        let cell = self.walked_cell(stamp)?;
         Some(CellRun {
             cell,
             last: stamp.count,
@@ -32,7 +32,7 @@ impl Tree {
         match self.homes.look_up(&self.mem, self.root, &self.last, stamp) {
             Sought::Nowhere => None,
             Sought::At(home) => Some(home.run_from(&self.text, stamp, last)),
-            Sought::Unknown => self.seek_run(stamp),
+            Sought::Unknown => self.walked_run(stamp),
         }
     }
 }

@@ -17,8 +17,8 @@ returns-then-are_earlier c =
 pub bounds-blocks-before : goal.bounds-blocks-before
 bounds-blocks-before c = not_all_earlier c.args.ops.now c.args.stamp c.args.blocks.now c.blocks_before-before.result (sym c.are_earlier.ensures ∙ c.if-are_earlier.false) c.blocks_before-before.ensures.blocks
 
-pub place_of-at-requires : goal.place_of-at-requires
-place_of-at-requires c =
+pub ops_before-at-requires : goal.ops_before-at-requires
+ops_before-at-requires c =
     subst (λ xs. IsFalling (newest_first c.args.ops.now xs)) (sym c.deref.ensures.value)
     (falling_block c.args.ops.now c.args.blocks.now c.blocks_before-before.result c.index-blocks-before.result (not_all_earlier c.args.ops.now c.args.stamp c.args.blocks.now c.blocks_before-before.result (sym c.are_earlier.ensures ∙ c.if-are_earlier.false) c.blocks_before-before.ensures.blocks) c.index-blocks-before.is c.requires)
 
@@ -28,7 +28,7 @@ index-requires c =
     let i = c.blocks_before-before.result in
     let p = is_earlier c.args.ops.now c.args.stamp in
     let l : i < length bs = not_all_earlier c.args.ops.now c.args.stamp bs i (sym c.are_earlier.ensures ∙ c.if-are_earlier.false) c.blocks_before-before.ensures.blocks in
-    let at : c.place_of-at.result ≡ leading p c.index-blocks-before.result.places.items = rw c.deref.ensures.value at c.place_of-at.ensures.place in
+    let at : c.ops_before-at.result ≡ leading p c.index-blocks-before.result.places.items = rw c.deref.ensures.value at c.ops_before-at.ensures.place in
     omega (arith, at, leading_within p bs i c.index-blocks-before.result c.blocks_before-before.ensures.blocks l c.index-blocks-before.is)
 
 pub returns : goal.returns
@@ -38,7 +38,7 @@ returns c =
     let b = c.index-blocks-before.result in
     let p = is_earlier c.args.ops.now c.args.stamp in
     let l : i < length bs = not_all_earlier c.args.ops.now c.args.stamp bs i (sym c.are_earlier.ensures ∙ c.if-are_earlier.false) c.blocks_before-before.ensures.blocks in
-    let at : c.place_of-at.result ≡ leading p b.places.items = rw c.deref.ensures.value at c.place_of-at.ensures.place in
+    let at : c.ops_before-at.result ≡ leading p b.places.items = rw c.deref.ensures.value at c.ops_before-at.ensures.place in
     let within = leading_within p bs i b c.blocks_before-before.ensures.blocks l c.index-blocks-before.is in
     sym (ap (slice_get (in_blocks bs)) (leading_at p bs i b c.blocks_before-before.ensures.blocks l c.index-blocks-before.is ∙ omega (arith, at))
-    ∙ place_at bs i c.place_of-at.result c.index.result.now b l c.index-blocks-before.is (omega (arith, at, within)) c.index.ensures)
+    ∙ place_at bs i c.ops_before-at.result c.index.result.now b l c.index-blocks-before.is (omega (arith, at, within)) c.index.ensures)

@@ -1,5 +1,5 @@
 use Rattle.std.proofs.Common.{Ok, ap}
-use Rattle.rt_editing.specs.EditedValue.{EditedValue}
+use Rattle.rt_recording.specs.EditedValue.{EditedValue}
 use Rattle.rt_peers.proofs.Calls.{option_leaves}
 use Rattle.rt_peers.proofs.PeerLaws.{text_back}
 use Rattle.rt_peers.proofs.laws.telling.Goals as goal

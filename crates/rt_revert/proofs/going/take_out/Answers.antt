@@ -4,9 +4,9 @@ use Rattle.rt_stamps.specs.declared.limits.TheConstants.{GREATEST_COUNT}
 use Rattle.rt_stamps.specs.declared.stamp.TheConstants.{FINAL}
 use Rattle.rt_ops.specs.Operations.{stamps_in}
 use Rattle.rt_store.specs.Spans.{gone_in_any, is_in_spans}
-use Rattle.rt_edits.proofs.PlanLaws.{spent}
-use Rattle.rt_edits.specs.declared.range.Range.{Range}
-use Rattle.rt_edits.specs.Removals.{AreInOrder, is_covered, stamps_at}
+use Rattle.rt_plans.proofs.PlanLaws.{spent}
+use Rattle.rt_plans.specs.declared.range.Range.{Range}
+use Rattle.rt_plans.specs.Removals.{AreInOrder, is_covered, stamps_at}
 use Rattle.rt_revert.specs.Portions.{whole_ranges}
 use Rattle.rt_revert.specs.Progress.{spans_of}
 use Rattle.rt_revert.proofs.Went.{Took, lost_count, spared, took_copy, took_going, took_so_far, took_still}

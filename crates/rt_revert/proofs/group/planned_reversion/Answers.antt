@@ -7,9 +7,9 @@ use Rattle.rt_ops.specs.Edits.{body_of}
 use Rattle.rt_store.specs.declared.cell.Cell.{Cell}
 use Rattle.rt_store.specs.Shown.{shown}
 use Rattle.rt_store.specs.Tagged.{AreStates}
-use Rattle.rt_edits.specs.DocValue.{DocValue, new_doc}
-use Rattle.rt_edits.specs.Insertions.{all_listed}
-use Rattle.rt_edits.proofs.PlanLaws.{spent}
+use Rattle.rt_plans.specs.DocValue.{DocValue, new_doc}
+use Rattle.rt_plans.specs.Insertions.{all_listed}
+use Rattle.rt_plans.proofs.PlanLaws.{spent}
 use Rattle.rt_undo.specs.Actions.{Action, group_of}
 use Rattle.rt_revert.specs.Named.{AreAt, is_named}
 use Rattle.rt_revert.specs.Plans.{IsChange, IsOf, marks_after, named_group}

@@ -4,10 +4,10 @@ use Rattle.rt_stamps.specs.declared.limits.TheConstants.{MOST_SPANS}
 use Rattle.rt_ops.specs.Operations.{stamps_in}
 use Rattle.rt_store.specs.declared.cell.Cell.{Cell}
 use Rattle.rt_tags.specs.States.{IsState}
-use Rattle.rt_edits.specs.declared.range.Range.{Range}
-use Rattle.rt_edits.specs.RemovalDrafts.{removal_drafts}
-use Rattle.rt_edits.specs.Removals.{cells_at, is_covered}
-use Rattle.rt_edits.proofs.Putting.{all_at}
+use Rattle.rt_plans.specs.declared.range.Range.{Range}
+use Rattle.rt_plans.specs.RemovalDrafts.{removal_drafts}
+use Rattle.rt_plans.specs.Removals.{cells_at, is_covered}
+use Rattle.rt_plans.proofs.Putting.{all_at}
 use Rattle.rt_undo.specs.Actions.{Removed}
 use Rattle.rt_revert.specs.Planning.{cell_removed}
 use Rattle.rt_revert.specs.Plans.{named_removed}

@@ -1,7 +1,7 @@
 use Rattle.std.proofs.Common.{◌≡◌, ◌∙◌, ◌+◌, ◌++◌, ◌||◌, List, Some, ap, append_assoc, append-nil, drop, subst, sym}
 use Rattle.rt_store.specs.Cells.{stamps_of}
-use Rattle.rt_edits.specs.declared.range.Range.{Range}
-use Rattle.rt_edits.specs.Removals.{AreInOrder, is_covered, stamps_at}
+use Rattle.rt_plans.specs.declared.range.Range.{Range}
+use Rattle.rt_plans.specs.Removals.{AreInOrder, is_covered, stamps_at}
 use Rattle.rt_revert.specs.Planning.{range_at}
 use Rattle.rt_revert.specs.Portions.{whole_ranges}
 use Rattle.rt_revert.proofs.OffsetLaws.{chosen_stamps}

@@ -1,6 +1,6 @@
 use Rattle.std.proofs.Common.{◌≡◌, ◌++◌, ◌||◌, ℕ, drop}
 use Rattle.rt_store.specs.Cells.{stamps_of}
-use Rattle.rt_edits.specs.Removals.{AreInOrder, is_covered}
+use Rattle.rt_plans.specs.Removals.{AreInOrder, is_covered}
 use Rattle.rt_revert.specs.Portions.{whole_ranges}
 use Rattle.rt_revert.proofs.offsets.whole_places.Given as goal
 

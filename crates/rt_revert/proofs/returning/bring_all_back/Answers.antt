@@ -1,7 +1,7 @@
 use Rattle.std.proofs.Common.{◌≡◌, ◌∙◌, ◌+◌, ◌++◌, drop, map, subst, ℕ}
 use Rattle.std.proofs.lemmas.Result.{err_from_is_err_and}
 use Rattle.std.specs.List.{AllByRecursion}
-use Rattle.rt_edits.proofs.PlanLaws.{spent}
+use Rattle.rt_plans.proofs.PlanLaws.{spent}
 use Rattle.rt_tags.specs.States.{IsState}
 use Rattle.rt_undo.specs.Actions.{Removed, removed_in, removed_of}
 use Rattle.rt_revert.specs.Plans.{named_removed}

@@ -7,7 +7,7 @@ use Rattle.rt_stamps.specs.Stamps.{is_same}
 use Rattle.rt_store.specs.Cells.{stamps_of}
 use Rattle.rt_store.specs.Spans.{is_among}
 use Rattle.rt_store.proofs.Finding.{stamp_held}
-use Rattle.rt_edits.proofs.PlanLaws.{spent}
+use Rattle.rt_plans.proofs.PlanLaws.{spent}
 use Rattle.rt_undo.specs.Actions.{removed_with}
 use Rattle.rt_undo.specs.Renames.{is_moved}
 use Rattle.rt_revert.specs.Plans.{named_removed}

@@ -2,7 +2,7 @@ use Rattle.std.proofs.Common.{◌≡◌, ◌∙◌, ◌+◌, ◌≤◌, [], ◌�
 use Rattle.std.proofs.lemmas.Result.{err_from_is_err_and}
 use Rattle.std.specs.List.{AllByRecursion}
 use Rattle.rt_stamps.specs.Words.{Word}
-use Rattle.rt_edits.proofs.PlanLaws.{spent}
+use Rattle.rt_plans.proofs.PlanLaws.{spent}
 use Rattle.rt_undo.specs.Actions.{Removed, removed_of, removed_with}
 use Rattle.rt_revert.specs.Plans.{named_removed}
 use Rattle.rt_revert.specs.Reverting.{with_returns}

@@ -9,9 +9,9 @@ use Rattle.rt_ops.specs.Edits.{body_of}
 use Rattle.rt_store.specs.Cells.{after_element}
 use Rattle.rt_rga.proofs.RemovedPlaces.{fewer}
 use Rattle.rt_tags.specs.States.{state_at}
-use Rattle.rt_rga.specs.Few.{items_in}
-use Rattle.rt_edits.specs.InsertionDrafts.{text_drafts}
-use Rattle.rt_edits.specs.Insertions.{counts_for}
+use Rattle.rt_rga.specs.OneOrMany.{items_in}
+use Rattle.rt_plans.specs.InsertionDrafts.{text_drafts}
+use Rattle.rt_plans.specs.Insertions.{counts_for}
 use Rattle.rt_undo.specs.Renames.{is_moved, now_of, replaced}
 use Rattle.rt_revert.specs.declared.plan.TextChange.TheVariants.{Inserted}
 use Rattle.rt_revert.specs.Portions.{AreSmall, offset_behind, offset_of}

@@ -2,7 +2,7 @@ use Rattle.std.proofs.Common.{◌≡◌, ◌∙◌, ◌++◌, [], ◌∷◌, ℕ
 use Rattle.std.specs.Prelude.{option_map, unwrap_or}
 use Rattle.rt_store.specs.declared.cell.Cell.{Cell}
 use Rattle.rt_store.specs.Cells.{position_of, visible_before}
-use Rattle.rt_edits.specs.DocValue.{put_after}
+use Rattle.rt_plans.specs.DocValue.{put_after}
 use Rattle.rt_revert.proofs.CellsParted.{new_place}
 use Rattle.rt_revert.proofs.returning.put_in.Goals as goal
 

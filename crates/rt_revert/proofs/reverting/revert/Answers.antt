@@ -4,7 +4,7 @@ use Rattle.rt_stamps.specs.declared.limits.TheConstants.{GREATEST_COUNT}
 use Rattle.rt_stamps.specs.declared.stamp.TheConstants.{FINAL}
 use Rattle.rt_ops.specs.Operations.{stamps_in}
 use Rattle.rt_store.specs.Spans.{is_among}
-use Rattle.rt_edits.proofs.PlanLaws.{spent}
+use Rattle.rt_plans.proofs.PlanLaws.{spent}
 use Rattle.rt_undo.specs.declared.action.RemovedSpan.{RemovedSpan}
 use Rattle.rt_undo.specs.Actions.{removed_in}
 use Rattle.rt_undo.specs.Renames.{now_of}

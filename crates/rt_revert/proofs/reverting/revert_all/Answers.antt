@@ -1,7 +1,7 @@
 use Rattle.std.proofs.Common.{◌≡◌, ◌∙◌, ◌+◌, ◌-◌, ◌<◌, ◌∷◌, ap, arith, length, take}
 use Rattle.std.specs.Prelude.{reverse}
 use Rattle.std.proofs.lemmas.Result.{err_from_is_err_and}
-use Rattle.rt_edits.proofs.PlanLaws.{spent}
+use Rattle.rt_plans.proofs.PlanLaws.{spent}
 use Rattle.rt_undo.specs.Actions.{action_of, group_of}
 use Rattle.rt_revert.specs.Plans.{named_action, named_group}
 use Rattle.rt_revert.specs.Reverting.{with_each_reverted}

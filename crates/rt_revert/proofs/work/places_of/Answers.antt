@@ -1,6 +1,6 @@
 use Rattle.std.proofs.Common.{◌∙◌, ◌+◌, ◌||◌, ap, drop, sym}
 use Rattle.rt_ops.specs.Operations.{stamps_in}
-use Rattle.rt_edits.specs.Removals.{is_covered}
+use Rattle.rt_plans.specs.Removals.{is_covered}
 use Rattle.rt_revert.specs.Planning.{ranges_of}
 use Rattle.rt_revert.proofs.Rest.{none_left}
 use Rattle.rt_revert.proofs.SpansCovered.{covered_all, covered_step, ranges_append, spans_more}

@@ -1,6 +1,6 @@
 use Rattle.std.proofs.Common.{◌≡◌, ◌||◌, ℕ, drop}
 use Rattle.rt_ops.specs.Operations.{stamps_in}
-use Rattle.rt_edits.specs.Removals.{is_covered}
+use Rattle.rt_plans.specs.Removals.{is_covered}
 use Rattle.rt_revert.specs.Planning.{ranges_of}
 use Rattle.rt_revert.proofs.work.places_of.Given as goal
 

@@ -1,6 +1,6 @@
 use Rattle.std.proofs.Common.{◌≡◌, ◌∙◌, ◌++◌, ◌||◌, List, Some, ap, subst, sym, append-nil}
-use Rattle.rt_edits.specs.declared.range.Range.{Range}
-use Rattle.rt_edits.specs.Removals.{AreInOrder, is_covered}
+use Rattle.rt_plans.specs.declared.range.Range.{Range}
+use Rattle.rt_plans.specs.Removals.{AreInOrder, is_covered}
 use Rattle.rt_revert.specs.Planning.{range_at}
 use Rattle.rt_revert.proofs.SpansCovered.{order_joined, placed_alone, placed_behind}
 use Rattle.rt_revert.proofs.work.push_place.Goals as goal

@@ -1,6 +1,6 @@
 use Rattle.std.proofs.Common.{◌∙◌, ◌+◌, ◌-◌, ◌||◌, ap, arith, sym}
 use Rattle.rt_ops.specs.Operations.{stamps_from}
-use Rattle.rt_edits.specs.Removals.{is_covered}
+use Rattle.rt_plans.specs.Removals.{is_covered}
 use Rattle.rt_revert.specs.Planning.{range_at, ranges_of, visible_place}
 use Rattle.rt_revert.proofs.SpansCovered.{covered_all, covered_step, from_more, from_none}
 use Rattle.rt_revert.proofs.work.push_places.Goals as goal

@@ -3,7 +3,7 @@ use Rattle.std.specs.Prelude.{nat_lt}
 use Rattle.std.proofs.lemmas.Result.{IfOk-weaker}
 use Rattle.rt_ops.specs.Operations.{stamps_in}
 use Rattle.rt_store.specs.Cells.{visible_of}
-use Rattle.rt_edits.specs.Removals.{is_covered}
+use Rattle.rt_plans.specs.Removals.{is_covered}
 use Rattle.rt_revert.proofs.PlacesFound.{covered}
 use Rattle.rt_revert.proofs.work.visible_ranges.Goals as goal
 

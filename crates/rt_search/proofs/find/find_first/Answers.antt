@@ -2,7 +2,7 @@ use Rattle.std.proofs.Common.{◌≡◌, ◌∷◌, ◌++◌, ◌∙◌, [], ℕ
 use Rattle.std.specs.Prelude.{flat_map, option_to_list, slice_get}
 use Rattle.rt_search.specs.Searches.{matches, matches_in, stretches}
 use Rattle.rt_search.specs.declared.search.Search.{Search}
-use Rattle.rt_views.specs.declared.stretch.Stretch.{Stretch}
+use Rattle.rt_lines.specs.declared.stretch.Stretch.{Stretch}
 use Rattle.rt_search.proofs.find.find_first.Goals as goal
 
 -- what stands first of two lists

@@ -2,7 +2,7 @@ use Rattle.std.proofs.Common.{◌≡◌, ◌∙◌, ◌++◌, ap, sym, flat_map}
 use Rattle.std.specs.Prelude.{string_bytes}
 use Rattle.std.proofs.lemmas.List.{take_all}
 use Rattle.rt_stamps.specs.Words.{as_words}
-use Rattle.rt_edits.specs.DocValue.{DocValue}
+use Rattle.rt_plans.specs.DocValue.{DocValue}
 use Rattle.rt_tagcmd.specs.Dumping.{tagoffs_of, tagons_of}
 use Rattle.rt_tagcmd.specs.Stretches.{within}
 use Rattle.rt_tagcmd.proofs.Pushing.{flat_over}

@@ -1,6 +1,6 @@
 use Rattle.std.proofs.Common.{◌-◌, ◌≤◌, ap, arith, drop, length}
 use Rattle.std.proofs.lemmas.List.{length-drop, length-map, length-take}
-use Rattle.rt_edits.proofs.PlaceLaws.{text_within}
+use Rattle.rt_plans.proofs.PlaceLaws.{text_within}
 use Rattle.rt_store.specs.Cells.{text_of, visible_of}
 use Rattle.rt_store.specs.Shown.{TaggedCell}
 use Rattle.rt_text.specs.Widgets.{length_shown, shown_by, stretch_by}

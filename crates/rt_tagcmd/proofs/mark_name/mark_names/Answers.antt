@@ -1,6 +1,6 @@
 use Rattle.std.proofs.Common.{◌∙◌, ap}
 use Rattle.rt_stamps.specs.Words.{as_words}
-use Rattle.rt_edits.specs.DocValue.{DocValue}
+use Rattle.rt_plans.specs.DocValue.{DocValue}
 use Rattle.rt_tagcmd.specs.MarkCommands.{by_bytes, inserted_by_bytes}
 use Rattle.rt_tagcmd.proofs.ByBytes.{listed_by_bytes, names_of}
 use Rattle.rt_tagcmd.proofs.mark_name.mark_names.Goals as goal

@@ -1,5 +1,5 @@
 use Rattle.std.proofs.Common.{◌≡◌, ◌∙◌, List, ap, find, length, subst, sym}
-use Rattle.rt_edits.specs.DocValue.{DocValue}
+use Rattle.rt_plans.specs.DocValue.{DocValue}
 use Rattle.rt_marks.specs.Marks.{AreInOrder, Mark, comes_before}
 use Rattle.rt_marks.specs.Seen.{spotted}
 use Rattle.rt_store.specs.Cells.{text_of}

@@ -2,8 +2,8 @@ use Rattle.std.proofs.Common.{◌∙◌, ap, arith, length, sym}
 use Rattle.rt_store.specs.Cells.{visible_of}
 use Rattle.rt_store.specs.Shown.{TaggedCell}
 use Rattle.rt_text.specs.Widgets.{stretch_by}
-use Rattle.rt_views.specs.Stretches.{part}
-use Rattle.rt_views.proofs.Parts.{part_map}
+use Rattle.rt_lines.specs.Stretches.{part}
+use Rattle.rt_lines.proofs.Parts.{part_map}
 use Rattle.rt_tagcmd.proofs.searching.shown.Goals as goal
 
 pub of-requires-clause-within : goal.of-requires-clause-within

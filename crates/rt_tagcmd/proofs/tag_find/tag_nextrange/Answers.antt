@@ -1,7 +1,7 @@
 use Rattle.std.proofs.Common.{All, Option, subst, sym}
 use Rattle.std.specs.Prelude.{option_to_list}
 use Rattle.rt_text.specs.Widgets.{length_shown}
-use Rattle.rt_edits.specs.declared.range.Range.{Range}
+use Rattle.rt_plans.specs.declared.range.Range.{Range}
 use Rattle.rt_tagcmd.proofs.TagFinds.{IsWithin, next_within}
 use Rattle.rt_tagcmd.proofs.tag_find.tag_nextrange.Goals as goal
 

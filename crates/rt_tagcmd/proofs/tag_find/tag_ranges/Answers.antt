@@ -1,8 +1,8 @@
 use Rattle.std.proofs.Common.{◌∙◌, All, ap, subst, sym}
 use Rattle.std.proofs.lemmas.Result.{IfOk-weaker}
 use Rattle.rt_text.specs.Widgets.{length_shown}
-use Rattle.rt_edits.specs.DocValue.{DocValue}
-use Rattle.rt_edits.specs.Listed.{AreListed}
+use Rattle.rt_plans.specs.DocValue.{DocValue}
+use Rattle.rt_plans.specs.Listed.{AreListed}
 use Rattle.rt_tagcmd.specs.TagCommands.{range_ends}
 use Rattle.rt_tagcmd.proofs.TagFinds.{IsWithin, tagged_within, unlisted}
 use Rattle.rt_tagcmd.proofs.tag_find.tag_ranges.Goals as goal

@@ -6,6 +6,6 @@ use Rattle.rt_tags.proofs.states.found.Goals as goal
 
 pub returns : goal.returns
 returns c =
-    let got : c.copied.result ≡ slice_get c.args.entries.now c.place_of-at.result = c.copied.ensures ∙ copied_there c.args.entries.now c.place_of-at.result c.get.result c.get.ensures.lookup in
+    let got : c.copied.result ≡ slice_get c.args.entries.now c.entries_below-at.result = c.copied.ensures ∙ copied_there c.args.entries.now c.entries_below-at.result c.get.result c.get.ensures.lookup in
     c.if_of.ensures ∙ ap (if_of c.args.tag) got
-    ∙ there (as_words c.args.names.now) c.args.tag c.args.entries.now c.name_at.result.now c.place_of-at.result c.requires c.name_at.ensures c.place_of-at.ensures.place
+    ∙ there (as_words c.args.names.now) c.args.tag c.args.entries.now c.name_at.result.now c.entries_below-at.result c.requires c.name_at.ensures c.entries_below-at.ensures.place

@@ -5,8 +5,8 @@ use Rattle.rt_stamps.specs.declared.stamp.Stamp.{Stamp}
 use Rattle.rt_stamps.specs.Words.{Word}
 use Rattle.rt_undo.specs.Undo.{History, no_history}
 use Rattle.rt_revert.specs.ReversionLaws.{AreSound}
-use Rattle.rt_editing.specs.Recordings.{Recording, came_back}
-use Rattle.rt_editing.specs.Settled.{AreGoneOnce, all_taken}
+use Rattle.rt_recording.specs.Recordings.{Recording, came_back}
+use Rattle.rt_recording.specs.Settled.{AreGoneOnce, all_taken}
 use Rattle.rt_tests_script.proofs.refused.recorded.Goals as goal
 
 -- a new recorder names no character

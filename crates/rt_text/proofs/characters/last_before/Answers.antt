@@ -3,7 +3,7 @@ use Rattle.std.specs.Str.{bytes_eq}
 use Rattle.rt_store.specs.Cells.{visible_of}
 use Rattle.rt_store.specs.Tagged.{last_place}
 use Rattle.rt_tags.specs.Tags.{sel}
-use Rattle.rt_edits.specs.Selected.{selected_stamps}
+use Rattle.rt_plans.specs.Selected.{selected_stamps}
 use Rattle.rt_text.proofs.TaggedLaws.{asks_unknown, last_never}
 use Rattle.rt_text.proofs.characters.last_before.Goals as goal
 

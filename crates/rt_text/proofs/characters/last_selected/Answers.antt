@@ -3,7 +3,7 @@ use Rattle.std.proofs.lemmas.List.{nil_from_length}
 use Rattle.rt_store.specs.declared.cell.Cell.{Cell}
 use Rattle.rt_store.specs.Cells.{visible_of}
 use Rattle.rt_store.specs.Tagged.{last_place, previous_place}
-use Rattle.rt_edits.specs.Selected.{selected_stamps}
+use Rattle.rt_plans.specs.Selected.{selected_stamps}
 use Rattle.rt_store.specs.Spans.{is_among}
 use Rattle.rt_text.proofs.TaggedLaws.{last_never, previous_found, previous_passed}
 use Rattle.rt_text.proofs.characters.last_selected.Goals as goal

@@ -1,7 +1,7 @@
 use Rattle.std.proofs.Common.{◌≡◌, ◌≤◌, length}
 use Rattle.rt_store.specs.Cells.{visible_of}
 use Rattle.rt_store.specs.Tagged.{previous_place}
-use Rattle.rt_edits.specs.Selected.{selected_stamps}
+use Rattle.rt_plans.specs.Selected.{selected_stamps}
 use Rattle.rt_store.specs.Spans.{is_among}
 use Rattle.rt_text.proofs.characters.last_selected.Given as goal
 

@@ -3,7 +3,7 @@ use Rattle.std.specs.Prelude.{option_and_then}
 use Rattle.rt_store.specs.declared.cell.Cell.{Cell}
 use Rattle.rt_store.specs.Cells.{visible_of}
 use Rattle.rt_store.specs.Shown.{shown}
-use Rattle.rt_edits.specs.Selected.{selected_stamps}
+use Rattle.rt_plans.specs.Selected.{selected_stamps}
 use Rattle.rt_text.specs.Widgets.{is_tagged_in}
 use Rattle.rt_text.proofs.PartPlaces.{behind, checked_behind, last_in_part}
 use Rattle.rt_text.proofs.characters.last_within.Goals as goal

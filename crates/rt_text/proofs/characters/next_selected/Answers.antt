@@ -2,7 +2,7 @@ use Rattle.std.proofs.Common.{◌≡◌, ◌∙◌, [], ap, arith, sym}
 use Rattle.std.proofs.lemmas.List.{nil_from_length}
 use Rattle.rt_store.specs.Cells.{visible_of}
 use Rattle.rt_store.specs.Tagged.{next_place}
-use Rattle.rt_edits.specs.Selected.{selected_stamps}
+use Rattle.rt_plans.specs.Selected.{selected_stamps}
 use Rattle.rt_text.proofs.TaggedLaws.{selects, next_found, next_passed}
 use Rattle.rt_text.proofs.characters.next_selected.Goals as goal
 

@@ -2,7 +2,7 @@ use Rattle.std.proofs.Common.{◌∙◌, ◌-◌, ◌^◌, Bool, ℕ, arith}
 use Rattle.rt_store.specs.declared.cell.Cell.{Cell}
 use Rattle.rt_store.specs.Cells.{visible_of}
 use Rattle.rt_store.specs.Shown.{shown}
-use Rattle.rt_edits.specs.Selected.{selected_stamps}
+use Rattle.rt_plans.specs.Selected.{selected_stamps}
 use Rattle.rt_text.specs.Widgets.{is_tagged_in}
 use Rattle.rt_text.proofs.PartPlaces.{last_before}
 use Rattle.rt_text.proofs.characters.previous_within.Goals as goal

@@ -1,6 +1,6 @@
 use Rattle.std.proofs.Common.{arith}
 use Rattle.rt_store.specs.Cells.{text_of}
-use Rattle.rt_edits.proofs.PlaceLaws.{text_within, newlines_within, newlines_front}
+use Rattle.rt_plans.proofs.PlaceLaws.{text_within, newlines_within, newlines_front}
 use Rattle.rt_text.proofs.distance.distance_of.Goals as goal
 
 pub difference-requires : goal.difference-requires

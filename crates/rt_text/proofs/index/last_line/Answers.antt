@@ -2,7 +2,7 @@ use Rattle.std.proofs.Common.{◌≡◌, ◌∙◌, ◌-◌, List, ℕ, suc, ap,
 use Rattle.std.proofs.lemmas.List.{take_all}
 use Rattle.rt_stamps.specs.Places.{newlines}
 use Rattle.rt_store.specs.Cells.{text_of}
-use Rattle.rt_edits.proofs.PlaceLaws.{length_text}
+use Rattle.rt_plans.proofs.PlaceLaws.{length_text}
 use Rattle.rt_text.proofs.LeftLines.{next_newline}
 use Rattle.rt_text.proofs.index.last_line.Goals as goal
 

@@ -1,7 +1,7 @@
 use Rattle.std.proofs.Common.{◌≡◌, ◌-◌, arith, take}
 use Rattle.rt_stamps.specs.Places.{newlines}
 use Rattle.rt_store.specs.Cells.{text_of}
-use Rattle.rt_edits.proofs.PlaceLaws.{ends_text, last_position, line_starts}
+use Rattle.rt_plans.proofs.PlaceLaws.{ends_text, last_position, line_starts}
 use Rattle.rt_text.proofs.index.position_at.Goals as goal
 
 pub returns-then-line-lines : goal.returns-then-line-lines

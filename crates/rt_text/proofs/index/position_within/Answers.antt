@@ -1,7 +1,7 @@
 use Rattle.std.proofs.Common.{ap, arith}
 use Rattle.rt_stamps.specs.declared.position.Position.{Position}
 use Rattle.rt_store.specs.Cells.{text_of}
-use Rattle.rt_edits.proofs.PlaceLaws.{length_text}
+use Rattle.rt_plans.proofs.PlaceLaws.{length_text}
 use Rattle.rt_text.proofs.PartLines.{length_in_part, line_counted, position_in_part}
 use Rattle.rt_text.proofs.index.position_within.Goals as goal
 

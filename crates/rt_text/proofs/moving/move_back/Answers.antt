@@ -2,8 +2,8 @@ use Rattle.std.proofs.Common.{◌≡◌, ◌<◌, ◌+◌, ◌-◌, ◌∙◌, a
 use Rattle.std.proofs.Math.Seq.{drop-length}
 use Rattle.rt_marks.specs.Marks.{marks_left, marks_removed}
 use Rattle.rt_marks.proofs.Leaving.{marks_kept}
-use Rattle.rt_edits.specs.declared.range.Range.{Range}
-use Rattle.rt_edits.specs.Removals.{is_covered}
+use Rattle.rt_plans.specs.declared.range.Range.{Range}
+use Rattle.rt_plans.specs.Removals.{is_covered}
 use Rattle.rt_text.proofs.MovingLaws.{forward_at, marks_back}
 use Rattle.rt_text.proofs.moving.move_back.Goals as goal
 

@@ -1,6 +1,6 @@
 use Rattle.std.proofs.Common.{◌≡◌, ◌≤◌, length, drop}
 use Rattle.rt_marks.specs.Marks.{marks_left}
-use Rattle.rt_edits.specs.Removals.{is_covered}
+use Rattle.rt_plans.specs.Removals.{is_covered}
 use Rattle.rt_text.proofs.moving.move_back.Given as goal
 
 abbrev pub invariant-loop-i : goal.invariant-loop-i

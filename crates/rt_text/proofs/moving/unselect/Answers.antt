@@ -1,5 +1,5 @@
 use Rattle.std.proofs.Common.{◌≡◌, List, [], ◌∷◌, ◌∙◌, ap, cond, map, refl, sym}
-use Rattle.rt_edits.specs.Selections.{unselected}
+use Rattle.rt_plans.specs.Selections.{unselected}
 use Rattle.rt_text.specs.Parts.{own_in}
 use Rattle.rt_text.specs.Widgets.{WidgetValue, reselected}
 use Rattle.rt_text.proofs.moving.unselect.Goals as goal

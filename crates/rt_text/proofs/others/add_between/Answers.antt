@@ -1,10 +1,10 @@
 use Rattle.std.proofs.Common.{◌≡◌, ◌≤◌, ◌&&◌, subst, sym, true, ◌<◌, ◌∙◌, arith, length}
 use Rattle.std.proofs.lemmas.List.{length-set}
-use Rattle.rt_edits.specs.Insertions.{selected_if}
-use Rattle.rt_edits.specs.Selected.{room_in, selected_stamps}
+use Rattle.rt_plans.specs.Insertions.{selected_if}
+use Rattle.rt_plans.specs.Selected.{room_in, selected_stamps}
 use Rattle.rt_store.specs.Spans.{is_among}
 use Rattle.rt_text.specs.declared.parts.Parts.{Parts}
-use Rattle.rt_edits.proofs.SelectionLaws.{done_more, rest_more}
+use Rattle.rt_plans.proofs.SelectionLaws.{done_more, rest_more}
 use Rattle.rt_text.specs.Parts.{own_in}
 use Rattle.rt_text.specs.Widgets.{reselected}
 use Rattle.rt_text.proofs.PeerLaws.{rest_same}

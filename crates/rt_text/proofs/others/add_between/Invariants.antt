@@ -1,5 +1,5 @@
 use Rattle.std.proofs.Common.{◌≡◌, ◌&&◌, drop, length, map, take}
-use Rattle.rt_edits.specs.Insertions.{selected_if}
+use Rattle.rt_plans.specs.Insertions.{selected_if}
 use Rattle.rt_store.specs.Spans.{is_among}
 use Rattle.rt_text.specs.Parts.{own_in}
 use Rattle.rt_text.specs.Widgets.{reselected}

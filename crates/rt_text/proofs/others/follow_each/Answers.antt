@@ -3,7 +3,7 @@ use Rattle.std.proofs.lemmas.List.{length-set}
 use Rattle.rt_rga.specs.Taken.{is_in_runs}
 use Rattle.rt_text.specs.Widgets.{own_inserted, own_left}
 use Rattle.rt_text.specs.declared.parts.Parts.{Parts}
-use Rattle.rt_edits.proofs.SelectionLaws.{done_more, rest_more}
+use Rattle.rt_plans.proofs.SelectionLaws.{done_more, rest_more}
 use Rattle.rt_text.specs.Parts.{own_in}
 use Rattle.rt_text.proofs.PeerLaws.{rest_same}
 use Rattle.rt_text.proofs.others.follow_each.Goals as goal

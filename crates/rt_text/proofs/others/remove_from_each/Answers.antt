@@ -1,7 +1,7 @@
 use Rattle.std.proofs.Common.{[], ◌∷◌, ◌<◌, ◌∙◌, arith, length}
 use Rattle.std.proofs.lemmas.List.{length-set}
-use Rattle.rt_edits.specs.Selections.{unselected}
-use Rattle.rt_edits.proofs.SelectionLaws.{done_more, rest_more}
+use Rattle.rt_plans.specs.Selections.{unselected}
+use Rattle.rt_plans.proofs.SelectionLaws.{done_more, rest_more}
 use Rattle.rt_text.specs.Parts.{own_in}
 use Rattle.rt_text.specs.Widgets.{reselected}
 use Rattle.rt_text.proofs.others.remove_from_each.Goals as goal

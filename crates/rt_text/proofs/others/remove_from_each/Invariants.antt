@@ -1,5 +1,5 @@
 use Rattle.std.proofs.Common.{◌≡◌, [], ◌∷◌, drop, length, map, take}
-use Rattle.rt_edits.specs.Selections.{unselected}
+use Rattle.rt_plans.specs.Selections.{unselected}
 use Rattle.rt_text.specs.Parts.{own_in}
 use Rattle.rt_text.specs.Widgets.{reselected}
 use Rattle.rt_text.proofs.others.remove_from_each.Given as goal

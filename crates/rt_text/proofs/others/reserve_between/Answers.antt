@@ -1,9 +1,9 @@
 use Rattle.std.proofs.lemmas.Result.{err_from_is_err_and}
 use Rattle.std.proofs.Common.{◌≡◌, ◌<◌, ◌≤◌, ◌&&◌, ◌∙◌, All, arith, length, subst, true}
 use Rattle.std.proofs.lemmas.List.{length-set, take_all}
-use Rattle.rt_edits.specs.Selected.{selected_stamps, room_in}
+use Rattle.rt_plans.specs.Selected.{selected_stamps, room_in}
 use Rattle.rt_store.specs.Spans.{is_among}
-use Rattle.rt_edits.proofs.SelectionLaws.{all_more, same_set}
+use Rattle.rt_plans.proofs.SelectionLaws.{all_more, same_set}
 use Rattle.rt_text.specs.declared.parts.Parts.{Parts}
 use Rattle.rt_text.specs.Parts.{own_in}
 use Rattle.rt_text.proofs.others.reserve_between.Goals as goal

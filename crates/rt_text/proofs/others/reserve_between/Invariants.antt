@@ -1,5 +1,5 @@
 use Rattle.std.proofs.Common.{◌≡◌, ◌≤◌, ◌&&◌, All, true, length, map, take}
-use Rattle.rt_edits.specs.Selected.{selected_stamps, room_in}
+use Rattle.rt_plans.specs.Selected.{selected_stamps, room_in}
 use Rattle.rt_store.specs.Spans.{is_among}
 use Rattle.rt_text.specs.Parts.{own_in}
 use Rattle.rt_text.proofs.others.reserve_between.Given as goal

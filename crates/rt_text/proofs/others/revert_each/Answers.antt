@@ -2,7 +2,7 @@ use Rattle.std.proofs.Common.{◌≡◌, get_or, ap, ◌<◌, ◌∙◌, arith, 
 use Rattle.std.proofs.lemmas.List.{length-set}
 use Rattle.rt_text.specs.Changes.{own_after, own_renamed}
 use Rattle.rt_text.specs.declared.parts.Parts.{Parts}
-use Rattle.rt_edits.proofs.SelectionLaws.{done_more, rest_more}
+use Rattle.rt_plans.proofs.SelectionLaws.{done_more, rest_more}
 use Rattle.rt_text.specs.Parts.{own_in}
 use Rattle.rt_text.proofs.PeerLaws.{rest_same}
 use Rattle.rt_text.proofs.others.revert_each.Goals as goal

@@ -5,7 +5,7 @@ use Rattle.std.proofs.lemmas.Result.{err_from_is_err_and}
 use Rattle.rt_stamps.specs.Outcomes.{first_of}
 use Rattle.rt_stamps.specs.Names.{name_check}
 use Rattle.rt_stamps.proofs.Names.{all_named, none_found, some_found}
-use Rattle.rt_edits.specs.DeletionLaws.{IsPiece}
+use Rattle.rt_plans.specs.DeletionLaws.{IsPiece}
 use Rattle.rt_text.proofs.ReadyLaws.{names_bad, names_fine}
 use Rattle.rt_text.proofs.preparing.check_names.Goals as goal
 

@@ -1,7 +1,7 @@
 use Rattle.std.proofs.Common.{◌≡◌, All, drop, map, take}
 use Rattle.rt_stamps.specs.Outcomes.{first_of}
 use Rattle.rt_stamps.specs.Names.{name_check}
-use Rattle.rt_edits.specs.DeletionLaws.{IsPiece}
+use Rattle.rt_plans.specs.DeletionLaws.{IsPiece}
 use Rattle.rt_text.specs.Commands.{names_in}
 use Rattle.rt_text.proofs.preparing.check_names.Given as goal
 

@@ -1,7 +1,7 @@
 use Rattle.std.proofs.Common.{◌≡◌, All, drop, string_bytes, true}
 use Rattle.rt_stamps.specs.Words.{as_words}
 use Rattle.rt_tags.specs.Tags.{is_ready}
-use Rattle.rt_edits.specs.Insertions.{all_listed}
+use Rattle.rt_plans.specs.Insertions.{all_listed}
 use Rattle.rt_text.proofs.preparing.list_tags.Given as goal
 
 abbrev pub invariant-loop-name : goal.invariant-loop-name

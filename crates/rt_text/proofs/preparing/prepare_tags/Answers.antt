@@ -4,7 +4,7 @@ use Rattle.std.proofs.lemmas.Result.{err_from_is_err_and}
 use Rattle.rt_stamps.specs.Words.{as_words}
 use Rattle.rt_tags.specs.Tags.{IsName, is_ready}
 use Rattle.rt_tags.proofs.Places.{name_itself}
-use Rattle.rt_edits.proofs.PlanLaws.{named_at}
+use Rattle.rt_plans.proofs.PlanLaws.{named_at}
 use Rattle.rt_text.proofs.ReadyLaws.{for_memory, named_here, no_answer, only_given, only_left, ready_more, still_ready, sure}
 use Rattle.rt_text.proofs.preparing.prepare_tags.Goals as goal
 

@@ -3,7 +3,7 @@ use Rattle.std.proofs.Common.{◌≡◌, ◌≤◌, ◌∙◌, ap, sym, arith, l
 use Rattle.std.specs.Prelude.{encode_utf8_all, ◌++◌}
 use Rattle.rt_store.specs.Cells.{text_of}
 use Rattle.rt_text.specs.Ranges.{text_between}
-use Rattle.rt_edits.proofs.PlaceLaws.{length_text}
+use Rattle.rt_plans.proofs.PlaceLaws.{length_text}
 use Rattle.rt_text.proofs.TextLaws.{between_more, between_all}
 use Rattle.rt_text.proofs.range.text_between.Goals as goal
 

@@ -2,7 +2,7 @@ use Rattle.std.proofs.lemmas.Result.{err_from_is_err_and}
 use Rattle.std.proofs.Common.{arith, refl}
 use Rattle.std.proofs.lemmas.Grind.{common_steps}
 use Rattle.rt_store.specs.Cells.{text_of}
-use Rattle.rt_views.proofs.Parts.{part_length}
+use Rattle.rt_lines.proofs.Parts.{part_length}
 use Rattle.rt_text.proofs.RangeLaws.{texts_some, texts_none}
 use Rattle.rt_text.proofs.range.texts_of.Goals as goal
 use Rattle.rt_text.proofs.range.texts_of.Goals.{then-range-min+in_ok-shown_between+in_ok-push, else-range-min}

@@ -1,7 +1,7 @@
 use Rattle.std.proofs.Common.{◌∙◌, length}
 use Rattle.rt_store.specs.Cells.{visible_of}
-use Rattle.rt_edits.specs.Removals.{is_covered}
-use Rattle.rt_edits.proofs.RestLaws.{visible_given}
+use Rattle.rt_plans.specs.Removals.{is_covered}
+use Rattle.rt_plans.proofs.RestLaws.{visible_given}
 use Rattle.rt_text.proofs.StayingPlaces.{all_fit_in, before_within, stays_at}
 use Rattle.rt_text.proofs.staying.cell_after.Goals as goal
 

@@ -1,6 +1,6 @@
 use Rattle.std.proofs.Common.{◌≡◌, ◌≤◌, length, drop}
 use Rattle.rt_marks.specs.Marks.{place_left}
-use Rattle.rt_edits.specs.Removals.{is_covered}
+use Rattle.rt_plans.specs.Removals.{is_covered}
 use Rattle.rt_text.proofs.staying.place_after.Given as goal
 
 abbrev pub invariant-loop-i : goal.invariant-loop-i

@@ -1,7 +1,7 @@
 use Rattle.std.proofs.Common.{◌≡◌, ◌∙◌, ◌+◌, ◌-◌, ◌<◌, ap, arith, drop, get_or, length, sym}
 use Rattle.rt_marks.specs.Marks.{place_left}
-use Rattle.rt_edits.specs.declared.range.Range.{Range}
-use Rattle.rt_edits.specs.Removals.{is_covered}
+use Rattle.rt_plans.specs.declared.range.Range.{Range}
+use Rattle.rt_plans.specs.Removals.{is_covered}
 use Rattle.rt_text.proofs.StayingPlaces.{before_free, before_left, before_more, before_of, passed_all, passed_order, passing_all, passing_not}
 use Rattle.rt_text.proofs.staying.place_before.Goals as goal
 use Rattle.rt_text.proofs.staying.place_before.Goals.{then-range-before, else-range-before}

@@ -1,5 +1,5 @@
 use Rattle.std.proofs.Common.{◌≡◌, ◌≤◌, ◌-◌, drop}
-use Rattle.rt_edits.specs.Removals.{AreInOrder}
+use Rattle.rt_plans.specs.Removals.{AreInOrder}
 use Rattle.rt_text.proofs.StayingPlaces.{before_of}
 use Rattle.rt_text.proofs.staying.place_before.Given as goal
 

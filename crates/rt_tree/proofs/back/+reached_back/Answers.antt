@@ -10,7 +10,7 @@ use Rattle.rt_tree.specs.Summaries.{IsSummary, no_summary, shown_states, summary
 use Rattle.rt_tree.specs.Sums.{AreFew, counts_of}
 use Rattle.rt_tree.proofs.Down.{sum-node}
 use Rattle.rt_tree.proofs.Nearing.{few-entry, given-run, near, visible-entry, visible-front}
-use Rattle.rt_tree.proofs.Measures.{sum-more}
+use Rattle.rt_tree.proofs.Amounts.{sum-more}
 use Rattle.rt_tree.proofs.Passes.{get-any}
 use Rattle.rt_tree.proofs.Reaching.{visible}
 use Rattle.rt_tree.proofs.Returning.{back-le, found_behind, more_below, none_behind}

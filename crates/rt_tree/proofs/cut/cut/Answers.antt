@@ -6,7 +6,7 @@ use Rattle.rt_tree.specs.Shape.{IsTree, Memory, sum_of, tree_runs}
 use Rattle.rt_tree.specs.Stretches.{IsEdge, back_of, front_of, lengths}
 use Rattle.rt_tree.specs.Sums.{AreFew, counts_of, counts_of_run, plus}
 use Rattle.rt_tree.specs.Walks.{IsPutAt, IsReplacedAt, IsSpot}
-use Rattle.rt_tree.specs.declared.node.Measure.TheVariants.{Cells}
+use Rattle.rt_tree.specs.declared.node.CountedBy.TheVariants.{Cells}
 use Rattle.rt_tree.specs.declared.walk.Spot.{Spot}
 use Rattle.rt_tree.proofs.Ends.{spot_end}
 use Rattle.rt_tree.proofs.Holding.{held_spot}

@@ -3,7 +3,7 @@ use Rattle.rt_nodes.specs.Nodes.{entries}
 use Rattle.rt_tree.specs.declared.node.Counts.{Counts}
 use Rattle.rt_tree.specs.Shape.{entry_counts, sum_of}
 use Rattle.rt_tree.specs.Sums.{AreFew, no_counts, plus}
-use Rattle.rt_tree.proofs.Measures.{few-more, none-plus, sum-more}
+use Rattle.rt_tree.proofs.Amounts.{few-more, none-plus, sum-more}
 use Rattle.rt_tree.proofs.find.sum_of.Goals as goal
 
 pub plus-sum-requires : goal.plus-sum-requires

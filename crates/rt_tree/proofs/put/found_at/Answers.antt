@@ -1,4 +1,4 @@
-use Rattle.rt_tree.specs.declared.node.Measure.TheVariants.{Cells}
+use Rattle.rt_tree.specs.declared.node.CountedBy.TheVariants.{Cells}
 use Rattle.rt_tree.proofs.Stands.{stands}
 use Rattle.rt_tree.proofs.put.found_at.Goals as goal
 

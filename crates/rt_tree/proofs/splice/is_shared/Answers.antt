@@ -12,21 +12,21 @@ use Rattle.rt_tree.proofs.splice.is_shared.Goals as goal
 pub cells_of-all-requires-clause-few : goal.cells_of-all-requires-clause-few
 cells_of-all-requires-clause-few c = few_all (tree_runs c.args.mem.now c.args.root.index) c.requires.kept c.requires.few
 
-pub seek-found-requires-clause-few : goal.seek-found-requires-clause-few
-seek-found-requires-clause-few c = few_all (tree_runs c.args.mem.now c.args.root.index) c.requires.kept c.requires.few
+pub run_at-found-requires-clause-few : goal.run_at-found-requires-clause-few
+run_at-found-requires-clause-few c = few_all (tree_runs c.args.mem.now c.args.root.index) c.requires.kept c.requires.few
 
 pub returns-then-run-newest : goal.returns-then-run-newest
 returns-then-run-newest c = sym (new_shares_none c.args.newest c.args.run.now (tree_runs c.args.mem.now c.args.root.index) c.if-run-newest.true c.requires.known)
 
 pub returns-then-is_shared_by : goal.returns-then-is_shared_by
 returns-then-is_shared_by c =
-    let st = c.seek-found.ensures in let f = c.seek-found.result in
+    let st = c.run_at-found.ensures in let f = c.run_at-found.result in
     sym (ap (λ (l : List Run). list_any (is_shared_by c.args.run.now) l) st.here ∙ one_shared c.args.run.now st.left f.run st.right (sym c.is_shared_by.ensures ∙ c.if-is_shared_by.true))
 
 pub loop-at-preserved : goal.loop-at-preserved
 loop-at-preserved c =
-    let all = tree_runs c.args.mem.now c.args.root.index in let f = c.seek-found.result in
-    passed_more c.requires.kept.text all c.loop-at.at (λ (r : Run). is_shared_by c.args.run.now r ≡ false) f.run f.before f.spot.offset c.requires.kept.runs c.loop-at.invariant c.seek-found.ensures (sym c.is_shared_by.ensures ∙ c.if-is_shared_by.false)
+    let all = tree_runs c.args.mem.now c.args.root.index in let f = c.run_at-found.result in
+    passed_more c.requires.kept.text all c.loop-at.at (λ (r : Run). is_shared_by c.args.run.now r ≡ false) f.run f.before f.spot.offset c.requires.kept.runs c.loop-at.invariant c.run_at-found.ensures (sym c.is_shared_by.ensures ∙ c.if-is_shared_by.false)
 
 pub returns : goal.returns
 returns c =

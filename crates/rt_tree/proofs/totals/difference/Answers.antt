@@ -1,6 +1,6 @@
 use Rattle.std.proofs.Common.{arith}
 use Rattle.rt_tree.proofs.Adding.{grown}
-use Rattle.rt_tree.proofs.Measures.{same_counts}
+use Rattle.rt_tree.proofs.Amounts.{same_counts}
 use Rattle.rt_tree.proofs.totals.difference.Goals as goal
 
 pub returns : goal.returns

@@ -4,7 +4,7 @@ use Rattle.rt_nodes.specs.Nodes.{entries}
 use Rattle.rt_tree.specs.declared.node.Counts.{Counts}
 use Rattle.rt_tree.specs.Shape.{entry_counts, left_of, sum_of}
 use Rattle.rt_tree.specs.Sums.{AreFew, plus}
-use Rattle.rt_tree.proofs.Measures.{few-more, plus_assoc, sum-more}
+use Rattle.rt_tree.proofs.Amounts.{few-more, plus_assoc, sum-more}
 use Rattle.rt_tree.proofs.Rising.{hit, miss, shorter}
 use Rattle.rt_tree.proofs.up.counts_with_left.Goals as goal
 

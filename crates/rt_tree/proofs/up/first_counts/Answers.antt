@@ -3,7 +3,7 @@ use Rattle.rt_nodes.specs.Nodes.{entries}
 use Rattle.rt_tree.specs.declared.node.Counts.{Counts}
 use Rattle.rt_tree.specs.Shape.{sum_of}
 use Rattle.rt_tree.specs.Sums.{AreFew, plus}
-use Rattle.rt_tree.proofs.Measures.{sum-more}
+use Rattle.rt_tree.proofs.Amounts.{sum-more}
 use Rattle.rt_tree.proofs.Rising.{few-first}
 use Rattle.rt_tree.proofs.up.first_counts.Goals as goal
 

@@ -5,7 +5,7 @@ use Rattle.rt_nodes.specs.Nodes.{entries}
 use Rattle.rt_tree.specs.declared.node.Entry.TheVariants.{Here}
 use Rattle.rt_tree.specs.Shape.{sum_of}
 use Rattle.rt_tree.specs.Sums.{AreFew, plus}
-use Rattle.rt_tree.proofs.Measures.{sum-more}
+use Rattle.rt_tree.proofs.Amounts.{sum-more}
 use Rattle.rt_tree.proofs.up.stood_with.Goals as goal
 
 pub plus-counts-requires : goal.plus-counts-requires

@@ -3,7 +3,7 @@ use Rattle.rt_nodes.specs.Nodes.{entries}
 use Rattle.rt_tree.specs.declared.node.Counts.{Counts}
 use Rattle.rt_tree.specs.Shape.{entry_counts, sum_of}
 use Rattle.rt_tree.specs.Sums.{AreFew, amount, plus}
-use Rattle.rt_tree.proofs.Measures.{amount-plus, few-more, plus_assoc, sum-more}
+use Rattle.rt_tree.proofs.Amounts.{amount-plus, few-more, plus_assoc, sum-more}
 use Rattle.rt_tree.proofs.walk.entry_at.Goals as goal
 
 pub past_entry-requires : goal.past_entry-requires

@@ -6,5 +6,5 @@ use Rattle.rt_holding.proofs.held.Held.contains.Goals as goal
 
 pub returns : goal.returns
 returns c =
-    c.is_some.ensures ∙ found_if c.self.inside.ops.entries c.args.op.now c.place_of.result c.place_of.ensures.some c.place_of.ensures.none
+    c.is_some.ensures ∙ found_if c.self.inside.ops.entries c.args.op.now c.standing_of.result c.standing_of.ensures.some c.standing_of.ensures.none
     ∙ ap (λ (v : HeldValue). holds v.held c.args.op.now) c.self.view_is

@@ -9,7 +9,7 @@ use Rattle.rt_holding.specs.Grown.{AreTriedAt, HeldValue}
 use Rattle.rt_holding.specs.Holding.{is_new, next_of}
 use Rattle.rt_holding.specs.Kept.{AreHeld, IsNewAt, by_stamp_and_arrival, ops_in}
 use Rattle.rt_holding.specs.Taken.{AreTried, holding}
-use Rattle.rt_holding.specs.Waits.{are_tried_at, outcome_there}
+use Rattle.rt_holding.specs.Waits.{are_tried_at, after_try_there}
 use Rattle.rt_holding.proofs.Steps.{IsGoing, IsThere, absent, done_in, dropped, stays_sound, fewer_ops, going, same_entries, slept, stayed, taken_new, took, waits_there}
 use Rattle.rt_holding.proofs.Places.{get_at}
 use Rattle.rt_holding.proofs.Tries.{begins, ends}
@@ -51,10 +51,10 @@ take_at-requires g c =
     let b = l.invariant in
     let limit = g.T.Taking.limit c.args.site.now in
     let state = holding log c.args.site.now (ops_in c.self.inside.ops.entries) in
-    let o = c.outcome_at.ensures ∙ ap (λ n. outcome_there l.lacks n (log l.site) (get by_stamp_and_arrival l.self-inside.ops c.in-Some.place)) b.limit in
+    let o = c.after_try_at.ensures ∙ ap (λ n. after_try_there l.lacks n (log l.site) (get by_stamp_and_arrival l.self-inside.ops c.in-Some.place)) b.limit in
     subst (λ n. IsNewAt n (log l.site) l.self-inside.ops.entries c.in-Some.place) (sym b.limit)
     (taken_new log g.T.Taking.after l.lacks limit state c.args.site.now l.site l.self-inside.ops l.self-inside.waits l.taken b.goes c.pop_first.new.due c.in-Some.place c.in-Some.ensures.some
-    c.outcome_at.result c.in-Taken.is o b.ordered).0
+    c.after_try_at.result c.in-Taken.is o b.ordered).0
 
 pub loop-place-smaller-in-Ok : goal.loop-place-smaller-in-Ok
 loop-place-smaller-in-Ok g c =
@@ -63,9 +63,9 @@ loop-place-smaller-in-Ok g c =
     let b = l.invariant in
     let limit = g.T.Taking.limit c.args.site.now in
     let state = holding log c.args.site.now (ops_in c.self.inside.ops.entries) in
-    let o = c.outcome_at.ensures ∙ ap (λ n. outcome_there l.lacks n (log l.site) (get by_stamp_and_arrival l.self-inside.ops c.in-Some.place)) b.limit in
+    let o = c.after_try_at.ensures ∙ ap (λ n. after_try_there l.lacks n (log l.site) (get by_stamp_and_arrival l.self-inside.ops c.in-Some.place)) b.limit in
     let (n, f) = taken_new log g.T.Taking.after l.lacks limit state c.args.site.now l.site l.self-inside.ops l.self-inside.waits l.taken b.goes c.pop_first.new.due c.in-Some.place c.in-Some.ensures.some
-    c.outcome_at.result c.in-Taken.is o b.ordered in
+    c.after_try_at.result c.in-Taken.is o b.ordered in
     let gone = took log g.T.Taking.after l.lacks limit state c.args.site.now l.site l.self-inside.ops l.self-inside.waits l.taken b.goes c.pop_first.new.due c.in-Some.place c.in-Some.ensures.some
     n f b.ordered b.history c.take_at.new.site l.self-inside.arrivals c.in-Ok.by c.take_at.new.ops c.wake-in-Ok.new.waits b.held
     c.in-Ok.ensures.site c.in-Ok.ensures.log c.in-Ok.ensures.by c.wake-in-Ok.ensures.woken c.in-Ok.ensures.others c.in-Ok.ensures.out in
@@ -78,9 +78,9 @@ loop-place-preserved-in-Ok g c =
     let b = l.invariant in
     let limit = g.T.Taking.limit c.args.site.now in
     let state = holding log c.args.site.now (ops_in c.self.inside.ops.entries) in
-    let o = c.outcome_at.ensures ∙ ap (λ n. outcome_there l.lacks n (log l.site) (get by_stamp_and_arrival l.self-inside.ops c.in-Some.place)) b.limit in
+    let o = c.after_try_at.ensures ∙ ap (λ n. after_try_there l.lacks n (log l.site) (get by_stamp_and_arrival l.self-inside.ops c.in-Some.place)) b.limit in
     let (n, f) = taken_new log g.T.Taking.after l.lacks limit state c.args.site.now l.site l.self-inside.ops l.self-inside.waits l.taken b.goes c.pop_first.new.due c.in-Some.place c.in-Some.ensures.some
-    c.outcome_at.result c.in-Taken.is o b.ordered in
+    c.after_try_at.result c.in-Taken.is o b.ordered in
     let gone = took log g.T.Taking.after l.lacks limit state c.args.site.now l.site l.self-inside.ops l.self-inside.waits l.taken b.goes c.pop_first.new.due c.in-Some.place c.in-Some.ensures.some
     n f b.ordered b.history c.take_at.new.site l.self-inside.arrivals c.in-Ok.by c.take_at.new.ops c.wake-in-Ok.new.waits b.held
     c.in-Ok.ensures.site c.in-Ok.ensures.log c.in-Ok.ensures.by c.wake-in-Ok.ensures.woken c.in-Ok.ensures.others c.in-Ok.ensures.out in
@@ -104,9 +104,9 @@ loop-place-preserved-in-Err g c =
     let b = l.invariant in
     let limit = g.T.Taking.limit c.args.site.now in
     let state = holding log c.args.site.now (ops_in c.self.inside.ops.entries) in
-    let o = c.outcome_at.ensures ∙ ap (λ n. outcome_there l.lacks n (log l.site) (get by_stamp_and_arrival l.self-inside.ops c.in-Some.place)) b.limit in
+    let o = c.after_try_at.ensures ∙ ap (λ n. after_try_there l.lacks n (log l.site) (get by_stamp_and_arrival l.self-inside.ops c.in-Some.place)) b.limit in
     let (n, f) = taken_new log g.T.Taking.after l.lacks limit state c.args.site.now l.site l.self-inside.ops l.self-inside.waits l.taken b.goes c.pop_first.new.due c.in-Some.place c.in-Some.ensures.some
-    c.outcome_at.result c.in-Taken.is o b.ordered in
+    c.after_try_at.result c.in-Taken.is o b.ordered in
     let there : IsThere l.self-inside.ops c.in-Some.place = record { op = n.op; found = get_at l.self-inside.ops c.in-Some.place n.op n.there } in
     let goes = stayed log g.T.Taking.after l.lacks limit state c.args.site.now l.site l.self-inside.ops l.self-inside.waits l.taken b.goes c.pop_first.new.due c.in-Some.place c.in-Some.ensures.some
     true c.keep.new.waits there b.ordered c.keep.ensures.keys c.keep.ensures.due c.keep.ensures.listed (λ e. f) (ap is_new n.new, refl) in
@@ -131,8 +131,8 @@ loop-place-preserved-in-Waits g c =
     let b = l.invariant in
     let limit = g.T.Taking.limit c.args.site.now in
     let state = holding log c.args.site.now (ops_in c.self.inside.ops.entries) in
-    let o = c.outcome_at.ensures ∙ ap (λ n. outcome_there l.lacks n (log l.site) (get by_stamp_and_arrival l.self-inside.ops c.in-Some.place)) b.limit in
-    let w = waits_there l.lacks limit (log l.site) l.self-inside.ops c.in-Some.place c.outcome_at.result c.in-Waits.is o in
+    let o = c.after_try_at.ensures ∙ ap (λ n. after_try_there l.lacks n (log l.site) (get by_stamp_and_arrival l.self-inside.ops c.in-Some.place)) b.limit in
+    let w = waits_there l.lacks limit (log l.site) l.self-inside.ops c.in-Some.place c.after_try_at.result c.in-Waits.is o in
     let few = b.few in
     let popped = c.in-Some.ensures.len in
     record {
@@ -153,8 +153,8 @@ sleep-requires-clause-sound g c =
     let b = l.invariant in
     let limit = g.T.Taking.limit c.args.site.now in
     let state = holding log c.args.site.now (ops_in c.self.inside.ops.entries) in
-    let o = c.outcome_at.ensures ∙ ap (λ n. outcome_there l.lacks n (log l.site) (get by_stamp_and_arrival l.self-inside.ops c.in-Some.place)) b.limit in
-    stays_sound l.lacks limit (log l.site) c.outcome_at.result (get by_stamp_and_arrival l.self-inside.ops c.in-Some.place) c.in-Stays.is o
+    let o = c.after_try_at.ensures ∙ ap (λ n. after_try_there l.lacks n (log l.site) (get by_stamp_and_arrival l.self-inside.ops c.in-Some.place)) b.limit in
+    stays_sound l.lacks limit (log l.site) c.after_try_at.result (get by_stamp_and_arrival l.self-inside.ops c.in-Some.place) c.in-Stays.is o
 
 pub loop-place-smaller-in-Stays : goal.loop-place-smaller-in-Stays
 loop-place-smaller-in-Stays g c =
@@ -169,7 +169,7 @@ loop-place-preserved-in-Stays g c =
     let b = l.invariant in
     let limit = g.T.Taking.limit c.args.site.now in
     let state = holding log c.args.site.now (ops_in c.self.inside.ops.entries) in
-    let o = c.outcome_at.ensures ∙ ap (λ n. outcome_there l.lacks n (log l.site) (get by_stamp_and_arrival l.self-inside.ops c.in-Some.place)) b.limit in
+    let o = c.after_try_at.ensures ∙ ap (λ n. after_try_there l.lacks n (log l.site) (get by_stamp_and_arrival l.self-inside.ops c.in-Some.place)) b.limit in
     record {
       limit = b.limit;
       history = b.history;
@@ -177,7 +177,7 @@ loop-place-preserved-in-Stays g c =
       waits = c.sleep.ensures.ready;
       ordered = b.ordered;
       goes = slept log g.T.Taking.after l.lacks limit state c.args.site.now l.site l.self-inside.ops l.self-inside.waits l.taken b.goes c.pop_first.new.due c.in-Some.place c.in-Some.ensures.some
-          c.outcome_at.result c.in-Stays.is o c.sleep.new.waits c.sleep.ensures.keys c.sleep.ensures.due c.sleep.ensures.again c.sleep.ensures.asleep;
+          c.after_try_at.result c.in-Stays.is o c.sleep.new.waits c.sleep.ensures.keys c.sleep.ensures.due c.sleep.ensures.again c.sleep.ensures.asleep;
       few = b.few;
     }
 
@@ -188,7 +188,7 @@ loop-place-preserved-in-Absent g c =
     let b = l.invariant in
     let limit = g.T.Taking.limit c.args.site.now in
     let state = holding log c.args.site.now (ops_in c.self.inside.ops.entries) in
-    let o = c.outcome_at.ensures ∙ ap (λ n. outcome_there l.lacks n (log l.site) (get by_stamp_and_arrival l.self-inside.ops c.in-Some.place)) b.limit in
+    let o = c.after_try_at.ensures ∙ ap (λ n. after_try_there l.lacks n (log l.site) (get by_stamp_and_arrival l.self-inside.ops c.in-Some.place)) b.limit in
     let due = b.waits.due in
     let again = b.waits.again in
     let popped = c.in-Some.ensures.len in
@@ -200,7 +200,7 @@ loop-place-preserved-in-Absent g c =
       waits = record { heap = c.in-Some.ensures.heap; due = omega (arith, due, popped, room); again = omega (arith, again, popped) };
       ordered = b.ordered;
       goes = absent log g.T.Taking.after l.lacks limit state c.args.site.now l.site l.self-inside.ops l.self-inside.waits l.taken b.goes c.pop_first.new.due c.in-Some.place c.in-Some.ensures.some
-          c.outcome_at.result c.in-Absent.is o;
+          c.after_try_at.result c.in-Absent.is o;
       few = b.few;
     }
 
@@ -211,9 +211,9 @@ loop-place-smaller g c =
     let b = l.invariant in
     let limit = g.T.Taking.limit c.args.site.now in
     let state = holding log c.args.site.now (ops_in c.self.inside.ops.entries) in
-    let o = c.outcome_at.ensures ∙ ap (λ n. outcome_there l.lacks n (log l.site) (get by_stamp_and_arrival l.self-inside.ops c.in-Some.place)) b.limit in
+    let o = c.after_try_at.ensures ∙ ap (λ n. after_try_there l.lacks n (log l.site) (get by_stamp_and_arrival l.self-inside.ops c.in-Some.place)) b.limit in
     let gone = dropped log g.T.Taking.after l.lacks limit state c.args.site.now l.site l.self-inside.ops l.self-inside.waits l.taken b.goes c.pop_first.new.due c.in-Some.place c.in-Some.ensures.some
-    c.outcome_at.result c.in-Dropped.is o b.ordered l.self-inside.arrivals c.drop_at.new.ops c.drop_at.new.keys b.held c.drop_at.ensures.others c.drop_at.ensures.keys c.drop_at.ensures.entries in
+    c.after_try_at.result c.in-Dropped.is o b.ordered l.self-inside.arrivals c.drop_at.new.ops c.drop_at.new.keys b.held c.drop_at.ensures.others c.drop_at.ensures.keys c.drop_at.ensures.entries in
     fewer_ops (length c.drop_at.new.ops.entries) (length l.self-inside.ops.entries) (heap_len c.pop_first.new.due) (2 ^ 63) (heap_len l.self-inside.waits.due) gone.length (few_due c.pop_first.new.due)
 
 pub loop-place-preserved : goal.loop-place-preserved
@@ -223,9 +223,9 @@ loop-place-preserved g c =
     let b = l.invariant in
     let limit = g.T.Taking.limit c.args.site.now in
     let state = holding log c.args.site.now (ops_in c.self.inside.ops.entries) in
-    let o = c.outcome_at.ensures ∙ ap (λ n. outcome_there l.lacks n (log l.site) (get by_stamp_and_arrival l.self-inside.ops c.in-Some.place)) b.limit in
+    let o = c.after_try_at.ensures ∙ ap (λ n. after_try_there l.lacks n (log l.site) (get by_stamp_and_arrival l.self-inside.ops c.in-Some.place)) b.limit in
     let gone = dropped log g.T.Taking.after l.lacks limit state c.args.site.now l.site l.self-inside.ops l.self-inside.waits l.taken b.goes c.pop_first.new.due c.in-Some.place c.in-Some.ensures.some
-    c.outcome_at.result c.in-Dropped.is o b.ordered l.self-inside.arrivals c.drop_at.new.ops c.drop_at.new.keys b.held c.drop_at.ensures.others c.drop_at.ensures.keys c.drop_at.ensures.entries in
+    c.after_try_at.result c.in-Dropped.is o b.ordered l.self-inside.arrivals c.drop_at.new.ops c.drop_at.new.keys b.held c.drop_at.ensures.others c.drop_at.ensures.keys c.drop_at.ensures.entries in
     let few = b.few in
     let less = gone.length in
     let due = b.waits.due in

@@ -2,7 +2,7 @@ use Rattle.std.proofs.Common.{◌≡◌, ◌∙◌, ◌++◌, ◌∷◌, [], Lis
 use Rattle.std.proofs.lemmas.List.{map-append}
 use Rattle.rt_peers.specs.Peers.{HavePaths}
 use Rattle.rt_peers.specs.SiteValue.{SiteValue, place_of}
-use Rattle.rt_edits.specs.DocValue.{DocValue}
+use Rattle.rt_plans.specs.DocValue.{DocValue}
 use Rattle.rt_holding.specs.Grown.{AreTriedAt}
 use Rattle.rt_peers.proofs.OptionLaws.{led_one_more, made_doc}
 use Rattle.rt_peers.proofs.PeerLaws.{one_more_path}

@@ -1,5 +1,5 @@
 use Rattle.std.proofs.Common.{◌∙◌, ap, suc, sym}
-use Rattle.rt_editing.specs.EditedValue.{EditedValue}
+use Rattle.rt_recording.specs.EditedValue.{EditedValue}
 use Rattle.rt_holding.specs.Receiving.{State as Holder}
 use Rattle.rt_peers.proofs.Staying.{received_stays}
 use Rattle.rt_peers.proofs.site.SiteState.receive_telling.Goals as goal

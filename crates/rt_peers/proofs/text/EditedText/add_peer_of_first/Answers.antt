@@ -1,5 +1,5 @@
 use Rattle.std.proofs.Common.{subst, sym}
-use Rattle.rt_editing.specs.Settled.{IsSettled}
+use Rattle.rt_recording.specs.Settled.{IsSettled}
 use Rattle.rt_text.specs.Widgets.{ViewValue}
 use Rattle.rt_peers.proofs.OptionLaws.{one_more}
 use Rattle.rt_peers.proofs.Growing.{settled_with}

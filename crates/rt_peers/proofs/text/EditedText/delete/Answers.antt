@@ -1,4 +1,4 @@
-use Rattle.rt_editing.specs.Edits.{text_deleted}
+use Rattle.rt_recording.specs.Edits.{text_deleted}
 use Rattle.rt_peers.proofs.Steps.{changed_answers}
 use Rattle.rt_peers.proofs.text.EditedText.delete.Goals as goal
 

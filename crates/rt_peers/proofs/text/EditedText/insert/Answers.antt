@@ -1,7 +1,7 @@
 use Rattle.std.proofs.Common.{◌≡◌, ◌==◌, ◌∙◌, [], ap, arith, length, map, sym, true}
 use Rattle.std.proofs.lemmas.List.{nil_from_length}
 use Rattle.std.proofs.lemmas.Bool.Decides.{nat_tests}
-use Rattle.rt_editing.specs.Edits.{text_inserted}
+use Rattle.rt_recording.specs.Edits.{text_inserted}
 use Rattle.rt_peers.specs.ViewStep.{as_piece}
 use Rattle.rt_peers.proofs.Steps.{changed_answers}
 use Rattle.rt_peers.proofs.text.EditedText.insert.Goals as goal

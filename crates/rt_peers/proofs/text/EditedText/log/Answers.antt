@@ -1,8 +1,8 @@
 use Rattle.std.proofs.Common.{subst}
 use Rattle.std.specs.List.{AllByRecursion}
-use Rattle.rt_editing.specs.EditedValue.{EditedValue}
+use Rattle.rt_recording.specs.EditedValue.{EditedValue}
 use Rattle.rt_text.specs.Widgets.{limits_of}
-use Rattle.rt_views.specs.Ordered.{AreInOrder}
+use Rattle.rt_lines.specs.Ordered.{AreInOrder}
 use Rattle.rt_peers.proofs.text.EditedText.log.Goals as goal
 
 pub returns-clause-limits : goal.returns-clause-limits

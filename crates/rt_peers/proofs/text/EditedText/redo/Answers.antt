@@ -1,6 +1,6 @@
 use Rattle.std.proofs.Common.{inl, refl}
 use Rattle.std.proofs.lemmas.Result.{err_from_is_err_and}
-use Rattle.rt_editing.specs.Reverts.{text_redone}
+use Rattle.rt_recording.specs.Reverts.{text_redone}
 use Rattle.rt_peers.proofs.Steps.{changed_answers}
 use Rattle.rt_peers.proofs.text.EditedText.redo.Goals as goal
 

@@ -1,5 +1,5 @@
 use Rattle.std.proofs.Common.{subst}
-use Rattle.rt_editing.specs.Noting.{IsOfLog}
+use Rattle.rt_recording.specs.Noting.{IsOfLog}
 use Rattle.rt_peers.specs.ViewStep.{tag_step}
 use Rattle.rt_peers.proofs.Growing.{tag_grows, view_settled}
 use Rattle.rt_peers.proofs.text.EditedText.tag.Goals as goal

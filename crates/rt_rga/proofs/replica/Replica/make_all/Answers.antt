@@ -4,7 +4,7 @@ use Rattle.rt_store.specs.declared.cell.Cell.{Cell}
 use Rattle.rt_tags.specs.States.{KeepsIds, TagStates}
 use Rattle.rt_tags.proofs.Keeping.{keeps_itself}
 use Rattle.rt_rga.specs.Drafts.{with_operations}
-use Rattle.rt_rga.specs.Few.{items_in}
+use Rattle.rt_rga.specs.OneOrMany.{items_in}
 use Rattle.rt_rga.specs.Kept.{ReplicaValue}
 use Rattle.rt_rga.proofs.Within.{same_value, within_later}
 use Rattle.rt_rga.proofs.replica.Replica.make_all.Goals as goal

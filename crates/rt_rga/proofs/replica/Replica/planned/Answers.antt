@@ -8,7 +8,7 @@ use Rattle.rt_ops.specs.Operations.{Body, Operation}
 use Rattle.rt_store.specs.declared.cell.Cell.{Cell}
 use Rattle.rt_store.specs.Shown.{shown, TaggedCell}
 use Rattle.rt_rga.specs.Cells.{cells_of}
-use Rattle.rt_rga.specs.Few.{items_in}
+use Rattle.rt_rga.specs.OneOrMany.{items_in}
 use Rattle.rt_rga.specs.Histories.{greatest_last_count}
 use Rattle.rt_rga.specs.Kept.{ReplicaValue}
 use Rattle.rt_rga.specs.Made.{RefusesFor, refusal_from, refusal_of}

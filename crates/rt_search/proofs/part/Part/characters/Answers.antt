@@ -1,7 +1,7 @@
 use Rattle.std.proofs.Common.{◌≡◌, ◌+◌, ◌-◌, ◌<◌, ◌≤◌, ◌∙◌, length, min, take, drop, ap, arith, sym}
 use Rattle.std.proofs.lemmas.List.{length-take, take-append-le}
 use Rattle.rt_store.specs.Cells.{text_of}
-use Rattle.rt_views.proofs.Parts.{part_length}
+use Rattle.rt_lines.proofs.Parts.{part_length}
 use Rattle.rt_search.proofs.Parts.{part_from}
 use Rattle.rt_search.proofs.part.Part.characters.Goals as goal
 

@@ -1,8 +1,8 @@
 use Rattle.std.proofs.Common.{◌≡◌, ◌+◌, ◌-◌, ◌<◌, ◌≤◌, ◌∙◌, length, ap, arith, sym}
 use Rattle.rt_stamps.specs.Places.{line_of, line_start, newlines}
 use Rattle.rt_store.specs.Cells.{text_of}
-use Rattle.rt_views.specs.Stretches.{part}
-use Rattle.rt_views.proofs.Parts.{part_length}
+use Rattle.rt_lines.specs.Stretches.{part}
+use Rattle.rt_lines.proofs.Parts.{part_length}
 use Rattle.rt_search.proofs.Lines.{line_there}
 use Rattle.rt_search.proofs.Parts.{newlines_in, start_in}
 use Rattle.rt_search.proofs.part.Part.line_at.Goals as goal

@@ -20,7 +20,7 @@ pub shift_below-requires-clause-to : goal.shift_below-requires-clause-to
 shift_below-requires-clause-to c =
     let names = names_of c.self.inside.names in
     let other = c.in-Some-below.other.now in
-    place_within other names c.self.inside.listed c.in-Some-place_of.to c.self.invariant.listing (at_front other names c.self.inside.listed c.args.self.now c.self.view_is c.in-Some-place_of.to c.in-Some-place_of.ensures.index)
+    place_within other names c.self.inside.listed c.in-Some-listed_place.to c.self.invariant.listing (at_front other names c.self.inside.listed c.args.self.now c.self.view_is c.in-Some-listed_place.to c.in-Some-listed_place.ensures.index)
 
 pub returns-in-None-below-clause-names : goal.returns-in-None-below-clause-names
 returns-in-None-below-clause-names c =

@@ -21,7 +21,7 @@ pub shift_above-requires-clause-to : goal.shift_above-requires-clause-to
 shift_above-requires-clause-to c =
     let names = names_of c.self.inside.names in
     let other = c.in-Some-above.other.now in
-    place_within other names c.self.inside.listed c.in-Some-place_of.to c.self.invariant.listing (at_front other names c.self.inside.listed c.args.self.now c.self.view_is c.in-Some-place_of.to c.in-Some-place_of.ensures.index)
+    place_within other names c.self.inside.listed c.in-Some-listed_place.to c.self.invariant.listing (at_front other names c.self.inside.listed c.args.self.now c.self.view_is c.in-Some-listed_place.to c.in-Some-listed_place.ensures.index)
 
 pub returns-in-None-above-clause-names : goal.returns-in-None-above-clause-names
 returns-in-None-above-clause-names c =

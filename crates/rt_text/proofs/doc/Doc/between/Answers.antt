@@ -3,8 +3,8 @@ use Rattle.rt_store.specs.Cells.{text_of}
 use Rattle.rt_tags.specs.States.{state_at}
 use Rattle.rt_store.proofs.Shown.{text_shown}
 use Rattle.rt_text.proofs.PartLines.{lines_of_limits}
-use Rattle.rt_views.specs.Stretches.{stretch_of}
-use Rattle.rt_views.proofs.Shown.{stretch_shown}
+use Rattle.rt_lines.specs.Stretches.{stretch_of}
+use Rattle.rt_lines.proofs.Shown.{stretch_shown}
 use Rattle.rt_text.proofs.doc.Doc.between.Goals as goal
 
 pub stretch-requires : goal.stretch-requires

@@ -13,15 +13,15 @@ use Rattle.rt_rga.specs.Drafts.{with_drafts}
 use Rattle.rt_rga.specs.Kept.{ReplicaValue}
 use Rattle.rt_rga.specs.Made.{refusal_of}
 use Rattle.rt_rga.specs.Requests.{MayBeMade}
-use Rattle.rt_edits.specs.declared.range.Range.{Range}
-use Rattle.rt_edits.specs.Deletions.{Loss, delete_drafts, loss_in, without_text}
-use Rattle.rt_edits.specs.DocValue.{DocValue, logged}
-use Rattle.rt_edits.specs.Listed.{AreListed}
-use Rattle.rt_edits.specs.Removals.{is_covered, AreInOrder}
+use Rattle.rt_plans.specs.declared.range.Range.{Range}
+use Rattle.rt_plans.specs.Deletions.{Loss, delete_drafts, loss_in, without_text}
+use Rattle.rt_plans.specs.DocValue.{DocValue, logged}
+use Rattle.rt_plans.specs.Listed.{AreListed}
+use Rattle.rt_plans.specs.Removals.{is_covered, AreInOrder}
 use Rattle.rt_text.specs.Commands.{clock_check}
 use Rattle.rt_text.specs.Parts.{own_in}
 use Rattle.rt_stamps.specs.declared.stamp.Stamp.{Stamp}
-use Rattle.rt_views.specs.Stretches.{part, stretch_of}
+use Rattle.rt_lines.specs.Stretches.{part, stretch_of}
 use Rattle.rt_text.specs.Widgets.{AreSiteMarks, IsOwnOf, WidgetValue, last_newline, own_left, reselected}
 use Rattle.rt_text.proofs.LimitedDeletions.{deletion_edited, deletion_may, deletion_others, deletion_own, deletion_placed, deletion_refusal, deletion_seen, last_gone, last_kept, loss_kept, loss_of, widget_left}
 use Rattle.rt_text.proofs.ViewLaws.{viewed}

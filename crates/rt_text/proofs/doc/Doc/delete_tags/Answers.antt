@@ -14,11 +14,11 @@ use Rattle.rt_rga.proofs.Corollaries.{cells_written}
 use Rattle.rt_store.specs.Cells.{text_of}
 use Rattle.rt_store.specs.Shown.{TaggedCell}
 use Rattle.rt_store.specs.Written.{AreWritten}
-use Rattle.rt_edits.specs.DocValue.{DocValue, logged}
-use Rattle.rt_edits.specs.Listed.{AreListed}
-use Rattle.rt_edits.specs.TagDrafts.{deletion_drafts}
-use Rattle.rt_edits.specs.TagWrites.{without_tags}
-use Rattle.rt_edits.proofs.ListedWrites.{StaysTagged, all_without_stays}
+use Rattle.rt_plans.specs.DocValue.{DocValue, logged}
+use Rattle.rt_plans.specs.Listed.{AreListed}
+use Rattle.rt_plans.specs.TagDrafts.{deletion_drafts}
+use Rattle.rt_plans.specs.TagWrites.{without_tags}
+use Rattle.rt_plans.proofs.ListedWrites.{StaysTagged, all_without_stays}
 use Rattle.rt_text.specs.Kept.{IsDoc}
 use Rattle.rt_text.specs.Widgets.{AreSiteMarks}
 use Rattle.rt_text.proofs.KeptDocument.{clock_fine}

@@ -1,8 +1,8 @@
 use Rattle.std.proofs.Common.{◌+◌, ◌∙◌, ap, arith, sym}
 use Rattle.std.specs.Prelude.{option_map}
 use Rattle.rt_tags.specs.States.{state_at}
-use Rattle.rt_views.specs.Limits.{end_number}
-use Rattle.rt_views.proofs.Shown.{last_shown}
+use Rattle.rt_lines.specs.Limits.{end_number}
+use Rattle.rt_lines.proofs.Shown.{last_shown}
 use Rattle.rt_text.proofs.doc.Doc.end_number.Goals as goal
 
 pub end_number-requires : goal.end_number-requires

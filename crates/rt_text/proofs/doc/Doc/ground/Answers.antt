@@ -3,16 +3,16 @@ use Rattle.rt_marks.specs.Marks.{HaveOwnNames}
 use Rattle.rt_stamps.specs.Places.{line_of}
 use Rattle.rt_store.specs.Cells.{text_of}
 use Rattle.rt_tags.specs.States.{state_at}
-use Rattle.rt_edits.specs.DocValue.{DocValue}
-use Rattle.rt_edits.specs.Listed.{AreListed}
+use Rattle.rt_plans.specs.DocValue.{DocValue}
+use Rattle.rt_plans.specs.Listed.{AreListed}
 use Rattle.rt_store.specs.Shown.{TaggedCell, shown}
 use Rattle.rt_text.specs.Widgets.{AreSiteMarks}
 use Rattle.rt_text.proofs.MarkLaws.{site_named}
 use Rattle.rt_text.proofs.PartLines.{lines_of_limits}
-use Rattle.rt_edits.proofs.PlaceLaws.{text_within}
+use Rattle.rt_plans.proofs.PlaceLaws.{text_within}
 use Rattle.rt_store.proofs.Shown.{text_shown}
-use Rattle.rt_views.specs.Stretches.{stretch_of}
-use Rattle.rt_views.proofs.Shown.{stretch_shown}
+use Rattle.rt_lines.specs.Stretches.{stretch_of}
+use Rattle.rt_lines.proofs.Shown.{stretch_shown}
 use Rattle.rt_text.proofs.doc.Doc.ground.Goals as goal
 
 pub stretch-stretch-requires : goal.stretch-stretch-requires

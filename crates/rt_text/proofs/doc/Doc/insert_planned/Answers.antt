@@ -12,15 +12,15 @@ use Rattle.rt_tags.specs.Tags.{IsName, is_ready}
 use Rattle.rt_rga.specs.Drafts.{with_drafts}
 use Rattle.rt_rga.specs.Made.{refusal_of}
 use Rattle.rt_rga.specs.Requests.{MayBeMade}
-use Rattle.rt_rga.specs.Few.{items_in}
-use Rattle.rt_edits.specs.DocValue.{DocValue, logged}
-use Rattle.rt_edits.specs.InsertionPlans.{Plans, selected_between}
-use Rattle.rt_edits.specs.Insertions.{all_listed}
-use Rattle.rt_edits.specs.Listed.{AreListed}
-use Rattle.rt_edits.specs.Selected.{selected_stamps, room_in}
-use Rattle.rt_edits.specs.Selections.{with_stamps}
-use Rattle.rt_edits.proofs.PlaceLaws.{length_text, text_within}
-use Rattle.rt_views.specs.declared.stretch.Stretch.{Stretch}
+use Rattle.rt_rga.specs.OneOrMany.{items_in}
+use Rattle.rt_plans.specs.DocValue.{DocValue, logged}
+use Rattle.rt_plans.specs.InsertionPlans.{Plans, selected_between}
+use Rattle.rt_plans.specs.Insertions.{all_listed}
+use Rattle.rt_plans.specs.Listed.{AreListed}
+use Rattle.rt_plans.specs.Selected.{selected_stamps, room_in}
+use Rattle.rt_plans.specs.Selections.{with_stamps}
+use Rattle.rt_plans.proofs.PlaceLaws.{length_text, text_within}
+use Rattle.rt_lines.specs.declared.stretch.Stretch.{Stretch}
 use Rattle.rt_text.specs.Commands.{with_pieces_at}
 use Rattle.rt_text.specs.Kept.{IsDoc}
 use Rattle.rt_text.specs.Parts.{own_in}

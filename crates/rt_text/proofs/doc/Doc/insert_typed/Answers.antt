@@ -8,10 +8,10 @@ use Rattle.rt_stamps.specs.Outcomes.{first_of}
 use Rattle.rt_store.specs.Cells.{text_of, visible_of}
 use Rattle.rt_rga.specs.Made.{refusal_of}
 use Rattle.rt_rga.specs.Requests.{MayBeMade}
-use Rattle.rt_edits.specs.DocValue.{DocValue, logged}
-use Rattle.rt_edits.specs.Listed.{AreListed}
-use Rattle.rt_edits.proofs.PlaceLaws.{length_text, text_within}
-use Rattle.rt_views.specs.declared.stretch.Stretch.{Stretch}
+use Rattle.rt_plans.specs.DocValue.{DocValue, logged}
+use Rattle.rt_plans.specs.Listed.{AreListed}
+use Rattle.rt_plans.proofs.PlaceLaws.{length_text, text_within}
+use Rattle.rt_lines.specs.declared.stretch.Stretch.{Stretch}
 use Rattle.rt_text.specs.Commands.{with_pieces_at}
 use Rattle.rt_text.specs.Kept.{IsDoc}
 use Rattle.rt_text.specs.Parts.{own_in}
@@ -24,7 +24,7 @@ use Rattle.rt_text.proofs.PeerLaws.{each_by, each_room, put_each}
 use Rattle.rt_text.proofs.PutLaws.{late_checks, visible_same}
 use Rattle.rt_text.proofs.ViewLaws.{viewed}
 use Rattle.rt_rga.specs.Drafts.{one_character, with_drafts}
-use Rattle.rt_edits.specs.Insertions.{Insertion, selected_with}
+use Rattle.rt_plans.specs.Insertions.{Insertion, selected_with}
 use Rattle.rt_text.proofs.doc.Doc.insert_typed.Goals as goal
 
 -- what a replica refuses is what the checks say

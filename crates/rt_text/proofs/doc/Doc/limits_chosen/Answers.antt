@@ -1,7 +1,7 @@
 use Rattle.std.proofs.Common.{◌∙◌, ap, arith, sym}
 use Rattle.rt_tags.specs.States.{state_at}
-use Rattle.rt_views.specs.Choices.{limits_chosen}
-use Rattle.rt_views.proofs.Shown.{chosen_shown}
+use Rattle.rt_lines.specs.Choices.{limits_chosen}
+use Rattle.rt_lines.proofs.Shown.{chosen_shown}
 use Rattle.rt_text.proofs.doc.Doc.limits_chosen.Goals as goal
 
 pub with_lines-requires : goal.with_lines-requires

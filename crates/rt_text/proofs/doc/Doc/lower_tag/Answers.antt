@@ -1,5 +1,5 @@
 use Rattle.std.specs.Prelude.{option_copied}
-use Rattle.rt_edits.proofs.ListedLaws.{lower_keeps}
+use Rattle.rt_plans.proofs.ListedLaws.{lower_keeps}
 use Rattle.rt_text.proofs.doc.Doc.lower_tag.Goals as goal
 
 pub invariant_of-self : goal.invariant_of-self

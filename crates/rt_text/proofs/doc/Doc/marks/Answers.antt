@@ -1,7 +1,7 @@
 use Rattle.std.proofs.Common.{subst}
 use Rattle.std.specs.Prelude.{length}
 use Rattle.rt_store.specs.Cells.{text_of}
-use Rattle.rt_edits.specs.DocValue.{DocValue}
+use Rattle.rt_plans.specs.DocValue.{DocValue}
 use Rattle.rt_text.specs.Widgets.{AreSiteMarks}
 use Rattle.rt_text.proofs.doc.Doc.marks.Goals as goal
 

@@ -5,11 +5,11 @@ use Rattle.rt_store.specs.declared.cell.Cell.{Cell}
 use Rattle.rt_store.specs.Cells.{visible_of}
 use Rattle.rt_store.specs.Shown.{shown}
 use Rattle.rt_tags.specs.States.{IsState}
-use Rattle.rt_edits.specs.Removals.{is_covered}
-use Rattle.rt_edits.proofs.PlaceLaws.{length_text, text_within}
-use Rattle.rt_edits.proofs.RestLaws.{left_given}
-use Rattle.rt_views.specs.declared.stretch.Stretch.{Stretch}
-use Rattle.rt_views.specs.Stretches.{stretch_of}
+use Rattle.rt_plans.specs.Removals.{is_covered}
+use Rattle.rt_plans.proofs.PlaceLaws.{length_text, text_within}
+use Rattle.rt_plans.proofs.RestLaws.{left_given}
+use Rattle.rt_lines.specs.declared.stretch.Stretch.{Stretch}
+use Rattle.rt_lines.specs.Stretches.{stretch_of}
 use Rattle.rt_text.specs.Neighbours.{are_sides_shown, limit_left, pieces_text}
 use Rattle.rt_text.specs.Widgets.{WidgetValue}
 use Rattle.rt_text.proofs.InsertedDocument.{drafts_are, new_is}

@@ -1,5 +1,5 @@
 use Rattle.std.proofs.Common.{◌∙◌, ap, not}
-use Rattle.rt_edits.specs.Selected.{selected_stamps}
+use Rattle.rt_plans.specs.Selected.{selected_stamps}
 use Rattle.rt_text.specs.Widgets.{WidgetValue, is_tagged_in}
 use Rattle.rt_text.proofs.LimitedTags.{next_kept}
 use Rattle.rt_text.proofs.doc.Doc.next_untagged.Goals as goal

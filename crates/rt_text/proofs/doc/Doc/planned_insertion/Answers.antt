@@ -3,11 +3,11 @@ use Rattle.std.specs.Prelude.{option_map}
 use Rattle.std.proofs.lemmas.Result.{IfErr-weaker, IfOk-weaker}
 use Rattle.rt_stamps.specs.declared.limits.TheConstants.{GREATEST_COUNT, MOST_CHARACTERS}
 use Rattle.rt_store.specs.Shown.{shown}
-use Rattle.rt_edits.specs.DocValue.{DocValue}
-use Rattle.rt_edits.specs.InsertionDrafts.{insertion_drafts}
-use Rattle.rt_edits.specs.InsertionPlans.{Plans}
-use Rattle.rt_edits.specs.Insertions.{Insertion, insertion_of}
-use Rattle.rt_edits.specs.Selected.{selected_stamps}
+use Rattle.rt_plans.specs.DocValue.{DocValue}
+use Rattle.rt_plans.specs.InsertionDrafts.{insertion_drafts}
+use Rattle.rt_plans.specs.InsertionPlans.{Plans}
+use Rattle.rt_plans.specs.Insertions.{Insertion, insertion_of}
+use Rattle.rt_plans.specs.Selected.{selected_stamps}
 use Rattle.rt_text.specs.Widgets.{WidgetValue, selections_of}
 use Rattle.rt_text.proofs.InsertedDocument.{begun}
 use Rattle.rt_text.proofs.InsertedSides.{any_some}

@@ -7,13 +7,13 @@ use Rattle.rt_marks.specs.Marks.{place_left}
 use Rattle.rt_store.specs.declared.cell.Cell.{Cell}
 use Rattle.rt_store.specs.Cells.{visible_of}
 use Rattle.rt_tags.specs.States.{IsState}
-use Rattle.rt_rga.specs.Few.{items_in}
-use Rattle.rt_edits.specs.Deletions.{Loss, without_text}
-use Rattle.rt_edits.specs.DocValue.{DocValue}
-use Rattle.rt_edits.specs.Insertions.{left_neighbour, right_neighbour}
-use Rattle.rt_edits.specs.Removals.{gone_at, is_covered, AreInOrder}
-use Rattle.rt_edits.specs.Selected.{selected_stamps}
-use Rattle.rt_views.specs.Stretches.{stretch_of}
+use Rattle.rt_rga.specs.OneOrMany.{items_in}
+use Rattle.rt_plans.specs.Deletions.{Loss, without_text}
+use Rattle.rt_plans.specs.DocValue.{DocValue}
+use Rattle.rt_plans.specs.Insertions.{left_neighbour, right_neighbour}
+use Rattle.rt_plans.specs.Removals.{gone_at, is_covered, AreInOrder}
+use Rattle.rt_plans.specs.Selected.{selected_stamps}
+use Rattle.rt_lines.specs.Stretches.{stretch_of}
 use Rattle.rt_text.specs.Neighbours.{are_sides_shown, limit_left, pieces_text}
 use Rattle.rt_text.specs.Widgets.{WidgetValue}
 use Rattle.rt_text.proofs.InsertedSides.{element_is, given_not}

@@ -1,7 +1,7 @@
 use Rattle.std.proofs.Common.{◌≡◌, ◌∙◌, arith, length, ap}
 use Rattle.rt_stamps.specs.Places.{position_at}
 use Rattle.rt_store.specs.Cells.{text_of}
-use Rattle.rt_views.specs.Stretches.{part, stretch_of}
+use Rattle.rt_lines.specs.Stretches.{part, stretch_of}
 use Rattle.rt_text.proofs.doc.Doc.position.Goals as goal
 
 pub position_within-requires-clause-place : goal.position_within-requires-clause-place

@@ -1,5 +1,5 @@
 use Rattle.rt_text.specs.declared.parts.Parts.{Parts}
-use Rattle.rt_edits.specs.declared.inserting.Between.{Between}
+use Rattle.rt_plans.specs.declared.inserting.Between.{Between}
 use Rattle.rt_text.proofs.Room.{before_fits, mark_fits, text_fits}
 use Rattle.rt_stamps.specs.declared.stamp.Stamp.{Stamp}
 use Rattle.std.proofs.Common.{[], ◌∷◌, ◌<◌, Option, Some, ◌≡◌, ◌∙◌, ◌⊎◌, ◌≤◌, ◌+◌, ◌^◌, ◌-◌, ◌++◌, ℕ, All, List, None, ap, arith, inl, inr, length, map, string_bytes, subst, sym, refl, Bool, true, false}
@@ -22,18 +22,18 @@ use Rattle.rt_rga.specs.Drafts.{with_drafts}
 use Rattle.rt_rga.specs.Kept.{ReplicaValue}
 use Rattle.rt_rga.specs.Made.{refusal_of}
 use Rattle.rt_rga.specs.Requests.{MayBeMade}
-use Rattle.rt_edits.specs.declared.range.Range.{Range}
-use Rattle.rt_edits.specs.Deletions.{delete_drafts}
-use Rattle.rt_edits.specs.DocValue.{DocValue, logged}
-use Rattle.rt_edits.specs.InsertionPlans.{selected_between}
-use Rattle.rt_edits.specs.Insertions.{Piece, all_listed}
-use Rattle.rt_edits.specs.Removals.{is_covered, AreInOrder}
-use Rattle.rt_edits.specs.Selected.{selected_stamps, room_in}
-use Rattle.rt_edits.specs.Selections.{with_stamps}
-use Rattle.rt_edits.proofs.PlaceLaws.{text_within}
-use Rattle.rt_views.specs.declared.limits.Limits.{Limits}
-use Rattle.rt_views.specs.declared.stretch.Stretch.{Stretch}
-use Rattle.rt_views.specs.Stretches.{stretch_of}
+use Rattle.rt_plans.specs.declared.range.Range.{Range}
+use Rattle.rt_plans.specs.Deletions.{delete_drafts}
+use Rattle.rt_plans.specs.DocValue.{DocValue, logged}
+use Rattle.rt_plans.specs.InsertionPlans.{selected_between}
+use Rattle.rt_plans.specs.Insertions.{Piece, all_listed}
+use Rattle.rt_plans.specs.Removals.{is_covered, AreInOrder}
+use Rattle.rt_plans.specs.Selected.{selected_stamps, room_in}
+use Rattle.rt_plans.specs.Selections.{with_stamps}
+use Rattle.rt_plans.proofs.PlaceLaws.{text_within}
+use Rattle.rt_lines.specs.declared.limits.Limits.{Limits}
+use Rattle.rt_lines.specs.declared.stretch.Stretch.{Stretch}
+use Rattle.rt_lines.specs.Stretches.{stretch_of}
 use Rattle.rt_text.specs.Commands.{cell_check, with_range_replaced}
 use Rattle.rt_text.specs.Kept.{IsDoc}
 use Rattle.rt_text.specs.Replacements.{left_by, loss_at}

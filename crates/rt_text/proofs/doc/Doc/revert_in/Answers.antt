@@ -12,10 +12,10 @@ use Rattle.rt_rga.specs.Drafts.{with_drafts}
 use Rattle.rt_rga.specs.Made.{refusal_of}
 use Rattle.rt_rga.specs.Requests.{MayBeMade}
 use Rattle.rt_rga.proofs.Requests.{greatest_bound}
-use Rattle.rt_rga.specs.Few.{items_in}
-use Rattle.rt_edits.specs.DocValue.{DocValue}
-use Rattle.rt_edits.specs.Insertions.{all_listed}
-use Rattle.rt_edits.proofs.PlaceLaws.{text_within}
+use Rattle.rt_rga.specs.OneOrMany.{items_in}
+use Rattle.rt_plans.specs.DocValue.{DocValue}
+use Rattle.rt_plans.specs.Insertions.{all_listed}
+use Rattle.rt_plans.proofs.PlaceLaws.{text_within}
 use Rattle.rt_undo.specs.Actions.{group_of}
 use Rattle.rt_revert.specs.Plans.{IsChange, IsOf, marks_after, named_group}
 use Rattle.rt_revert.specs.Reverting.{reversion, reverted}

@@ -1,6 +1,6 @@
 use Rattle.std.proofs.Common.{◌≡◌, ap, length, ◌≤◌, arith}
 use Rattle.rt_store.specs.Cells.{text_of}
-use Rattle.rt_edits.specs.DocValue.{DocValue}
+use Rattle.rt_plans.specs.DocValue.{DocValue}
 use Rattle.rt_text.proofs.MarkLaws.{site_set}
 use Rattle.rt_text.proofs.doc.Doc.set_mark.Goals as goal
 

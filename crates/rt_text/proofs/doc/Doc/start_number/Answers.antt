@@ -1,8 +1,8 @@
 use Rattle.std.proofs.Common.{◌∙◌, ap, arith, sym}
 use Rattle.std.specs.Prelude.{option_map}
 use Rattle.rt_tags.specs.States.{state_at}
-use Rattle.rt_views.specs.Limits.{start_number}
-use Rattle.rt_views.proofs.Shown.{first_shown}
+use Rattle.rt_lines.specs.Limits.{start_number}
+use Rattle.rt_lines.proofs.Shown.{first_shown}
 use Rattle.rt_text.proofs.doc.Doc.start_number.Goals as goal
 
 pub start_number-requires : goal.start_number-requires

@@ -3,8 +3,8 @@ use Rattle.std.proofs.lemmas.List.{length-map}
 use Rattle.rt_store.specs.Cells.{text_of, visible_of}
 use Rattle.rt_tags.specs.States.{state_at}
 use Rattle.rt_store.proofs.Shown.{text_shown}
-use Rattle.rt_views.specs.Stretches.{stretch_of}
-use Rattle.rt_views.proofs.Shown.{stretch_shown}
+use Rattle.rt_lines.specs.Stretches.{stretch_of}
+use Rattle.rt_lines.proofs.Shown.{stretch_shown}
 use Rattle.rt_text.proofs.doc.Doc.stretch.Goals as goal
 
 pub stretch-requires : goal.stretch-requires

@@ -2,9 +2,9 @@ use Rattle.std.proofs.lemmas.Result.{err_from_is_err_and}
 use Rattle.std.proofs.Common.{◌∙◌, ◌+◌, ap, arith}
 use Rattle.std.specs.Prelude.{option_map}
 use Rattle.rt_stamps.specs.Words.{as_words}
-use Rattle.rt_edits.specs.DocValue.{DocValue}
-use Rattle.rt_edits.specs.Selected.{selected_stamps}
-use Rattle.rt_edits.proofs.PlaceLaws.{length_text, text_within}
+use Rattle.rt_plans.specs.DocValue.{DocValue}
+use Rattle.rt_plans.specs.Selected.{selected_stamps}
+use Rattle.rt_plans.proofs.PlaceLaws.{length_text, text_within}
 use Rattle.rt_text.specs.Widgets.{WidgetValue, tags_on}
 use Rattle.rt_text.proofs.LimitedTags.{place_kept}
 use Rattle.rt_text.proofs.SeenLaws.{tags_found, visible_given}

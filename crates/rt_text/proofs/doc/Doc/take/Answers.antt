@@ -10,8 +10,8 @@ use Rattle.rt_store.specs.Shown.{TaggedCell}
 use Rattle.rt_changes.proofs.Accepted.{told_replays}
 use Rattle.rt_stamps.specs.Words.{as_words}
 use Rattle.rt_tags.specs.Tags.{IsName, is_ready}
-use Rattle.rt_edits.specs.DocValue.{DocValue}
-use Rattle.rt_edits.specs.Insertions.{all_listed}
+use Rattle.rt_plans.specs.DocValue.{DocValue}
+use Rattle.rt_plans.specs.Insertions.{all_listed}
 use Rattle.rt_store.specs.Cells.{text_of}
 use Rattle.rt_text.specs.Accepted.{with_new}
 use Rattle.rt_text.specs.Kept.{IsDoc}

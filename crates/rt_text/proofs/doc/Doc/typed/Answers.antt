@@ -2,10 +2,10 @@ use Rattle.std.proofs.Common.{◌∙◌, ap, refl, sym}
 use Rattle.std.specs.Prelude.{option_map}
 use Rattle.std.proofs.lemmas.Option.{IfSome_then}
 use Rattle.rt_store.specs.Shown.{shown}
-use Rattle.rt_edits.specs.DocValue.{DocValue}
-use Rattle.rt_edits.specs.InsertionPlans.{with_typed}
-use Rattle.rt_edits.specs.Insertions.{insertion_of}
-use Rattle.rt_edits.specs.Selected.{selected_stamps}
+use Rattle.rt_plans.specs.DocValue.{DocValue}
+use Rattle.rt_plans.specs.InsertionPlans.{with_typed}
+use Rattle.rt_plans.specs.Insertions.{insertion_of}
+use Rattle.rt_plans.specs.Selected.{selected_stamps}
 use Rattle.rt_text.specs.Widgets.{WidgetValue, selections_of}
 use Rattle.rt_text.proofs.InsertedDocument.{begun}
 use Rattle.rt_text.proofs.ViewLaws.{viewed}

@@ -1,7 +1,7 @@
 use Rattle.std.proofs.Common.{◌∙◌, ap, length, sym}
 use Rattle.rt_store.specs.Cells.{text_of}
 use Rattle.rt_tags.specs.States.{state_at}
-use Rattle.rt_edits.proofs.PlaceLaws.{length_text}
+use Rattle.rt_plans.proofs.PlaceLaws.{length_text}
 use Rattle.rt_store.proofs.Shown.{text_shown}
 use Rattle.rt_text.proofs.doc.Doc.visible.Goals as goal
 

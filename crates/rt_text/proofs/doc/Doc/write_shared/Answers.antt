@@ -9,16 +9,16 @@ use Rattle.rt_rga.specs.Made.{refusal_of}
 use Rattle.rt_rga.specs.Requests.{MayBeMade}
 use Rattle.rt_store.specs.Cells.{text_of}
 use Rattle.rt_tags.specs.Tags.{with_name}
-use Rattle.rt_edits.specs.Listed.{AreListed}
+use Rattle.rt_plans.specs.Listed.{AreListed}
 use Rattle.rt_text.specs.Kept.{IsDoc}
 use Rattle.rt_text.specs.Widgets.{AreSiteMarks}
-use Rattle.rt_edits.specs.DocValue.{DocValue, logged}
-use Rattle.rt_edits.specs.Removals.{is_covered}
-use Rattle.rt_edits.specs.TagDrafts.{tag_drafts_at}
-use Rattle.rt_edits.specs.TagWrites.{listed_if, with_tag_at}
-use Rattle.rt_edits.specs.declared.range.Range.{Range}
-use Rattle.rt_edits.proofs.PremiseLaws.{name_is}
-use Rattle.rt_edits.proofs.TagPlaces.{tag_text}
+use Rattle.rt_plans.specs.DocValue.{DocValue, logged}
+use Rattle.rt_plans.specs.Removals.{is_covered}
+use Rattle.rt_plans.specs.TagDrafts.{tag_drafts_at}
+use Rattle.rt_plans.specs.TagWrites.{listed_if, with_tag_at}
+use Rattle.rt_plans.specs.declared.range.Range.{Range}
+use Rattle.rt_plans.proofs.PremiseLaws.{name_is}
+use Rattle.rt_plans.proofs.TagPlaces.{tag_text}
 use Rattle.rt_text.proofs.KeptDocument.{as_visible, listed_as, written_stays}
 use Rattle.rt_text.proofs.MadeDocument.{clock_passed, seen}
 use Rattle.rt_text.proofs.TaggedDocument.{fits, kept_beside, makes_seen, of_site, refuses, tagged_at, tagged_makes}

@@ -2,7 +2,7 @@ use Rattle.std.proofs.Common.{rules, ◌∙◌, ap, sym}
 use Rattle.std.specs.Prelude.{string_bytes}
 use Rattle.std.proofs.lemmas.Fn.{filter_same}
 use Rattle.rt_stamps.specs.Words.{as_words}
-use Rattle.rt_edits.specs.Selected.{selected_stamps}
+use Rattle.rt_plans.specs.Selected.{selected_stamps}
 use Rattle.rt_text.specs.Widgets.{is_tagged_in}
 use Rattle.rt_store.specs.Shown.{shown}
 use Rattle.rt_store.proofs.Shown.{filter_map}

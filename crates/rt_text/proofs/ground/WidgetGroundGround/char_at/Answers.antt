@@ -1,7 +1,7 @@
 use Rattle.std.proofs.Common.{List, ℕ, ap, arith, length, map}
 use Rattle.rt_store.specs.Cells.{text_of}
 use Rattle.rt_store.specs.Shown.{shown}
-use Rattle.rt_edits.proofs.PlaceLaws.{length_text}
+use Rattle.rt_plans.proofs.PlaceLaws.{length_text}
 use Rattle.rt_text.proofs.PartLines.{length_in_part}
 use Rattle.rt_text.proofs.ground.WidgetGroundGround.char_at.Goals as goal
 

@@ -2,7 +2,7 @@ use Rattle.std.proofs.Common.{◌∙◌, ◌-◌, ◌^◌, List, ℕ, ap, arith,
 use Rattle.std.proofs.lemmas.List.{length-take}
 use Rattle.rt_store.specs.Cells.{text_of}
 use Rattle.rt_store.specs.Shown.{shown}
-use Rattle.rt_views.specs.Stretches.{part}
+use Rattle.rt_lines.specs.Stretches.{part}
 use Rattle.rt_text.proofs.PartLines.{length_in_part}
 use Rattle.rt_text.proofs.TextLaws.{read_in_part}
 use Rattle.rt_text.proofs.ground.WidgetGroundGround.characters.Goals as goal

@@ -2,7 +2,7 @@ use Rattle.std.proofs.Common.{◌≡◌, ◌∙◌, ◌+◌, ◌-◌, List, ℕ,
 use Rattle.rt_stamps.specs.Places.{line_start, newlines}
 use Rattle.rt_store.specs.Cells.{text_of}
 use Rattle.rt_store.specs.Shown.{shown}
-use Rattle.rt_edits.proofs.PlaceLaws.{newlines_within}
+use Rattle.rt_plans.proofs.PlaceLaws.{newlines_within}
 use Rattle.rt_text.proofs.PartLines.{line_there, start_counted}
 use Rattle.rt_text.proofs.ground.WidgetGroundGround.line_start.Goals as goal
 

@@ -1,6 +1,6 @@
 use Rattle.std.proofs.Common.{◌∙◌, List, ap, arith, length, sym}
-use Rattle.rt_edits.specs.Selected.{selected_stamps}
-use Rattle.rt_edits.proofs.PlaceLaws.{length_text}
+use Rattle.rt_plans.specs.Selected.{selected_stamps}
+use Rattle.rt_plans.proofs.PlaceLaws.{length_text}
 use Rattle.rt_index.specs.Widget.{tag_first}
 use Rattle.rt_store.specs.Cells.{text_of}
 use Rattle.rt_store.specs.Shown.{TaggedCell}

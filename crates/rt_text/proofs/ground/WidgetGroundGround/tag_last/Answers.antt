@@ -6,12 +6,12 @@ use Rattle.rt_store.specs.Shown.{TaggedCell, shown}
 use Rattle.rt_store.proofs.Shown.{text_shown}
 use Rattle.rt_tags.specs.States.{state_at}
 use Rattle.rt_text.specs.Proper.{last_within}
-use Rattle.rt_edits.specs.Selected.{selected_stamps}
+use Rattle.rt_plans.specs.Selected.{selected_stamps}
 use Rattle.rt_text.specs.Grounds.{widget_over}
 use Rattle.rt_text.specs.Widgets.{WidgetValue, is_tagged_in}
-use Rattle.rt_edits.proofs.PlaceLaws.{length_text, text_within}
-use Rattle.rt_views.proofs.Parts.{part_length}
-use Rattle.rt_views.specs.Stretches.{part}
+use Rattle.rt_plans.proofs.PlaceLaws.{length_text, text_within}
+use Rattle.rt_lines.proofs.Parts.{part_length}
+use Rattle.rt_lines.specs.Stretches.{part}
 use Rattle.rt_text.proofs.SeenLaws.{stops_by}
 use Rattle.rt_text.proofs.ground.WidgetGroundGround.tag_last.Goals as goal
 

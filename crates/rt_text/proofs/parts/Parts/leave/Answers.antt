@@ -1,7 +1,7 @@
 use Rattle.std.proofs.Common.{◌≡◌, ◌<◌, ◌+◌, ◌-◌, ◌∙◌, ap, arith, sym, drop, length, [], get_or, refl}
 use Rattle.std.proofs.Math.Seq.{drop-length}
-use Rattle.rt_edits.specs.declared.range.Range.{Range}
-use Rattle.rt_edits.specs.Removals.{is_covered}
+use Rattle.rt_plans.specs.declared.range.Range.{Range}
+use Rattle.rt_plans.specs.Removals.{is_covered}
 use Rattle.rt_text.specs.Parts.{own_in}
 use Rattle.rt_text.specs.Widgets.{own_left, own_removed}
 use Rattle.rt_text.proofs.MarkLaws.{own_kept}

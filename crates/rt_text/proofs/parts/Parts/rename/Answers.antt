@@ -1,7 +1,7 @@
 use Rattle.std.proofs.Common.{◌≡◌, ◌∙◌, ◌<◌, ◌+◌, ◌∷◌, arith, ap, sym, drop, get_or, length}
 use Rattle.std.proofs.lemmas.List.{drop_more}
 use Rattle.rt_revert.specs.declared.plan.Return.{Return}
-use Rattle.rt_views.specs.declared.limits.Limits.{Limits}
+use Rattle.rt_lines.specs.declared.limits.Limits.{Limits}
 use Rattle.rt_text.specs.Changes.{limits_after, own_renamed}
 use Rattle.rt_text.specs.Parts.{own_in}
 use Rattle.rt_text.specs.Widgets.{WidgetValue}

@@ -4,8 +4,8 @@ use Rattle.std.proofs.lemmas.Result.{err_from_is_err_and}
 use Rattle.rt_store.specs.Cells.{text_of}
 use Rattle.rt_store.proofs.Shown.{map_append}
 use Rattle.rt_tags.proofs.Sorted.{every_append}
-use Rattle.rt_views.specs.Choices.{limits_chosen}
-use Rattle.rt_views.specs.Ordered.{AreInOrder}
+use Rattle.rt_lines.specs.Choices.{limits_chosen}
+use Rattle.rt_lines.specs.Ordered.{AreInOrder}
 use Rattle.rt_text.specs.Limited.{with_new_peer}
 use Rattle.rt_text.specs.Parts.{own_in}
 use Rattle.rt_text.specs.Widgets.{IsOwnOf, WidgetValue, ViewValue, own_at}

@@ -7,9 +7,9 @@ use Rattle.rt_text.specs.Widgets.{text_shown, widget_of}
 use Rattle.rt_text.proofs.Checks.{two_given, first_refused, second_refused}
 use Rattle.rt_text.proofs.Differences.{distances_in_part}
 use Rattle.rt_text.proofs.SeenLaws.{store_seen}
-use Rattle.rt_edits.proofs.PlaceLaws.{text_within}
-use Rattle.rt_views.proofs.Parts.{part_length}
-use Rattle.rt_views.specs.Stretches.{part}
+use Rattle.rt_plans.proofs.PlaceLaws.{text_within}
+use Rattle.rt_lines.proofs.Parts.{part_length}
+use Rattle.rt_lines.specs.Stretches.{part}
 use Rattle.rt_text.proofs.view.View.count.Goals as goal
 
 pub returns-in_err-start : goal.returns-in_err-start

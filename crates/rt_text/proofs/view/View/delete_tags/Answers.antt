@@ -3,9 +3,9 @@ use Rattle.std.specs.List.{AllByRecursion}
 use Rattle.std.proofs.lemmas.Result.{on_err_weaker, on_ok_weaker}
 use Rattle.rt_stamps.specs.declared.limits.TheConstants.{MOST_SPANS}
 use Rattle.rt_stamps.specs.Words.{as_words}
-use Rattle.rt_edits.specs.DocValue.{DocValue, logged}
-use Rattle.rt_edits.specs.TagDrafts.{deletion_drafts}
-use Rattle.rt_edits.specs.TagWrites.{without_tags}
+use Rattle.rt_plans.specs.DocValue.{DocValue, logged}
+use Rattle.rt_plans.specs.TagDrafts.{deletion_drafts}
+use Rattle.rt_plans.specs.TagWrites.{without_tags}
 use Rattle.rt_text.specs.Parts.{own_in}
 use Rattle.rt_text.specs.Widgets.{IsOwnOf}
 use Rattle.rt_text.proofs.Growing.{logged_grows}

@@ -7,7 +7,7 @@ use Rattle.rt_text.specs.Ranges.{text_between}
 use Rattle.rt_text.specs.Widgets.{text_shown, widget_of}
 use Rattle.rt_text.proofs.Checks.{two_given, first_refused, second_refused}
 use Rattle.rt_text.proofs.SeenLaws.{store_seen}
-use Rattle.rt_views.specs.Stretches.{part}
+use Rattle.rt_lines.specs.Stretches.{part}
 use Rattle.rt_text.proofs.view.View.get.Goals as goal
 
 pub returns-in_err-start : goal.returns-in_err-start

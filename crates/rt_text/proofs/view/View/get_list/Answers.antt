@@ -9,7 +9,7 @@ use Rattle.rt_text.specs.Parts.{own_in}
 use Rattle.rt_text.specs.Ranges.{ranges_of, texts_of}
 use Rattle.rt_text.specs.Widgets.{text_shown, widget_of}
 use Rattle.rt_text.proofs.SeenLaws.{store_seen}
-use Rattle.rt_views.specs.Stretches.{part}
+use Rattle.rt_lines.specs.Stretches.{part}
 use Rattle.rt_text.proofs.view.View.get_list.Goals as goal
 
 pub returns-in_err-ranges : goal.returns-in_err-ranges

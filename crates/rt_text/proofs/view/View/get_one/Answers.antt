@@ -7,9 +7,9 @@ use Rattle.rt_text.specs.Ranges.{text_between}
 use Rattle.rt_text.specs.Widgets.{text_shown, widget_of}
 use Rattle.rt_text.proofs.Checks.{one_given, one_refused}
 use Rattle.rt_text.proofs.SeenLaws.{store_seen}
-use Rattle.rt_edits.proofs.PlaceLaws.{text_within}
-use Rattle.rt_views.proofs.Parts.{part_length}
-use Rattle.rt_views.specs.Stretches.{part}
+use Rattle.rt_plans.proofs.PlaceLaws.{text_within}
+use Rattle.rt_lines.proofs.Parts.{part_length}
+use Rattle.rt_lines.specs.Stretches.{part}
 use Rattle.rt_text.proofs.view.View.get_one.Goals as goal
 
 pub returns-in_err-place : goal.returns-in_err-place

@@ -6,7 +6,7 @@ use Rattle.rt_text.specs.Parts.{own_in}
 use Rattle.rt_text.specs.Widgets.{text_shown, widget_of}
 use Rattle.rt_text.proofs.Checks.{one_given, one_refused}
 use Rattle.rt_text.proofs.SeenLaws.{store_seen}
-use Rattle.rt_views.specs.Stretches.{part, stretch_of}
+use Rattle.rt_lines.specs.Stretches.{part, stretch_of}
 use Rattle.rt_text.proofs.view.View.index.Goals as goal
 
 pub returns-in_err-place : goal.returns-in_err-place

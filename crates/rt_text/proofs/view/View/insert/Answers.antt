@@ -8,12 +8,12 @@ use Rattle.std.proofs.lemmas.Result.{err_from_is_err_and, on_err_weaker, on_ok_w
 use Rattle.rt_stamps.specs.declared.fault.Fault.TheVariants.{NoMemory}
 use Rattle.rt_stamps.specs.Outcomes.{first_of}
 use Rattle.rt_store.specs.Cells.{text_of}
-use Rattle.rt_edits.specs.DocValue.{DocValue}
+use Rattle.rt_plans.specs.DocValue.{DocValue}
 use Rattle.rt_text.specs.Parts.{own_in}
 use Rattle.rt_text.specs.Commands.{with_pieces_at}
 use Rattle.rt_store.specs.Shown.{TaggedCell}
 use Rattle.rt_text.specs.Widgets.{IsOwnOf, ViewValue, length_shown, shown_by, stretch_by}
-use Rattle.rt_views.specs.Ordered.{AreInOrder}
+use Rattle.rt_lines.specs.Ordered.{AreInOrder}
 use Rattle.rt_text.proofs.LimitedTags.{shown_size}
 use Rattle.rt_text.proofs.PutLaws.{all_refused, both_done, done_by, either, late_checks, refused_index, refused_name}
 use Rattle.rt_text.proofs.ViewLaws.{viewed}

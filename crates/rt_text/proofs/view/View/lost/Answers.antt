@@ -3,11 +3,11 @@ use Rattle.std.proofs.Common.{◌≡◌, ◌∙◌, ℕ, Bool, ap, map, subst, s
 use Rattle.rt_store.specs.Shown.{shown}
 use Rattle.rt_store.specs.Tagged.{AreStates}
 use Rattle.rt_tags.specs.States.{IsState, state_at}
-use Rattle.rt_edits.specs.Deletions.{Loss}
-use Rattle.rt_edits.specs.Removals.{cells_at, is_covered}
-use Rattle.rt_edits.proofs.Putting.{all_at}
-use Rattle.rt_edits.proofs.Shown.{cells_at_shown}
-use Rattle.rt_views.specs.Stretches.{stretch_of}
+use Rattle.rt_plans.specs.Deletions.{Loss}
+use Rattle.rt_plans.specs.Removals.{cells_at, is_covered}
+use Rattle.rt_plans.proofs.Putting.{all_at}
+use Rattle.rt_plans.proofs.Shown.{cells_at_shown}
+use Rattle.rt_lines.specs.Stretches.{stretch_of}
 use Rattle.rt_text.specs.Widgets.{ViewValue}
 use Rattle.rt_text.proofs.LimitedDeletions.{loss_kept, loss_of}
 use Rattle.rt_text.proofs.view.View.lost.Goals as goal

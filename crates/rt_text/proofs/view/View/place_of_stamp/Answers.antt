@@ -1,7 +1,7 @@
 use Rattle.std.proofs.Common.{◌∙◌, Some, ap, sym}
 use Rattle.std.specs.Prelude.{option_map}
 use Rattle.rt_tags.specs.States.{state_at}
-use Rattle.rt_views.specs.Stretches.{seen_place}
+use Rattle.rt_lines.specs.Stretches.{seen_place}
 use Rattle.rt_text.specs.Cursors.{place_of_stamp}
 use Rattle.rt_text.specs.Widgets.{ViewValue}
 use Rattle.rt_text.proofs.CursorLaws.{place_there}

@@ -4,7 +4,7 @@ use Rattle.rt_store.specs.Cells.{text_of}
 use Rattle.rt_text.specs.Parts.{own_in}
 use Rattle.rt_text.specs.Widgets.{text_shown}
 use Rattle.rt_text.proofs.SeenLaws.{store_seen}
-use Rattle.rt_views.specs.Stretches.{part, stretch_of}
+use Rattle.rt_lines.specs.Stretches.{part, stretch_of}
 use Rattle.rt_text.proofs.view.View.position.Goals as goal
 
 pub position-requires : goal.position-requires

@@ -7,7 +7,7 @@ use Rattle.std.proofs.lemmas.List.{with_items_is}
 use Rattle.std.proofs.lemmas.Result.{err_from_is_err_and, on_err_weaker, on_ok_weaker}
 use Rattle.rt_stamps.specs.declared.fault.Fault.TheVariants.{NoMemory}
 use Rattle.rt_stamps.specs.Outcomes.{first_of}
-use Rattle.rt_edits.specs.declared.range.Range.{Range}
+use Rattle.rt_plans.specs.declared.range.Range.{Range}
 use Rattle.rt_store.specs.Cells.{text_of}
 use Rattle.rt_text.specs.Parts.{own_in}
 use Rattle.rt_text.specs.Commands.{with_range_replaced}

@@ -1,6 +1,6 @@
 use Rattle.std.proofs.Common.{◌≡◌, ◌∙◌, Err, Ok, ap, map, refl, subst, sym}
 use Rattle.std.proofs.lemmas.Result.{err_from_is_err_and}
-use Rattle.rt_views.specs.Choices.{limits_chosen}
+use Rattle.rt_lines.specs.Choices.{limits_chosen}
 use Rattle.rt_text.specs.Limited.{with_limits}
 use Rattle.rt_text.specs.Parts.{own_in}
 use Rattle.rt_text.specs.Widgets.{AreWidgetsOf, WidgetValue, ViewValue}

@@ -1,5 +1,5 @@
 use Rattle.std.proofs.Common.{map, subst, sym}
-use Rattle.rt_edits.specs.DocValue.{DocValue}
+use Rattle.rt_plans.specs.DocValue.{DocValue}
 use Rattle.rt_text.specs.Parts.{own_in}
 use Rattle.rt_text.specs.Widgets.{AreWidgetsOf}
 use Rattle.rt_text.proofs.KeptDocument.{either_way}

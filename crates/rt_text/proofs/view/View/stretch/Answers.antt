@@ -1,7 +1,7 @@
 use Rattle.std.proofs.Common.{◌∙◌, ap, arith, length}
 use Rattle.rt_store.specs.Cells.{text_of}
 use Rattle.rt_text.specs.Widgets.{ViewValue, stretch_by}
-use Rattle.rt_views.specs.Stretches.{stretch_of}
+use Rattle.rt_lines.specs.Stretches.{stretch_of}
 use Rattle.rt_text.proofs.view.View.stretch.Goals as goal
 
 pub returns-clause-value : goal.returns-clause-value

@@ -9,7 +9,7 @@ use Rattle.rt_rga.specs.Texts.{tagged_text}
 use Rattle.rt_changes.specs.Replays.{replayed, told_by}
 use Rattle.rt_rga.specs.Histories.{IsHistory}
 use Rattle.rt_store.specs.Cells.{text_of, visible_of}
-use Rattle.rt_edits.specs.DocValue.{DocValue}
+use Rattle.rt_plans.specs.DocValue.{DocValue}
 use Rattle.rt_text.specs.Parts.{own_in}
 use Rattle.rt_text.specs.Accepted.{answer_of, own_with_new, view_with_new, with_new}
 use Rattle.rt_text.specs.declared.parts.Parts.{Parts}

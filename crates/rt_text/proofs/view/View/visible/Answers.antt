@@ -1,6 +1,6 @@
 use Rattle.std.proofs.Common.{◌≤◌, ap, arith, length, subst}
 use Rattle.rt_store.specs.Cells.{text_of}
-use Rattle.rt_views.specs.declared.stretch.Stretch.{Stretch}
+use Rattle.rt_lines.specs.declared.stretch.Stretch.{Stretch}
 use Rattle.rt_text.proofs.SeenLaws.{length_seen}
 use Rattle.rt_text.proofs.view.View.visible.Goals as goal
 

@@ -1,7 +1,7 @@
 use Rattle.std.proofs.Common.{subst}
 use Rattle.std.specs.List.{AllByRecursion}
 use Rattle.rt_text.specs.Widgets.{ViewValue, limits_of}
-use Rattle.rt_views.specs.Ordered.{AreInOrder}
+use Rattle.rt_lines.specs.Ordered.{AreInOrder}
 use Rattle.rt_text.proofs.view.View.widget.Goals as goal
 
 pub returns-clause-limits : goal.returns-clause-limits

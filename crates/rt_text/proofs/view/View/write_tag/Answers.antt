@@ -6,14 +6,14 @@ use Rattle.rt_stamps.specs.declared.limits.TheConstants.{GREATEST_COUNT, MOST_SP
 use Rattle.rt_rga.proofs.Requests.{greatest_bound}
 use Rattle.rt_store.specs.Cells.{text_of, visible_of}
 use Rattle.rt_tags.specs.Tags.{sel}
-use Rattle.rt_edits.specs.declared.range.Range.{Range}
-use Rattle.rt_edits.specs.DocValue.{DocValue, logged}
-use Rattle.rt_edits.specs.Removals.{is_covered, stamps_at, AreInOrder}
-use Rattle.rt_edits.specs.Selections.{selection_with}
-use Rattle.rt_edits.specs.TagDrafts.{tag_drafts_at}
-use Rattle.rt_edits.specs.TagWrites.{listed_if, with_tag_at}
-use Rattle.rt_edits.proofs.TagPlaces.{listed_count, listed_text, tag_text}
-use Rattle.rt_views.specs.Stretches.{stretch_of}
+use Rattle.rt_plans.specs.declared.range.Range.{Range}
+use Rattle.rt_plans.specs.DocValue.{DocValue, logged}
+use Rattle.rt_plans.specs.Removals.{is_covered, stamps_at, AreInOrder}
+use Rattle.rt_plans.specs.Selections.{selection_with}
+use Rattle.rt_plans.specs.TagDrafts.{tag_drafts_at}
+use Rattle.rt_plans.specs.TagWrites.{listed_if, with_tag_at}
+use Rattle.rt_plans.proofs.TagPlaces.{listed_count, listed_text, tag_text}
+use Rattle.rt_lines.specs.Stretches.{stretch_of}
 use Rattle.rt_text.specs.Parts.{own_in}
 use Rattle.rt_text.specs.Commands.{clock_check, with_tag_in}
 use Rattle.rt_text.specs.Widgets.{AreWidgetsOf, IsOwnOf, WidgetValue, ViewValue, places_in_text}

@@ -7,11 +7,11 @@ use Rattle.rt_tree.proofs.CellLaws.{is_run, visible_found}
 use Rattle.rt_tree.proofs.Kept.{few_runs, shows}
 use Rattle.rt_tree.proofs.tree.Tree.cell_at.Goals as goal
 
-pub seek_near-shown-requires-clause-few : goal.seek_near-shown-requires-clause-few
-seek_near-shown-requires-clause-few c = let s = c.self.inside in few_runs s.mem s.root.index s.text.items s.runs c.self.invariant.kept
+pub run_near-shown-requires-clause-few : goal.run_near-shown-requires-clause-few
+run_near-shown-requires-clause-few c = let s = c.self.inside in few_runs s.mem s.root.index s.text.items s.runs c.self.invariant.kept
 
-pub seek_near-shown-requires-clause-within : goal.seek_near-shown-requires-clause-within
-seek_near-shown-requires-clause-within c =
+pub run_near-shown-requires-clause-within : goal.run_near-shown-requires-clause-within
+run_near-shown-requires-clause-within c =
     let s = c.self.inside in
     let h = shows s.mem s.root.index s.text.items s.runs c.self.invariant.kept s.sums.each.items c.args.self.now c.self.view_is in
     omega (arith, h.visible, c.requires)
@@ -19,18 +19,18 @@ seek_near-shown-requires-clause-within c =
 pub cell_in-requires-clause-run : goal.cell_in-requires-clause-run
 cell_in-requires-clause-run c =
     let s = c.self.inside in
-    let f = c.seek_near-shown.result in
-    let st = c.seek_near-shown.ensures in
+    let f = c.run_near-shown.result in
+    let st = c.run_near-shown.ensures in
     subst (λ (text : List ℕ). IsRun text f.run) (sym c.deref.ensures.value) (is_run s.text.items (tree_runs s.mem s.root.index) f.run f.before f.spot.offset c.args.place c.self.invariant.kept.kept st.left st.right st.here)
 
 pub returns : goal.returns
 returns c =
     let s = c.self.inside in
-    let f = c.seek_near-shown.result in
+    let f = c.run_near-shown.result in
     ap (λ (x : Shown). slice_get (visible_of x.cells) c.args.place) (sym c.self.view_is)
-    ∙ visible_found s.text.items (tree_runs s.mem s.root.index) f.run f.before f.spot.offset c.args.place c.self.invariant.kept.kept c.seek_near-shown.ensures
+    ∙ visible_found s.text.items (tree_runs s.mem s.root.index) f.run f.before f.spot.offset c.args.place c.self.invariant.kept.kept c.run_near-shown.ensures
     ∙ ap (λ (text : List ℕ). slice_get (run_cells text f.run) f.spot.offset) (sym c.deref.ensures.value)
     ∙ c.cell_in.ensures
 
-pub seek_near-shown-requires-clause-held : goal.seek_near-shown-requires-clause-held
-seek_near-shown-requires-clause-held c = c.self.invariant.last
+pub run_near-shown-requires-clause-held : goal.run_near-shown-requires-clause-held
+run_near-shown-requires-clause-held c = c.self.invariant.last

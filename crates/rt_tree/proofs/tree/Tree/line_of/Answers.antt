@@ -10,11 +10,11 @@ use Rattle.rt_tree.proofs.Kept.{few_runs, shows}
 use Rattle.rt_tree.proofs.Lines.{newlines_found}
 use Rattle.rt_tree.proofs.tree.Tree.line_of.Goals as goal
 
-pub seek_near-found-requires-clause-few : goal.seek_near-found-requires-clause-few
-seek_near-found-requires-clause-few c = let s = c.self.inside in few_runs s.mem s.root.index s.text.items s.runs c.self.invariant.kept
+pub run_near-found-requires-clause-few : goal.run_near-found-requires-clause-few
+run_near-found-requires-clause-few c = let s = c.self.inside in few_runs s.mem s.root.index s.text.items s.runs c.self.invariant.kept
 
-pub seek_near-found-requires-clause-within : goal.seek_near-found-requires-clause-within
-seek_near-found-requires-clause-within c =
+pub run_near-found-requires-clause-within : goal.run_near-found-requires-clause-within
+run_near-found-requires-clause-within c =
     let s = c.self.inside in
     let h = shows s.mem s.root.index s.text.items s.runs c.self.invariant.kept s.sums.each.items c.args.self.now c.self.view_is in
     let k = subst (λ (x : Shown). IsCountOf s.counts x.cells) c.self.view_is c.self.invariant.counts in
@@ -23,8 +23,8 @@ seek_near-found-requires-clause-within c =
 pub returns : goal.returns
 returns c =
     let s = c.self.inside in
-    let f = c.seek_near-found.result in
-    let found = newlines_found s.text.items (tree_runs s.mem s.root.index) f.run f.before f.spot.offset c.args.place c.self.invariant.kept.kept c.seek_near-found.ensures in
+    let f = c.run_near-found.result in
+    let found = newlines_found s.text.items (tree_runs s.mem s.root.index) f.run f.before f.spot.offset c.args.place c.self.invariant.kept.kept c.run_near-found.ensures in
     ap (λ (n : ℕ). n + 1) (sym found ∙ ap (λ (x : Shown). newlines (take c.args.place (text_of x.cells))) c.self.view_is)
 
 pub returns-then-place-all : goal.returns-then-place-all
@@ -36,5 +36,5 @@ returns-then-place-all c =
     let whole = ap newlines (take_all c.args.place text (omega (arith, long, k.visible, c.if-place-all.true))) in
     omega (arith, whole, k.newlines)
 
-pub seek_near-found-requires-clause-held : goal.seek_near-found-requires-clause-held
-seek_near-found-requires-clause-held c = c.self.invariant.last
+pub run_near-found-requires-clause-held : goal.run_near-found-requires-clause-held
+run_near-found-requires-clause-held c = c.self.invariant.last

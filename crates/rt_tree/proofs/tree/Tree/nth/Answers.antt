@@ -6,11 +6,11 @@ use Rattle.rt_tree.proofs.CellLaws.{is_run, nth_found}
 use Rattle.rt_tree.proofs.Kept.{few_runs, shows}
 use Rattle.rt_tree.proofs.tree.Tree.nth.Goals as goal
 
-pub seek_near-found-requires-clause-few : goal.seek_near-found-requires-clause-few
-seek_near-found-requires-clause-few c = let s = c.self.inside in few_runs s.mem s.root.index s.text.items s.runs c.self.invariant.kept
+pub run_near-found-requires-clause-few : goal.run_near-found-requires-clause-few
+run_near-found-requires-clause-few c = let s = c.self.inside in few_runs s.mem s.root.index s.text.items s.runs c.self.invariant.kept
 
-pub seek_near-found-requires-clause-within : goal.seek_near-found-requires-clause-within
-seek_near-found-requires-clause-within c =
+pub run_near-found-requires-clause-within : goal.run_near-found-requires-clause-within
+run_near-found-requires-clause-within c =
     let s = c.self.inside in
     let h = shows s.mem s.root.index s.text.items s.runs c.self.invariant.kept s.sums.each.items c.args.self.now c.self.view_is in
     omega (arith, h.cells, c.requires)
@@ -18,18 +18,18 @@ seek_near-found-requires-clause-within c =
 pub cell_in-requires-clause-run : goal.cell_in-requires-clause-run
 cell_in-requires-clause-run c =
     let s = c.self.inside in
-    let f = c.seek_near-found.result in
-    let st = c.seek_near-found.ensures in
+    let f = c.run_near-found.result in
+    let st = c.run_near-found.ensures in
     subst (λ (text : List ℕ). IsRun text f.run) (sym c.deref.ensures.value) (is_run s.text.items (tree_runs s.mem s.root.index) f.run f.before f.spot.offset c.args.position c.self.invariant.kept.kept st.left st.right st.here)
 
 pub returns : goal.returns
 returns c =
     let s = c.self.inside in
-    let f = c.seek_near-found.result in
+    let f = c.run_near-found.result in
     ap (λ (x : Shown). slice_get x.cells c.args.position) (sym c.self.view_is)
-    ∙ nth_found s.text.items (tree_runs s.mem s.root.index) f.run f.before f.spot.offset c.args.position c.self.invariant.kept.kept c.seek_near-found.ensures
+    ∙ nth_found s.text.items (tree_runs s.mem s.root.index) f.run f.before f.spot.offset c.args.position c.self.invariant.kept.kept c.run_near-found.ensures
     ∙ ap (λ (text : List ℕ). slice_get (run_cells text f.run) f.spot.offset) (sym c.deref.ensures.value)
     ∙ c.cell_in.ensures
 
-pub seek_near-found-requires-clause-held : goal.seek_near-found-requires-clause-held
-seek_near-found-requires-clause-held c = c.self.invariant.last
+pub run_near-found-requires-clause-held : goal.run_near-found-requires-clause-held
+run_near-found-requires-clause-held c = c.self.invariant.last

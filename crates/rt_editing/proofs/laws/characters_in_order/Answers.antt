@@ -1,5 +1,0 @@
-use Rattle.rt_text.proofs.Among.{cells_among}
-use Rattle.rt_editing.proofs.laws.characters_in_order.Goals as goal
-
-pub returns : goal.returns
-returns c old new h k sub = cells_among old new h k sub

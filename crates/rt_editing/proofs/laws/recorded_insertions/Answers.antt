@@ -1,5 +1,0 @@
-use Rattle.rt_editing.proofs.PutBackInTurn.{insertions_back}
-use Rattle.rt_editing.proofs.laws.recorded_insertions.Goals as goal
-
-pub returns : goal.returns
-returns c = insertions_back

@@ -1,7 +1,0 @@
-use Rattle.std.proofs.Common.{◌≡◌, ◌-◌, ◌++◌, take, drop}
-use Rattle.rt_store.specs.Cells.{visible_of, stamps_of}
-use Rattle.rt_edits.proofs.span.push_stamps.Given as goal
-
-abbrev pub invariant-loop-place : goal.invariant-loop-place
-invariant-loop-place g l =
-    l.stamps.items ≡ l.initial.stamps.items ++ stamps_of (take (l.place - l.fn.range.from) (drop l.fn.range.from (visible_of (g.S.TextStore.list l.store))))

@@ -1,9 +1,0 @@
-use Rattle.std.proofs.Common.{◌≡◌, ◌++◌, drop}
-use Rattle.rt_edits.specs.Removals.{is_covered, stamps_at, AreInOrder}
-use Rattle.rt_edits.proofs.span.stamps_in.Given as goal
-
-abbrev pub invariant-loop-range : goal.invariant-loop-range
-invariant-loop-range g l = record {
-  stamps : l.stamps.items ++ stamps_at (is_covered (drop l.range-index l.removed)) 0 (g.S.TextStore.list l.store) ≡ stamps_at (is_covered l.removed) 0 (g.S.TextStore.list l.store);
-  order : AreInOrder 0 (drop l.range-index l.removed);
-}
