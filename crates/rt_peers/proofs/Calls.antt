@@ -20,7 +20,7 @@ use Rattle.rt_peers.specs.Options.{choice_of, option_step, settings_step, text_s
 use Rattle.rt_peers.specs.Peers.{text_led, with_widget, without_widget}
 use Rattle.rt_peers.specs.PeerStep.{created, destroyed, destroyed_at, last_check, path_check, peer_step, text_with_peer}
 use Rattle.rt_peers.specs.SiteStep.{AnswersInTurn, Gives, KeepsOperations, MakesAndTries, SiteReceives, at_widget, by_widget, step_at}
-use Rattle.rt_peers.specs.SiteValue.{SiteValue, place_of}
+use Rattle.rt_peers.specs.SiteValue.{SiteValue, number_of}
 use Rattle.rt_peers.specs.ViewStep.{Outcome, as_outcome, changed_step, one_word}
 use Rattle.rt_peers.proofs.OptionLaws.{configured_is, limited_leaves, one_more, told_unchanged}
 use Rattle.rt_peers.proofs.Coming.{file_of, made_of}
@@ -156,14 +156,14 @@ pub settings_kept : (path : Word) (settings : WidgetSettings) (old new : SiteVal
     → AnswersInTurn (step_at path old (Configure settings)) old result new → KeepsOperations old new
 settings_kept path settings old new result h =
     kept_in_turn (step_at path old (Configure settings)) old new result
-    (λ mid a. at_keeps (place_of path old.paths) (λ place. by_widget place old (λ text. settings_step text settings)) old mid result
+    (λ mid a. at_keeps (number_of path old.paths) (λ place. by_widget place old (λ text. settings_step text settings)) old mid result
     (λ place b. by_keeps place old mid (λ text. settings_step text settings) result (set_stays settings) b) a) h
 
 pub option_kept : (path : Word) (option : NamedOption) (old new : SiteValue) (result : Result (List Word) Fault)
     → AnswersInTurn (step_at path old (Cget option)) old result new → KeepsOperations old new
 option_kept path option old new result h =
     kept_in_turn (step_at path old (Cget option)) old new result
-    (λ mid a. at_keeps (place_of path old.paths) (λ place. by_widget place old (λ text. option_step text option)) old mid result
+    (λ mid a. at_keeps (number_of path old.paths) (λ place. by_widget place old (λ text. option_step text option)) old mid result
     (λ place b. by_keeps place old mid (λ text. option_step text option) result (told_stays option) b) a) h
 
 -- and leaves the site as it was
@@ -171,7 +171,7 @@ pub option_leaves : (path : Word) (option : NamedOption) (old new : SiteValue) (
     → AnswersInTurn (step_at path old (Cget option)) old result new → new ≡ old
 option_leaves path option old new result h =
     let mid : SiteValue = h.0 in
-    let told : mid ≡ old = at_each (place_of path old.paths) (λ place. by_widget place old (λ text. option_step text option)) old mid result (mid ≡ old) (λ e. e)
+    let told : mid ≡ old = at_each (number_of path old.paths) (λ place. by_widget place old (λ text. option_step text option)) old mid result (mid ≡ old) (λ e. e)
     (λ place b. told_unchanged place old mid option result b) h.1 in
     left_kept old mid new (same_keeps old mid told) h.2 ∙ told
 
@@ -179,11 +179,11 @@ pub peers_kept : (path : Word) (request : PeerRequest) (old new : SiteValue) (re
     → AnswersInTurn (step_at path old (Peer request)) old result new → KeepsOperations old new
 peers_kept path request old new result h =
     kept_in_turn (step_at path old (Peer request)) old new result
-    (λ mid a. at_keeps (place_of path old.paths) (λ place. peer_step path place old request) old mid result
+    (λ mid a. at_keeps (number_of path old.paths) (λ place. peer_step path place old request) old mid result
     (λ place b. peer_keeps path place old mid request result b) a) h
 
 pub destroyed_kept : (path : Word) (old new : SiteValue) → destroyed path old ≡ Ok new → KeepsOperations old new
-destroyed_kept path old new h = destroyed_keeps (place_of path old.paths) old new h
+destroyed_kept path old new h = destroyed_keeps (number_of path old.paths) old new h
 
 -- COMMANDS
 

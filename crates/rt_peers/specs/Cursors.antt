@@ -5,11 +5,11 @@ use Rattle.rt_stamps.specs.Words.{Word}
 use Rattle.rt_lines.specs.declared.limits.Limits.{Limits}
 use Rattle.rt_text.specs.Cursors.{place_of_stamp, stamp_at}
 use Rattle.rt_peers.specs.Peers.{widgets_of}
-use Rattle.rt_peers.specs.SiteValue.{SiteValue, place_of}
+use Rattle.rt_peers.specs.SiteValue.{SiteValue, number_of}
 
 -- the limits of the widget of a path; none where there is no such widget
 abbrev pub limits_by : Word → SiteValue → Option Limits
-limits_by path state = option_and_then (λ at. option_map (λ own. own.limits) (slice_get (widgets_of state.text.view) at)) (place_of path state.paths)
+limits_by path state = option_and_then (λ at. option_map (λ own. own.limits) (slice_get (widgets_of state.text.view) at)) (number_of path state.paths)
 
 -- the stamp of the character at a place of what the widget of a path shows; none from its end on, or where there is no such widget
 abbrev pub stamp_by : Word → ℕ → SiteValue → Option Stamp

@@ -11,7 +11,7 @@ use Rattle.rt_requests.specs.declared.peers.PeerRequest.TheVariants.{Create, Nam
 use Rattle.rt_requests.specs.declared.settings.WidgetSettings.{WidgetSettings}
 use Rattle.rt_recording.specs.EditedValue.{EditedValue}
 use Rattle.rt_text.specs.Limited.{with_peer}
-use Rattle.rt_peers.specs.SiteValue.{SiteValue, is_widget, place_of}
+use Rattle.rt_peers.specs.SiteValue.{SiteValue, is_widget, number_of}
 use Rattle.rt_peers.specs.Options.{choice_of, text_configured}
 use Rattle.rt_peers.specs.ViewStep.{Outcome, as_outcome, one_word}
 use Rattle.rt_peers.specs.Peers.{text_led, with_widget, without_widget}
@@ -27,20 +27,20 @@ path_check path paths = if is_widget path paths then Some WidgetExists else None
 abbrev pub text_with_peer : EditedValue → WidgetSettings → Result EditedValue Fault
 text_with_peer text settings = text_configured text settings.shared (with_peer text.view (choice_of settings.start_line) (choice_of settings.end_line))
 
--- it is made by the widget at a place
+-- it is made by the widget of a number
 abbrev pub created : ℕ → Word → SiteValue → WidgetSettings → Option Fault → Outcome SiteValue
-created place path state settings (Some fault) = Err fault
-created place path state settings None =
-    as_outcome (λ text. (one_word path, with_widget place path state text)) (text_with_peer (text_led place state.text) settings)
+created number path state settings (Some fault) = Err fault
+created number path state settings None =
+    as_outcome (λ text. (one_word path, with_widget number path state text)) (text_with_peer (text_led number state.text) settings)
 
 -- `peer names`: the paths of the other widgets, in the order in which they were made
 abbrev pub other_paths : Word → List Word → List Word
 other_paths path paths = filter (λ other. not (bytes_eq other path)) paths
 
--- what is asked of the peers of the widget of a path, which is the one at a place
+-- what is asked of the peers of the widget of a path, which is the one of a number
 abbrev pub peer_step : Word → ℕ → SiteValue → PeerRequest → Outcome SiteValue
-peer_step path place state (Create new settings) = created place new state settings (path_check new state.paths)
-peer_step path place state Names = Ok (other_paths path state.paths, state)
+peer_step path number state (Create new settings) = created number new state settings (path_check new state.paths)
+peer_step path number state Names = Ok (other_paths path state.paths, state)
 
 -- `destroy PATH`
 
@@ -50,11 +50,11 @@ last_check paths = if nat_lt 1 (length paths) then None else Some LastWidget
 
 abbrev pub destroyed_at : Option ℕ → SiteValue → Result SiteValue Fault
 destroyed_at None state = Err NoWidget
-destroyed_at (Some place) state = unless (last_check state.paths) (without_widget place state)
+destroyed_at (Some number) state = unless (last_check state.paths) (without_widget number state)
 
 -- the widget of a path is no longer there
 abbrev pub destroyed : Word → SiteValue → Result SiteValue Fault
-destroyed path state = destroyed_at (place_of path state.paths) state
+destroyed path state = destroyed_at (number_of path state.paths) state
 
 -- The widget of a path goes, and the reply has no words; or it is refused, and the site is as it was.
 pub record Destroys (path : Word) (old : SiteValue) (result : Result (List Word) Fault) (new : SiteValue) : Type 0 where

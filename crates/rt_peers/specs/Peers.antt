@@ -17,23 +17,23 @@ pub record HavePaths (paths : List Word) (view : ViewValue) : Type 0 where
   pub each : length paths ≡ length (widgets_of view)
   pub differ : IsDistinct bytes_eq paths
 
--- the widget at a place commands: it and the first one change places
+-- the widget of a number commands: it and the first one change places
 abbrev pub view_led : ℕ → ViewValue → ViewValue
-view_led place view = record view { own = get_or (widgets_of view) place view.own; others = drop 1 (set (widgets_of view) place view.own) }
+view_led number view = record view { own = get_or (widgets_of view) number view.own; others = drop 1 (set (widgets_of view) number view.own) }
 
 abbrev pub text_led : ℕ → EditedValue → EditedValue
-text_led place text = record text { view = view_led place text.view }
+text_led number text = record text { view = view_led number text.view }
 
--- a site with one more path, the last one, where the widget at a place left the text with one more widget
+-- a site with one more path, the last one, where the widget of a number left the text with one more widget
 abbrev pub with_widget : ℕ → Word → SiteValue → EditedValue → SiteValue
-with_widget place path state text = record state { paths = state.paths ++ path ∷ []; text = text_led place text }
+with_widget number path state text = record state { paths = state.paths ++ path ∷ []; text = text_led number text }
 
--- the widget at a place is no longer there; the others stay in their order
+-- the widget of a number is no longer there; the others stay in their order
 abbrev pub view_without : ℕ → ViewValue → ViewValue
-view_without place view =
-    let left = remove (widgets_of view) place in
+view_without number view =
+    let left = remove (widgets_of view) number in
     record view { own = get_or left 0 view.own; others = drop 1 left }
 
 abbrev pub without_widget : ℕ → SiteValue → SiteValue
-without_widget place state =
-    record state { paths = remove state.paths place; text = record state.text { view = view_without place state.text.view } }
+without_widget number state =
+    record state { paths = remove state.paths number; text = record state.text { view = view_without number state.text.view } }

@@ -16,33 +16,33 @@ use Rattle.rt_ops.specs.Operations.{Body, Operation}
 use Rattle.rt_rga.specs.Drafts.{with_drafts}
 use Rattle.rt_rga.specs.Requests.{MayBeMade, fit}
 use Rattle.rt_peers.specs.PeerStep.{peer_step}
-use Rattle.rt_peers.specs.SiteValue.{SiteValue, holding_of, place_of}
+use Rattle.rt_peers.specs.SiteValue.{SiteValue, holding_of, number_of}
 use Rattle.rt_peers.specs.Step.{step}
 use Rattle.rt_peers.specs.ViewStep.{Outcome, as_outcome}
 use Rattle.rt_peers.specs.Peers.{text_led}
 
--- what the widget at a place does to the text that it shows, as one to the site
+-- what the widget of a number does to the text that it shows, as one to the site
 abbrev pub by_widget : ℕ → SiteValue → (EditedValue → Outcome EditedValue) → Outcome SiteValue
-by_widget place state does = as_outcome (λ answer. (answer.0, record state { text = text_led place answer.1 })) (does (text_led place state.text))
+by_widget number state does = as_outcome (λ answer. (answer.0, record state { text = text_led number answer.1 })) (does (text_led number state.text))
 
 -- what is asked of the widget of a path, where there is one
 abbrev pub at_widget : Option ℕ → (ℕ → Outcome SiteValue) → Outcome SiteValue
 at_widget None does = Err NoWidget
-at_widget (Some place) does = does place
+at_widget (Some number) does = does number
 
--- a request to the widget of a path, which is the one at a place: of its peers the site answers, and of all else its text
+-- a request to the widget of a path, which is the one of a number: of its peers the site answers, and of all else its text
 abbrev pub widget_step : Word → ℕ → SiteValue → Request → Outcome SiteValue
-widget_step path place state (Peer request) = peer_step path place state request
-widget_step path place state request = by_widget place state (λ text. step text request)
+widget_step path number state (Peer request) = peer_step path number state request
+widget_step path number state request = by_widget number state (λ text. step text request)
 
 -- a request to the widget of a path
 abbrev pub step_at : Word → SiteValue → Request → Outcome SiteValue
-step_at path state request = at_widget (place_of path state.paths) (λ place. widget_step path place state request)
+step_at path state request = at_widget (number_of path state.paths) (λ number. widget_step path number state request)
 
 -- words that ask it for something, or that are refused
 abbrev pub outcome_at : Word → SiteValue → Asked → Outcome SiteValue
 outcome_at path state (Ok request) = step_at path state request
-outcome_at path state (Err fault) = at_widget (place_of path state.paths) (λ place. Err fault)
+outcome_at path state (Err fault) = at_widget (number_of path state.paths) (λ number. Err fault)
 
 -- HELD OPERATIONS
 
@@ -111,7 +111,7 @@ pub record Gives (path : Word) (words : List Word) (old : SiteValue) (result : R
   pub asked : Asked
   pub asks : Asks words asked
   pub answers : AnswersInTurn (outcome_at path old asked) old result new
-  pub none : place_of path old.paths ≡ None → (result ≡ Err NoWidget) × (new ≡ old)
+  pub none : number_of path old.paths ≡ None → (result ≡ Err NoWidget) × (new ≡ old)
 
 -- OPERATIONS OF OTHER SITES
 

@@ -4,7 +4,7 @@ ghost use Rattle.rt_stamps.specs.declared.limits.TheConstants.{MOST_CELLS};
 ghost use Rattle.rt_stamps.specs.Words.{as_words};
 ghost use Rattle.rt_peers.specs.Peers.{HavePaths};
 ghost use Rattle.rt_peers.specs.SiteStep.{AnswersInTurn, Gives, by_widget, step_at, widget_step};
-ghost use Rattle.rt_peers.specs.SiteValue.{new_site, place_of};
+ghost use Rattle.rt_peers.specs.SiteValue.{new_site, number_of};
 ghost use Rattle.rt_peers.specs.Step.{step};
 
 mod cursors;
@@ -12,7 +12,7 @@ mod exchange;
 mod peers;
 mod undoing;
 
-use crate::paths::place_of;
+use crate::paths::number_of;
 use crate::reply::Reply;
 use crate::text::EditedText;
 use rt_holding::Held;
@@ -86,16 +86,16 @@ impl SiteState {
         &self.paths
     }
 
-    // What is asked of what the widget at a place shows. Refused by the request's own faults, or for want of
+    // What is asked of what the widget of a number shows. Refused by the request's own faults, or for want of
     // memory; then the site is as it was. Where it made operations, held ones are tried then.
-    fn ask_text(&mut self, place: usize, request: &Request<'_>) -> Result<Reply, Fault>
-        requires { place < length self.old.paths }
-        ensures { AnswersInTurn (by_widget place self.old (λ text. step text request.now)) self.old result self.new }
+    fn ask_text(&mut self, number: usize, request: &Request<'_>) -> Result<Reply, Fault>
+        requires { number < length self.old.paths }
+        ensures { AnswersInTurn (by_widget number self.old (λ text. step text request.now)) self.old result self.new }
     {
         let before = self.text.log().len();
-        self.text.lead(place);
+        self.text.lead(number);
         let reply = self.text.request(request);
-        self.text.lead(place);
+        self.text.lead(number);
         if before < self.text.log().len() {
             let site = self.text.site().number();
             self.held.settle(&mut self.text, site);
@@ -103,14 +103,14 @@ impl SiteState {
         reply
     }
 
-    // What is asked of the widget of a path, which is the one at a place.
-    fn request(&mut self, path: &str, place: usize, request: &Request<'_>) -> Result<Reply, Fault>
-        requires { place < length self.old.paths }
-        ensures { AnswersInTurn (widget_step path.now place self.old request.now) self.old result self.new }
+    // What is asked of the widget of a path, which is the one of a number.
+    fn request(&mut self, path: &str, number: usize, request: &Request<'_>) -> Result<Reply, Fault>
+        requires { number < length self.old.paths }
+        ensures { AnswersInTurn (widget_step path.now number self.old request.now) self.old result self.new }
     {
         match request {
-            Request::Peer(request) => self.peers(path, place, request),
-            _ => self.ask_text(place, request),
+            Request::Peer(request) => self.peers(path, number, request),
+            _ => self.ask_text(number, request),
         }
     }
 
@@ -120,25 +120,25 @@ impl SiteState {
     /// reply speaks of the state before that.
     pub fn answer(&mut self, path: &str, request: &Request<'_>) -> Result<Reply, Fault>
         ensures answers { AnswersInTurn (step_at path.now self.old request.now) self.old result self.new }
-        ensures none { place_of path.now self.old.paths ≡ None → result ≡ Err Fault.NoWidget }
+        ensures none { number_of path.now self.old.paths ≡ None → result ≡ Err Fault.NoWidget }
     {
-        let Some(place) = place_of(&self.paths, path) else {
+        let Some(number) = number_of(&self.paths, path) else {
             return Err(Fault::NoWidget);
         };
-        self.request(path, place, request)
+        self.request(path, number, request)
     }
 
     /// `PATH COMMAND WORDS` (Tk text manual): what words ask of the widget of a path (`Request::of`). Refused by the first
-    /// of `NoWidget`, the faults of the words and of the request, and want of memory in place of any but the first;
+    /// of `NoWidget`, the faults of the words and of the request, and want of memory in number of any but the first;
     /// then the site is as it was.
     pub fn command(&mut self, path: &str, words: &[String]) -> Result<Reply, Fault>
         ensures { Gives path.now (as_words words.now) self.old result self.new }
     {
-        let Some(place) = place_of(&self.paths, path) else {
+        let Some(number) = number_of(&self.paths, path) else {
             return Err(Fault::NoWidget);
         };
         match Request::of(self.alloc, words) {
-            Ok(request) => self.request(path, place, &request),
+            Ok(request) => self.request(path, number, &request),
             Err(fault) => Err(fault),
         }
     }

@@ -3,7 +3,7 @@ ghost use Rattle.std.specs.Prelude.{◌≡◌};
 ghost use Rattle.rt_peers.specs.Cursors.{limits_by, place_by, stamp_by};
 
 use super::SiteState;
-use crate::paths::place_of;
+use crate::paths::number_of;
 use rt_lines::Limits;
 use rt_stamps::Stamp;
 
@@ -12,7 +12,7 @@ impl SiteState {
     fn limits_by(&self, path: &str) -> Option<Limits>
         ensures { result ≡ limits_by path.now self.now }
     {
-        let at = place_of(&self.paths, path)?;
+        let at = number_of(&self.paths, path)?;
         Some(self.text.limits_at(at))
     }
 

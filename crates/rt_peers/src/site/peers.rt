@@ -3,54 +3,54 @@ ghost use Rattle.std.specs.Prelude.{◌≡◌, ◌∷◌, ◌++◌, ◌<◌, [],
 ghost use Rattle.rt_stamps.specs.Outcomes.{Answers, Refuses};
 ghost use Rattle.rt_peers.specs.Peers.{text_led};
 ghost use Rattle.rt_peers.specs.PeerStep.{Destroys, created, other_paths, path_check, peer_step, text_with_peer};
-ghost use Rattle.rt_peers.specs.SiteValue.{place_of};
+ghost use Rattle.rt_peers.specs.SiteValue.{number_of};
 
 use super::SiteState;
-use crate::paths::{other_paths, place_of};
+use crate::paths::{number_of, other_paths};
 use crate::replies::{no_words, one_word};
 use crate::reply::Reply;
 use rt_requests::{Path, PeerRequest, WidgetSettings};
 use rt_stamps::Fault;
 
 impl SiteState {
-    // Adds a new widget of a path that no widget has, which is the last one: the widget at a place makes it, with
+    // Adds a new widget of a path that no widget has, which is the last one: the widget of a number makes it, with
     // options. `BadView`, or want of memory; then the site is as it was.
     fn add_widget(
         &mut self,
-        place: usize,
+        number: usize,
         path: &str,
         settings: &WidgetSettings,
     ) -> Result<(), Fault>
-        requires place { place < length self.old.paths }
-        requires free { place_of path.now self.old.paths ≡ None }
-        ensures ok { OnOk result (text_with_peer (text_led place self.old.text) settings.now ≡ Ok (text_led place self.new.text)) }
+        requires number { number < length self.old.paths }
+        requires free { number_of path.now self.old.paths ≡ None }
+        ensures ok { OnOk result (text_with_peer (text_led number self.old.text) settings.now ≡ Ok (text_led number self.new.text)) }
         ensures path { OnOk result (self.new.paths ≡ self.old.paths ++ path.now ∷ []) }
         ensures held { self.new.held ≡ self.old.held }
-        ensures err { IfErr result (Refuses (text_with_peer (text_led place self.old.text) settings.now)) }
+        ensures err { IfErr result (Refuses (text_with_peer (text_led number self.old.text) settings.now)) }
         ensures unchanged { OnErr result (self.new ≡ self.old) }
     {
         let path = String::from_str(self.alloc, path)?;
         self.paths.reserve(1)?;
-        self.text.add_peer(place, settings)?;
+        self.text.add_peer(number, settings)?;
         self.paths.push_reserved(path);
         Ok(())
     }
 
-    // `peer create`: the widget at a place makes a new one, with options.
+    // `peer create`: the widget of a number makes a new one, with options.
     fn create(
         &mut self,
-        place: usize,
+        number: usize,
         path: &Path<'_>,
         settings: &WidgetSettings,
     ) -> Result<Reply, Fault>
-        requires { place < length self.old.paths }
-        ensures { Answers (created place path.now self.old settings.now (path_check path.now self.old.paths)) self.old result self.new }
+        requires { number < length self.old.paths }
+        ensures { Answers (created number path.now self.old settings.now (path_check path.now self.old.paths)) self.old result self.new }
     {
-        if place_of(&self.paths, path.text()).is_some() {
+        if number_of(&self.paths, path.text()).is_some() {
             return Err(Fault::WidgetExists);
         }
         let reply = one_word(self.alloc, String::from_str(self.alloc, path.text())?)?;
-        self.add_widget(place, path.text(), settings)?;
+        self.add_widget(number, path.text(), settings)?;
         Ok(reply)
     }
 
@@ -62,22 +62,22 @@ impl SiteState {
         Ok(Reply { words })
     }
 
-    // What is asked of the peers of the widget of a path, which is the one at a place (Tk text manual, "Peer widgets").
+    // What is asked of the peers of the widget of a path, which is the one of a number (Tk text manual, "Peer widgets").
     // Refused by the first of `WidgetExists` and `BadView`, or for want of memory; then the site is as it was.
     pub(super) fn peers(
         &mut self,
         path: &str,
-        place: usize,
+        number: usize,
         request: &PeerRequest<'_>,
     ) -> Result<Reply, Fault>
-        requires { place < length self.old.paths }
-        ensures { Answers (peer_step path.now place self.old request.now) self.old result self.new }
+        requires { number < length self.old.paths }
+        ensures { Answers (peer_step path.now number self.old request.now) self.old result self.new }
     {
         match request {
             PeerRequest::Create {
                 path: new,
                 settings,
-            } => self.create(place, new, settings),
+            } => self.create(number, new, settings),
             PeerRequest::Names => self.peer_names(path),
         }
     }
@@ -87,14 +87,14 @@ impl SiteState {
     pub fn destroy(&mut self, path: &str) -> Result<Reply, Fault>
         ensures { Destroys path.now self.old result self.new }
     {
-        let Some(place) = place_of(&self.paths, path) else {
+        let Some(number) = number_of(&self.paths, path) else {
             return Err(Fault::NoWidget);
         };
         if self.paths.len() == 1 {
             return Err(Fault::LastWidget);
         }
-        self.paths.remove(place);
-        self.text.remove_widget(place);
+        self.paths.remove(number);
+        self.text.remove_widget(number);
         Ok(no_words(self.alloc))
     }
 }

@@ -12,24 +12,24 @@ use rt_requests::WidgetSettings;
 use rt_stamps::Fault;
 
 impl EditedText {
-    /// Lets the widget at a place command: it and the first one change places. It takes no memory.
-    pub(crate) fn lead(&mut self, place: usize)
-        requires { place < length (widgets_of self.old.view) }
-        ensures { self.new ≡ text_led place self.old }
+    /// Lets the widget of a number command: it and the first one change places. It takes no memory.
+    pub(crate) fn lead(&mut self, number: usize)
+        requires { number < length (widgets_of self.old.view) }
+        ensures { self.new ≡ text_led number self.old }
     {
-        widgets::lead(&mut self.view, place);
+        widgets::lead(&mut self.view, number);
     }
 
-    /// The limits of the widget at a place.
-    pub(crate) fn limits_at(&self, place: usize) -> Limits
-        requires { place < length (widgets_of self.now.view) }
-        ensures { option_map (λ own. own.limits) (slice_get (widgets_of self.now.view) place) ≡ Some result }
+    /// The limits of the widget of a number.
+    pub(crate) fn limits_at(&self, number: usize) -> Limits
+        requires { number < length (widgets_of self.now.view) }
+        ensures { option_map (λ own. own.limits) (slice_get (widgets_of self.now.view) number) ≡ Some result }
     {
         let view = self.view();
-        if place == 0 {
+        if number == 0 {
             view.widget().limits()
         } else {
-            view.other_limits(place - 1)
+            view.other_limits(number - 1)
         }
     }
 
@@ -47,26 +47,26 @@ impl EditedText {
         Ok(())
     }
 
-    /// Adds a new widget behind the others, which the one at a place makes, with options. `BadView`, or want of memory, and
+    /// Adds a new widget behind the others, which the one of a number makes, with options. `BadView`, or want of memory, and
     /// then nothing changes.
-    pub(crate) fn add_peer(&mut self, place: usize, settings: &WidgetSettings) -> Result<(), Fault>
-        requires { place < length (widgets_of self.old.view) }
-        ensures ok { OnOk result (text_with_peer (text_led place self.old) settings.now ≡ Ok (text_led place self.new)) }
-        ensures err { IfErr result (Refuses (text_with_peer (text_led place self.old) settings.now)) }
+    pub(crate) fn add_peer(&mut self, number: usize, settings: &WidgetSettings) -> Result<(), Fault>
+        requires { number < length (widgets_of self.old.view) }
+        ensures ok { OnOk result (text_with_peer (text_led number self.old) settings.now ≡ Ok (text_led number self.new)) }
+        ensures err { IfErr result (Refuses (text_with_peer (text_led number self.old) settings.now)) }
         ensures unchanged { OnErr result (self.new ≡ self.old) }
     {
-        self.lead(place);
+        self.lead(number);
         let added = self.add_peer_of_first(settings);
-        self.lead(place);
+        self.lead(number);
         added
     }
 
-    /// Takes the widget at a place out, which isn't the only one. It takes no memory.
-    pub(crate) fn remove_widget(&mut self, place: usize)
-        requires there { place < length (widgets_of self.old.view) }
+    /// Takes the widget of a number out, which isn't the only one. It takes no memory.
+    pub(crate) fn remove_widget(&mut self, number: usize)
+        requires there { number < length (widgets_of self.old.view) }
         requires several { 1 < length (widgets_of self.old.view) }
-        ensures { self.new ≡ record self.old { view = view_without place self.old.view } }
+        ensures { self.new ≡ record self.old { view = view_without number self.old.view } }
     {
-        widgets::remove_at(&mut self.view, place);
+        widgets::remove_at(&mut self.view, number);
     }
 }

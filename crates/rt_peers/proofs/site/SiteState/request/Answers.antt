@@ -9,9 +9,9 @@ use Rattle.rt_peers.proofs.site.SiteState.request.Goals as goal
 pub returns-in-Peer : goal.returns-in-Peer
 returns-in-Peer c =
     rw c.in-Peer.is
-    (peers_answer c.args.path.now c.args.place c.args.self.now c.peers.new.self c.in-Peer.request c.peers.result c.peers.ensures)
+    (peers_answer c.args.path.now c.args.number c.args.self.now c.peers.new.self c.in-Peer.request c.peers.result c.peers.ensures)
 
 pub returns-in_default : goal.returns-in_default
 returns-in_default c =
     subst (λ (o : Outcome SiteValue). AnswersInTurn o c.args.self.now c.ask_text.result c.ask_text.new.self)
-    (sym (of_text c.args.path.now c.args.place c.args.self.now c.args.request.now c.in_default.not-Peer)) c.ask_text.ensures
+    (sym (of_text c.args.path.now c.args.number c.args.self.now c.args.request.now c.in_default.not-Peer)) c.ask_text.ensures
