@@ -148,8 +148,8 @@ answered outcome old new result h = tried _ old h.0 new h.2
 -- what accepts nothing when it is answered, accepts nothing
 kept_in_turn : (outcome : Outcome SiteValue) (old new : SiteValue) (result : Result (List Word) Fault) → ((mid : SiteValue) → Answers outcome old result mid → KeepsOperations old mid)
     → AnswersInTurn outcome old result new → KeepsOperations old new
-kept_in_turn outcome old new result keeps h =
-    let k = keeps h.0 h.1 in
+kept_in_turn outcome old new result each h =
+    let k = each h.0 h.1 in
     subst (KeepsOperations old) (sym (left_kept old h.0 new k h.2)) k
 
 pub settings_kept : (path : Word) (settings : WidgetSettings) (old new : SiteValue) (result : Result (List Word) Fault)

@@ -1,5 +1,5 @@
 -- Calls for which no memory was wanting have one answer, and leave one state.
-use Rattle.std.proofs.Common.{◌≡◌, ◌≢◌, ◌∙◌, ℕ, Bool, true, false, List, Ok, Err, Result, ap, inl, inr, subst, sym}
+use Rattle.std.proofs.Common.{◌≡◌, ◌≢◌, ◌∙◌, ℕ, Bool, true, false, List, Ok, Err, Result, ap, inl, inr, refl, subst, sym}
 use Rattle.std.specs.Prelude.{MatchBool}
 use Rattle.rt_stamps.specs.declared.fault.Fault.{Fault}
 use Rattle.rt_stamps.specs.declared.fault.Fault.TheVariants.{NoMemory}

@@ -12,6 +12,7 @@ pub mod index;
 mod inserting;
 mod moving;
 mod neighbours;
+mod new_text;
 mod others;
 pub mod own_mark;
 mod parts;

@@ -26,6 +26,7 @@ use crate::Widget;
 use crate::inserting::{insert_all, select_all};
 use crate::moving::{leave_all, unselect_last};
 use crate::neighbours::{left_of, shown_at, shown_before, stamp_or_root};
+use crate::new_text::NewText;
 use crate::others::{add_between, reserve_between};
 use crate::parts::Parts;
 use crate::preparing::{list_tags, make_planned};
@@ -74,96 +75,87 @@ impl<S: TextStore> Doc<S> {
         (states, Gap { after, left, right })
     }
 
-    // Plans pieces of text and characters without a list before the character at a place of the stretch that is
-    // shown.
-    fn planned_insertion(
-        &self,
-        widget: &Widget,
-        stretch: Stretch,
-        place: usize,
-        pieces: &[Piece],
-        rest: &str,
-    ) -> Result<Plan, Fault>
-        requires stretch { stretch ≡ stretch_of self.now.cells widget.now.limits }
-        requires place { place < length (shown_part self.now.cells widget.now.limits) }
+    // Plans new text.
+    fn planned_insertion(&self, widget: &Widget, text: NewText<'_>) -> Result<Plan, Fault>
+        requires stretch { text.stretch ≡ stretch_of self.now.cells widget.now.limits }
+        requires place { text.place < length (shown_part self.now.cells widget.now.limits) }
         requires order { AreInOrder self.now.cells widget.now.limits }
         ensures drafts { IfOk result (λ plan. (others : List WidgetValue)
-            → map body_of (items_in plan.drafts) ≡ drafts_at (record { doc = self.now; own = widget.now; others = others }) place pieces.now rest.now) }
+            → let view : ViewValue = record { doc = self.now; own = widget.now; others = others } in
+            map body_of (items_in plan.drafts) ≡ drafts_at view text.entry.place text.entry.pieces.now text.entry.rest.now) }
         ensures plans { IfOk result (λ plan. (others : List WidgetValue) → Plans plan widget.now.sel (selections_of others) self.now.tags
-            (insertion_at (record { doc = self.now; own = widget.now; others = others }) place pieces.now rest.now)) }
-        ensures err { IfErr result (λ fault. (fault ≡ Fault.NoMemory) ⊎ ((fault ≡ Fault.ClockSpent) × ((others : List WidgetValue) → GREATEST_COUNT
-            < (with_pieces_at (record { doc = self.now; own = widget.now; others = others }) place pieces.now rest.now).doc.count))) }
+            (insertion_at (record { doc = self.now; own = widget.now; others = others }) text.entry.place text.entry.pieces.now text.entry.rest.now)) }
+        ensures err { IfErr result (λ fault. (fault ≡ Fault.NoMemory) ⊎ ((fault ≡ Fault.ClockSpent) × ((others : List WidgetValue)
+            → let view : ViewValue = record { doc = self.now; own = widget.now; others = others } in
+            GREATEST_COUNT < (with_pieces_at view text.entry.place text.entry.pieces.now text.entry.rest.now).doc.count))) }
     {
         let site = self.replica.site();
         let count = self.replica.clock().seen();
-        let (states, gap) = self.neighbours(widget, stretch, place, pieces);
+        let (states, gap) = self.neighbours(widget, text.stretch, text.place, text.pieces);
         planned_between(
             self.alloc,
             states,
             Author { site, count },
             &widget.parts.selection,
             &gap,
-            pieces,
-            rest,
+            text.pieces,
+            text.rest,
         )
     }
 
-    // What they come to there, where it is what typing mostly comes to (`typed_between` of rt_plans); else none.
+    // What new text comes to, where that is what typing mostly comes to (`typed_between` of rt_plans); else none.
     #[inline(always)]
-    fn typed(
-        &self,
-        widget: &Widget,
-        stretch: Stretch,
-        place: usize,
-        pieces: &[Piece],
-        rest: &str,
-    ) -> Option<Typed>
-        requires stretch { stretch ≡ stretch_of self.now.cells widget.now.limits }
-        requires place { place < length (shown_part self.now.cells widget.now.limits) }
+    fn typed(&self, widget: &Widget, text: NewText<'_>) -> Option<Typed>
+        requires stretch { text.stretch ≡ stretch_of self.now.cells widget.now.limits }
+        requires place { text.place < length (shown_part self.now.cells widget.now.limits) }
         requires order { AreInOrder self.now.cells widget.now.limits }
         ensures drafts { IfSome result (λ typed. (others : List WidgetValue) →
             let view : ViewValue = record { doc = self.now; own = widget.now; others = others } in
-            drafts_at view place pieces.now rest.now ≡ one_character typed.left typed.character) }
+            drafts_at view text.entry.place text.entry.pieces.now text.entry.rest.now ≡ one_character typed.left typed.character) }
         ensures comes { IfSome result (λ typed. (others : List WidgetValue) →
             let view : ViewValue = record { doc = self.now; own = widget.now; others = others } in
-            insertion_at view place pieces.now rest.now ≡ with_typed self.now.site typed (none_inserted view)) }
+            insertion_at view text.entry.place text.entry.pieces.now text.entry.rest.now ≡ with_typed self.now.site typed (none_inserted view)) }
     {
         // What is surely more than a character, or has no left neighbour, looks nothing up; a character has at most four bytes.
-        if !pieces.is_empty() || rest.len() > 4 || place == 0 {
+        if !text.pieces.is_empty() || text.rest.len() > 4 || text.place == 0 {
             return None;
         }
         let count = self.replica.clock().seen();
-        let (states, gap) = self.neighbours(widget, stretch, place, pieces);
-        typed_between(states, count, &widget.parts.selection, &gap, pieces, rest)
+        let (states, gap) = self.neighbours(widget, text.stretch, text.place, text.pieces);
+        typed_between(
+            states,
+            count,
+            &widget.parts.selection,
+            &gap,
+            text.pieces,
+            text.rest,
+        )
     }
 
-    // Puts in a typed character, to which pieces of text and characters without a list come, that only the clauses name, at a place
-    // of the stretch that is shown.
+    // Puts in a typed character, to which new text comes: of that the place alone is read, the rest is for the clauses.
     #[inline(always)]
     fn insert_typed(
         &mut self,
         widget: &mut Widget,
         others: &mut [Parts],
-        stretch: Stretch,
-        place: usize,
-        pieces: &[Piece],
-        rest: &str,
+        text: NewText<'_>,
         typed: Typed,
     ) -> Result<(), Fault>
         requires drafts { (others : List WidgetValue) → let view : ViewValue = record { doc = self.old; own = widget.old; others = others } in
-            drafts_at view place pieces.now rest.now ≡ one_character typed.left typed.character }
+            drafts_at view text.place text.pieces.now text.rest.now ≡ one_character typed.left typed.character }
         requires comes { (others : List WidgetValue) → let view : ViewValue = record { doc = self.old; own = widget.old; others = others } in
-            insertion_at view place pieces.now rest.now ≡ with_typed self.old.site typed (none_inserted view) }
-        requires stretch { stretch ≡ stretch_of self.old.cells widget.old.limits }
-        requires place { place < length (shown_part self.old.cells widget.old.limits) }
-        requires pieces { All IsPiece pieces.now }
+            insertion_at view text.place text.pieces.now text.rest.now ≡ with_typed self.old.site typed (none_inserted view) }
+        requires stretch { text.stretch ≡ stretch_of self.old.cells widget.old.limits }
+        requires place { text.place < length (shown_part self.old.cells widget.old.limits) }
+        requires pieces { All IsPiece text.pieces.now }
         requires own { IsOwnOf (length (text_of self.old.cells)) widget.old }
         requires others { AllByRecursion (IsOwnOf (length (text_of self.old.cells))) (map own_in others.old) }
         ensures ok { let view : ViewValue = record { doc = self.old; own = widget.old; others = map own_in others.old } in
-            OnOk result (record { doc = self.new; own = widget.new; others = map own_in others.new } ≡ with_pieces_at view place pieces.now rest.now) }
+            OnOk result (record { doc = self.new; own = widget.new; others = map own_in others.new }
+            ≡ with_pieces_at view text.entry.place text.entry.pieces.now text.entry.rest.now) }
         ensures checked { OnOk result (first_of (clock_check self.new.count ∷ cell_check self.old.limit (length self.new.cells) ∷ []) ≡ None) }
         ensures err { let view : ViewValue = record { doc = self.old; own = widget.old; others = map own_in others.old } in
-            let edited = (with_pieces_at view place pieces.now rest.now).doc in
+            let edited = (with_pieces_at view text.entry.place text.entry.pieces.now text.entry.rest.now).doc in
             IfErr result (λ fault. (fault ≡ Fault.NoMemory)
             ⊎ (first_of (clock_check edited.count ∷ cell_check self.old.limit (length edited.cells) ∷ []) ≡ Some fault)) }
         ensures unchanged { OnErr result ((self.new ≡ self.old) × (widget.new ≡ widget.old) × (map own_in others.new ≡ map own_in others.old)) }
@@ -172,7 +164,7 @@ impl<S: TextStore> Doc<S> {
     {
         // For its clauses alone: they say where the place lies.
         let _ = self.kept();
-        let at = stretch.begin + place;
+        let at = text.stretch.begin + text.place;
         let stamp = Stamp {
             count: self.replica.clock().seen() + 1,
             site: self.replica.site().number(),
@@ -184,32 +176,30 @@ impl<S: TextStore> Doc<S> {
         Ok(())
     }
 
-    // Carries out a plan for pieces of text and characters without a list, which only the clauses name, at a place of the stretch
-    // that is shown.
+    // Carries out a plan for new text: of that the place alone is read, the rest is for the clauses.
     fn insert_planned(
         &mut self,
         widget: &mut Widget,
         others: &mut [Parts],
-        stretch: Stretch,
-        place: usize,
-        pieces: &[Piece],
-        rest: &str,
+        text: NewText<'_>,
         plan: Plan,
     ) -> Result<(), Fault>
         requires drafts { (others : List WidgetValue)
-            → map body_of (items_in plan.drafts) ≡ drafts_at (record { doc = self.old; own = widget.old; others = others }) place pieces.now rest.now }
+            → let view : ViewValue = record { doc = self.old; own = widget.old; others = others } in
+            map body_of (items_in plan.drafts) ≡ drafts_at view text.place text.pieces.now text.rest.now }
         requires plans { (others : List WidgetValue) → Plans plan widget.old.sel (selections_of others) self.old.tags
-            (insertion_at (record { doc = self.old; own = widget.old; others = others }) place pieces.now rest.now) }
-        requires stretch { stretch ≡ stretch_of self.old.cells widget.old.limits }
-        requires place { place < length (shown_part self.old.cells widget.old.limits) }
-        requires pieces { All IsPiece pieces.now }
+            (insertion_at (record { doc = self.old; own = widget.old; others = others }) text.place text.pieces.now text.rest.now) }
+        requires stretch { text.stretch ≡ stretch_of self.old.cells widget.old.limits }
+        requires place { text.place < length (shown_part self.old.cells widget.old.limits) }
+        requires pieces { All IsPiece text.pieces.now }
         requires own { IsOwnOf (length (text_of self.old.cells)) widget.old }
         requires others { AllByRecursion (IsOwnOf (length (text_of self.old.cells))) (map own_in others.old) }
         ensures ok { let view : ViewValue = record { doc = self.old; own = widget.old; others = map own_in others.old } in
-            OnOk result (record { doc = self.new; own = widget.new; others = map own_in others.new } ≡ with_pieces_at view place pieces.now rest.now) }
+            OnOk result (record { doc = self.new; own = widget.new; others = map own_in others.new }
+            ≡ with_pieces_at view text.entry.place text.entry.pieces.now text.entry.rest.now) }
         ensures checked { OnOk result (first_of (clock_check self.new.count ∷ cell_check self.old.limit (length self.new.cells) ∷ []) ≡ None) }
         ensures err { let view : ViewValue = record { doc = self.old; own = widget.old; others = map own_in others.old } in
-            let edited = (with_pieces_at view place pieces.now rest.now).doc in
+            let edited = (with_pieces_at view text.entry.place text.entry.pieces.now text.entry.rest.now).doc in
             IfErr result (λ fault. (fault ≡ Fault.NoMemory)
             ⊎ (first_of (clock_check edited.count ∷ cell_check self.old.limit (length edited.cells) ∷ []) ≡ Some fault)) }
         ensures unchanged { OnErr result ((self.new ≡ self.old) × (widget.new ≡ widget.old) × (map own_in others.new ≡ map own_in others.old)) }
@@ -219,7 +209,7 @@ impl<S: TextStore> Doc<S> {
         let mut plan = plan;
         // For its clauses alone: they say where the place lies.
         let _ = self.kept();
-        let at = stretch.begin + place;
+        let at = text.stretch.begin + text.place;
         let drafts = replace(&mut plan.drafts, OneOrMany::none(self.alloc));
         make_planned(
             &mut self.replica,
@@ -240,71 +230,67 @@ impl<S: TextStore> Doc<S> {
         Ok(())
     }
 
-    // Puts them in by a plan of pieces of any number, where typing isn't all: a function of its own, out of typing's way.
+    // Puts in new text by a plan of pieces of any number, where typing isn't all: a function of its own, out of typing's way.
     #[inline(never)]
     fn insert_pieces(
         &mut self,
         widget: &mut Widget,
         others: &mut [Parts],
-        stretch: Stretch,
-        place: usize,
-        pieces: &[Piece],
-        rest: &str,
+        text: NewText<'_>,
     ) -> Result<(), Fault>
-        requires stretch { stretch ≡ stretch_of self.old.cells widget.old.limits }
-        requires place { place < length (shown_part self.old.cells widget.old.limits) }
+        requires stretch { text.stretch ≡ stretch_of self.old.cells widget.old.limits }
+        requires place { text.place < length (shown_part self.old.cells widget.old.limits) }
         requires order { AreInOrder self.old.cells widget.old.limits }
-        requires pieces { All IsPiece pieces.now }
+        requires pieces { All IsPiece text.pieces.now }
         requires own { IsOwnOf (length (text_of self.old.cells)) widget.old }
         requires others { AllByRecursion (IsOwnOf (length (text_of self.old.cells))) (map own_in others.old) }
         ensures ok { let view : ViewValue = record { doc = self.old; own = widget.old; others = map own_in others.old } in
-            OnOk result (record { doc = self.new; own = widget.new; others = map own_in others.new } ≡ with_pieces_at view place pieces.now rest.now) }
+            OnOk result (record { doc = self.new; own = widget.new; others = map own_in others.new }
+            ≡ with_pieces_at view text.entry.place text.entry.pieces.now text.entry.rest.now) }
         ensures checked { OnOk result (first_of (clock_check self.new.count ∷ cell_check self.old.limit (length self.new.cells) ∷ []) ≡ None) }
         ensures err { let view : ViewValue = record { doc = self.old; own = widget.old; others = map own_in others.old } in
-            let edited = (with_pieces_at view place pieces.now rest.now).doc in
+            let edited = (with_pieces_at view text.entry.place text.entry.pieces.now text.entry.rest.now).doc in
             IfErr result (λ fault. (fault ≡ Fault.NoMemory)
             ⊎ (first_of (clock_check edited.count ∷ cell_check self.old.limit (length edited.cells) ∷ []) ≡ Some fault)) }
         ensures unchanged { OnErr result ((self.new ≡ self.old) × (widget.new ≡ widget.old) × (map own_in others.new ≡ map own_in others.old)) }
         ensures own { IsOwnOf (length (text_of self.new.cells)) widget.new }
         ensures others { AllByRecursion (IsOwnOf (length (text_of self.new.cells))) (map own_in others.new) }
     {
-        match self.planned_insertion(widget, stretch, place, pieces, rest) {
-            Ok(plan) => self.insert_planned(widget, others, stretch, place, pieces, rest, plan),
+        match self.planned_insertion(widget, text) {
+            Ok(plan) => self.insert_planned(widget, others, text, plan),
             Err(fault) => Err(fault),
         }
     }
 
-    // Puts pieces of text and characters without a list before the character at a place of the stretch that is shown.
+    // Puts in new text.
     #[inline(always)]
     pub(crate) fn insert_at(
         &mut self,
         widget: &mut Widget,
         others: &mut [Parts],
-        stretch: Stretch,
-        place: usize,
-        pieces: &[Piece],
-        rest: &str,
+        text: NewText<'_>,
     ) -> Result<(), Fault>
-        requires stretch { stretch ≡ stretch_of self.old.cells widget.old.limits }
-        requires place { place < length (shown_part self.old.cells widget.old.limits) }
+        requires stretch { text.stretch ≡ stretch_of self.old.cells widget.old.limits }
+        requires place { text.place < length (shown_part self.old.cells widget.old.limits) }
         requires order { AreInOrder self.old.cells widget.old.limits }
-        requires pieces { All IsPiece pieces.now }
+        requires pieces { All IsPiece text.pieces.now }
         requires own { IsOwnOf (length (text_of self.old.cells)) widget.old }
         requires others { AllByRecursion (IsOwnOf (length (text_of self.old.cells))) (map own_in others.old) }
         ensures ok { let view : ViewValue = record { doc = self.old; own = widget.old; others = map own_in others.old } in
-            OnOk result (record { doc = self.new; own = widget.new; others = map own_in others.new } ≡ with_pieces_at view place pieces.now rest.now) }
+            OnOk result (record { doc = self.new; own = widget.new; others = map own_in others.new }
+            ≡ with_pieces_at view text.entry.place text.entry.pieces.now text.entry.rest.now) }
         ensures checked { OnOk result (first_of (clock_check self.new.count ∷ cell_check self.old.limit (length self.new.cells) ∷ []) ≡ None) }
         ensures err { let view : ViewValue = record { doc = self.old; own = widget.old; others = map own_in others.old } in
-            let edited = (with_pieces_at view place pieces.now rest.now).doc in
+            let edited = (with_pieces_at view text.entry.place text.entry.pieces.now text.entry.rest.now).doc in
             IfErr result (λ fault. (fault ≡ Fault.NoMemory)
             ⊎ (first_of (clock_check edited.count ∷ cell_check self.old.limit (length edited.cells) ∷ []) ≡ Some fault)) }
         ensures unchanged { OnErr result ((self.new ≡ self.old) × (widget.new ≡ widget.old) × (map own_in others.new ≡ map own_in others.old)) }
         ensures own { IsOwnOf (length (text_of self.new.cells)) widget.new }
         ensures others { AllByRecursion (IsOwnOf (length (text_of self.new.cells))) (map own_in others.new) }
     {
-        match self.typed(widget, stretch, place, pieces, rest) {
-            Some(typed) => self.insert_typed(widget, others, stretch, place, pieces, rest, typed),
-            None => self.insert_pieces(widget, others, stretch, place, pieces, rest),
+        match self.typed(widget, text) {
+            Some(typed) => self.insert_typed(widget, others, text, typed),
+            None => self.insert_pieces(widget, others, text),
         }
     }
 

@@ -5,6 +5,7 @@ ghost use Rattle.rt_stamps.specs.Words.{as_words};
 ghost use Rattle.rt_text.specs.Commands.{inserted, deleted};
 
 use super::View;
+use crate::new_text::NewText;
 use crate::preparing::check_names;
 use rt_plans::Piece;
 use rt_stamps::Fault;
@@ -31,14 +32,13 @@ impl<S: TextStore> View<S> {
         // For its clauses alone.
         let _ = self.doc.kept();
         self.doc.focus(stretch.begin + place);
-        let done = self.doc.insert_at(
-            &mut self.widget,
-            &mut self.others,
+        let text = NewText {
             stretch,
             place,
             pieces,
             rest,
-        );
+        };
+        let done = self.doc.insert_at(&mut self.widget, &mut self.others, text);
         // For its clauses alone.
         let _ = self.doc.log();
         done

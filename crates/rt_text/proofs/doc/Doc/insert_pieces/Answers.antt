@@ -23,7 +23,7 @@ pub returns-in-Err : goal.returns-in-Err
 returns-in-Err g c = record {
   ok = tt;
   checked = tt;
-  err = spent c.args.self.now (λ (o : List WidgetValue). with_pieces_at (record { doc = c.args.self.now; own = c.args.widget.now; others = o }) c.args.place c.args.pieces.now c.args.rest.now)
+  err = spent c.args.self.now (λ (o : List WidgetValue). with_pieces_at (record { doc = c.args.self.now; own = c.args.widget.now; others = o }) c.args.text.place c.args.text.pieces.now c.args.text.rest.now)
       (map own_in c.args.others.now) c.in-Err.fault c.in-Err.ensures.err;
   unchanged = (refl, refl, refl);
   own = c.requires.own;

@@ -3,6 +3,7 @@ use Rattle.rt_stamps.specs.declared.stamp.Stamp.{Stamp}
 use Rattle.std.proofs.Common.{◌≡◌, ◌∙◌, ◌≤◌, ◌+◌, ◌^◌, ◌-◌, All, ◌⊎◌, ap, inl, inr, length, map, refl, string_bytes, subst, sym, List, true}
 use Rattle.std.specs.List.{AllByRecursion}
 use Rattle.std.proofs.lemmas.Result.{err_from_is_err_and}
+use Rattle.std.proofs.lemmas.Str.{IsUtf8-from_is_utf8}
 use Rattle.rt_marks.specs.Marks.{mark_inserted, marks_inserted}
 use Rattle.rt_ops.specs.Edits.{body_of}
 use Rattle.rt_stamps.specs.Outcomes.{first_of}
@@ -43,11 +44,11 @@ overflow_add-at g c =
     let flat = c.args.self.now in
     let own = c.args.widget.now in
     let others = map own_in c.args.others.now in
-    let place = c.args.place in
+    let place = c.args.text.place in
     let table = c.kept.result.1.now in
     let kept = g.S.TextStore.list c.kept.result.0.now in
     let is = place_is flat own others place c.kept.ensures.history c.kept.ensures.document c.kept.ensures.site c.requires.place in
-    visible_fits (c.args.stretch.begin + place) (in_text (viewed flat own others) place) (length (visible_of flat.cells)) (length (visible_of kept)) (length (text_of kept)) (length kept) flat.limit
+    visible_fits (c.args.text.stretch.begin + place) (in_text (viewed flat own others) place) (length (visible_of flat.cells)) (length (visible_of kept)) (length (text_of kept)) (length kept) flat.limit
     (ap (λ (y : Stretch). y.begin + place) c.requires.stretch)
     (at_visible flat own others place is) (visible_same table kept flat.cells c.kept.ensures.cells) (length_text kept) (text_within kept) c.kept.ensures.few c.kept.ensures.most
 
@@ -56,9 +57,9 @@ make_planned-requires-clause-names g c =
     let flat = c.args.self.now in
     let own = c.args.widget.now in
     let others = map own_in c.args.others.now in
-    let pieces = c.args.pieces.now in
-    let rest = c.args.rest.now in
-    let place = c.args.place in
+    let pieces = c.args.text.pieces.now in
+    let rest = c.args.text.rest.now in
+    let place = c.args.text.place in
     let is = place_is flat own others place c.kept.ensures.history c.kept.ensures.document c.kept.ensures.site c.requires.place in
     let plans : Plans c.args.plan own.sel (selections_of others) flat.tags (made_new flat own others place pieces rest) =
     c.requires.plans others in
@@ -70,14 +71,14 @@ make_planned-requires-clause-may g c =
     let flat = c.args.self.now in
     let own = c.args.widget.now in
     let others = map own_in c.args.others.now in
-    let pieces = c.args.pieces.now in
-    let rest = c.args.rest.now in
-    let place = c.args.place in
+    let pieces = c.args.text.pieces.now in
+    let rest = c.args.text.rest.now in
+    let place = c.args.text.place in
     let is = place_is flat own others place c.kept.ensures.history c.kept.ensures.document c.kept.ensures.site c.requires.place in
     let drafts : map body_of (items_in c.replace-drafts.result) ≡ made_drafts flat own others place pieces rest =
     ap (λ few. map body_of (items_in few)) c.replace-drafts.ensures.value ∙ c.requires.drafts others in
     let may : MayBeMade flat.site flat.log (made_drafts flat own others place pieces rest) =
-    may_make flat own others place pieces rest is c.requires.pieces c.utf8.rest in
+    may_make flat own others place pieces rest is c.requires.pieces (IsUtf8-from_is_utf8 c.args.text.rest.now c.args.text.utf8) in
     subst (λ (p : _). p) (λ i. MayBeMade (sym c.self.view_is i).site (sym c.self.view_is i).log (sym drafts i)) may
 
 pub invariant_of-self : goal.invariant_of-self
@@ -89,9 +90,9 @@ returns-in_err-make_planned g c =
     let flat = c.args.self.now in
     let own = c.args.widget.now in
     let others = map own_in c.args.others.now in
-    let pieces = c.args.pieces.now in
-    let rest = c.args.rest.now in
-    let place = c.args.place in
+    let pieces = c.args.text.pieces.now in
+    let rest = c.args.text.rest.now in
+    let place = c.args.text.place in
     let is = place_is flat own others place c.kept.ensures.history c.kept.ensures.document c.kept.ensures.site c.requires.place in
     let drafts : map body_of (items_in c.replace-drafts.result) ≡ made_drafts flat own others place pieces rest =
     ap (λ few. map body_of (items_in few)) c.replace-drafts.ensures.value ∙ c.requires.drafts others in
@@ -118,9 +119,9 @@ insert_all-requires g c =
     let flat = c.args.self.now in
     let own = c.args.widget.now in
     let others = map own_in c.args.others.now in
-    let pieces = c.args.pieces.now in
-    let rest = c.args.rest.now in
-    let place = c.args.place in
+    let pieces = c.args.text.pieces.now in
+    let rest = c.args.text.rest.now in
+    let place = c.args.text.place in
     let is = place_is flat own others place c.kept.ensures.history c.kept.ensures.document c.kept.ensures.site c.requires.place in
     let drafts : map body_of (items_in c.replace-drafts.result) ≡ made_drafts flat own others place pieces rest =
     ap (λ few. map body_of (items_in few)) c.replace-drafts.ensures.value ∙ c.requires.drafts others in
@@ -148,9 +149,9 @@ list_tags-requires-clause-names g c =
     let flat = c.args.self.now in
     let own = c.args.widget.now in
     let others = map own_in c.args.others.now in
-    let pieces = c.args.pieces.now in
-    let rest = c.args.rest.now in
-    let place = c.args.place in
+    let pieces = c.args.text.pieces.now in
+    let rest = c.args.text.rest.now in
+    let place = c.args.text.place in
     let is = place_is flat own others place c.kept.ensures.history c.kept.ensures.document c.kept.ensures.site c.requires.place in
     let plans : Plans c.args.plan own.sel (selections_of others) flat.tags (made_new flat own others place pieces rest) =
     c.requires.plans others in
@@ -163,10 +164,10 @@ invariant_of-self-2 g c =
     let flat = c.args.self.now in
     let own = c.args.widget.now in
     let others = map own_in c.args.others.now in
-    let pieces = c.args.pieces.now in
-    let rest = c.args.rest.now in
-    let place = c.args.place in
-    let at = c.args.stretch.begin + place in
+    let pieces = c.args.text.pieces.now in
+    let rest = c.args.text.rest.now in
+    let place = c.args.text.place in
+    let at = c.args.text.stretch.begin + place in
     let point = in_text (viewed flat own others) place in
     let here : at ≡ point =
     ap (λ (y : Stretch). y.begin + place) c.requires.stretch in
@@ -181,7 +182,7 @@ invariant_of-self-2 g c =
     let edited = made_flat flat own others place pieces rest in
     let bodies = made_drafts flat own others place pieces rest in
     let log : c.make_planned.new.replica.log ≡ with_drafts flat.site bodies flat.log = c.in_ok-make_planned.ensures.log ∙ (λ i. with_drafts (c.self.view_is i).site (drafts i) (c.self.view_is i).log) in
-    let made = made_is flat own others place pieces rest is c.requires.pieces c.utf8.rest fit.0 in
+    let made = made_is flat own others place pieces rest is c.requires.pieces (IsUtf8-from_is_utf8 c.args.text.rest.now c.args.text.utf8) fit.0 in
     let doc : seen c.make_planned.new.replica edited.marks edited.tags ≡ logged flat bodies edited =
     seen_made flat edited bodies c.make_planned.new.replica log c.in_ok-make_planned.ensures.cells (c.make_planned.ensures.site ∙ ap (λ (f : DocValue). f.site) c.self.view_is) (c.make_planned.ensures.limit ∙ ap (λ (f : DocValue). f.limit) c.self.view_is) refl made in
     let marks : c.insert_all.new.marks ≡ edited.marks = c.insert_all.ensures.marks ∙ (λ i. marks_inserted (here i) (plans.characters i) (c.self.view_is i).marks) in
@@ -195,10 +196,10 @@ returns g c =
     let flat = c.args.self.now in
     let own = c.args.widget.now in
     let others = map own_in c.args.others.now in
-    let pieces = c.args.pieces.now in
-    let rest = c.args.rest.now in
-    let place = c.args.place in
-    let at = c.args.stretch.begin + place in
+    let pieces = c.args.text.pieces.now in
+    let rest = c.args.text.rest.now in
+    let place = c.args.text.place in
+    let at = c.args.text.stretch.begin + place in
     let point = in_text (viewed flat own others) place in
     let here : at ≡ point =
     ap (λ (y : Stretch). y.begin + place) c.requires.stretch in
@@ -214,7 +215,7 @@ returns g c =
     let edited = made_flat flat own others place pieces rest in
     let bodies = made_drafts flat own others place pieces rest in
     let log : c.make_planned.new.replica.log ≡ with_drafts flat.site bodies flat.log = c.in_ok-make_planned.ensures.log ∙ (λ i. with_drafts (c.self.view_is i).site (drafts i) (c.self.view_is i).log) in
-    let made = made_is flat own others place pieces rest is c.requires.pieces c.utf8.rest fit.0 in
+    let made = made_is flat own others place pieces rest is c.requires.pieces (IsUtf8-from_is_utf8 c.args.text.rest.now c.args.text.utf8) fit.0 in
     let doc : seen c.make_planned.new.replica edited.marks edited.tags ≡ logged flat bodies edited =
     seen_made flat edited bodies c.make_planned.new.replica log c.in_ok-make_planned.ensures.cells (c.make_planned.ensures.site ∙ ap (λ (f : DocValue). f.site) c.self.view_is) (c.make_planned.ensures.limit ∙ ap (λ (f : DocValue). f.limit) c.self.view_is) refl made in
     let marks : c.insert_all.new.marks ≡ edited.marks = c.insert_all.ensures.marks ∙ (λ i. marks_inserted (here i) (plans.characters i) (c.self.view_is i).marks) in

@@ -3,6 +3,7 @@ use Rattle.rt_text.proofs.Room.{before_fits, grown_fits, mark_fits, visible_fits
 use Rattle.rt_stamps.specs.declared.stamp.Stamp.{Stamp}
 use Rattle.std.specs.List.{AllByRecursion}
 use Rattle.std.proofs.lemmas.Result.{err_from_is_err_and}
+use Rattle.std.proofs.lemmas.Str.{IsUtf8-from_is_utf8}
 use Rattle.rt_marks.specs.Marks.{marks_inserted}
 use Rattle.rt_stamps.specs.Outcomes.{first_of}
 use Rattle.rt_store.specs.Cells.{text_of, visible_of}
@@ -37,11 +38,11 @@ overflow_add-at g c =
     let flat = c.args.self.now in
     let own = c.args.widget.now in
     let others = map own_in c.args.others.now in
-    let place = c.args.place in
+    let place = c.args.text.place in
     let table = c.kept.result.1.now in
     let kept = g.S.TextStore.list c.kept.result.0.now in
     let is = place_is flat own others place c.kept.ensures.history c.kept.ensures.document c.kept.ensures.site c.requires.place in
-    visible_fits (c.args.stretch.begin + place) (in_text (viewed flat own others) place) (length (visible_of flat.cells)) (length (visible_of kept)) (length (text_of kept)) (length kept) flat.limit
+    visible_fits (c.args.text.stretch.begin + place) (in_text (viewed flat own others) place) (length (visible_of flat.cells)) (length (visible_of kept)) (length (text_of kept)) (length kept) flat.limit
     (ap (λ (y : Stretch). y.begin + place) c.requires.stretch)
     (at_visible flat own others place is) (visible_same table kept flat.cells c.kept.ensures.cells) (length_text kept) (text_within kept) c.kept.ensures.few c.kept.ensures.most
 
@@ -50,11 +51,11 @@ commit_character-requires g c =
     let flat = c.args.self.now in
     let own = c.args.widget.now in
     let others = map own_in c.args.others.now in
-    let pieces = c.args.pieces.now in
-    let rest = c.args.rest.now in
-    let place = c.args.place in
+    let pieces = c.args.text.pieces.now in
+    let rest = c.args.text.rest.now in
+    let place = c.args.text.place in
     let is = place_is flat own others place c.kept.ensures.history c.kept.ensures.document c.kept.ensures.site c.requires.place in
-    let may : MayBeMade flat.site flat.log (made_drafts flat own others place pieces rest) = may_make flat own others place pieces rest is c.requires.pieces c.utf8.rest in
+    let may : MayBeMade flat.site flat.log (made_drafts flat own others place pieces rest) = may_make flat own others place pieces rest is c.requires.pieces (IsUtf8-from_is_utf8 c.args.text.rest.now c.args.text.utf8) in
     subst (λ (p : _). p) (λ i. MayBeMade (sym c.self.view_is i).site (sym c.self.view_is i).log (c.requires.drafts others i)) may
 
 pub returns-in_err-commit_character : goal.returns-in_err-commit_character
@@ -62,9 +63,9 @@ returns-in_err-commit_character g c =
     let flat = c.args.self.now in
     let own = c.args.widget.now in
     let others = map own_in c.args.others.now in
-    let pieces = c.args.pieces.now in
-    let rest = c.args.rest.now in
-    let place = c.args.place in
+    let pieces = c.args.text.pieces.now in
+    let rest = c.args.text.rest.now in
+    let place = c.args.text.place in
     let typed = c.args.typed in
     let is = place_is flat own others place c.kept.ensures.history c.kept.ensures.document c.kept.ensures.site c.requires.place in
     let same : refusal_of c.self.inside.replica.limit (one_character typed.left typed.character) c.self.inside.replica.log ≡ first_of (late_checks flat (with_pieces_at (viewed flat own others) place pieces rest)) =
@@ -86,9 +87,9 @@ insert_all-requires g c =
     let flat = c.args.self.now in
     let own = c.args.widget.now in
     let others = map own_in c.args.others.now in
-    let pieces = c.args.pieces.now in
-    let rest = c.args.rest.now in
-    let place = c.args.place in
+    let pieces = c.args.text.pieces.now in
+    let rest = c.args.text.rest.now in
+    let place = c.args.text.place in
     let typed = c.args.typed in
     let is = place_is flat own others place c.kept.ensures.history c.kept.ensures.document c.kept.ensures.site c.requires.place in
     let one : 1 ≡ length (made_new flat own others place pieces rest).cells = sym (ap (λ (new : Insertion). length new.cells) (c.requires.comes others)) in
@@ -111,10 +112,10 @@ invariant_of-self-2 g c =
     let flat = c.args.self.now in
     let own = c.args.widget.now in
     let others = map own_in c.args.others.now in
-    let pieces = c.args.pieces.now in
-    let rest = c.args.rest.now in
-    let place = c.args.place in
-    let here : c.args.stretch.begin + place ≡ in_text (viewed flat own others) place = ap (λ (y : Stretch). y.begin + place) c.requires.stretch in
+    let pieces = c.args.text.pieces.now in
+    let rest = c.args.text.rest.now in
+    let place = c.args.text.place in
+    let here : c.args.text.stretch.begin + place ≡ in_text (viewed flat own others) place = ap (λ (y : Stretch). y.begin + place) c.requires.stretch in
     let is = place_is flat own others place c.kept.ensures.history c.kept.ensures.document c.kept.ensures.site c.requires.place in
     let comes = c.requires.comes others in
     let fit = all_fit flat own others place pieces rest is
@@ -123,7 +124,7 @@ invariant_of-self-2 g c =
     let bodies = made_drafts flat own others place pieces rest in
     let log : c.commit_character.new.self.log ≡ with_drafts flat.site bodies flat.log =
     c.in_ok-commit_character.ensures.makes.log ∙ (λ i. with_drafts (c.self.view_is i).site (sym (c.requires.drafts others) i) (c.self.view_is i).log) in
-    let made = made_is flat own others place pieces rest is c.requires.pieces c.utf8.rest fit.0 in
+    let made = made_is flat own others place pieces rest is c.requires.pieces (IsUtf8-from_is_utf8 c.args.text.rest.now c.args.text.utf8) fit.0 in
     let doc : seen c.commit_character.new.self edited.marks edited.tags ≡ logged flat bodies edited =
     seen_made flat edited bodies c.commit_character.new.self log c.in_ok-commit_character.ensures.makes.cells (c.commit_character.ensures.makes.site ∙ ap (λ (f : DocValue). f.site) c.self.view_is) (c.commit_character.ensures.makes.limit ∙ ap (λ (f : DocValue). f.limit) c.self.view_is) refl made in
     let marks : c.insert_all.new.marks ≡ edited.marks = c.insert_all.ensures.marks ∙ (λ i. marks_inserted (here i) (length (sym comes i).cells) (c.self.view_is i).marks) in
@@ -136,11 +137,11 @@ returns g c =
     let flat = c.args.self.now in
     let own = c.args.widget.now in
     let others = map own_in c.args.others.now in
-    let pieces = c.args.pieces.now in
-    let rest = c.args.rest.now in
-    let place = c.args.place in
+    let pieces = c.args.text.pieces.now in
+    let rest = c.args.text.rest.now in
+    let place = c.args.text.place in
     let typed = c.args.typed in
-    let at = c.args.stretch.begin + place in
+    let at = c.args.text.stretch.begin + place in
     let point = in_text (viewed flat own others) place in
     let here : at ≡ point = ap (λ (y : Stretch). y.begin + place) c.requires.stretch in
     let is = place_is flat own others place c.kept.ensures.history c.kept.ensures.document c.kept.ensures.site c.requires.place in
@@ -154,7 +155,7 @@ returns g c =
     let bodies = made_drafts flat own others place pieces rest in
     let log : c.commit_character.new.self.log ≡ with_drafts flat.site bodies flat.log =
     c.in_ok-commit_character.ensures.makes.log ∙ (λ i. with_drafts (c.self.view_is i).site (sym (c.requires.drafts others) i) (c.self.view_is i).log) in
-    let made = made_is flat own others place pieces rest is c.requires.pieces c.utf8.rest fit.0 in
+    let made = made_is flat own others place pieces rest is c.requires.pieces (IsUtf8-from_is_utf8 c.args.text.rest.now c.args.text.utf8) fit.0 in
     let doc : seen c.commit_character.new.self edited.marks edited.tags ≡ logged flat bodies edited =
     seen_made flat edited bodies c.commit_character.new.self log c.in_ok-commit_character.ensures.makes.cells (c.commit_character.ensures.makes.site ∙ ap (λ (f : DocValue). f.site) c.self.view_is) (c.commit_character.ensures.makes.limit ∙ ap (λ (f : DocValue). f.limit) c.self.view_is) refl made in
     let marks : c.insert_all.new.marks ≡ edited.marks = c.insert_all.ensures.marks ∙ (λ i. marks_inserted (here i) (length (sym comes i).cells) (c.self.view_is i).marks) in

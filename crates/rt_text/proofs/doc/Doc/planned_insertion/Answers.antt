@@ -27,9 +27,9 @@ returns-clause-drafts g c =
     let sel = ap (λ (o : WidgetValue). o.sel) c.widget.view_is in
     IfOk-weaker c.planned_between.result _ _
     (λ plan h others. h stamps (selections_of others) c.args.self.now.tags (any_some gap.right (stamps ≡ stamps) refl)
-    ∙ begun (λ s start. insertion_drafts MOST_CHARACTERS s gap.after (option_map (shown states.now) gap.left) (option_map (shown states.now) gap.right) c.args.pieces.now c.args.rest.now start)
+    ∙ begun (λ s start. insertion_drafts MOST_CHARACTERS s gap.after (option_map (shown states.now) gap.left) (option_map (shown states.now) gap.right) c.args.text.pieces.now c.args.text.rest.now start)
     c.site-site.result.number c.seen-count.result stamps (viewed c.args.self.now c.args.widget.now others) site count sel
-    ∙ c.neighbours-gap.ensures.drafts others c.args.rest.now)
+    ∙ c.neighbours-gap.ensures.drafts others c.args.text.rest.now)
     c.planned_between.ensures.drafts
 
 pub returns-clause-plans : goal.returns-clause-plans
@@ -42,9 +42,9 @@ returns-clause-plans g c =
     let tags = c.args.self.now.tags in
     IfOk-weaker c.planned_between.result _ _
     (λ plan h others.
-    let same = begun (λ s start. insertion_of s (option_map (shown states.now) gap.left) (option_map (shown states.now) gap.right) c.args.pieces.now c.args.rest.now start)
+    let same = begun (λ s start. insertion_of s (option_map (shown states.now) gap.left) (option_map (shown states.now) gap.right) c.args.text.pieces.now c.args.text.rest.now start)
     c.site-site.result.number c.seen-count.result stamps (viewed c.args.self.now c.args.widget.now others) site count sel
-    ∙ c.neighbours-gap.ensures.comes others c.args.rest.now in
+    ∙ c.neighbours-gap.ensures.comes others c.args.text.rest.now in
     subst (λ (p : _). p) (λ i. Plans plan (sel i) (selections_of others) tags (same i)) (h stamps (selections_of others) tags (any_some gap.right (stamps ≡ stamps) refl)))
     c.planned_between.ensures.plans
 
@@ -59,9 +59,9 @@ returns-clause-err g c =
     (λ fault h. either (λ q. (
       q.0,
       λ others.
-          let same = begun (λ s start. insertion_of s (option_map (shown states.now) gap.left) (option_map (shown states.now) gap.right) c.args.pieces.now c.args.rest.now start)
+          let same = begun (λ s start. insertion_of s (option_map (shown states.now) gap.left) (option_map (shown states.now) gap.right) c.args.text.pieces.now c.args.text.rest.now start)
           c.site-site.result.number c.seen-count.result stamps (viewed c.args.self.now c.args.widget.now others) site count sel
-          ∙ c.neighbours-gap.ensures.comes others c.args.rest.now in
+          ∙ c.neighbours-gap.ensures.comes others c.args.text.rest.now in
           subst (λ (new : Insertion). GREATEST_COUNT < new.count) same
           (q.1 stamps (selections_of others) c.args.self.now.tags (any_some gap.right (stamps ≡ stamps) refl)),
     )) h)

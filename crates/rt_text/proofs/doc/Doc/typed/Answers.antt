@@ -22,7 +22,7 @@ returns-clause-comes g c =
     IfSome_then c.typed_between.result c.typed_between.ensures.comes
     (λ typed h others.
     let view = viewed flat c.args.widget.now others in
-    sym (begun (λ s start. insertion_of s (option_map (shown states.now) gap.left) (option_map (shown states.now) gap.right) c.args.pieces.now c.args.rest.now start) flat.site seen stamps view refl count sel
-    ∙ c.neighbours-gap.ensures.comes others c.args.rest.now)
+    sym (begun (λ s start. insertion_of s (option_map (shown states.now) gap.left) (option_map (shown states.now) gap.right) c.args.text.pieces.now c.args.text.rest.now start) flat.site seen stamps view refl count sel
+    ∙ c.neighbours-gap.ensures.comes others c.args.text.rest.now)
     ∙ h flat.site (selections_of others) flat.tags
     ∙ begun (λ s start. with_typed s typed start) flat.site seen stamps view refl count sel)

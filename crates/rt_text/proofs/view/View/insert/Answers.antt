@@ -5,6 +5,7 @@ use Rattle.std.specs.Prelude.{IfErr}
 use Rattle.std.specs.Vec.{with_items}
 use Rattle.std.proofs.lemmas.List.{length-map, with_items_is}
 use Rattle.std.proofs.lemmas.Result.{err_from_is_err_and, on_err_weaker, on_ok_weaker}
+use Rattle.std.proofs.lemmas.Str.{is_utf8-from_IsUtf8}
 use Rattle.rt_stamps.specs.declared.fault.Fault.TheVariants.{NoMemory}
 use Rattle.rt_stamps.specs.Outcomes.{first_of}
 use Rattle.rt_store.specs.Cells.{text_of}
@@ -97,6 +98,9 @@ returns-clause-unchanged g c =
     on_err_weaker c.insert_at-done.result
     (λ kept. ap (λ l. viewed c.insert_at-done.new.self c.insert_at-done.new.widget (map own_in l)) back ∙ (λ i. viewed (kept.0 i) (kept.1 i) (kept.2 i)) ∙ same)
     c.insert_at-done.ensures.unchanged
+
+pub invariant_of-text : goal.invariant_of-text
+invariant_of-text g c = record { utf8 = is_utf8-from_IsUtf8 c.args.rest.now c.utf8.rest }
 
 pub invariant_of-self : goal.invariant_of-self
 invariant_of-self g c =
