@@ -91,8 +91,8 @@ abbrev pub tag_ranges : ViewValue → Word → Result (List Position) Fault
 tag_ranges view name = unless (name_check name) (range_ends view (tagged_ranges view name))
 
 -- a name, an index and perhaps another one
-abbrev pub search_check : ViewValue → Word → Word → Option Word → Option Fault
-search_check view name index other = first_of (name_check name ∷ map (index_check (widget_of view)) (index ∷ option_to_list other))
+abbrev pub range_check : ViewValue → Word → Word → Option Word → Option Fault
+range_check view name index other = first_of (name_check name ∷ map (index_check (widget_of view)) (index ∷ option_to_list other))
 
 -- tag nextrange NAME INDEX ?INDEX?: the first range that begins at the first index or later, and before the second, which is
 -- the text's end where it isn't given
@@ -100,7 +100,7 @@ abbrev pub tag_nextrange : ViewValue → Word → Word → Option Word → Resul
 tag_nextrange view name from to =
     let w = widget_of view in
     let end = option_map_or (place_at_index w) to (length_shown view) in
-    unless (search_check view name from to)
+    unless (range_check view name from to)
     (range_ends view (option_to_list (next_range (place_at_index w from) end (tagged_ranges view name))))
 
 -- tag prevrange NAME INDEX ?INDEX?: the last range that begins before the first index, and at the second or later, which is the
@@ -109,5 +109,5 @@ abbrev pub tag_prevrange : ViewValue → Word → Word → Option Word → Resul
 tag_prevrange view name to from =
     let w = widget_of view in
     let start = option_map_or (place_at_index w) from 0 in
-    unless (search_check view name to from)
+    unless (range_check view name to from)
     (range_ends view (option_to_list (previous_range (place_at_index w to) start (tagged_ranges view name))))
