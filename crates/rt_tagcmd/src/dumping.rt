@@ -9,8 +9,8 @@ ghost use Rattle.rt_text.specs.Widgets.{length_shown, text_shown, widget_of};
 
 use crate::borders::borders;
 use crate::dumped_marks::push_marks;
+use crate::element_order::sort;
 use crate::placed::Placed;
-use crate::sorting::sort;
 use crate::stretch::Stretch;
 use crate::texts::texts_in;
 use crate::{Element, shown};

@@ -1,7 +1,7 @@
 use Rattle.std.proofs.Common.{rules}
 use Rattle.std.proofs.lemmas.List.Sorted.{IsNonDecreasingBy-from_sort_by_key, answers_always}
 use Rattle.rt_tagcmd.proofs.Placing.{same_at}
-use Rattle.rt_tagcmd.proofs.sorting.sort.Goals as goal
+use Rattle.rt_tagcmd.proofs.element_order.sort.Goals as goal
 
 pub returns-clause-ok : goal.returns-clause-ok
 returns-clause-ok c = record {
