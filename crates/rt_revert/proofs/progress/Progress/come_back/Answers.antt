@@ -12,5 +12,5 @@ pub returns-clause-offsets : goal.returns-clause-offsets
 returns-clause-offsets c s =
     let kept = c.reserve-2.new.self in
     set_offset kept c.set.new.self c.args.newer (offset_behind c.args.self.now.offsets c.args.former)
-    (λ t. c.set.ensures.values t ∙ (λ i. cond (is_in_span (c.span_of.ensures i) t) (Some (c.offset_behind-offset.ensures i)) (value_of kept t))) s
+    (λ t. c.set.ensures.values t ∙ (λ i. cond (is_in_span (c.of-2.ensures i) t) (Some (c.offset_behind-offset.ensures i)) (value_of kept t))) s
     ∙ ap (λ n. cond (is_same s c.args.newer) (offset_behind c.args.self.now.offsets c.args.former) n) (offset_kept c.args.self.now.offsets kept c.in_ok-reserve-2.ensures.values s)
