@@ -1,4 +1,4 @@
-use Rattle.std.proofs.Common.{Ok, inl, refl, sym}
+use Rattle.std.proofs.Common.{◌∙◌, Ok, inl, refl, sym}
 use Rattle.std.proofs.lemmas.Result.{err_from_is_err_and}
 use Rattle.rt_peers.proofs.commands.tagging.all_tags.Goals as goal
 
