@@ -1,3 +1,4 @@
+use Rattle.std.proofs.Common.{refl}
 use Rattle.rt_tagcmd.specs.MarkCommands.{mark_gravity_set}
 use Rattle.rt_peers.proofs.Steps.{changed_exactly}
 use Rattle.rt_peers.proofs.commands.marking.set_gravity.Goals as goal

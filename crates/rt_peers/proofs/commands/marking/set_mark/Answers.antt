@@ -1,3 +1,4 @@
+use Rattle.std.proofs.Common.{refl}
 use Rattle.rt_tagcmd.specs.MarkCommands.{mark_set}
 use Rattle.rt_peers.proofs.Steps.{changed_answers}
 use Rattle.rt_peers.proofs.commands.marking.set_mark.Goals as goal

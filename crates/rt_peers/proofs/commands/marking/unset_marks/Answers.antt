@@ -1,3 +1,4 @@
+use Rattle.std.proofs.Common.{refl}
 use Rattle.rt_tagcmd.specs.MarkCommands.{mark_unset}
 use Rattle.rt_peers.proofs.Steps.{changed_exactly}
 use Rattle.rt_peers.proofs.commands.marking.unset_marks.Goals as goal

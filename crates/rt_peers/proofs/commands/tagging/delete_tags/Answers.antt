@@ -1,3 +1,4 @@
+use Rattle.std.proofs.Common.{refl}
 use Rattle.rt_tagcmd.specs.TagCommands.{tags_deleted}
 use Rattle.rt_peers.proofs.Steps.{changed_answers}
 use Rattle.rt_peers.proofs.commands.tagging.delete_tags.Goals as goal

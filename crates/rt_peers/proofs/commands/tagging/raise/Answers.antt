@@ -1,3 +1,4 @@
+use Rattle.std.proofs.Common.{refl}
 use Rattle.rt_tagcmd.specs.TagCommands.{tag_raised}
 use Rattle.rt_peers.proofs.Steps.{changed_exactly}
 use Rattle.rt_peers.proofs.commands.tagging.raise.Goals as goal
