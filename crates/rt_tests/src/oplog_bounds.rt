@@ -122,10 +122,10 @@ fn a_bound_on_bytes(rt: HostRuntime) {
 }
 
 /// The size of pieces, and with how many reads the first eight bytes, the first record and the second have come.
-type Bounds = (usize, usize, usize, usize);
+type Allowed = (usize, usize, usize, usize);
 
 // A field of `n` bytes comes in `n` by the size, rounded up: 8; 4 and 32; 4 and 41.
-const READS: &[Bounds] = &[
+const READS: &[Allowed] = &[
     (1, 8, 44, 89),
     (2, 4, 22, 45),
     (3, 3, 16, 32),
@@ -139,7 +139,7 @@ const READS: &[Bounds] = &[
 ];
 
 // What so many reads give. One more than the second record takes finds the end.
-fn after(count: usize, row: &Bounds) -> Found {
+fn after(count: usize, row: &Allowed) -> Found {
     let (_, head, first, second) = *row;
     if count < head {
         (0, Some((Fault::ReadFault, 0)))
@@ -155,7 +155,7 @@ fn after(count: usize, row: &Bounds) -> Found {
 }
 
 // The bound on bytes is that of the file itself.
-fn reads_are_bounded(rt: &impl Abort, alloc: Global, row: &Bounds) {
+fn reads_are_bounded(rt: &impl Abort, alloc: Global, row: &Allowed) {
     let (size, _, _, _) = *row;
     for count in 0..92 {
         let bounds = Bounds {
