@@ -1,9 +1,8 @@
 -- A document after a replacement, which its replica made.
-use Rattle.std.proofs.Common.{◌≡◌, ◌∙◌, ℕ, ◌+◌, ◌-◌, ◌^◌, ◌<◌, ◌≤◌, ◌++◌, All, IsUtf8, List, [], ◌∷◌, cond, min, None, Some, Option, length, map, refl, string_bytes, sym, ap, arith, subst}
-use Rattle.std.specs.Prelude.{is_some, nat_lt}
+use Rattle.std.proofs.Common.{◌≡◌, ◌∙◌, ℕ, ◌+◌, ◌-◌, ◌^◌, ◌<◌, ◌≤◌, ◌++◌, All, IsUtf8, List, [], ◌∷◌, min, None, Option, length, map, refl, string_bytes, sym, ap, arith, subst}
+use Rattle.std.specs.Prelude.{is_some}
 use Rattle.std.specs.List.{AllByRecursion}
 use Rattle.rt_stamps.specs.declared.fault.Fault.{Fault}
-use Rattle.rt_stamps.specs.declared.fault.Fault.TheVariants.{ClockSpent, TextFull}
 use Rattle.rt_stamps.specs.declared.limits.TheConstants.{GREATEST_COUNT, MOST_CELLS, MOST_SPANS}
 use Rattle.rt_stamps.specs.Outcomes.{first_of}
 use Rattle.rt_stamps.specs.Words.{Word}
@@ -51,7 +50,7 @@ use Rattle.rt_text.proofs.StayingPlaces.{left_small}
 use Rattle.rt_text.proofs.ViewLaws.{viewed}
 
 abbrev refusal_by : ℕ → ℕ → ℕ → Option Fault
-refusal_by limit count cells = cond (nat_lt GREATEST_COUNT count) (Some ClockSpent) (cond (nat_lt limit cells) (Some TextFull) None)
+refusal_by limit count cells = first_of (clock_check count ∷ cell_check limit cells ∷ [])
 
 -- operations behind others that insert nothing are refused as upon the larger log
 pub refused_behind : (limit site : ℕ) (deletes more : List Body) (log : List Operation) → characters_in_all deletes ≡ 0 → length (cells_of (with_drafts site deletes log)) ≡ length (cells_of log)
