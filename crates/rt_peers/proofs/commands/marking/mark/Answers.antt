@@ -13,7 +13,7 @@ pub returns-in-SetGravity : goal.returns-in-SetGravity
 returns-in-SetGravity c = rw c.in-SetGravity.is c.set_gravity.ensures
 
 pub returns-in-Names : goal.returns-in-Names
-returns-in-Names c = rw c.in-Names.is c.mark_names.ensures
+returns-in-Names c = rw c.in-Names.is c.all_marks.ensures
 
 pub returns-in-Next : goal.returns-in-Next
 returns-in-Next c = rw c.in-Next.is c.next_mark.ensures
