@@ -51,7 +51,7 @@ returns-in-Dump c =
 pub returns-in-Get : goal.returns-in-Get
 returns-in-Get c =
     rw c.in-Get.is
-    (told_to c.args.self.now c.self-in-Get.inside.view c.self-in-Get.inside.recorder c.self-in-Get.view_is
+    (told_to c.args.self.now c.self.inside.view c.self.inside.recorder c.self.view_is
     (λ view. get_step view (all_of c.in-Get.indices)) c.get.result c.get.ensures)
 
 pub returns-in-Mark : goal.returns-in-Mark
