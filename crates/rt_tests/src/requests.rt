@@ -49,11 +49,14 @@ fn words_that_are_parsed(rt: HostRuntime) -> Result<(), Fail> {
     Ok(())
 }
 
-// Limits are options of a widget, and not of the commands that all widgets share.
+// Limits are read as the other options of a widget are.
 #[test]
-fn limits_are_refused(rt: HostRuntime) -> Result<(), Fail> {
-    let words = words(rt.alloc(), "configure -startline 2")?;
-    let refused = Request::of(rt.alloc(), &words).err();
+fn limits_are_read(rt: HostRuntime) -> Result<(), Fail> {
+    let limits = words(rt.alloc(), "configure -startline 2")?;
+    let taken = Request::of(rt.alloc(), &limits).err();
+    same(&rt, taken, None);
+    let others = words(rt.alloc(), "configure -startline two")?;
+    let refused = Request::of(rt.alloc(), &others).err();
     same(&rt, refused, Some(Fault::BadOption));
     Ok(())
 }
