@@ -6,14 +6,14 @@ use Rattle.rt_stamps.specs.declared.stamp.Stamp.{Stamp}
 use Rattle.rt_plans.specs.declared.inserting.Between.{Between}
 use Rattle.rt_plans.specs.InsertionPlans.{selected_between}
 use Rattle.rt_plans.proofs.SelectionLaws.{same_here}
-use Rattle.rt_text.specs.declared.parts.Parts.{Parts}
-use Rattle.rt_text.specs.Parts.{own_in}
+use Rattle.rt_text.specs.declared.widget.Widget.{Widget}
+use Rattle.rt_text.specs.Owned.{own_of}
 use Rattle.rt_text.specs.Widgets.{IsOwnOf, WidgetValue, own_inserted, own_left, reselected, selections_of, with_selections}
 use Rattle.rt_text.proofs.MarkLaws.{own_of_selecting}
 
 -- what a loop hasn't reached yet is as it was
-pub rest_same : (xs ys : List Parts) (i : ℕ) (d : Parts) → i < length xs → length ys ≡ length xs → drop i ys ≡ drop i xs → get_or ys i d ≡ get_or xs i d
-rest_same xs ys i d lt len rest = same_here (λ (p : Parts). p) xs ys i d lt len rest
+pub rest_same : (xs ys : List Widget) (i : ℕ) (d : Widget) → i < length xs → length ys ≡ length xs → drop i ys ≡ drop i xs → get_or ys i d ≡ get_or xs i d
+rest_same xs ys i d lt len rest = same_here (λ (p : Widget). p) xs ys i d lt len rest
 
 -- what is so of each is so of each that a rule makes of them
 pub each_by : (P Q : WidgetValue → Type 0) (rule : WidgetValue → WidgetValue) → ((own : WidgetValue) → P own → Q (rule own)) → (widgets : List WidgetValue) → AllByRecursion P widgets → AllByRecursion Q (map rule widgets)
@@ -27,11 +27,11 @@ each_selecting n [] (own ∷ widgets) h = h
 each_selecting n (selection ∷ selections) (own ∷ widgets) h = (own_of_selecting n own selection h.0, each_selecting n selections widgets h.1)
 
 -- there is room for places further on
-pub each_room : (n k most : ℕ) (others : List Parts) → n + k ≤ most → AllByRecursion (IsOwnOf n) (map own_in others)
-    → All (λ (p : Parts). (p.insert.place + k ≤ most) × (p.current.place + k ≤ most)) others
-each_room n k most [] f h = All-nil (λ (p : Parts). (p.insert.place + k ≤ most) × (p.current.place + k ≤ most))
+pub each_room : (n k most : ℕ) (others : List Widget) → n + k ≤ most → AllByRecursion (IsOwnOf n) (map own_of others)
+    → All (λ (p : Widget). (p.insert.place + k ≤ most) × (p.current.place + k ≤ most)) others
+each_room n k most [] f h = All-nil (λ (p : Widget). (p.insert.place + k ≤ most) × (p.current.place + k ≤ most))
 each_room n k most (p ∷ others) f h =
-    All-cons (λ (p : Parts). (p.insert.place + k ≤ most) × (p.current.place + k ≤ most)) p others (omega (arith, f, h.0.insert), omega (arith, f, h.0.current)) (each_room n k most others f h.1)
+    All-cons (λ (p : Widget). (p.insert.place + k ≤ most) × (p.current.place + k ≤ most)) p others (omega (arith, f, h.0.insert), omega (arith, f, h.0.current)) (each_room n k most others f h.1)
 
 -- SELECTIONS
 

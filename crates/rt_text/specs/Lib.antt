@@ -4,13 +4,14 @@ pub mod Commands
 pub mod Comparisons
 pub mod Cursors
 pub mod Distances
+pub mod Editing
 pub mod Grounds
 pub mod Index
 pub mod Kept
 pub mod Limited
 pub mod Lines
 pub mod Neighbours
-pub mod Parts
+pub mod Owned
 pub mod Proper
 pub mod Ranges
 pub mod Replacements

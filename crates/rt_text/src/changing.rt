@@ -3,12 +3,11 @@ ghost use Rattle.std.specs.Prelude.{◌≡◌, ◌+◌, ◌≤◌, All, length, 
 ghost use Rattle.std.specs.List.{AllByRecursion};
 ghost use Rattle.rt_revert.specs.Plans.{IsChange, marks_after, marks_changed};
 ghost use Rattle.rt_text.specs.Changes.{own_after, own_changed, own_renamed};
-ghost use Rattle.rt_text.specs.Parts.{own_in};
+ghost use Rattle.rt_text.specs.Owned.{own_of};
 
 use crate::Widget;
 use crate::moving::move_back;
 use crate::others::revert_each;
-use crate::parts::Parts;
 use rt_marks::Marks;
 use rt_revert::{Return, TextChange};
 
@@ -35,13 +34,13 @@ fn move_for_all(marks: &mut Marks, changes: &[TextChange])
     }
 }
 
-impl Parts {
+impl Widget {
     // Moves its marks for a change of the text.
     fn change(&mut self, change: &TextChange)
         requires change { IsChange change.now }
         requires insert { self.old.insert.place + 1 ≤ usize.MAX }
         requires current { self.old.current.place + 1 ≤ usize.MAX }
-        ensures { own_in self.new ≡ own_changed change.now (own_in self.old) }
+        ensures { own_of self.new ≡ own_changed change.now (own_of self.old) }
     {
         match change {
             TextChange::Removed(ranges) => self.leave(ranges),
@@ -54,7 +53,7 @@ impl Parts {
         requires changes { AllByRecursion IsChange changes.now }
         requires insert { self.old.insert.place + length changes.now ≤ usize.MAX }
         requires current { self.old.current.place + length changes.now ≤ usize.MAX }
-        ensures { own_in self.new ≡ own_after changes.now (own_in self.old) }
+        ensures { own_of self.new ≡ own_after changes.now (own_of self.old) }
     {
         for change in changes {
             self.change(change);
@@ -63,7 +62,7 @@ impl Parts {
 
     // Has its limits follow characters that came back. It takes no memory.
     fn rename(&mut self, returns: &[Return])
-        ensures { own_in self.new ≡ own_renamed returns.now (own_in self.old) }
+        ensures { own_of self.new ≡ own_renamed returns.now (own_of self.old) }
     {
         for r in returns {
             self.limits = self.limits.renamed(r.former, r.newer);
@@ -76,7 +75,7 @@ impl Parts {
         requires changes { AllByRecursion IsChange changes.now }
         requires insert { self.old.insert.place + length changes.now ≤ usize.MAX }
         requires current { self.old.current.place + length changes.now ≤ usize.MAX }
-        ensures { own_in self.new ≡ own_renamed returns.now (own_after changes.now (own_in self.old)) }
+        ensures { own_of self.new ≡ own_renamed returns.now (own_after changes.now (own_of self.old)) }
     {
         self.change_all(changes);
         self.rename(returns);
@@ -88,7 +87,7 @@ impl Parts {
 pub(crate) fn revert_all(
     marks: &mut Marks,
     widget: &mut Widget,
-    others: &mut [Parts],
+    others: &mut [Widget],
     changes: &[TextChange],
     returns: &[Return],
 )
@@ -96,11 +95,11 @@ pub(crate) fn revert_all(
     requires marks { AllByRecursion (λ m. m.place + length changes.now ≤ usize.MAX) marks.old }
     requires insert { widget.old.insert.place + length changes.now ≤ usize.MAX }
     requires current { widget.old.current.place + length changes.now ≤ usize.MAX }
-    requires others { All (λ parts. (parts.insert.place + length changes.now ≤ usize.MAX)
-        × (parts.current.place + length changes.now ≤ usize.MAX)) others.old }
+    requires others { All (λ other. (other.insert.place + length changes.now ≤ usize.MAX)
+        × (other.current.place + length changes.now ≤ usize.MAX)) others.old }
     ensures marks { marks.new ≡ marks_after changes.now marks.old }
-    ensures own { widget.new ≡ own_renamed returns.now (own_after changes.now widget.old) }
-    ensures others { map own_in others.new ≡ map (λ own. own_renamed returns.now (own_after changes.now own)) (map own_in others.old) }
+    ensures own { own_of widget.new ≡ own_renamed returns.now (own_after changes.now (own_of widget.old)) }
+    ensures others { map own_of others.new ≡ map (λ own. own_renamed returns.now (own_after changes.now own)) (map own_of others.old) }
 {
     move_for_all(marks, changes);
     widget.revert(changes, returns);

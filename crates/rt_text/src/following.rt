@@ -6,10 +6,10 @@ ghost use Rattle.rt_tags.specs.Tags.{is_listed, is_ready};
 ghost use Rattle.rt_ops.specs.Edits.{body_of};
 ghost use Rattle.rt_ops.specs.Rules.{keeps_rules};
 ghost use Rattle.rt_rga.specs.Taken.{AreFallingRuns, is_in_runs, lists_of};
-ghost use Rattle.rt_text.specs.Parts.{own_in};
+ghost use Rattle.rt_text.specs.Owned.{own_of};
 ghost use Rattle.rt_text.specs.Widgets.{own_inserted, own_left};
 
-use crate::parts::Parts;
+use crate::Widget;
 use crate::preparing::prepare_tags;
 use rt_marks::Marks;
 use rt_oplog::Edit;
@@ -56,14 +56,14 @@ pub(crate) fn follow(marks: &mut Marks, change: &Change)
     }
 }
 
-impl Parts {
+impl Widget {
     /// Moves its marks for a change of the text that an accepted operation told. The runs are those
     /// of a text before the operation, the last one first. It takes no memory.
     pub(crate) fn follow(&mut self, change: &Change)
         requires runs { (end : ℕ) × AreFallingRuns end change.now.removed.items }
         requires insert { self.old.insert.place + change.now.inserted ≤ usize.MAX }
         requires current { self.old.current.place + change.now.inserted ≤ usize.MAX }
-        ensures { own_in self.new ≡ own_left (is_in_runs change.now.removed.items) (own_inserted change.now.place change.now.inserted (own_in self.old)) }
+        ensures { own_of self.new ≡ own_left (is_in_runs change.now.removed.items) (own_inserted change.now.place change.now.inserted (own_of self.old)) }
     {
         self.inserted(change.place, change.inserted);
         for run in &change.removed {

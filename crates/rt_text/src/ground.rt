@@ -6,6 +6,7 @@ ghost use Rattle.rt_stamps.specs.Places.{line_of};
 ghost use Rattle.rt_store.specs.Cells.{text_of};
 ghost use Rattle.rt_plans.specs.Listed.{AreListed};
 ghost use Rattle.rt_store.specs.Shown.{shown};
+ghost use Rattle.rt_text.specs.Owned.{own_of};
 ghost use Rattle.rt_text.specs.Lines.{AreLines};
 
 use crate::characters::{last_within, next_within};
@@ -44,7 +45,7 @@ impl<'a, S: TextStore> Ground for WidgetGround<'a, S> {
     ghost use Rattle.std.specs.Prelude.{map};
     ghost use Rattle.rt_store.specs.Shown.{shown};
 
-    ghost widget = { λ g. widget_over g.stretch (map (shown g.states.now) (S.list g.store.now)) g.marks.now g.tags.now.names g.widget.now };
+    ghost widget = { λ g. widget_over g.stretch (map (shown g.states.now) (S.list g.store.now)) g.marks.now g.tags.now.names (own_of g.widget.now) };
 
     fn len(&self) -> usize {
         self.stretch.end - self.stretch.begin
@@ -95,7 +96,7 @@ impl<'a, S: TextStore> Ground for WidgetGround<'a, S> {
         next_within(
             store,
             states,
-            &widget.parts.selection,
+            &widget.selection,
             name,
             true,
             self.stretch,
@@ -109,10 +110,10 @@ impl<'a, S: TextStore> Ground for WidgetGround<'a, S> {
         }
         let widget = self.widget;
         let (store, states) = self.doc.kept();
-        let last = last_within(store, states, &widget.parts.selection, name, self.stretch)?;
+        let last = last_within(store, states, &widget.selection, name, self.stretch)?;
         Some(last + 1)
     }
 
-    ghost proper = { λ g. proper_over g.stretch (map (shown g.states.now) (S.list g.store.now)) g.marks.now g.tags.now.names g.widget.now
+    ghost proper = { λ g. proper_over g.stretch (map (shown g.states.now) (S.list g.store.now)) g.marks.now g.tags.now.names (own_of g.widget.now)
         g.lines g.few g.names g.listed };
 }

@@ -5,12 +5,11 @@ ghost use Rattle.rt_marks.specs.Marks.{marks_inserted};
 ghost use Rattle.rt_plans.specs.InsertionPlans.{selected_between};
 ghost use Rattle.rt_plans.specs.Selected.{room_in, selected_stamps};
 ghost use Rattle.rt_plans.specs.Selections.{with_stamps};
-ghost use Rattle.rt_text.specs.Parts.{HaveRoomFor, own_in};
+ghost use Rattle.rt_text.specs.Owned.{HaveRoomFor, own_of};
 ghost use Rattle.rt_text.specs.Widgets.{own_inserted, reselected};
 
 use crate::Widget;
 use crate::others::insert_each;
-use crate::parts::Parts;
 use crate::preparing::select_between;
 use rt_marks::Marks;
 use rt_plans::Selection;
@@ -22,14 +21,14 @@ use rt_stamps::Stamp;
 #[inline(always)]
 pub(crate) fn select_all(
     selection: &mut Selection,
-    others: &mut [Parts],
+    others: &mut [Widget],
     selected: &[Stamp],
     between: &Option<Between>,
 )
     requires selected { length selected.now ≤ room_in selection.old }
     requires between { HaveRoomFor between.now others.old }
     ensures selection { selected_stamps selection.new ≡ with_stamps selected.now (selected_stamps selection.old) }
-    ensures others { map own_in others.new ≡ map (reselected (selected_between between.now)) (map own_in others.old) }
+    ensures others { map own_of others.new ≡ map (reselected (selected_between between.now)) (map own_of others.old) }
 {
     selection.add(selected);
     select_between(others, between);
@@ -41,17 +40,17 @@ pub(crate) fn select_all(
 pub(crate) fn insert_all(
     marks: &mut Marks,
     widget: &mut Widget,
-    others: &mut [Parts],
+    others: &mut [Widget],
     place: usize,
     n: usize,
 )
     requires marks { AllByRecursion (λ m. m.place + n ≤ usize.MAX) marks.old }
     requires insert { widget.old.insert.place + n ≤ usize.MAX }
     requires current { widget.old.current.place + n ≤ usize.MAX }
-    requires others { All (λ parts. (parts.insert.place + n ≤ usize.MAX) × (parts.current.place + n ≤ usize.MAX)) others.old }
+    requires others { All (λ other. (other.insert.place + n ≤ usize.MAX) × (other.current.place + n ≤ usize.MAX)) others.old }
     ensures marks { marks.new ≡ marks_inserted place n marks.old }
-    ensures own { widget.new ≡ own_inserted place n widget.old }
-    ensures others { map own_in others.new ≡ map (own_inserted place n) (map own_in others.old) }
+    ensures own { own_of widget.new ≡ own_inserted place n (own_of widget.old) }
+    ensures others { map own_of others.new ≡ map (own_inserted place n) (map own_of others.old) }
 {
     marks.inserted(place, n);
     widget.inserted(place, n);

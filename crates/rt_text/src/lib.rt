@@ -15,7 +15,6 @@ mod neighbours;
 mod new_text;
 mod others;
 pub mod own_mark;
-mod parts;
 mod preparing;
 pub mod range;
 pub mod reverted;

@@ -4,12 +4,11 @@ ghost use Rattle.rt_marks.specs.Marks.{marks_left};
 ghost use Rattle.rt_plans.specs.Removals.{is_covered, AreInOrder};
 ghost use Rattle.rt_plans.specs.Selected.{room_in, selected_stamps};
 ghost use Rattle.rt_plans.specs.Selections.{unselected};
-ghost use Rattle.rt_text.specs.Parts.{own_in};
+ghost use Rattle.rt_text.specs.Owned.{own_of};
 ghost use Rattle.rt_text.specs.Widgets.{own_left, reselected};
 
 use crate::Widget;
 use crate::others::{leave_each, remove_from_each};
-use crate::parts::Parts;
 use rt_marks::Marks;
 use rt_plans::{Range, Selection};
 use rt_stamps::Stamp;
@@ -29,11 +28,11 @@ pub(crate) fn move_back(marks: &mut Marks, removed: &[Range])
     }
 }
 
-impl Parts {
+impl Widget {
     /// Moves its marks for ranges that are removed, the last range first.
     pub(crate) fn leave(&mut self, removed: &[Range])
         requires { AreInOrder 0 removed.now }
-        ensures { own_in self.new ≡ own_left (is_covered removed.now) (own_in self.old) }
+        ensures { own_of self.new ≡ own_left (is_covered removed.now) (own_of self.old) }
     {
         let mut i = removed.len();
         while i > 0 {
@@ -48,13 +47,13 @@ impl Parts {
 pub(crate) fn leave_all(
     marks: &mut Marks,
     widget: &mut Widget,
-    others: &mut [Parts],
+    others: &mut [Widget],
     removed: &[Range],
 )
     requires { AreInOrder 0 removed.now }
     ensures marks { marks.new ≡ marks_left (is_covered removed.now) marks.old }
-    ensures own { widget.new ≡ own_left (is_covered removed.now) widget.old }
-    ensures others { map own_in others.new ≡ map (own_left (is_covered removed.now)) (map own_in others.old) }
+    ensures own { own_of widget.new ≡ own_left (is_covered removed.now) (own_of widget.old) }
+    ensures others { map own_of others.new ≡ map (own_left (is_covered removed.now)) (map own_of others.old) }
 {
     move_back(marks, removed);
     widget.leave(removed);
@@ -63,10 +62,10 @@ pub(crate) fn leave_all(
 
 /// Takes the last newline out of a widget's selection and out of those of others, where a deletion
 /// holds it. It takes no memory.
-pub(crate) fn unselect(held: bool, last: Stamp, selection: &mut Selection, others: &mut [Parts])
+pub(crate) fn unselect(held: bool, last: Stamp, selection: &mut Selection, others: &mut [Widget])
     ensures sel { selected_stamps selection.new ≡ (if held then unselected (last ∷ []) (selected_stamps selection.old) else selected_stamps selection.old) }
-    ensures others { map own_in others.new
-        ≡ map (reselected (λ sel. if held then unselected (last ∷ []) sel else sel)) (map own_in others.old) }
+    ensures others { map own_of others.new
+        ≡ map (reselected (λ sel. if held then unselected (last ∷ []) sel else sel)) (map own_of others.old) }
     ensures room { room_in selection.old ≤ room_in selection.new }
     ensures kept { held ≡ false → others.new ≡ others.old }
 {
@@ -77,10 +76,10 @@ pub(crate) fn unselect(held: bool, last: Stamp, selection: &mut Selection, other
 }
 
 /// What `unselect` does, for a widget and the others.
-pub(crate) fn unselect_last(held: bool, last: Stamp, widget: &mut Widget, others: &mut [Parts])
-    ensures own { widget.new ≡ record widget.old { sel = if held then unselected (last ∷ []) widget.old.sel else widget.old.sel } }
-    ensures others { map own_in others.new
-        ≡ map (reselected (λ sel. if held then unselected (last ∷ []) sel else sel)) (map own_in others.old) }
+pub(crate) fn unselect_last(held: bool, last: Stamp, widget: &mut Widget, others: &mut [Widget])
+    ensures own { own_of widget.new ≡ reselected (λ sel. if held then unselected (last ∷ []) sel else sel) (own_of widget.old) }
+    ensures others { map own_of others.new
+        ≡ map (reselected (λ sel. if held then unselected (last ∷ []) sel else sel)) (map own_of others.old) }
 {
-    unselect(held, last, &mut widget.parts.selection, others);
+    unselect(held, last, &mut widget.selection, others);
 }

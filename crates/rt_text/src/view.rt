@@ -19,12 +19,12 @@ mod replacing;
 mod reverting;
 mod tagging;
 
-use crate::parts::Parts;
 use crate::{Doc, Widget};
 use rt_stamps::{Fault, Site};
 use rt_store::TextStore;
 use std::alloc::Global;
 use std::marker::Model;
+use std::mem::swap;
 
 /// A document as one of its site's widgets shows it: what the commands of that widget work on. It keeps
 /// the site's other widgets too, in order: each edit moves their marks and their selections follow.
@@ -32,7 +32,7 @@ pub struct View<S: TextStore> {
     alloc: Global,
     doc: Doc<S>,
     widget: Widget,
-    others: Vec<Parts>,
+    others: Vec<Widget>,
 }
 
 // Written out, so that where it is let go is one step for the crates above, and not one for each
@@ -50,14 +50,14 @@ impl<S: TextStore> Drop for View<S> {
 
 impl<S: TextStore> Model for View<S> {
     ghost use Rattle.std.specs.Prelude.{map};
-    ghost use Rattle.rt_text.specs.Parts.{own_in};
+    ghost use Rattle.rt_text.specs.Owned.{own_of, view_of};
     ghost use Rattle.rt_text.specs.Widgets.{AreWidgetsOf, ViewValue};
 
     ghost Value = { ViewValue };
 
-    ghost view = { λ v. record { doc = v.doc; own = v.widget; others = map own_in v.others.items } };
+    ghost view = { λ v. view_of v.doc v.widget v.others.items };
 
-    ghost invariant = { λ v. AreWidgetsOf v.doc.cells v.widget (map own_in v.others.items) };
+    ghost invariant = { λ v. AreWidgetsOf v.doc.cells (own_of v.widget) (map own_of v.others.items) };
 }
 
 impl<S: TextStore> View<S> {
@@ -88,7 +88,7 @@ impl<S: TextStore> View<S> {
     /// The widget. The limits of each widget of the site are none or newlines of the text, gone or not, that at the start
     /// before the one at the end.
     pub fn widget(&self) -> &Widget
-        ensures own { result.now ≡ self.now.own }
+        ensures own { own_of result.now ≡ self.now.own }
         ensures stands { IsOwnOf (length (text_of self.now.doc.cells)) self.now.own }
         ensures limits { AllByRecursion (AreInOrder self.now.doc.cells) (limits_of self.now) }
     {
@@ -111,7 +111,7 @@ impl<S: TextStore> View<S> {
         ensures others { self.new.others ≡ set self.old.others other self.old.own }
         ensures doc { self.new.doc ≡ self.old.doc }
     {
-        self.widget.exchange(&mut self.others[other]);
+        swap(&mut self.widget, &mut self.others[other]);
     }
 
     /// Takes one of the other widgets away; those behind it move up by one. It takes no memory.

@@ -1,5 +1,5 @@
 // Insertions and removals.
-ghost use Rattle.std.specs.Prelude.{◌≡◌, ◌⊎◌, All, List, ◌<◌, ◌∷◌, [], None, Some, IfErr, IfOk, IfSome, OnOk, OnErr, length, map, option_map};
+ghost use Rattle.std.specs.Prelude.{◌≡◌, ◌⊎◌, All, List, ◌<◌, None, Some, IfErr, IfOk, IfSome, length, map, option_map};
 ghost use Rattle.rt_ops.specs.Edits.{body_of};
 ghost use Rattle.rt_stamps.specs.declared.limits.TheConstants.{GREATEST_COUNT, MOST_CHARACTERS};
 ghost use Rattle.rt_stamps.specs.Words.{Word};
@@ -11,12 +11,12 @@ ghost use Rattle.rt_plans.specs.Insertions.{insertion_of};
 ghost use Rattle.rt_rga.specs.Drafts.{one_character};
 ghost use Rattle.rt_rga.specs.OneOrMany.{items_in};
 ghost use Rattle.rt_text.specs.Replacements.{drafts_at, insertion_at};
-ghost use Rattle.rt_stamps.specs.Outcomes.{first_of};
-ghost use Rattle.rt_store.specs.Cells.{text_of, visible_of};
+ghost use Rattle.rt_store.specs.Cells.{text_of};
 ghost use Rattle.rt_text.specs.Widgets.{IsOwnOf, WidgetValue, ViewValue, selections_of};
-ghost use Rattle.rt_text.specs.Commands.{cell_check, clock_check, none_inserted, with_pieces_at, without_ranges};
+ghost use Rattle.rt_text.specs.Commands.{none_inserted, with_pieces_at, without_ranges};
 ghost use Rattle.rt_plans.specs.DeletionLaws.{IsPiece};
-ghost use Rattle.rt_text.specs.Parts.{own_in};
+ghost use Rattle.rt_text.specs.Editing.{IsEdit, count_check, late_check};
+ghost use Rattle.rt_text.specs.Owned.{own_of, view_of};
 ghost use Rattle.std.specs.List.{AllByRecursion};
 ghost use Rattle.rt_lines.specs.Ordered.{AreInOrder};
 ghost use Rattle.rt_lines.specs.Stretches.{shown_part, stretch_of};
@@ -28,7 +28,6 @@ use crate::moving::{leave_all, unselect_last};
 use crate::neighbours::{left_of, shown_at, shown_before, stamp_or_root};
 use crate::new_text::NewText;
 use crate::others::{add_between, reserve_between};
-use crate::parts::Parts;
 use crate::preparing::{list_tags, make_planned};
 use rt_lines::Stretch;
 use rt_plans::drafting::planned_deletion;
@@ -58,11 +57,13 @@ impl<S: TextStore> Doc<S> {
         ensures left { IfSome result.1.left (λ cell. IsState result.0.now cell.state) }
         ensures right { IfSome result.1.right (λ cell. IsState result.0.now cell.state) }
         ensures after { IfSome result.1.left (λ cell. result.1.after ≡ cell.stamp) }
-        ensures drafts { (others : List WidgetValue) (rest : Word) → let view : ViewValue = record { doc = self.now; own = widget.now; others = others } in
+        ensures drafts { (others : List WidgetValue) (rest : Word)
+            → let view : ViewValue = record { doc = self.now; own = own_of widget.now; others = others } in
             insertion_drafts MOST_CHARACTERS self.now.site result.1.after
             (option_map (shown result.0.now) result.1.left) (option_map (shown result.0.now) result.1.right)
             pieces.now rest (none_inserted view) ≡ drafts_at view place pieces.now rest }
-        ensures comes { (others : List WidgetValue) (rest : Word) → let view : ViewValue = record { doc = self.now; own = widget.now; others = others } in
+        ensures comes { (others : List WidgetValue) (rest : Word)
+            → let view : ViewValue = record { doc = self.now; own = own_of widget.now; others = others } in
             insertion_of self.now.site (option_map (shown result.0.now) result.1.left) (option_map (shown result.0.now) result.1.right)
             pieces.now rest (none_inserted view) ≡ insertion_at view place pieces.now rest }
     {
@@ -81,12 +82,12 @@ impl<S: TextStore> Doc<S> {
         requires place { text.place < length (shown_part self.now.cells widget.now.limits) }
         requires order { AreInOrder self.now.cells widget.now.limits }
         ensures drafts { IfOk result (λ plan. (others : List WidgetValue)
-            → let view : ViewValue = record { doc = self.now; own = widget.now; others = others } in
+            → let view : ViewValue = record { doc = self.now; own = own_of widget.now; others = others } in
             map body_of (items_in plan.drafts) ≡ drafts_at view text.entry.place text.entry.pieces.now text.entry.rest.now) }
-        ensures plans { IfOk result (λ plan. (others : List WidgetValue) → Plans plan widget.now.sel (selections_of others) self.now.tags
-            (insertion_at (record { doc = self.now; own = widget.now; others = others }) text.entry.place text.entry.pieces.now text.entry.rest.now)) }
+        ensures plans { IfOk result (λ plan. (others : List WidgetValue) → Plans plan (own_of widget.now).sel (selections_of others) self.now.tags
+            (insertion_at (record { doc = self.now; own = own_of widget.now; others = others }) text.entry.place text.entry.pieces.now text.entry.rest.now)) }
         ensures err { IfErr result (λ fault. (fault ≡ Fault.NoMemory) ⊎ ((fault ≡ Fault.ClockSpent) × ((others : List WidgetValue)
-            → let view : ViewValue = record { doc = self.now; own = widget.now; others = others } in
+            → let view : ViewValue = record { doc = self.now; own = own_of widget.now; others = others } in
             GREATEST_COUNT < (with_pieces_at view text.entry.place text.entry.pieces.now text.entry.rest.now).doc.count))) }
     {
         let site = self.replica.site();
@@ -96,7 +97,7 @@ impl<S: TextStore> Doc<S> {
             self.alloc,
             states,
             Author { site, count },
-            &widget.parts.selection,
+            &widget.selection,
             &gap,
             text.pieces,
             text.rest,
@@ -110,10 +111,10 @@ impl<S: TextStore> Doc<S> {
         requires place { text.place < length (shown_part self.now.cells widget.now.limits) }
         requires order { AreInOrder self.now.cells widget.now.limits }
         ensures drafts { IfSome result (λ typed. (others : List WidgetValue) →
-            let view : ViewValue = record { doc = self.now; own = widget.now; others = others } in
+            let view : ViewValue = record { doc = self.now; own = own_of widget.now; others = others } in
             drafts_at view text.entry.place text.entry.pieces.now text.entry.rest.now ≡ one_character typed.left typed.character) }
         ensures comes { IfSome result (λ typed. (others : List WidgetValue) →
-            let view : ViewValue = record { doc = self.now; own = widget.now; others = others } in
+            let view : ViewValue = record { doc = self.now; own = own_of widget.now; others = others } in
             insertion_at view text.entry.place text.entry.pieces.now text.entry.rest.now ≡ with_typed self.now.site typed (none_inserted view)) }
     {
         // What is surely more than a character, or has no left neighbour, looks nothing up; a character has at most four bytes.
@@ -125,7 +126,7 @@ impl<S: TextStore> Doc<S> {
         typed_between(
             states,
             count,
-            &widget.parts.selection,
+            &widget.selection,
             &gap,
             text.pieces,
             text.rest,
@@ -137,30 +138,22 @@ impl<S: TextStore> Doc<S> {
     fn insert_typed(
         &mut self,
         widget: &mut Widget,
-        others: &mut [Parts],
+        others: &mut [Widget],
         text: NewText<'_>,
         typed: Typed,
     ) -> Result<(), Fault>
-        requires drafts { (others : List WidgetValue) → let view : ViewValue = record { doc = self.old; own = widget.old; others = others } in
+        requires drafts { (others : List WidgetValue) → let view : ViewValue = record { doc = self.old; own = own_of widget.old; others = others } in
             drafts_at view text.place text.pieces.now text.rest.now ≡ one_character typed.left typed.character }
-        requires comes { (others : List WidgetValue) → let view : ViewValue = record { doc = self.old; own = widget.old; others = others } in
+        requires comes { (others : List WidgetValue) → let view : ViewValue = record { doc = self.old; own = own_of widget.old; others = others } in
             insertion_at view text.place text.pieces.now text.rest.now ≡ with_typed self.old.site typed (none_inserted view) }
         requires stretch { text.stretch ≡ stretch_of self.old.cells widget.old.limits }
         requires place { text.place < length (shown_part self.old.cells widget.old.limits) }
         requires pieces { All IsPiece text.pieces.now }
-        requires own { IsOwnOf (length (text_of self.old.cells)) widget.old }
-        requires others { AllByRecursion (IsOwnOf (length (text_of self.old.cells))) (map own_in others.old) }
-        ensures ok { let view : ViewValue = record { doc = self.old; own = widget.old; others = map own_in others.old } in
-            OnOk result (record { doc = self.new; own = widget.new; others = map own_in others.new }
-            ≡ with_pieces_at view text.entry.place text.entry.pieces.now text.entry.rest.now) }
-        ensures checked { OnOk result (first_of (clock_check self.new.count ∷ cell_check self.old.limit (length self.new.cells) ∷ []) ≡ None) }
-        ensures err { let view : ViewValue = record { doc = self.old; own = widget.old; others = map own_in others.old } in
-            let edited = (with_pieces_at view text.entry.place text.entry.pieces.now text.entry.rest.now).doc in
-            IfErr result (λ fault. (fault ≡ Fault.NoMemory)
-            ⊎ (first_of (clock_check edited.count ∷ cell_check self.old.limit (length edited.cells) ∷ []) ≡ Some fault)) }
-        ensures unchanged { OnErr result ((self.new ≡ self.old) × (widget.new ≡ widget.old) × (map own_in others.new ≡ map own_in others.old)) }
-        ensures own { IsOwnOf (length (text_of self.new.cells)) widget.new }
-        ensures others { AllByRecursion (IsOwnOf (length (text_of self.new.cells))) (map own_in others.new) }
+        requires own { IsOwnOf (length (text_of self.old.cells)) (own_of widget.old) }
+        requires others { AllByRecursion (IsOwnOf (length (text_of self.old.cells))) (map own_of others.old) }
+        ensures { let view = view_of self.old widget.old others.old in
+            let edited = with_pieces_at view text.entry.place text.entry.pieces.now text.entry.rest.now in
+            IsEdit (late_check self.old) view edited (view_of self.new widget.new others.new) result }
     {
         // For its clauses alone: they say where the place lies.
         let _ = self.kept();
@@ -180,31 +173,23 @@ impl<S: TextStore> Doc<S> {
     fn insert_planned(
         &mut self,
         widget: &mut Widget,
-        others: &mut [Parts],
+        others: &mut [Widget],
         text: NewText<'_>,
         plan: Plan,
     ) -> Result<(), Fault>
         requires drafts { (others : List WidgetValue)
-            → let view : ViewValue = record { doc = self.old; own = widget.old; others = others } in
+            → let view : ViewValue = record { doc = self.old; own = own_of widget.old; others = others } in
             map body_of (items_in plan.drafts) ≡ drafts_at view text.place text.pieces.now text.rest.now }
-        requires plans { (others : List WidgetValue) → Plans plan widget.old.sel (selections_of others) self.old.tags
-            (insertion_at (record { doc = self.old; own = widget.old; others = others }) text.place text.pieces.now text.rest.now) }
+        requires plans { (others : List WidgetValue) → Plans plan (own_of widget.old).sel (selections_of others) self.old.tags
+            (insertion_at (record { doc = self.old; own = own_of widget.old; others = others }) text.place text.pieces.now text.rest.now) }
         requires stretch { text.stretch ≡ stretch_of self.old.cells widget.old.limits }
         requires place { text.place < length (shown_part self.old.cells widget.old.limits) }
         requires pieces { All IsPiece text.pieces.now }
-        requires own { IsOwnOf (length (text_of self.old.cells)) widget.old }
-        requires others { AllByRecursion (IsOwnOf (length (text_of self.old.cells))) (map own_in others.old) }
-        ensures ok { let view : ViewValue = record { doc = self.old; own = widget.old; others = map own_in others.old } in
-            OnOk result (record { doc = self.new; own = widget.new; others = map own_in others.new }
-            ≡ with_pieces_at view text.entry.place text.entry.pieces.now text.entry.rest.now) }
-        ensures checked { OnOk result (first_of (clock_check self.new.count ∷ cell_check self.old.limit (length self.new.cells) ∷ []) ≡ None) }
-        ensures err { let view : ViewValue = record { doc = self.old; own = widget.old; others = map own_in others.old } in
-            let edited = (with_pieces_at view text.entry.place text.entry.pieces.now text.entry.rest.now).doc in
-            IfErr result (λ fault. (fault ≡ Fault.NoMemory)
-            ⊎ (first_of (clock_check edited.count ∷ cell_check self.old.limit (length edited.cells) ∷ []) ≡ Some fault)) }
-        ensures unchanged { OnErr result ((self.new ≡ self.old) × (widget.new ≡ widget.old) × (map own_in others.new ≡ map own_in others.old)) }
-        ensures own { IsOwnOf (length (text_of self.new.cells)) widget.new }
-        ensures others { AllByRecursion (IsOwnOf (length (text_of self.new.cells))) (map own_in others.new) }
+        requires own { IsOwnOf (length (text_of self.old.cells)) (own_of widget.old) }
+        requires others { AllByRecursion (IsOwnOf (length (text_of self.old.cells))) (map own_of others.old) }
+        ensures { let view = view_of self.old widget.old others.old in
+            let edited = with_pieces_at view text.entry.place text.entry.pieces.now text.entry.rest.now in
+            IsEdit (late_check self.old) view edited (view_of self.new widget.new others.new) result }
     {
         let mut plan = plan;
         // For its clauses alone: they say where the place lies.
@@ -214,17 +199,12 @@ impl<S: TextStore> Doc<S> {
         make_planned(
             &mut self.replica,
             &mut self.tags,
-            &mut widget.parts.selection,
+            &mut widget.selection,
             others,
             drafts,
             &plan,
         )?;
-        select_all(
-            &mut widget.parts.selection,
-            others,
-            &plan.selected,
-            &plan.between,
-        );
+        select_all(&mut widget.selection, others, &plan.selected, &plan.between);
         insert_all(&mut self.marks, widget, others, at, plan.characters);
         list_tags(&mut self.tags, &plan.names);
         Ok(())
@@ -235,26 +215,18 @@ impl<S: TextStore> Doc<S> {
     fn insert_pieces(
         &mut self,
         widget: &mut Widget,
-        others: &mut [Parts],
+        others: &mut [Widget],
         text: NewText<'_>,
     ) -> Result<(), Fault>
         requires stretch { text.stretch ≡ stretch_of self.old.cells widget.old.limits }
         requires place { text.place < length (shown_part self.old.cells widget.old.limits) }
         requires order { AreInOrder self.old.cells widget.old.limits }
         requires pieces { All IsPiece text.pieces.now }
-        requires own { IsOwnOf (length (text_of self.old.cells)) widget.old }
-        requires others { AllByRecursion (IsOwnOf (length (text_of self.old.cells))) (map own_in others.old) }
-        ensures ok { let view : ViewValue = record { doc = self.old; own = widget.old; others = map own_in others.old } in
-            OnOk result (record { doc = self.new; own = widget.new; others = map own_in others.new }
-            ≡ with_pieces_at view text.entry.place text.entry.pieces.now text.entry.rest.now) }
-        ensures checked { OnOk result (first_of (clock_check self.new.count ∷ cell_check self.old.limit (length self.new.cells) ∷ []) ≡ None) }
-        ensures err { let view : ViewValue = record { doc = self.old; own = widget.old; others = map own_in others.old } in
-            let edited = (with_pieces_at view text.entry.place text.entry.pieces.now text.entry.rest.now).doc in
-            IfErr result (λ fault. (fault ≡ Fault.NoMemory)
-            ⊎ (first_of (clock_check edited.count ∷ cell_check self.old.limit (length edited.cells) ∷ []) ≡ Some fault)) }
-        ensures unchanged { OnErr result ((self.new ≡ self.old) × (widget.new ≡ widget.old) × (map own_in others.new ≡ map own_in others.old)) }
-        ensures own { IsOwnOf (length (text_of self.new.cells)) widget.new }
-        ensures others { AllByRecursion (IsOwnOf (length (text_of self.new.cells))) (map own_in others.new) }
+        requires own { IsOwnOf (length (text_of self.old.cells)) (own_of widget.old) }
+        requires others { AllByRecursion (IsOwnOf (length (text_of self.old.cells))) (map own_of others.old) }
+        ensures { let view = view_of self.old widget.old others.old in
+            let edited = with_pieces_at view text.entry.place text.entry.pieces.now text.entry.rest.now in
+            IsEdit (late_check self.old) view edited (view_of self.new widget.new others.new) result }
     {
         match self.planned_insertion(widget, text) {
             Ok(plan) => self.insert_planned(widget, others, text, plan),
@@ -267,26 +239,18 @@ impl<S: TextStore> Doc<S> {
     pub(crate) fn insert_at(
         &mut self,
         widget: &mut Widget,
-        others: &mut [Parts],
+        others: &mut [Widget],
         text: NewText<'_>,
     ) -> Result<(), Fault>
         requires stretch { text.stretch ≡ stretch_of self.old.cells widget.old.limits }
         requires place { text.place < length (shown_part self.old.cells widget.old.limits) }
         requires order { AreInOrder self.old.cells widget.old.limits }
         requires pieces { All IsPiece text.pieces.now }
-        requires own { IsOwnOf (length (text_of self.old.cells)) widget.old }
-        requires others { AllByRecursion (IsOwnOf (length (text_of self.old.cells))) (map own_in others.old) }
-        ensures ok { let view : ViewValue = record { doc = self.old; own = widget.old; others = map own_in others.old } in
-            OnOk result (record { doc = self.new; own = widget.new; others = map own_in others.new }
-            ≡ with_pieces_at view text.entry.place text.entry.pieces.now text.entry.rest.now) }
-        ensures checked { OnOk result (first_of (clock_check self.new.count ∷ cell_check self.old.limit (length self.new.cells) ∷ []) ≡ None) }
-        ensures err { let view : ViewValue = record { doc = self.old; own = widget.old; others = map own_in others.old } in
-            let edited = (with_pieces_at view text.entry.place text.entry.pieces.now text.entry.rest.now).doc in
-            IfErr result (λ fault. (fault ≡ Fault.NoMemory)
-            ⊎ (first_of (clock_check edited.count ∷ cell_check self.old.limit (length edited.cells) ∷ []) ≡ Some fault)) }
-        ensures unchanged { OnErr result ((self.new ≡ self.old) × (widget.new ≡ widget.old) × (map own_in others.new ≡ map own_in others.old)) }
-        ensures own { IsOwnOf (length (text_of self.new.cells)) widget.new }
-        ensures others { AllByRecursion (IsOwnOf (length (text_of self.new.cells))) (map own_in others.new) }
+        requires own { IsOwnOf (length (text_of self.old.cells)) (own_of widget.old) }
+        requires others { AllByRecursion (IsOwnOf (length (text_of self.old.cells))) (map own_of others.old) }
+        ensures { let view = view_of self.old widget.old others.old in
+            let edited = with_pieces_at view text.entry.place text.entry.pieces.now text.entry.rest.now in
+            IsEdit (late_check self.old) view edited (view_of self.new widget.new others.new) result }
     {
         match self.typed(widget, text) {
             Some(typed) => self.insert_typed(widget, others, text, typed),
@@ -298,19 +262,13 @@ impl<S: TextStore> Doc<S> {
     pub(crate) fn delete_in(
         &mut self,
         widget: &mut Widget,
-        others: &mut [Parts],
+        others: &mut [Widget],
         ranges: &[Range],
     ) -> Result<(), Fault>
-        requires own { IsOwnOf (length (text_of self.old.cells)) widget.old }
-        requires others { AllByRecursion (IsOwnOf (length (text_of self.old.cells))) (map own_in others.old) }
-        ensures ok { let view : ViewValue = record { doc = self.old; own = widget.old; others = map own_in others.old } in
-            OnOk result (without_ranges view ranges.now ≡ record { doc = self.new; own = widget.new; others = map own_in others.new }) }
-        ensures checked { OnOk result (clock_check self.new.count ≡ None) }
-        ensures err { let view : ViewValue = record { doc = self.old; own = widget.old; others = map own_in others.old } in
-            IfErr result (λ fault. (fault ≡ Fault.NoMemory) ⊎ (clock_check (without_ranges view ranges.now).doc.count ≡ Some fault)) }
-        ensures unchanged { OnErr result ((self.new ≡ self.old) × (widget.new ≡ widget.old) × (map own_in others.new ≡ map own_in others.old)) }
-        ensures own { IsOwnOf (length (text_of self.new.cells)) widget.new }
-        ensures others { AllByRecursion (IsOwnOf (length (text_of self.new.cells))) (map own_in others.new) }
+        requires own { IsOwnOf (length (text_of self.old.cells)) (own_of widget.old) }
+        requires others { AllByRecursion (IsOwnOf (length (text_of self.old.cells))) (map own_of others.old) }
+        ensures { let view = view_of self.old widget.old others.old in
+            IsEdit count_check view (without_ranges view ranges.now) (view_of self.new widget.new others.new) result }
     {
         let (store, states) = self.kept();
         let stretch = widget.limits().stretch(store);

@@ -1,15 +1,15 @@
 // Replacements: a deletion and then an insertion, as one plan.
-ghost use Rattle.std.specs.Prelude.{◌≡◌, ℕ, ◌⊎◌, ◌+◌, ◌<◌, ◌≤◌, ◌∷◌, [], All, List, None, Some, IfOk, IfErr, OnOk, OnErr, is_some, length, map, true};
+ghost use Rattle.std.specs.Prelude.{◌≡◌, ℕ, ◌⊎◌, ◌+◌, ◌<◌, ◌≤◌, [], All, List, None, IfOk, IfErr, is_some, length, map, true};
 ghost use Rattle.rt_stamps.specs.declared.limits.TheConstants.{GREATEST_COUNT};
-ghost use Rattle.rt_stamps.specs.Outcomes.{first_of};
 ghost use Rattle.rt_store.specs.Cells.{text_of};
-ghost use Rattle.rt_text.specs.Commands.{cell_check, clock_check, with_range_replaced};
+ghost use Rattle.rt_text.specs.Commands.{with_range_replaced};
 ghost use Rattle.rt_text.specs.Replacements.{PlansReplacement, loss_at};
 ghost use Rattle.rt_text.specs.Widgets.{IsOwnOf, WidgetValue, ViewValue};
 ghost use Rattle.rt_plans.specs.DeletionLaws.{IsPiece};
 ghost use Rattle.rt_plans.specs.Deletions.{without_text};
 ghost use Rattle.rt_plans.specs.Removals.{AreInOrder, is_covered};
-ghost use Rattle.rt_text.specs.Parts.{own_in};
+ghost use Rattle.rt_text.specs.Editing.{IsEdit, late_check};
+ghost use Rattle.rt_text.specs.Owned.{own_of, view_of};
 ghost use Rattle.std.specs.List.{AllByRecursion};
 ghost use Rattle.rt_lines.specs.Ordered.{AreInOrder as LimitsAreInOrder};
 
@@ -18,7 +18,6 @@ use crate::Widget;
 use crate::inserting::{insert_all, select_all};
 use crate::moving::{leave_all, unselect};
 use crate::neighbours::{shown_after, shown_before, stamp_or_root};
-use crate::parts::Parts;
 use crate::preparing::{list_tags, make_planned};
 use crate::staying::{left_after, place_after};
 use rt_plans::drafting::planned_deletion;
@@ -65,17 +64,17 @@ impl<S: TextStore> Doc<S> {
     ) -> Result<Replacement, Fault>
         requires { LimitsAreInOrder self.now.cells widget.now.limits }
         ensures plans { IfOk result (λ r. (others : List WidgetValue)
-            → PlansReplacement (record { doc = self.now; own = widget.now; others = others }) range pieces.now rest.now r) }
-        ensures removed { let view : ViewValue = record { doc = self.now; own = widget.now; others = [] } in
+            → PlansReplacement (record { doc = self.now; own = own_of widget.now; others = others }) range pieces.now rest.now r) }
+        ensures removed { let view : ViewValue = record { doc = self.now; own = own_of widget.now; others = [] } in
             IfOk result (λ r. (place : ℕ) → is_covered r.removed.items place ≡ (loss_at view range).places place) }
         ensures order { IfOk result (λ r. AreInOrder 0 r.removed.items) }
-        ensures held { let view : ViewValue = record { doc = self.now; own = widget.now; others = [] } in
+        ensures held { let view : ViewValue = record { doc = self.now; own = own_of widget.now; others = [] } in
             IfOk result (λ r. r.held ≡ is_some (loss_at view range).newline) }
         ensures alone { IfOk result (λ r. r.held ≡ true → r.plan.between ≡ None) }
-        ensures fits { let view : ViewValue = record { doc = self.now; own = widget.now; others = [] } in
+        ensures fits { let view : ViewValue = record { doc = self.now; own = own_of widget.now; others = [] } in
             IfOk result (λ r. (without_text self.now (loss_at view range)).count ≤ GREATEST_COUNT) }
         ensures err { IfErr result (λ fault. (fault ≡ Fault.NoMemory) ⊎ ((fault ≡ Fault.ClockSpent) × ((others : List WidgetValue) → GREATEST_COUNT
-            < (with_range_replaced (record { doc = self.now; own = widget.now; others = others }) range pieces.now rest.now).doc.count))) }
+            < (with_range_replaced (record { doc = self.now; own = own_of widget.now; others = others }) range pieces.now rest.now).doc.count))) }
     {
         let site = self.replica.site();
         let count = self.replica.clock().seen();
@@ -95,7 +94,7 @@ impl<S: TextStore> Doc<S> {
             self.alloc,
             states,
             Author { site, count },
-            &widget.parts.selection,
+            &widget.selection,
             &gap,
             pieces,
             rest,
@@ -116,25 +115,18 @@ impl<S: TextStore> Doc<S> {
     pub(crate) fn replace_in(
         &mut self,
         widget: &mut Widget,
-        others: &mut [Parts],
+        others: &mut [Widget],
         range: Range,
         pieces: &[Piece],
         rest: &str,
     ) -> Result<(), Fault>
         requires pieces { All IsPiece pieces.now }
         requires order { LimitsAreInOrder self.old.cells widget.old.limits }
-        requires own { IsOwnOf (length (text_of self.old.cells)) widget.old }
-        requires others { AllByRecursion (IsOwnOf (length (text_of self.old.cells))) (map own_in others.old) }
-        ensures ok { let view : ViewValue = record { doc = self.old; own = widget.old; others = map own_in others.old } in
-            OnOk result (record { doc = self.new; own = widget.new; others = map own_in others.new } ≡ with_range_replaced view range pieces.now rest.now) }
-        ensures checked { OnOk result (first_of (clock_check self.new.count ∷ cell_check self.old.limit (length self.new.cells) ∷ []) ≡ None) }
-        ensures err { let view : ViewValue = record { doc = self.old; own = widget.old; others = map own_in others.old } in
-            let edited = (with_range_replaced view range pieces.now rest.now).doc in
-            IfErr result (λ fault. (fault ≡ Fault.NoMemory)
-            ⊎ (first_of (clock_check edited.count ∷ cell_check self.old.limit (length edited.cells) ∷ []) ≡ Some fault)) }
-        ensures unchanged { OnErr result ((self.new ≡ self.old) × (widget.new ≡ widget.old) × (map own_in others.new ≡ map own_in others.old)) }
-        ensures own { IsOwnOf (length (text_of self.new.cells)) widget.new }
-        ensures others { AllByRecursion (IsOwnOf (length (text_of self.new.cells))) (map own_in others.new) }
+        requires own { IsOwnOf (length (text_of self.old.cells)) (own_of widget.old) }
+        requires others { AllByRecursion (IsOwnOf (length (text_of self.old.cells))) (map own_of others.old) }
+        ensures { let view = view_of self.old widget.old others.old in
+            let edited = with_range_replaced view range pieces.now rest.now in
+            IsEdit (late_check self.old) view edited (view_of self.new widget.new others.new) result }
     {
         let (store, _) = self.kept();
         let stretch = widget.limits().stretch(store);
@@ -145,14 +137,14 @@ impl<S: TextStore> Doc<S> {
         make_planned(
             &mut self.replica,
             &mut self.tags,
-            &mut widget.parts.selection,
+            &mut widget.selection,
             others,
             OneOrMany::Many(drafts),
             &planned.plan,
         )?;
-        unselect(planned.held, last, &mut widget.parts.selection, others);
+        unselect(planned.held, last, &mut widget.selection, others);
         select_all(
-            &mut widget.parts.selection,
+            &mut widget.selection,
             others,
             &planned.plan.selected,
             &planned.plan.between,

@@ -1,7 +1,7 @@
 // Groups of actions that are reverted.
 ghost use Rattle.std.specs.Prelude.{◌≡◌, ◌⊎◌, ◌∷◌, [], None, Some, IfErr, IfOk, OnErr, OnOk, length, map};
 ghost use Rattle.std.specs.List.{AllByRecursion};
-ghost use Rattle.rt_text.specs.Parts.{own_in};
+ghost use Rattle.rt_text.specs.Owned.{own_of};
 ghost use Rattle.rt_store.specs.Cells.{final_cell, text_of};
 ghost use Rattle.rt_tags.specs.States.{KeepsIds};
 ghost use Rattle.rt_undo.specs.Actions.{group_of};
@@ -13,7 +13,6 @@ ghost use Rattle.rt_text.specs.Widgets.{IsOwnOf};
 
 use super::Doc;
 use crate::changing::revert_all;
-use crate::parts::Parts;
 use crate::preparing::{list_tags, prepare_tags};
 use crate::{Reverted, Widget};
 use rt_plans::Author;
@@ -28,7 +27,7 @@ impl<S: TextStore> Doc<S> {
     pub(crate) fn revert_in<C: TextStore>(
         &mut self,
         widget: &mut Widget,
-        others: &mut [Parts],
+        others: &mut [Widget],
         copy: C,
         group: &[Action],
         kept: &mut StateTable,
@@ -36,12 +35,12 @@ impl<S: TextStore> Doc<S> {
         requires empty { C.list copy ≡ final_cell ∷ [] }
         requires given { AreGiven kept.old (group_of group.now) }
         requires sound { AreSound (named_group kept.old (group_of group.now)) }
-        requires own { IsOwnOf (length (text_of self.old.cells)) widget.old }
-        requires others { AllByRecursion (IsOwnOf (length (text_of self.old.cells))) (map own_in others.old) }
+        requires own { IsOwnOf (length (text_of self.old.cells)) (own_of widget.old) }
+        requires others { AllByRecursion (IsOwnOf (length (text_of self.old.cells))) (map own_of others.old) }
         ensures doc { OnOk result (self.new ≡ reverted self.old (named_group kept.old (group_of group.now))) }
-        ensures widget { OnOk result (widget.new ≡ own_reverted self.old (named_group kept.old (group_of group.now)) widget.old) }
-        ensures peers { OnOk result (map own_in others.new
-            ≡ map (own_reverted self.old (named_group kept.old (group_of group.now))) (map own_in others.old)) }
+        ensures widget { OnOk result (own_of widget.new ≡ own_reverted self.old (named_group kept.old (group_of group.now)) (own_of widget.old)) }
+        ensures peers { OnOk result (map own_of others.new
+            ≡ map (own_reverted self.old (named_group kept.old (group_of group.now))) (map own_of others.old)) }
         ensures checked { OnOk result (reversion_check self.old (named_group kept.old (group_of group.now)) ≡ None) }
         ensures returns { IfOk result (λ r. r.returns.items ≡ (reversion self.old (named_group kept.old (group_of group.now))).returns) }
         ensures actions { IfOk result (λ r. named_group kept.new (group_of r.actions.items)
@@ -51,9 +50,9 @@ impl<S: TextStore> Doc<S> {
         ensures ids { KeepsIds kept.old kept.new }
         ensures err { IfErr result (λ fault. (fault ≡ Fault.NoMemory)
             ⊎ (reversion_check self.old (named_group kept.old (group_of group.now)) ≡ Some fault)) }
-        ensures unchanged { OnErr result ((self.new ≡ self.old) × (widget.new ≡ widget.old) × (map own_in others.new ≡ map own_in others.old)) }
-        ensures own { IsOwnOf (length (text_of self.new.cells)) widget.new }
-        ensures others { AllByRecursion (IsOwnOf (length (text_of self.new.cells))) (map own_in others.new) }
+        ensures unchanged { OnErr result ((self.new ≡ self.old) × (own_of widget.new ≡ own_of widget.old) × (map own_of others.new ≡ map own_of others.old)) }
+        ensures own { IsOwnOf (length (text_of self.new.cells)) (own_of widget.new) }
+        ensures others { AllByRecursion (IsOwnOf (length (text_of self.new.cells))) (map own_of others.new) }
     {
         let site = self.replica.site();
         let count = self.replica.clock().seen();

@@ -6,6 +6,7 @@ ghost use Rattle.rt_stamps.specs.declared.limits.TheConstants.{GREATEST_COUNT, M
 ghost use Rattle.rt_stamps.specs.Words.{as_words};
 ghost use Rattle.rt_store.specs.Cells.{AreDistinct, text_of, visible_of};
 ghost use Rattle.rt_plans.specs.Removals.{is_covered, AreInOrder};
+ghost use Rattle.rt_text.specs.Owned.{own_of};
 ghost use Rattle.rt_text.specs.Widgets.{is_tagged, is_tagged_in, tags_on};
 ghost use Rattle.rt_store.specs.Tagged.{next_place, previous_place};
 ghost use Rattle.rt_tags.specs.States.{IsState};
@@ -70,33 +71,33 @@ impl<S: TextStore> Doc<S> {
     /// The least place from one up whose character has a tag on the widget; none if there is none. It
     /// takes no memory.
     pub(crate) fn next_tagged(&self, widget: &Widget, name: &str, place: usize) -> Option<usize>
-        ensures { result ≡ next_place (is_tagged widget.now name.now) (shown_part self.now.cells widget.now.limits) place }
+        ensures { result ≡ next_place (is_tagged (own_of widget.now) name.now) (shown_part self.now.cells widget.now.limits) place }
     {
         let (store, states) = self.kept();
         let stretch = widget.limits().stretch(store);
-        let selection = &widget.parts.selection;
+        let selection = &widget.selection;
         next_within(store, states, selection, name, true, stretch, place)
     }
 
     /// The least place from one up whose character hasn't a tag on the widget; none if there is none.
     /// It takes no memory.
     pub(crate) fn next_untagged(&self, widget: &Widget, name: &str, place: usize) -> Option<usize>
-        ensures { result ≡ next_place (λ cell. not (is_tagged widget.now name.now cell)) (shown_part self.now.cells widget.now.limits) place }
+        ensures { result ≡ next_place (λ cell. not (is_tagged (own_of widget.now) name.now cell)) (shown_part self.now.cells widget.now.limits) place }
     {
         let (store, states) = self.kept();
         let stretch = widget.limits().stretch(store);
-        let selection = &widget.parts.selection;
+        let selection = &widget.selection;
         next_within(store, states, selection, name, false, stretch, place)
     }
 
     /// The greatest place below one whose character has a tag on the widget; none if there is none. It
     /// takes no memory.
     pub(crate) fn previous_tagged(&self, widget: &Widget, name: &str, place: usize) -> Option<usize>
-        ensures { result ≡ previous_place (is_tagged widget.now name.now) (shown_part self.now.cells widget.now.limits) place }
+        ensures { result ≡ previous_place (is_tagged (own_of widget.now) name.now) (shown_part self.now.cells widget.now.limits) place }
     {
         let (store, states) = self.kept();
         let stretch = widget.limits().stretch(store);
-        let selection = &widget.parts.selection;
+        let selection = &widget.selection;
         previous_within(store, states, selection, name, stretch, place)
     }
 
@@ -104,14 +105,15 @@ impl<S: TextStore> Doc<S> {
     /// "tag names"). Want of memory.
     pub(crate) fn tags_at(&self, widget: &Widget, place: usize) -> Result<Vec<String>, Fault>
         requires { place < length (shown_part self.now.cells widget.now.limits) }
-        ensures ok { IfOk result (λ names. option_map (tags_on widget.now self.now.tags) (slice_get (shown_part self.now.cells widget.now.limits) place)
+        ensures ok { IfOk result (λ names.
+            option_map (tags_on (own_of widget.now) self.now.tags) (slice_get (shown_part self.now.cells widget.now.limits) place)
             ≡ Some (as_words names.items)) }
         ensures err { IsOkUnless result Fault.NoMemory }
     {
         let (store, states) = self.kept();
         let cell = store.cell_at(widget.limits().stretch(store).begin + place);
         let mut names = self.tags.names()?;
-        keep_tags_on(states, &widget.parts.selection, cell, &mut names);
+        keep_tags_on(states, &widget.selection, cell, &mut names);
         Ok(names)
     }
 

@@ -5,7 +5,7 @@ ghost use Rattle.rt_text.specs.Limited.{limited, with_peer};
 ghost use Rattle.rt_lines.specs.Limits.{end_number, start_number};
 
 use super::View;
-use crate::parts::Parts;
+use crate::Widget;
 use rt_lines::Choice;
 use rt_stamps::Fault;
 use rt_store::TextStore;
@@ -39,7 +39,7 @@ impl<S: TextStore> View<S> {
         let _ = self.doc.kept();
         let limits = self.doc.limits_chosen(self.widget.limits(), start, end)?;
         let begin = self.doc.stretch(limits).begin;
-        Ok(self.others.push(Parts::at(self.alloc, begin, limits))?)
+        Ok(self.others.push(Widget::at(self.alloc, begin, limits))?)
     }
 
     /// The line of the whole text that the widget shows first; none without a limit there (`cget

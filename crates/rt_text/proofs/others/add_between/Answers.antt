@@ -1,11 +1,11 @@
 use Rattle.std.proofs.Common.{◌≡◌, ◌≤◌, ◌&&◌, subst, sym, true, ◌<◌, ◌∙◌, arith, length}
 use Rattle.std.proofs.lemmas.List.{length-set}
 use Rattle.rt_plans.specs.Insertions.{selected_if}
-use Rattle.rt_plans.specs.Selected.{room_in, selected_stamps}
+use Rattle.rt_plans.specs.Selected.{room_in}
 use Rattle.rt_store.specs.Spans.{is_among}
-use Rattle.rt_text.specs.declared.parts.Parts.{Parts}
+use Rattle.rt_text.specs.declared.widget.Widget.{Widget}
 use Rattle.rt_plans.proofs.SelectionLaws.{done_more, rest_more}
-use Rattle.rt_text.specs.Parts.{own_in}
+use Rattle.rt_text.specs.Owned.{own_of, selects_both}
 use Rattle.rt_text.specs.Widgets.{reselected}
 use Rattle.rt_text.proofs.PeerLaws.{rest_same}
 use Rattle.rt_text.proofs.others.add_between.Goals as goal
@@ -18,7 +18,7 @@ select_if-requires c =
     let d = c.index-others-i.result in
     let known = c.loop-i.invariant in
     let lt : i < length xs = omega (arith, c.loop-i-test.true) in
-    subst (λ (s : Parts). (is_among (selected_stamps s.selection) c.args.left && is_among (selected_stamps s.selection) c.args.right) ≡ true → length c.args.stamps.now ≤ room_in s.selection)
+    subst (λ (s : Widget). selects_both c.args.left c.args.right s ≡ true → length c.args.stamps.now ≤ room_in s.selection)
     (sym (rest_same xs ys i d lt known.len known.rest)) (c.requires i d lt)
 
 pub loop-i-preserved : goal.loop-i-preserved
@@ -31,7 +31,7 @@ loop-i-preserved c =
     let known = c.loop-i.invariant in
     let lt : i < length xs = omega (arith, c.loop-i-test.true) in
     record {
-      done = done_more own_in xs ys i d lt known.len known.rest (reselected (λ sel. selected_if (is_among sel c.args.left && is_among sel c.args.right) c.args.stamps.now sel)) x known.done c.select_if.ensures;
-      rest = rest_more own_in xs ys i d lt known.len known.rest x;
+      done = done_more own_of xs ys i d lt known.len known.rest (reselected (λ sel. selected_if (is_among sel c.args.left && is_among sel c.args.right) c.args.stamps.now sel)) x known.done c.select_if.ensures;
+      rest = rest_more own_of xs ys i d lt known.len known.rest x;
       len = length-set ys i x ∙ known.len;
     }

@@ -2,9 +2,9 @@ use Rattle.std.proofs.Common.{◌≡◌, get_or, ap, ◌<◌, ◌∙◌, arith, 
 use Rattle.std.proofs.lemmas.List.{length-set}
 use Rattle.rt_rga.specs.Taken.{is_in_runs}
 use Rattle.rt_text.specs.Widgets.{own_inserted, own_left}
-use Rattle.rt_text.specs.declared.parts.Parts.{Parts}
+use Rattle.rt_text.specs.declared.widget.Widget.{Widget}
 use Rattle.rt_plans.proofs.SelectionLaws.{done_more, rest_more}
-use Rattle.rt_text.specs.Parts.{own_in}
+use Rattle.rt_text.specs.Owned.{own_of}
 use Rattle.rt_text.proofs.PeerLaws.{rest_same}
 use Rattle.rt_text.proofs.others.follow_each.Goals as goal
 
@@ -20,7 +20,7 @@ follow-requires-clause-insert c =
     let known = c.loop-i.invariant in
     let lt : i < length xs = omega (arith, c.loop-i-test.true) in
     let here = c.requires.fits i d lt in
-    let same : (get_or ys i d).insert.place ≡ (get_or xs i d).insert.place = ap (λ (p : Parts). p.insert.place) (rest_same xs ys i d lt known.len known.rest) in
+    let same : (get_or ys i d).insert.place ≡ (get_or xs i d).insert.place = ap (λ (p : Widget). p.insert.place) (rest_same xs ys i d lt known.len known.rest) in
     omega (arith, here.0, same)
 
 pub follow-requires-clause-current : goal.follow-requires-clause-current
@@ -32,7 +32,7 @@ follow-requires-clause-current c =
     let known = c.loop-i.invariant in
     let lt : i < length xs = omega (arith, c.loop-i-test.true) in
     let here = c.requires.fits i d lt in
-    let same : (get_or ys i d).current.place ≡ (get_or xs i d).current.place = ap (λ (p : Parts). p.current.place) (rest_same xs ys i d lt known.len known.rest) in
+    let same : (get_or ys i d).current.place ≡ (get_or xs i d).current.place = ap (λ (p : Widget). p.current.place) (rest_same xs ys i d lt known.len known.rest) in
     omega (arith, here.1, same)
 
 pub loop-i-preserved : goal.loop-i-preserved
@@ -45,7 +45,7 @@ loop-i-preserved c =
     let known = c.loop-i.invariant in
     let lt : i < length xs = omega (arith, c.loop-i-test.true) in
     record {
-      done = done_more own_in xs ys i d lt known.len known.rest (λ own. own_left (is_in_runs c.args.change.now.removed.items) (own_inserted c.args.change.now.place c.args.change.now.inserted own)) x known.done c.follow.ensures;
-      rest = rest_more own_in xs ys i d lt known.len known.rest x;
+      done = done_more own_of xs ys i d lt known.len known.rest (λ own. own_left (is_in_runs c.args.change.now.removed.items) (own_inserted c.args.change.now.place c.args.change.now.inserted own)) x known.done c.follow.ensures;
+      rest = rest_more own_of xs ys i d lt known.len known.rest x;
       len = length-set ys i x ∙ known.len;
     }

@@ -1,11 +1,10 @@
 use Rattle.std.proofs.lemmas.Result.{err_from_is_err_and}
-use Rattle.std.proofs.Common.{◌≡◌, ◌<◌, ◌≤◌, ◌&&◌, ◌∙◌, All, arith, length, subst, true}
+use Rattle.std.proofs.Common.{◌≡◌, ◌<◌, ◌≤◌, ◌∙◌, All, arith, length, subst, true}
 use Rattle.std.proofs.lemmas.List.{length-set, take_all}
-use Rattle.rt_plans.specs.Selected.{selected_stamps, room_in}
-use Rattle.rt_store.specs.Spans.{is_among}
+use Rattle.rt_plans.specs.Selected.{room_in}
 use Rattle.rt_plans.proofs.SelectionLaws.{all_more, same_set}
-use Rattle.rt_text.specs.declared.parts.Parts.{Parts}
-use Rattle.rt_text.specs.Parts.{own_in}
+use Rattle.rt_text.specs.declared.widget.Widget.{Widget}
+use Rattle.rt_text.specs.Owned.{own_of, selects_both}
 use Rattle.rt_text.proofs.others.reserve_between.Goals as goal
 
 pub returns-in_err-reserve_if : goal.returns-in_err-reserve_if
@@ -15,7 +14,7 @@ returns-in_err-reserve_if c =
     let lt : i < length ys = omega (arith, c.loop-i-test.true, c.loop-i.invariant.len) in
     let p = err_from_is_err_and c.from_residual.result c.from_residual.ensures.1 in
     rw (p.1, p.2) (record {
-      same = same_set own_in ys i c.reserve_if.new.self c.index-others-i.result c.reserve_if.ensures.same lt ∙ c.loop-i.invariant.same;
+      same = same_set own_of ys i c.reserve_if.new.self c.index-others-i.result c.reserve_if.ensures.same lt ∙ c.loop-i.invariant.same;
       room = tt;
       err = c.in_err-reserve_if.ensures.err;
     })
@@ -26,9 +25,9 @@ loop-i-preserved c =
     let i = c.loop-i.i in
     let x = c.reserve_if.new.self in
     let lt : i < length ys = omega (arith, c.loop-i-test.true, c.loop-i.invariant.len) in
-    let P : Parts → Type 0 = λ s. (is_among (selected_stamps s.selection) c.args.left && is_among (selected_stamps s.selection) c.args.right) ≡ true → c.args.more ≤ room_in s.selection in
+    let P : Widget → Type 0 = λ s. selects_both c.args.left c.args.right s ≡ true → c.args.more ≤ room_in s.selection in
     record {
-      same = same_set own_in ys i x c.index-others-i.result c.reserve_if.ensures.same lt ∙ c.loop-i.invariant.same;
+      same = same_set own_of ys i x c.index-others-i.result c.reserve_if.ensures.same lt ∙ c.loop-i.invariant.same;
       room = all_more P ys i x lt c.loop-i.invariant.room c.in_ok-reserve_if.ensures.room;
       len = length-set ys i x ∙ c.loop-i.invariant.len;
     }
@@ -36,6 +35,6 @@ loop-i-preserved c =
 pub returns-clause-room : goal.returns-clause-room
 returns-clause-room c =
     let ys = c.loop-i.others in
-    let P : Parts → Type 0 = λ s. (is_among (selected_stamps s.selection) c.args.left && is_among (selected_stamps s.selection) c.args.right) ≡ true → c.args.more ≤ room_in s.selection in
+    let P : Widget → Type 0 = λ s. selects_both c.args.left c.args.right s ≡ true → c.args.more ≤ room_in s.selection in
     let end : length ys ≤ c.loop-i.i = omega (arith, c.loop-i-test.false, c.loop-i.invariant.len) in
     subst (All P) (take_all c.loop-i.i ys end) c.loop-i.invariant.room

@@ -1,9 +1,9 @@
 use Rattle.std.proofs.Common.{◌≡◌, get_or, ap, ◌<◌, ◌∙◌, arith, length}
 use Rattle.std.proofs.lemmas.List.{length-set}
 use Rattle.rt_text.specs.Changes.{own_after, own_renamed}
-use Rattle.rt_text.specs.declared.parts.Parts.{Parts}
+use Rattle.rt_text.specs.declared.widget.Widget.{Widget}
 use Rattle.rt_plans.proofs.SelectionLaws.{done_more, rest_more}
-use Rattle.rt_text.specs.Parts.{own_in}
+use Rattle.rt_text.specs.Owned.{own_of}
 use Rattle.rt_text.proofs.PeerLaws.{rest_same}
 use Rattle.rt_text.proofs.others.revert_each.Goals as goal
 
@@ -16,7 +16,7 @@ revert-requires-clause-insert c =
     let known = c.loop-i.invariant in
     let lt : i < length xs = omega (arith, c.loop-i-test.true) in
     let here = c.requires.fits i d lt in
-    let same : (get_or ys i d).insert.place ≡ (get_or xs i d).insert.place = ap (λ (p : Parts). p.insert.place) (rest_same xs ys i d lt known.len known.rest) in
+    let same : (get_or ys i d).insert.place ≡ (get_or xs i d).insert.place = ap (λ (p : Widget). p.insert.place) (rest_same xs ys i d lt known.len known.rest) in
     omega (arith, here.0, same)
 
 pub revert-requires-clause-current : goal.revert-requires-clause-current
@@ -28,7 +28,7 @@ revert-requires-clause-current c =
     let known = c.loop-i.invariant in
     let lt : i < length xs = omega (arith, c.loop-i-test.true) in
     let here = c.requires.fits i d lt in
-    let same : (get_or ys i d).current.place ≡ (get_or xs i d).current.place = ap (λ (p : Parts). p.current.place) (rest_same xs ys i d lt known.len known.rest) in
+    let same : (get_or ys i d).current.place ≡ (get_or xs i d).current.place = ap (λ (p : Widget). p.current.place) (rest_same xs ys i d lt known.len known.rest) in
     omega (arith, here.1, same)
 
 pub loop-i-preserved : goal.loop-i-preserved
@@ -41,7 +41,7 @@ loop-i-preserved c =
     let known = c.loop-i.invariant in
     let lt : i < length xs = omega (arith, c.loop-i-test.true) in
     record {
-      done = done_more own_in xs ys i d lt known.len known.rest (λ own. own_renamed c.args.returns.now (own_after c.args.changes.now own)) x known.done c.revert.ensures;
-      rest = rest_more own_in xs ys i d lt known.len known.rest x;
+      done = done_more own_of xs ys i d lt known.len known.rest (λ own. own_renamed c.args.returns.now (own_after c.args.changes.now own)) x known.done c.revert.ensures;
+      rest = rest_more own_of xs ys i d lt known.len known.rest x;
       len = length-set ys i x ∙ known.len;
     }

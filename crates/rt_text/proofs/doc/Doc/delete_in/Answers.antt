@@ -19,7 +19,7 @@ use Rattle.rt_plans.specs.DocValue.{DocValue, logged}
 use Rattle.rt_plans.specs.Listed.{AreListed}
 use Rattle.rt_plans.specs.Removals.{is_covered, AreInOrder}
 use Rattle.rt_text.specs.Commands.{clock_check}
-use Rattle.rt_text.specs.Parts.{own_in}
+use Rattle.rt_text.specs.Owned.{own_of}
 use Rattle.rt_stamps.specs.declared.stamp.Stamp.{Stamp}
 use Rattle.rt_lines.specs.Stretches.{part, stretch_of}
 use Rattle.rt_text.specs.Widgets.{AreSiteMarks, IsOwnOf, WidgetValue, last_newline, own_left, reselected}
@@ -38,12 +38,6 @@ which (inr p) s = inl p.0
 
 pub leave_all-requires : goal.leave_all-requires
 leave_all-requires g c = subst (AreInOrder 0) (sym c.deref.ensures.value) c.in_ok-deletion.ensures.order
-
-pub returns-clause-err : goal.returns-clause-err
-returns-clause-err g c = tt
-
-pub returns-clause-unchanged : goal.returns-clause-unchanged
-returns-clause-unchanged g c = tt
 
 pub planned_deletion-requires-clause-distinct : goal.planned_deletion-requires-clause-distinct
 planned_deletion-requires-clause-distinct g c = c.kept.ensures.distinct
@@ -69,7 +63,7 @@ returns-in_err-deletion g c =
       ok = tt;
       checked = tt;
       err = inl c.in_err-deletion.ensures.err;
-      unchanged = (refl, refl, refl);
+      unchanged = refl;
       own = c.requires.own;
       others = c.requires.others;
     })
@@ -98,9 +92,9 @@ returns-in_err-commit g c =
       ok = tt;
       checked = tt;
       err = which c.in_err-commit.ensures.refused refusal;
-      unchanged = (doc, refl, refl);
-      own = subst (λ (f : DocValue). IsOwnOf (length (text_of f.cells)) c.args.widget.now) (sym doc) c.requires.own;
-      others = subst (λ (f : DocValue). AllByRecursion (IsOwnOf (length (text_of f.cells))) (map own_in c.args.others.now)) (sym doc) c.requires.others;
+      unchanged = λ k. viewed (doc k) (own_of c.args.widget.now) (map own_of c.args.others.now);
+      own = subst (λ (f : DocValue). IsOwnOf (length (text_of f.cells)) (own_of c.args.widget.now)) (sym doc) c.requires.own;
+      others = subst (λ (f : DocValue). AllByRecursion (IsOwnOf (length (text_of f.cells))) (map own_of c.args.others.now)) (sym doc) c.requires.others;
     })
 
 -- what the deletion has made, in the words of its laws
@@ -113,7 +107,7 @@ record Made (flat : DocValue) (own : WidgetValue) (others : List WidgetValue) (r
   fits : clock_check (without_text flat (loss_of flat own.limits ranges)).count ≡ None
 
 made : (g : Over) (c : goal.After-drop-deletion-2 g)
-    → Made c.args.self.now c.args.widget.now (map own_in c.args.others.now) c.args.ranges.now c.commit.new.self c.leave_all.new.marks (is_covered c.in_ok-deletion.deletion.removed.items) c.cell_at.result.stamp c.in_ok-deletion.deletion.held
+    → Made c.args.self.now (own_of c.args.widget.now) (map own_of c.args.others.now) c.args.ranges.now c.commit.new.self c.leave_all.new.marks (is_covered c.in_ok-deletion.deletion.removed.items) c.cell_at.result.stamp c.in_ok-deletion.deletion.held
 made g c =
     let flat = c.args.self.now in
     let ranges = c.args.ranges.now in
@@ -147,7 +141,7 @@ made g c =
       places = places;
       moved = moved;
       holds = c.in_ok-deletion.ensures.held ∙ ap (λ (l : Loss). is_some l.newline) loss;
-      newest = last_kept c.kept.result.1.now kept flat c.args.widget.now (map own_in c.args.others.now) c.stretch-stretch.result c.cell_at.result c.kept.ensures.cells stretch c.cell_at.ensures;
+      newest = last_kept c.kept.result.1.now kept flat (own_of c.args.widget.now) (map own_of c.args.others.now) c.stretch-stretch.result c.cell_at.result c.kept.ensures.cells stretch c.cell_at.ensures;
       fits = sym (deletion_refusal flat limits ranges history document few) ∙ fits;
     }
 
@@ -165,58 +159,45 @@ invariant_of-self-2 g c =
           (deletion_listed flat (loss_of flat limits ranges) c.self.inside.tags.names (subst (λ (f : DocValue). AreListed c.self.inside.tags.names f.cells) c.self.view_is c.self.invariant.listed));
     }
 
-widget : (g : Over) (c : goal.After-drop-deletion-2 g) → c.unselect_last.new.widget ≡ widget_left (is_covered c.in_ok-deletion.deletion.removed.items) c.cell_at.result.stamp c.in_ok-deletion.deletion.held c.args.widget.now
+widget : (g : Over) (c : goal.After-drop-deletion-2 g) → (own_of c.unselect_last.new.widget) ≡ widget_left (is_covered c.in_ok-deletion.deletion.removed.items) c.cell_at.result.stamp c.in_ok-deletion.deletion.held (own_of c.args.widget.now)
 widget g c =
     let held = c.in_ok-deletion.deletion.held in
-    c.unselect_last.ensures.own ∙ ap (reselected (last_gone c.cell_at.result.stamp held)) (c.leave_all.ensures.own ∙ ap (λ l. own_left (is_covered l) c.args.widget.now) c.deref.ensures.value)
+    c.unselect_last.ensures.own ∙ ap (reselected (last_gone c.cell_at.result.stamp held)) (c.leave_all.ensures.own ∙ ap (λ l. own_left (is_covered l) (own_of c.args.widget.now)) c.deref.ensures.value)
 
 others_left : (g : Over) (c : goal.After-drop-deletion-2 g)
-    → map own_in c.unselect_last.new.others ≡ map (widget_left (is_covered c.in_ok-deletion.deletion.removed.items) c.cell_at.result.stamp c.in_ok-deletion.deletion.held) (map own_in c.args.others.now)
+    → map own_of c.unselect_last.new.others ≡ map (widget_left (is_covered c.in_ok-deletion.deletion.removed.items) c.cell_at.result.stamp c.in_ok-deletion.deletion.held) (map own_of c.args.others.now)
 others_left g c =
     let held = c.in_ok-deletion.deletion.held in
     let removed = is_covered c.in_ok-deletion.deletion.removed.items in
-    let others = map own_in c.args.others.now in
+    let others = map own_of c.args.others.now in
     c.unselect_last.ensures.others ∙ ap (map (reselected (last_gone c.cell_at.result.stamp held))) (c.leave_all.ensures.others ∙ ap (λ l. map (own_left (is_covered l)) others) c.deref.ensures.value) ∙ leave_then removed (last_gone c.cell_at.result.stamp held) others
 
-pub returns-clause-ok : goal.returns-clause-ok
-returns-clause-ok g c =
+pub returns : goal.returns
+returns g c =
     let flat = c.args.self.now in
-    let own = c.args.widget.now in
-    let others = map own_in c.args.others.now in
+    let own = own_of c.args.widget.now in
+    let others = map own_of c.args.others.now in
     let ranges = c.args.ranges.now in
-    let limits = c.args.widget.now.limits in
+    let limits = own.limits in
     let d = c.in_ok-deletion.deletion in
+    let removed = is_covered d.removed.items in
     let m = made g c in
+    let history = c.kept.ensures.history in
+    let document = c.kept.ensures.document in
     let doc : DocValue = seen c.commit.new.self c.leave_all.new.marks c.self.inside.tags.names in
     let same : doc ≡ seen c.commit.new.self c.leave_all.new.marks flat.tags = ap (λ (f : DocValue). seen c.commit.new.self c.leave_all.new.marks f.tags) c.self.view_is in
-    deletion_edited flat own others ranges doc (is_covered d.removed.items) c.cell_at.result.stamp d.held (same ∙ m.doc) m.places m.newest m.holds
-    ∙ (λ i. record { doc = doc; own = sym (widget g c) i; others = sym (others_left g c) i })
-
-pub returns-clause-checked : goal.returns-clause-checked
-returns-clause-checked g c =
-    let m = made g c in
-    ap (λ (f : DocValue). clock_check f.count) m.doc ∙ m.fits
-
-pub returns-clause-own : goal.returns-clause-own
-returns-clause-own g c =
-    let flat = c.args.self.now in
-    let ranges = c.args.ranges.now in
-    let limits = c.args.widget.now.limits in
-    let d = c.in_ok-deletion.deletion in
-    let m = made g c in
-    let cells : c.commit.new.self.cells ≡ (without_text flat (loss_of flat limits ranges)).cells = ap (λ (f : DocValue). f.cells) m.doc in
-    subst (λ (l : List TaggedCell). IsOwnOf (length (text_of l)) c.unselect_last.new.widget) (sym cells)
-    (subst (IsOwnOf (length (text_of (without_text flat (loss_of flat limits ranges)).cells))) (sym (widget g c))
-    (own_of_selecting _ _ _ (deletion_own flat limits ranges c.kept.ensures.history c.kept.ensures.document c.args.widget.now (is_covered d.removed.items) m.places c.requires.own)))
-
-pub returns-clause-others : goal.returns-clause-others
-returns-clause-others g c =
-    let flat = c.args.self.now in
-    let ranges = c.args.ranges.now in
-    let limits = c.args.widget.now.limits in
-    let d = c.in_ok-deletion.deletion in
-    let m = made g c in
-    let cells : c.commit.new.self.cells ≡ (without_text flat (loss_of flat limits ranges)).cells = ap (λ (f : DocValue). f.cells) m.doc in
-    subst (λ (l : List TaggedCell). AllByRecursion (IsOwnOf (length (text_of l))) (map own_in c.unselect_last.new.others)) (sym cells)
-    (subst (AllByRecursion (IsOwnOf (length (text_of (without_text flat (loss_of flat limits ranges)).cells)))) (sym (others_left g c))
-    (deletion_others flat limits ranges c.kept.ensures.history c.kept.ensures.document (map own_in c.args.others.now) (is_covered d.removed.items) c.cell_at.result.stamp d.held m.places c.requires.others))
+    let left = without_text flat (loss_of flat limits ranges) in
+    let cells : c.commit.new.self.cells ≡ left.cells = ap (λ (f : DocValue). f.cells) m.doc in
+    record {
+      ok = (λ i. record { doc = doc; own = widget g c i; others = others_left g c i })
+          ∙ sym (deletion_edited flat own others ranges doc removed c.cell_at.result.stamp d.held (same ∙ m.doc) m.places m.newest m.holds);
+      checked = ap (λ (f : DocValue). clock_check f.count) m.doc ∙ m.fits;
+      err = tt;
+      unchanged = tt;
+      own = subst (λ (l : List TaggedCell). IsOwnOf (length (text_of l)) (own_of c.unselect_last.new.widget)) (sym cells)
+          (subst (IsOwnOf (length (text_of left.cells))) (sym (widget g c))
+          (own_of_selecting _ _ _ (deletion_own flat limits ranges history document own removed m.places c.requires.own)));
+      others = subst (λ (l : List TaggedCell). AllByRecursion (IsOwnOf (length (text_of l))) (map own_of c.unselect_last.new.others)) (sym cells)
+          (subst (AllByRecursion (IsOwnOf (length (text_of left.cells)))) (sym (others_left g c))
+          (deletion_others flat limits ranges history document others removed c.cell_at.result.stamp d.held m.places c.requires.others));
+    }

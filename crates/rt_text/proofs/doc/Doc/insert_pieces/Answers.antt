@@ -5,7 +5,7 @@ use Rattle.rt_stamps.specs.declared.limits.TheConstants.{GREATEST_COUNT}
 use Rattle.rt_stamps.specs.Outcomes.{first_of}
 use Rattle.rt_plans.specs.DocValue.{DocValue}
 use Rattle.rt_text.specs.Commands.{cell_check, with_pieces_at}
-use Rattle.rt_text.specs.Parts.{own_in}
+use Rattle.rt_text.specs.Owned.{own_of}
 use Rattle.rt_text.specs.Widgets.{WidgetValue, ViewValue}
 use Rattle.rt_text.proofs.KeptDocument.{clock_spent}
 use Rattle.rt_text.proofs.PutLaws.{late_checks}
@@ -23,9 +23,9 @@ pub returns-in-Err : goal.returns-in-Err
 returns-in-Err g c = record {
   ok = tt;
   checked = tt;
-  err = spent c.args.self.now (λ (o : List WidgetValue). with_pieces_at (record { doc = c.args.self.now; own = c.args.widget.now; others = o }) c.args.text.place c.args.text.pieces.now c.args.text.rest.now)
-      (map own_in c.args.others.now) c.in-Err.fault c.in-Err.ensures.err;
-  unchanged = (refl, refl, refl);
+  err = spent c.args.self.now (λ (o : List WidgetValue). with_pieces_at (record { doc = c.args.self.now; own = own_of c.args.widget.now; others = o }) c.args.text.place c.args.text.pieces.now c.args.text.rest.now)
+      (map own_of c.args.others.now) c.in-Err.fault c.in-Err.ensures.err;
+  unchanged = refl;
   own = c.requires.own;
   others = c.requires.others;
 }

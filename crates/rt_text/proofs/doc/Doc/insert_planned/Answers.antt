@@ -24,7 +24,7 @@ use Rattle.rt_plans.proofs.PlaceLaws.{length_text, text_within}
 use Rattle.rt_lines.specs.declared.stretch.Stretch.{Stretch}
 use Rattle.rt_text.specs.Commands.{with_pieces_at}
 use Rattle.rt_text.specs.Kept.{IsDoc}
-use Rattle.rt_text.specs.Parts.{own_in}
+use Rattle.rt_text.specs.Owned.{own_of}
 use Rattle.rt_text.specs.Widgets.{IsOwnOf, WidgetValue, in_text, own_inserted, selections_of, with_selections}
 use Rattle.rt_text.proofs.InsertedDocument.{all_fit, kept_made, made_drafts, made_flat, made_is, made_new, may_make, names_given, others_made, own_made, put_made, refused_as, refused_made}
 use Rattle.rt_text.proofs.InsertedSides.{at_visible, place_is}
@@ -42,8 +42,8 @@ which (inr e) s = inr (sym s ∙ e)
 pub overflow_add-at : goal.overflow_add-at
 overflow_add-at g c =
     let flat = c.args.self.now in
-    let own = c.args.widget.now in
-    let others = map own_in c.args.others.now in
+    let own = own_of c.args.widget.now in
+    let others = map own_of c.args.others.now in
     let place = c.args.text.place in
     let table = c.kept.result.1.now in
     let kept = g.S.TextStore.list c.kept.result.0.now in
@@ -55,8 +55,8 @@ overflow_add-at g c =
 pub make_planned-requires-clause-names : goal.make_planned-requires-clause-names
 make_planned-requires-clause-names g c =
     let flat = c.args.self.now in
-    let own = c.args.widget.now in
-    let others = map own_in c.args.others.now in
+    let own = own_of c.args.widget.now in
+    let others = map own_of c.args.others.now in
     let pieces = c.args.text.pieces.now in
     let rest = c.args.text.rest.now in
     let place = c.args.text.place in
@@ -69,8 +69,8 @@ make_planned-requires-clause-names g c =
 pub make_planned-requires-clause-may : goal.make_planned-requires-clause-may
 make_planned-requires-clause-may g c =
     let flat = c.args.self.now in
-    let own = c.args.widget.now in
-    let others = map own_in c.args.others.now in
+    let own = own_of c.args.widget.now in
+    let others = map own_of c.args.others.now in
     let pieces = c.args.text.pieces.now in
     let rest = c.args.text.rest.now in
     let place = c.args.text.place in
@@ -88,8 +88,8 @@ invariant_of-self g c =
 pub returns-in_err-make_planned : goal.returns-in_err-make_planned
 returns-in_err-make_planned g c =
     let flat = c.args.self.now in
-    let own = c.args.widget.now in
-    let others = map own_in c.args.others.now in
+    let own = own_of c.args.widget.now in
+    let others = map own_of c.args.others.now in
     let pieces = c.args.text.pieces.now in
     let rest = c.args.text.rest.now in
     let place = c.args.text.place in
@@ -99,17 +99,17 @@ returns-in_err-make_planned g c =
     let same : refusal_of c.self.inside.replica.limit (map body_of (items_in c.replace-drafts.result)) c.self.inside.replica.log ≡ first_of (late_checks flat (with_pieces_at (viewed flat own others) place pieces rest)) =
     (λ i. refusal_of (c.self.view_is i).limit (drafts i) (c.self.view_is i).log) ∙ refused_as flat own others place pieces rest is in
     let (y, is, gives) = err_from_is_err_and c.from_residual.result c.from_residual.ensures.1 in
-    let own_now : WidgetValue = own_in c.widget.inside.parts in
+    let own_now : WidgetValue = own_of c.args.widget.now in
     let doc : seen c.make_planned.new.replica c.self.inside.marks c.make_planned.new.tags.names ≡ c.args.self.now =
     (λ k. seen (c.in_err-make_planned.ensures.same k) c.self.inside.marks (c.make_planned.ensures.tags k)) ∙ c.self.view_is in
-    let own_same : record own_now { sel = selected_stamps c.make_planned.new.selection } ≡ c.args.widget.now =
-    ap (λ (s : List Stamp). record own_now { sel = s }) c.make_planned.ensures.selection ∙ c.widget.view_is in
-    let others_same : map own_in c.make_planned.new.others ≡ map own_in c.args.others.now = c.make_planned.ensures.others in
+    let own_same : record own_now { sel = selected_stamps c.make_planned.new.selection } ≡ (own_of c.args.widget.now) =
+    ap (λ (s : List Stamp). record own_now { sel = s }) c.make_planned.ensures.selection in
+    let others_same : map own_of c.make_planned.new.others ≡ map own_of c.args.others.now = c.make_planned.ensures.others in
     rw (is, gives) (record {
       ok = tt;
       checked = tt;
       err = which c.in_err-make_planned.ensures.refused same;
-      unchanged = (doc, own_same, others_same);
+      unchanged = λ k. viewed (doc k) (own_same k) (others_same k);
       own = subst (λ (p : _). p) (λ k. IsOwnOf (length (text_of (sym doc k).cells)) (sym own_same k)) c.requires.own;
       others = subst (λ (p : _). p) (λ k. AllByRecursion (IsOwnOf (length (text_of (sym doc k).cells))) (sym others_same k)) c.requires.others;
     })
@@ -117,8 +117,8 @@ returns-in_err-make_planned g c =
 pub insert_all-requires : goal.insert_all-requires
 insert_all-requires g c =
     let flat = c.args.self.now in
-    let own = c.args.widget.now in
-    let others = map own_in c.args.others.now in
+    let own = own_of c.args.widget.now in
+    let others = map own_of c.args.others.now in
     let pieces = c.args.text.pieces.now in
     let rest = c.args.text.rest.now in
     let place = c.args.text.place in
@@ -134,12 +134,12 @@ insert_all-requires g c =
     let few : length (text_of flat.cells) + c.args.plan.characters ≤ 2 ^ 64 - 1 =
     grown_fits (length (text_of flat.cells)) (length flat.cells) (length (made_new flat own others place pieces rest).cells) c.args.plan.characters flat.limit fit.1 characters (text_within flat.cells) c.kept.ensures.most in
     let between = c.args.plan.between in
-    let now : map own_in c.select_all.new.others ≡ map (selecting between) others = c.select_all.ensures.others ∙ ap (map (selecting between)) c.make_planned.ensures.others in
+    let now : map own_of c.select_all.new.others ≡ map (selecting between) others = c.select_all.ensures.others ∙ ap (map (selecting between)) c.make_planned.ensures.others in
     let n = length (text_of flat.cells) in
     record {
       marks = site_fits (length (text_of c.self.inside.replica.cells)) c.args.plan.characters (2 ^ 64 - 1) c.self.inside.marks (subst (λ n. n + c.args.plan.characters ≤ 2 ^ 64 - 1) (sym many) few) c.self.invariant.placed;
-      insert = before_fits c.widget.inside.parts.insert.place own.insert.place (length (text_of flat.cells)) c.args.plan.characters (2 ^ 64 - 1) (ap (λ (o : WidgetValue). o.insert.place) c.widget.view_is) c.requires.own.insert few;
-      current = mark_fits c.widget.inside.parts.current.place own.current.place (length (text_of flat.cells)) c.args.plan.characters (2 ^ 64 - 1) (ap (λ (o : WidgetValue). o.current.place) c.widget.view_is) c.requires.own.current few;
+      insert = before_fits c.args.widget.now.insert.place own.insert.place (length (text_of flat.cells)) c.args.plan.characters (2 ^ 64 - 1) refl c.requires.own.insert few;
+      current = mark_fits c.args.widget.now.current.place own.current.place (length (text_of flat.cells)) c.args.plan.characters (2 ^ 64 - 1) refl c.requires.own.current few;
       others = each_room n c.args.plan.characters (2 ^ 64 - 1) c.select_all.new.others few
           (subst (AllByRecursion (IsOwnOf n)) (sym now) (each_by (IsOwnOf n) (IsOwnOf n) (selecting between) (λ other stands. own_of_selecting n other _ stands) others c.requires.others));
     }
@@ -147,8 +147,8 @@ insert_all-requires g c =
 pub list_tags-requires-clause-names : goal.list_tags-requires-clause-names
 list_tags-requires-clause-names g c =
     let flat = c.args.self.now in
-    let own = c.args.widget.now in
-    let others = map own_in c.args.others.now in
+    let own = own_of c.args.widget.now in
+    let others = map own_of c.args.others.now in
     let pieces = c.args.text.pieces.now in
     let rest = c.args.text.rest.now in
     let place = c.args.text.place in
@@ -162,8 +162,8 @@ list_tags-requires-clause-names g c =
 pub invariant_of-self-2 : goal.invariant_of-self-2
 invariant_of-self-2 g c =
     let flat = c.args.self.now in
-    let own = c.args.widget.now in
-    let others = map own_in c.args.others.now in
+    let own = own_of c.args.widget.now in
+    let others = map own_of c.args.others.now in
     let pieces = c.args.text.pieces.now in
     let rest = c.args.text.rest.now in
     let place = c.args.text.place in
@@ -194,8 +194,8 @@ invariant_of-self-2 g c =
 pub returns : goal.returns
 returns g c =
     let flat = c.args.self.now in
-    let own = c.args.widget.now in
-    let others = map own_in c.args.others.now in
+    let own = own_of c.args.widget.now in
+    let others = map own_of c.args.others.now in
     let pieces = c.args.text.pieces.now in
     let rest = c.args.text.rest.now in
     let place = c.args.text.place in
@@ -221,15 +221,13 @@ returns g c =
     let marks : c.insert_all.new.marks ≡ edited.marks = c.insert_all.ensures.marks ∙ (λ i. marks_inserted (here i) (plans.characters i) (c.self.view_is i).marks) in
     let tags : c.list_tags.new.table.names ≡ edited.tags =
     c.list_tags.ensures ∙ (λ i. all_listed (as_words (c.deref-2.ensures.value i)) (c.make_planned.ensures.tags i)) ∙ ap (λ (f : DocValue). all_listed (as_words c.args.plan.names.items) f.tags) c.self.view_is ∙ plans.tags in
-    let sel : selected_stamps c.widget.inside.parts.selection ≡ own.sel = ap (λ (o : WidgetValue). o.sel) c.widget.view_is in
-    let own_now : WidgetValue = own_in c.widget.inside.parts in
+    let own_now : WidgetValue = own_of c.args.widget.now in
     let stamps : selected_stamps c.select_all.new.selection ≡ new.sel =
-    c.select_all.ensures.selection ∙ (λ i. with_stamps (c.deref.ensures.value i) (c.make_planned.ensures.selection i)) ∙ ap (with_stamps c.args.plan.selected.items) sel ∙ plans.sel in
-    let own_after : c.insert_all.new.widget ≡ record (own_inserted point (length new.cells) own) { sel = new.sel } =
+    c.select_all.ensures.selection ∙ (λ i. with_stamps (c.deref.ensures.value i) (c.make_planned.ensures.selection i)) ∙ plans.sel in
+    let own_after : (own_of c.insert_all.new.widget) ≡ record (own_inserted point (length new.cells) own) { sel = new.sel } =
     c.insert_all.ensures.own
-    ∙ (λ i. record { insert = mark_inserted (here i) (plans.characters i) own_now.insert; current = mark_inserted (here i) (plans.characters i) own_now.current; sel = stamps i; limits = own_now.limits })
-    ∙ ap (λ (o : WidgetValue). record (own_inserted point (length new.cells) o) { sel = new.sel }) c.widget.view_is in
-    let others_after : map own_in c.insert_all.new.others ≡ with_selections new.others (map (own_inserted point (length new.cells)) others) =
+    ∙ (λ i. record { insert = mark_inserted (here i) (plans.characters i) own_now.insert; current = mark_inserted (here i) (plans.characters i) own_now.current; sel = stamps i; limits = own_now.limits }) in
+    let others_after : map own_of c.insert_all.new.others ≡ with_selections new.others (map (own_inserted point (length new.cells)) others) =
     c.insert_all.ensures.others ∙ ap (map (own_inserted at c.args.plan.characters)) (c.select_all.ensures.others ∙ ap (map (selecting c.args.plan.between)) c.make_planned.ensures.others)
     ∙ (λ i. map (own_inserted (here i) (plans.characters i)) (map (selecting c.args.plan.between) others)) ∙ put_each point (length new.cells) (selected_between c.args.plan.between) others
     ∙ ap (λ l. with_selections l (map (own_inserted point (length new.cells)) others)) plans.others in

@@ -15,7 +15,7 @@ use Rattle.rt_plans.proofs.PlaceLaws.{length_text, text_within}
 use Rattle.rt_lines.specs.declared.stretch.Stretch.{Stretch}
 use Rattle.rt_text.specs.Commands.{with_pieces_at}
 use Rattle.rt_text.specs.Kept.{IsDoc}
-use Rattle.rt_text.specs.Parts.{own_in}
+use Rattle.rt_text.specs.Owned.{own_of}
 use Rattle.rt_text.specs.Widgets.{AreSiteMarks, IsOwnOf, in_text, own_inserted, reselected, with_selections}
 use Rattle.rt_text.proofs.InsertedDocument.{all_fit, kept_made, made_drafts, made_flat, made_is, made_new, may_make, others_made, own_made, put_made, refused_as, refused_made}
 use Rattle.rt_text.proofs.InsertedSides.{at_visible, place_is}
@@ -36,8 +36,8 @@ which (inr p) s = inl p.0
 pub overflow_add-at : goal.overflow_add-at
 overflow_add-at g c =
     let flat = c.args.self.now in
-    let own = c.args.widget.now in
-    let others = map own_in c.args.others.now in
+    let own = own_of c.args.widget.now in
+    let others = map own_of c.args.others.now in
     let place = c.args.text.place in
     let table = c.kept.result.1.now in
     let kept = g.S.TextStore.list c.kept.result.0.now in
@@ -49,8 +49,8 @@ overflow_add-at g c =
 pub commit_character-requires : goal.commit_character-requires
 commit_character-requires g c =
     let flat = c.args.self.now in
-    let own = c.args.widget.now in
-    let others = map own_in c.args.others.now in
+    let own = own_of c.args.widget.now in
+    let others = map own_of c.args.others.now in
     let pieces = c.args.text.pieces.now in
     let rest = c.args.text.rest.now in
     let place = c.args.text.place in
@@ -61,8 +61,8 @@ commit_character-requires g c =
 pub returns-in_err-commit_character : goal.returns-in_err-commit_character
 returns-in_err-commit_character g c =
     let flat = c.args.self.now in
-    let own = c.args.widget.now in
-    let others = map own_in c.args.others.now in
+    let own = own_of c.args.widget.now in
+    let others = map own_of c.args.others.now in
     let pieces = c.args.text.pieces.now in
     let rest = c.args.text.rest.now in
     let place = c.args.text.place in
@@ -77,7 +77,7 @@ returns-in_err-commit_character g c =
       ok = tt;
       checked = tt;
       err = which c.in_err-commit_character.ensures.makes.refused same;
-      unchanged = (doc, refl, c.reserve_between.ensures.same);
+      unchanged = λ k. viewed (doc k) own (c.reserve_between.ensures.same k);
       own = subst (λ (f : DocValue). IsOwnOf (length (text_of f.cells)) own) (sym doc) c.requires.own;
       others = subst (λ (p : _). p) (λ k. AllByRecursion (IsOwnOf (length (text_of (sym doc k).cells))) (sym c.reserve_between.ensures.same k)) c.requires.others;
     })
@@ -85,8 +85,8 @@ returns-in_err-commit_character g c =
 pub insert_all-requires : goal.insert_all-requires
 insert_all-requires g c =
     let flat = c.args.self.now in
-    let own = c.args.widget.now in
-    let others = map own_in c.args.others.now in
+    let own = own_of c.args.widget.now in
+    let others = map own_of c.args.others.now in
     let pieces = c.args.text.pieces.now in
     let rest = c.args.text.rest.now in
     let place = c.args.text.place in
@@ -98,7 +98,7 @@ insert_all-requires g c =
     let n = length (text_of flat.cells) in
     let few : n + 1 ≤ 2 ^ 64 - 1 = grown_fits n (length flat.cells) (length (made_new flat own others place pieces rest).cells) 1 flat.limit fit.1 one (text_within flat.cells) c.kept.ensures.most in
     let rule = selected_with typed.left typed.right c.from_ref.result.now in
-    let now : map own_in c.add_between.new.others ≡ map (reselected rule) others = c.add_between.ensures ∙ ap (map (reselected rule)) c.reserve_between.ensures.same in
+    let now : map own_of c.add_between.new.others ≡ map (reselected rule) others = c.add_between.ensures ∙ ap (map (reselected rule)) c.reserve_between.ensures.same in
     record {
       marks = site_fits n 1 (2 ^ 64 - 1) c.self.inside.marks few (subst (λ (f : DocValue). AreSiteMarks (length (text_of f.cells)) c.self.inside.marks) c.self.view_is c.self.invariant.placed);
       insert = before_fits own.insert.place own.insert.place n 1 (2 ^ 64 - 1) refl c.requires.own.insert few;
@@ -110,8 +110,8 @@ insert_all-requires g c =
 pub invariant_of-self-2 : goal.invariant_of-self-2
 invariant_of-self-2 g c =
     let flat = c.args.self.now in
-    let own = c.args.widget.now in
-    let others = map own_in c.args.others.now in
+    let own = own_of c.args.widget.now in
+    let others = map own_of c.args.others.now in
     let pieces = c.args.text.pieces.now in
     let rest = c.args.text.rest.now in
     let place = c.args.text.place in
@@ -135,8 +135,8 @@ invariant_of-self-2 g c =
 pub returns : goal.returns
 returns g c =
     let flat = c.args.self.now in
-    let own = c.args.widget.now in
-    let others = map own_in c.args.others.now in
+    let own = own_of c.args.widget.now in
+    let others = map own_of c.args.others.now in
     let pieces = c.args.text.pieces.now in
     let rest = c.args.text.rest.now in
     let place = c.args.text.place in
@@ -160,13 +160,13 @@ returns g c =
     seen_made flat edited bodies c.commit_character.new.self log c.in_ok-commit_character.ensures.makes.cells (c.commit_character.ensures.makes.site ∙ ap (λ (f : DocValue). f.site) c.self.view_is) (c.commit_character.ensures.makes.limit ∙ ap (λ (f : DocValue). f.limit) c.self.view_is) refl made in
     let marks : c.insert_all.new.marks ≡ edited.marks = c.insert_all.ensures.marks ∙ (λ i. marks_inserted (here i) (length (sym comes i).cells) (c.self.view_is i).marks) in
     let tags : c.self.inside.tags.names ≡ edited.tags = ap (λ (f : DocValue). f.tags) c.self.view_is ∙ sym (ap (λ (new : Insertion). new.tags) comes) in
-    let own_after : c.insert_all.new.widget ≡ record (own_inserted point (length new.cells) own) { sel = new.sel } =
+    let own_after : (own_of c.insert_all.new.widget) ≡ record (own_inserted point (length new.cells) own) { sel = new.sel } =
     c.insert_all.ensures.own ∙ (λ i. record (own_inserted (here i) (length (sym comes i).cells) own) { sel = (sym comes i).sel }) in
     let rule : List Stamp → List Stamp = selected_with typed.left typed.right (record { count = flat.count + 1; site = flat.site } ∷ []) in
     let stamp : c.from_ref.result.now ≡ record { count = flat.count + 1; site = flat.site } ∷ [] =
     c.from_ref.ensures.value
     ∙ (λ i. record { count = (c.seen.ensures.value ∙ c.clock.ensures ∙ ap (λ (f : DocValue). f.count) c.self.view_is) i + 1; site = (c.number.ensures.value ∙ c.site.ensures ∙ ap (λ (f : DocValue). f.site) c.self.view_is) i } ∷ []) in
-    let others_after : map own_in c.insert_all.new.others ≡ with_selections new.others (map (own_inserted point (length new.cells)) others) =
+    let others_after : map own_of c.insert_all.new.others ≡ with_selections new.others (map (own_inserted point (length new.cells)) others) =
     c.insert_all.ensures.others
     ∙ ap (map (own_inserted at 1)) (c.add_between.ensures ∙ (λ i. map (reselected (selected_with typed.left typed.right (stamp i))) (c.reserve_between.ensures.same i)))
     ∙ (λ i. map (own_inserted (here i) (length (sym comes i).cells)) (map (reselected rule) others))

@@ -11,6 +11,7 @@ use Rattle.rt_plans.proofs.RestLaws.{left_given}
 use Rattle.rt_lines.specs.declared.stretch.Stretch.{Stretch}
 use Rattle.rt_lines.specs.Stretches.{stretch_of}
 use Rattle.rt_text.specs.Neighbours.{are_sides_shown, limit_left, pieces_text}
+use Rattle.rt_text.specs.Owned.{own_of}
 use Rattle.rt_text.specs.Widgets.{WidgetValue}
 use Rattle.rt_text.proofs.InsertedDocument.{drafts_are, new_is}
 use Rattle.rt_text.proofs.InsertedSides.{at_visible, element_is, found, given_if, given_not, place_is}
@@ -21,7 +22,7 @@ use Rattle.rt_text.proofs.doc.Doc.neighbours.Goals as goal
 pub left_of-behind-requires : goal.left_of-behind-requires
 left_of-behind-requires g c =
     let flat = c.args.self.now in
-    let own = c.args.widget.now in
+    let own = own_of c.args.widget.now in
     let others : List WidgetValue = [] in
     let table = c.kept.result.1.now in
     let kept = g.S.TextStore.list c.kept.result.0.now in
@@ -33,7 +34,7 @@ left_of-behind-requires g c =
 pub shown_at-right-requires : goal.shown_at-right-requires
 shown_at-right-requires g c =
     let flat = c.args.self.now in
-    let own = c.args.widget.now in
+    let own = own_of c.args.widget.now in
     let others : List WidgetValue = [] in
     let table = c.kept.result.1.now in
     let kept = g.S.TextStore.list c.kept.result.0.now in
@@ -45,7 +46,7 @@ shown_at-right-requires g c =
 pub overflow_add-at : goal.overflow_add-at
 overflow_add-at g c =
     let flat = c.args.self.now in
-    let own = c.args.widget.now in
+    let own = own_of c.args.widget.now in
     let others : List WidgetValue = [] in
     let table = c.kept.result.1.now in
     let kept = g.S.TextStore.list c.kept.result.0.now in
@@ -79,7 +80,7 @@ returns-clause-after g c =
 pub returns-clause-drafts : goal.returns-clause-drafts
 returns-clause-drafts g c = λ others rest.
     let flat = c.args.self.now in
-    let own = c.args.widget.now in
+    let own = own_of c.args.widget.now in
     let place = c.args.place in
     let pieces = c.args.pieces.now in
     let table = c.kept.result.1.now in
@@ -94,7 +95,7 @@ returns-clause-drafts g c = λ others rest.
 pub returns-clause-comes : goal.returns-clause-comes
 returns-clause-comes g c = λ others rest.
     let flat = c.args.self.now in
-    let own = c.args.widget.now in
+    let own = own_of c.args.widget.now in
     let place = c.args.place in
     let pieces = c.args.pieces.now in
     let table = c.kept.result.1.now in

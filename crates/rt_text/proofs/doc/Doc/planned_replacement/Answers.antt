@@ -15,7 +15,7 @@ use Rattle.rt_plans.specs.Removals.{gone_at, is_covered, AreInOrder}
 use Rattle.rt_plans.specs.Selected.{selected_stamps}
 use Rattle.rt_lines.specs.Stretches.{stretch_of}
 use Rattle.rt_text.specs.Neighbours.{are_sides_shown, limit_left, pieces_text}
-use Rattle.rt_text.specs.Widgets.{WidgetValue}
+use Rattle.rt_text.specs.Owned.{own_of}
 use Rattle.rt_text.proofs.InsertedSides.{element_is, given_not}
 use Rattle.rt_text.proofs.LimitedDeletions.{loss_of}
 use Rattle.rt_text.proofs.PlannedReplacement.{IsBeside, IsKept, at_begin, at_flat, at_left, at_within, counted, counts_grow, drafts_are, few_visible, loss_is, none_held, plan_is, stretch_kept_within, too_great}
@@ -48,7 +48,7 @@ returns-in_err-deletion g c =
 pub returns-in_err-count : goal.returns-in_err-count
 returns-in_err-count g c =
     let flat = c.args.self.now in
-    let own = c.args.widget.now in
+    let own = own_of c.args.widget.now in
     let range = c.args.range in
     let table = c.kept.result.1.now in
     let kept = g.S.TextStore.list c.kept.result.0.now in
@@ -85,7 +85,7 @@ returns-in_err-count g c =
 pub left_after-behind-requires-clause-place : goal.left_after-behind-requires-clause-place
 left_after-behind-requires-clause-place g c =
     let flat = c.args.self.now in
-    let own = c.args.widget.now in
+    let own = own_of c.args.widget.now in
     let range = c.args.range in
     let table = c.kept.result.1.now in
     let kept = g.S.TextStore.list c.kept.result.0.now in
@@ -110,7 +110,7 @@ left_after-behind-requires-clause-place g c =
 pub left_after-behind-requires-clause-within : goal.left_after-behind-requires-clause-within
 left_after-behind-requires-clause-within g c =
     let flat = c.args.self.now in
-    let own = c.args.widget.now in
+    let own = own_of c.args.widget.now in
     let range = c.args.range in
     let table = c.kept.result.1.now in
     let kept = g.S.TextStore.list c.kept.result.0.now in
@@ -135,7 +135,7 @@ left_after-behind-requires-clause-few g c = few_visible (g.S.TextStore.list c.ke
 pub shown_after-right-requires-clause-place : goal.shown_after-right-requires-clause-place
 shown_after-right-requires-clause-place g c =
     let flat = c.args.self.now in
-    let own = c.args.widget.now in
+    let own = own_of c.args.widget.now in
     let range = c.args.range in
     let table = c.kept.result.1.now in
     let kept = g.S.TextStore.list c.kept.result.0.now in
@@ -160,7 +160,7 @@ shown_after-right-requires-clause-place g c =
 pub shown_after-right-requires-clause-within : goal.shown_after-right-requires-clause-within
 shown_after-right-requires-clause-within g c =
     let flat = c.args.self.now in
-    let own = c.args.widget.now in
+    let own = own_of c.args.widget.now in
     let range = c.args.range in
     let table = c.kept.result.1.now in
     let kept = g.S.TextStore.list c.kept.result.0.now in
@@ -185,7 +185,7 @@ shown_after-right-requires-clause-few g c = few_visible (g.S.TextStore.list c.ke
 pub overflow_sub-at : goal.overflow_sub-at
 overflow_sub-at g c =
     let flat = c.args.self.now in
-    let own = c.args.widget.now in
+    let own = own_of c.args.widget.now in
     let range = c.args.range in
     let table = c.kept.result.1.now in
     let kept = g.S.TextStore.list c.kept.result.0.now in
@@ -209,7 +209,7 @@ overflow_sub-at g c =
 pub overflow_sub-both : goal.overflow_sub-both
 overflow_sub-both g c =
     let flat = c.args.self.now in
-    let own = c.args.widget.now in
+    let own = own_of c.args.widget.now in
     let range = c.args.range in
     let table = c.kept.result.1.now in
     let kept = g.S.TextStore.list c.kept.result.0.now in
@@ -251,7 +251,7 @@ either f (inr b) = inr (f b)
 pub returns-in_err-plan : goal.returns-in_err-plan
 returns-in_err-plan g c =
     let flat = c.args.self.now in
-    let own = c.args.widget.now in
+    let own = own_of c.args.widget.now in
     let range = c.args.range in
     let table = c.kept.result.1.now in
     let kept = g.S.TextStore.list c.kept.result.0.now in
@@ -275,7 +275,6 @@ returns-in_err-plan g c =
     let all : (without_text flat (loss_of flat own.limits (range ∷ []))).count ≡ flat.count + length d.drafts.items = counted table kept flat own stretch is range removed places d.drafts.items made in
     let count : c.in_ok-count.count ≡ (without_text flat (loss_of flat own.limits (range ∷ []))).count = omega (arith, c.in_ok-count.ensures.ok.0, c.len.ensures, d.drafts.ok.0, seen, all) in
     let fits : (without_text flat (loss_of flat own.limits (range ∷ []))).count ≤ GREATEST_COUNT = omega (arith, count, c.in_ok-count.ensures.ok.1) in
-    let sel : selected_stamps c.widget.inside.parts.selection ≡ own.sel = ap (λ (o : WidgetValue). o.sel) c.widget.view_is in
     let site : c.site-site.result.number ≡ flat.site = c.site-site.ensures ∙ ap (λ (f : DocValue). f.site) c.self.view_is in
     let limits = c.limits-2.result in
     let place = at - stretch.begin in
@@ -286,7 +285,7 @@ returns-in_err-plan g c =
     let pieces = c.args.pieces.now in
     let rest = c.args.rest.now in
     let number = c.site-site.result.number in
-    let selected = selected_stamps c.widget.inside.parts.selection in
+    let selected = selected_stamps c.args.widget.now.selection in
     let beside : IsBeside table kept flat own stretch is range removed places limits d.held place at pieces before after left right = record {
       held_is = c.in_ok-deletion.ensures.held;
       limits_is = c.limits-2.ensures;
@@ -309,7 +308,7 @@ returns-in_err-plan g c =
       fits = tt;
       err = either (λ q. (
         q.0,
-        λ others. too_great table kept flat own stretch is range removed places others limits d.held place at pieces rest before after left right fits beside number c.in_ok-count.count selected site count sel GREATEST_COUNT q.1,
+        λ others. too_great table kept flat own stretch is range removed places others limits d.held place at pieces rest before after left right fits beside number c.in_ok-count.count selected site count refl GREATEST_COUNT q.1,
       )) c.in_err-plan.ensures.err;
     })
 
@@ -327,7 +326,7 @@ returns-clause-err g c = tt
 pub returns-clause-plans : goal.returns-clause-plans
 returns-clause-plans g c = λ others.
     let flat = c.args.self.now in
-    let own = c.args.widget.now in
+    let own = own_of c.args.widget.now in
     let range = c.args.range in
     let table = c.kept.result.1.now in
     let kept = g.S.TextStore.list c.kept.result.0.now in
@@ -351,7 +350,6 @@ returns-clause-plans g c = λ others.
     let all : (without_text flat (loss_of flat own.limits (range ∷ []))).count ≡ flat.count + length d.drafts.items = counted table kept flat own stretch is range removed places d.drafts.items made in
     let count : c.in_ok-count.count ≡ (without_text flat (loss_of flat own.limits (range ∷ []))).count = omega (arith, c.in_ok-count.ensures.ok.0, c.len.ensures, d.drafts.ok.0, seen, all) in
     let fits : (without_text flat (loss_of flat own.limits (range ∷ []))).count ≤ GREATEST_COUNT = omega (arith, count, c.in_ok-count.ensures.ok.1) in
-    let sel : selected_stamps c.widget.inside.parts.selection ≡ own.sel = ap (λ (o : WidgetValue). o.sel) c.widget.view_is in
     let site : c.site-site.result.number ≡ flat.site = c.site-site.ensures ∙ ap (λ (f : DocValue). f.site) c.self.view_is in
     let limits = c.limits-2.result in
     let place = at - stretch.begin in
@@ -362,7 +360,7 @@ returns-clause-plans g c = λ others.
     let pieces = c.args.pieces.now in
     let rest = c.args.rest.now in
     let number = c.site-site.result.number in
-    let selected = selected_stamps c.widget.inside.parts.selection in
+    let selected = selected_stamps c.args.widget.now.selection in
     let beside : IsBeside table kept flat own stretch is range removed places limits d.held place at pieces before after left right = record {
       held_is = c.in_ok-deletion.ensures.held;
       limits_is = c.limits-2.ensures;
@@ -376,10 +374,10 @@ returns-clause-plans g c = λ others.
           (cond d.held None (right_neighbour (visible_of (gone_at (is_covered rs) 0 kept)) at)) None) c.deref-3.ensures.value;
     } in
     let plan =
-    plan_is table kept flat own stretch is range removed places others limits d.held place at pieces rest before after left right fits beside number c.in_ok-count.count selected site count sel c.in_ok-plan.plan c.in_ok-plan.ensures.plans in
+    plan_is table kept flat own stretch is range removed places others limits d.held place at pieces rest before after left right fits beside number c.in_ok-count.count selected site count refl c.in_ok-plan.plan c.in_ok-plan.ensures.plans in
     record {
       place = at_left table kept flat own stretch is range removed places others limits d.held place at pieces rest before after left right fits beside;
-      drafts = drafts_are table kept flat own stretch is range removed places others limits d.held place at pieces rest before after left right fits beside number c.in_ok-count.count selected site count sel
+      drafts = drafts_are table kept flat own stretch is range removed places others limits d.held place at pieces rest before after left right fits beside number c.in_ok-count.count selected site count refl
           d.drafts.items (items_in c.in_ok-plan.plan.drafts) c.move_to.new.list.items made c.in_ok-plan.ensures.drafts (c.in_ok-move_to.ensures.ok ∙ ap (λ few. d.drafts.items ++ items_in few) c.replace-inserts.ensures.value);
       plan = record { characters = plan.characters; sel = plan.sel; others = plan.others; tags = plan.tags };
     }
@@ -387,7 +385,7 @@ returns-clause-plans g c = λ others.
 pub returns-clause-removed : goal.returns-clause-removed
 returns-clause-removed g c = λ p.
     let flat = c.args.self.now in
-    let own = c.args.widget.now in
+    let own = own_of c.args.widget.now in
     let range = c.args.range in
     let table = c.kept.result.1.now in
     let kept = g.S.TextStore.list c.kept.result.0.now in
@@ -409,7 +407,7 @@ returns-clause-removed g c = λ p.
 pub returns-clause-held : goal.returns-clause-held
 returns-clause-held g c =
     let flat = c.args.self.now in
-    let own = c.args.widget.now in
+    let own = own_of c.args.widget.now in
     let range = c.args.range in
     let table = c.kept.result.1.now in
     let kept = g.S.TextStore.list c.kept.result.0.now in
@@ -441,7 +439,7 @@ returns-clause-alone g c = λ k.
 pub returns-clause-fits : goal.returns-clause-fits
 returns-clause-fits g c =
     let flat = c.args.self.now in
-    let own = c.args.widget.now in
+    let own = own_of c.args.widget.now in
     let range = c.args.range in
     let table = c.kept.result.1.now in
     let kept = g.S.TextStore.list c.kept.result.0.now in

@@ -1,4 +1,4 @@
-use Rattle.rt_text.specs.declared.parts.Parts.{Parts}
+use Rattle.rt_text.specs.declared.widget.Widget.{Widget}
 use Rattle.rt_plans.specs.declared.inserting.Between.{Between}
 use Rattle.rt_text.proofs.Room.{before_fits, mark_fits, text_fits}
 use Rattle.rt_stamps.specs.declared.stamp.Stamp.{Stamp}
@@ -37,7 +37,7 @@ use Rattle.rt_lines.specs.Stretches.{stretch_of}
 use Rattle.rt_text.specs.Commands.{cell_check, with_range_replaced}
 use Rattle.rt_text.specs.Kept.{IsDoc}
 use Rattle.rt_text.specs.Replacements.{left_by, loss_at}
-use Rattle.rt_text.specs.Parts.{own_in, HaveRoomFor}
+use Rattle.rt_text.specs.Owned.{own_of, HaveRoomFor}
 use Rattle.rt_text.specs.Widgets.{AreSiteMarks, IsOwnOf, WidgetValue, ViewValue, begin_of, last_newline, own_inserted, own_left, with_selections, reselected}
 use Rattle.rt_text.proofs.KeptDocument.{clock_spent}
 use Rattle.rt_text.proofs.LimitedDeletions.{last_gone, last_kept, stretch_kept, widget_left}
@@ -68,9 +68,9 @@ returns-in_err-planned g c =
     rw (is, gives) (record {
       ok = tt;
       checked = tt;
-      err = spent c.args.self.now (λ (o : List WidgetValue). with_range_replaced (record { doc = c.args.self.now; own = c.args.widget.now; others = o }) c.args.range c.args.pieces.now c.args.rest.now)
-          (map own_in c.args.others.now) c.in_err-planned.field-0.0 c.in_err-planned.ensures.err;
-      unchanged = (refl, refl, refl);
+      err = spent c.args.self.now (λ (o : List WidgetValue). with_range_replaced (record { doc = c.args.self.now; own = own_of c.args.widget.now; others = o }) c.args.range c.args.pieces.now c.args.rest.now)
+          (map own_of c.args.others.now) c.in_err-planned.field-0.0 c.in_err-planned.ensures.err;
+      unchanged = refl;
       own = c.requires.own;
       others = c.requires.others;
     })
@@ -83,8 +83,8 @@ at_is table kept flat own others place limits stretch e l s = ap (λ (y : Stretc
 pub overflow_add-at : goal.overflow_add-at
 overflow_add-at g c =
     let flat = c.args.self.now in
-    let own = c.args.widget.now in
-    let others = map own_in c.args.others.now in
+    let own = own_of c.args.widget.now in
+    let others = map own_of c.args.others.now in
     let pieces = c.args.pieces.now in
     let rest = c.args.rest.now in
     let r = c.in_ok-planned.planned in
@@ -108,8 +108,8 @@ overflow_add-at g c =
 pub make_planned-requires-clause-names : goal.make_planned-requires-clause-names
 make_planned-requires-clause-names g c =
     let flat = c.args.self.now in
-    let own = c.args.widget.now in
-    let others = map own_in c.args.others.now in
+    let own = own_of c.args.widget.now in
+    let others = map own_of c.args.others.now in
     let pieces = c.args.pieces.now in
     let rest = c.args.rest.now in
     let r = c.in_ok-planned.planned in
@@ -129,8 +129,8 @@ make_planned-requires-clause-names g c =
 pub make_planned-requires-clause-may : goal.make_planned-requires-clause-may
 make_planned-requires-clause-may g c =
     let flat = c.args.self.now in
-    let own = c.args.widget.now in
-    let others = map own_in c.args.others.now in
+    let own = own_of c.args.widget.now in
+    let others = map own_of c.args.others.now in
     let pieces = c.args.pieces.now in
     let rest = c.args.rest.now in
     let r = c.in_ok-planned.planned in
@@ -154,8 +154,8 @@ invariant_of-self g c =
 pub returns-in_err-make_planned : goal.returns-in_err-make_planned
 returns-in_err-make_planned g c =
     let flat = c.args.self.now in
-    let own = c.args.widget.now in
-    let others = map own_in c.args.others.now in
+    let own = own_of c.args.widget.now in
+    let others = map own_of c.args.others.now in
     let pieces = c.args.pieces.now in
     let rest = c.args.rest.now in
     let r = c.in_ok-planned.planned in
@@ -173,17 +173,17 @@ returns-in_err-make_planned g c =
     let same : refusal_of c.self.inside.replica.limit (map body_of c.replace-drafts.result.items) c.self.inside.replica.log ≡ first_of (late_checks flat (with_range_replaced (viewed flat own others) c.args.range pieces rest)) =
     (λ k. refusal_of (c.self.view_is k).limit ((drafts ∙ plans.drafts) k) (c.self.view_is k).log) ∙ all_refused flat own others c.args.range r.place pieces rest i in
     let (y, is, gives) = err_from_is_err_and c.from_residual-in_err-make_planned.result c.from_residual-in_err-make_planned.ensures.1 in
-    let own_now : WidgetValue = own_in c.widget.inside.parts in
+    let own_now : WidgetValue = own_of c.args.widget.now in
     let doc : seen c.make_planned.new.replica c.self.inside.marks c.make_planned.new.tags.names ≡ c.args.self.now =
     (λ k. seen (c.in_err-make_planned.ensures.same k) c.self.inside.marks (c.make_planned.ensures.tags k)) ∙ c.self.view_is in
-    let own_same : record own_now { sel = selected_stamps c.make_planned.new.selection } ≡ c.args.widget.now =
-    ap (λ (s : List Stamp). record own_now { sel = s }) c.make_planned.ensures.selection ∙ c.widget.view_is in
-    let others_same : map own_in c.make_planned.new.others ≡ map own_in c.args.others.now = c.make_planned.ensures.others in
+    let own_same : record own_now { sel = selected_stamps c.make_planned.new.selection } ≡ (own_of c.args.widget.now) =
+    ap (λ (s : List Stamp). record own_now { sel = s }) c.make_planned.ensures.selection in
+    let others_same : map own_of c.make_planned.new.others ≡ map own_of c.args.others.now = c.make_planned.ensures.others in
     rw (is, gives) (record {
       ok = tt;
       checked = tt;
       err = which c.in_err-make_planned.ensures.refused same;
-      unchanged = (doc, own_same, others_same);
+      unchanged = λ k. viewed (doc k) (own_same k) (others_same k);
       own = subst (λ (p : _). p) (λ k. IsOwnOf (length (text_of (sym doc k).cells)) (sym own_same k)) c.requires.own;
       others = subst (λ (p : _). p) (λ k. AllByRecursion (IsOwnOf (length (text_of (sym doc k).cells))) (sym others_same k)) c.requires.others;
     })
@@ -191,8 +191,8 @@ returns-in_err-make_planned g c =
 pub insert_all-requires : goal.insert_all-requires
 insert_all-requires g c =
     let flat = c.args.self.now in
-    let own = c.args.widget.now in
-    let others = map own_in c.args.others.now in
+    let own = own_of c.args.widget.now in
+    let others = map own_of c.args.others.now in
     let pieces = c.args.pieces.now in
     let rest = c.args.rest.now in
     let r = c.in_ok-planned.planned in
@@ -214,8 +214,8 @@ insert_all-requires g c =
     let newest : c.cell_at.result.stamp ≡ last_newline (viewed flat own others) =
     last_kept c.kept.result.1.now (g.S.TextStore.list c.kept.result.0.now) flat own others c.stretch-stretch.result c.cell_at.result c.kept.ensures.cells
     (c.stretch-stretch.ensures.value ∙ ap (stretch_of (g.S.TextStore.list c.kept.result.0.now)) c.limits.ensures) c.cell_at.ensures in
-    let peers : map own_in c.leave_all.new.others ≡ map (selecting r.plan.between) left.others =
-    c.leave_all.ensures.others ∙ ap (λ rs. map (own_left (is_covered rs)) (map own_in c.select_all.new.others)) c.deref-2.ensures.value
+    let peers : map own_of c.leave_all.new.others ≡ map (selecting r.plan.between) left.others =
+    c.leave_all.ensures.others ∙ ap (λ rs. map (own_left (is_covered rs)) (map own_of c.select_all.new.others)) c.deref-2.ensures.value
     ∙ ap (map (own_left (is_covered r.removed.items))) (c.select_all.ensures.others ∙ ap (map (selecting r.plan.between)) (c.unselect.ensures.others ∙ ap (map (reselected (last_gone c.cell_at.result.stamp r.held))) c.make_planned.ensures.others))
     ∙ leave_last (is_covered r.removed.items) (last_gone c.cell_at.result.stamp r.held) r.plan.between others
     ∙ (λ k. map (selecting r.plan.between) (map (widget_left (λ p. c.in_ok-planned.ensures.removed p k) (newest k) (c.in_ok-planned.ensures.held k)) others)) in
@@ -224,13 +224,13 @@ insert_all-requires g c =
     let moved : c.leave_all.new.marks ≡ left.doc.marks =
     c.leave_all.ensures.marks ∙ ap (λ l. marks_left (is_covered l) c.self.inside.marks) c.deref-2.ensures.value
     ∙ (λ k. marks_left (λ p. c.in_ok-planned.ensures.removed p k) (c.self.view_is k).marks) ∙ sym (marks_left_are flat own others c.args.range r.place pieces rest i) in
-    let own_now : WidgetValue = own_in c.widget.inside.parts in
+    let own_now : WidgetValue = own_of c.args.widget.now in
     let insert : c.leave_all.new.widget.insert.place ≡ left.own.insert.place =
     ap (λ (o : WidgetValue). o.insert.place) c.leave_all.ensures.own ∙ ap (λ rs. (own_left (is_covered rs) own_now).insert.place) c.deref-2.ensures.value
-    ∙ (λ k. (own_left (λ p. c.in_ok-planned.ensures.removed p k) (c.widget.view_is k)).insert.place) in
+    ∙ (λ k. (own_left (λ p. c.in_ok-planned.ensures.removed p k) (own_of c.args.widget.now)).insert.place) in
     let current : c.leave_all.new.widget.current.place ≡ left.own.current.place =
     ap (λ (o : WidgetValue). o.current.place) c.leave_all.ensures.own ∙ ap (λ rs. (own_left (is_covered rs) own_now).current.place) c.deref-2.ensures.value
-    ∙ (λ k. (own_left (λ p. c.in_ok-planned.ensures.removed p k) (c.widget.view_is k)).current.place) in
+    ∙ (λ k. (own_left (λ p. c.in_ok-planned.ensures.removed p k) (own_of c.args.widget.now)).current.place) in
     record {
       marks = site_fits (length (text_of left.doc.cells)) r.plan.characters (2 ^ 64 - 1) c.leave_all.new.marks few
           (subst (AreSiteMarks (length (text_of left.doc.cells))) (sym moved) (marks_left_in flat own others c.args.range r.place pieces rest i kept));
@@ -244,8 +244,8 @@ insert_all-requires g c =
 pub list_tags-requires-clause-names : goal.list_tags-requires-clause-names
 list_tags-requires-clause-names g c =
     let flat = c.args.self.now in
-    let own = c.args.widget.now in
-    let others = map own_in c.args.others.now in
+    let own = own_of c.args.widget.now in
+    let others = map own_of c.args.others.now in
     let pieces = c.args.pieces.now in
     let rest = c.args.rest.now in
     let r = c.in_ok-planned.planned in
@@ -278,12 +278,12 @@ record Done (flat : DocValue) (own : WidgetValue) (others : List WidgetValue) (r
       (map (own_inserted (point flat own others range place pieces rest is) (length (more_new flat own others range place pieces rest is).cells)) (left_by (viewed flat own others) range).others)
 
 done : (g : Over) (c : goal.After-drop-planned-2 g)
-    → Done c.args.self.now c.args.widget.now (map own_in c.args.others.now) c.args.range c.in_ok-planned.planned.place c.args.pieces.now c.args.rest.now c.make_planned.new.replica c.insert_all.new.marks c.list_tags.new.table.names
-    c.insert_all.new.widget (map own_in c.insert_all.new.others)
+    → Done c.args.self.now (own_of c.args.widget.now) (map own_of c.args.others.now) c.args.range c.in_ok-planned.planned.place c.args.pieces.now c.args.rest.now c.make_planned.new.replica c.insert_all.new.marks c.list_tags.new.table.names
+    (own_of c.insert_all.new.widget) (map own_of c.insert_all.new.others)
 done g c =
     let flat = c.args.self.now in
-    let own = c.args.widget.now in
-    let others = map own_in c.args.others.now in
+    let own = own_of c.args.widget.now in
+    let others = map own_of c.args.others.now in
     let pieces = c.args.pieces.now in
     let rest = c.args.rest.now in
     let r = c.in_ok-planned.planned in
@@ -306,11 +306,10 @@ done g c =
     ∙ (λ k. marks_left (λ p. c.in_ok-planned.ensures.removed p k) (c.self.view_is k).marks) ∙ sym (marks_left_are flat own others c.args.range r.place pieces rest i) in
     let at = c.stretch-stretch.result.begin + r.place in
     let place = point flat own others c.args.range r.place pieces rest i in
-    let own_now : WidgetValue = own_in c.widget.inside.parts in
+    let own_now : WidgetValue = own_of c.args.widget.now in
     let new = more_new flat own others c.args.range r.place pieces rest i in
     let selected = r.plan.selected.items in
     let names = as_words r.plan.names.items in
-    let sel : selected_stamps c.widget.inside.parts.selection ≡ own.sel = ap (λ (o : WidgetValue). o.sel) c.widget.view_is in
     let newest : c.cell_at.result.stamp ≡ last_newline (viewed flat own others) =
     last_kept c.kept.result.1.now (g.S.TextStore.list c.kept.result.0.now) flat own others c.stretch-stretch.result c.cell_at.result c.kept.ensures.cells
     (c.stretch-stretch.ensures.value ∙ ap (stretch_of (g.S.TextStore.list c.kept.result.0.now)) c.limits.ensures) c.cell_at.ensures in
@@ -319,13 +318,13 @@ done g c =
     ∙ point_is flat own others c.args.range r.place pieces rest i in
     let held = c.in_ok-planned.ensures.held in
     let stamps : selected_stamps c.select_all.new.selection ≡ new.sel =
-    c.select_all.ensures.selection ∙ (λ k. with_stamps (c.deref.ensures.value k) (c.unselect.ensures.sel k)) ∙ ap (λ s. with_stamps selected (last_gone c.cell_at.result.stamp r.held s)) (c.make_planned.ensures.selection ∙ sel)
+    c.select_all.ensures.selection ∙ (λ k. with_stamps (c.deref.ensures.value k) (c.unselect.ensures.sel k)) ∙ ap (λ s. with_stamps selected (last_gone c.cell_at.result.stamp r.held s)) c.make_planned.ensures.selection
     ∙ (λ k. with_stamps selected (last_gone (newest k) (held k) own.sel)) ∙ plans.plan.sel in
-    let own_moved : c.leave_all.new.widget ≡ own_left (loss_at (viewed flat own others) c.args.range).places (record own { sel = new.sel }) =
+    let own_moved : (own_of c.leave_all.new.widget) ≡ own_left (loss_at (viewed flat own others) c.args.range).places (record own { sel = new.sel }) =
     c.leave_all.ensures.own ∙ ap (λ rs. own_left (is_covered rs) (record own_now { sel = selected_stamps c.select_all.new.selection })) c.deref-2.ensures.value
-    ∙ (λ k. own_left (λ p. c.in_ok-planned.ensures.removed p k) (record (c.widget.view_is k) { sel = stamps k })) in
-    let peers : map own_in c.leave_all.new.others ≡ map (selecting r.plan.between) left.others =
-    c.leave_all.ensures.others ∙ ap (λ rs. map (own_left (is_covered rs)) (map own_in c.select_all.new.others)) c.deref-2.ensures.value
+    ∙ (λ k. own_left (λ p. c.in_ok-planned.ensures.removed p k) (record own { sel = stamps k })) in
+    let peers : map own_of c.leave_all.new.others ≡ map (selecting r.plan.between) left.others =
+    c.leave_all.ensures.others ∙ ap (λ rs. map (own_left (is_covered rs)) (map own_of c.select_all.new.others)) c.deref-2.ensures.value
     ∙ ap (map (own_left (is_covered r.removed.items))) (c.select_all.ensures.others ∙ ap (map (selecting r.plan.between)) (c.unselect.ensures.others ∙ ap (map (reselected (last_gone c.cell_at.result.stamp r.held))) c.make_planned.ensures.others))
     ∙ leave_last (is_covered r.removed.items) (last_gone c.cell_at.result.stamp r.held) r.plan.between others
     ∙ (λ k. map (selecting r.plan.between) (map (widget_left (λ p. c.in_ok-planned.ensures.removed p k) (newest k) (c.in_ok-planned.ensures.held k)) others)) in
@@ -348,8 +347,8 @@ done g c =
 pub invariant_of-self-2 : goal.invariant_of-self-2
 invariant_of-self-2 g c =
     let flat = c.args.self.now in
-    let own = c.args.widget.now in
-    let others = map own_in c.args.others.now in
+    let own = own_of c.args.widget.now in
+    let others = map own_of c.args.others.now in
     let place = c.in_ok-planned.planned.place in
     let pieces = c.args.pieces.now in
     let rest = c.args.rest.now in
@@ -357,7 +356,7 @@ invariant_of-self-2 g c =
     subst (λ (p : _). p) (λ k. IsDoc (sym d.doc k).cells (sym d.marks_is k) (sym d.tags_is k)) (kept_after flat own others c.args.range place pieces rest d.is d.kept)
 
 -- where the last newline is held nothing is selected between two, and else no selection has changed
-room_kept : (held : Bool) (between : Option Between) (old new : List Parts) → (held ≡ true → between ≡ None) → (held ≡ false → new ≡ old) → HaveRoomFor between old → HaveRoomFor between new
+room_kept : (held : Bool) (between : Option Between) (old new : List Widget) → (held ≡ true → between ≡ None) → (held ≡ false → new ≡ old) → HaveRoomFor between old → HaveRoomFor between new
 room_kept true between old new none same room = subst (λ (b : Option Between). HaveRoomFor b new) (sym (none refl)) tt
 room_kept false between old new none same room = subst (HaveRoomFor between) (sym (same refl)) room
 
@@ -382,8 +381,8 @@ list_tags-requires-clause-ready g c = subst (All (λ w. is_ready (string_bytes w
 pub returns : goal.returns
 returns g c =
     let flat = c.args.self.now in
-    let own = c.args.widget.now in
-    let others = map own_in c.args.others.now in
+    let own = own_of c.args.widget.now in
+    let others = map own_of c.args.others.now in
     let place = c.in_ok-planned.planned.place in
     let pieces = c.args.pieces.now in
     let rest = c.args.rest.now in

@@ -24,7 +24,7 @@ use Rattle.rt_revert.proofs.Steps.{reversion_sound}
 use Rattle.rt_text.specs.Changes.{own_after, own_renamed}
 use Rattle.rt_text.specs.Kept.{IsDoc}
 use Rattle.rt_text.specs.Reversions.{own_reverted, reversion_check}
-use Rattle.rt_text.specs.Parts.{own_in}
+use Rattle.rt_text.specs.Owned.{own_of}
 use Rattle.rt_text.specs.Widgets.{IsOwnOf}
 use Rattle.rt_text.proofs.MadeDocument.{seen}
 use Rattle.rt_text.proofs.MarkLaws.{site_fits}
@@ -133,8 +133,8 @@ returns-in_err-prepare_tags g c =
       ids = c.planned_reversion.ensures.ids;
       err = inl c.in_err-prepare_tags.ensures.err;
       unchanged = (doc, refl, refl);
-      own = subst (λ (f : DocValue). IsOwnOf (length (text_of f.cells)) c.args.widget.now) (sym doc) c.requires.own;
-      others = subst (λ (f : DocValue). AllByRecursion (IsOwnOf (length (text_of f.cells))) (map own_in c.args.others.now)) (sym doc) c.requires.others;
+      own = subst (λ (f : DocValue). IsOwnOf (length (text_of f.cells)) (own_of c.args.widget.now)) (sym doc) c.requires.own;
+      others = subst (λ (f : DocValue). AllByRecursion (IsOwnOf (length (text_of f.cells))) (map own_of c.args.others.now)) (sym doc) c.requires.others;
     })
 
 pub invariant_of-self-in_err-commit : goal.invariant_of-self-in_err-commit
@@ -182,8 +182,8 @@ returns-in_err-commit g c =
       ids = c.planned_reversion.ensures.ids;
       err = which c.in_err-commit.ensures.refused same;
       unchanged = (doc, refl, refl);
-      own = subst (λ (f : DocValue). IsOwnOf (length (text_of f.cells)) c.args.widget.now) (sym doc) c.requires.own;
-      others = subst (λ (f : DocValue). AllByRecursion (IsOwnOf (length (text_of f.cells))) (map own_in c.args.others.now)) (sym doc) c.requires.others;
+      own = subst (λ (f : DocValue). IsOwnOf (length (text_of f.cells)) (own_of c.args.widget.now)) (sym doc) c.requires.own;
+      others = subst (λ (f : DocValue). AllByRecursion (IsOwnOf (length (text_of f.cells))) (map own_of c.args.others.now)) (sym doc) c.requires.others;
     })
 
 pub revert_all-requires : goal.revert_all-requires
@@ -275,11 +275,11 @@ returns g c =
     let marks : c.revert_all.new.marks ≡ left.marks = c.revert_all.ensures.marks ∙ (λ k. marks_after (c.deref-2.ensures.value k) (c.self.view_is k).marks) ∙ plans.marks in
     let tags : c.list_tags.new.table.names ≡ left.tags =
     c.list_tags.ensures ∙ (λ k. all_listed (as_words (c.deref-4.ensures.value k)) (c.prepare_tags.ensures.names k)) ∙ ap (λ (f : DocValue). all_listed (as_words plan.names.items) f.tags) c.self.view_is ∙ plans.tags in
-    let own = c.args.widget.now in
-    let own_moved_is : c.revert_all.new.widget ≡ own_reverted flat group own =
+    let own = own_of c.args.widget.now in
+    let own_moved_is : (own_of c.revert_all.new.widget) ≡ own_reverted flat group own =
     c.revert_all.ensures.own ∙ (λ k. own_renamed (c.deref-3.ensures.value k) (own_after (c.deref-2.ensures.value k) own)) ∙ own_moved states table store number many flat group plan p own in
-    let others = map own_in c.args.others.now in
-    let others_moved : map own_in c.revert_all.new.others ≡ map (own_reverted flat group) others =
+    let others = map own_of c.args.others.now in
+    let others_moved : map own_of c.revert_all.new.others ≡ map (own_reverted flat group) others =
     c.revert_all.ensures.others ∙ (λ k. map (λ own. own_renamed (c.deref-3.ensures.value k) (own_after (c.deref-2.ensures.value k) own)) others) ∙ (λ k. map (λ own. own_moved states table store number many flat group plan p own k) others) in
     record {
       doc = (λ k. seen c.commit.new.self (marks k) (tags k)) ∙ doc;

@@ -1,4 +1,4 @@
-use Rattle.std.proofs.Common.{◌∙◌, List, ap, arith, length, sym}
+use Rattle.std.proofs.Common.{◌∙◌, List, ap, arith, length, sym, refl}
 use Rattle.rt_plans.specs.Selected.{selected_stamps}
 use Rattle.rt_plans.proofs.PlaceLaws.{length_text}
 use Rattle.rt_index.specs.Widget.{tag_first}
@@ -7,7 +7,7 @@ use Rattle.rt_store.specs.Shown.{TaggedCell}
 use Rattle.rt_store.proofs.Shown.{text_shown}
 use Rattle.rt_tags.specs.States.{state_at}
 use Rattle.rt_text.specs.Grounds.{widget_over}
-use Rattle.rt_text.specs.Widgets.{WidgetValue}
+use Rattle.rt_text.specs.Owned.{own_of}
 use Rattle.rt_text.proofs.SeenLaws.{begins_by}
 use Rattle.rt_text.proofs.ground.WidgetGroundGround.tag_first.Goals as goal
 
@@ -22,6 +22,6 @@ pub returns : goal.returns
 returns g c =
     let ground = c.args.self.now in
     c.next_within.ensures
-    ∙ begins_by c.kept.result.1.now (g.S.TextStore.list c.kept.result.0.now) ground.stretch ground.marks.now ground.tags.now.names (selected_stamps c.widget.inside.parts.selection) ground.widget.now c.args.name.now
-    (ap (λ (o : WidgetValue). o.sel) c.widget.view_is) (sym c.has.ensures ∙ c.if-not-has.false)
-    ∙ ap (λ (cells : List TaggedCell). tag_first (widget_over ground.stretch cells ground.marks.now ground.tags.now.names ground.widget.now) c.args.name.now) (c.kept.ensures.cells ∙ ground.same)
+    ∙ begins_by c.kept.result.1.now (g.S.TextStore.list c.kept.result.0.now) ground.stretch ground.marks.now ground.tags.now.names (selected_stamps c.args.widget.now.selection) (own_of ground.widget.now) c.args.name.now
+    refl (sym c.has.ensures ∙ c.if-not-has.false)
+    ∙ ap (λ (cells : List TaggedCell). tag_first (widget_over ground.stretch cells ground.marks.now ground.tags.now.names (own_of ground.widget.now)) c.args.name.now) (c.kept.ensures.cells ∙ ground.same)

@@ -7,7 +7,7 @@ use Rattle.rt_tags.proofs.Sorted.{every_append}
 use Rattle.rt_lines.specs.Choices.{limits_chosen}
 use Rattle.rt_lines.specs.Ordered.{AreInOrder}
 use Rattle.rt_text.specs.Limited.{with_new_peer}
-use Rattle.rt_text.specs.Parts.{own_in}
+use Rattle.rt_text.specs.Owned.{own_of}
 use Rattle.rt_text.specs.Widgets.{IsOwnOf, WidgetValue, ViewValue, own_at}
 use Rattle.rt_text.proofs.KeptLimits.{InOrder, order_append, order_asked}
 use Rattle.rt_text.proofs.view.View.add_peer.Goals as goal
@@ -27,7 +27,7 @@ invariant_of-self-2 g c =
     let cells = flat.cells in
     let n = length (text_of cells) in
     let items = c.self.inside.others.items in
-    let own = c.self.inside.widget in
+    let own = own_of c.self.inside.widget in
     let limits = c.in_ok-limits.limits in
     let chosen : limits_chosen cells c.args.start c.args.end own.limits ≡ Ok limits =
     ap (limits_chosen cells c.args.start c.args.end) (sym c.limits.ensures) ∙ sym c.limits_chosen.ensures ∙ c.in_ok-limits.was in
@@ -39,15 +39,15 @@ invariant_of-self-2 g c =
       insert_name = refl;
       current_name = refl;
     } in
-    let new : WidgetValue = own_in c.at.result in
-    let back : map own_in c.push.new.self.items ≡ map own_in items ++ new ∷ [] = ap (map own_in) c.in_ok-push.ensures.items ∙ map_append own_in items (c.at.result ∷ []) in
+    let new : WidgetValue = own_of c.at.result in
+    let back : map own_of c.push.new.self.items ≡ map own_of items ++ new ∷ [] = ap (map own_of) c.in_ok-push.ensures.items ∙ map_append own_of items (c.at.result ∷ []) in
     record {
       own = c.self.invariant.own;
       others = subst (AllByRecursion (IsOwnOf n)) (sym back)
-          (every_append (IsOwnOf n) (map own_in items) (new ∷ []) c.self.invariant.others (subst (IsOwnOf n) (sym c.at.ensures) stands, tt));
+          (every_append (IsOwnOf n) (map own_of items) (new ∷ []) c.self.invariant.others (subst (IsOwnOf n) (sym c.at.ensures) stands, tt));
       limits = (
         c.self.invariant.limits.0,
-        subst (InOrder cells) (sym back) (order_append cells (map own_in items) (new ∷ []) c.self.invariant.limits.1
+        subst (InOrder cells) (sym back) (order_append cells (map own_of items) (new ∷ []) c.self.invariant.limits.1
             (subst (λ (o : WidgetValue). AreInOrder cells o.limits) (sym c.at.ensures) order, tt)),
       );
     }

@@ -1,7 +1,7 @@
 use Rattle.std.proofs.Common.{◌≡◌, ◌∙◌, arith, length, map, refl, ap}
 use Rattle.rt_stamps.specs.Places.{position_at}
 use Rattle.rt_store.specs.Cells.{text_of}
-use Rattle.rt_text.specs.Parts.{own_in}
+use Rattle.rt_text.specs.Owned.{own_of}
 use Rattle.rt_text.specs.Widgets.{text_shown}
 use Rattle.rt_text.proofs.SeenLaws.{store_seen}
 use Rattle.rt_lines.specs.Stretches.{part, stretch_of}
@@ -11,12 +11,12 @@ pub position-requires : goal.position-requires
 position-requires g c =
     let view = c.args.self.now in
     let text : part (stretch_of c.self.inside.doc.cells c.limits.result) (text_of c.self.inside.doc.cells) ≡ text_shown view =
-    store_seen view c.self.inside.doc c.self.inside.widget (map own_in c.self.inside.others.items) c.limits.result (stretch_of c.self.inside.doc.cells c.limits.result) (text_of c.self.inside.doc.cells) c.self.view_is c.limits.ensures refl refl in
+    store_seen view c.self.inside.doc (own_of c.self.inside.widget) (map own_of c.self.inside.others.items) c.limits.result (stretch_of c.self.inside.doc.cells c.limits.result) (text_of c.self.inside.doc.cells) c.self.view_is c.limits.ensures refl refl in
     omega (arith, ap length text, c.requires)
 
 pub returns : goal.returns
 returns g c =
     let view = c.args.self.now in
     let text : part (stretch_of c.self.inside.doc.cells c.limits.result) (text_of c.self.inside.doc.cells) ≡ text_shown view =
-    store_seen view c.self.inside.doc c.self.inside.widget (map own_in c.self.inside.others.items) c.limits.result (stretch_of c.self.inside.doc.cells c.limits.result) (text_of c.self.inside.doc.cells) c.self.view_is c.limits.ensures refl refl in
+    store_seen view c.self.inside.doc (own_of c.self.inside.widget) (map own_of c.self.inside.others.items) c.limits.result (stretch_of c.self.inside.doc.cells c.limits.result) (text_of c.self.inside.doc.cells) c.self.view_is c.limits.ensures refl refl in
     c.position.ensures ∙ ap (λ t. position_at t c.args.place) text

@@ -2,7 +2,7 @@ use Rattle.std.proofs.Common.{◌≡◌, ◌∙◌, Err, Ok, ap, map, refl, subs
 use Rattle.std.proofs.lemmas.Result.{err_from_is_err_and}
 use Rattle.rt_lines.specs.Choices.{limits_chosen}
 use Rattle.rt_text.specs.Limited.{with_limits}
-use Rattle.rt_text.specs.Parts.{own_in}
+use Rattle.rt_text.specs.Owned.{own_of}
 use Rattle.rt_text.specs.Widgets.{AreWidgetsOf, WidgetValue, ViewValue}
 use Rattle.rt_text.proofs.KeptLimits.{order_asked}
 use Rattle.rt_text.proofs.view.View.set_lines.Goals as goal
@@ -24,7 +24,7 @@ invariant_of-self g c =
     ap (limits_chosen flat.cells c.args.start c.args.end) (sym c.limits.ensures) ∙ sym c.limits_chosen.ensures ∙ c.in_ok-limits.was in
     let order = order_asked flat c.args.start c.args.end limits c.in_ok-limits.limits c.kept.ensures.history c.kept.ensures.document c.self.invariant.limits.0 chosen in
     let own = c.self.invariant.own in
-    subst (λ (w : WidgetValue). AreWidgetsOf flat.cells w (map own_in c.self.inside.others.items)) (sym c.set_limits.ensures)
+    subst (λ (w : WidgetValue). AreWidgetsOf flat.cells w (map own_of c.self.inside.others.items)) (sym c.set_limits.ensures)
     (record {
       own = record { insert = own.insert; current = own.current; insert_name = own.insert_name; current_name = own.current_name };
       others = c.self.invariant.others;

@@ -10,9 +10,9 @@ use Rattle.rt_changes.specs.Replays.{replayed, told_by}
 use Rattle.rt_rga.specs.Histories.{IsHistory}
 use Rattle.rt_store.specs.Cells.{text_of, visible_of}
 use Rattle.rt_plans.specs.DocValue.{DocValue}
-use Rattle.rt_text.specs.Parts.{own_in}
+use Rattle.rt_text.specs.Owned.{own_of}
 use Rattle.rt_text.specs.Accepted.{answer_of, own_with_new, view_with_new, with_new}
-use Rattle.rt_text.specs.declared.parts.Parts.{Parts}
+use Rattle.rt_text.specs.declared.widget.Widget.{Widget}
 use Rattle.rt_text.specs.Widgets.{AreWidgetsOf, IsOwnOf, WidgetValue, ViewValue}
 use Rattle.rt_text.proofs.PeerLaws.{each_by, each_room}
 use Rattle.rt_text.proofs.AcceptedView.{own_seen, own_stands, view_fits}
@@ -24,7 +24,7 @@ pub take-requires : goal.take-requires
 take-requires g c = ap (λ (v : ViewValue). answer_of v.doc c.args.op) c.self.view_is ∙ c.requires
 
 pub returns-in-Err-clause-unchanged : goal.returns-in-Err-clause-unchanged
-returns-in-Err-clause-unchanged g c = ap (λ (d : DocValue). viewed d c.self.inside.widget (map own_in c.self.inside.others.items)) c.in-Err.ensures.unchanged ∙ c.self.view_is
+returns-in-Err-clause-unchanged g c = ap (λ (d : DocValue). viewed d (own_of c.self.inside.widget) (map own_of c.self.inside.others.items)) c.in-Err.ensures.unchanged ∙ c.self.view_is
 
 pub follow-requires-clause-runs : goal.follow-requires-clause-runs
 follow-requires-clause-runs g c = (length (visible_of c.self.inside.doc.cells), c.in-Ok.ensures.change.runs)
@@ -58,11 +58,11 @@ follow_each-requires-clause-fits g c =
     let n = length (text_of flat.cells) in
     each_room n c.in-Ok.change.inserted (2 ^ 64 - 1) c.deref_mut.result.now
     (view_fits flat c.args.op c.in-Ok.change is_new tells c.log.ensures.cells c.kept.ensures.most)
-    (subst (λ (l : List Parts). AllByRecursion (IsOwnOf n) (map own_in l)) (sym c.deref_mut.ensures.value) c.self.invariant.others)
+    (subst (λ (l : List Widget). AllByRecursion (IsOwnOf n) (map own_of l)) (sym c.deref_mut.ensures.value) c.self.invariant.others)
 
 pub invariant_of-self : goal.invariant_of-self
 invariant_of-self g c =
-    subst (λ (f : DocValue). AreWidgetsOf f.cells c.self.inside.widget (map own_in c.self.inside.others.items))
+    subst (λ (f : DocValue). AreWidgetsOf f.cells (own_of c.self.inside.widget) (map own_of c.self.inside.others.items))
     (sym c.in-Err.ensures.unchanged) c.self.invariant
 
 pub invariant_of-self-in-Ok : goal.invariant_of-self-in-Ok
@@ -73,21 +73,21 @@ invariant_of-self-in-Ok g c =
     let tells = c.in-Ok.ensures.change in
     let change = c.in-Ok.change in
     let seen : c.take.new.self ≡ with_new op flat = c.in-Ok.ensures.taken in
-    let own : c.follow.new.self ≡ own_with_new op flat c.self.inside.widget = c.follow.ensures ∙ own_seen flat op change is_new tells c.self.inside.widget in
+    let own : c.follow.new.self ≡ own_with_new op flat (own_of c.self.inside.widget) = c.follow.ensures ∙ own_seen flat op change is_new tells (own_of c.self.inside.widget) in
     let more : IsHistory (with_operation op flat.log) = subst IsHistory (ap (λ (f : DocValue). f.log) seen) c.log-in-Ok.ensures.history in
     let stands : (o : WidgetValue) → IsOwnOf (length (text_of flat.cells)) o → IsOwnOf (length (text_of (with_new op flat).cells)) (own_with_new op flat o) =
     λ o h. own_stands flat op change is_new tells o c.log.ensures.history c.log.ensures.cells more h in
     let n = length (text_of flat.cells) in
     let k = length (text_of (with_new op flat).cells) in
-    let others = map own_in c.self.inside.others.items in
+    let others = map own_of c.self.inside.others.items in
     let back : (with_items c.self.inside.others c.follow_each.new.others).items ≡ c.follow_each.new.others =
     with_items_is c.self.inside.others c.follow_each.new.others (omega (arith, c.follow_each.auto.others, c.deref_mut.ensures.len)) in
-    let moved : map own_in (with_items c.self.inside.others c.follow_each.new.others).items ≡ map (own_with_new op flat) others =
-    ap (map own_in) back ∙ c.follow_each.ensures ∙ (λ i. map (λ o. own_seen flat op change is_new tells o i) (map own_in (c.deref_mut.ensures.value i))) in
-    let old = viewed flat c.self.inside.widget others in
-    let new = viewed c.take.new.self c.follow.new.self (map own_in (with_items c.self.inside.others c.follow_each.new.others).items) in
+    let moved : map own_of (with_items c.self.inside.others c.follow_each.new.others).items ≡ map (own_with_new op flat) others =
+    ap (map own_of) back ∙ c.follow_each.ensures ∙ (λ i. map (λ o. own_seen flat op change is_new tells o i) (map own_of (c.deref_mut.ensures.value i))) in
+    let old = viewed flat (own_of c.self.inside.widget) others in
+    let new = viewed c.take.new.self c.follow.new.self (map own_of (with_items c.self.inside.others c.follow_each.new.others).items) in
     record {
-      own = subst (λ (p : _). p) (λ i. IsOwnOf (length (text_of (sym seen i).cells)) (sym own i)) (stands c.self.inside.widget c.self.invariant.own);
+      own = subst (λ (p : _). p) (λ i. IsOwnOf (length (text_of (sym seen i).cells)) (sym own i)) (stands (own_of c.self.inside.widget) c.self.invariant.own);
       others = subst (λ (p : _). p) (λ i. AllByRecursion (IsOwnOf (length (text_of (sym seen i).cells))) (sym moved i))
           (each_by (IsOwnOf n) (IsOwnOf k) (own_with_new op flat) stands others c.self.invariant.others);
       limits = limits_more old new c.log.ensures.history c.log.ensures.cells c.log-in-Ok.ensures.history c.log-in-Ok.ensures.cells
@@ -102,12 +102,12 @@ returns-in-Ok-clause-taken g c =
     let tells = c.in-Ok.ensures.change in
     let change = c.in-Ok.change in
     let seen : c.take.new.self ≡ with_new op flat = c.in-Ok.ensures.taken in
-    let own : c.follow.new.self ≡ own_with_new op flat c.self.inside.widget = c.follow.ensures ∙ own_seen flat op change is_new tells c.self.inside.widget in
-    let old : ViewValue = record { doc = flat; own = c.self.inside.widget; others = map own_in c.self.inside.others.items } in
+    let own : c.follow.new.self ≡ own_with_new op flat (own_of c.self.inside.widget) = c.follow.ensures ∙ own_seen flat op change is_new tells (own_of c.self.inside.widget) in
+    let old : ViewValue = record { doc = flat; own = own_of c.self.inside.widget; others = map own_of c.self.inside.others.items } in
     let back : (with_items c.self.inside.others c.follow_each.new.others).items ≡ c.follow_each.new.others =
     with_items_is c.self.inside.others c.follow_each.new.others (omega (arith, c.follow_each.auto.others, c.deref_mut.ensures.len)) in
-    let moved : map own_in (with_items c.self.inside.others c.follow_each.new.others).items ≡ map (own_with_new op flat) old.others =
-    ap (map own_in) back ∙ c.follow_each.ensures ∙ (λ i. map (λ o. own_seen flat op change is_new tells o i) (map own_in (c.deref_mut.ensures.value i))) in
+    let moved : map own_of (with_items c.self.inside.others c.follow_each.new.others).items ≡ map (own_with_new op flat) old.others =
+    ap (map own_of) back ∙ c.follow_each.ensures ∙ (λ i. map (λ o. own_seen flat op change is_new tells o i) (map own_of (c.deref_mut.ensures.value i))) in
     (λ i. record { doc = seen i; own = own i; others = moved i })
     ∙ ap (λ (v : ViewValue). view_with_new op v) c.self.view_is
 

@@ -2,14 +2,14 @@ use Rattle.std.proofs.Common.{◌∙◌, ◌-◌, ◌≤◌, [], ap, arith, get_
 use Rattle.std.proofs.lemmas.List.{take_all}
 use Rattle.rt_rga.specs.declared.taken.PlaceRun.{PlaceRun}
 use Rattle.rt_rga.specs.Taken.{AreFallingRuns, is_in_runs}
-use Rattle.rt_text.specs.Parts.{own_in}
+use Rattle.rt_text.specs.Owned.{own_of}
 use Rattle.rt_text.specs.Widgets.{own_inserted, own_left, own_removed}
 use Rattle.rt_text.proofs.FollowingLaws.{own_follow, run_forward}
 use Rattle.rt_text.proofs.MarkLaws.{own_kept}
-use Rattle.rt_text.proofs.parts.Parts.follow.Goals as goal
+use Rattle.rt_text.proofs.widget.Widget.follow.Goals as goal
 
 pub loop-run-init : goal.loop-run-init
-loop-run-init c = c.inserted.ensures ∙ sym (own_kept (is_in_runs []) (own_inserted c.args.change.now.place c.args.change.now.inserted (own_in c.args.self.now)) (λ p. refl))
+loop-run-init c = c.inserted.ensures ∙ sym (own_kept (is_in_runs []) (own_inserted c.args.change.now.place c.args.change.now.inserted (own_of c.args.self.now)) (λ p. refl))
 
 pub overflow_sub-run : goal.overflow_sub-run
 overflow_sub-run c =
@@ -25,11 +25,11 @@ loop-run-preserved c =
     let d : PlaceRun = record { from = 0; to = 0 } in
     let run : PlaceRun = get_or runs i d in
     c.removed.ensures ∙ ap (own_removed run.from (run.to - run.from)) c.loop-run.invariant
-    ∙ own_follow end runs i d (own_inserted c.args.change.now.place c.args.change.now.inserted (own_in c.args.self.now)) c.loop-run-test.true falling
+    ∙ own_follow end runs i d (own_inserted c.args.change.now.place c.args.change.now.inserted (own_of c.args.self.now)) c.loop-run-test.true falling
 
 pub returns : goal.returns
 returns c =
     let runs = c.deref-run-items.result.now in
     let past : length runs ≤ c.loop-run.run-index = omega arith in
     c.loop-run.invariant
-    ∙ ap (λ r. own_left (is_in_runs r) (own_inserted c.args.change.now.place c.args.change.now.inserted (own_in c.args.self.now))) (take_all c.loop-run.run-index runs past ∙ c.deref-run-items.ensures.value)
+    ∙ ap (λ r. own_left (is_in_runs r) (own_inserted c.args.change.now.place c.args.change.now.inserted (own_of c.args.self.now))) (take_all c.loop-run.run-index runs past ∙ c.deref-run-items.ensures.value)

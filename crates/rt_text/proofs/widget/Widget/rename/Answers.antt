@@ -3,15 +3,15 @@ use Rattle.std.proofs.lemmas.List.{drop_more}
 use Rattle.rt_revert.specs.declared.plan.Return.{Return}
 use Rattle.rt_lines.specs.declared.limits.Limits.{Limits}
 use Rattle.rt_text.specs.Changes.{limits_after, own_renamed}
-use Rattle.rt_text.specs.Parts.{own_in}
+use Rattle.rt_text.specs.Owned.{own_of}
 use Rattle.rt_text.specs.Widgets.{WidgetValue}
-use Rattle.rt_text.proofs.parts.Parts.rename.Goals as goal
+use Rattle.rt_text.proofs.widget.Widget.rename.Goals as goal
 
 pub loop-r-preserved : goal.loop-r-preserved
 loop-r-preserved c =
     let i = c.loop-r.r-index in
     let returns = c.args.returns.now in
-    let own : WidgetValue = own_in c.loop-r.self in
+    let own : WidgetValue = own_of c.loop-r.self in
     let d : Return = record { former = record { count = 0; site = 0 }; newer = record { count = 0; site = 0 } } in
     let within : i < length returns = omega arith in
     let from : drop i returns ≡ get_or returns i d ∷ drop (i + 1) returns = drop_more returns i d within in

@@ -2,18 +2,18 @@ use Rattle.std.proofs.Common.{◌≡◌, ◌<◌, ◌+◌, ◌-◌, ◌∙◌, a
 use Rattle.std.proofs.Math.Seq.{drop-length}
 use Rattle.rt_plans.specs.declared.range.Range.{Range}
 use Rattle.rt_plans.specs.Removals.{is_covered}
-use Rattle.rt_text.specs.Parts.{own_in}
+use Rattle.rt_text.specs.Owned.{own_of}
 use Rattle.rt_text.specs.Widgets.{own_left, own_removed}
 use Rattle.rt_text.proofs.MarkLaws.{own_kept}
 use Rattle.rt_text.proofs.MovingLaws.{forward_at, own_back}
-use Rattle.rt_text.proofs.parts.Parts.leave.Goals as goal
+use Rattle.rt_text.proofs.widget.Widget.leave.Goals as goal
 
 pub loop-i-init : goal.loop-i-init
 loop-i-init c =
     let none : drop (length c.args.removed.now) c.args.removed.now ≡ [] = drop-length c.args.removed.now in
     record {
       within = omega arith;
-      own = sym (ap (λ l. own_left (is_covered l) (own_in c.args.self.now)) none ∙ own_kept (is_covered []) (own_in c.args.self.now) (λ p. refl));
+      own = sym (ap (λ l. own_left (is_covered l) (own_of c.args.self.now)) none ∙ own_kept (is_covered []) (own_of c.args.self.now) (λ p. refl));
     }
 
 pub overflow_sub-range : goal.overflow_sub-range
@@ -30,10 +30,10 @@ loop-i-preserved c =
     let here : j < length removed = omega (arith, c.loop-i.invariant.within, c.loop-i-test.true) in
     record {
       within = omega (arith, c.loop-i.invariant.within);
-      own = c.removed.ensures ∙ ap (own_removed range.from n) (c.loop-i.invariant.own ∙ ap (λ k. own_left (is_covered (drop k removed)) (own_in c.args.self.now)) next) ∙ own_back removed j d (own_in c.args.self.now) here c.requires;
+      own = c.removed.ensures ∙ ap (own_removed range.from n) (c.loop-i.invariant.own ∙ ap (λ k. own_left (is_covered (drop k removed)) (own_of c.args.self.now)) next) ∙ own_back removed j d (own_of c.args.self.now) here c.requires;
     }
 
 pub returns : goal.returns
 returns c =
     let done : c.loop-i.i ≡ 0 = omega (arith, c.loop-i-test.false) in
-    c.loop-i.invariant.own ∙ ap (λ k. own_left (is_covered (drop k c.args.removed.now)) (own_in c.args.self.now)) done
+    c.loop-i.invariant.own ∙ ap (λ k. own_left (is_covered (drop k c.args.removed.now)) (own_of c.args.self.now)) done

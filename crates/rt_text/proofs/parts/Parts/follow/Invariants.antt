@@ -1,8 +1,0 @@
-use Rattle.std.proofs.Common.{◌≡◌, take}
-use Rattle.rt_rga.specs.Taken.{is_in_runs}
-use Rattle.rt_text.specs.Parts.{own_in}
-use Rattle.rt_text.specs.Widgets.{own_inserted, own_left}
-use Rattle.rt_text.proofs.parts.Parts.follow.Given as goal
-
-abbrev pub invariant-loop-run : goal.invariant-loop-run
-invariant-loop-run l = own_in l.self ≡ own_left (is_in_runs (take l.run-index l.run-items)) (own_inserted l.change.place l.change.inserted (own_in l.fn.self))
