@@ -62,7 +62,7 @@ module _ {Site : Type 0} (log : Site → List Operation) (limit : Site → ℕ) 
   reply_at op s = reply_to (limit s.site) op (holding log s.site s.held)
 
   -- None of the operations was refused: what came behind them is told.
-  pub record NoneIsLeft (behind : Behind) (old : State Site) (received : Received) (new : State Site) : Type 0 where
+  pub record AllAreOffered (behind : Behind) (old : State Site) (received : Received) (new : State Site) : Type 0 where
     pub told : Option (Fault × ℕ)
     pub ends : EndsWith behind told
     pub counted : received ≡ none_accepted told old.held
@@ -90,7 +90,7 @@ module _ {Site : Type 0} (log : Site → List Operation) (limit : Site → ℕ) 
   -- Operations are offered one after the other, each with the offset of its record, up to the first that is refused. Want of memory
   -- may refuse one that is new, or that is to be held. Those before it stay accepted or held.
   abbrev pub Offers : List Operation → List ℕ → Behind → State Site → Received → State Site → Type 0
-  Offers [] offsets behind old received new = NoneIsLeft behind old received new
+  Offers [] offsets behind old received new = AllAreOffered behind old received new
   Offers (op ∷ ops) [] behind old received new = ⊥
   Offers (op ∷ ops) (offset ∷ offsets) behind old received new =
       EndsRefused op offset old received new ⊎ OffersOneMore (λ next rest. Offers ops offsets behind next rest new) op old received
