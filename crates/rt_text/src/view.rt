@@ -4,6 +4,7 @@ ghost use Rattle.std.specs.List.{AllByRecursion, remove};
 ghost use Rattle.rt_stamps.specs.declared.limits.TheConstants.{MOST_CELLS};
 ghost use Rattle.rt_store.specs.Cells.{final_cell, text_of};
 ghost use Rattle.rt_plans.specs.DocValue.{new_doc};
+ghost use Rattle.rt_text.specs.Owned.{own_of};
 ghost use Rattle.rt_text.specs.Widgets.{IsOwnOf, limits_of, new_own};
 ghost use Rattle.rt_lines.specs.Ordered.{AreInOrder};
 
