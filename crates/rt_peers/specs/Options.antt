@@ -57,7 +57,7 @@ abbrev pub number_word : Option ℕ → Word
 number_word None = []
 number_word (Some number) = decimal number
 
--- what an option is set to: a limit to the line that it has by now
+-- what an option is set to: a limit to the line that it stands at
 abbrev pub option_value_word : EditedValue → NamedOption → Word
 option_value_word text (Shared option) = text_of_bool (option_value text option)
 option_value_word text StartLine = number_word (start_number text.view.doc.cells text.view.own.limits)

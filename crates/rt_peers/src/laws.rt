@@ -102,7 +102,7 @@ pub fn exchanged(one: &SiteState, other: &SiteState, left_one: &SiteState, left_
     let _ = left_other.log();
 }
 
-/// What a site has accepted of what came to it, where no two of these clash and none could be taken any more, or where they
+/// What a site has accepted of what came to it, where no two of these clash and none is left that could be taken, or where they
 /// are a history; and what it keeps to.
 pub fn accepted()
     ensures greatest { AcceptsGreatest }

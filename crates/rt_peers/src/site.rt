@@ -129,7 +129,7 @@ impl SiteState {
     }
 
     /// `PATH COMMAND WORDS` (Tk text manual): what words ask of the widget of a path (`Request::of`). Refused by the first
-    /// of `NoWidget`, the faults of the words and of the request, and want of memory in number of any but the first;
+    /// of `NoWidget`, the faults of the words and of the request, and want of memory in place of any but the first;
     /// then the site is as it was.
     pub fn command(&mut self, path: &str, words: &[String]) -> Result<Reply, Fault>
         ensures { Gives path.now (as_words words.now) self.old result self.new }

@@ -2,7 +2,7 @@
 use rt_changes::ToldChange;
 use rt_holding::Received;
 
-/// What became of a file that was received, and what changed on the visible text.
+/// What became of a file that was received, and what changed in the visible text.
 #[derive(Drop)]
 pub struct ReceivedChanges {
     /// As `receive` answers. Telling takes memory too: where it is wanting for an operation of the file, this ends with

@@ -140,7 +140,7 @@ impl Recorder {
 
     /// Records the action that was prepared: its first operation has the count `first`, and it put in
     /// the characters of the site's counts `first` to `last` (none, where `last` is less). What was
-    /// undone can't be redone any more. It takes no memory.
+    /// undone can't be redone then. It takes no memory.
     pub fn record(&mut self, kind: Kind, site: Site, first: u64, last: u64)
         requires prepared { is_some self.old.pending ≡ true }
         requires stays { IfSome self.old.pending (λ removed. HasStayed (came_back self.old)

@@ -150,7 +150,7 @@ impl<'a> Session<'a> {
         }
     }
 
-    // The widget of a path is no longer there.
+    // Takes the widget of a path away.
     fn let_go(&mut self, path: &str) -> Answer
         ensures files { self.new.files ≡ self.old.files }
         ensures gives { IsDone (destroyed path.now self.old.site) self.old.site result self.new.site }

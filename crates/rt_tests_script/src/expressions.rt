@@ -1,5 +1,5 @@
 // Scripts about index expressions, each on a new site, as lines with their replies. The places are worked out by hand from
-// the table of values in docs/WIDGET.md.
+// the tables of docs/WIDGET.md, "Indices".
 use crate::sites::Scripts;
 
 // Positions, `end`, marks and tags, and characters on and back.

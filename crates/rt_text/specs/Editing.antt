@@ -14,8 +14,8 @@ abbrev pub count_check : DocValue → Option Fault
 count_check edited = clock_check edited.count
 
 -- and its cells are within the limit of the document that it was
-abbrev pub late_check : DocValue → DocValue → Option Fault
-late_check old edited = first_of (clock_check edited.count ∷ cell_check old.limit (length edited.cells) ∷ [])
+abbrev pub edit_check : DocValue → DocValue → Option Fault
+edit_check old edited = first_of (clock_check edited.count ∷ cell_check old.limit (length edited.cells) ∷ [])
 
 -- An edit that is done or refused as a whole: `edited` is what it makes by its definition, `new` what there is then.
 pub record IsEdit (check : DocValue → Option Fault) (old edited new : ViewValue) (result : Result (Unit {0}) Fault) : Type 0 where

@@ -42,7 +42,7 @@ fn set_mark(
     changed(alloc, set)
 }
 
-// Marks are no longer there.
+// Takes marks away.
 fn unset_marks(alloc: Global, view: &mut View<TreeStore>, names: &Words<'_>) -> Result<Reply, Fault>
     ensures { Answers (changed_step (mark_unset view.old (all_of names.now))) view.old result view.new }
 {

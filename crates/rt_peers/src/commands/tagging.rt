@@ -54,7 +54,7 @@ fn remove_tag(
     changed(alloc, removed)
 }
 
-// Tags are no longer there.
+// Takes tags off the text and off the list.
 fn delete_tags(alloc: Global, view: &mut View<TreeStore>, names: &Words<'_>) -> Result<Reply, Fault>
     ensures { Answers (changed_step (tags_deleted view.old (all_of names.now))) view.old result view.new }
 {

@@ -41,7 +41,7 @@ impl SiteState {
         receive(self.alloc, &mut self.text, &mut self.held, bytes)
     }
 
-    /// Receives the bytes of a file as `receive` does, and tells what changed on the visible text, operation by operation, in an
+    /// Receives the bytes of a file as `receive` does, and tells what changed in the visible text, operation by operation, in an
     /// order in which they could be taken, those among them that had been held. Each change is of the text that those before it left,
     /// so all of them, done one after the other to what was shown, with its tags, give what is shown now. Only what changes is
     /// told: each place that a change names is one that its operation changes. Telling takes memory too: where it is wanting

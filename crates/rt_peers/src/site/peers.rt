@@ -82,7 +82,7 @@ impl SiteState {
         }
     }
 
-    /// `destroy PATH`: the widget of a path is no longer there. It has no words in its reply, and takes
+    /// `destroy PATH`: takes the widget of a path away. It has no words in its reply, and takes
     /// no memory. Refused by `NoWidget`, or by `LastWidget` for the only one; then the site is as it was.
     pub fn destroy(&mut self, path: &str) -> Result<Reply, Fault>
         ensures { Destroys path.now self.old result self.new }

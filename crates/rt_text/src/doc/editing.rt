@@ -15,7 +15,7 @@ ghost use Rattle.rt_store.specs.Cells.{text_of};
 ghost use Rattle.rt_text.specs.Widgets.{IsOwnOf, WidgetValue, ViewValue, selections_of};
 ghost use Rattle.rt_text.specs.Commands.{none_inserted, with_pieces_at, without_ranges};
 ghost use Rattle.rt_plans.specs.DeletionLaws.{IsPiece};
-ghost use Rattle.rt_text.specs.Editing.{IsEdit, count_check, late_check};
+ghost use Rattle.rt_text.specs.Editing.{IsEdit, count_check, edit_check};
 ghost use Rattle.rt_text.specs.Owned.{own_of, view_of};
 ghost use Rattle.std.specs.List.{AllByRecursion};
 ghost use Rattle.rt_lines.specs.Ordered.{AreInOrder};
@@ -153,7 +153,7 @@ impl<S: TextStore> Doc<S> {
         requires others { AllByRecursion (IsOwnOf (length (text_of self.old.cells))) (map own_of others.old) }
         ensures { let view = view_of self.old widget.old others.old in
             let edited = with_pieces_at view text.entry.place text.entry.pieces.now text.entry.rest.now in
-            IsEdit (late_check self.old) view edited (view_of self.new widget.new others.new) result }
+            IsEdit (edit_check self.old) view edited (view_of self.new widget.new others.new) result }
     {
         // For its clauses alone: they say where the place lies.
         let _ = self.kept();
@@ -189,7 +189,7 @@ impl<S: TextStore> Doc<S> {
         requires others { AllByRecursion (IsOwnOf (length (text_of self.old.cells))) (map own_of others.old) }
         ensures { let view = view_of self.old widget.old others.old in
             let edited = with_pieces_at view text.entry.place text.entry.pieces.now text.entry.rest.now in
-            IsEdit (late_check self.old) view edited (view_of self.new widget.new others.new) result }
+            IsEdit (edit_check self.old) view edited (view_of self.new widget.new others.new) result }
     {
         let mut plan = plan;
         // For its clauses alone: they say where the place lies.
@@ -226,7 +226,7 @@ impl<S: TextStore> Doc<S> {
         requires others { AllByRecursion (IsOwnOf (length (text_of self.old.cells))) (map own_of others.old) }
         ensures { let view = view_of self.old widget.old others.old in
             let edited = with_pieces_at view text.entry.place text.entry.pieces.now text.entry.rest.now in
-            IsEdit (late_check self.old) view edited (view_of self.new widget.new others.new) result }
+            IsEdit (edit_check self.old) view edited (view_of self.new widget.new others.new) result }
     {
         match self.planned_insertion(widget, text) {
             Ok(plan) => self.insert_planned(widget, others, text, plan),
@@ -250,7 +250,7 @@ impl<S: TextStore> Doc<S> {
         requires others { AllByRecursion (IsOwnOf (length (text_of self.old.cells))) (map own_of others.old) }
         ensures { let view = view_of self.old widget.old others.old in
             let edited = with_pieces_at view text.entry.place text.entry.pieces.now text.entry.rest.now in
-            IsEdit (late_check self.old) view edited (view_of self.new widget.new others.new) result }
+            IsEdit (edit_check self.old) view edited (view_of self.new widget.new others.new) result }
     {
         match self.typed(widget, text) {
             Some(typed) => self.insert_typed(widget, others, text, typed),

@@ -8,7 +8,7 @@ ghost use Rattle.rt_text.specs.Widgets.{IsOwnOf, WidgetValue, ViewValue};
 ghost use Rattle.rt_plans.specs.DeletionLaws.{IsPiece};
 ghost use Rattle.rt_plans.specs.Deletions.{without_text};
 ghost use Rattle.rt_plans.specs.Removals.{AreInOrder, is_covered};
-ghost use Rattle.rt_text.specs.Editing.{IsEdit, late_check};
+ghost use Rattle.rt_text.specs.Editing.{IsEdit, edit_check};
 ghost use Rattle.rt_text.specs.Owned.{own_of, view_of};
 ghost use Rattle.std.specs.List.{AllByRecursion};
 ghost use Rattle.rt_lines.specs.Ordered.{AreInOrder as LimitsAreInOrder};
@@ -126,7 +126,7 @@ impl<S: TextStore> Doc<S> {
         requires others { AllByRecursion (IsOwnOf (length (text_of self.old.cells))) (map own_of others.old) }
         ensures { let view = view_of self.old widget.old others.old in
             let edited = with_range_replaced view range pieces.now rest.now in
-            IsEdit (late_check self.old) view edited (view_of self.new widget.new others.new) result }
+            IsEdit (edit_check self.old) view edited (view_of self.new widget.new others.new) result }
     {
         let (store, _) = self.kept();
         let stretch = widget.limits().stretch(store);
