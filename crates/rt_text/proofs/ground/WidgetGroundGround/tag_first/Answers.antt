@@ -22,6 +22,6 @@ pub returns : goal.returns
 returns g c =
     let ground = c.args.self.now in
     c.next_within.ensures
-    ∙ begins_by c.kept.result.1.now (g.S.TextStore.list c.kept.result.0.now) ground.stretch ground.marks.now ground.tags.now.names (selected_stamps c.args.widget.now.selection) (own_of ground.widget.now) c.args.name.now
+    ∙ begins_by c.kept.result.1.now (g.S.TextStore.list c.kept.result.0.now) ground.stretch ground.marks.now ground.tags.now.names (selected_stamps ground.widget.now.selection) (own_of ground.widget.now) c.args.name.now
     refl (sym c.has.ensures ∙ c.if-not-has.false)
     ∙ ap (λ (cells : List TaggedCell). tag_first (widget_over ground.stretch cells ground.marks.now ground.tags.now.names (own_of ground.widget.now)) c.args.name.now) (c.kept.ensures.cells ∙ ground.same)

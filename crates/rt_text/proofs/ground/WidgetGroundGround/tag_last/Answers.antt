@@ -27,7 +27,7 @@ pub returns-in_err-last : goal.returns-in_err-last
 returns-in_err-last g c =
     let ground = c.args.self.now in
     c.from_residual.ensures ∙ ap (option_map (λ q. q + 1)) (sym c.in_err-last.was ∙ c.last_within.ensures)
-    ∙ stops_by c.kept.result.1.now (g.S.TextStore.list c.kept.result.0.now) ground.stretch ground.marks.now ground.tags.now.names (selected_stamps c.args.widget.now.selection) (own_of ground.widget.now) c.args.name.now
+    ∙ stops_by c.kept.result.1.now (g.S.TextStore.list c.kept.result.0.now) ground.stretch ground.marks.now ground.tags.now.names (selected_stamps ground.widget.now.selection) (own_of ground.widget.now) c.args.name.now
     refl (sym c.has.ensures ∙ c.if-not-has.false)
     ∙ ap (λ (cells : List TaggedCell). tag_last (widget_over ground.stretch cells ground.marks.now ground.tags.now.names (own_of ground.widget.now)) c.args.name.now) (c.kept.ensures.cells ∙ ground.same)
 
@@ -37,7 +37,7 @@ overflow_add-result g c =
     let kept = g.S.TextStore.list c.kept.result.0.now in
     let chars = part ground.stretch (visible_of kept) in
     let within : c.in_ok-last.last < length chars =
-    last_within (λ cell. is_tagged_in (selected_stamps c.args.widget.now.selection) c.args.name.now (shown c.kept.result.1.now cell)) chars c.in_ok-last.last (sym c.last_within.ensures ∙ c.in_ok-last.was) in
+    last_within (λ cell. is_tagged_in (selected_stamps ground.widget.now.selection) c.args.name.now (shown c.kept.result.1.now cell)) chars c.in_ok-last.last (sym c.last_within.ensures ∙ c.in_ok-last.was) in
     let same = ap (λ (cells : List TaggedCell). length (text_of cells)) (c.kept.ensures.cells ∙ ground.same) in
     let fits : ground.stretch.end ≤ length (visible_of kept) = omega (arith, ground.lines.within, same, ap length (text_shown (state_at c.kept.result.1.now) kept), length_text kept) in
     let long = part_length ground.stretch (visible_of kept) fits in
@@ -47,6 +47,6 @@ pub returns : goal.returns
 returns g c =
     let ground = c.args.self.now in
     ap (option_map (λ q. q + 1)) (sym c.in_ok-last.was ∙ c.last_within.ensures)
-    ∙ stops_by c.kept.result.1.now (g.S.TextStore.list c.kept.result.0.now) ground.stretch ground.marks.now ground.tags.now.names (selected_stamps c.args.widget.now.selection) (own_of ground.widget.now) c.args.name.now
+    ∙ stops_by c.kept.result.1.now (g.S.TextStore.list c.kept.result.0.now) ground.stretch ground.marks.now ground.tags.now.names (selected_stamps ground.widget.now.selection) (own_of ground.widget.now) c.args.name.now
     refl (sym c.has.ensures ∙ c.if-not-has.false)
     ∙ ap (λ (cells : List TaggedCell). tag_last (widget_over ground.stretch cells ground.marks.now ground.tags.now.names (own_of ground.widget.now)) c.args.name.now) (c.kept.ensures.cells ∙ ground.same)

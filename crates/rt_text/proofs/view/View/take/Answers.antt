@@ -73,7 +73,7 @@ invariant_of-self-in-Ok g c =
     let tells = c.in-Ok.ensures.change in
     let change = c.in-Ok.change in
     let seen : c.take.new.self ≡ with_new op flat = c.in-Ok.ensures.taken in
-    let own : c.follow.new.self ≡ own_with_new op flat (own_of c.self.inside.widget) = c.follow.ensures ∙ own_seen flat op change is_new tells (own_of c.self.inside.widget) in
+    let own : (own_of c.follow.new.self) ≡ own_with_new op flat (own_of c.self.inside.widget) = c.follow.ensures ∙ own_seen flat op change is_new tells (own_of c.self.inside.widget) in
     let more : IsHistory (with_operation op flat.log) = subst IsHistory (ap (λ (f : DocValue). f.log) seen) c.log-in-Ok.ensures.history in
     let stands : (o : WidgetValue) → IsOwnOf (length (text_of flat.cells)) o → IsOwnOf (length (text_of (with_new op flat).cells)) (own_with_new op flat o) =
     λ o h. own_stands flat op change is_new tells o c.log.ensures.history c.log.ensures.cells more h in
@@ -85,7 +85,7 @@ invariant_of-self-in-Ok g c =
     let moved : map own_of (with_items c.self.inside.others c.follow_each.new.others).items ≡ map (own_with_new op flat) others =
     ap (map own_of) back ∙ c.follow_each.ensures ∙ (λ i. map (λ o. own_seen flat op change is_new tells o i) (map own_of (c.deref_mut.ensures.value i))) in
     let old = viewed flat (own_of c.self.inside.widget) others in
-    let new = viewed c.take.new.self c.follow.new.self (map own_of (with_items c.self.inside.others c.follow_each.new.others).items) in
+    let new = viewed c.take.new.self (own_of c.follow.new.self) (map own_of (with_items c.self.inside.others c.follow_each.new.others).items) in
     record {
       own = subst (λ (p : _). p) (λ i. IsOwnOf (length (text_of (sym seen i).cells)) (sym own i)) (stands (own_of c.self.inside.widget) c.self.invariant.own);
       others = subst (λ (p : _). p) (λ i. AllByRecursion (IsOwnOf (length (text_of (sym seen i).cells))) (sym moved i))
@@ -102,7 +102,7 @@ returns-in-Ok-clause-taken g c =
     let tells = c.in-Ok.ensures.change in
     let change = c.in-Ok.change in
     let seen : c.take.new.self ≡ with_new op flat = c.in-Ok.ensures.taken in
-    let own : c.follow.new.self ≡ own_with_new op flat (own_of c.self.inside.widget) = c.follow.ensures ∙ own_seen flat op change is_new tells (own_of c.self.inside.widget) in
+    let own : (own_of c.follow.new.self) ≡ own_with_new op flat (own_of c.self.inside.widget) = c.follow.ensures ∙ own_seen flat op change is_new tells (own_of c.self.inside.widget) in
     let old : ViewValue = record { doc = flat; own = own_of c.self.inside.widget; others = map own_of c.self.inside.others.items } in
     let back : (with_items c.self.inside.others c.follow_each.new.others).items ≡ c.follow_each.new.others =
     with_items_is c.self.inside.others c.follow_each.new.others (omega (arith, c.follow_each.auto.others, c.deref_mut.ensures.len)) in
