@@ -21,7 +21,7 @@ PARTS = {
     "Invariants": "answers by hand",
     "Tie": "calls of lower crates",
 }
-BESIDE = "Code Given Goals Key Kinds Layout Link Met Mir Named Reads Statement Symbol TheImpl TheLaws View".split()
+BESIDE = "Code Given Goals Key Kinds Layout Link Met Mir Named Reads Statement Symbol TheImpl TheLaws".split()
 
 
 def part_and_function(name):
