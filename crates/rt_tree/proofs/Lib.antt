@@ -43,6 +43,7 @@ mod Roomier
 mod Following
 mod Joining
 mod Shared
+mod Typing
 mod Newest
 mod Splicing
 mod Passing

@@ -14,10 +14,10 @@ use Rattle.rt_tree.specs.declared.node.Run.{Run}
 use Rattle.rt_tree.specs.declared.node.Totals.{Totals}
 use Rattle.rt_tree.specs.declared.summary.Summary.{Summary}
 use Rattle.rt_tree.specs.Reaches.{reached}
-use Rattle.rt_tree.specs.Shape.{Memory, IsExact, IsTree, all_below, below, entry_counts, level_of, runs, sum_of}
+use Rattle.rt_tree.specs.Shape.{Memory, Fits, IsExact, IsTree, all_below, below, entry_counts, level_of, runs, sum_of}
 use Rattle.rt_tree.specs.Summaries.{AreSummed, IsSummary, shown_states, summary_of}
 use Rattle.rt_tree.specs.Sums.{AreFew, counts_of, plus}
-use Rattle.rt_tree.proofs.Down.{down, each-at, sum-front}
+use Rattle.rt_tree.proofs.Down.{down, each-at, fits-at, low, sum-front}
 use Rattle.rt_tree.proofs.Amounts.{counts-append, counts-exact, sum-more}
 use Rattle.rt_tree.proofs.Passes.{each-append, parts-at}
 use Rattle.rt_tree.proofs.Reaching.{first_given, reached-append, reached-front, reached-le, shown-append, shown_here, visible}
@@ -46,6 +46,10 @@ module _ (m : Memory) (root : ℕ) (t : IsTree m root) (id : ℕ) (known : id < 
 
   pub fits-entry : visible front + (visible (below m k e) + visible back) ≡ visible (runs m k id)
   fits-entry = ap (λ (c : Counts). c.visible) (sym (ap counts_of cut ∙ counts-append front (below m k e ++ back) ∙ ap (plus (counts_of front)) (counts-append (below m k e) back)))
+
+  -- a run is an entry of a leaf
+  pub leaf-entry : (r : Run) → e ≡ Here r → level_of m id ≡ 0
+  leaf-entry r to = low m id k r (subst (λ (y : Entry). Fits m id k y) to (fits-at m root t id i e known lt here))
 
   -- its runs count no more than all of the node's
   pub few-entry : AreFew (counts_of (runs m k id)) → AreFew (counts_of (below m k e))

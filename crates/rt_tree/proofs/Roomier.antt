@@ -20,7 +20,7 @@ use Rattle.rt_tree.specs.Sharing.{AreApart}
 use Rattle.rt_tree.specs.Standing.{AreHoused, IsBordered}
 use Rattle.rt_tree.specs.Sums.{counts_of, totals_of}
 use Rattle.rt_tree.specs.Summaries.{TellsAs, summary_of}
-use Rattle.rt_tree.specs.Trees.{HasNodes, IsKept, Stretch, shown, stretches_of}
+use Rattle.rt_tree.specs.Trees.{HasNodes, IsKept, Stretch, came_of, shown, stretches_of}
 use Rattle.rt_tree.proofs.Showing.{stretches_same}
 use Rattle.rt_tree.proofs.Telling.{tells_same}
 
@@ -125,13 +125,13 @@ module _ (m : Memory) (n : ℕ) (root : ℕ) (text : List ℕ) (sums : List Summ
   pub room_shown : (sure : Bool) → shown m' root text sums room sure ≡ shown m root text sums room sure
   room_shown sure =
       ap (λ (x : Memory). shown x root text sums room sure) is
-      ∙ ap (λ (l : List Run). record { cells = cells_of text l; runs = length l; height = level_of m root + 1; room = room; stretches = stretches_of (with_room m n) sums (length m.heads); sure = sure }) (runs_room m n root)
-      ∙ ap (λ (l : List Stretch). record { cells = cells_of text (tree_runs m root); runs = length (tree_runs m root); height = level_of m root + 1; room = room; stretches = l; sure = sure }) (stretches_room m n sums)
+      ∙ ap (λ (l : List Run). record { cells = cells_of text l; came = came_of l; runs = length l; height = level_of m root + 1; room = room; stretches = stretches_of (with_room m n) sums (length m.heads); sure = sure }) (runs_room m n root)
+      ∙ ap (λ (l : List Stretch). record { cells = cells_of text (tree_runs m root); came = came_of (tree_runs m root); runs = length (tree_runs m root); height = level_of m root + 1; room = room; stretches = l; sure = sure }) (stretches_room m n sums)
 
 -- the same where summaries tell the same
 pub sums_shown : (m : Memory) (root : ℕ) (text : List ℕ) (sums sums' : List Summary) (room : Room) (sure : Bool) → length m.heads ≤ length sums → ((id : ℕ) → id < length sums → TellsAs (summary_of sums id) (summary_of sums' id)) → shown m root text sums' room sure ≡ shown m root text sums room sure
 sums_shown m root text sums sums' room sure many tells =
-    ap (λ (l : List Stretch). record { cells = cells_of text (tree_runs m root); runs = length (tree_runs m root); height = level_of m root + 1; room = room; stretches = l; sure = sure })
+    ap (λ (l : List Stretch). record { cells = cells_of text (tree_runs m root); came = came_of (tree_runs m root); runs = length (tree_runs m root); height = level_of m root + 1; room = room; stretches = l; sure = sure })
     (stretches_same m m sums sums' (length m.heads) (λ id. refl) (λ id lt. tells id (omega (arith, lt, many))))
 
 -- there are summaries for as many nodes

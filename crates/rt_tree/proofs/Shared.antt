@@ -166,7 +166,7 @@ pub shared_first : (run r : Run) → is_shared_by run r ≡ true → has r (firs
 shared_first run r e f = grind (arith, nat_tests)
 
 -- a stamp that is in a run, and in new cells
-shared_twice : (text : List ℕ) (rs : List Run) (run : Run) (cells : List (Cell ℕ)) → AllByRecursion (IsRun text) rs → IsFrontOf text cells run → AreOnce (cells_of text rs) cells → list_any (is_shared_by run) rs ≡ true → ⊥
+pub shared_twice : (text : List ℕ) (rs : List Run) (run : Run) (cells : List (Cell ℕ)) → AllByRecursion (IsRun text) rs → IsFrontOf text cells run → AreOnce (cells_of text rs) cells → list_any (is_shared_by run) rs ≡ true → ⊥
 shared_twice text [] run cells kept front once e = both_ways false refl e
 shared_twice text (r ∷ rs) run cells kept front once e = split (is_shared_by run r)
     (λ here. split (has r (first_stamp run))

@@ -11,6 +11,7 @@ use Rattle.rt_tree.specs.declared.node.Counts.{Counts}
 use Rattle.rt_tree.specs.declared.node.CountedBy.TheVariants.{Cells}
 use Rattle.rt_tree.specs.declared.node.Run.{Run}
 use Rattle.rt_tree.specs.Additions.{EndsWith, IsFrontOf, IsRunOf, IsStretch, are_joint, joined, stretches}
+use Rattle.rt_tree.specs.Growing.{EndsThere}
 use Rattle.rt_tree.specs.Runs.{IsRun, cells_of, run_cells}
 use Rattle.rt_tree.specs.Shape.{IsTree, Memory, level_of, tree_runs}
 use Rattle.rt_tree.specs.Sharing.{AreApart, AreOnce, IsRecut, is_shared_by, occurrences}
@@ -178,6 +179,13 @@ module _ (text : List ℕ) (old now : List Run) (at done more lone : ℕ) (cells
             apart = apart_put now new (at + done) run put apart;
             few = λ once. (let f = is.few once in let c = chosen f.1 (spliced_once once) in let s = c.0.longest in let g = f.0 in (omega (arith, g, s, d), c.1));
           }
+
+      -- it ends there, and its characters are the last of those that are in
+      pub new_ends : length cells ≤ length text → EndsThere new (at + (done + run.len)) (length text - length cells + (done + run.len))
+      new_ends long =
+          let l = length-drop done cells in
+          let b = rest.at in
+          record { left = put.was.left; run = run; right = put.next ∷ put.was.right; here = put.is; some = rest.run.some; end = omega (arith, first.1); stands = omega (arith, l, b, long, is.low) }
 
       pub fewer_cells : length cells - (done + run.len) < length cells - done
       fewer_cells = omega (arith, rest.run.some, within_rest)

@@ -8,6 +8,8 @@ pub mod Stretches
 pub mod Sharing
 pub mod Additions
 pub mod Trees
+pub mod Growing
+pub mod Typing
 pub mod Sound
 pub mod Standing
 pub mod Stores

@@ -1,5 +1,5 @@
 -- What a tree shows, and how it is kept.
-use Rattle.std.specs.Prelude.{◌≡◌, ℕ, zero, suc, ◌+◌, ◌*◌, ◌≤◌, Bool, false, true, List, [], ◌∷◌, length, map}
+use Rattle.std.specs.Prelude.{◌≡◌, ℕ, zero, suc, ◌+◌, ◌*◌, ◌≤◌, Bool, false, true, List, [], ◌∷◌, length, map, flat_map}
 use Rattle.std.specs.List.{All, AllByRecursion, Contains}
 use Rattle.rt_stamps.specs.declared.limits.TheConstants.{MOST_CELLS}
 use Rattle.rt_stamps.specs.declared.stamp.TheConstants.{FINAL}
@@ -21,15 +21,26 @@ pub record Stretch : Type 0 where
   pub states : List ℕ
   pub summary : Summary
 
--- the cells in order, how many runs they are kept in, how many levels of nodes there are, what there is room for, what is kept for
--- each node, and whether look-ups by stamps go by the map of leaves
+-- the cells in order, the number of each in the order in which they came, how many runs they are kept in, how many levels
+-- of nodes there are, what there is room for, what is kept for each node, and whether look-ups by stamps go by the map of
+-- leaves
 pub record Shown : Type 0 where
   pub cells : List (Cell ℕ)
+  pub came : List ℕ
   pub runs : ℕ
   pub height : ℕ
   pub room : Room
   pub stretches : List Stretch
   pub sure : Bool
+
+-- so many numbers from one on
+abbrev pub numbers_from : ℕ → ℕ → List ℕ
+numbers_from n zero = []
+numbers_from n (suc k) = n ∷ numbers_from (n + 1) k
+
+-- the numbers of the cells of runs in the order in which they came, as their characters stand in the text
+abbrev pub came_of : List Run → List ℕ
+came_of rs = flat_map (λ r. numbers_from r.at r.len) rs
 
 abbrev pub stretch_of : Memory → List Summary → ℕ → Stretch
 stretch_of m sums id = record { states = shown_states (runs m (level_of m id) id); summary = without_room (summary_of sums id) }
@@ -42,6 +53,7 @@ stretches_of m sums (suc n) = stretch_of m sums n ∷ stretches_of m sums n
 abbrev pub shown : Memory → ℕ → List ℕ → List Summary → Room → Bool → Shown
 shown m root text sums room sure = record {
   cells = cells_of text (tree_runs m root);
+  came = came_of (tree_runs m root);
   runs = length (tree_runs m root);
   height = level_of m root + 1;
   room = room;

@@ -5,6 +5,7 @@ ghost use Rattle.rt_stamps.specs.declared.limits.TheConstants.{MOST_CELLS};
 ghost use Rattle.rt_store.specs.Cells.{put_at};
 ghost use Rattle.rt_store.specs.Tagged.{AreStates};
 ghost use Rattle.rt_tree.specs.Additions.{EndsWith, are_joint, joined};
+ghost use Rattle.rt_tree.specs.Growing.{EndsThere, GoOnIn};
 ghost use Rattle.rt_tree.specs.Holds.{Holds, IsEndAt};
 ghost use Rattle.rt_tree.specs.Homes.{AreHome, AreOnceEach, IsAmong, IsNew};
 ghost use Rattle.rt_tree.specs.Runs.{IsRun, cells_of};
@@ -160,6 +161,10 @@ pub(crate) fn extend(
     ensures left { homes.old.left ≤ homes.new.left + result.done }
     ensures sure { homes.old.sure ≡ true → AreOnce (cells_of new.now.text.now (tree_runs mem.old root.index)) new.now.cells.now
         → AreBelowGreatest new.now.cells.now → homes.new.sure ≡ true }
+    ensures newest { 0 < result.done → EndsThere (tree_runs mem.new root.index) (new.now.at + result.done)
+        (length new.now.text.now - length new.now.cells.now + result.done) }
+    ensures typed { AreOnce (cells_of new.now.text.now (tree_runs mem.old root.index)) new.now.cells.now
+        → GoOnIn new.now.text.now (tree_runs mem.old root.index) new.now.at new.now.cells.now → result.done ≡ length new.now.cells.now }
     ensures room { length mem.new.heads + mem.new.room ≡ length mem.old.heads + mem.old.room }
     ensures still { result.done ≡ 0 → mem.new ≡ mem.old }
     ensures held { IfSome result.last (Holds mem.new root.index) }

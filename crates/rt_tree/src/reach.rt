@@ -118,6 +118,9 @@ fn entry_reached<L: Looks>(
     ensures none { result.found ≡ false → L.looked looks.new ≤ L.looked looks.old + (1 + 16 * level_of (L.nodes looks.old) node.index) }
     ensures start { result.found ≡ false → from ≡ 0 → L.looked looks.new ≤ L.looked looks.old + 1 }
     ensures far { (counts_of (runs_at (L.nodes looks.old) node.index i)).visible ≤ from → L.looked looks.new ≤ L.looked looks.old + 1 }
+    ensures counted { L.looked looks.old + 1 ≤ L.looked looks.new }
+    ensures looked { AllByRecursion HasCells (runs_at (L.nodes looks.old) node.index i) → result.found ≡ true
+        → L.looked looks.old + (level_of (L.nodes looks.old) node.index + 1) ≤ L.looked looks.new }
     ensures same { L.nodes looks.new ≡ L.nodes looks.old }
     ensures kept { L.summaries looks.new ≡ L.summaries looks.old }
     ensures lent { L.counter looks.new ≡ L.counter looks.old }
@@ -169,6 +172,9 @@ pub(crate) fn reached<L: Looks>(
     ensures inside { result.place ≤ (counts_of (runs (L.nodes looks.old) (level_of (L.nodes looks.old) node.index) node.index)).visible }
     ensures cost { L.looked looks.new ≤ L.looked looks.old + (16 + most_below from (level_of (L.nodes looks.old) node.index)) }
     ensures none { result.found ≡ false → L.looked looks.new ≤ L.looked looks.old + (16 + 16 * level_of (L.nodes looks.old) node.index) }
+    ensures counted { L.looked looks.old ≤ L.looked looks.new }
+    ensures looked { AllByRecursion HasCells (runs (L.nodes looks.old) (level_of (L.nodes looks.old) node.index) node.index) → result.found ≡ true
+        → L.looked looks.old + (level_of (L.nodes looks.old) node.index + 1) ≤ L.looked looks.new }
     ensures same { L.nodes looks.new ≡ L.nodes looks.old }
     ensures kept { L.summaries looks.new ≡ L.summaries looks.old }
     ensures lent { L.counter looks.new ≡ L.counter looks.old }
@@ -198,7 +204,8 @@ pub(crate) fn reached<L: Looks>(
     }
 }
 
-// The least place from one up whose character is looked for. It takes at most thirty-two looks a level.
+// The least place from one up whose character is looked for. It takes at most thirty-two looks a level, and one a level
+// at least where there is such a place.
 pub(crate) fn sought<L: Looks>(
     looks: &mut L,
     states: &StateTable,
@@ -214,6 +221,9 @@ pub(crate) fn sought<L: Looks>(
     requires room { L.looked looks.old + 32 * (level_of (L.nodes looks.old) root.index + 1) < 2 ^ 64 }
     ensures place { (text : List ℕ) → AllByRecursion (IsRun text) (tree_runs (L.nodes looks.old) root.index)
         → result ≡ next_place (tag_is states.now wanted.now.tag wanted.now.on) (visible_of (cells_of text (tree_runs (L.nodes looks.old) root.index))) place }
+    ensures counted { L.looked looks.old ≤ L.looked looks.new }
+    ensures looked { (text : List ℕ) → AllByRecursion (IsRun text) (tree_runs (L.nodes looks.old) root.index)
+        → IfSome result (λ _. L.looked looks.old + (level_of (L.nodes looks.old) root.index + 1) ≤ L.looked looks.new) }
     ensures cost { L.looked looks.new ≤ L.looked looks.old + 32 * (level_of (L.nodes looks.old) root.index + 1) }
     ensures same { L.nodes looks.new ≡ L.nodes looks.old }
     ensures kept { L.summaries looks.new ≡ L.summaries looks.old }

@@ -1,5 +1,5 @@
 // The next character that has a tag.
-ghost use Rattle.std.specs.Prelude.{◌≡◌, ℕ, ◌+◌, ◌*◌, ◌<◌, ◌≤◌, ◌^◌, List};
+ghost use Rattle.std.specs.Prelude.{◌≡◌, ℕ, ◌+◌, ◌*◌, ◌<◌, ◌≤◌, ◌^◌, IfSome, List};
 ghost use Rattle.std.specs.List.{AllByRecursion};
 ghost use Rattle.rt_store.specs.Tagged.{next_tagged};
 ghost use Rattle.rt_tags.specs.States.{IsState, IsTag};
@@ -16,7 +16,7 @@ use rt_nodes::NodeId;
 use rt_tags::{StateTable, TagId};
 
 /// The least place from one up whose character has a tag; none if there is none. It takes at most
-/// thirty-two looks a level, and no memory.
+/// thirty-two looks a level, one a level at least where there is one, and no memory.
 pub fn seek<L: Looks>(
     looks: &mut L,
     states: &StateTable,
@@ -32,6 +32,9 @@ pub fn seek<L: Looks>(
     requires room { L.looked looks.old + 32 * (level_of (L.nodes looks.old) root.index + 1) < 2 ^ 64 }
     ensures place { (text : List ℕ) → AllByRecursion (IsRun text) (tree_runs (L.nodes looks.old) root.index)
         → result ≡ next_tagged states.now tag (cells_of text (tree_runs (L.nodes looks.old) root.index)) place }
+    ensures counted { L.looked looks.old ≤ L.looked looks.new }
+    ensures looked { (text : List ℕ) → AllByRecursion (IsRun text) (tree_runs (L.nodes looks.old) root.index)
+        → IfSome result (λ _. L.looked looks.old + (level_of (L.nodes looks.old) root.index + 1) ≤ L.looked looks.new) }
     ensures cost { L.looked looks.new ≤ L.looked looks.old + 32 * (level_of (L.nodes looks.old) root.index + 1) }
     ensures same { L.nodes looks.new ≡ L.nodes looks.old }
     ensures kept { L.summaries looks.new ≡ L.summaries looks.old }
@@ -59,6 +62,9 @@ pub(crate) fn find_tagged(
     requires room { steps.old + 32 * (level_of mem.now root.index + 1) < 2 ^ 64 }
     ensures place { (text : List ℕ) → AllByRecursion (IsRun text) (tree_runs mem.now root.index)
         → result ≡ next_tagged states.now tag (cells_of text (tree_runs mem.now root.index)) place }
+    ensures counted { steps.old ≤ steps.new }
+    ensures looked { (text : List ℕ) → AllByRecursion (IsRun text) (tree_runs mem.now root.index)
+        → IfSome result (λ _. steps.old + (level_of mem.now root.index + 1) ≤ steps.new) }
     ensures cost { steps.new ≤ steps.old + 32 * (level_of mem.now root.index + 1) }
 {
     let nodes = Counted { mem, looks: steps };

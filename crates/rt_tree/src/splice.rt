@@ -5,6 +5,7 @@ ghost use Rattle.rt_stamps.specs.declared.limits.TheConstants.{MOST_CELLS};
 ghost use Rattle.rt_store.specs.Cells.{put_at};
 ghost use Rattle.rt_store.specs.Tagged.{AreStates};
 ghost use Rattle.rt_tree.specs.Additions.{EndsWith, IsFrontOf, IsRunOf, IsStretch, follows, run_from, stretches};
+ghost use Rattle.rt_tree.specs.Growing.{EndsThere, GoOnIn};
 ghost use Rattle.rt_tree.specs.Holds.{Holds, IsEndAt};
 ghost use Rattle.rt_tree.specs.Homes.{AreHome};
 ghost use Rattle.rt_tree.specs.Runs.{IsRun, cells_of};
@@ -270,6 +271,8 @@ fn put_runs(
     ensures runs { length (tree_runs mem.new result.root.index) ≡ length (tree_runs mem.old root.index) + result.more }
     ensures most { result.more ≤ length new.now.cells.now }
     ensures more { AreOnce (cells_of new.now.text.now (tree_runs mem.old root.index)) new.now.cells.now → result.more ≤ stretches new.now.cells.now }
+    ensures newest { 0 < length new.now.cells.now → EndsThere (tree_runs mem.new result.root.index) (new.now.at + length new.now.cells.now)
+        (length new.now.text.now) }
     ensures home { homes.new.sure ≡ true → AreHome homes.new.leaves (tree_runs mem.new result.root.index) }
     ensures housed { homes.new.sure ≡ true → AreHoused mem.new result.root.index homes.new.leaves }
     ensures left { homes.old.left ≤ homes.new.left + length new.now.cells.now }
@@ -358,6 +361,10 @@ pub(crate) fn put_cells(
     ensures runs { length (tree_runs mem.new result.root.index) ≡ length (tree_runs mem.old root.index) + result.more }
     ensures most { result.more ≤ length new.now.cells.now + 1 }
     ensures more { AreOnce (cells_of new.now.text.now (tree_runs mem.old root.index)) new.now.cells.now → result.more ≤ stretches new.now.cells.now + 1 }
+    ensures newest { 0 < length new.now.cells.now → EndsThere (tree_runs mem.new result.root.index) (new.now.at + length new.now.cells.now)
+        (length new.now.text.now) }
+    ensures typed { AreOnce (cells_of new.now.text.now (tree_runs mem.old root.index)) new.now.cells.now
+        → GoOnIn new.now.text.now (tree_runs mem.old root.index) new.now.at new.now.cells.now → result.more ≡ 0 }
     ensures home { homes.new.sure ≡ true → AreHome homes.new.leaves (tree_runs mem.new result.root.index) }
     ensures housed { homes.new.sure ≡ true → AreHoused mem.new result.root.index homes.new.leaves }
     ensures left { homes.old.left ≤ homes.new.left + length new.now.cells.now + 1 }

@@ -1,5 +1,5 @@
 // A tree as the store of a text.
-ghost use Rattle.std.specs.Prelude.{◌≡◌, ◌+◌, ◌-◌, ◌*◌, ◌<◌, ◌≤◌, ◌^◌, ◌∷◌, [], IfOk, IsOkUnless, Some, length, option_map, slice_get};
+ghost use Rattle.std.specs.Prelude.{◌≡◌, ◌+◌, ◌-◌, ◌*◌, ◌<◌, ◌≤◌, ◌^◌, ◌∷◌, [], IfOk, IfSome, IsOkUnless, Some, false, length, option_map, slice_get, true};
 ghost use Rattle.rt_store.specs.Cells.{EndsFinal, final_cell, position_of, visible_before, visible_of};
 ghost use Rattle.rt_store.specs.Tagged.{AreStates, next_tagged};
 ghost use Rattle.rt_tags.specs.States.{IsTag, KeepsIds, TagStates};
@@ -75,18 +75,20 @@ impl TreeStore {
     }
 
     /// How many visible cells stand before a stamp's cell, as `place_of` answers. At most sixteen looks a level are added to the
-    /// counter (`Tree::climb`).
+    /// counter, and while the map of leaves is sure at least one a level where a cell has the stamp (`Tree::climb`).
     pub fn climb(&self, stamp: Stamp, looks: &mut u64) -> Option<usize>
         requires room { looks.old + 16 * self.now.tree.height < 2 ^ 64 }
         ensures place { result ≡ option_map (visible_before (cells_of self.now)) (position_of (cells_of self.now) stamp) }
         ensures counted { looks.old ≤ looks.new }
+        ensures looked { self.now.tree.sure ≡ true → IfSome result (λ _. looks.old + self.now.tree.height ≤ looks.new) }
+        ensures unsure { self.now.tree.sure ≡ false → looks.new ≡ looks.old }
         ensures cost { looks.new ≤ looks.old + 16 * self.now.tree.height }
     {
         self.tree.climb(stamp, looks)
     }
 
     /// The least place from one up whose character has a tag, as `next_tagged` answers. At most thirty-two looks a level are added
-    /// to the counter.
+    /// to the counter, and at least one a level where there is such a place.
     pub fn find_tagged(
         &self,
         states: &StateTable,
@@ -98,6 +100,8 @@ impl TreeStore {
         requires agrees { AgreesWith states.now self.now }
         requires room { looks.old + 32 * self.now.tree.height < 2 ^ 64 }
         ensures place { result ≡ next_tagged states.now tag (cells_of self.now) place }
+        ensures counted { looks.old ≤ looks.new }
+        ensures looked { IfSome result (λ _. looks.old + self.now.tree.height ≤ looks.new) }
         ensures cost { looks.new ≤ looks.old + 32 * self.now.tree.height }
     {
         self.tree.find_tagged(states, tag, place, looks)

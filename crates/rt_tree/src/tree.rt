@@ -1,6 +1,6 @@
 // The cells of a text in a tree.
 ghost use Rattle.std.specs.Prelude.{◌≡◌, ◌+◌, ◌-◌, ◌*◌, ◌<◌, ◌≤◌, ◌^◌, [], ◌∷◌, length, map, min, take, drop, take_while, slice_get};
-ghost use Rattle.std.specs.Prelude.{option_map, if◌then◌else◌, Some, IfOk, IsOkUnless, true};
+ghost use Rattle.std.specs.Prelude.{option_map, if◌then◌else◌, Some, IfOk, IfSome, IsOkUnless, false, true};
 ghost use Rattle.rt_stamps.specs.Places.{line_of, line_start, newlines};
 ghost use Rattle.rt_stamps.specs.Stamps.{is_before};
 ghost use Rattle.rt_store.specs.Cells.{AreDistinct, StandsBefore, after_element, cell_of, final_cell, position_of, skip_from, text_of};
@@ -411,12 +411,15 @@ impl Tree {
     }
 
     /// How many visible cells stand before a stamp's cell, as `place_of` answers, by one look-up in the map of leaves and a walk
-    /// up from the leaf. At most sixteen looks a level are added to the counter. Where the map isn't sure (`is_sure`), since a
-    /// stamp came twice or one with the greatest count that there is, a walk over all runs answers, and counts no looks.
+    /// up from the leaf. At most sixteen looks a level are added to the counter, and at least one a level where a cell has
+    /// the stamp. Where the map isn't sure (`is_sure`), since a stamp came twice or one with the greatest count that there
+    /// is, a walk over all runs answers, and counts no looks.
     pub fn climb(&self, stamp: Stamp, looks: &mut u64) -> Option<usize>
         requires room { looks.old + 16 * self.now.height < 2 ^ 64 }
         ensures place { result ≡ option_map (visible_before self.now.cells) (position_of self.now.cells stamp) }
         ensures counted { looks.old ≤ looks.new }
+        ensures looked { self.now.sure ≡ true → IfSome result (λ _. looks.old + self.now.height ≤ looks.new) }
+        ensures unsure { self.now.sure ≡ false → looks.new ≡ looks.old }
         ensures cost { looks.new ≤ looks.old + 16 * self.now.height }
     {
         if !self.homes.sure {

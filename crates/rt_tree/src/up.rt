@@ -46,7 +46,7 @@ fn counts_with_left<L: Looks>(looks: &mut L, parent: NodeId, node: NodeId, more:
     requires few { AreFew (plus more (sum_of (left_of node.index (entries (L.nodes looks.old) parent.index)))) }
     requires room { L.looked looks.old + 16 < 2 ^ 64 }
     ensures value { result ≡ plus more (sum_of (left_of node.index (entries (L.nodes looks.old) parent.index))) }
-    ensures counted { L.looked looks.old ≤ L.looked looks.new }
+    ensures counted { L.looked looks.old + 1 ≤ L.looked looks.new }
     ensures cost { L.looked looks.new ≤ L.looked looks.old + 16 }
     ensures same { L.nodes looks.new ≡ L.nodes looks.old }
     ensures kept { L.summaries looks.new ≡ L.summaries looks.old }
@@ -82,7 +82,7 @@ fn rise<L: Looks>(looks: &mut L, root: NodeId, leaf: NodeId, first: First) -> Co
     ensures before { result ≡ counts_of (runs_before (L.nodes looks.old) root.index leaf.index first.entry) }
     ensures stands { (run : Run) → slice_get (entries (L.nodes looks.old) leaf.index) first.entry ≡ Some (Here run)
         → IsBehind (tree_runs (L.nodes looks.old) root.index) run result }
-    ensures counted { L.looked looks.old ≤ L.looked looks.new }
+    ensures counted { L.looked looks.old + level_of (L.nodes looks.old) root.index ≤ L.looked looks.new }
     ensures cost { L.looked looks.new ≤ L.looked looks.old + 16 * level_of (L.nodes looks.old) root.index }
     ensures same { L.nodes looks.new ≡ L.nodes looks.old }
     ensures kept { L.summaries looks.new ≡ L.summaries looks.old }
@@ -155,6 +155,7 @@ fn stood_with<L: Looks>(looks: &mut L, leaf: NodeId, stamp: Stamp) -> Option<Sto
     ensures none { result ≡ None → (i : ℕ) (run : Run)
         → slice_get (entries (L.nodes looks.old) leaf.index) i ≡ Some (Here run) → has run stamp ≡ false }
     ensures counted { L.looked looks.old ≤ L.looked looks.new }
+    ensures looked { IfSome result (λ _. L.looked looks.old + 1 ≤ L.looked looks.new) }
     ensures cost { L.looked looks.new ≤ L.looked looks.old + 16 }
     ensures same { L.nodes looks.new ≡ L.nodes looks.old }
     ensures kept { L.summaries looks.new ≡ L.summaries looks.old }
@@ -186,7 +187,8 @@ pub(crate) fn place_in(run: Run, before: Counts, stamp: Stamp) -> usize
 }
 
 /// How many visible cells stand before the cell of a stamp in the first run of a leaf that has the stamp: its place, if it is
-/// visible; none if no run of the leaf has it. It takes at most sixteen looks a level, and no memory.
+/// visible; none if no run of the leaf has it. It takes at most sixteen looks a level, at least one where it tells a
+/// place, and no memory.
 #[inline(always)]
 pub fn ascend<L: Looks>(looks: &mut L, root: NodeId, leaf: NodeId, stamp: Stamp) -> Option<usize>
     requires tree { IsTree (L.nodes looks.old) root.index }
@@ -197,6 +199,7 @@ pub fn ascend<L: Looks>(looks: &mut L, root: NodeId, leaf: NodeId, stamp: Stamp)
     ensures none { result ≡ None → (i : ℕ) (run : Run)
         → slice_get (entries (L.nodes looks.old) leaf.index) i ≡ Some (Here run) → has run stamp ≡ false }
     ensures counted { L.looked looks.old ≤ L.looked looks.new }
+    ensures looked { IfSome result (λ _. L.looked looks.old + (level_of (L.nodes looks.old) root.index + 1) ≤ L.looked looks.new) }
     ensures cost { L.looked looks.new ≤ L.looked looks.old + 16 * (level_of (L.nodes looks.old) root.index + 1) }
     ensures same { L.nodes looks.new ≡ L.nodes looks.old }
     ensures kept { L.summaries looks.new ≡ L.summaries looks.old }

@@ -1,5 +1,6 @@
 // Changes of a tree's cells, and room for them.
-ghost use Rattle.std.specs.Prelude.{◌≡◌, ◌+◌, ◌<◌, ◌≤◌, IsOkUnless, IsOk, OnErr, OnOk, length, map};
+ghost use Rattle.std.specs.Prelude.{◌≡◌, ℕ, ◌+◌, ◌<◌, ◌≤◌, IsOkUnless, IsOk, List, OnErr, OnOk, length, map};
+ghost use Rattle.rt_store.specs.declared.cell.Cell.{Cell};
 ghost use Rattle.rt_store.specs.Cells.{AreDistinct, HasRoom, Spends, gone_in, put_at, state_in};
 ghost use Rattle.rt_store.specs.Tagged.{AreStates};
 ghost use Rattle.rt_tags.specs.States.{IsState};
@@ -7,6 +8,7 @@ ghost use Rattle.rt_tree.specs.Additions.{stretches};
 ghost use Rattle.rt_tree.specs.Sharing.{cell_in};
 ghost use Rattle.rt_tree.specs.Stretches.{IsGiven};
 ghost use Rattle.rt_tree.specs.Trees.{Agrees, HasOwn};
+ghost use Rattle.rt_tree.specs.Typing.{AreTypedOn, GoOn};
 
 use super::Tree;
 use crate::copy::push_characters;
@@ -146,9 +148,9 @@ impl Tree {
         self.apply(states, span, CellUpdate::State(state));
     }
 
-    /// Puts new cells in before the one at a position. A run that they go on with gets longer; each
-    /// other stretch of them becomes a run, or each of its cells one, if a stamp of it is there
-    /// already. Takes no memory.
+    /// Puts new cells in before the one at a position. A run that they go on with gets longer, so that typing on makes no
+    /// new run; each other stretch of them becomes a run, or each of its cells one, if a stamp of it is there already.
+    /// Takes no memory.
     pub fn splice(&mut self, states: &StateTable, at: usize, cells: &[Cell<StateId>])
         requires within { at < length self.old.cells }
         requires room { HasRoom self.old.room (length cells.now) 1 (length states.now.names) }
@@ -157,6 +159,8 @@ impl Tree {
         ensures cells { self.new.cells ≡ put_at at cells.now self.old.cells }
         ensures most { self.new.runs ≤ self.old.runs + length cells.now + 1 }
         ensures runs { AreDistinct self.new.cells → self.new.runs ≤ self.old.runs + stretches cells.now + 1 }
+        ensures typed { AreDistinct self.new.cells → AreTypedOn self.old at cells.now → self.new.runs ≡ self.old.runs }
+        ensures next { (more : List (Cell ℕ)) → GoOn cells.now more → AreTypedOn self.new (at + length cells.now) more }
         ensures room { Spends self.old.room self.new.room (length cells.now) 1 }
         ensures agrees { Agrees states.now self.new }
         ensures own { HasOwn self.new }
@@ -179,6 +183,8 @@ impl Tree {
         ensures cells { self.new.cells ≡ put_at at cells.now self.old.cells }
         ensures most { self.new.runs ≤ self.old.runs + length cells.now + 1 }
         ensures runs { AreDistinct self.new.cells → self.new.runs ≤ self.old.runs + stretches cells.now + 1 }
+        ensures typed { AreDistinct self.new.cells → AreTypedOn self.old at cells.now → self.new.runs ≡ self.old.runs }
+        ensures next { (more : List (Cell ℕ)) → GoOn cells.now more → AreTypedOn self.new (at + length cells.now) more }
         ensures room { Spends self.old.room self.new.room (length cells.now) 1 }
         ensures agrees { Agrees states.now self.new }
         ensures own { HasOwn self.new }

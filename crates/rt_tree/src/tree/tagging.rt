@@ -1,5 +1,5 @@
 // The nearest characters that have a tag, or haven't it.
-ghost use Rattle.std.specs.Prelude.{◌≡◌, ◌+◌, ◌*◌, ◌<◌, ◌≤◌, ◌^◌};
+ghost use Rattle.std.specs.Prelude.{◌≡◌, ◌+◌, ◌*◌, ◌<◌, ◌≤◌, ◌^◌, IfSome};
 ghost use Rattle.rt_store.specs.Cells.{visible_of};
 ghost use Rattle.rt_store.specs.Tagged.{next_place, next_tagged, next_untagged, previous_tagged, tag_is};
 ghost use Rattle.rt_tags.specs.States.{IsTag};
@@ -38,7 +38,8 @@ impl Tree {
         self.next_wanted(states, tag, true, place)
     }
 
-    /// The place that `next_tagged` answers, with at most thirty-two looks a level added to the counter.
+    /// The place that `next_tagged` answers, with at most thirty-two looks a level added to the counter, and at least one a
+    /// level where there is such a place.
     pub fn find_tagged(
         &self,
         states: &StateTable,
@@ -50,6 +51,8 @@ impl Tree {
         requires agrees { Agrees states.now self.now }
         requires room { looks.old + 32 * self.now.height < 2 ^ 64 }
         ensures place { result ≡ next_tagged states.now tag self.now.cells place }
+        ensures counted { looks.old ≤ looks.new }
+        ensures looked { IfSome result (λ _. looks.old + self.now.height ≤ looks.new) }
         ensures cost { looks.new ≤ looks.old + 32 * self.now.height }
     {
         find_tagged(

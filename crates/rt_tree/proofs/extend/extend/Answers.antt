@@ -1,14 +1,18 @@
-use Rattle.std.proofs.Common.{◌≡◌, ℕ, ◌+◌, ◌-◌, ◌<◌, ◌≤◌, ◌∙◌, List, [], ◌∷◌, ◌++◌, nat_eq, true, true≢false, ap, inr, refl, sym, subst, arith}
+use Rattle.std.proofs.Common.{◌≡◌, ℕ, ◌==◌, if◌then◌else◌, length, ◌+◌, ◌-◌, ◌<◌, ◌≤◌, ◌∙◌, List, [], ◌∷◌, ◌++◌, nat_eq, true, true≢false, ap, inr, refl, sym, subst, arith}
 use Rattle.std.proofs.lemmas.Bool.Decides.{nat_tests}
+use Rattle.std.specs.List.{AllByRecursion, list_any}
 use Rattle.std.specs.Prelude.{IfSome}
 use Rattle.rt_tree.specs.declared.extend.Extended.{Extended}
 use Rattle.rt_tree.specs.declared.node.Counts.{Counts}
 use Rattle.rt_tree.specs.declared.node.CountedBy.TheVariants.{Cells}
 use Rattle.rt_tree.specs.declared.near.Seen.{Seen}
 use Rattle.rt_tree.specs.declared.node.Run.{Run}
+use Rattle.rt_tree.specs.Additions.{joined}
 use Rattle.rt_tree.specs.Holds.{IsEndAt}
 use Rattle.rt_tree.specs.Homes.{IsPlaced}
+use Rattle.rt_tree.specs.Runs.{IsRun, cells_of}
 use Rattle.rt_tree.specs.Shape.{IsTree, Memory, runs_before, tree_runs}
+use Rattle.rt_tree.specs.Sharing.{AreOnce, is_shared_by}
 use Rattle.rt_tree.specs.Stretches.{AreKept, IsEdge, lengths}
 use Rattle.rt_tree.specs.Sums.{AreFew, counts_of, counts_of_run, plus}
 use Rattle.rt_tree.specs.Walks.{IsReplacedAt, IsSpot, StandsAt}
@@ -24,7 +28,9 @@ use Rattle.rt_tags.specs.States.{IsState}
 use Rattle.rt_tree.proofs.Told.{given_there, short_kept}
 use Rattle.rt_tree.proofs.Housed.{joined_housed}
 use Rattle.rt_tree.proofs.Skipping.{have_cells}
+use Rattle.rt_tree.proofs.Typing.{longer_ends, typed_apart, typed_end, typed_joint, whole_stretch}
 use Rattle.rt_tree.proofs.Sure.{entered_others, front_below, front_new}
+use Rattle.rt_tree.proofs.extend.extend.Goals.{then-at-eq0-via-then-at-eq0, then-at-eq0-via-else-at-eq0+then-is_empty}
 use Rattle.rt_tree.proofs.extend.extend.Goals as goal
 
 -- what the runs before one that was seen count
@@ -268,3 +274,58 @@ returns-clause-sure c = λ was once below.
     let len = ap (λ (x : Run). x.len) c.joined-whole.ensures in
     let next = joint.first in let some = front.run.some in
     c.enter.ensures.stays is_new (omega (arith, len, some)) (omega (arith, first, len, next, bound))
+
+-- cells that go on from one that came last go on with its run
+
+pub returns-then-at-eq0-clause-typed : goal.returns-then-at-eq0-clause-typed
+returns-then-at-eq0-clause-typed c once on = elim c.then-at-eq0.branch [
+  | then-at-eq0-via-then-at-eq0 w ↦ let some = on.some in absurd (omega (arith, some, w.if-at-eq0.true))
+  | then-at-eq0-via-else-at-eq0+then-is_empty w ↦
+      let none : length c.args.new.now.cells.now ≡ 0 = grind (arith, nat_tests, w.is_empty.ensures, w.if-is_empty.true) in
+      let done = ap (λ (x : Extended). x.done) c.not_extended.ensures in
+      omega (arith, done, none)
+]
+
+pub returns-then-found-clause-typed : goal.returns-then-found-clause-typed
+returns-then-found-clause-typed c once on =
+    let text = c.args.new.now.text.now in let cells = c.args.new.now.cells.now in let at = c.args.new.now.at in
+    let old = tree_runs c.args.mem.now c.args.root.index in
+    let st = there c.args.mem.now c.args.root.index c.requires.tree (at - 1) c.cell_near-found.result c.cell_near-found.ensures in let f = c.cell_near-found.result in
+    let e = typed_end text old at cells c.requires.kept f.run (front c.args.mem.now c.args.root.index f) f.spot.offset st on in
+    absurd (omega (arith, e, c.if-found.true))
+
+pub returns-then-not-are_joint-clause-typed : goal.returns-then-not-are_joint-clause-typed
+returns-then-not-are_joint-clause-typed c once on =
+    let text = c.args.new.now.text.now in let cells = c.args.new.now.cells.now in let at = c.args.new.now.at in
+    let old = tree_runs c.args.mem.now c.args.root.index in
+    let st = there c.args.mem.now c.args.root.index c.requires.tree (at - 1) c.cell_near-found.result c.cell_near-found.ensures in let f = c.cell_near-found.result in
+    let j = typed_joint text old at cells c.requires.kept f.run (front c.args.mem.now c.args.root.index f) f.spot.offset st on c.run_of-run.result c.run_of-run.ensures.front in
+    absurd (true≢false (sym (c.are_joint.ensures ∙ j) ∙ c.if-not-are_joint.true))
+
+pub returns-then-is_barred-clause-typed : goal.returns-then-is_barred-clause-typed
+returns-then-is_barred-clause-typed c once on =
+    let text = c.args.new.now.text.now in let cells = c.args.new.now.cells.now in let at = c.args.new.now.at in
+    let old = tree_runs c.args.mem.now c.args.root.index in
+    let st = there c.args.mem.now c.args.root.index c.requires.tree (at - 1) c.cell_near-found.result c.cell_near-found.ensures in let f = c.cell_near-found.result in
+    let b = c.run_of-run.result in
+    let j = sym c.are_joint.ensures ∙ c.if-not-are_joint.false in
+    let shared = sym c.is_barred.ensures ∙ c.if-is_barred.true in
+    absurd (typed_apart text st.left f.run st.right cells b (subst (AllByRecursion (IsRun text)) st.here c.requires.kept) c.run_of-run.ensures.front (joint_true f.run b j)
+    (subst (λ (l : List Run). AreOnce (cells_of text l) cells) st.here once)
+    (subst (λ (l : List Run). list_any (is_shared_by (if f.run.len == 1 then joined f.run b else b)) l ≡ true) st.here shared))
+
+pub returns-clause-typed : goal.returns-clause-typed
+returns-clause-typed c once on = whole_stretch on.before c.args.new.now.cells.now c.run_of-run.result.len on.one c.run_of-run.ensures.stretch
+
+pub returns-clause-newest : goal.returns-clause-newest
+returns-clause-newest c some =
+    let text = c.args.new.now.text.now in let cells = c.args.new.now.cells.now in let at = c.args.new.now.at in
+    let old = tree_runs c.args.mem.now c.args.root.index in
+    let st = there c.args.mem.now c.args.root.index c.requires.tree (at - 1) c.cell_near-found.result c.cell_near-found.ensures in let f = c.cell_near-found.result in
+    let new = tree_runs c.replace_at.new.mem c.args.root.index in let b = c.run_of-run.result in
+    let rep = subst (λ (r : Run). IsReplacedAt old new (at - 1) r) c.joined-whole.ensures (c.replace_at.ensures.runs (at - 1) f.run c.cell_near-found.ensures) in
+    let joint = sym c.are_joint.ensures ∙ c.if-not-are_joint.false in
+    let first : 0 < at = (let z = c.if-at-eq0.false in omega (arith, z)) in
+    let last : f.spot.offset + 1 ≡ f.run.len = (let l = c.if-found.false in let i = st.inside in omega (arith, l, i)) in
+    let is = new_is text old at cells c.requires.kept f.run b (front c.args.mem.now c.args.root.index f) f.spot.offset st first last c.run_of-run.ensures joint new rep in
+    longer_ends new at (length text - length cells) st.left f.run b st.right (joint_true f.run b joint) is (let x = ap (λ (n : Counts). n.cells) st.before in let y = st.at in omega (arith, x, y, first, last)) c.run_of-run.ensures.front.at c.run_of-run.ensures.front.run.some

@@ -1,5 +1,5 @@
 use Rattle.std.proofs.Common.{◌≡◌, ◌+◌, ◌-◌, ◌<◌, ◌∙◌, arith, false, length, refl, suc, sym, ap, subst}
-use Rattle.std.proofs.lemmas.Bool.{true≢false}
+use Rattle.std.proofs.lemmas.Bool.{lt-ltb, true≢false}
 use Rattle.std.specs.List.{AllByRecursion}
 use Rattle.rt_nodes.specs.Nodes.{entries}
 use Rattle.rt_tags.specs.States.{IsState}
@@ -9,10 +9,10 @@ use Rattle.rt_tree.specs.Seeks.{IsReached, most_below, runs_at}
 use Rattle.rt_tree.specs.Shape.{IsTree, Memory, level_of, runs}
 use Rattle.rt_tree.specs.Skips.{HasCells}
 use Rattle.rt_tree.specs.Summaries.{AreSummed, shown_states, summary_of, tagged_as}
-use Rattle.rt_tree.proofs.Nearing.{given-run}
+use Rattle.rt_tree.proofs.Nearing.{given-run, leaf-entry}
 use Rattle.rt_tree.proofs.Reaching.{visible}
 use Rattle.rt_tree.proofs.Seeking.{enough, most_down, reaches_none, spends}
-use Rattle.rt_tree.proofs.Sighting.{all-at, fits-at, found-at, further-at, more-at, not_at_start, nowhere-at, sees, some-at}
+use Rattle.rt_tree.proofs.Sighting.{all-at, fits-at, found-at, further-at, more-at, not_at_start, nowhere-at, sees, some-at, zero_is}
 use Rattle.rt_tree.proofs.reach.+reached.Goals as goal
 
 -- AN ENTRY
@@ -206,6 +206,41 @@ entry_reached-returns-else-below-clause-far g t c le =
     let d = sees (g.L.Looks.nodes a.looks.now) a.root.index c.requires.tree a.node.index c.requires.node.0 a.i s.result.entry c.requires.within s.ensures.tells a.states.now c.requires.given (g.L.Looks.summaries a.looks.now) c.requires.sums a.wanted.now.tag s.result.borders s.result.first s.ensures.borders s.ensures.first c.in-Down.child c.in-Down.totals c.in-Down.is in
     absurd (true≢false (sym (c.is_past.ensures.far (omega (arith, d.counted, le))) ∙ c.if-is_past.false))
 
+pub entry_reached-returns-in-Here-clause-looked : goal.entry_reached-returns-in-Here-clause-looked
+entry_reached-returns-in-Here-clause-looked g t c some found =
+    let a = c.args in
+    let s = c.look-seen in
+    let m = g.L.Looks.nodes a.looks.now in
+    let leaf = leaf-entry m a.root.index c.requires.tree a.node.index c.requires.node.0 a.i s.result.entry c.requires.within s.ensures.tells c.in-Here.run' c.in-Here.is in
+    omega (arith, leaf, s.ensures.counts)
+
+pub entry_reached-returns-then-below-clause-looked : goal.entry_reached-returns-then-below-clause-looked
+entry_reached-returns-then-below-clause-looked g t c some found =
+    let a = c.args in
+    let s = c.look-seen in
+    let m = g.L.Looks.nodes a.looks.now in
+    let child = c.in-Down.child.index in
+    let d = sees m a.root.index c.requires.tree a.node.index c.requires.node.0 a.i s.result.entry c.requires.within s.ensures.tells a.states.now c.requires.given (g.L.Looks.summaries a.looks.now) c.requires.sums a.wanted.now.tag s.result.borders s.result.first s.ensures.borders s.ensures.first c.in-Down.child c.in-Down.totals c.in-Down.is in
+    let same = d.same ∙ ap (λ x. runs x (level_of x child) child) (sym s.ensures.same) in
+    let lvl = ap (λ x. level_of x child) s.ensures.same in
+    let below = c.reached-below.ensures.looked (subst (AllByRecursion HasCells) same some) c.if-below.true in
+    omega (arith, lvl, d.level, s.ensures.counts, below)
+
+pub entry_reached-returns-else-below-clause-looked : goal.entry_reached-returns-else-below-clause-looked
+entry_reached-returns-else-below-clause-looked g t c some found =
+    let a = c.args in
+    let s = c.look-seen in
+    let m = g.L.Looks.nodes a.looks.now in
+    let sums = g.L.Looks.summaries a.looks.now in
+    let child = c.in-Down.child.index in
+    let d = sees m a.root.index c.requires.tree a.node.index c.requires.node.0 a.i s.result.entry c.requires.within s.ensures.tells a.states.now c.requires.given sums c.requires.sums a.wanted.now.tag s.result.borders s.result.first s.ensures.borders s.ensures.first c.in-Down.child c.in-Down.totals c.in-Down.is in
+    let test = tagged_as a.states.now a.wanted.now.tag a.wanted.now.on in
+    let rs = runs_at m a.node.index a.i in
+    let same = d.same ∙ ap (λ x. runs x (level_of x child) child) (sym s.ensures.same) in
+    let is = subst (λ l. IsReached test a.from l c.reached-below.result) (sym same) (c.reached-below.ensures.place (subst (AllByRecursion HasCells) same some)) in
+    let there = subst (λ v. reached test a.from rs < v) d.counted (c.is_past.ensures.there rs (summary_of sums child) d.summed d.tells d.counted some (zero_is a.from found) c.if-is_past.false) in
+    absurd (true≢false (sym (lt-ltb (reached test a.from rs) (visible rs) there) ∙ sym is.found ∙ c.if-below.false))
+
 -- A NODE
 
 pub reached-entry_reached-here-requires : goal.reached-entry_reached-here-requires
@@ -302,6 +337,19 @@ reached-returns-then-here-clause-inside g t c =
     let lt : l.i < length (entries m id) = omega (arith, c.len-i-end.ensures.value, c.loop-i-test.true) in
     fits-at m a.root.index c.requires.tree id c.requires.node.0 l.i l.done r.result.place lt l.invariant.visible (omega (arith, at, r.ensures.inside))
 
+pub reached-returns-then-here-clause-looked : goal.reached-returns-then-here-clause-looked
+reached-returns-then-here-clause-looked g t c some found =
+    let a = c.args in
+    let m = g.L.Looks.nodes a.looks.now in
+    let id = a.node.index in
+    let l = c.loop-i in
+    let r = c.entry_reached-here in
+    let at = ap (λ x. runs_at x id l.i) l.invariant.same in
+    let lvl = ap (λ x. level_of x id) l.invariant.same in
+    let lt : l.i < length (entries m id) = omega (arith, c.len-i-end.ensures.value, c.loop-i-test.true) in
+    let here = r.ensures.looked (subst (AllByRecursion HasCells) (sym at) (some-at m a.root.index c.requires.tree id c.requires.node.0 l.i lt some)) c.if-here.true in
+    omega (arith, lvl, here, l.invariant.counted)
+
 pub reached-loop-i-preserved : goal.reached-loop-i-preserved
 reached-loop-i-preserved g t c =
     let a = c.args in
@@ -325,6 +373,7 @@ reached-loop-i-preserved g t c =
           (omega (arith, lvl, r.ensures.none c.if-here.false))
           (λ z. r.ensures.start c.if-here.false (c.saturating_sub.ensures ∙ z))
           (λ le. r.ensures.far (omega (arith, le, number, whole, c.saturating_sub.ensures)));
+      counted = omega (arith, r.ensures.counted, l.invariant.counted);
       same = r.ensures.same ∙ l.invariant.same;
       kept = r.ensures.kept ∙ l.invariant.kept;
       lent = r.ensures.lent ∙ l.invariant.lent;

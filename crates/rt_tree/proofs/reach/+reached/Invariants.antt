@@ -1,4 +1,4 @@
-use Rattle.std.proofs.Common.{◌≡◌, ◌+◌, ◌*◌, take}
+use Rattle.std.proofs.Common.{◌≡◌, ◌+◌, ◌*◌, ◌≤◌, take}
 use Rattle.std.specs.List.{AllByRecursion}
 use Rattle.rt_nodes.specs.Nodes.{entries}
 use Rattle.rt_tree.specs.Reaches.{reached}
@@ -23,6 +23,7 @@ invariant-reached-loop-i g l =
       visible : l.done ≡ (sum_of front).visible;
       reached : AllByRecursion HasCells (runs m k l.node.index) → reached (tagged_as l.states l.wanted.tag l.wanted.on) l.fn.from (all_below m k front) ≡ l.done;
       spent : Spent k l.fn.from l.done (g.L.Looks.looked l.initial.looks) l.i (g.L.Looks.looked l.looks);
+      counted : g.L.Looks.looked l.initial.looks ≤ g.L.Looks.looked l.looks;
       same : g.L.Looks.nodes l.looks ≡ m;
       kept : g.L.Looks.summaries l.looks ≡ g.L.Looks.summaries l.initial.looks;
       lent : g.L.Looks.counter l.looks ≡ g.L.Looks.counter l.initial.looks;

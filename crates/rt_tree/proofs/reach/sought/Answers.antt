@@ -25,3 +25,8 @@ returns-else-found-clause-place g c text kept =
     let is = c.reached-found.ensures.place (have_cells text rs kept) in
     let l = ltb-false (reached test a.place rs) (visible rs) (sym is.found ∙ c.if-found.false) in
     sym (next_is text test rs a.place kept ∙ is_not (reached test a.place rs) (visible rs) l)
+
+pub returns-then-found-clause-looked : goal.returns-then-found-clause-looked
+returns-then-found-clause-looked g c text kept =
+    let rs = tree_runs (g.L.Looks.nodes c.args.looks.now) c.args.root.index in
+    c.reached-found.ensures.looked (have_cells text rs kept) c.if-found.true

@@ -1,9 +1,10 @@
-use Rattle.std.proofs.Common.{◌+◌, ◌-◌, ◌^◌, ◌≤◌, ℕ, List, take, drop, length, arith, ap, ◌∙◌, sym, subst}
+use Rattle.std.proofs.Common.{◌≡◌, ◌+◌, ◌-◌, ◌^◌, ◌≤◌, ℕ, List, take, drop, length, arith, ap, ◌∙◌, sym, subst}
 use Rattle.std.proofs.lemmas.List.{length-drop, take_all}
 use Rattle.std.proofs.lemmas.List.Elements.{All-drop}
 use Rattle.rt_store.specs.declared.cell.Cell.{Cell}
 use Rattle.rt_store.specs.Cells.{put_at}
 use Rattle.rt_tree.specs.Additions.{EndsWith, stretches}
+use Rattle.rt_tree.specs.Growing.{EndsThere}
 use Rattle.rt_tree.specs.Runs.{cells_of}
 use Rattle.rt_tree.specs.Shape.{tree_runs}
 use Rattle.rt_tree.specs.Sharing.{AreBelowGreatest, AreOnce, AreUpTo}
@@ -168,3 +169,26 @@ returns-clause-sure c = λ was once below.
     let p = subst (λ (x : List (Cell ℕ)). AreOnce (cells_of c.args.new.now.text.now mid) x) same o in
     let b = subst AreBelowGreatest same (upto_drop (2 ^ 64 - 2) done cells below) in
     c.put_runs-then.ensures.sure (c.cut_home-end.ensures.sure ∙ e.sure was once below) p b
+
+pub returns-then-done-new-clause-newest : goal.returns-then-done-new-clause-newest
+returns-then-done-new-clause-newest c some =
+    let e = c.extend-extended.ensures in let new = tree_runs c.extend-extended.new.mem c.args.root.index in
+    let cells = c.args.new.now.cells.now in let all = length c.args.new.now.text.now in
+    let done : c.extend-extended.result.done ≡ length cells = (let d = c.if-done-new.true in omega (arith, d)) in
+    let end : all - length cells + length cells ≡ all = (let long = c.requires.last.long in omega (arith, long)) in
+    let at = e.newest (omega (arith, done, some)) in
+    subst (EndsThere new (c.args.new.now.at + length cells)) end (subst (λ k. EndsThere new (c.args.new.now.at + k) (all - length cells + k)) done at)
+
+pub returns-clause-newest : goal.returns-clause-newest
+returns-clause-newest c some =
+    let w = c.extend-extended.ensures.within in
+    let new = tree_runs c.put_runs-then.new.mem c.put_runs-then.result.root.index in
+    let cells = c.args.new.now.cells.now in let k = c.extend-extended.result.done in let at = c.args.new.now.at in
+    let rest = take (length cells - k) (drop k cells) in
+    let n = ap length (rest_is k cells w) ∙ length-drop k cells in
+    let left = c.if-done-new.false in
+    let to : at + k + length rest ≡ at + length cells = omega (arith, n, w) in
+    subst (λ i. EndsThere new i (length c.args.new.now.text.now)) to (c.put_runs-then.ensures.newest (omega (arith, n, w, left)))
+
+pub returns-clause-typed : goal.returns-clause-typed
+returns-clause-typed c once on = let d = c.extend-extended.ensures.typed once on in let left = c.if-done-new.false in absurd (omega (arith, d, left))

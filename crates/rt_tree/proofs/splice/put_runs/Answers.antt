@@ -1,13 +1,14 @@
-use Rattle.std.proofs.Common.{ℕ, refl, arith, ◌∙◌, ◌≡◌, ◌+◌, ◌-◌, ◌^◌, take, drop, subst}
+use Rattle.std.proofs.Common.{ℕ, refl, arith, ◌∙◌, ◌≡◌, ◌+◌, ◌-◌, ◌^◌, length, take, drop, subst}
 use Rattle.std.proofs.lemmas.List.Elements.{All-drop}
 use Rattle.std.specs.Prelude.{IfSome}
+use Rattle.rt_tree.specs.Growing.{EndsThere}
 use Rattle.rt_tree.specs.Holds.{IsEndAt}
 use Rattle.rt_tree.specs.Runs.{cells_of}
 use Rattle.rt_tree.specs.Shape.{tree_runs}
 use Rattle.rt_tree.specs.Sharing.{AreUpTo}
 use Rattle.rt_tree.proofs.Ends.{known_behind}
 use Rattle.rt_tree.proofs.Newest.{upto_drop, upto_next}
-use Rattle.rt_tree.proofs.Splicing.{all_spliced, fewer_cells, more_spliced, none_spliced, spliced_few, spliced_low, spliced_once, spliced_runs, spliced_with, spliced_within}
+use Rattle.rt_tree.proofs.Splicing.{all_spliced, fewer_cells, more_spliced, new_ends, none_spliced, spliced_few, spliced_low, spliced_once, spliced_runs, spliced_with, spliced_within}
 use Rattle.rt_tree.proofs.Sure.{front_below, front_new}
 use Rattle.rt_store.specs.declared.cell.Cell.{Cell}
 use Rattle.rt_tags.specs.States.{IsState}
@@ -26,6 +27,7 @@ loop-done-init c = record {
   housed = c.requires.housed;
   sure = λ was once below. was;
   left = omega arith;
+  newest = λ some. absurd (omega (arith, some));
   end = subst (λ at. IfSome c.args.end (IsEndAt c.args.mem.now c.args.root.index at)) (omega arith) c.requires.end;
 }
 
@@ -76,6 +78,7 @@ loop-done-preserved c =
           p.sure (l.invariant.sure was once below) (front_new text run rest front now l.invariant.spliced.changed.kept apart) front.run.some
           (front_below text run rest front (upto_drop (2 ^ 64 - 2) l.done c.args.new.now.cells.now below));
       left = let i = l.invariant.left in let s = c.choose-next.ensures.run.run.some in let n = p.left in omega (arith, i, s, n);
+      newest = λ some. new_ends c.args.new.now.text.now old (tree_runs l.mem l.root.index) c.args.new.now.at l.done l.more l.lone c.args.new.now.cells.now r.kept r.short r.few r.within l.invariant.spliced c.choose-next.result.run c.choose-next.ensures.run new p.runs r.last.long;
       end = tt;
     }
 
@@ -99,6 +102,15 @@ pub returns-clause-more : goal.returns-clause-more
 returns-clause-more c =
     let l = c.loop-done in let old = tree_runs c.args.mem.now c.args.root.index in
     let a = all_spliced c.args.new.now.text.now old (tree_runs l.mem l.root.index) c.args.new.now.at l.done l.more l.lone c.args.new.now.cells.now l.invariant.spliced (omega (arith, c.loop-done-test.false)) in a.1
+
+pub returns-clause-newest : goal.returns-clause-newest
+returns-clause-newest c some =
+    let l = c.loop-done in let new = tree_runs l.mem l.root.index in
+    let cells = c.args.new.now.cells.now in let all = length c.args.new.now.text.now in
+    let done : l.done ≡ length cells = (let low = l.invariant.spliced.low in omega (arith, c.loop-done-test.false, low)) in
+    let end : all - length cells + length cells ≡ all = (let long = c.requires.last.long in omega (arith, long)) in
+    let at = l.invariant.newest (omega (arith, done, some)) in
+    subst (EndsThere new (c.args.new.now.at + length cells)) end (subst (λ k. EndsThere new (c.args.new.now.at + k) (all - length cells + k)) done at)
 
 pub returns-clause-room : goal.returns-clause-room
 returns-clause-room c = c.loop-done.invariant.room

@@ -1,5 +1,6 @@
-use Rattle.std.proofs.Common.{◌≡◌, ◌+◌, ◌-◌, ◌≤◌, true, length}
+use Rattle.std.proofs.Common.{◌≡◌, ◌+◌, ◌-◌, ◌<◌, ◌≤◌, true, length}
 use Rattle.std.specs.Prelude.{IfSome}
+use Rattle.rt_tree.specs.Growing.{EndsThere}
 use Rattle.rt_tree.specs.Holds.{IsEndAt}
 use Rattle.rt_tree.specs.Runs.{cells_of}
 use Rattle.rt_tree.specs.Homes.{AreHome}
@@ -22,6 +23,7 @@ invariant-loop-done l = record {
   housed : l.homes.sure ≡ true → AreHoused l.mem l.root.index l.homes.leaves;
   sure : l.initial.homes.sure ≡ true → AreOnce (cells_of l.new.text.now (tree_runs l.initial.mem l.initial.root.index)) l.new.cells.now → AreBelowGreatest l.new.cells.now → l.homes.sure ≡ true;
   left : l.initial.homes.left ≤ l.homes.left + l.done;
+  newest : 0 < l.done → EndsThere (tree_runs l.mem l.root.index) (l.new.at + l.done) (length l.new.text.now - length l.new.cells.now + l.done);
   end : IfSome l.end (IsEndAt l.mem l.root.index (l.new.at + l.done));
 }
 

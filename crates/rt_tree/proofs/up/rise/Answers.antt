@@ -10,7 +10,7 @@ pub loop-node-init : goal.loop-node-init
 loop-node-init g c = record {
   rising = sets_out (g.L.Looks.nodes c.args.looks.now) c.args.root.index c.requires.tree c.args.leaf.index c.args.first.entry c.requires.leaf.0.0 c.requires.leaf.1 c.args.first.counts c.requires.first;
   cost = omega arith;
-  more = omega arith;
+  counted = omega (arith, c.requires.leaf.1);
   same = refl;
   kept = refl;
   lent = refl;
@@ -54,7 +54,7 @@ loop-node-preserved g c =
     record {
       rising = subst (λ p. Rising m root leaf c.args.first.entry p next.result) (sym parent) (goes_up m root c.requires.tree leaf c.args.first.entry id c.loop-node.before next.result old.rising c.loop-node-test.true left);
       cost = omega (arith, next.ensures.cost, old.cost, up, known.up);
-      more = omega (arith, next.ensures.counted, old.more);
+      counted = omega (arith, next.ensures.counted, old.counted, up, known.up);
       same = next.ensures.same ∙ old.same;
       kept = next.ensures.kept ∙ old.kept;
       lent = next.ensures.lent ∙ old.lent;
@@ -62,6 +62,9 @@ loop-node-preserved g c =
 
 pub returns-clause-cost : goal.returns-clause-cost
 returns-clause-cost g c = let old = c.loop-node.invariant in omega (arith, old.rising.low, old.cost)
+
+pub returns-clause-counted : goal.returns-clause-counted
+returns-clause-counted g c = let top = ap (level_of (g.L.Looks.nodes c.args.looks.now)) c.loop-node-test.false in omega (arith, top, c.loop-node.invariant.counted)
 
 pub returns-clause-stands : goal.returns-clause-stands
 returns-clause-stands g c run here =

@@ -9,7 +9,7 @@ invariant-loop-node g l =
     record {
       rising : Rising m l.root.index l.fn.leaf.index l.fn.first.entry l.node.index l.before;
       cost : g.L.Looks.looked l.looks ≤ g.L.Looks.looked l.initial.looks + 16 * level_of m l.node.index;
-      more : g.L.Looks.looked l.initial.looks ≤ g.L.Looks.looked l.looks;
+      counted : g.L.Looks.looked l.initial.looks + level_of m l.node.index ≤ g.L.Looks.looked l.looks;
       same : g.L.Looks.nodes l.looks ≡ m;
       kept : g.L.Looks.summaries l.looks ≡ g.L.Looks.summaries l.initial.looks;
       lent : g.L.Looks.counter l.looks ≡ g.L.Looks.counter l.initial.looks;

@@ -1,5 +1,6 @@
-use Rattle.std.proofs.Common.{ap, sym, ◌∙◌}
-use Rattle.std.specs.Prelude.{option_map}
+use Rattle.std.proofs.Common.{rules, ◌+◌, ◌≤◌, ap, subst, sym, ◌∙◌}
+use Rattle.std.specs.Prelude.{IfSome, option_map}
+use Rattle.std.proofs.lemmas.Bool.{true≢false}
 use Rattle.rt_store.specs.Cells.{position_of, visible_before}
 use Rattle.rt_tree.specs.Runs.{cells_of}
 use Rattle.rt_tree.specs.Shape.{tree_runs}
@@ -37,3 +38,20 @@ returns-clause-place c =
     (λ none. not_there s.mem s.root.index i.kept.tree s.homes.leaves (i.housed c.if-not-self.false) c.args.stamp c.in_ok-leaf.leaf (sym c.in_ok-leaf.ensures)
     (λ k run is low here. c.ascend.ensures.none none k run here))
     ∙ ap (λ (x : Shown). option_map (visible_before x.cells) (position_of x.cells c.args.stamp)) c.self.view_is
+
+pub returns-clause-looked : goal.returns-clause-looked
+returns-clause-looked c sure =
+    let looked = subst (λ n. IfSome c.ascend.result (λ _. c.args.looks.now + n ≤ c.ascend.new.looks.looks.now)) (ap (λ (x : Shown). x.height) c.self.view_is) c.ascend.ensures.looked in
+    subst (λ n. IfSome c.ascend.result (λ _. c.args.looks.now + c.args.self.now.height ≤ n)) (search rules) looked
+
+pub returns-then-not-self-clause-looked : goal.returns-then-not-self-clause-looked
+returns-then-not-self-clause-looked c sure = absurd (true≢false (sym sure ∙ sym (ap (λ (x : Shown). x.sure) c.self.view_is) ∙ c.if-not-self.true))
+
+pub returns-in_err-leaf-clause-unsure : goal.returns-in_err-leaf-clause-unsure
+returns-in_err-leaf-clause-unsure c off = absurd (true≢false (sym c.if-not-self.false ∙ ap (λ (x : Shown). x.sure) c.self.view_is ∙ off))
+
+pub returns-then-not-is_leaf-clause-unsure : goal.returns-then-not-is_leaf-clause-unsure
+returns-then-not-is_leaf-clause-unsure c off = absurd (true≢false (sym c.if-not-self.false ∙ ap (λ (x : Shown). x.sure) c.self.view_is ∙ off))
+
+pub returns-clause-unsure : goal.returns-clause-unsure
+returns-clause-unsure c off = absurd (true≢false (sym c.if-not-self.false ∙ ap (λ (x : Shown). x.sure) c.self.view_is ∙ off))

@@ -1,4 +1,5 @@
-use Rattle.std.proofs.Common.{arith, ap, subst, sym, ◌∙◌}
+use Rattle.std.proofs.Common.{◌+◌, ◌≤◌, arith, ap, subst, sym, ◌∙◌}
+use Rattle.std.specs.Prelude.{IfSome}
 use Rattle.rt_store.specs.Tagged.{next_tagged}
 use Rattle.rt_tree.specs.Shape.{tree_runs}
 use Rattle.rt_tree.specs.Summaries.{AreSummed}
@@ -36,3 +37,9 @@ returns-clause-place c =
 
 pub returns-clause-cost : goal.returns-clause-cost
 returns-clause-cost c = let h = ap (λ (v : Shown). v.height) c.self.view_is in let n = c.find_tagged.ensures.cost in omega (arith, h, n)
+
+pub returns-clause-looked : goal.returns-clause-looked
+returns-clause-looked c =
+    let s = c.self.inside in
+    subst (λ n. IfSome c.find_tagged.result (λ _. c.args.looks.now + n ≤ c.find_tagged.new.steps)) (ap (λ (v : Shown). v.height) c.self.view_is)
+    (c.find_tagged.ensures.looked s.text.items c.self.invariant.kept.kept)

@@ -1,8 +1,10 @@
-use Rattle.std.proofs.Common.{ℕ, List, Option, ◌-◌, ◌^◌, arith, ap, sym, ◌∙◌, subst}
+use Rattle.std.proofs.Common.{ℕ, List, Option, ◌+◌, ◌-◌, ◌^◌, length, refl, arith, ap, sym, ◌∙◌, subst}
 use Rattle.std.specs.Prelude.{IfSome}
+use Rattle.std.proofs.lemmas.Option.{slice_get_within}
 use Rattle.rt_store.specs.declared.cell.Cell.{Cell}
 use Rattle.rt_store.specs.Cells.{AreDistinct, put_at}
 use Rattle.rt_tree.specs.declared.walk.Found.{Found}
+use Rattle.rt_tree.specs.Growing.{EndsThere, GoOnIn}
 use Rattle.rt_tree.specs.Holds.{Holds}
 use Rattle.rt_tree.specs.Runs.{cells_of}
 use Rattle.rt_tree.specs.Shape.{tree_runs}
@@ -18,6 +20,7 @@ use Rattle.rt_tree.proofs.Shared.{distinct_once}
 use Rattle.rt_tree.proofs.Splicing.{longer_cells, longer_count, longer_ends, longer_kept, longer_shown, longer_text}
 use Rattle.rt_tree.proofs.Showing.{kept_told, own_states, right_from, states_given}
 use Rattle.rt_tree.proofs.Sure.{once_before, once_together}
+use Rattle.rt_tree.proofs.Typing.{typed_in, typed_next}
 use Rattle.rt_tree.proofs.Tallying.{newlines_few, visible_few}
 use Rattle.rt_tree.proofs.tree.Tree.splice_cells.Goals as goal
 
@@ -149,3 +152,33 @@ returns-clause-own c =
     let old = tree_runs c.self.inside.mem c.self.inside.root.index in let new = tree_runs c.put_cells-change.new.mem c.put_cells-change.result.root.index in
     let is = subst (λ (t : List ℕ). AreChanged old new t (put_at c.args.at c.args.cells.now)) c.deref.ensures.value e.cells in
     own_states c.put_cells-change.new.mem c.put_cells-change.result.root.index c.push_characters.new.text.items e.tree is.kept c.put_cells-change.new.sums.each.items c.args.self.now.room
+
+pub returns-clause-typed : goal.returns-clause-typed
+returns-clause-typed c distinct on =
+    let s = c.self.inside in let k = c.self.invariant.kept in
+    let e = c.put_cells-change.ensures in
+    let old = tree_runs s.mem s.root.index in let added = c.args.cells.now in
+    let text = s.text.items in let longer = c.push_characters.new.text.items in
+    let n = ap (λ (v : Shown). v.runs) c.self.view_is in
+    let d = subst AreDistinct (returns-clause-cells c ∙ ap (λ (v : Shown). put_at c.args.at added v.cells) (sym c.self.view_is)) distinct in
+    let o = distinct_once c.args.at (cells_of text old) added d in
+    let grown = longer_cells text longer old added k.kept c.push_characters.ensures.items in
+    let same = sym c.deref.ensures.value in
+    let once = subst (λ (x : List (Cell ℕ)). AreOnce x added) (sym grown ∙ ap (λ (t : List ℕ). cells_of t old) same) o in
+    let go = typed_in text longer old c.args.at added c.args.self.now k.kept (longer_text text longer old added k.kept c.push_characters.ensures.items) k.all grown
+    (ap (λ (v : Shown). v.cells) c.self.view_is) (ap (λ (v : Shown). v.came) c.self.view_is) on in
+    let m = e.typed once (subst (λ (t : List ℕ). GoOnIn t old c.args.at added) same go) in
+    let er = e.runs in
+    omega (arith, m, n, er)
+
+pub returns-clause-next : goal.returns-clause-next
+returns-clause-next c more on =
+    let e = c.put_cells-change.ensures in
+    let new = tree_runs c.put_cells-change.new.mem c.put_cells-change.result.root.index in let added = c.args.cells.now in
+    let text = c.push_characters.new.text.items in
+    let k = (invariant_of-self c).kept in
+    let n = counted text new k.kept in
+    let w = c.requires.within in
+    let lt = slice_get_within added (length added - 1) on.last on.is in
+    let ends = subst (λ (t : List ℕ). EndsThere new (c.args.at + length added) (length t)) c.deref.ensures.value (e.newest (omega (arith, lt))) in
+    typed_next text new c.args.at c.args.self.now.cells added more _ (returns-clause-cells c) refl (omega (arith, w)) ends (n.cells ∙ sym k.all) on
