@@ -7,7 +7,7 @@ use Rattle.rt_words.specs.Spelling.{IsBadlyQuotedList, SpellsList}
 use Rattle.rt_words.proofs.Deciding.{list_spells}
 use Rattle.rt_requests.specs.declared.request.Request.{Request}
 use Rattle.rt_requests.specs.declared.request.Request.TheVariants.{Insert, Replace}
-use Rattle.rt_requests.specs.Parts.{TaggedTextValue, TextsValue}
+use Rattle.rt_requests.specs.Parts.{TextsValue}
 use Rattle.rt_requests.specs.Asking.{AreNoTexts, AreTexts, Asked, Asks, AsksInsert, AsksReplace, AsksTexts, asked_of}
 
 -- a list spells words or is badly quoted

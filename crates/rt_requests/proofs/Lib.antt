@@ -6,6 +6,7 @@ pub mod AskedOnce
 pub mod AskedAlways
 pub mod SpelledSearches
 pub mod Numbers
+pub mod Groups
 pub mod ReadSettings
 pub mod SpelledSettings
 pub mod SpelledEdits

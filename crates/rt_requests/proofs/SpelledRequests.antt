@@ -1,14 +1,13 @@
 -- Words that ask for a request.
-use Rattle.std.proofs.Common.{◌≡◌, ◌∙◌, inl, inr, ℕ, ◌==◌, Ok, Some, None, Option, List, [], ◌∷◌, ◌++◌, Bool, true, false, true≢false, refl, sym, ap, arith, codes, length, map, take, drop}
-use Rattle.std.specs.List.{flat_map, list_all, list_any, prefix_len}
+use Rattle.std.proofs.Common.{◌≡◌, ◌∙◌, inl, Ok, Some, None, Option, List, [], ◌∷◌, ◌++◌, Bool, true, false, true≢false, refl, sym, ap, arith, codes, length, map, take, drop}
+use Rattle.std.specs.List.{list_all, prefix_len}
 use Rattle.std.specs.Prelude.{IsTrue}
-use Rattle.std.proofs.lemmas.Bool.{ne_eqb}
 use Rattle.std.proofs.Math.Seq.{take-append_seam, drop-append_seam}
 use Rattle.rt_marks.specs.declared.gravity.Gravity.TheVariants.{Left, Right}
 use Rattle.rt_marks.specs.Marks.{gravity_word}
 use Rattle.rt_stamps.specs.Words.{Word}
 use Rattle.rt_words.proofs.WrittenWords.{listed, spaced_words}
-use Rattle.rt_words.proofs.BareWords.{both_false, both_true}
+use Rattle.rt_words.proofs.BareWords.{both_true}
 use Rattle.rt_index.specs.declared.comparison.Comparison.{Comparison}
 use Rattle.rt_index.specs.declared.comparison.Comparison.TheVariants.{Less, LessOrEqual, Equal, GreaterOrEqual, Greater, NotEqual}
 use Rattle.rt_requests.specs.declared.kinds.Kinds.{Kinds}

@@ -151,7 +151,8 @@ Asks (name ∷ words) asked = AsksOf name words asked
 
 -- What can be asked for: neither a count nor a dump from an index that begins with a minus, since such a word is read as a
 -- switch; nor a dump of no kind of elements, since that without switches is one of all kinds; nor settings of no option, since
--- `configure` names one at least, or of a line by a number of more than 64 bits; nor a widget of a path that none can have.
+-- `configure` names one at least, or of a line by a number of more than 64 bits, or of 2^63 groups or more; nor a widget of a path
+-- that none can have.
 abbrev pub CanBeAsked : Request → Type 0
 CanBeAsked (Count measures from to) = is_switch from ≡ false
 CanBeAsked (Dump kinds from to) = IsTrue (shows_some kinds) × (is_switch from ≡ false)

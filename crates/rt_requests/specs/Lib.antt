@@ -2,6 +2,7 @@ pub mod Asking
 pub mod EditWords
 pub mod LimitWords
 pub mod MarkWords
+pub mod MaxUndoWords
 pub mod OptionWords
 pub mod Parts
 pub mod Paths

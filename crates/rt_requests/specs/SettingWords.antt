@@ -1,6 +1,6 @@
 -- The words of `configure` and `cget`, and what they ask for (Tk text manual, "WIDGET-SPECIFIC OPTIONS"): the options that all
 -- widgets of a site share, and the limits of what one widget shows.
-use Rattle.std.specs.Prelude.{◌≡◌, ◌<◌, ◌^◌, ◌&&◌, ◌||◌, not, Bool, true, false, List, [], ◌∷◌, Option, Some, None, is_some, option_map, unwrap_or, ok_or, Result, Ok, Err, codes, if◌then◌else◌}
+use Rattle.std.specs.Prelude.{◌≡◌, ℕ, ◌<◌, ◌^◌, ◌&&◌, ◌||◌, not, Bool, true, false, List, [], ◌∷◌, Option, Some, None, is_some, option_map, unwrap_or, ok_or, Result, Ok, Err, codes, if◌then◌else◌}
 use Rattle.std.specs.Option.{option_or}
 use Rattle.std.specs.Str.{bytes_eq}
 use Rattle.rt_stamps.specs.declared.fault.Fault.{Fault}
@@ -12,9 +12,10 @@ use Rattle.rt_requests.specs.Truth.{truth_of}
 use Rattle.rt_requests.specs.declared.limits.Limit.{Limit}
 use Rattle.rt_requests.specs.declared.limits.Limit.TheVariants.{Absent, Line, PastEveryLine}
 use Rattle.rt_requests.specs.declared.options.NamedOption.{NamedOption}
-use Rattle.rt_requests.specs.declared.options.NamedOption.TheVariants.{Shared, StartLine, EndLine}
+use Rattle.rt_requests.specs.declared.options.NamedOption.TheVariants.{Shared, MaxUndo, StartLine, EndLine}
 use Rattle.rt_requests.specs.declared.settings.WidgetSettings.{WidgetSettings}
 use Rattle.rt_requests.specs.LimitWords.{limit_of}
+use Rattle.rt_requests.specs.MaxUndoWords.{max_undo_of}
 
 -- OPTIONS
 
@@ -23,6 +24,7 @@ abbrev pub named_option : Word → Option NamedOption
 named_option word =
     if bytes_eq word (codes "-startline") then Some StartLine
     else if bytes_eq word (codes "-endline") then Some EndLine
+    else if bytes_eq word (codes "-maxundo") then Some MaxUndo
     else option_map Shared (option_of word)
 
 -- the words behind `cget`: OPTION
@@ -37,9 +39,11 @@ asked_named_option (word ∷ more ∷ words) = Err BadCommand
 abbrev pub AskedOfSettings : Type 0
 AskedOfSettings = Result WidgetSettings Fault
 
--- a shared option has a word for yes or no, a limit the empty word or digits
+-- an option that is on or off has a word for yes or no, -maxundo a number that may have a minus in front, a limit of what is shown the
+-- empty word or digits
 abbrev pub can_have : Word → NamedOption → Bool
 can_have value (Shared option) = is_some (truth_of value)
+can_have value MaxUndo = is_some (max_undo_of value)
 can_have value StartLine = is_some (limit_of value)
 can_have value EndLine = is_some (limit_of value)
 
@@ -68,6 +72,7 @@ abbrev pub with_value : WidgetSettings → NamedOption → Word → Option Widge
 with_value settings (Shared Undo) value = option_map (λ truth. record settings { shared = record settings.shared { undo = Some truth } }) (truth_of value)
 with_value settings (Shared AutoSeparators) value =
     option_map (λ truth. record settings { shared = record settings.shared { auto_separators = Some truth } }) (truth_of value)
+with_value settings MaxUndo value = option_map (λ most. record settings { shared = record settings.shared { max_undo = Some most } }) (max_undo_of value)
 with_value settings StartLine value = option_map (λ limit. record settings { start_line = Some limit }) (limit_of value)
 with_value settings EndLine value = option_map (λ limit. record settings { end_line = Some limit }) (limit_of value)
 
@@ -92,22 +97,29 @@ IsKept (Some Absent) = Unit {0}
 IsKept (Some (Line number)) = number < 2 ^ 64
 IsKept (Some PastEveryLine) = Unit {0}
 
+-- a number of groups is below 2^63
+abbrev pub IsMaxUndo : Option ℕ → Type 0
+IsMaxUndo None = Unit {0}
+IsMaxUndo (Some most) = most < 2 ^ 63
+
 abbrev pub AreKept : WidgetSettings → Type 0
-AreKept settings = IsKept settings.start_line × IsKept settings.end_line
+AreKept settings = IsKept settings.start_line × IsKept settings.end_line × IsMaxUndo settings.shared.max_undo
 
 -- something is set
 abbrev pub sets_some : WidgetSettings → Bool
-sets_some settings = is_some settings.shared.undo || is_some settings.shared.auto_separators || is_some settings.start_line || is_some settings.end_line
+sets_some settings =
+    is_some settings.shared.undo || is_some settings.shared.auto_separators || is_some settings.shared.max_undo
+    || is_some settings.start_line || is_some settings.end_line
 
 -- WITHOUT LIMITS
 
--- an option of some pairs is a limit
+-- an option of some pairs is a limit of what the widget shows
 abbrev pub names_limit : List Word → Bool
 names_limit [] = false
 names_limit (word ∷ []) = false
 names_limit (word ∷ value ∷ words) = bytes_eq word (codes "-startline") || bytes_eq word (codes "-endline") || names_limit words
 
--- words that name no limit set none
+-- words that name no such limit set none
 abbrev pub LimitsAreNamed : Type 0
 LimitsAreNamed =
     (words : List Word) (settings : WidgetSettings) → names_limit words ≡ false → asked_settings words ≡ Ok settings

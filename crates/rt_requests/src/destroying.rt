@@ -6,7 +6,7 @@ ghost use Rattle.rt_requests.specs.PeerWords.{asked_destroy};
 use crate::word::Word;
 use rt_stamps::Fault;
 
-/// What the line `destroy PATH` asks for: the widget of a path is no longer there.
+/// What the line `destroy PATH` asks for: the widget of a path is taken away.
 #[derive(Drop)]
 pub struct Destroy<'a> {
     pub path: Word<'a>,

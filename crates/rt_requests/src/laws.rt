@@ -24,8 +24,9 @@ pub fn reading_is_total()
 }
 
 /// There are words for each request, whatever bytes its parts are, but for a count and a dump from an index that begins
-/// with a minus: such a word is a switch; for a dump of no kind of elements; for settings of no option, or of a line by a
-/// number that isn't kept; and for a widget of a path that none can have. There are words for each line `destroy PATH` too.
+/// with a minus: such a word is a switch; for a dump of no kind of elements; for settings of no option, or of a line or
+/// of groups by a number that isn't kept; and for a widget of a path that none can have. There are words for each line
+/// `destroy PATH` too.
 pub fn requests_are_spelled()
     ensures commands { (request : Request) → CanBeAsked request → (words : List Word) × Asks words (Ok request) }
     ensures lines { (request : Destroy) → (words : List Word) × (asked_destroy words ≡ Ok request) }

@@ -4,11 +4,13 @@
 
 mod configuring;
 pub mod destroying;
+mod digits;
 mod editing;
 pub mod kinds;
 pub mod laws;
 pub mod limits;
 mod marking;
+mod max_undo;
 pub mod measures;
 pub mod options;
 pub mod path;
@@ -33,6 +35,8 @@ pub use path::Path;
 pub use peers::PeerRequest;
 pub use request::{EditRequest, MarkRequest, Request, SearchRequest, TagRequest, Wanted};
 pub use rt_index::{Comparison, Measure};
+pub use rt_marks::Gravity;
+pub use rt_search::{Case, Direction, Overlaps, Search, Strictness};
 pub use settings::WidgetSettings;
 pub use texts::{TaggedText, Texts};
 pub use word::{Word, Words};

@@ -1,10 +1,10 @@
 // Limits of what a widget shows.
 ghost use Rattle.std.specs.Prelude.{◌≡◌, ◌<◌, true, length};
-ghost use Rattle.std.specs.Char.{is_ascii_digit};
-ghost use Rattle.std.specs.List.{list_all};
 ghost use Rattle.std.specs.Str.{all_ascii_digits};
 ghost use Rattle.std.specs.Str.Parse.{digits_value};
 ghost use Rattle.rt_requests.specs.LimitWords.{limit_of, line_of};
+
+use crate::digits::are_digits;
 
 /// What a limit of a widget is set to (Tk text manual, -startline and -endline): a line of the shared text, by its
 /// number, or no limit.
@@ -31,20 +31,6 @@ impl Limit {
         }
         Some(line_of(word))
     }
-}
-
-// Whether a text is digits alone.
-fn are_digits(text: &[u8]) -> bool
-    ensures { result ≡ all_ascii_digits text.now }
-{
-    are_all_digits(text)
-}
-
-// What `are_digits` asks, as a test of each byte.
-fn are_all_digits(text: &[u8]) -> bool
-    ensures { result ≡ list_all (λ c. is_ascii_digit c) text.now }
-{
-    text.iter().all(|byte| byte.is_ascii_digit())
 }
 
 // The line of the number that digits write.

@@ -8,7 +8,7 @@ ghost use Rattle.rt_requests.specs.Truth.{truth_of};
 
 use rt_stamps::Fault;
 
-/// An option that all widgets of a site share (Tk text manual, "WIDGET-SPECIFIC OPTIONS").
+/// An option that all widgets of a site share and that is on or off (Tk text manual, "WIDGET-SPECIFIC OPTIONS").
 #[derive(Clone, Copy, Debug, PartialEq, Eq)]
 pub enum WidgetOption {
     /// `-undo`: whether the undo mechanism is active.
@@ -48,6 +48,8 @@ pub struct Settings {
     pub undo: Option<bool>,
     /// `-autoseparators`.
     pub auto_separators: Option<bool>,
+    /// `-maxundo`: the most groups that the undo stack may have, 0 for no limit. It is at most 2^63 - 1.
+    pub max_undo: Option<u64>,
 }
 
 /// An option of a widget (Tk text manual, "WIDGET-SPECIFIC OPTIONS"): one that all widgets of a site share, or a limit
@@ -56,6 +58,8 @@ pub struct Settings {
 pub enum NamedOption {
     /// `-undo` or `-autoseparators`.
     Shared(WidgetOption),
+    /// `-maxundo`: the most groups that the undo stack may have. All widgets of a site share it too.
+    MaxUndo,
     /// `-startline`: the first line that the widget shows.
     StartLine,
     /// `-endline`: the line just after the last one that it shows.
@@ -70,6 +74,7 @@ impl NamedOption {
         match word {
             "-startline" => Some(NamedOption::StartLine),
             "-endline" => Some(NamedOption::EndLine),
+            "-maxundo" => Some(NamedOption::MaxUndo),
             _ => shared(word),
         }
     }

@@ -117,7 +117,7 @@ pub struct SearchRequest<'a> {
 pub enum MarkRequest<'a> {
     /// A mark is set at an index.
     Set { name: Word<'a>, index: Word<'a> },
-    /// Marks are no longer there.
+    /// Marks are taken away.
     Unset { names: Words<'a> },
     /// The gravity of a mark.
     Gravity { name: Word<'a> },
@@ -144,7 +144,7 @@ pub enum TagRequest<'a> {
         name: Word<'a>,
         indices: Words<'a>,
     },
-    /// Tags are no longer there.
+    /// Tags are taken away.
     Delete {
         names: Words<'a>,
     },

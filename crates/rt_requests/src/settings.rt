@@ -5,6 +5,7 @@ ghost use Rattle.rt_requests.specs.OptionWords.{are_pairs};
 ghost use Rattle.rt_requests.specs.SettingWords.{asked_of_pairs, asked_settings, can_all_be_set, settings_in, with_value};
 
 use crate::limits::Limit;
+use crate::max_undo::max_undo_of;
 use crate::options::{NamedOption, Settings, WidgetOption, truth_of};
 use rt_stamps::Fault;
 
@@ -43,6 +44,7 @@ impl WidgetSettings {
             NamedOption::Shared(WidgetOption::AutoSeparators) => {
                 settings.shared.auto_separators = Some(truth_of(value)?);
             }
+            NamedOption::MaxUndo => settings.shared.max_undo = Some(max_undo_of(value)?),
             NamedOption::StartLine => settings.start_line = Some(Limit::of(value)?),
             NamedOption::EndLine => settings.end_line = Some(Limit::of(value)?),
         }
@@ -77,6 +79,7 @@ fn read_pairs(words: &[String]) -> Option<WidgetSettings>
     let shared = Settings {
         undo: None,
         auto_separators: None,
+        max_undo: None,
     };
     let mut settings = WidgetSettings {
         shared,

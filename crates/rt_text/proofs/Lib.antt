@@ -49,3 +49,4 @@ pub mod TaggedDocument
 pub mod TaggedLaws
 pub mod TextLaws
 pub mod ViewLaws
+pub mod WholeText

@@ -5,6 +5,7 @@ pub mod Comparisons
 pub mod Cursors
 pub mod Distances
 pub mod Editing
+pub mod Examples
 pub mod Grounds
 pub mod Index
 pub mod Kept

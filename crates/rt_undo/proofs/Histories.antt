@@ -16,9 +16,9 @@ use Rattle.rt_undo.specs.declared.action.Action.{Action as KeptAction}
 use Rattle.rt_undo.specs.declared.action.Kind.{Kind}
 use Rattle.rt_undo.specs.declared.renames.Move.{Move}
 use Rattle.rt_undo.specs.Actions.{Action, Removed, group_of, is_replace, with_stamp, with_stamps}
-use Rattle.rt_undo.specs.Groups.{AreStill, IsStill, groups_of, numbers_of, numbers_of_groups, rest_after}
+use Rattle.rt_undo.specs.Groups.{AreStill, IsStill, groups_of, numbers_of, numbers_of_groups}
 use Rattle.rt_undo.specs.Renames.{Shown, is_moved, now_of, renamed, value_of}
-use Rattle.rt_undo.specs.Undo.{History, added, as_group, asks_separator, but_last, renamed_span, differs_from, last, next_redo, next_undo, numbers, numbers_in, recorded, redo_done, renamed_by, separated, to_undo, undo_done, with_stamps_in, same_numbers}
+use Rattle.rt_undo.specs.Undo.{History, as_group, asks_separator, but_last, renamed_span, differs_from, last, next_redo, next_undo, numbers, numbers_in, recorded, renamed_by, rest_after, separated, to_undo, undo_done, with_stamps_in, same_numbers}
 use Rattle.rt_undo.proofs.Following.{by_test, none_of, now_ends}
 
 -- TWICE
@@ -107,9 +107,13 @@ undo_renamed f reverted h still = λ i. record h {
   undone = one_more f h.undone reverted still i;
 }
 
-pub redo_renamed : (f : Stamp → Stamp) (reverted : List (Action ℕ)) (h : History ℕ) → with_stamps_in f reverted ≡ reverted
-    → renamed_by f (redo_done reverted h) ≡ redo_done reverted (renamed_by f h)
-redo_renamed f reverted h still = λ i. record h {
+-- a reverted group is on the undo stack
+abbrev pub put_back : List (Action ℕ) → History ℕ → History ℕ
+put_back reverted h = record h { closed = to_undo h ++ reverted ∷ []; current = []; undone = but_last h.undone }
+
+pub put_back_renamed : (f : Stamp → Stamp) (reverted : List (Action ℕ)) (h : History ℕ) → with_stamps_in f reverted ≡ reverted
+    → renamed_by f (put_back reverted h) ≡ put_back reverted (renamed_by f h)
+put_back_renamed f reverted h still = λ i. record h {
   closed = (one_more f (to_undo h) reverted still ∙ ap (λ l. l ++ reverted ∷ []) (sym (to_undo_renamed f h))) i;
   current = [];
   undone = sym (but_last_map (with_stamps_in {T = ℕ} f) h.undone) i;
@@ -142,8 +146,13 @@ begun_renamed : (f : Stamp → Stamp) (b : Bool) (h : History ℕ) → renamed_b
 begun_renamed f true h = separated_renamed f h
 begun_renamed f false h = refl
 
-pub added_renamed : (f : Stamp → Stamp) (auto : Bool) (a : Action ℕ) (h : History ℕ) → with_stamps f a ≡ a → renamed_by f (added auto a h) ≡ added auto a (renamed_by f h)
-added_renamed f auto a h still =
+-- an action is recorded, with automatic separators or without
+abbrev pub recorded_with : Bool → Action ℕ → History ℕ → History ℕ
+recorded_with auto a h = recorded a (if auto && asks_separator a.kind h then separated h else h)
+
+pub recorded_with_renamed : (f : Stamp → Stamp) (auto : Bool) (a : Action ℕ) (h : History ℕ) → with_stamps f a ≡ a
+    → renamed_by f (recorded_with auto a h) ≡ recorded_with auto a (renamed_by f h)
+recorded_with_renamed f auto a h still =
     recorded_renamed f a (if auto && asks_separator a.kind h then separated h else h) still
     ∙ ap (recorded a) (begun_renamed f (auto && asks_separator a.kind h) h)
     ∙ ap (λ b. recorded a (if auto && b then separated (renamed_by f h) else renamed_by f h)) (sym (asks_renamed f a.kind h))
@@ -154,7 +163,7 @@ numbers_group_renamed : (f : Stamp → Stamp) (group : List (Action ℕ)) → ma
 numbers_group_renamed f [] = refl
 numbers_group_renamed f (a ∷ group) = ap (λ l. a.number ∷ l) (numbers_group_renamed f group)
 
-numbers_groups_renamed : (f : Stamp → Stamp) (groups : List (List (Action ℕ))) → numbers_in (map (with_stamps_in {T = ℕ} f) groups) ≡ numbers_in groups
+pub numbers_groups_renamed : (f : Stamp → Stamp) (groups : List (List (Action ℕ))) → numbers_in (map (with_stamps_in {T = ℕ} f) groups) ≡ numbers_in groups
 numbers_groups_renamed f [] = refl
 numbers_groups_renamed f (group ∷ groups) = λ i. numbers_group_renamed f group i ++ numbers_groups_renamed f groups i
 
@@ -174,13 +183,16 @@ numbers_kept (g ∷ groups) current =
     ∙ sym (append_assoc (numbers_of g.items) (numbers_of_groups groups) (numbers_of current))
 
 -- the numbers of what can be undone, as they are kept
-pub numbers_are : (f : Stamp → Stamp) (groups : List (Vec KeptAction Global)) (current : List KeptAction) (undone : List (List (Action ℕ))) (kept : List ℕ) (forced : Bool)
-    → numbers (renamed_by f (record { closed = groups_of groups; current = group_of current; undone = undone; kept = kept; forced = forced }))
-    ≡ numbers_of_groups groups ++ numbers_of current
-numbers_are f groups current undone kept forced =
-    ap (λ l. numbers_in l) (to_undo_renamed f (record { closed = groups_of groups; current = group_of current; undone = undone; kept = kept; forced = forced }))
+pub numbers_are : (f : Stamp → Stamp) (groups : List (Vec KeptAction Global)) (current : List KeptAction) (h : History ℕ)
+    → numbers (renamed_by f (record h { closed = groups_of groups; current = group_of current })) ≡ numbers_of_groups groups ++ numbers_of current
+numbers_are f groups current h =
+    ap (λ l. numbers_in l) (to_undo_renamed f (record h { closed = groups_of groups; current = group_of current }))
     ∙ numbers_groups_renamed f (groups_of groups ++ as_group (group_of current))
     ∙ numbers_kept groups current
+
+pub numbers_closed : (groups : List (Vec KeptAction Global)) → numbers_in (groups_of groups) ≡ numbers_of_groups groups
+numbers_closed [] = refl
+numbers_closed (g ∷ groups) = λ i. numbers_kept_group g.items i ++ numbers_closed groups i
 
 -- A LIST THAT BEGINS WITH NUMBERS
 

@@ -2,3 +2,4 @@ pub mod Following
 pub mod Copying
 pub mod Histories
 pub mod Still
+pub mod Dropping

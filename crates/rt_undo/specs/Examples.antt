@@ -3,7 +3,7 @@ use Rattle.std.specs.Prelude.{ℕ, ◌+◌, [], ◌∷◌, true}
 use Rattle.rt_stamps.specs.declared.stamp.Stamp.{Stamp}
 use Rattle.rt_undo.specs.declared.action.Kind.TheVariants.{Insert, Delete, Replace}
 use Rattle.rt_undo.specs.Actions.{Action}
-use Rattle.rt_undo.specs.Undo.{History, added, no_history, undo_done, unmodified}
+use Rattle.rt_undo.specs.Undo.{History, added, no_history, separated, undo_done, unmodified, with_most}
 
 -- a stamp of site 1
 abbrev pub at : ℕ → Stamp
@@ -40,3 +40,20 @@ typed_and_cut = added true (cut 2 1) (added true (typed 1) no_history)
 -- a character is typed, the text said to be unmodified, and the character undone
 abbrev pub undone_after : History ℕ
 undone_after = undo_done (untyped 1 1 ∷ []) (unmodified (added true (typed 1) no_history))
+
+-- a character is typed and removed, and both are undone
+abbrev pub both_undone : History ℕ
+both_undone = undo_done (untyped 1 3 ∷ []) (undo_done (typed 3 ∷ []) typed_and_cut)
+
+-- at most one group may be: a character is typed and removed
+abbrev pub one_at_most : History ℕ
+one_at_most = added true (cut 2 1) (added true (typed 1) (with_most 1 no_history))
+
+-- a character is typed and removed, the text said to be unmodified, and then at most one group may be
+abbrev pub lowered : History ℕ
+lowered = with_most 1 (unmodified typed_and_cut)
+
+-- three characters are typed with separators between them, the text said to be unmodified, and the last one undone
+abbrev pub last_undone : History ℕ
+last_undone =
+    undo_done (untyped 3 3 ∷ []) (unmodified (added true (typed 3) (separated (added true (typed 2) (separated (added true (typed 1) no_history))))))

@@ -1,5 +1,5 @@
 -- Groups as they are kept, and the stamps that they name.
-use Rattle.std.specs.Prelude.{◌≡◌, ℕ, ◌==◌, false, List, [], ◌∷◌, map, Option, Some, None, if◌then◌else◌}
+use Rattle.std.specs.Prelude.{◌≡◌, ℕ, false, List, map}
 use Rattle.std.specs.List.{AllByRecursion, flat_map}
 use Rattle.std.specs.declared.vec.Vec.{Vec}
 use Rattle.std.specs.declared.alloc.Global.{Global}
@@ -27,9 +27,3 @@ numbers_of actions = map (λ a. a.number) actions
 
 abbrev pub numbers_of_groups : List (Vec KeptAction Global) → List ℕ
 numbers_of_groups groups = flat_map (λ group. numbers_of group.items) groups
-
--- what stands behind numbers in a list that begins with them
-abbrev pub rest_after : List ℕ → List ℕ → Option (List ℕ)
-rest_after [] kept = Some kept
-rest_after (m ∷ ms) [] = None
-rest_after (m ∷ ms) (k ∷ kept) = if m == k then rest_after ms kept else None

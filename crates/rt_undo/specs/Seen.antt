@@ -1,5 +1,6 @@
 -- What contracts see of undo stacks.
 use Rattle.std.specs.Prelude.{◌≡◌, ℕ, ◌+◌, ◌<◌, ◌≤◌, Bool, true, [], vec_len, vec_capacity}
+use Rattle.std.specs.VecDeque.{deque_len, deque_capacity}
 use Rattle.rt_undo.specs.declared.renames.Move.{Move}
 use Rattle.rt_undo.specs.declared.stacks.Stacks.TheInside.{Inside}
 use Rattle.rt_undo.specs.Actions.{group_of}
@@ -18,8 +19,9 @@ history_kept s = record {
   closed = groups_of s.closed.items;
   current = group_of s.current.items;
   undone = groups_of s.undone.items;
-  kept = s.kept.items;
-  forced = s.forced;
+  kept = s.flag.kept;
+  forced = s.flag.forced;
+  most = s.most;
 }
 
 -- stamps stand as they were recorded, and are seen as they are now
@@ -28,12 +30,12 @@ shown s = record { history = renamed_by (now_of s.renames) (history_kept s); mov
 
 -- room for an action, for a group that is closed before it, and for one that was reverted
 pub record HasRoom (s : Inside) : Type 0 where
-  pub closed : vec_len s.closed + 2 ≤ vec_capacity s.closed
+  pub closed : deque_len s.closed + 2 ≤ deque_capacity s.closed
   pub current : vec_len s.current < vec_capacity s.current
   pub spare : 0 < vec_capacity s.spare
-  pub undone : vec_len s.undone < vec_capacity s.undone
+  pub undone : deque_len s.undone < deque_capacity s.undone
 
 pub record IsKept (s : Inside) : Type 0 where
   pub spare : s.spare.items ≡ []
-  pub closing : 0 < vec_len s.current → vec_len s.closed < vec_capacity s.closed
+  pub closing : 0 < vec_len s.current → deque_len s.closed < deque_capacity s.closed
   pub ready : s.ready ≡ true → HasRoom s

@@ -1,5 +1,5 @@
 -- The undo stacks of a text, in the words of the Tk text manual ("The undo mechanism"), with stamps for positions.
-use Rattle.std.specs.Prelude.{ℕ, ◌-◌, ◌++◌, ◌||◌, ◌&&◌, ◌==◌, not, Bool, true, false, List, [], ◌∷◌, length, map, take, slice_get, Option, Some, None, if◌then◌else◌}
+use Rattle.std.specs.Prelude.{ℕ, ◌-◌, ◌++◌, ◌||◌, ◌&&◌, ◌==◌, not, Bool, true, false, List, [], ◌∷◌, length, map, take, drop, slice_get, is_some, unwrap_or, Option, Some, None, if◌then◌else◌}
 use Rattle.std.specs.List.{flat_map}
 use Rattle.rt_stamps.specs.declared.stamp.Stamp.{Stamp}
 use Rattle.rt_stamps.specs.declared.stamp.Span.{Span}
@@ -10,17 +10,19 @@ use Rattle.rt_undo.specs.Renames.{renamed, replaced}
 -- The actions between two separators are undone and redone as one: a group, oldest action first. A separator closes the group that
 -- takes the next action. The undo stack is the closed groups, oldest first, and behind them the group of the actions since the
 -- last separator, if there are any; the redo stack is the groups that were undone, the last of which is redone first. Kept are
--- the numbers of the actions on the undo stack when the text was last said to be unmodified.
+-- the numbers of the actions on the undo stack when the text was last said to be unmodified, without those of groups that were
+-- dropped since. The most groups that may be on the undo stack are a number of 1 or more, or 0 where any number may be (-maxundo).
 pub record History (T : Type 0) : Type 0 where
   pub closed : List (List (Action T))
   pub current : List (Action T)
   pub undone : List (List (Action T))
   pub kept : List ℕ
   pub forced : Bool
+  pub most : ℕ
 
 -- nothing was done
 abbrev pub no_history : {T : Type 0} → History T
-no_history = record { closed = []; current = []; undone = []; kept = []; forced = false }
+no_history = record { closed = []; current = []; undone = []; kept = []; forced = false; most = 0 }
 
 -- a list as a group, if it has an action
 abbrev pub as_group : {X : Type 0} → List X → List (List X)
@@ -36,6 +38,39 @@ but_last xs = take (length xs - 1) xs
 -- the undo stack
 abbrev pub to_undo : {T : Type 0} → History T → List (List (Action T))
 to_undo h = h.closed ++ as_group h.current
+
+-- the numbers of the actions of groups
+abbrev pub numbers_in : {T : Type 0} → List (List (Action T)) → List ℕ
+numbers_in {T} groups = flat_map {X = List (Action T)} {A = ℕ} (λ group. map (λ action. action.number) group) groups
+
+-- what stands behind numbers in a list that begins with them
+abbrev pub rest_after : List ℕ → List ℕ → Option (List ℕ)
+rest_after [] kept = Some kept
+rest_after (m ∷ ms) [] = None
+rest_after (m ∷ ms) (k ∷ kept) = if m == k then rest_after ms kept else None
+
+-- THE MOST GROUPS
+
+-- how many groups the undo stack has too many
+abbrev pub too_many : {T : Type 0} → History T → ℕ
+too_many h = if h.most == 0 then 0 else length (to_undo h) - h.most
+
+-- The numbers of dropped actions leave what is kept, where that begins with them. Where it doesn't, what could be undone when the
+-- text was last said to be unmodified can't be undone again, and it stays modified until that is said once more.
+abbrev pub without_numbers : {T : Type 0} → List ℕ → History T → History T
+without_numbers dropped h = record h { kept = unwrap_or (rest_after dropped h.kept) []; forced = h.forced || not (is_some (rest_after dropped h.kept)) }
+
+-- the oldest groups are dropped
+abbrev pub dropped : {T : Type 0} → ℕ → History T → History T
+dropped n h = record (without_numbers (numbers_in (take n h.closed)) h) { closed = drop n h.closed }
+
+-- as many of them as the undo stack has too many
+abbrev pub limited : {T : Type 0} → History T → History T
+limited h = dropped (too_many h) h
+
+-- another number of groups is the most
+abbrev pub with_most : {T : Type 0} → ℕ → History T → History T
+with_most n h = limited (record h { most = n })
 
 -- SEPARATORS AND ACTIONS
 
@@ -56,9 +91,9 @@ asks_separator kind h = is_replace kind || differs_from kind (last h.current)
 abbrev pub recorded : {T : Type 0} → Action T → History T → History T
 recorded action h = record h { current = h.current ++ action ∷ []; undone = [] }
 
--- the same, with automatic separators or without
+-- the same, with automatic separators or without, and with at most as many groups as may be
 abbrev pub added : {T : Type 0} → Bool → Action T → History T → History T
-added auto action h = recorded action (if auto && asks_separator action.kind h then separated h else h)
+added auto action h = limited (recorded action (if auto && asks_separator action.kind h then separated h else h))
 
 -- UNDO AND REDO
 
@@ -74,15 +109,11 @@ abbrev pub undo_done : {T : Type 0} → List (Action T) → History T → Histor
 undo_done reverted h = record h { closed = but_last (to_undo h); current = []; undone = h.undone ++ reverted ∷ [] }
 
 -- The group that was undone last was reverted: it leaves the redo stack, and its reverted actions can be undone. They are a
--- closed group, and the next action begins another.
+-- closed group, and the next action begins another. There may be too many groups then, where fewer may be than when it was undone.
 abbrev pub redo_done : {T : Type 0} → List (Action T) → History T → History T
-redo_done reverted h = record h { closed = to_undo h ++ reverted ∷ []; current = []; undone = but_last h.undone }
+redo_done reverted h = limited (record h { closed = to_undo h ++ reverted ∷ []; current = []; undone = but_last h.undone })
 
 -- THE MODIFIED FLAG
-
--- the numbers of the actions of groups
-abbrev pub numbers_in : {T : Type 0} → List (List (Action T)) → List ℕ
-numbers_in {T} groups = flat_map {X = List (Action T)} {A = ℕ} (λ group. map (λ action. action.number) group) groups
 
 -- the numbers of the actions that can be undone
 abbrev pub numbers : {T : Type 0} → History T → List ℕ
@@ -105,7 +136,7 @@ unmodified h = record h { kept = numbers h; forced = false }
 
 -- both stacks are emptied; the flag stays as it is
 abbrev pub emptied : {T : Type 0} → History T → History T
-emptied h = record { closed = []; current = []; undone = []; kept = []; forced = is_modified h }
+emptied h = record h { closed = []; current = []; undone = []; kept = []; forced = is_modified h }
 
 -- CHARACTERS THAT COME BACK
 

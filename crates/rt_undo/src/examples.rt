@@ -1,7 +1,7 @@
 // Worked examples of the definitions, each a clause that computes.
 ghost use Rattle.std.specs.Prelude.{◌≡◌, ℕ, [], ◌∷◌, true, false, None, Some};
-ghost use Rattle.rt_undo.specs.Examples.{at, at_first, cut, swapped, two_typed, typed, typed_and_cut, undone_after, untyped};
-ghost use Rattle.rt_undo.specs.Undo.{added, renamed_span, emptied, forced_on, is_modified, next_redo, next_undo, no_history, redo_done, separated, to_undo, undo_done, unmodified};
+ghost use Rattle.rt_undo.specs.Examples.{at, at_first, both_undone, cut, last_undone, lowered, one_at_most, swapped, two_typed, typed, typed_and_cut, undone_after, untyped};
+ghost use Rattle.rt_undo.specs.Undo.{added, renamed_span, emptied, forced_on, is_modified, next_redo, next_undo, no_history, redo_done, separated, to_undo, undo_done, unmodified, with_most};
 
 /// What is typed in one go is one group. Of two separators the second changes nothing. With automatic
 /// separators a removal after that begins a group, and so does each of two replacements; without them
@@ -45,6 +45,33 @@ pub fn modified_flag()
     ensures emptied_modified { is_modified (emptied undone_after) ≡ true }
     ensures emptied_unmodified { is_modified (emptied (unmodified two_typed)) ≡ false }
     ensures forced { is_modified (forced_on (unmodified two_typed)) ≡ true }
+{}
+
+/// At most one group: a character is typed and removed, and just the removal can be undone. After that
+/// nothing can, and the text is modified still: the character isn't undone. The redo stack isn't cut, but
+/// what is redone counts: of two groups the second takes the place of the first.
+pub fn most_groups()
+    ensures one { to_undo one_at_most ≡ (cut 2 1 ∷ []) ∷ [] }
+    ensures undone { next_undo (undo_done (typed 3 ∷ []) one_at_most) ≡ None }
+    ensures modified { is_modified (undo_done (typed 3 ∷ []) one_at_most) ≡ true }
+    ensures open { to_undo (added true (typed 2) (added true (typed 1) (with_most 1 no_history))) ≡ (typed 1 ∷ typed 2 ∷ []) ∷ [] }
+    ensures lowered { to_undo (with_most 2 (added true (typed 3) typed_and_cut)) ≡ (cut 2 1 ∷ []) ∷ (typed 3 ∷ []) ∷ [] }
+    ensures any { to_undo (with_most 0 typed_and_cut) ≡ (typed 1 ∷ []) ∷ (cut 2 1 ∷ []) ∷ [] }
+    ensures to_redo { next_redo (with_most 1 both_undone) ≡ Some (untyped 1 3 ∷ []) }
+    ensures redone { to_undo (redo_done (cut 2 4 ∷ []) (redo_done (typed 4 ∷ []) (with_most 1 both_undone))) ≡ (cut 2 4 ∷ []) ∷ [] }
+{}
+
+/// A text that is said to be unmodified is so still when its oldest group is dropped. It is modified when
+/// another group is undone, and unmodified when that is redone. A text that isn't what it was when it was
+/// said to be unmodified is modified when a group is dropped, and unmodified once what is missing is redone.
+pub fn flag_after_dropping()
+    ensures unmodified { is_modified lowered ≡ false }
+    ensures action { is_modified (added true (typed 3) lowered) ≡ true }
+    ensures undone { is_modified (undo_done (typed 3 ∷ []) lowered) ≡ true }
+    ensures redone { is_modified (redo_done (cut 2 3 ∷ []) (undo_done (typed 3 ∷ []) lowered)) ≡ false }
+    ensures fewer { to_undo (with_most 1 last_undone) ≡ (typed 2 ∷ []) ∷ [] }
+    ensures modified { is_modified (with_most 1 last_undone) ≡ true }
+    ensures as_it_was { is_modified (redo_done (typed 3 ∷ []) (with_most 1 last_undone)) ≡ false }
 {}
 
 /// A character is typed and removed. The removal is undone, so the character comes back under another

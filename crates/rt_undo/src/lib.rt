@@ -5,6 +5,9 @@
 pub mod action;
 mod copies;
 pub mod examples;
+mod flag;
+mod groups;
+pub mod laws;
 pub mod renames;
 pub mod stacks;
 

@@ -1,17 +1,22 @@
 // The undo stacks of a site.
-ghost use Rattle.std.specs.Prelude.{◌≡◌, ◌↔◌, ℕ, ◌+◌, ◌-◌, ◌^◌, ◌<◌, ◌≤◌, ◌||◌, ◌⊎◌, [], ◌∷◌, ◌++◌, None, Some, Err, true, false, not, length, drop, option_copied, option_map, is_some, IfSome, if◌then◌else◌, IfErr, IsOkUnless, IfOk, OnErr, OnOk, vec_len, vec_capacity};
+ghost use Rattle.std.specs.Prelude.{◌≡◌, ◌↔◌, ℕ, ◌+◌, ◌-◌, ◌^◌, ◌<◌, ◌≤◌, ◌||◌, ◌⊎◌, None, Some, Err, true, false, is_some, if◌then◌else◌, IfErr, IsOkUnless, IfOk, OnErr, OnOk};
 ghost use Rattle.rt_stamps.specs.declared.stamp.Stamp.{Stamp};
-ghost use Rattle.rt_undo.specs.Actions.{action_of, group_of, is_replace};
+ghost use Rattle.rt_undo.specs.Actions.{action_of, group_of};
 ghost use Rattle.rt_undo.specs.Renames.{is_in_span, is_moved, is_same, renamed};
-ghost use Rattle.rt_undo.specs.Groups.{groups_of, numbers_of, numbers_of_groups, rest_after};
-ghost use Rattle.rt_undo.specs.Undo.{added, as_group, but_last, renamed_span, differs_from, emptied, forced_on, is_modified, last, next_redo, next_undo, no_history, redo_done, replaced_in, same_numbers, separated, undo_done, unmodified};
+ghost use Rattle.rt_undo.specs.Undo.{added, renamed_span, emptied, forced_on, is_modified, limited, next_redo, next_undo, no_history, redo_done, replaced_in, separated, undo_done, unmodified, with_most};
 
-use crate::action::{Action, Kind};
+use crate::action::Action;
 use crate::copies::group_now;
+use crate::flag::{Flag, numbers_now};
+use crate::groups::{
+    asks_separator, close, drop_group, drop_last, drop_oldest, last_group, push_action, push_group,
+    too_many,
+};
 use crate::renames::Renames;
 use rt_stamps::limits::GREATEST_COUNT;
 use rt_stamps::{Fault, Span, Stamp};
 use std::alloc::Global;
+use std::collections::VecDeque;
 use std::marker::Model;
 use std::mem;
 
@@ -22,20 +27,21 @@ use std::mem;
 /// Actions are kept by spans, as they were recorded. Where a character came back under another stamp
 /// is kept once beside them, for all groups, so `replaced` costs about a logarithm of the spans that
 /// came back, however much stands on the stacks; `undo` and `redo` look up each character of their
-/// group. `modified` goes through the numbers of all actions that can be undone.
+/// group. `modified` goes through the numbers of all actions that can be undone. A group that is dropped
+/// costs its own actions, however many groups stand there.
 pub struct Stacks {
     alloc: Global,
     // The undo stack: groups that take no more actions, oldest first.
-    closed: Vec<Vec<Action>>,
+    closed: VecDeque<Vec<Action>>,
     // The actions since the last separator.
     current: Vec<Action>,
     // Room for the next group.
     spare: Vec<Action>,
     // The redo stack: reverted groups, the next one last.
-    undone: Vec<Vec<Action>>,
-    // The numbers of the actions that could be undone at the last `set_modified(false)`.
-    kept: Vec<u64>,
-    forced: bool,
+    undone: VecDeque<Vec<Action>>,
+    // The most groups that may be on the undo stack; 0: any number.
+    most: u64,
+    flag: Flag,
     renames: Renames,
     // There is room for one action or group.
     ready: bool,
@@ -51,8 +57,8 @@ impl Drop for Stacks {
             current: _,
             spare: _,
             undone: _,
-            kept: _,
-            forced: _,
+            most: _,
+            flag: _,
             renames: _,
             ready: _,
         } = self;
@@ -71,154 +77,6 @@ impl Model for Stacks {
     ghost invariant = { IsKept };
 }
 
-// Puts an action behind others, where there is room.
-fn push_action(group: &mut Vec<Action>, action: Action)
-    requires { vec_len group.old < vec_capacity group.old }
-    ensures items { group.new.items ≡ group.old.items ++ action ∷ [] }
-    ensures len { vec_len group.new ≡ vec_len group.old + 1 }
-    ensures capacity { vec_capacity group.new ≡ vec_capacity group.old }
-{
-    group.push_reserved(action);
-}
-
-// Puts a group behind others, where there is room.
-fn push_group(groups: &mut Vec<Vec<Action>>, group: Vec<Action>)
-    requires { vec_len groups.old < vec_capacity groups.old }
-    ensures items { groups.new.items ≡ groups.old.items ++ group ∷ [] }
-    ensures len { vec_len groups.new ≡ vec_len groups.old + 1 }
-    ensures capacity { vec_capacity groups.new ≡ vec_capacity groups.old }
-{
-    groups.push_reserved(group);
-}
-
-// A separator: another group takes the place of the current one, which is put behind the closed ones
-// if it has an action.
-fn close(closed: &mut Vec<Vec<Action>>, current: &mut Vec<Action>, next: Vec<Action>)
-    requires { 0 < vec_len current.old → vec_len closed.old < vec_capacity closed.old }
-    ensures groups { groups_of closed.new.items ≡ groups_of closed.old.items ++ as_group (group_of current.old.items) }
-    ensures next { current.new ≡ next }
-    ensures len { vec_len closed.new ≤ vec_len closed.old + 1 }
-    ensures capacity { vec_capacity closed.new ≡ vec_capacity closed.old }
-{
-    let group = mem::replace(current, next);
-    if !group.is_empty() {
-        push_group(closed, group);
-    }
-}
-
-// The last of groups is taken away, if there are any.
-fn drop_group(groups: &mut Vec<Vec<Action>>)
-    ensures groups { groups_of groups.new.items ≡ but_last (groups_of groups.old.items) }
-    ensures capacity { vec_capacity groups.new ≡ vec_capacity groups.old }
-{
-    groups.pop();
-}
-
-// The last group is taken away: the current one, or if that is empty the last closed one.
-fn drop_last(closed: &mut Vec<Vec<Action>>, current: &mut Vec<Action>)
-    ensures groups { groups_of closed.new.items ≡ but_last (groups_of closed.old.items ++ as_group (group_of current.old.items)) }
-    ensures empty { current.new.items ≡ [] }
-{
-    if current.is_empty() {
-        drop_group(closed);
-    } else {
-        current.clear();
-    }
-}
-
-// Whether automatic separators place one before an action of a kind.
-fn asks_separator(current: &[Action], kind: Kind) -> bool
-    ensures { result ≡ (is_replace kind || differs_from kind (last (group_of current.now))) }
-{
-    match current.last() {
-        Some(action) => kind == Kind::Replace || kind != action.kind,
-        None => kind == Kind::Replace,
-    }
-}
-
-// Adds the numbers of actions. Want of memory, and then the list is as it was.
-fn push_numbers(actions: &[Action], numbers: &mut Vec<u64>) -> Result<(), Fault>
-    ensures ok { OnOk result (numbers.new.items ≡ numbers.old.items ++ numbers_of actions.now) }
-    ensures same { OnErr result (numbers.new.items ≡ numbers.old.items) }
-    ensures fault { IsOkUnless result Fault.NoMemory }
-{
-    numbers.reserve(actions.len())?;
-    for action in actions {
-        numbers.push_reserved(action.number);
-    }
-    Ok(())
-}
-
-// The numbers of the actions of groups and of actions behind them.
-fn numbers_now(alloc: Global, closed: &[Vec<Action>], current: &[Action]) -> Result<Vec<u64>, Fault>
-    ensures ok { IfOk result (λ numbers. numbers.items ≡ numbers_of_groups closed.now ++ numbers_of current.now) }
-    ensures fault { IsOkUnless result Fault.NoMemory }
-{
-    let mut numbers = Vec::new(alloc);
-    for group in closed {
-        push_numbers(group, &mut numbers)?;
-    }
-    push_numbers(current, &mut numbers)?;
-    Ok(numbers)
-}
-
-// The last of groups and of actions behind them, which are a group if there are any.
-fn last_group<'a>(closed: &'a [Vec<Action>], current: &'a [Action]) -> Option<&'a [Action]>
-    ensures { option_map (λ group. group_of group) (option_copied result) ≡ last (groups_of closed.now ++ as_group (group_of current.now)) }
-{
-    if !current.is_empty() {
-        return Some(current);
-    }
-    match closed.last() {
-        Some(group) => Some(group.as_slice()),
-        None => None,
-    }
-}
-
-// The place behind the numbers of actions, where they stand in a list from a place on.
-fn place_after(actions: &[Action], kept: &[u64], place: usize) -> Option<usize>
-    requires { place ≤ length kept.now }
-    ensures rest { option_map (λ p. drop p kept.now) result ≡ rest_after (numbers_of actions.now) (drop place kept.now) }
-    ensures within { IfSome result (λ p. p ≤ length kept.now) }
-{
-    let mut after = place;
-    for action in actions {
-        if after == kept.len() || kept[after] != action.number {
-            return None;
-        }
-        after += 1;
-    }
-    Some(after)
-}
-
-// The place behind the numbers of the actions of groups, where they begin a list.
-fn place_after_groups(groups: &[Vec<Action>], kept: &[u64]) -> Option<usize>
-    ensures rest { option_map (λ p. drop p kept.now) result ≡ rest_after (numbers_of_groups groups.now) kept.now }
-    ensures within { IfSome result (λ p. p ≤ length kept.now) }
-{
-    let mut after = 0;
-    for group in groups {
-        match place_after(group, kept, after) {
-            Some(place) => after = place,
-            None => return None,
-        }
-    }
-    Some(after)
-}
-
-// Whether a list is that of the numbers of groups and of actions behind them.
-fn are_numbers(closed: &[Vec<Action>], current: &[Action], kept: &[u64]) -> bool
-    ensures { result ≡ same_numbers (numbers_of_groups closed.now ++ numbers_of current.now) kept.now }
-{
-    let Some(place) = place_after_groups(closed, kept) else {
-        return false;
-    };
-    match place_after(current, kept, place) {
-        Some(end) => end == kept.len(),
-        None => false,
-    }
-}
-
 impl Stacks {
     ghost use Rattle.rt_undo.specs.Groups.{AreStill, IsStill};
 
@@ -229,12 +87,12 @@ impl Stacks {
     {
         Stacks {
             alloc,
-            closed: Vec::new(alloc),
+            closed: VecDeque::new(alloc),
             current: Vec::new(alloc),
             spare: Vec::new(alloc),
-            undone: Vec::new(alloc),
-            kept: Vec::new(alloc),
-            forced: false,
+            undone: VecDeque::new(alloc),
+            most: 0,
+            flag: Flag::new(alloc, false),
             renames: Renames::new(alloc),
             ready: false,
         }
@@ -262,7 +120,8 @@ impl Stacks {
     }
 
     /// Records an action, and takes the redo stack away. With automatic separators one is placed before
-    /// it where it is a replacement or of another kind than the last action. It takes no memory.
+    /// it where it is a replacement or of another kind than the last action. Where there are more groups
+    /// then than the most that may be, the oldest one is dropped. It takes no memory.
     pub fn add(&mut self, action: Action, auto_separators: bool)
         requires ready { self.old.ready ≡ true }
         requires still { IsStill self.old.moves (action_of action) }
@@ -277,6 +136,7 @@ impl Stacks {
         }
         push_action(&mut self.current, action);
         self.undone.clear();
+        self.limit();
     }
 
     /// Places a separator: the next action begins a group ("edit separator"). It takes no memory. Where room was
@@ -288,6 +148,34 @@ impl Stacks {
     {
         self.ready = false;
         close(&mut self.closed, &mut self.current, Vec::new(self.alloc));
+    }
+
+    // Drops the oldest groups, as many as there are too many. It takes no memory.
+    fn limit(&mut self)
+        ensures history { self.new.history ≡ limited self.old.history }
+        ensures others { (self.new.moves ≡ self.old.moves) × (self.new.ready ≡ self.old.ready) }
+    {
+        let n = too_many(&self.closed, &self.current, self.most);
+        drop_oldest(&mut self.closed, &mut self.flag, n);
+    }
+
+    /// The most groups that may be on the undo stack, the one that takes the next action among them; 0: any number
+    /// ("configure -maxundo").
+    pub fn max(&self) -> u64
+        ensures { result ≡ self.now.history.most }
+    {
+        self.most
+    }
+
+    /// Sets the most groups that may be on the undo stack, the one that takes the next action among them; 0: any number
+    /// ("configure -maxundo"). Where there are more, the oldest ones are dropped, and that changes neither the redo
+    /// stack nor the modified flag. It takes no memory.
+    pub fn set_max(&mut self, most: u64)
+        ensures history { self.new.history ≡ with_most most self.old.history }
+        ensures others { (self.new.moves ≡ self.old.moves) × (self.new.ready ≡ self.old.ready) }
+    {
+        self.most = most;
+        self.limit();
     }
 
     /// Whether there is a group to undo ("edit canundo").
@@ -348,7 +236,8 @@ impl Stacks {
     }
 
     /// The group to redo was reverted: it leaves its stack, and its reverted actions, in the order of
-    /// reverting, are the next group to undo, which is closed. It takes no memory.
+    /// reverting, are the next group to undo, which is closed. Where there are more groups then than the
+    /// most that may be, the oldest ones are dropped. It takes no memory.
     pub fn redone(&mut self, reverted: Vec<Action>)
         requires ready { self.old.ready ≡ true }
         requires some { is_some (next_redo self.old.history) ≡ true }
@@ -361,6 +250,7 @@ impl Stacks {
         drop_group(&mut self.undone);
         close(&mut self.closed, &mut self.current, Vec::new(self.alloc));
         push_group(&mut self.closed, reverted);
+        self.limit();
     }
 
     /// A character came back under another stamp, `new`: in every group that stands for the former one
@@ -408,7 +298,7 @@ impl Stacks {
     pub fn modified(&self) -> bool
         ensures { result ≡ is_modified self.now.history }
     {
-        self.forced || !are_numbers(&self.closed, &self.current, &self.kept)
+        self.flag.is_on(&self.closed, &self.current)
     }
 
     /// Forces the modified flag: for a change of text that isn't recorded, and for a received operation
@@ -417,7 +307,7 @@ impl Stacks {
         ensures history { self.new.history ≡ forced_on self.old.history }
         ensures others { (self.new.moves ≡ self.old.moves) × (self.new.ready ≡ self.old.ready) }
     {
-        self.forced = true;
+        self.flag.force();
     }
 
     /// Sets the modified flag ("edit modified"). Setting it forces it. Taking it away keeps the numbers
@@ -432,23 +322,23 @@ impl Stacks {
             self.force();
             return Ok(());
         }
-        self.kept = numbers_now(self.alloc, &self.closed, &self.current)?;
-        self.forced = false;
+        self.flag
+            .clear(numbers_now(self.alloc, &self.closed, &self.current)?);
         Ok(())
     }
 
-    /// Empties both stacks ("edit reset"). The modified flag stays as it is. It takes no memory.
+    /// Empties both stacks ("edit reset"). The modified flag stays as it is, and so does the most groups that
+    /// may be. It takes no memory.
     pub fn reset(&mut self)
         ensures history { self.new.history ≡ emptied self.old.history }
         ensures moves { (stamp : Stamp) → is_moved self.new.moves stamp ≡ false }
         ensures used { (self.new.ready ≡ false) × (self.new.moves.room ≡ 0) }
     {
-        self.forced = self.modified();
+        self.flag = Flag::new(self.alloc, self.modified());
         self.ready = false;
-        self.closed = Vec::new(self.alloc);
+        self.closed = VecDeque::new(self.alloc);
         self.current = Vec::new(self.alloc);
-        self.undone = Vec::new(self.alloc);
-        self.kept = Vec::new(self.alloc);
+        self.undone = VecDeque::new(self.alloc);
         self.renames = Renames::new(self.alloc);
     }
 }

@@ -50,7 +50,8 @@ impl<S: TextStore> Doc<S> {
         ensures ids { KeepsIds kept.old kept.new }
         ensures err { IfErr result (λ fault. (fault ≡ Fault.NoMemory)
             ⊎ (reversion_check self.old (named_group kept.old (group_of group.now)) ≡ Some fault)) }
-        ensures unchanged { OnErr result ((self.new ≡ self.old) × (own_of widget.new ≡ own_of widget.old) × (map own_of others.new ≡ map own_of others.old)) }
+        ensures unchanged { OnErr result ((self.new ≡ self.old) × (own_of widget.new ≡ own_of widget.old)
+            × (map own_of others.new ≡ map own_of others.old)) }
         ensures own { IsOwnOf (length (text_of self.new.cells)) (own_of widget.new) }
         ensures others { AllByRecursion (IsOwnOf (length (text_of self.new.cells))) (map own_of others.new) }
     {

@@ -3,8 +3,8 @@ use Rattle.rt_undo.specs.Actions.{group_of}
 use Rattle.rt_undo.specs.Groups.{AreStill, groups_of}
 use Rattle.rt_undo.specs.Renames.{now_of}
 use Rattle.rt_undo.specs.Seen.{UndoStacks, history_kept}
-use Rattle.rt_undo.specs.Undo.{renamed_by, redo_done}
-use Rattle.rt_undo.proofs.Histories.{group_still, groups_more, redo_renamed}
+use Rattle.rt_undo.specs.Undo.{limited, renamed_by}
+use Rattle.rt_undo.proofs.Histories.{group_still, groups_more, put_back, put_back_renamed}
 use Rattle.rt_undo.proofs.stacks.Stacks.redone.Goals as goal
 
 pub returns-clause-history : goal.returns-clause-history
@@ -13,11 +13,11 @@ returns-clause-history c =
     let f = now_of s.renames in
     let reverted = group_of c.args.reverted.items in
     let stays : UndoStacks → Type 0 = λ v. AreStill v.moves reverted in
-    (λ i. renamed_by f (record (history_kept s) {
+    c.limit.ensures.history ∙ ap limited ((λ i. renamed_by f (record (history_kept s) {
       closed = (ap (λ l. groups_of l) c.push_group.ensures.items ∙ groups_more c.close.new.closed.items c.args.reverted
           ∙ ap (λ l. l ++ reverted ∷ []) c.close.ensures.groups) i;
       current = group_of ((ap (λ v. v.items) c.close.ensures.next ∙ c.new.ensures.items) i);
       undone = c.drop_group.ensures.groups i;
     }))
-    ∙ redo_renamed f reverted (history_kept s) (group_still s.renames reverted (subst stays (sym c.self.view_is) c.requires.still))
-    ∙ ap (λ v. redo_done reverted v.history) c.self.view_is
+    ∙ put_back_renamed f reverted (history_kept s) (group_still s.renames reverted (subst stays (sym c.self.view_is) c.requires.still))
+    ∙ ap (λ v. put_back reverted v.history) c.self.view_is)

@@ -1,7 +1,7 @@
 use Rattle.std.proofs.Common.{◌≡◌, ◌+◌, ◌≤◌, ◌++◌, length, take}
 use Rattle.std.specs.Prelude.{vec_capacity, vec_len}
 use Rattle.rt_undo.specs.Groups.{numbers_of}
-use Rattle.rt_undo.proofs.stacks.push_numbers.Given as goal
+use Rattle.rt_undo.proofs.flag.push_numbers.Given as goal
 
 abbrev pub invariant-loop-action : goal.invariant-loop-action
 invariant-loop-action l = record {

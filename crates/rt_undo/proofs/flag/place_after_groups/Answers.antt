@@ -1,7 +1,8 @@
 use Rattle.std.proofs.Common.{◌∙◌, ap, drop, sym}
-use Rattle.rt_undo.specs.Groups.{numbers_of, rest_after}
+use Rattle.rt_undo.specs.Groups.{numbers_of}
+use Rattle.rt_undo.specs.Undo.{rest_after}
 use Rattle.rt_undo.proofs.Histories.{groups_step, groups_none}
-use Rattle.rt_undo.proofs.stacks.place_after_groups.Goals as goal
+use Rattle.rt_undo.proofs.flag.place_after_groups.Goals as goal
 
 pub returns-in-None-clause-rest : goal.returns-in-None-clause-rest
 returns-in-None-clause-rest c =
@@ -15,7 +16,7 @@ loop-group-preserved c =
     let from = drop c.loop-group.after c.args.kept.now in
     record {
       within = c.in-Some.ensures.within;
-      rest = groups_step c.args.groups.now c.loop-group.group-index c.group-item.result from (drop c.in-Some.place c.args.kept.now) c.loop-group-test.true c.group-item.is
+      rest = groups_step c.args.groups.now c.loop-group.group-index c.group-item.result from (drop c.in-Some.next c.args.kept.now) c.loop-group-test.true c.group-item.is
           (sym (c.in-Some.ensures.rest ∙ ap (λ l. rest_after (numbers_of l) from) c.deref.ensures.value))
           ∙ c.loop-group.invariant.rest;
     }

@@ -1,6 +1,7 @@
 use Rattle.std.proofs.Common.{◌≡◌, ◌≤◌, drop, length}
-use Rattle.rt_undo.specs.Groups.{numbers_of, rest_after}
-use Rattle.rt_undo.proofs.stacks.place_after.Given as goal
+use Rattle.rt_undo.specs.Groups.{numbers_of}
+use Rattle.rt_undo.specs.Undo.{rest_after}
+use Rattle.rt_undo.proofs.flag.place_after.Given as goal
 
 abbrev pub invariant-loop-action : goal.invariant-loop-action
 invariant-loop-action l =

@@ -1,6 +1,0 @@
-use Rattle.std.proofs.Common.{◌≡◌, ◌++◌, drop}
-use Rattle.rt_undo.specs.Groups.{numbers_of_groups}
-use Rattle.rt_undo.proofs.stacks.numbers_now.Given as goal
-
-abbrev pub invariant-loop-group : goal.invariant-loop-group
-invariant-loop-group l = l.numbers.items ++ numbers_of_groups (drop l.group-index l.closed) ≡ numbers_of_groups l.closed
