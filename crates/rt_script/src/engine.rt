@@ -1,5 +1,5 @@
 // Runs of scripts.
-ghost use Rattle.std.specs.Prelude.{◌≡◌, ℕ, ◌+◌, ◌<◌, ◌≤◌, ◌&&◌, ◌∷◌, ◌++◌, [], true, false, List, length, Some, IsOkUnless, OnOk, IfSome, MatchOption};
+ghost use Rattle.std.specs.Prelude.{◌≡◌, ℕ, ◌+◌, ◌<◌, ◌≤◌, ◌&&◌, ◌∷◌, ◌++◌, [], true, false, List, length, Some, IfOk, IsOkUnless, OnOk, IfSome, MatchOption};
 ghost use Rattle.std.specs.List.{list_all, prefix_len};
 ghost use Rattle.rt_script.specs.Lines.{cut, without_return, is_readable, is_silent, complete_of, rest_of, last_of, lines_of};
 ghost use Rattle.rt_words.specs.Spelling.{is_blank};
@@ -136,8 +136,10 @@ fn answer_text<C: Commands>(alloc: Global, spare: &mut Spare, site: &mut C, text
     answer
 }
 
-// What a line is answered, unless it is a silent one.
-fn answer_line<C: Commands>(
+/// What a line is answered, unless it is a silent one: an empty line, one of spaces and tabs alone, or one that begins
+/// with `#`; then the state stays. `spare` is memory of words that lines may share. A line that is too long or no UTF-8
+/// is refused with `BadQuoting`.
+pub fn answer_line<C: Commands>(
     alloc: Global,
     spare: &mut Spare,
     site: &mut C,
@@ -180,6 +182,17 @@ fn rendered<A: Ledger, B: Ledger>(
     match reply_line(answer, &mut line) {
         Ok(()) => Some(line.into_inner()),
         Err(_) => None,
+    }
+}
+
+/// The line of an answer, in memory of its own. Want of memory.
+pub fn line_of(alloc: Global, answer: &Answer) -> Result<Vec<u8>, Fault>
+    ensures ok { IfOk result (λ line. line.items ≡ reply_line answer.now) }
+    ensures err { IsOkUnless result Fault.NoMemory }
+{
+    match rendered::<Brand, Brand>(Vec::new(alloc), answer, Blank::new(1), Blank::new(1)) {
+        Some(line) => Ok(line),
+        None => Err(Fault::NoMemory),
     }
 }
 

@@ -1,5 +1,5 @@
 -- All that a widget shows, and all of a text.
-use Rattle.std.proofs.Common.{◌≡◌, ◌∙◌, ◌-◌, ◌≤◌, ℕ, List, Ok, ap, arith, drop, length, map, subst, sym, take}
+use Rattle.std.proofs.Common.{◌≡◌, ◌∙◌, ◌-◌, ℕ, List, Ok, ap, arith, drop, length, map, take}
 use Rattle.std.proofs.Math.Seq.{take-length}
 use Rattle.std.specs.Prelude.{codes, encode_utf8_all}
 use Rattle.rt_stamps.specs.Places.{EndsWithNewline, place_at}
