@@ -44,10 +44,22 @@ def whole_scripts():
         ("quoted and braced words", b'.t insert 1.0 {a "b" {c}}\n.t insert end "\\n\\t\\\\"\n.t get 1.0 end\n.t insert 1.0 "a"b\n',
          b'=\n=\n= "a \\"b\\" {c}\\n\\t\\\\\\n"\n! 19 BadQuoting\n'),
         ("deletion", b'.t insert 1.0 "a\\nbc"\n.t delete 2.0 2.1 2.1 end\n.t get 1.0 end\n', b'=\n=\n= "a\\n"\n'),
+        ("a bound on undo", b".t configure -undo 1 -maxundo 1\n.t insert 1.0 a\n.t delete 1.0\n.t edit undo\n.t get 1.0 end\n.t edit undo\n.t edit modified\n",
+         b'=\n=\n=\n=\n= "a\\n"\n! 12 NothingToUndo\n= 1\n'),
         ("the longest line", b"a" * 1048576 + b"\n", b"! 5 NoWidget\n"),
         ("the longest line and a return", b"a" * 1048576 + b"\r\n", b"! 5 NoWidget\n"),
     ]:
         check(name, run(script), (want, b"", 0))
+
+
+def bounds_on_undo():
+    """What `-maxundo` may be, and what `cget` tells of it."""
+    most = str(2**63 - 1)
+    for word, told in [("3", "3"), ("007", "7"), ("0", "0"), ("-0", "0"), ("-5", "0"), ("-" + "9" * 99, "0"), (most, most), (str(2**63), most), ("9" * 5000, most)]:
+        check(f"-maxundo {word}", run(f".t configure -maxundo {word}\n.t cget -maxundo\n".encode()), (f"=\n= {told}\n".encode(), b"", 0))
+    for word in ["x", "-", '""', "+1", "--1", "1-", "1.0", "0x1", '" 1"', "\u0663", "true"]:
+        check(f"-maxundo {word}", run(f".t configure -maxundo 2\n.t configure -undo 1 -maxundo {word}\n.t cget -maxundo\n.t cget -undo\n".encode()),
+              (b"=\n! 9 BadOption\n= 2\n= 0\n", b"", 0))
 
 
 def hostile_bytes():
@@ -105,7 +117,7 @@ def many_marks():
     check("many marks", (out.decode().splitlines(), err, status), (["="] * len(lines) + wants, b"", 0))
 
 
-PARTS = (whole_scripts, hostile_bytes, asks_and_waits, statuses, failing_allocations, many_marks, long_lists)
+PARTS = (whole_scripts, bounds_on_undo, hostile_bytes, asks_and_waits, statuses, failing_allocations, many_marks, long_lists)
 IN_FILES = (joins, outs_that_fail, outs_with_modes, shows, many_operations, outs_of_runs, logs_of_runs, early_logs, received,
             exchanges, faults_before_the_script, outs_after_faults, readers_that_fail_late, closed_pipes, full_outputs, failing_allocations_of_files, failing_allocations_of_receive, failing_allocations_of_held,
             failing_allocations_of_undo)

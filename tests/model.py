@@ -30,6 +30,7 @@ def play_groups(chance):
         with tempfile.TemporaryDirectory() as folder:
             # every other group has several widgets on its sites, of every three two have limits
             chance.has_limits = group % 3 > 0
+            chance.is_undoing = group % 5 > 2
             good = Group(PROGRAM, chance, folder, chance.randrange(2, 5), group % 2 == 0).play()
         passed, failed = passed + good, failed + (not good)
         if not good:
@@ -46,7 +47,9 @@ def main():
         # every other script has one widget alone, the others several; of every three two have limits
         line = chance.line if number % 2 else lambda: [".t", *chance.command()]
         chance.has_limits = number % 3 > 0
-        lines = [[".t", *chance.begin()], *(line() for _ in range(chance.randrange(1, 80)))]
+        # two of five are mostly of undo
+        chance.is_undoing = number % 5 > 2
+        lines = [[".t", *chance.begin()], *(line() for _ in range(chance.randrange(1, 80))), *chance.ending()]
         script = "".join(" ".join(map(spelled, words)) + "\n" for words in lines)
         wants = [site.reply_to(words) for words in lines]
         done = subprocess.run([PROGRAM, "run", "--site", "1"], input=script.encode(), capture_output=True, timeout=120)

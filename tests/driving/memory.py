@@ -216,6 +216,26 @@ UNDO_LINES = """.t configure -undo 1
 .t edit undo
 .t get 1.0 end
 .t edit canundo
+.t configure -maxundo 2
+.t insert end a
+.t edit separator
+.t edit modified 0
+.t insert end b
+.t edit undo
+.t edit modified
+.t edit redo
+.t delete 1.0
+.t edit undo
+.t edit undo
+.t edit modified
+.t edit redo
+.t configure -maxundo 1
+.t edit redo
+.t edit undo
+.t edit undo
+.t edit modified
+.t get 1.0 end
+.t cget -maxundo
 .t edit reset
 .t edit undo
 .t tag names

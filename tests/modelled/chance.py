@@ -7,6 +7,10 @@ from modelled.words import spelled
 class Chance(random.Random):
     # whether limits of what widgets show are set
     has_limits = False
+    # whether most commands are short edits and those of the undo stacks
+    is_undoing = False
+    # the commands that come next
+    coming = ()
 
     def text(self):
         return "".join(self.choice("ab_1 \n-é日") for _ in range(self.randrange(9)))
@@ -58,15 +62,24 @@ class Chance(random.Random):
     def limit(self):
         return [self.choice(["-startline", "-endline"]), self.choice(["", "1", "2", "2", "3", "3", "4", "5", "0", "99" if self.random() < .1 else "2", "+1" if self.random() < .1 else "3"])]
 
+    def most(self):
+        """A number of groups, mostly a small one."""
+        odd = self.choice(["", "-", "--1", "+1", "1 ", "1.0", "x", "-0", "002", "9" * 19, "9223372036854775808", "-" + "9" * 30])
+        return self.choice(["1", "1", "2", "2", "2", "3", "3", "4", "0", "-1", odd if self.random() < .3 else "2"])
+
     def option(self):
+        if self.random() < .4:
+            return ["-maxundo", self.most()]
         return [self.choice(["-undo", "-autoseparators", "-font" if self.random() < .05 else "-autoseparators"]), self.truth()]
 
     def options(self):
         return [w for _ in range(self.choice([1, 1, 1, 2, 3])) for w in (self.limit() if self.has_limits and self.random() < .7 else self.option())]
 
     def begin(self):
-        """Most scripts begin with the undo mechanism on."""
-        return ["configure", "-undo", "1" if self.random() < .7 else "0"]
+        """Most scripts begin with the undo mechanism on, some of them with a bound."""
+        self.coming = ()
+        is_on, is_bounded = self.random() < (.95 if self.is_undoing else .7), self.random() < (.6 if self.is_undoing else .2)
+        return ["configure", "-undo", str(int(is_on)), *(["-maxundo", self.most()] if is_bounded else [])]
 
     def path(self):
         return self.choice([".t", ".t", ".t", ".p", ".p", ".q", ".x" if self.random() < .1 else ".t"])
@@ -81,16 +94,48 @@ class Chance(random.Random):
                 *(self.options() if self.random() < .2 else [])]
 
     def line(self):
-        return self.peers() if self.random() < .1 else [self.path(), *self.command()]
+        if self.random() < .1:
+            return self.peers()
+        return [".t" if self.is_undoing and self.random() < .7 else self.path(), *self.command()]
+
+    def meeting(self):
+        """Commands of the undo stacks that seldom meet by chance."""
+        undo, redo, bound, count = ["edit", "undo"], ["edit", "redo"], ["configure", "-maxundo", self.choice("12")], self.randrange(1, 4)
+        return self.choice([
+            [*[undo] * count, bound, *[redo] * count, *[undo] * count],
+            [["configure", "-undo", "0"], bound, ["configure", "-undo", "1"], *[undo] * count],
+            [["edit", "modified", "0"], ["edit", "reset"], ["edit", "modified"]],
+        ])
+
+    def undoing(self):
+        """A short edit, or a command of the undo stacks."""
+        if self.random() < .06:
+            first, *self.coming = self.meeting()
+            return first
+        place = self.choice(["1.0", "1.1", "end"])
+        edits = [["insert", place, self.choice(["a", "b", "c\n"])], ["replace", "1.0", "1.1", "x"], ["delete", place]]
+        asks = [["edit", *words.split()] for words in ("undo", "redo", "modified", "modified 0", "separator", "reset")]
+        asks += [["edit", *self.edit()], ["configure", "-maxundo", self.most()]]
+        return self.choices(edits, [3, 3, 1])[0] if self.random() < .5 else self.choices(asks, [4, 4, 4, 2, 3, 1, 2, 3])[0]
+
+    def ending(self):
+        """Lines that show what is on the undo stacks, where most commands were of these."""
+        words = ["edit undo", "edit modified", "get 1.0 end"] * 4 + ["edit redo", "edit modified", "get 1.0 end"] * 2
+        return [[".t", *line.split()] for line in words] if self.is_undoing else []
 
     def command(self):
+        if self.coming:
+            first, *self.coming = self.coming
+            return first
+        if self.is_undoing and self.random() < .85:
+            return self.undoing()
         kind = self.choice(["insert", "insert", "insert", "delete", "delete", "get", "index", "index", "compare", "count", "mark", "mark", "tag", "tag", "tag", "tag", "tag", "replace", "search", "search", "dump", "dump", "edit", "edit", "edit", "edit", "edit", "configure", "cget"])
         if kind == "edit":
             return [kind, *self.edit()]
         if kind == "configure":
             return [kind, *(self.options() if self.random() < .5 else ["-undo", "1"])][:99 if self.random() < .95 else 2]
         if kind == "cget":
-            return [kind, self.choice([*(["-startline", "-endline"] if self.has_limits else []), "-undo", "-autoseparators", "-font" if self.random() < .1 else "-undo"])]
+            return [kind, self.choice([*(["-startline", "-endline"] if self.has_limits else []), "-undo", "-autoseparators", "-maxundo", "-font" if self.random() < .1 else "-undo"])]
         if kind == "insert":
             return [kind, self.word(), *self.texts()]
         if kind == "replace":

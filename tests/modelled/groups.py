@@ -60,7 +60,7 @@ class Group:
                 found.append(self.chance.choice([["receive"], ["receive", "none"], ["receive", "a", "b"]]))
             else:
                 found.append(self.chance.line() if self.has_peers else [".t", *self.chance.command()])
-        return found
+        return found + self.chance.ending()
 
     def run(self, site, script, names):
         """Whether the program answers a script of a site as the model does, and leaves the same log."""

@@ -3,7 +3,7 @@ those of the others stand aside, marked by their paths, and take part in each ed
 what it says is that of a text which is these lines, and its edits stay within them."""
 import contextlib
 
-from modelled.sites import Site, cells, truth
+from modelled.sites import SHARED, Site, cells
 from modelled.widget import Widget
 from modelled.words import BAD_COMMAND, BAD_NAME, BAD_OPTION, Refused, spelled
 
@@ -22,6 +22,8 @@ def line_asked(word):
 
 
 class Peers(Site):
+    options = {**SHARED, "-startline": line_asked, "-endline": line_asked}
+
     def __init__(self, site):
         super().__init__(site)
         self.paths, self.leader = [".t"], ".t"
@@ -73,12 +75,6 @@ class Peers(Site):
         return self.begin() + place
 
     # limits
-
-    def settings(self, words):
-        pairs = list(zip(words[::2], words[1::2]))
-        if not {option for option, _ in pairs} <= {"-undo", "-autoseparators", "-startline", "-endline"}:
-            raise Refused(BAD_OPTION)
-        return {option: line_asked(word) if "line" in option else truth(word) for option, word in pairs}
 
     def limits_set(self, settings):
         """The limits of the widget that commands, with those that are named."""

@@ -1,6 +1,7 @@
 """The plain model of a site: a widget over the operations that it has accepted, which are all read again after each
 (docs/REPLICATION.md), and the bytes of operations (docs/FILES.md)."""
 import collections
+import re
 
 from modelled.undo import Action, Undo
 from modelled.widget import Widget, shared
@@ -17,6 +18,7 @@ MOST_TAGS = 64
 # what is answered to an operation that is offered
 NEW, REPEAT, EARLY, CONFLICT, BAD_TARGET = "new", "repeat", "early", "! 35 Conflict", "! 37 BadTarget"
 TRUTHS = {"1": True, "true": True, "yes": True, "on": True, "0": False, "false": False, "no": False, "off": False}
+MOST_GROUPS = 2**63 - 1
 
 
 def stamp(op):
@@ -111,8 +113,22 @@ def truth(word):
     return TRUTHS[word]
 
 
+def most_groups(word):
+    """What -maxundo is set to: a number of groups, or 0 for any number of them."""
+    if not re.fullmatch("-?[0-9]+", word):
+        raise Refused(BAD_OPTION)
+    return max(0, min(int(word), MOST_GROUPS))
+
+
+# the options that all widgets of a site share, with what reads a value
+SHARED = {"-undo": truth, "-autoseparators": truth, "-maxundo": most_groups}
+
+
 class Site(Widget):
     """A site: the widget, the stamps of its characters, the operations that it has accepted, those that it holds, and the undo stacks."""
+
+    # what can be set, with what reads a value
+    options = SHARED
 
     def __init__(self, site):
         super().__init__()
@@ -207,18 +223,20 @@ class Site(Widget):
 
     def settings(self, words):
         """What pairs of words set options to; of several values of one the last counts."""
-        if not set(words[::2]) <= {"-undo", "-autoseparators"}:
+        if not set(words[::2]) <= set(self.options):
             raise Refused(BAD_OPTION)
-        return {option: truth(word) for option, word in zip(words[::2], words[1::2])}
+        return {option: self.options[option](word) for option, word in zip(words[::2], words[1::2])}
 
     def set_options(self, settings):
         self.undo.is_on = settings.get("-undo", self.undo.is_on)
         self.undo.separates = settings.get("-autoseparators", self.undo.separates)
+        if "-maxundo" in settings:
+            self.undo.set_most(settings["-maxundo"])
 
     def cget(self, words):
         if len(words) != 1:
             raise Refused(BAD_COMMAND)
-        values = {"-undo": self.undo.is_on, "-autoseparators": self.undo.separates}
+        values = {"-undo": self.undo.is_on, "-autoseparators": self.undo.separates, "-maxundo": self.undo.most}
         if words[0] not in values:
             raise Refused(BAD_OPTION)
         return [str(int(values[words[0]]))]

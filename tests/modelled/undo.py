@@ -18,10 +18,21 @@ class Undo:
         self.is_on, self.separates = False, True
         # the groups that can be undone and redone, and whether the last of the first takes further actions
         self.done, self.undone, self.is_open = [], [], False
+        # the most groups that can be undone, any number of them where it is 0, and the numbers of the actions that were dropped
+        self.most, self.dropped = 0, []
         self.is_forced, self.kept = False, []
 
     def numbers(self):
-        return [action.number for group in self.done for action in group]
+        return self.dropped + [action.number for group in self.done for action in group]
+
+    def drop(self):
+        """The oldest groups go, where there are too many."""
+        while 0 < self.most < len(self.done):
+            self.dropped += [action.number for action in self.done.pop(0)]
+
+    def set_most(self, most):
+        self.most = most
+        self.drop()
 
     def is_modified(self):
         return self.is_forced or self.numbers() != self.kept
@@ -33,7 +44,7 @@ class Undo:
 
     def reset(self):
         self.is_forced = self.is_modified()
-        self.done, self.undone, self.is_open, self.kept = [], [], False, []
+        self.done, self.undone, self.is_open, self.dropped, self.kept = [], [], False, [], []
 
     def separate(self):
         self.is_open = False
@@ -50,6 +61,7 @@ class Undo:
             self.done.append([])
         self.is_open = True
         self.done[-1].append(action)
+        self.drop()
 
     def move(self, source, target, revert):
         """The last group of a stack is reverted, from its last action to its first, and goes to the other stack. `revert` answers
@@ -64,3 +76,4 @@ class Undo:
                     other.rename(old, new)
         source.pop()
         target.append(reverted)
+        self.drop()

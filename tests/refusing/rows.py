@@ -68,7 +68,7 @@ def probes(sites):
     for path in paths:
         lines += [f"{path} {words}" for words in (
             "get 1.0 end", "dump 1.0 end", "mark names", "tag names", "edit canundo", "edit canredo", "edit modified", "peer names",
-            "cget -undo", "cget -autoseparators", "cget -startline", "cget -endline")]
+            "cget -undo", "cget -autoseparators", "cget -maxundo", "cget -startline", "cget -endline")]
         lines += [f"{path} mark gravity {spelled(mark)}" for mark in marks]
     return lines
 
