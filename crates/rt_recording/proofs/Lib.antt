@@ -1,5 +1,6 @@
 pub mod Actions
 pub mod Counted
+pub mod Every
 pub mod Gone
 pub mod Growing
 pub mod Named

@@ -1,10 +1,10 @@
 -- Histories with the names of tags.
-use Rattle.std.proofs.Common.{◌≡◌, ◌∙◌, ℕ, ◌++◌, ◌||◌, ◌&&◌, Bool, true, false, List, [], ◌∷◌, Option, Some, None, map, option_map, ap, sym, refl, subst, not, append-nil, if◌then◌else◌}
-use Rattle.std.specs.Prelude.{IfSome}
+use Rattle.std.proofs.Common.{◌≡◌, ◌∙◌, ℕ, ◌-◌, ◌++◌, ◌||◌, ◌&&◌, ◌==◌, Bool, true, false, List, [], ◌∷◌, Option, Some, None, is_some, length, map, take, option_map, ap, sym, refl, subst, not, append-nil, if◌then◌else◌}
+use Rattle.std.specs.Prelude.{IfSome, unwrap_or}
 use Rattle.std.specs.List.{AllByRecursion}
 use Rattle.std.specs.declared.vec.Vec.{Vec}
 use Rattle.std.specs.declared.alloc.Global.{Global}
-use Rattle.std.proofs.lemmas.List.{map-append}
+use Rattle.std.proofs.lemmas.List.{drop-map, length-map, map-append, take-map}
 use Rattle.rt_stamps.specs.declared.stamp.Span.{Span}
 use Rattle.rt_stamps.specs.Words.{Word}
 use Rattle.rt_ops.specs.Operations.{stamps_in, stamps_of_span}
@@ -15,7 +15,7 @@ use Rattle.rt_undo.specs.Actions.{Action, Removed, action_of, is_replace, remove
 use Rattle.rt_undo.specs.Groups.{IsStill}
 use Rattle.rt_undo.specs.Renames.{Shown, is_moved}
 use Rattle.rt_undo.specs.Seen.{UndoStacks}
-use Rattle.rt_undo.specs.Undo.{History, added, as_group, asks_separator, differs_from, emptied, forced_on, is_modified, last, numbers, numbers_in, recorded, same_numbers, separated, to_undo, unmodified}
+use Rattle.rt_undo.specs.Undo.{History, added, as_group, asks_separator, differs_from, dropped, emptied, forced_on, is_modified, last, limited, numbers, numbers_in, recorded, rest_after, same_numbers, separated, to_undo, too_many, unmodified, with_most}
 use Rattle.rt_undo.proofs.Histories.{last_map}
 use Rattle.rt_recording.specs.declared.recorder.Prepared.{Prepared}
 use Rattle.rt_recording.specs.declared.recorder.Recorder.TheInside.{Inside}
@@ -39,6 +39,7 @@ separated_named t h = λ i. record {
   undone = map (named_group t) h.undone;
   kept = h.kept;
   forced = h.forced;
+  most = h.most;
 }
 
 recorded_named : (t : TagStates) (a : Action ℕ) (h : History ℕ) → named_history t (recorded a h) ≡ recorded (named_action t a) (named_history t h)
@@ -48,6 +49,7 @@ recorded_named t a h = λ i. record {
   undone = [];
   kept = h.kept;
   forced = h.forced;
+  most = h.most;
 }
 
 differs_named : (t : TagStates) (kind : Kind) (o : Option (Action ℕ)) → differs_from kind (option_map (named_action t) o) ≡ differs_from kind o
@@ -62,13 +64,6 @@ asks_named t kind h =
 begun_named : (t : TagStates) (b : Bool) (h : History ℕ) → named_history t (if b then separated h else h) ≡ (if b then separated (named_history t h) else named_history t h)
 begun_named t true h = separated_named t h
 begun_named t false h = refl
-
-pub added_named : (t : TagStates) (auto : Bool) (a : Action ℕ) (h : History ℕ)
-    → named_history t (added auto a h) ≡ added auto (named_action t a) (named_history t h)
-added_named t auto a h =
-    recorded_named t a (if auto && asks_separator a.kind h then separated h else h)
-    ∙ ap (recorded (named_action t a)) (begun_named t (auto && asks_separator a.kind h) h)
-    ∙ ap (λ b. recorded (named_action t a) (if auto && b then separated (named_history t h) else named_history t h)) (sym (asks_named t a.kind h))
 
 -- NUMBERS
 
@@ -87,7 +82,7 @@ pub modified_named : (t : TagStates) (h : History ℕ) → is_modified (named_hi
 modified_named t h = ap (λ l. h.forced || not (same_numbers l h.kept)) (numbers_named t h)
 
 pub emptied_named : (t : TagStates) (h : History ℕ) → named_history t (emptied h) ≡ emptied (named_history t h)
-emptied_named t h = λ i. record { closed = []; current = []; undone = []; kept = []; forced = sym (modified_named t h) i }
+emptied_named t h = λ i. record { closed = []; current = []; undone = []; kept = []; forced = sym (modified_named t h) i; most = h.most }
 
 pub set_named : (t : TagStates) (on : Bool) (h : History ℕ)
     → named_history t (if on then forced_on h else unmodified h) ≡ (if on then forced_on (named_history t h) else unmodified (named_history t h))
@@ -98,7 +93,41 @@ set_named t false h = λ i. record {
   undone = map (named_group t) h.undone;
   kept = sym (numbers_named t h) i;
   forced = false;
+  most = h.most;
 }
+
+-- THE MOST GROUPS
+
+many_named : (t : TagStates) (h : History ℕ) → too_many (named_history t h) ≡ too_many h
+many_named t h = ap (λ n. if h.most == 0 then 0 else n - h.most) (ap (λ l. length l) (to_undo_named t h) ∙ length-map (to_undo h) (named_group t))
+
+numbers_dropped : (t : TagStates) (n : ℕ) (groups : List (List (Action ℕ))) → numbers_in (take n (map (named_group t) groups)) ≡ numbers_in (take n groups)
+numbers_dropped t n groups = ap (λ l. numbers_in l) (take-map (named_group t) n groups) ∙ numbers_groups t (take n groups)
+
+dropped_named : (t : TagStates) (n : ℕ) (h : History ℕ) → named_history t (dropped n h) ≡ dropped n (named_history t h)
+dropped_named t n h = λ i. record {
+  closed = sym (drop-map (named_group t) n h.closed) i;
+  current = named_group t h.current;
+  undone = map (named_group t) h.undone;
+  kept = unwrap_or (rest_after (sym (numbers_dropped t n h.closed) i) h.kept) [];
+  forced = h.forced || not (is_some (rest_after (sym (numbers_dropped t n h.closed) i) h.kept));
+  most = h.most;
+}
+
+pub limited_named : (t : TagStates) (h : History ℕ) → named_history t (limited h) ≡ limited (named_history t h)
+limited_named t h = dropped_named t (too_many h) h ∙ ap (λ n. dropped n (named_history t h)) (sym (many_named t h))
+
+pub most_named : (t : TagStates) (most : ℕ) (h : History ℕ) → named_history t (with_most most h) ≡ with_most most (named_history t h)
+most_named t most h = limited_named t (record h { most = most })
+
+pub added_named : (t : TagStates) (auto : Bool) (a : Action ℕ) (h : History ℕ)
+    → named_history t (added auto a h) ≡ added auto (named_action t a) (named_history t h)
+added_named t auto a h =
+    limited_named t (recorded a (if auto && asks_separator a.kind h then separated h else h))
+    ∙ ap (λ (x : History (List Word)). limited x)
+    (recorded_named t a (if auto && asks_separator a.kind h then separated h else h)
+    ∙ ap (recorded (named_action t a)) (begun_named t (auto && asks_separator a.kind h) h)
+    ∙ ap (λ b. recorded (named_action t a) (if auto && b then separated (named_history t h) else named_history t h)) (sym (asks_named t a.kind h)))
 
 -- A TABLE THAT KEEPS ITS STATES
 
@@ -137,6 +166,7 @@ history_kept t u k h given = λ i. record {
   undone = groups_kept t u k h.undone given.undone i;
   kept = h.kept;
   forced = h.forced;
+  most = h.most;
 }
 
 pub history_stays : (t u : TagStates) → KeepsIds t u → (h : History ℕ) → HistoryIsGiven t h → HistoryIsGiven u h

@@ -17,14 +17,15 @@ use Rattle.rt_text.specs.Commands.{lost_in}
 use Rattle.rt_text.specs.Widgets.{ViewValue, begin_of, text_shown}
 use Rattle.rt_undo.specs.declared.action.Kind.{Kind}
 use Rattle.rt_undo.specs.Actions.{Action, Removed}
-use Rattle.rt_undo.specs.Undo.{History, added, as_group, asks_separator, forced_on, recorded, separated}
+use Rattle.rt_undo.specs.Undo.{History, added, as_group, asks_separator, forced_on, limited, recorded, separated, too_many, with_most}
 use Rattle.rt_recording.specs.EditedValue.{edited}
 use Rattle.rt_recording.specs.Edits.{action_of, counts_between, has_changed, noted, noted_by, recorded_edit}
 use Rattle.rt_recording.specs.Noting.{IsOfLog, Keeps}
 use Rattle.rt_recording.proofs.Actions.{action_stays, places_stay}
 use Rattle.rt_text.proofs.Growing.{Grows}
+use Rattle.rt_recording.proofs.Every.{every_drop}
 use Rattle.rt_recording.proofs.Growing.{cells_stay_gone}
-use Rattle.rt_recording.proofs.Once.{HaveGone, in_noted, once_fewer, once_grown, once_more}
+use Rattle.rt_recording.proofs.Once.{HaveGone, in_limited, in_noted, once_fewer, once_grown, once_more}
 
 -- SOUND HISTORIES
 
@@ -51,8 +52,12 @@ separated_sound h sound = record {
 recorded_sound : (action : Action (List Word)) (h : History (List Word)) → IsSound action → IsSoundHistory h → IsSoundHistory (recorded action h)
 recorded_sound action h k sound = record { closed = sound.closed; current = every_append IsSound h.current (action ∷ []) sound.current (k, tt); undone = tt }
 
+limited_sound : (h : History (List Word)) → IsSoundHistory h → IsSoundHistory (limited h)
+limited_sound h sound = record { closed = every_drop AreSound (too_many h) h.closed sound.closed; current = sound.current; undone = sound.undone }
+
 added_sound : (auto : Bool) (action : Action (List Word)) (h : History (List Word)) → IsSound action → IsSoundHistory h → IsSoundHistory (added auto action h)
-added_sound auto action h k sound = by (auto && asks_separator action.kind h)
+added_sound auto action h k sound =
+    limited_sound (recorded action (cond (auto && asks_separator action.kind h) (separated h) h)) (by (auto && asks_separator action.kind h))
   where
     by : (b : Bool) → IsSoundHistory (recorded action (cond b (separated h) h))
     by true = recorded_sound action (separated h) k (separated_sound h sound)
@@ -86,6 +91,20 @@ settled_after view new old next settled kept same grows back sound once = record
   current = sound.current;
   undone = sound.undone;
 }
+
+-- where the oldest groups are dropped
+pub settled_most : (view : ViewValue) (old new : Recording) (most : ℕ) → new ≡ record old { history = with_most most old.history } → IsSettled view old → IsSettled view new
+settled_most view old new most e settled =
+    let all : History (List Word) = record old.history { most = most } in
+    let sound = limited_sound all (record { closed = settled.closed; current = settled.current; undone = settled.undone }) in
+    let left : IsSettled view (record old { history = with_most most old.history }) = record {
+      gone = settled.gone;
+      taken = once_fewer view.doc.cells (all_taken (with_most most old.history)) (all_taken old.history) (λ s. in_limited s all) settled.taken;
+      closed = sound.closed;
+      current = sound.current;
+      undone = sound.undone;
+    } in
+    subst (IsSettled view) (sym e) left
 
 pub keeps_itself : (old : Recording) → Keeps old old
 keeps_itself old = record { history = refl; undo = refl; auto = refl; back = λ s. refl }

@@ -1,15 +1,15 @@
 -- Characters that are gone, each of which stands once among some.
 use Rattle.std.proofs.Common.{◌≡◌, ◌∙◌, ℕ, ◌+◌, ◌≤◌, Bool, true, false, List, [], ◌∷◌, ◌++◌, cond, filter, length, map, ap, arith, refl, subst, sym}
-use Rattle.std.specs.Prelude.{◌&&◌}
+use Rattle.std.specs.Prelude.{◌&&◌, drop, take}
 use Rattle.std.specs.List.{flat_map}
 use Rattle.std.proofs.lemmas.Grind.{flat_map-append}
-use Rattle.std.proofs.lemmas.List.{map-append}
+use Rattle.std.proofs.lemmas.List.{map-append, take-append-drop}
 use Rattle.rt_stamps.specs.declared.stamp.Stamp.{Stamp}
 use Rattle.rt_stamps.specs.Stamps.{is_same, replaced}
 use Rattle.rt_stamps.specs.Words.{Word}
 use Rattle.rt_store.specs.Shown.{TaggedCell}
 use Rattle.rt_undo.specs.Actions.{Action}
-use Rattle.rt_undo.specs.Undo.{History, added, as_group, asks_separator, forced_on, recorded, separated, to_undo}
+use Rattle.rt_undo.specs.Undo.{History, added, as_group, asks_separator, forced_on, limited, recorded, separated, to_undo, too_many}
 use Rattle.rt_recording.specs.Edits.{noted_by}
 use Rattle.rt_recording.specs.Settled.{AreGoneOnce, all_taken, is_gone, taken_by, times}
 
@@ -116,6 +116,16 @@ in_separated s h =
     let undo = in_to_undo s h in
     omega (arith, new, old, undo)
 
+-- groups are dropped
+pub in_limited : (s : Stamp) (h : History (List Word)) → times s (all_taken (limited h)) ≤ times s (all_taken h)
+in_limited s h =
+    let n = too_many h in
+    let new = in_history s (limited h) in
+    let old = in_history s h in
+    let parts = in_groups_append s (take n h.closed) (drop n h.closed) in
+    let whole = ap (in_groups s) (take-append-drop n h.closed) in
+    omega (arith, new, old, parts, whole)
+
 -- an action is recorded, or not
 pub in_recorded : (s : Stamp) (action : Action (List Word)) (h : History (List Word)) → times s (all_taken (recorded action h)) ≤ times s (all_taken h ++ map (λ r. r.stamp) action.removed)
 in_recorded s action h =
@@ -127,7 +137,10 @@ in_recorded s action h =
     omega (arith, new, old, all, one, both)
 
 pub in_added : (s : Stamp) (auto : Bool) (action : Action (List Word)) (h : History (List Word)) → times s (all_taken (added auto action h)) ≤ times s (all_taken h ++ map (λ r. r.stamp) action.removed)
-in_added s auto action h = by (auto && asks_separator action.kind h)
+in_added s auto action h =
+    let fewer = in_limited s (recorded action (cond (auto && asks_separator action.kind h) (separated h) h)) in
+    let all = by (auto && asks_separator action.kind h) in
+    omega (arith, fewer, all)
   where
     by : (b : Bool) → times s (all_taken (recorded action (cond b (separated h) h))) ≤ times s (all_taken h ++ map (λ r. r.stamp) action.removed)
     by false = in_recorded s action h

@@ -27,7 +27,7 @@ use Rattle.rt_recording.specs.Recordings.{HaveStayed}
 use Rattle.rt_recording.specs.Returns.{Return, back_after, stamp_after}
 use Rattle.rt_recording.specs.Settled.{AreGoneOnce, all_taken, is_gone, taken_by, times}
 use Rattle.rt_recording.proofs.Gone.{gone_still}
-use Rattle.rt_recording.proofs.Once.{HaveGone, by_append, in_append, in_groups, in_groups_append, in_history, in_one, in_to_undo, none_replaced, once_fewer, once_grown, once_more, one_if, taken_append, times_append, times_by}
+use Rattle.rt_recording.proofs.Once.{HaveGone, by_append, in_append, in_groups, in_groups_append, in_history, in_limited, in_one, in_to_undo, none_replaced, once_fewer, once_grown, once_more, one_if, taken_append, times_append, times_by}
 use Rattle.rt_recording.proofs.OnceTaken.{places_gone, removed_stamps}
 use Rattle.rt_recording.proofs.Stayed.{Stays, stamp_stays}
 use Rattle.rt_recording.proofs.Told.{AreKept, IsTold, action_told, gone_next, kept_on_way, mapped, removed_on, went_here}
@@ -381,11 +381,14 @@ after_undo cells f h reverted = once_fewer cells (all_taken (undo_done reverted 
 pub after_redo : (cells : List TaggedCell) (f : Stamp → Stamp) (h : History (List Word)) (reverted : List (Action (List Word)))
     → AreGoneOnce cells (map f (beside_redone h) ++ taken_by reverted) → AreGoneOnce cells (all_taken (redo_done reverted (renamed_by f h)))
 after_redo cells f h reverted = once_fewer cells (all_taken (redo_done reverted (renamed_by f h))) (map f (beside_redone h) ++ taken_by reverted) (λ s.
-    let all = in_history s (redo_done reverted (renamed_by f h)) in
+    let now = renamed_by f h in
+    let whole : History (List Word) = record now { closed = to_undo now ++ reverted ∷ []; current = []; undone = but_last now.undone } in
+    let fewer = in_limited s whole in
+    let all = in_history s whole in
     let closed = in_groups_append s (to_undo (renamed_by f h)) (reverted ∷ []) in
     let undo = ap (in_groups s) (to_undo_now f h) ∙ ap (times s) (groups_now f (to_undo h)) in
     let one = in_one s reverted in
     let undone = ap (in_groups s) (but_last_now f h.undone) ∙ ap (times s) (groups_now f (but_last h.undone)) in
     let a = times_append s (map f (beside_redone h)) (taken_by reverted) in
     let b = by_append s f (flat_map taken_by (to_undo h)) (flat_map taken_by (but_last h.undone)) in
-    omega (arith, all, closed, undo, one, undone, a, b))
+    omega (arith, fewer, all, closed, undo, one, undone, a, b))

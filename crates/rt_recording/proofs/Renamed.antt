@@ -1,5 +1,5 @@
 -- Histories with other stamps, and with the names of tags.
-use Rattle.std.proofs.Common.{◌≡◌, ◌∙◌, ℕ, zero, suc, ◌+◌, ◌-◌, ◌<◌, ◌≤◌, ◌++◌, Bool, true, false, List, [], ◌∷◌, Option, Some, None, is_some, map, length, drop, drop-cons, add-one, get_or, option_map, take, ap, sym, refl, subst, arith}
+use Rattle.std.proofs.Common.{◌≡◌, ◌∙◌, ℕ, zero, suc, ◌+◌, ◌-◌, ◌<◌, ◌≤◌, ◌++◌, Bool, true, false, List, [], ◌∷◌, Option, Some, None, is_some, map, length, drop, drop-cons, add-one, get_or, option_map, ap, sym, refl, subst, arith}
 use Rattle.std.specs.List.{AllByRecursion}
 use Rattle.std.proofs.lemmas.List.{map-append}
 use Rattle.std.proofs.lemmas.Simd.{map-map}
@@ -11,12 +11,13 @@ use Rattle.rt_undo.specs.declared.renames.Move.{Move}
 use Rattle.rt_undo.specs.Actions.{Action, Removed, with_stamp, with_stamps}
 use Rattle.rt_undo.specs.Groups.{AreStill}
 use Rattle.rt_undo.specs.Renames.{Shown, is_moved, replaced}
-use Rattle.rt_undo.specs.Undo.{History, as_group, but_last, last, next_redo, next_undo, redo_done, renamed_by, to_undo, undo_done, with_stamps_in}
+use Rattle.rt_undo.specs.Undo.{History, as_group, but_last, last, limited, next_redo, next_undo, redo_done, renamed_by, to_undo, too_many, undo_done, with_stamps_in}
 use Rattle.rt_undo.proofs.Histories.{but_last_map, last_map, to_undo_renamed}
 use Rattle.rt_recording.specs.Naming.{AreGiven, HistoryIsGiven, RemovedAreGiven, named_group, named_history, named_removed}
 use Rattle.rt_recording.specs.Recordings.{HaveStayed}
 use Rattle.rt_recording.specs.Returns.{AreReturns, IsReturn, Return, back_after, back_with, stamp_after}
-use Rattle.rt_recording.proofs.Named.{to_undo_named}
+use Rattle.rt_recording.proofs.Every.{every_drop, every_take}
+use Rattle.rt_recording.proofs.Named.{limited_named, to_undo_named}
 
 -- TWICE, AND NOT AT ALL
 
@@ -146,6 +147,7 @@ renamed_named t f h = λ i. record {
   undone = groups_named t f h.undone i;
   kept = h.kept;
   forced = h.forced;
+  most = h.most;
 }
 
 undo_done_named : (t : TagStates) (reverted : List (Action ℕ)) (h : History ℕ)
@@ -156,17 +158,22 @@ undo_done_named t reverted h = λ i. record {
   undone = map-append (named_group t) h.undone (reverted ∷ []) i;
   kept = h.kept;
   forced = h.forced;
+  most = h.most;
 }
 
 redo_done_named : (t : TagStates) (reverted : List (Action ℕ)) (h : History ℕ)
     → named_history t (redo_done reverted h) ≡ redo_done (named_group t reverted) (named_history t h)
-redo_done_named t reverted h = λ i. record {
-  closed = (map-append (named_group t) (to_undo h) (reverted ∷ []) ∙ ap (λ l. l ++ named_group t reverted ∷ []) (sym (to_undo_named t h))) i;
-  current = [];
-  undone = sym (but_last_map (named_group t) h.undone) i;
-  kept = h.kept;
-  forced = h.forced;
-}
+redo_done_named t reverted h =
+    let all : History ℕ = record h { closed = to_undo h ++ reverted ∷ []; current = []; undone = but_last h.undone } in
+    limited_named t all
+    ∙ (λ i. limited (record {
+      closed = (map-append (named_group t) (to_undo h) (reverted ∷ []) ∙ ap (λ l. l ++ named_group t reverted ∷ []) (sym (to_undo_named t h))) i;
+      current = [];
+      undone = sym (but_last_map (named_group t) h.undone) i;
+      kept = h.kept;
+      forced = h.forced;
+      most = h.most;
+    }))
 
 pub undone_is : (t : TagStates) (f : Stamp → Stamp) (reverted : List (Action ℕ)) (old between new : History ℕ) → between ≡ renamed_by f old → new ≡ undo_done reverted between
     → named_history t new ≡ undo_done (named_group t reverted) (renamed_by f (named_history t old))
@@ -270,11 +277,6 @@ given_renamed t f h given = record {
   undone = groups_given t f h.undone given.undone;
 }
 
-every_take : {X : Type 0} (P : X → Type 0) (n : ℕ) (xs : List X) → AllByRecursion P xs → AllByRecursion P (take n xs)
-every_take P zero xs h = tt
-every_take P (suc n) [] h = tt
-every_take P (suc n) (x ∷ xs) h = (h.0, every_take P n xs h.1)
-
 as_group_given : (t : TagStates) (group : List (Action ℕ)) → AreGiven t group → AllByRecursion (AreGiven t) (as_group group)
 as_group_given t [] given = tt
 as_group_given t (a ∷ group) given = (given, tt)
@@ -289,9 +291,14 @@ given_undone t reverted h given r = record {
   undone = every_append (AreGiven t) h.undone (reverted ∷ []) given.undone (r, tt);
 }
 
+given_limited : (t : TagStates) (h : History ℕ) → HistoryIsGiven t h → HistoryIsGiven t (limited h)
+given_limited t h given = record { closed = every_drop (AreGiven t) (too_many h) h.closed given.closed; current = given.current; undone = given.undone }
+
 pub given_redone : (t : TagStates) (reverted : List (Action ℕ)) (h : History ℕ) → HistoryIsGiven t h → AreGiven t reverted → HistoryIsGiven t (redo_done reverted h)
-given_redone t reverted h given r = record {
-  closed = every_append (AreGiven t) (to_undo h) (reverted ∷ []) (to_undo_given t h given) (r, tt);
-  current = tt;
-  undone = every_take (AreGiven t) (length h.undone - 1) h.undone given.undone;
-}
+given_redone t reverted h given r =
+    let all : History ℕ = record h { closed = to_undo h ++ reverted ∷ []; current = []; undone = but_last h.undone } in
+    given_limited t all (record {
+      closed = every_append (AreGiven t) (to_undo h) (reverted ∷ []) (to_undo_given t h given) (r, tt);
+      current = tt;
+      undone = every_take (AreGiven t) (length h.undone - 1) h.undone given.undone;
+    })

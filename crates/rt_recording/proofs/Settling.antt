@@ -1,5 +1,5 @@
 -- What is so between commands holds again after a group was reverted.
-use Rattle.std.proofs.Common.{◌≡◌, ℕ, zero, suc, ◌-◌, ◌<◌, ◌++◌, Bool, true, List, [], ◌∷◌, None, Result, Ok, Err, length, map, take, arith, refl, subst, sym}
+use Rattle.std.proofs.Common.{◌≡◌, ℕ, ◌-◌, ◌<◌, ◌++◌, Bool, true, List, [], ◌∷◌, None, Result, Ok, Err, length, map, arith, refl, subst, sym}
 use Rattle.std.specs.Prelude.{IfOk, OnOk}
 use Rattle.std.specs.List.{AllByRecursion}
 use Rattle.rt_stamps.specs.declared.stamp.Stamp.{Stamp}
@@ -9,7 +9,7 @@ use Rattle.rt_rga.specs.Cells.{cells_of}
 use Rattle.rt_rga.specs.Histories.{IsHistory, greatest_last_count}
 use Rattle.rt_plans.specs.DocValue.{DocValue}
 use Rattle.rt_undo.specs.Actions.{Action}
-use Rattle.rt_undo.specs.Undo.{History, as_group, redo_done, renamed_by, to_undo, undo_done, with_stamps_in}
+use Rattle.rt_undo.specs.Undo.{History, as_group, but_last, redo_done, renamed_by, to_undo, too_many, undo_done, with_stamps_in}
 use Rattle.rt_revert.specs.Reverting.{reversion, reverted, reverted_group}
 use Rattle.rt_revert.specs.ReversionLaws.{AreSound}
 use Rattle.rt_revert.proofs.Soundness.{group_renamed}
@@ -18,6 +18,7 @@ use Rattle.rt_recording.specs.Recordings.{HaveStayed}
 use Rattle.rt_recording.specs.Returns.{IsOther, Return, stamp_after}
 use Rattle.rt_text.proofs.KeptLimits.{fits}
 use Rattle.rt_recording.specs.Settled.{AreGoneOnce, is_gone, taken_by}
+use Rattle.rt_recording.proofs.Every.{every_drop, every_take}
 use Rattle.rt_recording.proofs.OnceReverted.{reversion_once}
 use Rattle.rt_recording.proofs.Told.{IsReturned, reversion_told}
 
@@ -76,11 +77,6 @@ renamed_sound returns h others k = record {
   undone = groups_renamed returns h.undone others k.undone;
 }
 
-every_take : {X : Type 0} (P : X → Type 0) (n : ℕ) (xs : List X) → AllByRecursion P xs → AllByRecursion P (take n xs)
-every_take P zero xs h = tt
-every_take P (suc n) [] h = tt
-every_take P (suc n) (x ∷ xs) h = (h.0, every_take P n xs h.1)
-
 as_group_sound : (group : List (Action (List Word))) → AreSound group → AllByRecursion AreSound (as_group group)
 as_group_sound [] h = tt
 as_group_sound (a ∷ group) h = (h, tt)
@@ -105,8 +101,10 @@ pub sound_redone : (returns : List Return) (reverted : List (Action (List Word))
 sound_redone returns reverted old between new others r k b e =
     let h = renamed_by (stamp_after returns) between in
     let s = renamed_sound returns between others (subst HistoryIsSound (sym b) k) in
+    let groups = to_undo h ++ reverted ∷ [] in
+    let all : History (List Word) = record h { closed = groups; current = []; undone = but_last h.undone } in
     let done : HistoryIsSound (redo_done reverted h) = record {
-      closed = every_append AreSound (to_undo h) (reverted ∷ []) (to_undo_sound h s) (r, tt);
+      closed = every_drop AreSound (too_many all) groups (every_append AreSound (to_undo h) (reverted ∷ []) (to_undo_sound h s) (r, tt));
       current = tt;
       undone = every_take AreSound (length h.undone - 1) h.undone s.undone;
     } in

@@ -1,5 +1,5 @@
 -- Counts that an edit takes are those of none of the cells that were there.
-use Rattle.std.proofs.Common.{◌≡◌, ◌∙◌, ℕ, ◌<◌, ◌≤◌, Bool, true, false, List, [], ◌∷◌, ap, arith, refl, subst, sym}
+use Rattle.std.proofs.Common.{◌≡◌, ◌∙◌, ℕ, ◌<◌, ◌≤◌, true, false, List, ap, arith, subst, sym}
 use Rattle.rt_stamps.specs.declared.stamp.Stamp.{Stamp}
 use Rattle.rt_stamps.specs.Stamps.{is_same}
 use Rattle.rt_stamps.proofs.Order.{same_from_true}
@@ -9,17 +9,11 @@ use Rattle.rt_store.specs.Spans.{is_among}
 use Rattle.rt_store.specs.Written.{AreBelowNext}
 use Rattle.rt_store.proofs.Distinct.{new_apart}
 use Rattle.rt_rga.specs.Histories.{IsHistory}
-use Rattle.rt_rga.specs.Texts.{tagged_text}
 use Rattle.rt_rga.proofs.Corollaries.{cells_older}
 use Rattle.rt_rga.proofs.Skipping.{split}
-use Rattle.rt_plans.specs.Deletions.{without_places}
 use Rattle.rt_plans.specs.DraftLaws.{IsDocument}
 use Rattle.rt_plans.specs.DocValue.{DocValue}
-use Rattle.rt_plans.specs.Removals.{cells_at}
-use Rattle.rt_undo.specs.declared.action.Kind.TheVariants.{Delete}
-use Rattle.rt_revert.specs.Reverting.{reverted}
-use Rattle.rt_revert.proofs.TakenBack.{removal_back}
-use Rattle.rt_recording.specs.Edits.{action_of, counts_between}
+use Rattle.rt_recording.specs.Edits.{counts_between}
 use Rattle.rt_recording.proofs.Actions.{counts_all, none_among}
 
 -- where no cell is newer than the greatest count, none has one of the counts that an edit takes

@@ -1,6 +1,6 @@
 -- What a reversion tells of the characters that come back by it: each does so for the first time, and is gone under its former stamp;
 -- and the group for the other stack names none of them.
-use Rattle.std.proofs.Common.{◌≡◌, ◌∙◌, ℕ, zero, suc, ◌+◌, ◌<◌, ◌≤◌, ◌||◌, Bool, true, false, List, [], ◌∷◌, Option, Some, None, cond, drop, filter, length, map, ap, refl, subst, sym, arith}
+use Rattle.std.proofs.Common.{◌≡◌, ◌∙◌, ℕ, ◌+◌, ◌<◌, ◌≤◌, ◌||◌, Bool, true, false, List, [], ◌∷◌, Option, Some, None, cond, drop, filter, length, map, ap, refl, subst, sym, arith}
 use Rattle.std.specs.Prelude.{option_map, reverse, unwrap_or}
 use Rattle.std.specs.List.{AllByRecursion}
 use Rattle.std.proofs.lemmas.Bool.{both_ways, false_from_ne_true}
@@ -33,6 +33,7 @@ use Rattle.rt_text.proofs.KeptLimits.{below_on_way, real_on_way}
 use Rattle.rt_recording.specs.Recordings.{HasStayed, HaveStayed}
 use Rattle.rt_recording.specs.Returns.{AreReturns, IsReturn, Return, back_after, stamp_after}
 use Rattle.rt_recording.specs.Settled.{is_gone}
+use Rattle.rt_recording.proofs.Every.{every_drop}
 use Rattle.rt_recording.proofs.Gone.{each_among, found_gone, gone_known, gone_put, gone_still, visible_stays}
 use Rattle.rt_recording.proofs.Stayed.{Stays, back_one, returns_more, stays_here, stays_more}
 
@@ -41,11 +42,6 @@ use Rattle.rt_recording.proofs.Stayed.{Stays, back_one, returns_more, stays_here
 pub every_weaker : {X : Type 0} (P Q : X → Type 0) → ((x : X) → P x → Q x) → (xs : List X) → AllByRecursion P xs → AllByRecursion Q xs
 every_weaker P Q f [] h = tt
 every_weaker P Q f (x ∷ xs) h = (f x h.0, every_weaker P Q f xs h.1)
-
-every_drop : {X : Type 0} (P : X → Type 0) (n : ℕ) (xs : List X) → AllByRecursion P xs → AllByRecursion P (drop n xs)
-every_drop P zero xs h = h
-every_drop P (suc n) [] h = tt
-every_drop P (suc n) (x ∷ xs) h = every_drop P n xs h.1
 
 every_filter : {X : Type 0} (P : X → Type 0) (test : X → Bool) (xs : List X) → AllByRecursion P xs → AllByRecursion P (filter test xs)
 every_filter P test [] h = tt

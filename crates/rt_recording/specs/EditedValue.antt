@@ -5,8 +5,8 @@ use Rattle.rt_recording.specs.Recordings.{Recording}
 use Rattle.rt_text.specs.Widgets.{ViewValue}
 use Rattle.rt_undo.specs.Undo.{History}
 
--- a text as its widget shows it; the history of its edits, with the tags of removed characters by their names; whether edits are
--- recorded (-undo), and whether separators are automatic (-autoseparators)
+-- a text as its widget shows it; the history of its edits, with the tags of removed characters by their names, in which stands how
+-- many groups may be undone (-maxundo); whether edits are recorded (-undo), and whether separators are automatic (-autoseparators)
 pub record EditedValue : Type 0 where
   pub view : ViewValue
   pub history : History (List Word)

@@ -13,6 +13,7 @@ named_history table h = record {
   undone = map (named_group table) h.undone;
   kept = h.kept;
   forced = h.forced;
+  most = h.most;
 }
 
 -- the tags of removed characters are states that a table gave out

@@ -12,9 +12,10 @@ use Rattle.rt_undo.specs.Actions.{Action, Removed}
 use Rattle.rt_undo.specs.Renames.{Shown, is_moved}
 use Rattle.rt_undo.specs.Undo.{History}
 
--- What a site has recorded: the actions by groups, with the names of tags; the widget's options -undo and -autoseparators; the
--- characters that the next action takes away, if that is prepared; which characters came back under other stamps, with the room
--- for more; whether there is room for a group that is undone or redone; and the states that the tags of planned actions stand for.
+-- What a site has recorded: the actions by groups, with the names of tags, and how many groups may be undone (-maxundo); the
+-- widget's options -undo and -autoseparators; the characters that the next action takes away, if that is prepared; which characters
+-- came back under other stamps, with the room for more; whether there is room for a group that is undone or redone; and the states
+-- that the tags of planned actions stand for.
 pub record Recording : Type 0 where
   pub history : History (List Word)
   pub undo : Bool

@@ -6,7 +6,7 @@ ghost use Rattle.rt_store.specs.Shown.{shown};
 ghost use Rattle.rt_store.specs.Tagged.{AreStates};
 ghost use Rattle.rt_tags.specs.States.{KeepsIds};
 ghost use Rattle.rt_undo.specs.Actions.{group_of};
-ghost use Rattle.rt_undo.specs.Undo.{added, emptied, forced_on, is_modified, next_redo, next_undo, no_history, redo_done, renamed_by, separated, undo_done, unmodified};
+ghost use Rattle.rt_undo.specs.Undo.{added, emptied, forced_on, is_modified, next_redo, next_undo, no_history, redo_done, renamed_by, separated, undo_done, unmodified, with_most};
 ghost use Rattle.rt_recording.specs.Naming.{AreGiven, named_group};
 ghost use Rattle.rt_recording.specs.Recordings.{HasStayed, HaveStayed, came_back, made};
 ghost use Rattle.rt_recording.specs.Returns.{AreReturns, back_after, stamp_after};
@@ -30,9 +30,9 @@ struct Prepared {
     inserted: Vec<Span>,
 }
 
-/// What a site records of its own edits for undo, and the settings of the widget's options `-undo` and
-/// `-autoseparators` (Tk text manual, "The undo mechanism"). An edit is prepared, made, and recorded:
-/// so all that can be refused comes before it.
+/// What a site records of its own edits for undo, and the settings of the widget's options `-undo`,
+/// `-autoseparators` and `-maxundo` (Tk text manual, "The undo mechanism"). An edit is prepared, made, and
+/// recorded: so all that can be refused comes before it.
 pub struct Recorder {
     alloc: Global,
     stacks: Stacks,
@@ -71,7 +71,8 @@ impl Model for Recorder {
 }
 
 impl Recorder {
-    /// Nothing is recorded yet; undo is off, and separators are automatic. Want of memory.
+    /// Nothing is recorded yet; undo is off, separators are automatic, and the undo stack may have any number of
+    /// groups. Want of memory.
     pub fn new(alloc: Global) -> Result<Recorder, Fault>
         ensures history { IfOk result (λ recorder. recorder.history ≡ no_history) }
         ensures settings { IfOk result (λ recorder. (recorder.undo ≡ false) × (recorder.auto ≡ true)) }
@@ -118,6 +119,22 @@ impl Recorder {
         self.auto_separators = on;
     }
 
+    /// How many groups the undo stack may have; 0: any number (`-maxundo`).
+    pub fn max_undo(&self) -> u64
+        ensures { result ≡ self.now.history.most }
+    {
+        self.stacks.max()
+    }
+
+    /// Sets how many groups the undo stack may have, the one that takes the next action among them; 0: any number (Tk text
+    /// manual, "-maxundo"). Where there are more, the oldest ones are dropped. The redo stack, the modified flag and what is
+    /// prepared stay as they are. It takes no memory.
+    pub fn set_max_undo(&mut self, most: u64)
+        ensures { self.new ≡ record self.old { history = with_most most self.old.history } }
+    {
+        self.stacks.set_max(most);
+    }
+
     /// Makes ready for an action that takes some characters away, which have these states in a table.
     /// All memory that `record` needs is taken here. After `NoMemory` all is as it was, also what was prepared
     /// before, but for states that the recorder's own table got.
@@ -140,7 +157,8 @@ impl Recorder {
 
     /// Records the action that was prepared: its first operation has the count `first`, and it put in
     /// the characters of the site's counts `first` to `last` (none, where `last` is less). What was
-    /// undone can't be redone then. It takes no memory.
+    /// undone can't be redone then, and the oldest groups are dropped where the undo stack would have more than it
+    /// may (`set_max_undo`). It takes no memory.
     pub fn record(&mut self, kind: Kind, site: Site, first: u64, last: u64)
         requires prepared { is_some self.old.pending ≡ true }
         requires stays { IfSome self.old.pending (λ removed. HasStayed (came_back self.old)
@@ -280,8 +298,8 @@ impl Recorder {
     }
 
     // The group to redo was reverted, and characters came back by it, one after the other: it leaves its
-    // stack, and its reverted actions are the next group to undo, which is closed. Nothing is prepared
-    // then. It takes no memory.
+    // stack, and its reverted actions are the next group to undo, which is closed. The oldest groups are
+    // dropped where there are more to undo than may be. Nothing is prepared then. It takes no memory.
     fn redone(&mut self, returns: &[Return], reverted: Vec<Action>)
         requires ready { self.old.ready ≡ true }
         requires room { length returns.now ≤ self.old.moves.room }

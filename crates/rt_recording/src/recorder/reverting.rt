@@ -104,7 +104,8 @@ impl Recorder {
 
     /// `edit redo` (Tk text manual, "The undo mechanism"): the group that was undone last is reverted
     /// in turn, in the same way. It leaves the redo stack, and its reverted actions are the next group to
-    /// undo, which is closed; nothing is prepared then. `NothingToRedo`, `ClockSpent`, `TextFull`, or want of
+    /// undo, which is closed; where there are more groups to undo then than may be (`set_max_undo`), the oldest
+    /// ones are dropped; nothing is prepared then. `NothingToRedo`, `ClockSpent`, `TextFull`, or want of
     /// memory, and then the text, what was recorded and what is prepared are as they were. `copy` is an
     /// empty store, in which this is tried first.
     pub fn redo<S: TextStore, C: TextStore>(
