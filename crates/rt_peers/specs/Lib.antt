@@ -12,6 +12,7 @@ pub mod SiteValue
 pub mod Step
 pub mod Telling
 pub mod ViewStep
+pub mod WholeText
 pub use Rattle.rt_stamps.specs.Outcomes
 pub use Rattle.rt_stamps.specs.Places
 pub use Rattle.rt_stamps.specs.Words

@@ -1,5 +1,5 @@
 // Laws of the definitions, and of sites, each the contract of a function that changes nothing.
-ghost use Rattle.std.specs.Prelude.{◌≡◌, ℕ, List, Ok, Result, Some};
+ghost use Rattle.std.specs.Prelude.{◌≡◌, ℕ, List, Ok, Result, Some, encode_utf8_all};
 ghost use Rattle.rt_stamps.specs.declared.fault.Fault.{Fault};
 ghost use Rattle.rt_stamps.specs.declared.stamp.Stamp.{Stamp};
 ghost use Rattle.rt_stamps.specs.Words.{Word};
@@ -19,7 +19,9 @@ ghost use Rattle.rt_peers.specs.Peers.{text_led};
 ghost use Rattle.rt_peers.specs.PeerStep.{destroyed};
 ghost use Rattle.rt_peers.specs.SiteStep.{AnswersInTurn, Gives, KeepsOperations, by_widget, log_of, step_at};
 ghost use Rattle.rt_peers.specs.SiteValue.{SiteValue};
-ghost use Rattle.rt_peers.specs.ViewStep.{Outcome};
+ghost use Rattle.rt_peers.specs.ViewStep.{Outcome, one_word};
+ghost use Rattle.rt_peers.specs.WholeText.{ShowsAll, get_all};
+ghost use Rattle.rt_store.specs.Cells.{text_of};
 
 use crate::SiteState;
 
@@ -47,6 +49,20 @@ pub fn sites_agree(one: &SiteState, other: &SiteState)
     ensures cells { AreOf one.now.text.view.doc.log other.now.text.view.doc.log → one.now.text.view.doc.cells ≡ other.now.text.view.doc.cells }
     ensures text { AreOf one.now.text.view.doc.log other.now.text.view.doc.log
         → tagged_text one.now.text.view.doc.cells ≡ tagged_text other.now.text.view.doc.cells }
+{
+    // For their clauses alone.
+    let _ = one.log();
+    let _ = other.log();
+}
+
+/// Each widget without limits answers `get 1.0 end` (Tk text manual, "get") by all visible characters of the text. So any
+/// two of sites that accepted the same operations answer it by the same word, and are left as they were.
+pub fn sites_tell_alike(one: &SiteState, other: &SiteState)
+    ensures whole { (path : Word) → ShowsAll path one.now
+        → step_at path one.now get_all ≡ Ok (one_word (encode_utf8_all (text_of one.now.text.view.doc.cells)), one.now) }
+    ensures alike { AreOf one.now.text.view.doc.log other.now.text.view.doc.log
+        → (path : Word) → ShowsAll path one.now → (other_path : Word) → ShowsAll other_path other.now
+        → (reply : List Word) × (step_at path one.now get_all ≡ Ok (reply, one.now)) × (step_at other_path other.now get_all ≡ Ok (reply, other.now)) }
 {
     // For their clauses alone.
     let _ = one.log();

@@ -22,6 +22,7 @@ fn settings(start: Limit, end: Limit, undo: Option<bool>) -> WidgetSettings {
     let shared = Settings {
         undo,
         auto_separators: None,
+        max_undo: None,
     };
     WidgetSettings {
         shared,

@@ -82,7 +82,7 @@ pub(crate) const OPTIONS: Scripts = r#"
 .t configure -undo x -undo 1 -> ! 9 BadOption
 .t configure -undo 1 -autoseparators 01 -> ! 9 BadOption
 .t configure -startline 2 -> ! 15 BadView
-.t configure -maxundo 3 -> ! 9 BadOption
+.t configure -font fixed -> ! 9 BadOption
 .t cget -font -> ! 9 BadOption
 .t cget undo -> ! 9 BadOption
 "#;
@@ -124,14 +124,16 @@ destroy .p -> =
 .t peer create .p -frob 1 -> ! 9 BadOption
 .t peer create .p -startline x -> ! 9 BadOption
 .t peer create p -startline x -> ! 9 BadOption
-.t peer create . -maxundo 3 -> ! 9 BadOption
+.t peer create . -maxundo x -> ! 9 BadOption
 .t peer create .p .q .r -> ! 9 BadOption
 .t peer create p -> ! 14 BadName
 .t peer create . -> ! 14 BadName
 .t peer create "" -> ! 14 BadName
 .t peer create p.q -startline 2 -> ! 14 BadName
 .t peer create . -endline 0 -> ! 14 BadName
+.t peer create . -maxundo 3 -> ! 14 BadName
 .t peer names -> =
+.t cget -maxundo -> = 0
 
 .t peer create .t -> ! 6 WidgetExists
 .t peer create .p.q -> = .p.q
@@ -184,7 +186,7 @@ pub(crate) const LIMIT_WORDS: Scripts = r#"
 .t configure -frob -> ! 4 BadCommand
 .t configure -startline x -endline -> ! 4 BadCommand
 .t configure -frob 1 -> ! 9 BadOption
-.t configure -maxundo 3 -> ! 9 BadOption
+.t configure -maxundo end -> ! 9 BadOption
 .t configure startline 2 -> ! 9 BadOption
 .t configure -start 2 -> ! 9 BadOption
 .t configure -startline +1 -> ! 9 BadOption
@@ -210,6 +212,265 @@ pub(crate) const LIMIT_WORDS: Scripts = r#"
 .t cget -startline -endline -> ! 4 BadCommand
 .t cget -frob -frob -> ! 4 BadCommand
 .t cget -frob -> ! 9 BadOption
-.t cget -maxundo -> ! 9 BadOption
 .t cget startline -> ! 9 BadOption
+"#;
+
+// The words of -maxundo, and each refusal.
+pub(crate) const MAX_UNDO_WORDS: Scripts = r#"
+.t cget -maxundo -> = 0
+.t configure -maxundo 3 -> =
+.t cget -maxundo -> = 3
+.t configure -maxundo 007 -> =
+.t cget -maxundo -> = 7
+.t configure -maxundo -5 -> =
+.t cget -maxundo -> = 0
+.t configure -maxundo 2 -maxundo 4 -> =
+.t cget -maxundo -> = 4
+.t configure -maxundo 1 -undo 1 -maxundo 0 -> =
+.t cget -maxundo -> = 0
+.t cget -undo -> = 1
+.t configure -undo 0 -maxundo 9223372036854775807 -> =
+.t cget -maxundo -> = 9223372036854775807
+.t configure -maxundo 5 -> =
+.t configure -maxundo 9223372036854775808 -> =
+.t cget -maxundo -> = 9223372036854775807
+.t configure -maxundo 5 -> =
+.t configure -maxundo 99999999999999999999999999999999999999999999999999 -> =
+.t cget -maxundo -> = 9223372036854775807
+.t configure -maxundo -99999999999999999999999999999999999999999999999999 -> =
+.t cget -maxundo -> = 0
+.t configure -maxundo 5 -> =
+.t configure -maxundo -0 -> =
+.t cget -maxundo -> = 0
+.t cget -undo -> = 0
+.t cget -autoseparators -> = 1
+
+.t configure -maxundo 4 -> =
+.t configure -maxundo -> ! 4 BadCommand
+.t configure -maxundo 1 -undo -> ! 4 BadCommand
+.t configure -maxundo x -undo -> ! 4 BadCommand
+.t cget -maxundo 4 -> ! 4 BadCommand
+.t configure -maxundo "" -> ! 9 BadOption
+.t configure -maxundo {} -> ! 9 BadOption
+.t configure -maxundo - -> ! 9 BadOption
+.t configure -maxundo -- -> ! 9 BadOption
+.t configure -maxundo --5 -> ! 9 BadOption
+.t configure -maxundo 5- -> ! 9 BadOption
+.t configure -maxundo +1 -> ! 9 BadOption
+.t configure -maxundo -+1 -> ! 9 BadOption
+.t configure -maxundo 1x -> ! 9 BadOption
+.t configure -maxundo -1x -> ! 9 BadOption
+.t configure -maxundo x -> ! 9 BadOption
+.t configure -maxundo 0x1 -> ! 9 BadOption
+.t configure -maxundo 1.0 -> ! 9 BadOption
+.t configure -maxundo " 1" -> ! 9 BadOption
+.t configure -maxundo "1 " -> ! 9 BadOption
+.t configure -maxundo "- 1" -> ! 9 BadOption
+.t configure -maxundo ٣ -> ! 9 BadOption
+.t configure -maxundo true -> ! 9 BadOption
+.t configure maxundo 1 -> ! 9 BadOption
+.t configure -max 1 -> ! 9 BadOption
+.t configure -MAXUNDO 1 -> ! 9 BadOption
+.t cget maxundo -> ! 9 BadOption
+.t configure -maxundo x -maxundo 1 -> ! 9 BadOption
+.t configure -maxundo 1 -maxundo x -> ! 9 BadOption
+.t configure -maxundo 1 -undo x -> ! 9 BadOption
+.t configure -maxundo 1 -endline x -> ! 9 BadOption
+.t configure -maxundo 1 -startline 2 -> ! 15 BadView
+.t cget -maxundo -> = 4
+"#;
+
+// The most groups that can be undone: the oldest ones are dropped.
+pub(crate) const MAX_UNDO: Scripts = r#"
+.t configure -undo 1 -maxundo 1 -> =
+.t insert 1.0 a -> =
+.t delete 1.0 -> =
+.t edit undo -> =
+.t get 1.0 end -> = "a\n"
+.t edit undo -> ! 12 NothingToUndo
+.t edit modified -> = 1
+.t configure -maxundo -5 -> =
+.t cget -maxundo -> = 0
+.t configure -maxundo x -> ! 9 BadOption
+
+.t configure -undo 1 -maxundo 2 -> =
+.t insert 1.0 a -> =
+.t edit separator -> =
+.t insert 1.1 b -> =
+.t edit separator -> =
+.t insert 1.2 c -> =
+.t edit undo -> =
+.t get 1.0 end -> = "ab\n"
+.t edit undo -> =
+.t get 1.0 end -> = "a\n"
+.t edit canundo -> = 0
+.t edit undo -> ! 12 NothingToUndo
+.t edit redo -> =
+.t edit redo -> =
+.t get 1.0 end -> = "abc\n"
+.t edit redo -> ! 13 NothingToRedo
+.t edit undo -> =
+.t edit undo -> =
+.t edit undo -> ! 12 NothingToUndo
+.t get 1.0 end -> = "a\n"
+
+.t configure -undo 1 -maxundo 1 -> =
+.t insert 1.0 a -> =
+.t insert 1.1 b -> =
+.t insert 1.2 c -> =
+.t edit undo -> =
+.t get 1.0 end -> = "\n"
+.t edit modified -> = 0
+.t edit redo -> =
+.t get 1.0 end -> = "abc\n"
+.t insert 1.3 d -> =
+.t edit undo -> =
+.t get 1.0 end -> = "abc\n"
+.t edit undo -> ! 12 NothingToUndo
+.t edit redo -> =
+.t get 1.0 end -> = "abcd\n"
+
+.t configure -undo 1 -maxundo 2 -> =
+.t insert 1.0 abc -> =
+.t replace 1.0 1.1 x -> =
+.t replace 1.1 1.2 y -> =
+.t replace 1.0 1.0 "" -> =
+.t get 1.0 end -> = "xyc\n"
+.t edit undo -> =
+.t edit undo -> =
+.t get 1.0 end -> = "abc\n"
+.t edit undo -> ! 12 NothingToUndo
+
+.t configure -undo 1 -maxundo 1 -autoseparators 0 -> =
+.t insert 1.0 ab -> =
+.t delete 1.0 -> =
+.t replace 1.0 1.1 c -> =
+.t get 1.0 end -> = "c\n"
+.t edit undo -> =
+.t get 1.0 end -> = "\n"
+.t edit modified -> = 0
+
+.t configure -undo 1 -> =
+.t insert 1.0 a -> =
+.t edit separator -> =
+.t insert 1.1 b -> =
+.t edit separator -> =
+.t insert 1.2 c -> =
+.t configure -maxundo 9223372036854775807 -> =
+.t configure -maxundo 3 -> =
+.t configure -maxundo 2 -> =
+.t insert 1.3 d -> =
+.t edit undo -> =
+.t get 1.0 end -> = "ab\n"
+.t edit undo -> =
+.t get 1.0 end -> = "a\n"
+.t edit undo -> ! 12 NothingToUndo
+.t configure -maxundo 0 -> =
+.t edit canundo -> = 0
+.t edit redo -> =
+.t edit redo -> =
+.t get 1.0 end -> = "abcd\n"
+.t edit redo -> ! 13 NothingToRedo
+
+.t configure -undo 1 -> =
+.t insert 1.0 a -> =
+.t edit separator -> =
+.t insert 1.1 b -> =
+.t edit separator -> =
+.t insert 1.2 c -> =
+.t edit undo -> =
+.t edit undo -> =
+.t configure -maxundo 1 -> =
+.t edit canundo -> = 1
+.t edit canredo -> = 1
+.t edit redo -> =
+.t edit redo -> =
+.t get 1.0 end -> = "abc\n"
+.t edit redo -> ! 13 NothingToRedo
+.t edit undo -> =
+.t get 1.0 end -> = "ab\n"
+.t edit undo -> ! 12 NothingToUndo
+.t edit canredo -> = 1
+
+.t configure -undo 1 -maxundo 1 -> =
+.t insert 1.0 a -> =
+.t edit reset -> =
+.t cget -maxundo -> = 1
+.t edit canundo -> = 0
+.t insert 1.1 b -> =
+.t edit separator -> =
+.t insert 1.2 c -> =
+.t edit undo -> =
+.t get 1.0 end -> = "ab\n"
+.t edit undo -> ! 12 NothingToUndo
+
+.t configure -undo 1 -> =
+.t insert 1.0 a -> =
+.t edit separator -> =
+.t insert 1.1 b -> =
+.t edit modified 0 -> =
+.t configure -maxundo 1 -> =
+.t edit modified -> = 0
+.t edit undo -> =
+.t edit modified -> = 1
+.t edit redo -> =
+.t edit modified -> = 0
+.t insert 1.2 c -> =
+.t edit modified -> = 1
+.t edit undo -> =
+.t edit modified -> = 0
+.t get 1.0 end -> = "ab\n"
+
+.t configure -undo 1 -> =
+.t insert 1.0 a -> =
+.t edit separator -> =
+.t insert 1.1 b -> =
+.t edit modified 0 -> =
+.t edit undo -> =
+.t insert 1.1 x -> =
+.t edit modified -> = 1
+.t configure -maxundo 1 -> =
+.t edit modified -> = 1
+.t edit undo -> =
+.t edit modified -> = 1
+.t edit undo -> ! 12 NothingToUndo
+.t edit modified 0 -> =
+.t edit redo -> =
+.t edit modified -> = 1
+.t edit undo -> =
+.t edit modified -> = 0
+
+.t configure -undo 1 -> =
+.t insert 1.0 a -> =
+.t edit separator -> =
+.t insert 1.1 b -> =
+.t configure -undo 0 -> =
+.t configure -maxundo 1 -> =
+.t edit canundo -> = 0
+.t edit modified -> = 1
+.t configure -undo 1 -> =
+.t edit canundo -> = 1
+.t edit undo -> =
+.t get 1.0 end -> = "a\n"
+.t edit undo -> ! 12 NothingToUndo
+
+.t configure -undo 1 -> =
+.t insert 1.0 a -> =
+.t edit separator -> =
+.t insert 1.1 b -> =
+.t peer create .p -maxundo 1 -> = .p
+.p cget -maxundo -> = 1
+.t cget -maxundo -> = 1
+.p edit undo -> =
+.t get 1.0 end -> = "a\n"
+.t edit undo -> ! 12 NothingToUndo
+.p configure -maxundo 5 -> =
+.t cget -maxundo -> = 5
+.t peer create .q -maxundo x -> ! 9 BadOption
+.t peer create .p -maxundo 2 -> ! 6 WidgetExists
+.t peer create .q -maxundo 2 -startline 9 -> ! 15 BadView
+.t cget -maxundo -> = 5
+destroy .p -> =
+.t peer create .q -> = .q
+.q cget -maxundo -> = 5
 "#;

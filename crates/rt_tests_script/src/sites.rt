@@ -10,7 +10,7 @@ use crate::limits::{
     LIMIT_OPTIONS, LIMITED_MARKS, LIMITED_SEARCHES, LIMITED_TAGS, LIMITED_TEXT, MOVING_LIMITS,
 };
 use crate::marks::{INDICES, MARK_ORDER, MARK_PLACES, MARK_WORDS};
-use crate::options::{LIMIT_WORDS, OPTIONS, PEER_WORDS};
+use crate::options::{LIMIT_WORDS, MAX_UNDO, MAX_UNDO_WORDS, OPTIONS, PEER_WORDS};
 use crate::peers::{OWN_PARTS, PEER_COMMANDS, PEERS, SHARED_PARTS};
 use crate::replacements::{DUMPS, FULL_SITE, REPLACEMENTS};
 use crate::searches::SEARCHES;
@@ -196,6 +196,7 @@ fn scripts_of_one_widget(rt: HostRuntime) {
     answer_all(&rt, alloc, COMING_BACK);
     answer_all(&rt, alloc, GROUPING);
     answer_all(&rt, alloc, FLAGS);
+    answer_all(&rt, alloc, MAX_UNDO);
 }
 
 #[test]
@@ -209,6 +210,7 @@ fn scripts_of_words_and_widgets(rt: HostRuntime) {
     answer_all(&rt, alloc, OPTIONS);
     answer_all(&rt, alloc, PEER_WORDS);
     answer_all(&rt, alloc, LIMIT_WORDS);
+    answer_all(&rt, alloc, MAX_UNDO_WORDS);
     answer_all(&rt, alloc, SELECTIONS);
     answer_all(&rt, alloc, MARKS_IN_ORDER);
     answer_all(&rt, alloc, TAGGED_UNDO);

@@ -1,7 +1,8 @@
 // The options of a widget: those that all widgets of a site share, and the limits of what this one shows.
 ghost use Rattle.std.specs.Prelude.{◌≡◌, Ok};
+ghost use Rattle.std.specs.Fmt.{decimal};
 ghost use Rattle.rt_stamps.specs.Outcomes.{Answers};
-ghost use Rattle.rt_peers.specs.Options.{configured, option_step, option_value, settings_step};
+ghost use Rattle.rt_peers.specs.Options.{bounded, configured, option_step, option_value, settings_step};
 ghost use Rattle.rt_peers.specs.ViewStep.{one_word, text_of_bool};
 
 use super::EditedText;
@@ -12,6 +13,15 @@ use rt_requests::{NamedOption, Settings, WidgetOption, WidgetSettings};
 use rt_stamps::Fault;
 
 impl EditedText {
+    // Sets how many groups the undo stack may have, where that is given. It takes no memory.
+    fn set_max_undo(&mut self, most: Option<u64>)
+        ensures { self.new ≡ record self.old { history = bounded most self.old.history } }
+    {
+        if let Some(most) = most {
+            self.recorder.set_max_undo(most);
+        }
+    }
+
     /// Sets shared options, those that are given a value. It takes no memory.
     pub(super) fn set_options(&mut self, settings: Settings)
         ensures { self.new ≡ configured self.old settings }
@@ -22,6 +32,7 @@ impl EditedText {
             .unwrap_or(self.recorder.auto_separators());
         self.recorder.set_undo(undo);
         self.recorder.set_auto_separators(auto);
+        self.set_max_undo(settings.max_undo);
     }
 
     // Options are set: the widget shows the lines that are asked for.
@@ -35,7 +46,7 @@ impl EditedText {
         Ok(no_words(self.alloc))
     }
 
-    // What a shared option is set to.
+    // What a shared option that is on or off is set to.
     fn option(&self, option: WidgetOption) -> bool
         ensures { result ≡ option_value self.now option }
     {
@@ -52,12 +63,20 @@ impl EditedText {
         truth(self.alloc, self.option(option))
     }
 
+    // How many groups the undo stack may have, as a reply.
+    fn tell_max_undo(&self) -> Result<Reply, Fault>
+        ensures { Answers (Ok (one_word (decimal self.now.history.most), self.now)) self.now result self.now }
+    {
+        number_reply(self.alloc, Some(self.recorder.max_undo() as usize))
+    }
+
     // What an option is set to.
     pub(super) fn tell(&self, option: NamedOption) -> Result<Reply, Fault>
         ensures { Answers (option_step self.now option) self.now result self.now }
     {
         match option {
             NamedOption::Shared(option) => self.tell_shared(option),
+            NamedOption::MaxUndo => self.tell_max_undo(),
             NamedOption::StartLine => number_reply(self.alloc, self.view.start_number()),
             NamedOption::EndLine => number_reply(self.alloc, self.view.end_number()),
         }
