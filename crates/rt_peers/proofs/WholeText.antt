@@ -22,5 +22,5 @@ told_whole path state ends shows =
     let all = one_word (encode_utf8_all (text_of state.text.view.doc.cells)) in
     ap (λ number. at_widget number (λ number. widget_step path number state get_all)) shows.there
     ∙ ap (λ (got : Result Word Fault). by_widget number state (λ led. on_view text (told_step one_word text.view got)))
-        (got_whole text.view ends shows.limits)
+    (got_whole text.view ends shows.limits)
     ∙ ap (λ (text : EditedValue). Ok (all, record state { text = text })) (text_back state.text number)

@@ -17,9 +17,10 @@ returns c =
     record {
       whole = λ path shows. told_whole path one ends shows;
       alike = λ same path shows other_path other_shows.
-          let cells = c.log.ensures.cells ∙ ap cells_of (one_list _ _ c.log.ensures.history c.log-2.ensures.history same) ∙ sym c.log-2.ensures.cells in
-          (one_word (encode_utf8_all (text_of one.text.view.doc.cells)),
+          let cells = c.log.ensures.cells ∙ ap cells_of (one_list _ _ c.log.ensures.history c.log-2.ensures.history same) ∙ sym c.log-2.ensures.cells in (
+            one_word (encode_utf8_all (text_of one.text.view.doc.cells)),
             told_whole path one ends shows,
             told_whole other_path other other_ends other_shows
-            ∙ (λ i. Ok (one_word (encode_utf8_all (text_of (sym cells i))), other)));
+                ∙ (λ i. Ok (one_word (encode_utf8_all (text_of (sym cells i))), other)),
+          );
     }
