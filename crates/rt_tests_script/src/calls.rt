@@ -68,6 +68,24 @@ fn configure(rt: &impl Abort, site: &mut SiteState) {
     same(rt, site.answer(".p", &empty).err(), Some(Fault::BadView));
 }
 
+// Sets how many groups may be undone, and asks for it.
+fn bound(rt: &impl Abort, alloc: Global, site: &mut SiteState) {
+    let shared = Settings {
+        undo: None,
+        auto_separators: None,
+        max_undo: Some(7),
+    };
+    let settings = WidgetSettings {
+        shared,
+        start_line: None,
+        end_line: None,
+    };
+    let configure = Request::Configure { settings };
+    same(rt, site.answer(".p", &configure).err(), None);
+    let most = option(NamedOption::MaxUndo);
+    replies(rt, alloc, site.answer(".t", &most), "7");
+}
+
 #[test]
 fn calls_about_widgets(rt: HostRuntime) {
     let alloc = rt.alloc();
@@ -75,5 +93,6 @@ fn calls_about_widgets(rt: HostRuntime) {
     let mut site = answered(&rt, alloc, state, &[], &[LINES], 4096);
     create(&rt, alloc, &mut site);
     configure(&rt, &mut site);
+    bound(&rt, alloc, &mut site);
     let _site = answered(&rt, alloc, site, &[], &[SHOWN], 4096);
 }

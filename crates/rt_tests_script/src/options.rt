@@ -440,6 +440,27 @@ pub(crate) const MAX_UNDO: Scripts = r#"
 .t edit undo -> =
 .t edit modified -> = 0
 
+.t configure -undo 1 -maxundo 1 -> =
+.t insert 1.0 a -> =
+.t edit separator -> =
+.t insert 1.1 b -> =
+.t edit modified 0 -> =
+.t edit reset -> =
+.t edit modified -> = 0
+.t insert 1.2 c -> =
+.t edit modified -> = 1
+.t edit undo -> =
+.t edit modified -> = 0
+
+.t configure -undo 1 -> =
+.t insert 1.0 a -> =
+.t edit separator -> =
+.t insert 1.1 b -> =
+.t configure -maxundo 1 -startline 9 -> ! 15 BadView
+.t edit undo -> =
+.t edit undo -> =
+.t get 1.0 end -> = "\n"
+
 .t configure -undo 1 -> =
 .t insert 1.0 a -> =
 .t edit separator -> =

@@ -2,7 +2,7 @@
 ghost use Rattle.std.specs.Prelude.{◌≡◌, ◌<◌};
 
 use crate::checks::same;
-use rt_script::{Answer, Reply, reply_line};
+use rt_script::{Answer, Reply, line_of, reply_line};
 use rt_stamps::Fault;
 use rt_stamps::std_ends::{Count, Writer};
 use std::alloc::Global;
@@ -37,7 +37,7 @@ fn written<A: Ledger, B: Ledger>(
     Ok(out.into_inner())
 }
 
-fn line_of(alloc: Global, answer: &Answer) -> Result<Vec<u8>, Fault> {
+fn written_line(alloc: Global, answer: &Answer) -> Result<Vec<u8>, Fault> {
     written::<Brand, Brand>(alloc, answer, Blank::new(1), Blank::new(1))
 }
 
@@ -55,6 +55,8 @@ const WRITTEN: &[(&[&str], &str)] = &[
 
 // Stops a test where the line of an answer is another.
 fn is_written(rt: &impl Abort, alloc: Global, answer: &Answer, wanted: &str) {
+    let line = written_line(alloc, answer).expect(rt, wanted);
+    same(rt, line.as_slice(), wanted.as_bytes());
     let line = line_of(alloc, answer).expect(rt, wanted);
     same(rt, line.as_slice(), wanted.as_bytes());
 }
