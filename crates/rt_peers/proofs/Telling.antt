@@ -13,7 +13,7 @@ use Rattle.rt_rga.proofs.Within.{continues_new}
 use Rattle.rt_store.specs.Shown.{TaggedCell}
 use Rattle.rt_changes.specs.declared.change.ToldChange.{ToldChange}
 use Rattle.rt_changes.specs.Replays.{AreInText, VisibleChange, changes_in_turn, changes_of, replayed}
-use Rattle.rt_changes.specs.Telling.{AreChangesBetween, all_changes_in, changes_in}
+use Rattle.rt_changes.specs.Telling.{all_changes_in, changes_in}
 use Rattle.rt_changes.proofs.Telling.{taken_exact, taken_replay, taken_within}
 use Rattle.rt_holding.specs.declared.receiving.Received.{Received}
 use Rattle.rt_holding.specs.Receiving.{Receives, State as Holder}

@@ -1,6 +1,6 @@
 -- A widget without limits tells the whole text.
 use Rattle.std.proofs.Common.{◌≡◌, ◌∙◌, Ok, ap}
-use Rattle.std.specs.Prelude.{Result, codes, encode_utf8_all}
+use Rattle.std.specs.Prelude.{Result, encode_utf8_all}
 use Rattle.rt_stamps.specs.declared.fault.Fault.{Fault}
 use Rattle.rt_stamps.specs.Words.{Word}
 use Rattle.rt_recording.specs.EditedValue.{EditedValue}

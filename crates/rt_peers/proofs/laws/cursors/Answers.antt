@@ -1,4 +1,4 @@
-use Rattle.std.proofs.Common.{◌≡◌, sym, subst}
+use Rattle.std.proofs.Common.{sym, subst}
 use Rattle.rt_rga.proofs.Corollaries.{cells_distinct}
 use Rattle.rt_store.specs.Cells.{AreDistinct}
 use Rattle.rt_peers.proofs.Cursors.{cursor_found}

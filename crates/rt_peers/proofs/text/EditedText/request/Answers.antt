@@ -1,4 +1,4 @@
-use Rattle.std.proofs.Common.{map, flat_map, inr, refl, subst}
+use Rattle.std.proofs.Common.{map, flat_map, inr, refl}
 use Rattle.std.specs.Fmt.{signed_decimal}
 use Rattle.rt_stamps.specs.Places.{text_of_position}
 use Rattle.rt_requests.specs.Parts.{all_of}

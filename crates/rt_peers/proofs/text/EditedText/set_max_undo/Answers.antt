@@ -4,8 +4,8 @@ use Rattle.rt_recording.specs.EditedValue.{EditedValue, edited}
 use Rattle.rt_recording.proofs.Noted.{settled_most}
 use Rattle.rt_peers.proofs.text.EditedText.set_max_undo.Goals as goal
 
-pub invariant_of-self-in-Some : goal.invariant_of-self-in-Some
-invariant_of-self-in-Some c =
+pub invariant_of-self : goal.invariant_of-self
+invariant_of-self c =
     let s = c.self.inside in
     settled_most s.view s.recorder c.set_max_undo.new.self c.in-Some.most c.set_max_undo.ensures c.self.invariant
 
