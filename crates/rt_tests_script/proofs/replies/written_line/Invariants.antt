@@ -1,4 +1,4 @@
-use Rattle.rt_tests_script.proofs.replies.line_of.Given as goal
+use Rattle.rt_tests_script.proofs.replies.written_line.Given as goal
 
 abbrev pub ghosts-written-A-Ledger : goal.ghosts-written-A-Ledger
 ghosts-written-A-Ledger a = record { name = a.writes.name; parts = a.writes.parts }
