@@ -1,0 +1,168 @@
+-- What each function answers, and what its handle holds then.
+use Rattle.std.specs.Prelude.{◌≡◌, ◌⊎◌, ◌*◌, ◌<◌, ◌≤◌, ◌++◌, ◌&&◌, ℕ, ℤ, pos, List, [], Option, None, Some, true, false, length, take, drop, reverse, slice_get, if◌then◌else◌}
+use Rattle.std.specs.Str.{is_utf8}
+use Rattle.rt_stamps.specs.declared.limits.TheConstants.{MOST_BYTES, MOST_CELLS}
+use Rattle.rt_stamps.specs.declared.fault.Fault.{Fault}
+use Rattle.rt_stamps.specs.declared.stamp.Stamp.{Stamp}
+use Rattle.rt_stamps.specs.Fault.{number_of}
+use Rattle.rt_stamps.specs.Words.{Word}
+use Rattle.rt_ops.specs.File.{spelling}
+use Rattle.rt_oplog.specs.Logs.{known_end}
+use Rattle.rt_rga.specs.Texts.{tagged_text}
+use Rattle.rt_changes.specs.declared.change.ToldChange.{ToldChange}
+use Rattle.rt_changes.specs.Replays.{AreInText, replayed}
+use Rattle.rt_changes.specs.Telling.{all_changes_in}
+use Rattle.rt_holding.specs.declared.receiving.Received.{Received}
+use Rattle.rt_peers.specs.Cursors.{place_by, stamp_by}
+use Rattle.rt_peers.specs.Lacking.{since}
+use Rattle.rt_peers.specs.SiteStep.{SiteReceives, log_of}
+use Rattle.rt_peers.specs.SiteValue.{SiteValue}
+use Rattle.rt_peers.specs.Telling.{AreToldBetween}
+use Rattle.rt_script.specs.declared.answer.Answer.{Answer}
+use Rattle.rt_script.specs.Lines.{is_readable, is_silent}
+use Rattle.rt_script.specs.Replies.{reply_line}
+use Rattle.rt_script.specs.Run.{LineGives}
+use Rattle.peertext_c.specs.declared.numbers.Told.{Told}
+use Rattle.peertext_c.specs.declared.numbers.StampNumbers.{StampNumbers}
+use Rattle.peertext_c.specs.Changes.{change_lines}
+use Rattle.peertext_c.specs.Codes.{BAD_BYTES, BAD_NUMBER, DONE, IS_HELD, NOT_THERE, NO_MEMORY, NO_SITE, fault_of}
+use Rattle.peertext_c.specs.Ends.{ends_bytes, known_by}
+use Rattle.peertext_c.specs.Held.{CommandGives, Held, new_held}
+
+-- there is no site, and that is answered
+abbrev pub IsNoSite : Option Held → ℤ → Option Held → Type 0
+IsNoSite old result new = (result ≡ NO_SITE) × (old ≡ None) × (new ≡ None)
+
+-- there is a site, which stays as it is; a code is answered
+abbrev pub IsRefused : ℤ → Option Held → ℤ → Option Held → Type 0
+IsRefused code old result new = (result ≡ code) × ((held : Held) × (old ≡ Some held)) × (new ≡ old)
+
+-- A site is made where there is none and its number isn't 0.
+abbrev pub IsMade : ℕ → Option Held → ℤ → Option Held → Type 0
+IsMade number old result new =
+    ((result ≡ DONE) × (0 < number) × (old ≡ None) × (new ≡ Some (new_held number MOST_CELLS)))
+    ⊎ IsRefused IS_HELD old result new
+    ⊎ ((result ≡ BAD_NUMBER) × (number ≡ 0) × (old ≡ None) × (new ≡ None))
+    ⊎ ((result ≡ NO_MEMORY) × (0 < number) × (old ≡ None) × (new ≡ None))
+
+-- A line gives what it gives in a script, and the line of its answer is said; a silent one says nothing.
+abbrev pub RunsLine : List ℕ → Held → ℤ → Held → Type 0
+RunsLine line old result new =
+    ((is_readable line && is_silent line ≡ true) × (result ≡ DONE) × (new ≡ record old { said = [] }))
+    ⊎ ((given : Held) × (answer : Answer) × (is_readable line && is_silent line ≡ false) × LineGives CommandGives old line answer given
+    × (result ≡ pos (fault_of answer)) × (new ≡ record given { said = reply_line answer }))
+
+abbrev pub IsCommanded : List ℕ → Option Held → ℤ → Option Held → Type 0
+IsCommanded line old result new =
+    IsNoSite old result new ⊎ ((before after : Held) × (old ≡ Some before) × (new ≡ Some after) × RunsLine line before result after)
+
+-- bytes in the front of some room, as many as there is room for
+abbrev pub in_front : List ℕ → List ℕ → List ℕ
+in_front bytes room = take (length room) bytes ++ drop (length bytes) room
+
+-- What was said is put in the front of the room, and its whole length is answered; or there is no memory for that.
+abbrev pub IsSaid : Option Held → List ℕ → ℤ → Option Held → List ℕ → Type 0
+IsSaid old room result new out = (new ≡ old)
+    × (((result ≡ NO_SITE) × (old ≡ None) × (out ≡ room))
+    ⊎ ((held : Held) × (old ≡ Some held)
+    × (((result ≡ pos (length held.said)) × (out ≡ in_front held.said room)) ⊎ ((result ≡ NO_MEMORY) × (out ≡ room)))))
+
+-- A site says some bytes, and else stays as it is; or there is no memory for that.
+abbrev pub SaysOf : Held → List ℕ → ℤ → Option Held → Type 0
+SaysOf held bytes result new =
+    ((result ≡ DONE) × (new ≡ Some (record held { said = bytes }))) ⊎ ((result ≡ NO_MEMORY) × (new ≡ Some held))
+
+-- what each site says
+abbrev pub Says : (Held → List ℕ) → Option Held → ℤ → Option Held → Type 0
+Says said old result new = IsNoSite old result new ⊎ ((held : Held) × (old ≡ Some held) × SaysOf held (said held) result new)
+
+-- the file of all operations that a site has
+abbrev pub file_of : Held → List ℕ
+file_of held = spelling (reverse (log_of held.site))
+
+-- Bytes are said that spell the last count that a site knows of each site; or there is no memory for that.
+abbrev pub SaysEnds : Option Held → ℤ → Option Held → Type 0
+SaysEnds old result new =
+    IsNoSite old result new
+    ⊎ ((held : Held) × (old ≡ Some held)
+    × (((ends : List (ℕ × ℕ)) × (result ≡ DONE) × ((site : ℕ) → known_by ends site ≡ known_end (log_of held.site) site)
+    × (new ≡ Some (record held { said = ends_bytes ends })))
+    ⊎ ((result ≡ NO_MEMORY) × (new ≡ Some held))))
+
+-- bytes spell no counts: those of each would be ten
+abbrev pub SpellNoEnds : List ℕ → Type 0
+SpellNoEnds bytes = (n : ℕ) → length bytes ≡ n * 10 → ⊥
+
+-- the file of the operations of a site that are past some counts
+abbrev pub file_since : List (ℕ × ℕ) → Held → List ℕ
+file_since ends held = spelling (reverse (since (known_by ends) (log_of held.site)))
+
+-- The file of the operations is said that are past the counts that bytes spell.
+abbrev pub SaysSince : List ℕ → Option Held → ℤ → Option Held → Type 0
+SaysSince bytes old result new =
+    IsNoSite old result new
+    ⊎ (SpellNoEnds bytes × IsRefused BAD_BYTES old result new)
+    ⊎ ((held : Held) × (old ≡ Some held)
+    × (((ends : List (ℕ × ℕ)) × (bytes ≡ ends_bytes ends) × SaysOf held (file_since ends held) result new) ⊎ ((result ≡ NO_MEMORY) × (new ≡ Some held))))
+
+-- the fault that ended a file, by its number, and its offset; 0 for none
+abbrev pub fault_numbers : Option (Fault × ℕ) → ℕ × ℕ
+fault_numbers None = (0, 0)
+fault_numbers (Some (fault, offset)) = (number_of fault, offset)
+
+-- what became of a file, as numbers
+abbrev pub numbers_of : Received → List ToldChange → Told
+numbers_of received changes = record {
+  fresh = received.new;
+  repeats = received.repeats;
+  held = received.held;
+  changes = length changes;
+  offset = (fault_numbers received.fault).1;
+  fault = (fault_numbers received.fault).0;
+}
+
+-- A site receives a file, and keeps what it changed: made one after the other to the text before, with its tags, these changes give
+-- the text after. What was said stays.
+pub record ReceivesTelling (bytes : List ℕ) (old : Held) (received : Received) (new : Held) : Type 0 where
+  pub receives : SiteReceives bytes old.site received new.site
+  pub told : AreToldBetween (log_of old.site) (log_of new.site) new.changes
+  pub replayed : replayed (all_changes_in new.changes) (tagged_text old.site.text.view.doc.cells) ≡ tagged_text new.site.text.view.doc.cells
+  pub within : AreInText (all_changes_in new.changes) (tagged_text old.site.text.view.doc.cells)
+  pub said : new.said ≡ old.said
+
+-- A file of no more bytes than one may have is received, and what became of it is told.
+abbrev pub IsReceived : List ℕ → Option Held → Told → ℤ → Option Held → Told → Type 0
+IsReceived bytes old room result new told =
+    (IsNoSite old result new × (told ≡ room))
+    ⊎ ((MOST_BYTES < length bytes) × IsRefused BAD_BYTES old result new × (told ≡ room))
+    ⊎ ((before after : Held) × (received : Received) × (length bytes ≤ MOST_BYTES) × (old ≡ Some before) × (new ≡ Some after) × (result ≡ DONE)
+    × ReceivesTelling bytes before received after × (told ≡ numbers_of received after.changes))
+
+-- The lines of the change of a number are said, where there is one.
+abbrev pub SaysChange : ℕ → Option Held → ℤ → Option Held → Type 0
+SaysChange number old result new =
+    IsNoSite old result new
+    ⊎ ((held : Held) × (old ≡ Some held)
+    × (((result ≡ NOT_THERE) × (slice_get held.changes number ≡ None) × (new ≡ old))
+    ⊎ ((change : ToldChange) × (slice_get held.changes number ≡ Some change) × SaysOf held (change_lines change) result new)))
+
+-- the stamp at a place by a path, which is that of a widget if it is a text
+abbrev pub stamp_of_path : Word → ℕ → SiteValue → Option Stamp
+stamp_of_path path place site = if is_utf8 path then stamp_by path place site else None
+
+abbrev pub place_of_path : Word → Stamp → SiteValue → Option ℕ
+place_of_path path stamp site = if is_utf8 path then place_by path stamp site else None
+
+-- Something is found in a site, and told as it is; or it isn't there, and nothing is told. The site stays.
+abbrev pub IsFound : {Found Out : Type 0} → (Found → Out) → (SiteValue → Option Found) → Option Held → Out → ℤ → Option Held → Out → Type 0
+IsFound {Found} told find old room result new out = (new ≡ old)
+    × (((result ≡ NO_SITE) × (old ≡ None) × (out ≡ room))
+    ⊎ ((held : Held) × (old ≡ Some held)
+    × (((result ≡ NOT_THERE) × (find held.site ≡ None) × (out ≡ room))
+    ⊎ ((found : Found) × (result ≡ DONE) × (find held.site ≡ Some found) × (out ≡ told found)))))
+
+abbrev pub stamp_numbers : Stamp → StampNumbers
+stamp_numbers stamp = record { count = stamp.count; site = stamp.site }
+
+abbrev pub stamp_of_numbers : StampNumbers → Stamp
+stamp_of_numbers numbers = record { count = numbers.count; site = numbers.site }

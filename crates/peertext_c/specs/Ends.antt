@@ -1,0 +1,18 @@
+-- The last counts that are known of sites, as bytes.
+use Rattle.std.specs.Prelude.{ℕ, List, ◌++◌, unwrap_or}
+use Rattle.std.specs.BTreeMap.{is_at}
+use Rattle.std.specs.Int.{to_be_bytes, w16, w64}
+use Rattle.std.specs.List.{flat_map}
+use Rattle.std.specs.Map.{lookup}
+use Rattle.std.specs.Ordering.{nat_cmp}
+
+-- the number of a site and a count, the highest byte first
+abbrev pub end_bytes : ℕ × ℕ → List ℕ
+end_bytes end = to_be_bytes w16 end.0 ++ to_be_bytes w64 end.1
+
+abbrev pub ends_bytes : List (ℕ × ℕ) → List ℕ
+ends_bytes ends = flat_map end_bytes ends
+
+-- the count that is known of a site: the first one that is told of it, 0 where none is
+abbrev pub known_by : List (ℕ × ℕ) → ℕ → ℕ
+known_by ends site = unwrap_or (lookup (is_at (nat_cmp site)) ends) 0

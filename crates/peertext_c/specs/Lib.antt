@@ -1,0 +1,6 @@
+pub mod Calls
+pub mod Changes
+pub mod Codes
+pub mod Ends
+pub mod Held
+pub mod Owned

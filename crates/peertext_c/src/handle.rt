@@ -1,0 +1,142 @@
+// What C holds of a site: a handle.
+ghost use Rattle.std.specs.Prelude.{◌≡◌, MatchOption, MatchResult, None, Option, Some, is_some};
+ghost use Rattle.peertext_c.specs.Codes.{DONE, NO_MEMORY};
+ghost use Rattle.peertext_c.specs.Held.{Held};
+ghost use Rattle.peertext_c.specs.Owned.{slot_coded};
+
+use crate::kept::{Kept, Said};
+use crate::parts::Parts;
+use rt_stamps::Fault;
+use std::alloc::Global;
+use std::marker::Model;
+use std::mem;
+
+/// A box of a site behind its pointer, or none.
+#[repr(C)]
+pub struct Slot {
+    at: *mut u8,
+    alloc: Global,
+    pub ghost value: { Option Held } by { slot_coded },
+}
+
+impl Model for Slot {
+    ghost use Rattle.peertext_c.specs.Owned.{slot_owns};
+
+    ghost also_owns = { λ p. slot_owns p.alloc p.at p.value };
+}
+
+impl Slot {
+    fn none(alloc: Global) -> Slot
+        ensures { result.value ≡ None }
+    {
+        Slot {
+            at: std::ptr::null_mut(),
+            alloc,
+        }
+    }
+
+    fn of_parts(parts: Parts<Kept, Global>) -> Slot
+        ensures { result.value ≡ Some parts.value }
+    {
+        let Parts { ptr, alloc } = parts;
+        Slot {
+            at: ptr as *mut u8,
+            alloc,
+        }
+    }
+
+    fn into_parts(self) -> Parts<Kept, Global>
+        ghost held: { Held }
+        requires { self.value ≡ Some held }
+        ensures { result.value ≡ held }
+    {
+        let Slot { at, alloc } = self;
+        Parts {
+            ptr: at as *mut Kept,
+            alloc,
+        }
+    }
+
+    fn forget(self)
+        requires { self.value ≡ None }
+    {
+        let Slot { at: _, alloc: _ } = self;
+    }
+}
+
+/// What C holds: a site, or none where all of it is zero.
+#[repr(C)]
+pub struct Handle {
+    held: bool,
+    pub slot: Slot,
+    ghost tells: { held ≡ is_some slot.value },
+}
+
+impl Handle {
+    /// One that holds no site.
+    pub fn none(alloc: Global) -> Handle
+        ensures { result.slot.value ≡ None }
+    {
+        Handle {
+            held: false,
+            slot: Slot::none(alloc),
+        }
+    }
+
+    fn of(kept: Box<Kept>) -> Handle
+        ensures { result.slot.value ≡ Some kept.value }
+    {
+        Handle {
+            held: true,
+            slot: Slot::of_parts(Parts::of(kept)),
+        }
+    }
+
+    /// What it holds.
+    pub fn into_box(self) -> Option<Box<Kept>>
+        ensures { MatchOption result (self.slot.value ≡ None) (λ kept. self.slot.value ≡ Some kept.value) }
+    {
+        let Handle { held, slot } = self;
+        if held {
+            return Some(slot.into_parts().into_box());
+        }
+        slot.forget();
+        None
+    }
+
+    /// Takes out what it holds.
+    pub fn take(&mut self, alloc: Global) -> Option<Box<Kept>>
+        ensures left { self.new.slot.value ≡ None }
+        ensures taken { MatchOption result (self.old.slot.value ≡ None) (λ kept. self.old.slot.value ≡ Some kept.value) }
+    {
+        mem::replace(self, Handle::none(alloc)).into_box()
+    }
+
+    /// Puts a site in where there is none.
+    pub fn put(&mut self, kept: Box<Kept>)
+        requires { self.old.slot.value ≡ None }
+        ensures { self.new.slot.value ≡ Some kept.value }
+    {
+        let Handle { held: _, slot } = mem::replace(self, Handle::of(kept));
+        slot.forget();
+    }
+    /// Puts a site in where there is none, which says some bytes if there was memory for them, and answers whether there was: 0, or -2.
+    pub fn say(&mut self, mut kept: Box<Kept>, made: Result<Vec<u8>, Fault>) -> i32
+        requires { self.old.slot.value ≡ None }
+        ensures { MatchResult made
+            (λ bytes. (result ≡ DONE) × (self.new.slot.value ≡ Some (record kept.value { said = bytes.items })))
+            (λ _. (result ≡ NO_MEMORY) × (self.new.slot.value ≡ Some kept.value)) }
+    {
+        match made {
+            Ok(bytes) => {
+                kept.said = Said::of(bytes);
+                self.put(kept);
+                0
+            }
+            Err(_) => {
+                self.put(kept);
+                -2
+            }
+        }
+    }
+}

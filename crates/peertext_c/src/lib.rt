@@ -1,0 +1,246 @@
+//! Sites that C holds.
+//!
+//! A handle holds a site, or none where all of it is zero, as it begins. C hands it to one call at a time, and on one thread; two
+//! handles share nothing. The first parameter of each function, the allocator, takes no bytes and isn't passed. No pointer is
+//! null, with a length of 0 neither.
+#![tactic(auto)]
+
+ghost use Rattle.std.specs.Prelude.{◌≡◌, None};
+ghost use Rattle.peertext_c.specs.Calls.{IsCommanded, IsFound, IsMade, IsReceived, IsSaid, Says, SaysChange, SaysEnds, SaysSince};
+ghost use Rattle.peertext_c.specs.Calls.{file_of, place_of_path, stamp_numbers, stamp_of_numbers, stamp_of_path};
+
+mod asking;
+mod changes;
+mod ends;
+mod finding;
+pub mod handle;
+pub mod kept;
+pub mod numbers;
+mod parts;
+
+use finding::{place_of_path, stamp_of_path};
+use handle::Handle;
+use kept::Kept;
+use numbers::{StampNumbers, Told};
+use rt_script::{ReceivedChanges, SiteState};
+use rt_stamps::limits::{MOST_BYTES, MOST_CELLS};
+use rt_stamps::{Fault, Site};
+use std::alloc::Global;
+
+// What functions answer (specs/Codes.antt).
+const DONE: i32 = 0;
+
+const NO_SITE: i32 = -1;
+
+const NO_MEMORY: i32 = -2;
+
+const IS_HELD: i32 = -3;
+
+const BAD_NUMBER: i32 = -4;
+
+const BAD_BYTES: i32 = -5;
+
+const NOT_THERE: i32 = -6;
+
+/// Makes a new site of a number from 1 to 65,535 in a handle that holds none. 0, or -3 where it holds one, -4 for the
+/// number 0, or -2 for want of memory; then all is as it was.
+#[unsafe(no_mangle)]
+pub extern "C" fn pt_site_new(alloc: Global, handle: &mut Handle, number: u16) -> i32
+    ensures { IsMade number handle.old.slot.value result handle.new.slot.value }
+{
+    if let Some(kept) = handle.take(alloc) {
+        handle.put(kept);
+        return IS_HELD;
+    }
+    let Some(number) = Site::new(number) else {
+        return BAD_NUMBER;
+    };
+    let Ok(site) = SiteState::new(alloc, number, MOST_CELLS) else {
+        return NO_MEMORY;
+    };
+    let Ok(kept) = Box::new(alloc, Kept::new(alloc, site)) else {
+        return NO_MEMORY;
+    };
+    handle.put(kept);
+    DONE
+}
+
+/// Frees the site of a handle, which then holds none. A handle that holds none stays so.
+#[unsafe(no_mangle)]
+pub extern "C" fn pt_site_free(alloc: Global, handle: &mut Handle)
+    ensures { handle.new.slot.value ≡ None }
+{
+    let _ = handle.take(alloc);
+}
+
+/// Runs a line of a script, without a newline at its end, where no file can be named. Its reply line, with a newline, is what
+/// is said then, and of an empty line, one of spaces and tabs and a comment nothing. 0 where it was replied to or is such a
+/// line; the number of the fault by which it was refused, 1 to 41; or -1 where there is no site. It tells no changes: those of the
+/// last file stay.
+#[unsafe(no_mangle)]
+pub extern "C" fn pt_command(alloc: Global, handle: &mut Handle, line: &[u8]) -> i32
+    ensures { IsCommanded line.now handle.old.slot.value result handle.new.slot.value }
+{
+    let Some(mut kept) = handle.take(alloc) else {
+        return NO_SITE;
+    };
+    let code = kept.run(alloc, line);
+    handle.put(kept);
+    code
+}
+
+/// Copies the first bytes of what was said last into `out`, as many as there is room for; the rest of `out` stays as it is.
+/// How many bytes were said; or -1 where there is no site, or -2 where there was no memory for a reply line when its command ran,
+/// and there is none now. What was said stays, so the call may be made again.
+#[unsafe(no_mangle)]
+pub extern "C" fn pt_said(alloc: Global, handle: &mut Handle, out: &mut [u8]) -> isize
+    ensures { IsSaid handle.old.slot.value out.old result handle.new.slot.value out.new }
+{
+    let Some(kept) = handle.take(alloc) else {
+        return NO_SITE as isize;
+    };
+    let copied = kept.said.copy(alloc, out);
+    handle.put(kept);
+    match copied {
+        Ok(len) => len,
+        Err(_) => NO_MEMORY as isize,
+    }
+}
+
+/// Receives the bytes of a file of operations, at most 2^30, and tells what became of it. What it changed in the visible text is
+/// kept until the next file, and `pt_change` says it; what the site itself edits, undoes and redoes tells nothing. 0, also where
+/// the file ended early with a fault; or -1 where there is no site, or -5 for too many bytes; then all is as it was.
+#[unsafe(no_mangle)]
+pub extern "C" fn pt_receive(
+    alloc: Global,
+    handle: &mut Handle,
+    bytes: &[u8],
+    told: &mut Told,
+) -> i32
+    ensures { IsReceived bytes.now handle.old.slot.value told.old result handle.new.slot.value told.new }
+{
+    let Some(mut kept) = handle.take(alloc) else {
+        return NO_SITE;
+    };
+    if bytes.len() > MOST_BYTES {
+        handle.put(kept);
+        return BAD_BYTES;
+    }
+    let ReceivedChanges { received, changes } = kept.site.receive_telling(bytes);
+    *told = Told::of(received, &changes);
+    kept.changes = changes;
+    handle.put(kept);
+    DONE
+}
+
+/// Says what the operation of a number, from 0, changed of those that the last file brought in: a line for each change, each
+/// in the text that those before it left. 0; or -1 where there is no site, -6 where there is no such operation, or -2 for want of
+/// memory; then all is as it was.
+#[unsafe(no_mangle)]
+pub extern "C" fn pt_change(alloc: Global, handle: &mut Handle, number: usize) -> i32
+    ensures { SaysChange number handle.old.slot.value result handle.new.slot.value }
+{
+    let Some(kept) = handle.take(alloc) else {
+        return NO_SITE;
+    };
+    let Some(made) = kept.lines_at(alloc, number) else {
+        handle.put(kept);
+        return NOT_THERE;
+    };
+    handle.say(kept, made)
+}
+
+/// Says the file of all operations that a site has. 0; or -1 where there is no site, or -2 for want of memory; then all is as it was.
+#[unsafe(no_mangle)]
+pub extern "C" fn pt_export(alloc: Global, handle: &mut Handle) -> i32
+    ensures { Says file_of handle.old.slot.value result handle.new.slot.value }
+{
+    let Some(kept) = handle.take(alloc) else {
+        return NO_SITE;
+    };
+    let made = kept.site.export();
+    handle.say(kept, made)
+}
+
+/// Says the last count that a site knows of each site, each in 10 bytes, the number of its site (2) and the count (8), the highest byte
+/// first. 0; or -1 where there is no site, or -2 for want of memory; then all is as it was.
+#[unsafe(no_mangle)]
+pub extern "C" fn pt_ends(alloc: Global, handle: &mut Handle) -> i32
+    ensures { SaysEnds handle.old.slot.value result handle.new.slot.value }
+{
+    let Some(kept) = handle.take(alloc) else {
+        return NO_SITE;
+    };
+    let made = kept.ends(alloc);
+    handle.say(kept, made)
+}
+
+/// Says the file of those operations of a site whose last count is past what such bytes tell of their site, as another site says by
+/// `pt_ends`; of one site the first count is taken. 0; or -1 where there is no site, -5 where the bytes aren't 10 each, or -2 for want
+/// of memory; then all is as it was.
+#[unsafe(no_mangle)]
+pub extern "C" fn pt_export_since(alloc: Global, handle: &mut Handle, ends: &[u8]) -> i32
+    ensures { SaysSince ends.now handle.old.slot.value result handle.new.slot.value }
+{
+    let Some(kept) = handle.take(alloc) else {
+        return NO_SITE;
+    };
+    let made = kept.file_since(alloc, ends);
+    if let Err(Fault::Truncated) = made {
+        handle.put(kept);
+        return BAD_BYTES;
+    }
+    handle.say(kept, made)
+}
+
+/// Tells the stamp of the character at a place of what the widget of a path shows, counted from 0. 0; or -1 where there is no site, or
+/// -6 where there is no such widget or no such character; then all is as it was.
+#[unsafe(no_mangle)]
+pub extern "C" fn pt_stamp_at(
+    alloc: Global,
+    handle: &mut Handle,
+    path: &[u8],
+    place: usize,
+    stamp: &mut StampNumbers,
+) -> i32
+    ensures { IsFound stamp_numbers (stamp_of_path path.now place) handle.old.slot.value stamp.old result handle.new.slot.value stamp.new }
+{
+    let Some(kept) = handle.take(alloc) else {
+        return NO_SITE;
+    };
+    let found = stamp_of_path(&kept.site, path, place);
+    handle.put(kept);
+    let Some(found) = found else {
+        return NOT_THERE;
+    };
+    *stamp = StampNumbers::of(found);
+    DONE
+}
+
+/// Tells how many characters of what the widget of a path shows stand before that of a stamp, whether it is gone or not. 0; or -1 where
+/// there is no site, or -6 where there is no such widget or no character of the stamp; then all is as it was.
+#[unsafe(no_mangle)]
+pub extern "C" fn pt_place_of(
+    alloc: Global,
+    handle: &mut Handle,
+    path: &[u8],
+    stamp: &StampNumbers,
+    place: &mut usize,
+) -> i32
+    ensures { IsFound (λ found. found) (place_of_path path.now (stamp_of_numbers stamp.now)) handle.old.slot.value place.old result
+        handle.new.slot.value place.new }
+{
+    let Some(kept) = handle.take(alloc) else {
+        return NO_SITE;
+    };
+    let found = place_of_path(&kept.site, path, stamp.stamp());
+    handle.put(kept);
+    let Some(found) = found else {
+        return NOT_THERE;
+    };
+    *place = found;
+    DONE
+}
+
+#[cfg(test)]
+mod tests;

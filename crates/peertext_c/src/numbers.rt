@@ -1,0 +1,81 @@
+// Numbers that C is told.
+ghost use Rattle.std.specs.Prelude.{◌≡◌};
+ghost use Rattle.peertext_c.specs.Calls.{fault_numbers, numbers_of, stamp_numbers, stamp_of_numbers};
+
+use rt_script::{Received, ToldChange};
+use rt_stamps::{Fault, Stamp};
+
+/// What became of a file that was received.
+#[repr(C)]
+#[derive(Clone, Copy)]
+pub struct Told {
+    /// How many operations were accepted: those of the file that were new, and those that had been held.
+    pub fresh: u64,
+    /// How many of the file the site had or held already.
+    pub repeats: u64,
+    /// How many operations the site holds in the end, since they came before what they were made upon.
+    pub held: u64,
+    /// How many operations changed something or could have: those whose changes `pt_change` says.
+    pub changes: u64,
+    /// The offset of the fault's record in the file, in bytes; 0 without a fault.
+    pub offset: u64,
+    /// The number of the fault that ended the file early, 1 to 41, or 0.
+    pub fault: u8,
+}
+
+/// The stamp of a character: a count and the number of a site.
+#[repr(C)]
+#[derive(Clone, Copy)]
+pub struct StampNumbers {
+    pub count: u64,
+    pub site: u16,
+}
+
+// The number of a fault and its offset, 0 for none.
+fn fault_numbers(found: Option<(Fault, u64)>) -> (u8, u64)
+    ensures { result ≡ fault_numbers found }
+{
+    match found {
+        Some((fault, offset)) => (fault.number(), offset),
+        None => (0, 0),
+    }
+}
+
+impl Told {
+    /// Of a file, and of the changes that it made.
+    pub fn of(received: Received, changes: &Vec<ToldChange>) -> Told
+        ensures { result ≡ numbers_of received changes.now.items }
+    {
+        let (fault, offset) = fault_numbers(received.fault);
+        Told {
+            fresh: received.new,
+            repeats: received.repeats,
+            held: received.held,
+            changes: changes.len() as u64,
+            offset,
+            fault,
+        }
+    }
+}
+
+impl StampNumbers {
+    /// Of a stamp.
+    pub fn of(stamp: Stamp) -> StampNumbers
+        ensures { result ≡ stamp_numbers stamp }
+    {
+        StampNumbers {
+            count: stamp.count,
+            site: stamp.site,
+        }
+    }
+
+    /// The stamp.
+    pub fn stamp(self) -> Stamp
+        ensures { result ≡ stamp_of_numbers self }
+    {
+        Stamp {
+            count: self.count,
+            site: self.site,
+        }
+    }
+}

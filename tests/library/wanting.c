@@ -1,0 +1,193 @@
+/* Each allocation of each call refused in turn. What a call answers then is what it answers with memory, or that memory was wanting, and then
+   all is as it was; once more, with memory, it answers as ever. In the end no block is left. */
+#include "counted.h"
+
+#define ROOM 65536
+
+typedef struct {
+    size_t len;
+    char bytes[ROOM];
+} text;
+
+static text before, after, now;
+static long refusals;
+
+static const uint8_t early[] = "RGATEXT1\0\0\0\x1f\1\0\0\0\0\0\0\0\x09\0\2\0\0\0\0\0\0\0\0\0\0\0\0\0\0\0\4\0\3\0Y";
+static char file[ROOM];
+static size_t file_len;
+
+/* Puts what was said behind a text. */
+static void put_said(pt_site *site, text *into) {
+    ptrdiff_t len = pt_said(site, (uint8_t *)into->bytes + into->len, ROOM - into->len);
+    CHECK(len >= 0 && (size_t)len <= ROOM - into->len);
+    into->len += (size_t)len;
+}
+
+/* All that lines ask of a site, and its operations. */
+static void state(pt_site *site, text *into) {
+    static const char *const lines[] = {".t get 1.0 end", ".t dump 1.0 end", ".t tag names", ".t mark names", ".t configure -undo", ".t edit modified",
+                                        ".t peer names"};
+    into->len = 0;
+    for (size_t at = 0; at < sizeof lines / sizeof *lines; at++) {
+        CHECK(run(site, lines[at]) >= 0);
+        put_said(site, into);
+    }
+    CHECK(pt_export(site) == PT_DONE);
+    put_said(site, into);
+}
+
+static bool same(const text *one, const text *other) {
+    return one->len == other->len && memcmp(one->bytes, other->bytes, one->len) == 0;
+}
+
+/* The site that each call begins with: it has text, tags and something to undo, and says a reply. */
+static void begin(pt_site *site) {
+    CHECK(pt_site_new(site, 1) == PT_DONE);
+    CHECK(run(site, ".t configure -undo 1") == 0 && run(site, ".t insert 1.0 \"milk and bread\\nbutter\" {red fine}") == 0);
+    CHECK(run(site, ".t tag add big 1.2 2.2") == 0 && run(site, ".t index end") == 0);
+}
+
+/* A line whose N-th allocation is refused: whether one was. */
+static bool refused_line(const char *line, long refused, int32_t code, const char *reply) {
+    pt_site site = PT_NONE;
+    begin(&site);
+    until_refused = refused;
+    int32_t got = run(&site, line);
+    bool was_refused = until_refused < 0;
+    until_refused = -1;
+    bool wanted = got == PT_FAULT_NO_MEMORY && says(&site, "! 1 NoMemory\n");
+    bool answered = !wanted && got == code && says(&site, reply);
+    CHECK(wanted || answered);
+    state(&site, &now);
+    CHECK(same(&now, answered ? &after : &before));
+    CHECK(answered || answers(&site, line, code, reply));
+    pt_site_free(&site);
+    refusals += was_refused;
+    return was_refused;
+}
+
+static void lines(void) {
+    static const char *const all[] = {
+        ".t insert 1.3 XY", ".t insert end \"text\\nin lines\" {red blue} more green", ".t delete 1.1 1.3", ".t replace 1.0 1.4 cream",
+        ".t tag add small 1.0 2.0", ".t tag remove red 1.0 1.5", ".t mark set here 1.5", ".t get 1.0 end", ".t dump 1.0 end", ".t search -all b 1.0",
+        ".t tag ranges red", ".t count -lines -chars 1.0 end", ".t index \"1.0 + 3 chars + 1 lines linestart + 2 chars + 1 chars\"",
+        ".t edit undo", ".t configure -undo 0", ".t configure", ".t peer create .p", ".t frob", ".t get {1.0", "destroy .t", "receive a", "# none",
+    };
+    for (size_t at = 0; at < sizeof all / sizeof *all; at++) {
+        pt_site site = PT_NONE;
+        size_t len = 0;
+        begin(&site);
+        state(&site, &before);
+        int32_t code = run(&site, all[at]);
+        char *reply = said(&site, &len);
+        state(&site, &after);
+        pt_site_free(&site);
+        for (long refused = 0; refused_line(all[at], refused, code, reply); refused++) {
+        }
+        free(reply);
+    }
+}
+
+static void sites(void) {
+    bool was_refused = true;
+    for (long refused = 0; was_refused; refused++) {
+        pt_site site = PT_NONE;
+        until_refused = refused;
+        int32_t code = pt_site_new(&site, 1);
+        was_refused = until_refused < 0;
+        until_refused = -1;
+        refusals += was_refused;
+        CHECK(code == (was_refused ? PT_NO_MEMORY : PT_DONE) && site.held == !was_refused);
+        CHECK(!was_refused || pt_site_new(&site, 1) == PT_DONE);
+        CHECK(answers(&site, ".t get 1.0 end", 0, "= \"\\n\"\n"));
+        pt_site_free(&site);
+    }
+}
+
+static int32_t export_some(pt_site *site) {
+    static const uint8_t ends[20] = {0, 1, 0, 0, 0, 0, 0, 0, 0, 2, 0, 9};
+    return pt_export_since(site, ends, 20);
+}
+
+static int32_t change(pt_site *site) {
+    return pt_change(site, 0);
+}
+
+/* A call that says bytes: these, or want of memory, and then what was said stays. */
+static void saying(int32_t (*call)(pt_site *)) {
+    pt_site site = PT_NONE;
+    pt_received told;
+    begin(&site);
+    CHECK(pt_receive(&site, (const uint8_t *)file, file_len, &told) == PT_DONE && told.changes > 0);
+    CHECK(call(&site) == PT_DONE);
+    after.len = 0;
+    put_said(&site, &after);
+    bool was_refused = true;
+    for (long refused = 0; was_refused; refused++) {
+        CHECK(answers(&site, ".t index end", 0, "= 3.0\n"));
+        until_refused = refused;
+        int32_t code = call(&site);
+        was_refused = until_refused < 0;
+        until_refused = -1;
+        refusals += was_refused;
+        CHECK(code == PT_DONE || (was_refused && code == PT_NO_MEMORY && says(&site, "= 3.0\n")));
+        CHECK(code == PT_DONE || call(&site) == PT_DONE);
+        now.len = 0;
+        put_said(&site, &now);
+        CHECK(same(&now, &after));
+    }
+    pt_site_free(&site);
+}
+
+/* A file is received, and then once more: after both the site has all of it. */
+static void received(void) {
+    pt_site site = PT_NONE;
+    pt_received told;
+    begin(&site);
+    CHECK(pt_receive(&site, (const uint8_t *)file, file_len, &told) == PT_DONE && told.fault == 0);
+    state(&site, &after);
+    pt_site_free(&site);
+    bool was_refused = true;
+    for (long refused = 0; was_refused; refused++) {
+        begin(&site);
+        until_refused = refused;
+        int32_t code = pt_receive(&site, (const uint8_t *)file, file_len, &told);
+        was_refused = until_refused < 0;
+        until_refused = -1;
+        refusals += was_refused;
+        CHECK(code == PT_DONE && (told.fault == 0 || (was_refused && told.fault == PT_FAULT_NO_MEMORY && told.offset >= 8)));
+        CHECK(pt_receive(&site, (const uint8_t *)file, file_len, &told) == PT_DONE && told.fault == 0);
+        state(&site, &now);
+        CHECK(same(&now, &after));
+        pt_site_free(&site);
+    }
+}
+
+/* The file of another site, with an operation behind that comes early. */
+static void make_file(void) {
+    pt_site site = PT_NONE;
+    CHECK(pt_site_new(&site, 3) == PT_DONE && run(&site, ".t insert 1.0 \"cheese, \" red") == 0 && run(&site, ".t delete 1.2") == 0);
+    CHECK(run(&site, ".t tag add new 1.0 1.4") == 0 && pt_export(&site) == PT_DONE);
+    ptrdiff_t len = pt_said(&site, (uint8_t *)file, sizeof file);
+    file_len = (size_t)len;
+    pt_site_free(&site);
+}
+
+int main(void) {
+    pt_received told_of_early;
+    make_file();
+    lines();
+    sites();
+    saying(pt_export);
+    saying(pt_ends);
+    saying(export_some);
+    saying(change);
+    received();
+    pt_site site = PT_NONE;
+    begin(&site);
+    CHECK(pt_receive(&site, early, sizeof early - 1, &told_of_early) == PT_DONE && told_of_early.held == 1 && told_of_early.changes == 0);
+    pt_site_free(&site);
+    CHECK(blocks == 0 && bytes_in_blocks == 0);
+    printf("%ld refusals\n", refusals);
+    return told_of_all();
+}

@@ -1,0 +1,184 @@
+/* Wrong use that the library answers: handles that hold nothing, no room, bytes that are no file, lines that are no text. */
+#include "checked.h"
+
+#include <sys/mman.h>
+
+#define LONGEST 1048576
+
+static const uint8_t path[] = ".t";
+
+static void empty_handles(void) {
+    pt_site none = PT_NONE;
+    uint8_t out[4] = "abc";
+    pt_received told = {1, 2, 3, 4, 5, 6};
+    pt_stamp stamp = {7, 8};
+    size_t place = 9;
+    CHECK(run(&none, ".t get 1.0 end") == PT_NO_SITE);
+    CHECK(pt_said(&none, out, sizeof out) == PT_NO_SITE);
+    CHECK(pt_receive(&none, out, 3, &told) == PT_NO_SITE);
+    CHECK(pt_change(&none, 0) == PT_NO_SITE);
+    CHECK(pt_export(&none) == PT_NO_SITE);
+    CHECK(pt_ends(&none) == PT_NO_SITE);
+    CHECK(pt_export_since(&none, out, 0) == PT_NO_SITE);
+    CHECK(pt_stamp_at(&none, path, 2, 0, &stamp) == PT_NO_SITE);
+    CHECK(pt_place_of(&none, path, 2, &stamp, &place) == PT_NO_SITE);
+    CHECK(memcmp(out, "abc", 4) == 0);
+    CHECK(told.fresh == 1 && told.repeats == 2 && told.held == 3 && told.changes == 4 && told.offset == 5 && told.fault == 6);
+    CHECK(stamp.count == 7 && stamp.site == 8 && place == 9);
+    pt_site_free(&none);
+    CHECK(!none.held && none.slot.at == NULL);
+}
+
+static void numbers(void) {
+    pt_site site = PT_NONE;
+    CHECK(pt_site_new(&site, 0) == PT_BAD_NUMBER);
+    CHECK(!site.held && site.slot.at == NULL);
+    CHECK(pt_site_new(&site, 65535) == PT_DONE);
+    CHECK(site.held && site.slot.at != NULL);
+    CHECK(answers(&site, ".t insert 1.0 ab", 0, "=\n"));
+    CHECK(pt_site_new(&site, 2) == PT_IS_HELD);
+    CHECK(pt_site_new(&site, 0) == PT_IS_HELD);
+    CHECK(answers(&site, ".t get 1.0 end", 0, "= \"ab\\n\"\n"));
+    pt_site_free(&site);
+    CHECK(!site.held && site.slot.at == NULL);
+    pt_site_free(&site);
+    CHECK(run(&site, ".t get 1.0 end") == PT_NO_SITE);
+    CHECK(pt_site_new(&site, 1) == PT_DONE);
+    CHECK(answers(&site, ".t get 1.0 end", 0, "= \"\\n\"\n"));
+    pt_site_free(&site);
+}
+
+static void rooms(pt_site *site) {
+    uint8_t out[8];
+    CHECK(answers(site, ".t get 1.0 1.2", 0, "= ab\n"));
+    for (size_t room = 0; room <= sizeof out; room++) {
+        memset(out, '.', sizeof out);
+        CHECK(pt_said(site, out, room) == 5);
+        size_t count = room < 5 ? room : 5;
+        CHECK(memcmp(out, "= ab\n", count) == 0);
+        CHECK(memcmp(out + count, "........", sizeof out - count) == 0);
+    }
+}
+
+static void lines(pt_site *site) {
+    char *longest = malloc(LONGEST + 1);
+    memset(longest, 'a', LONGEST + 1);
+    CHECK(answers(site, "", 0, "") && answers(site, " \t", 0, "") && answers(site, "# .t frob", 0, ""));
+    CHECK(answers(site, ".t frob", PT_FAULT_BAD_COMMAND, "! 4 BadCommand\n"));
+    CHECK(answers(site, ".none get 1.0", PT_FAULT_NO_WIDGET, "! 5 NoWidget\n"));
+    CHECK(answers(site, ".t get {1.0", PT_FAULT_BAD_QUOTING, "! 19 BadQuoting\n"));
+    CHECK(answers(site, ".t get 1.0 \xff", PT_FAULT_BAD_QUOTING, "! 19 BadQuoting\n"));
+    CHECK(answers(site, "\xc3", PT_FAULT_BAD_QUOTING, "! 19 BadQuoting\n"));
+    CHECK(answers(site, "# \xc3", PT_FAULT_BAD_QUOTING, "! 19 BadQuoting\n"));
+    CHECK(answers(site, "receive a", PT_FAULT_NO_FILE, "! 20 NoFile\n"));
+    CHECK(pt_command(site, (const uint8_t *)longest, LONGEST + 1) == PT_FAULT_BAD_QUOTING);
+    CHECK(says(site, "! 19 BadQuoting\n"));
+    CHECK(pt_command(site, (const uint8_t *)longest, LONGEST) == PT_FAULT_NO_WIDGET);
+    CHECK(pt_command(site, (const uint8_t *)".t get\0 1.0", 11) == PT_FAULT_BAD_COMMAND);
+    CHECK(answers(site, ".t get 1.0 end", 0, "= \"ab\\n\"\n"));
+    free(longest);
+}
+
+/* A newline in a line, and a return at its end, are characters as any other. */
+static void newlines(void) {
+    pt_site site = PT_NONE;
+    CHECK(pt_site_new(&site, 1) == PT_DONE);
+    CHECK(answers(&site, ".t insert 1.0 \"a\nb\"", 0, "=\n"));
+    CHECK(answers(&site, ".t insert 1.0 x\r", 0, "=\n"));
+    CHECK(answers(&site, ".t get 1.0 end", 0, "= \"x\\ra\\nb\\n\"\n"));
+    CHECK(answers(&site, ".t get 1.0 end\n", PT_FAULT_BAD_INDEX, "! 2 BadIndex\n"));
+    CHECK(answers(&site, "\n", PT_FAULT_NO_WIDGET, "! 5 NoWidget\n"));
+    pt_site_free(&site);
+}
+
+/* A file is received, and is at fault; the text stays. */
+static bool refused(pt_site *site, const char *bytes, size_t len, uint8_t fault, uint64_t offset) {
+    pt_received told = {9, 9, 9, 9, 9, 9};
+    bool same = answers(site, ".t get 1.0 end", 0, "= \"ab\\n\"\n");
+    int32_t code = pt_receive(site, (const uint8_t *)bytes, len, &told);
+    if (told.fault != fault || told.offset != offset) {
+        printf("fault %d at %d\n", told.fault, (int)told.offset);
+    }
+    return same && code == PT_DONE && told.fault == fault && told.offset == offset && told.fresh == 0 && told.repeats == 0 && told.held == 0
+        && told.changes == 0 && pt_change(site, 0) == PT_NOT_THERE && answers(site, ".t get 1.0 end", 0, "= \"ab\\n\"\n");
+}
+
+static void files(pt_site *site) {
+    static const char unsound[] = "RGATEXT1\0\0\0\x1f\1\0\0\0\0\0\0\0\3\0\2\0\0\0\0\0\0\0\3\0\0\0\0\0\0\0\0\0\0\0Y";
+    CHECK(refused(site, "", 0, PT_FAULT_TRUNCATED, 0));
+    CHECK(refused(site, "RGATEXT", 7, PT_FAULT_TRUNCATED, 0));
+    CHECK(refused(site, "RGATEXT2", 8, PT_FAULT_BAD_VERSION, 0));
+    CHECK(refused(site, "no file", 7, PT_FAULT_BAD_MAGIC, 0));
+    CHECK(refused(site, "RGATEXT1\0\0\0", 11, PT_FAULT_TRUNCATED, 8));
+    CHECK(refused(site, "RGATEXT1\0\0\0\1a", 13, PT_FAULT_BAD_RECORD, 8));
+    CHECK(refused(site, unsound, sizeof unsound - 1, PT_FAULT_BAD_STAMP, 8));
+    CHECK(refused(site, "RGATEXT1", 8, 0, 0));
+}
+
+static void too_many_bytes(pt_site *site) {
+    pt_received told = {1, 2, 3, 4, 5, 6};
+    size_t len = (size_t)PT_MOST_BYTES + 1;
+    void *bytes = mmap(NULL, len, PROT_READ, MAP_PRIVATE | MAP_ANONYMOUS | MAP_NORESERVE, -1, 0);
+    CHECK(bytes != MAP_FAILED);
+    CHECK(answers(site, ".t index end", 0, "= 2.0\n"));
+    CHECK(pt_receive(site, bytes, len, &told) == PT_BAD_BYTES);
+    CHECK(told.fresh == 1 && told.repeats == 2 && told.held == 3 && told.changes == 4 && told.offset == 5 && told.fault == 6);
+    CHECK(says(site, "= 2.0\n"));
+    munmap(bytes, len);
+}
+
+static void counts(pt_site *site) {
+    static const uint8_t ends[31] = {0, 1, 0, 0, 0, 0, 0, 0, 0, 2};
+    static const uint8_t first_holds[20] = {0, 1, 0, 0, 0, 0, 0, 0, 0, 2, 0, 1};
+    static const uint8_t within[10] = {0, 1, 0, 0, 0, 0, 0, 0, 0, 1};
+    static const uint8_t others[20] = {0, 0, 0, 0, 0, 0, 0, 0, 0, 2, 255, 255, 255, 255, 255, 255, 255, 255, 255, 255};
+    uint8_t own[10];
+    CHECK(pt_ends(site) == PT_DONE && pt_said(site, own, 10) == 10 && memcmp(own, ends, 10) == 0);
+    for (size_t len = 0; len <= sizeof ends; len++) {
+        CHECK(pt_export_since(site, ends, len) == (len % 10 == 0 ? PT_DONE : PT_BAD_BYTES));
+    }
+    CHECK(pt_export_since(site, ends, 10) == PT_DONE && says(site, "RGATEXT1"));
+    CHECK(pt_export_since(site, first_holds, 20) == PT_DONE && says(site, "RGATEXT1"));
+    CHECK(pt_export_since(site, within, 10) == PT_DONE && pt_said(site, own, 0) == 44);
+    CHECK(pt_export_since(site, others, 20) == PT_DONE && pt_said(site, own, 0) == 44);
+    CHECK(pt_export_since(site, ends, 0) == PT_DONE && pt_said(site, own, 0) == 44);
+    CHECK(pt_export_since(site, ends, 9) == PT_BAD_BYTES && pt_said(site, own, 0) == 44);
+}
+
+static void cursors(pt_site *site) {
+    pt_stamp stamp = {7, 8};
+    size_t place = 9;
+    CHECK(pt_stamp_at(site, (const uint8_t *)".none", 5, 0, &stamp) == PT_NOT_THERE);
+    CHECK(pt_stamp_at(site, (const uint8_t *)"\xff", 1, 0, &stamp) == PT_NOT_THERE);
+    CHECK(pt_stamp_at(site, path, 0, 0, &stamp) == PT_NOT_THERE);
+    CHECK(pt_stamp_at(site, path, 2, 3, &stamp) == PT_NOT_THERE);
+    CHECK(pt_stamp_at(site, path, 2, SIZE_MAX, &stamp) == PT_NOT_THERE);
+    CHECK(stamp.count == 7 && stamp.site == 8);
+    CHECK(pt_place_of(site, path, 2, &stamp, &place) == PT_NOT_THERE);
+    CHECK(pt_place_of(site, (const uint8_t *)".none", 5, &(pt_stamp){1, 1}, &place) == PT_NOT_THERE);
+    CHECK(pt_place_of(site, path, 2, &(pt_stamp){UINT64_MAX, 65535}, &place) == PT_NOT_THERE);
+    CHECK(place == 9);
+    CHECK(pt_stamp_at(site, path, 2, 1, &stamp) == PT_DONE && stamp.count == 2 && stamp.site == 1);
+    CHECK(pt_place_of(site, path, 2, &stamp, &place) == PT_DONE && place == 1);
+    CHECK(pt_stamp_at(site, path, 2, 2, &stamp) == PT_DONE);
+    CHECK(pt_place_of(site, path, 2, &stamp, &place) == PT_DONE && place == 2);
+}
+
+int main(void) {
+    pt_site site = PT_NONE;
+    empty_handles();
+    numbers();
+    newlines();
+    CHECK(pt_site_new(&site, 1) == PT_DONE);
+    CHECK(pt_said(&site, (uint8_t[1]){0}, 1) == 0);
+    CHECK(answers(&site, ".t insert 1.0 ab", 0, "=\n"));
+    rooms(&site);
+    lines(&site);
+    files(&site);
+    too_many_bytes(&site);
+    counts(&site);
+    cursors(&site);
+    CHECK(answers(&site, ".t get 1.0 end", 0, "= \"ab\\n\"\n"));
+    pt_site_free(&site);
+    return told_of_all();
+}
