@@ -21,7 +21,7 @@ def lines(folder):
 print("| Crate | Code, contracts, tests | Definitions | Proofs | Edits | By hand |")
 print("|---|---|---|---|---|---|")
 for line in (ROOT / "crates.txt").read_text(encoding="utf-8").splitlines():
-    name = line.split(":")[0]
+    name = line.split(":")[0].split()[0]
     crate = ROOT / "crates" / name
     counts = [lines(crate / part) for part in ("src", "specs", "proofs")]
     edits = [len(list((crate / part).glob("*.edit"))) for part in ("must-fail", "by-hand")]

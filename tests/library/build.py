@@ -3,9 +3,10 @@
 
 `rt lib` proves crates/peertext_c with the crates below it, and makes an archive of its exports. The C part of the kit, by which it takes
 memory, is put into it here. With --early it is built before any proof, as tests/early.py builds the program: from the module that `rt try`
-makes of the crate's tests, without their checks, so it has just the exports that these tests call."""
+makes of a copy of the crate with the tests of called.rt.in, without their checks, so it has just the exports that these tests call."""
 import pathlib
 import re
+import shutil
 import subprocess
 import sys
 import tempfile
@@ -37,12 +38,28 @@ def exported(lines):
         yield line.replace("define i32 @main()", "define internal i32 @main()", 1) if line.startswith("define i32 @main()") else line
 
 
+def with_calls(root):
+    """A copy of the crate whose tests are those of called.rt.in, beside the crates below it."""
+    (root / "crates").mkdir(parents=True)
+    for name in ("crates.txt", "HANDLES"):
+        shutil.copy(early.ROOT / name, root / name)
+    for it in CRATE.parent.iterdir():
+        if it != CRATE:
+            (root / "crates" / it.name).symlink_to(it)
+    crate = root / "crates" / CRATE.name
+    shutil.copytree(CRATE, crate, ignore=shutil.ignore_patterns("out"))
+    shutil.copy(HERE / "called.rt.in", crate / "src/tests.rt")
+    with open(crate / "src/lib.rt", "a", encoding="utf-8") as file:
+        file.write("\n#[cfg(test)]\nmod tests;\n")
+    return crate
+
+
 def unproved(folder):
     """An archive of what `rt try --test` compiles."""
     kept, module, plain, made = (folder / name for name in ("kept.bc", "module.ll", "plain.ll", "peertext_c.o"))
     (folder / "kit").mkdir()
     early.shadow_kit(folder / "kit", kept)
-    ran = subprocess.run([folder / "kit/bin/rt", "try", "--test"], cwd=CRATE, input=b"", capture_output=True, check=False)
+    ran = subprocess.run([folder / "kit/bin/rt", "try", "--test"], cwd=with_calls(folder / "repo"), input=b"", capture_output=True, check=False)
     if not kept.is_file():
         sys.exit(ran.stderr.decode(errors="replace") or "rt try handed no module to clang")
     early.clang(kept, "-S", "-emit-llvm", "-O0", "-o", module)
@@ -54,7 +71,7 @@ def unproved(folder):
     subprocess.run(["ar", "rc", archive, made], check=True)
     left_out = set(faces.in_header(faces.header())) - faces.symbols(archive, "-g", "--defined-only")
     if left_out:
-        print(f"not called by the crate's tests, and so left out: {', '.join(sorted(left_out))}", file=sys.stderr)
+        print(f"not called by called.rt.in, and so left out: {', '.join(sorted(left_out))}", file=sys.stderr)
     return archive
 
 

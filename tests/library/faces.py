@@ -23,7 +23,7 @@ def header():
 
 
 def sources():
-    text = "\n".join(file.read_text() for file in sorted(SOURCES.rglob("*.rt")) if file.name != "tests.rt")
+    text = "\n".join(file.read_text() for file in sorted(SOURCES.rglob("*.rt")))
     return re.sub(r"//.*", "", text)
 
 

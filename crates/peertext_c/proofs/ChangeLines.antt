@@ -1,5 +1,5 @@
 -- Lines of changes, as they are written.
-use Rattle.std.proofs.Common.{◌≡◌, ◌∙◌, ℕ, List, [], ◌∷◌, ◌++◌, Option, Some, None, Result, Ok, Err, String, Vec, Global, Bool, ap, sym, append_assoc, codes, map, string_bytes}
+use Rattle.std.proofs.Common.{◌≡◌, ◌∙◌, ℕ, List, [], ◌∷◌, ◌++◌, Option, Result, Ok, Err, String, Vec, Global, Bool, ap, sym, append_assoc, codes, map, string_bytes}
 use Rattle.std.specs.Prelude.{OnOk, encode_utf8_all}
 use Rattle.std.specs.Fmt.{decimal}
 use Rattle.std.specs.Io.KnownBytes.{Appends}

@@ -241,6 +241,3 @@ pub extern "C" fn pt_place_of(
     *place = found;
     DONE
 }
-
-#[cfg(test)]
-mod tests;

@@ -1,6 +1,6 @@
 use Rattle.std.proofs.Common.{take, flat_map}
 use Rattle.std.specs.Io.KnownBytes.{Appends}
-use Rattle.rt_changes.specs.Replays.{Deleted, Tagged}
+use Rattle.rt_changes.specs.Replays.{Tagged}
 use Rattle.peertext_c.specs.Changes.{change_line}
 use Rattle.peertext_c.proofs.changes.write_tags.Given as goal
 
