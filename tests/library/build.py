@@ -39,15 +39,11 @@ def exported(lines):
 
 
 def with_calls(root):
-    """A copy of the crate whose tests are those of called.rt.in, beside the crates below it."""
-    (root / "crates").mkdir(parents=True)
+    """A copy of the crate whose tests are those of called.rt.in, in a copy of the crates below it."""
+    shutil.copytree(CRATE.parent, root / "crates", ignore=shutil.ignore_patterns("out"))
     for name in ("crates.txt", "HANDLES"):
         shutil.copy(early.ROOT / name, root / name)
-    for it in CRATE.parent.iterdir():
-        if it != CRATE:
-            (root / "crates" / it.name).symlink_to(it)
     crate = root / "crates" / CRATE.name
-    shutil.copytree(CRATE, crate, ignore=shutil.ignore_patterns("out"))
     shutil.copy(HERE / "called.rt.in", crate / "src/tests.rt")
     with open(crate / "src/lib.rt", "a", encoding="utf-8") as file:
         file.write("\n#[cfg(test)]\nmod tests;\n")
