@@ -21,9 +21,11 @@ pub mod Limits
 pub mod Making
 pub mod Merging
 pub mod NamedRuns
+pub mod NotedPuts
 pub mod Orders
 pub mod PlaceRuns
 pub mod PlacesAt
+pub mod Noted
 pub mod Onward
 pub mod Planned
 pub mod PlannedEntries

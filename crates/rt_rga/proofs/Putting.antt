@@ -158,7 +158,7 @@ length_kept_after (op ∷ ops) new kept h =
 
 -- WHAT THEY SHOW
 
-put_shown : (table : TagStates) (stamp : Stamp) (body : Body) (new kept : List (Cell ℕ)) (rest : List TaggedCell) → map (shown table) new ≡ fresh_by stamp body ++ rest
+pub put_shown : (table : TagStates) (stamp : Stamp) (body : Body) (new kept : List (Cell ℕ)) (rest : List TaggedCell) → map (shown table) new ≡ fresh_by stamp body ++ rest
     → map (shown table) (put_by_kept stamp body new kept) ≡ put_by stamp body (map (shown table) kept)
 put_shown table stamp (Insert after tags text) new kept rest e =
     let fresh : List TaggedCell = fresh_by stamp (Insert after tags text) in
@@ -169,7 +169,7 @@ put_shown table stamp (Insert after tags text) new kept rest e =
 put_shown table stamp (Delete spans) new kept rest e = gone_shown (state_at table) spans kept
 put_shown table stamp (Tag on name spans) new kept rest e = refl
 
-left_shown : (table : TagStates) (stamp : Stamp) (body : Body) (new : List (Cell ℕ)) (rest : List TaggedCell) → map (shown table) new ≡ fresh_by stamp body ++ rest → map (shown table) (drop (characters_in body) new) ≡ rest
+pub left_shown : (table : TagStates) (stamp : Stamp) (body : Body) (new : List (Cell ℕ)) (rest : List TaggedCell) → map (shown table) new ≡ fresh_by stamp body ++ rest → map (shown table) (drop (characters_in body) new) ≡ rest
 left_shown table stamp body new rest e =
     sym (drop-map (shown table) (characters_in body) new) ∙ ap (drop (characters_in body)) e ∙ back (characters_in body) (fresh_by stamp body) rest (length_fresh stamp body)
 
@@ -187,7 +187,7 @@ module _ (P : Cell ℕ → Type 0) (stays : (cell : Cell ℕ) → P cell → P (
     | false ↦ p
   ]
 
-  put_every : (stamp : Stamp) (body : Body) (new kept : List (Cell ℕ)) → All P new → All P kept → All P (put_by_kept stamp body new kept)
+  pub put_every : (stamp : Stamp) (body : Body) (new kept : List (Cell ℕ)) → All P new → All P kept → All P (put_by_kept stamp body new kept)
   put_every stamp (Insert after tags text) new kept n k =
       All-append P (take (skip_from kept after stamp) kept) (take (length text) new ++ drop (skip_from kept after stamp) kept) (All-take P (skip_from kept after stamp) kept k)
       (All-append P (take (length text) new) (drop (skip_from kept after stamp) kept) (All-take P (length text) new n) (All-drop P (skip_from kept after stamp) kept k))

@@ -35,10 +35,12 @@ pub record IsWithin (log : List Operation) (table : TagStates) (kept : List (Cel
   pub cells : length kept ≤ limit
   pub most : limit ≤ MOST_CELLS
 
--- what a replica keeps to: it is within its limit, and what its store keeps of tags is right by its table of states
-pub record IsSound (Within Agrees : Type 0) : Type 0 where
+-- what a replica keeps to: it is within its limit, what its store keeps of tags is right by its table of states, and so is what is
+-- noted by its log
+pub record IsSound (Within Agrees Noted : Type 0) : Type 0 where
   pub within : Within
   pub agrees : Agrees
+  pub noted : Noted
 
 -- the cells that are kept have the stamps of a history's cells
 pub record AreCellsOf (log : List Operation) (kept : List (Cell ℕ)) : Type 0 where

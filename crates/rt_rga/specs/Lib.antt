@@ -10,6 +10,7 @@ pub mod Laws
 pub mod Made
 pub mod Making
 pub mod Names
+pub mod Noted
 pub mod OneOrMany
 pub mod Orders
 pub mod Reading

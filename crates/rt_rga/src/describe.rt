@@ -1,14 +1,15 @@
 // What an operation will change in the visible text.
-ghost use Rattle.std.specs.Prelude.{◌≡◌, ◌+◌, ◌<◌, ◌≤◌, IfOk, IsOkUnless, List, ℕ, false, length, map};
+ghost use Rattle.std.specs.Prelude.{◌≡◌, ◌+◌, ◌<◌, ◌≤◌, IfOk, IsOkUnless, List, ℕ, [], ◌∷◌, false, true, length, map};
 ghost use Rattle.rt_stamps.specs.declared.limits.TheConstants.{MOST_CELLS};
 ghost use Rattle.rt_stamps.specs.declared.stamp.Stamp.{Stamp as StampOf};
 ghost use Rattle.rt_stamps.specs.declared.stamp.TheConstants.{FINAL};
 ghost use Rattle.rt_stamps.specs.Words.{as_words};
-ghost use Rattle.rt_ops.specs.Operations.{Insert, Name, stamp_of};
+ghost use Rattle.rt_ops.specs.Operations.{Insert, Name, Operation, stamp_of};
 ghost use Rattle.rt_store.specs.Cells.{AreDistinct, IsPlaced, visible_before, visible_of};
 ghost use Rattle.rt_store.specs.Shown.{shown};
-ghost use Rattle.rt_tags.specs.States.{KeepsIds};
+ghost use Rattle.rt_tags.specs.States.{KeepsIds, TagStates};
 ghost use Rattle.rt_rga.specs.Cells.{deletes};
+ghost use Rattle.rt_rga.specs.Noted.{leaves_tags};
 ghost use Rattle.rt_rga.specs.Taken.{AreFallingRuns, IsChange, is_in_runs, lists_of, place_in, retags, takes_away};
 
 use crate::answer::cells_more;
@@ -16,7 +17,7 @@ use crate::removed::runs_in;
 use crate::retagged::retagged_in;
 use crate::taken::{Change, PlaceRun};
 use rt_oplog::{Edit, Op};
-use rt_stamps::Fault;
+use rt_stamps::{Fault, Stamp};
 use rt_store::TextStore;
 use rt_tags::StateTable;
 use std::alloc::Global;
@@ -51,6 +52,27 @@ fn place_in<S: TextStore>(store: &S, op: &Op) -> usize
             name: _,
             spans: _,
         } => 0,
+    }
+}
+
+/// What the Insert of one character without tags will change.
+pub(crate) fn insertion_at<S: TextStore>(
+    alloc: Global,
+    store: &S,
+    stamp: Stamp,
+    after: Stamp,
+) -> Change
+    requires placed { IsPlaced (S.list store.now) after stamp }
+    requires distinct { AreDistinct (S.list store.now) }
+    ensures { (table : TagStates) (op : Operation) (character : ℕ) → stamp_of op ≡ stamp → op.body ≡ Insert after [] (character ∷ [])
+        → IsChange op (map (shown table) (S.list store.now)) result }
+{
+    Change {
+        place: place_at(store, store.after_skip(after, stamp)),
+        inserted: 1,
+        removed: Vec::new(alloc),
+        retagged: Vec::new(alloc),
+        lists: Vec::new(alloc),
     }
 }
 
@@ -139,6 +161,33 @@ fn lists(alloc: Global, op: &Op) -> Result<Vec<String>, Fault>
         } => copies_of(alloc, slice::from_ref(name)),
         _ => Ok(Vec::new(alloc)),
     }
+}
+
+/// What an operation will change that leaves all tags. Want of memory.
+pub(crate) fn describe_text<S: TextStore>(
+    alloc: Global,
+    store: &S,
+    op: &Op,
+) -> Result<Change, Fault>
+    requires placed { (after : StampOf) (tags : List Name) (text : List ℕ) → op.now.body ≡ Insert after tags text
+        → IsPlaced (S.list store.now) after (stamp_of op.now) }
+    requires distinct { AreDistinct (S.list store.now) }
+    requires few { length (S.list store.now) ≤ MOST_CELLS }
+    requires stays { deletes op.now.body FINAL ≡ false }
+    requires text { leaves_tags op.now.body ≡ true }
+    ensures change { IfOk result (λ change. (table : TagStates) → IsChange op.now (map (shown table) (S.list store.now)) change) }
+    ensures fault { IsOkUnless result Fault.NoMemory }
+{
+    let removed = removed(alloc, store, op)?;
+    let lists = lists(alloc, op)?;
+    let place = place_in(store, op);
+    Ok(Change {
+        place,
+        inserted: cells_more(op),
+        removed,
+        retagged: Vec::new(alloc),
+        lists,
+    })
 }
 
 /// What an operation will change. Want of memory.

@@ -10,6 +10,8 @@ pub mod laws;
 mod make;
 mod named;
 mod new_cells;
+mod notes;
+mod noting;
 pub mod one_or_many;
 mod places;
 mod plan;

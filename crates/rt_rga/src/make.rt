@@ -251,7 +251,7 @@ fn add_fresh(
 /// Puts new characters in, or makes characters gone, as an operation does that is an Insert or a
 /// Delete, and tells the new cells that are left. Takes no memory.
 #[inline(always)]
-fn put<'a, S: TextStore>(
+pub(crate) fn put<'a, S: TextStore>(
     store: &mut S,
     states: &StateTable,
     new: &'a [Cell<StateId>],
@@ -350,7 +350,7 @@ fn cuts_in(edit: &Edit) -> Option<usize>
 /// Makes room in a store for operations with so many new cells and so many runs of states of a table. Want of
 /// memory.
 #[inline(always)]
-fn make_room<S: TextStore>(
+pub(crate) fn make_room<S: TextStore>(
     store: &mut S,
     states: &StateTable,
     cells: usize,

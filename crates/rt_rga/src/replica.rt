@@ -1,5 +1,5 @@
 // A replica: accepted operations, and the cells that are kept of them.
-ghost use Rattle.std.specs.Prelude.{◌≡◌, ℕ, ◌+◌, ◌<◌, ◌≤◌, ◌∷◌, [], IfOk, IfErr, IsOkUnless, None, OnErr, OnOk, Some, length, map, true};
+ghost use Rattle.std.specs.Prelude.{◌≡◌, ℕ, ◌+◌, ◌<◌, ◌≤◌, ◌∷◌, [], IfOk, IfErr, IfSome, IsOkUnless, None, OnErr, OnOk, Some, length, map, reverse, true};
 ghost use Rattle.rt_stamps.specs.declared.limits.TheConstants.{MOST_CELLS};
 ghost use Rattle.rt_stamps.specs.declared.stamp.Stamp.{Stamp as StampValue};
 ghost use Rattle.rt_store.specs.Cells.{final_cell};
@@ -15,6 +15,7 @@ ghost use Rattle.rt_rga.specs.Kept.{said};
 ghost use Rattle.rt_ops.specs.Rules.{keeps_rules};
 ghost use Rattle.rt_rga.specs.Made.{Makes, RefusesFor, refusal_of};
 ghost use Rattle.rt_rga.specs.Making.{AreNewest, fresh_cells, next_insert};
+ghost use Rattle.rt_rga.specs.Noted.{AreOfNewest};
 ghost use Rattle.rt_rga.specs.Requests.{MayBeMade};
 ghost use Rattle.rt_rga.specs.Histories.{Continues, IsHistory, greatest_last_count, inserted};
 ghost use Rattle.rt_store.specs.Shown.{shown};
@@ -25,7 +26,8 @@ use crate::answer::{Offer, answer_within, has_gap};
 use crate::character::{push_character, put_character};
 use crate::describe::describe;
 use crate::edits::change;
-use crate::make::{change_all, copied, list_of, prepared, push_few};
+use crate::make::{copied, list_of, prepared, push_few};
+use crate::notes::Notes;
 use crate::one_or_many::OneOrMany;
 use crate::taken::Change;
 use rt_oplog::{Op, OpLog};
@@ -45,6 +47,7 @@ pub struct Replica<S: TextStore> {
     states: StateTable,
     site: Site,
     limit: usize,
+    notes: Notes,
 }
 
 // Written out, so that where it is let go is one step for the crates above, and not one for each
@@ -59,6 +62,7 @@ impl<S: TextStore> Drop for Replica<S> {
             states: _,
             site: _,
             limit: _,
+            notes: _,
         } = self;
     }
 }
@@ -66,6 +70,7 @@ impl<S: TextStore> Drop for Replica<S> {
 impl<S: TextStore> Model for Replica<S> {
     ghost use Rattle.std.specs.Prelude.{map};
     ghost use Rattle.rt_rga.specs.Kept.{IsSound, IsWithin, ReplicaValue};
+    ghost use Rattle.rt_rga.specs.Noted.{AreNotes};
     ghost use Rattle.rt_store.specs.Shown.{shown};
 
     ghost Value = { ReplicaValue };
@@ -78,7 +83,8 @@ impl<S: TextStore> Model for Replica<S> {
       limit = r.limit;
     } };
 
-    ghost invariant = { λ r. IsSound (IsWithin r.log.operations r.states (S.list r.store) r.clock r.limit) (S.agrees r.store r.states) };
+    ghost invariant = { λ r. IsSound (IsWithin r.log.operations r.states (S.list r.store) r.clock r.limit) (S.agrees r.store r.states)
+        (AreNotes r.notes r.log.operations) };
 }
 
 impl<S: TextStore> Replica<S> {
@@ -102,6 +108,7 @@ impl<S: TextStore> Replica<S> {
             states,
             site,
             limit,
+            notes: Notes::Off,
         })
     }
 
@@ -162,6 +169,23 @@ impl<S: TextStore> Replica<S> {
         &self.clock
     }
 
+    /// Notes from here on what each of the site's own operations changes, until `noted` is asked.
+    pub fn note(&mut self)
+        ensures { self.new ≡ self.old }
+    {
+        self.notes = Notes::Kept(Vec::new(self.alloc));
+    }
+
+    /// What the newest operations of the log changed, in the order in which they were made: all that were made since `note`,
+    /// and nothing is noted from here on. None where `note` wasn't asked, an operation was taken since, several were made
+    /// at once of which one is a Tag, or memory was wanting to note them, which refuses no operation.
+    pub fn noted(&mut self) -> Option<Vec<Change>>
+        ensures newest { IfSome result (λ changes. AreOfNewest (reverse changes.items) self.old.log) }
+        ensures same { self.new ≡ self.old }
+    {
+        self.notes.end()
+    }
+
     /// What is answered to an operation, where memory is left.
     pub fn answer(&self, op: &Op) -> Result<Offer, Fault>
         ensures answer { said result ≡ answer_within self.now.limit op.now self.now.log }
@@ -211,6 +235,7 @@ impl<S: TextStore> Replica<S> {
         }
         self.clock.saw(op.last_count());
         let _added = self.log.push(op);
+        self.notes.lose();
         Ok(told)
     }
 
@@ -231,7 +256,7 @@ impl<S: TextStore> Replica<S> {
     {
         let made = list_of(&ops);
         self.log.reserve(made.len())?;
-        change_all(
+        let noted = self.notes.change(
             self.alloc,
             &mut self.store,
             &mut self.states,
@@ -239,6 +264,7 @@ impl<S: TextStore> Replica<S> {
             made,
         )?;
         push_few(&mut self.log, &mut self.clock, ops);
+        self.notes.add(noted);
         Ok(())
     }
 
@@ -351,6 +377,9 @@ impl<S: TextStore> Replica<S> {
         ensures fault { IsOkUnless result Fault.NoMemory }
     {
         self.log.reserve(1)?;
+        let noted = self
+            .notes
+            .of_character(self.alloc, &self.store, stamp, after);
         put_character(
             &mut self.store,
             &self.states,
@@ -367,6 +396,7 @@ impl<S: TextStore> Replica<S> {
             after,
             character,
         );
+        self.notes.add(noted);
         Ok(())
     }
 

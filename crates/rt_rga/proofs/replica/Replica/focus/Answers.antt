@@ -11,6 +11,7 @@ invariant_of-self g c =
     record {
       within = subst (λ (kept : List (Cell ℕ)). IsWithin v.log.operations v.states kept v.clock v.limit) (sym c.focus.ensures.list) within;
       agrees = c.focus.ensures.agrees v.states c.self.invariant.agrees;
+      noted = c.self.invariant.noted;
     }
 
 pub returns : goal.returns

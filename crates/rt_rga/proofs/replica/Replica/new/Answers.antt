@@ -10,4 +10,4 @@ invariant_of-result g c =
     let empty : TagStates = record { names = []; states = [] ∷ [] } in
     let zero : IsState empty 0 = omega arith in
     let given : AreStates c.in_ok-states.states (final_cell ∷ []) = subst (λ (t : TagStates). AreStates t (final_cell ∷ [])) (sym c.in_ok-states.ensures.ok) (one_state empty final_cell zero) in
-    record { within = search rules; agrees = g.met.S.TextStore.fresh c.args.store c.in_ok-states.states c.requires.store given }
+    record { within = search rules; agrees = g.met.S.TextStore.fresh c.args.store c.in_ok-states.states c.requires.store given; noted = tt }

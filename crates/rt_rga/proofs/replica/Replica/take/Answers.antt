@@ -10,6 +10,7 @@ use Rattle.rt_rga.specs.Kept.{ReplicaValue}
 use Rattle.rt_rga.specs.Replicas.{IsReplica}
 use Rattle.rt_rga.specs.Taken.{IsChange}
 use Rattle.rt_tags.proofs.Listing.{keeps_both}
+use Rattle.rt_rga.proofs.Noted.{noted_same}
 use Rattle.rt_rga.proofs.Pushing.{taken_in}
 use Rattle.rt_rga.proofs.Replicas.{replica_distinct}
 use Rattle.rt_rga.proofs.Within.{final_spared, placed_by, same_value, within_later, within_more}
@@ -59,7 +60,7 @@ invariant_of-self-in-Err g c =
     let v = c.self.inside in
     let log = v.log.operations in
     let kept : List (Cell ℕ) = g.S.TextStore.list v.store in
-    record { within = within_later log c.reserve.new.self.operations v.states c.describe.new.states kept kept v.clock v.limit c.reserve.ensures.same refl c.describe.ensures.ids c.self.invariant.within; agrees = g.met.S.TextStore.grows v.store v.states c.describe.new.states c.describe.ensures.ids c.self.invariant.agrees }
+    record { within = within_later log c.reserve.new.self.operations v.states c.describe.new.states kept kept v.clock v.limit c.reserve.ensures.same refl c.describe.ensures.ids c.self.invariant.within; agrees = g.met.S.TextStore.grows v.store v.states c.describe.new.states c.describe.ensures.ids c.self.invariant.agrees; noted = noted_same v.notes log c.reserve.new.self.operations c.reserve.ensures.same c.self.invariant.noted }
 
 pub change-requires-clause-replica : goal.change-requires-clause-replica
 change-requires-clause-replica g c =
@@ -74,7 +75,7 @@ invariant_of-self-then-is_err-2 g c =
     let log = v.log.operations in
     let kept : List (Cell ℕ) = g.S.TextStore.list v.store in
     let ids : KeepsIds v.states c.change.new.states = keeps_both v.states c.describe.new.states c.change.new.states c.describe.ensures.ids c.change.ensures.ids in
-    record { within = within_later log c.reserve.new.self.operations v.states c.change.new.states kept (g.S.TextStore.list c.change.new.store) v.clock v.limit c.reserve.ensures.same (on_err c.change.result c.if-is_err-2.ensures.value c.change.ensures.same) ids c.self.invariant.within; agrees = c.change.ensures.agrees }
+    record { within = within_later log c.reserve.new.self.operations v.states c.change.new.states kept (g.S.TextStore.list c.change.new.store) v.clock v.limit c.reserve.ensures.same (on_err c.change.result c.if-is_err-2.ensures.value c.change.ensures.same) ids c.self.invariant.within; agrees = c.change.ensures.agrees; noted = noted_same v.notes log c.reserve.new.self.operations c.reserve.ensures.same c.self.invariant.noted }
 
 pub invariant_of-self-2 : goal.invariant_of-self-2
 invariant_of-self-2 g c =
@@ -99,6 +100,7 @@ invariant_of-self-2 g c =
       within = within_more log c.push-added.new.self.operations v.states c.change.new.states kept (g.S.TextStore.list c.change.new.store) v.clock c.saw.new.self v.limit c.args.op pushed replica (on_ok c.change.result c.if-is_err-2.ensures.value c.change.ensures.cells) room
           (c.saw.ensures ∙ ap (max v.clock) c.last_count.ensures) c.self.invariant.within;
       agrees = c.change.ensures.agrees;
+      noted = c.lose.ensures c.push-added.new.self.operations;
     }
 
 pub returns-clause-log : goal.returns-clause-log
@@ -128,7 +130,7 @@ pub invariant_of-self : goal.invariant_of-self
 invariant_of-self g c =
     let v = c.self.inside in
     let kept : List (Cell ℕ) = g.S.TextStore.list v.store in
-    record { within = within_later v.log.operations c.reserve.new.self.operations v.states v.states kept kept v.clock v.limit c.reserve.ensures.same refl (keeps_itself v.states) c.self.invariant.within; agrees = c.self.invariant.agrees }
+    record { within = within_later v.log.operations c.reserve.new.self.operations v.states v.states kept kept v.clock v.limit c.reserve.ensures.same refl (keeps_itself v.states) c.self.invariant.within; agrees = c.self.invariant.agrees; noted = noted_same v.notes v.log.operations c.reserve.new.self.operations c.reserve.ensures.same c.self.invariant.noted }
 
 pub returns-clause-same : goal.returns-clause-same
 returns-clause-same g c = tt
