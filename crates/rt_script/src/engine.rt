@@ -136,8 +136,8 @@ fn answer_text<C: Commands>(alloc: Global, spare: &mut Spare, site: &mut C, text
     answer
 }
 
-/// What a line is answered, unless it is a silent one: an empty line, one of spaces and tabs alone, or one that begins
-/// with `#`; then the state stays. `spare` is memory of words that lines may share. A line that is too long or no UTF-8
+/// What a line is answered, given without the newline at its end and a return before that, unless it is a silent one: an
+/// empty line, one of spaces and tabs alone, or one that begins with `#`; then the state stays. `spare` is memory of words that lines may share. A line that is too long or no UTF-8
 /// is refused with `BadQuoting`.
 pub fn answer_line<C: Commands>(
     alloc: Global,
@@ -185,8 +185,8 @@ fn rendered<A: Ledger, B: Ledger>(
     }
 }
 
-/// The line of an answer, in memory of its own. Want of memory.
-pub fn line_of(alloc: Global, answer: &Answer) -> Result<Vec<u8>, Fault>
+/// The bytes of an answer's line, with the newline at its end, in memory of their own. Want of memory.
+pub fn answer_bytes(alloc: Global, answer: &Answer) -> Result<Vec<u8>, Fault>
     ensures ok { IfOk result (λ line. line.items ≡ reply_line answer.now) }
     ensures err { IsOkUnless result Fault.NoMemory }
 {

@@ -13,10 +13,10 @@ pub mod site_run;
 
 pub use answer::Answer;
 pub use commands::Commands;
-pub use engine::{Ended, answer_line, line_of};
+pub use engine::{Ended, answer_bytes, answer_line};
 pub use reply::reply_line;
 pub use rt_files::{JoinFault, join_files, show_file};
-pub use rt_peers::{Received, ReceivedChanges, Reply, SiteState, ToldChange};
+pub use rt_peers::{Received, ReceivedChanges, Reply, SiteState, ToldAnswer, ToldChange};
 pub use rt_words::{Spare, words};
 pub use scripts::{run, run_bounded};
 pub use site_lines::Session;

@@ -2,7 +2,7 @@
 ghost use Rattle.std.specs.Prelude.{◌≡◌, ◌<◌};
 
 use crate::checks::same;
-use rt_script::{Answer, Reply, line_of, reply_line};
+use rt_script::{Answer, Reply, answer_bytes, reply_line};
 use rt_stamps::Fault;
 use rt_stamps::std_ends::{Count, Writer};
 use std::alloc::Global;
@@ -57,7 +57,7 @@ const WRITTEN: &[(&[&str], &str)] = &[
 fn is_written(rt: &impl Abort, alloc: Global, answer: &Answer, wanted: &str) {
     let line = written_line(alloc, answer).expect(rt, wanted);
     same(rt, line.as_slice(), wanted.as_bytes());
-    let line = line_of(alloc, answer).expect(rt, wanted);
+    let line = answer_bytes(alloc, answer).expect(rt, wanted);
     same(rt, line.as_slice(), wanted.as_bytes());
 }
 

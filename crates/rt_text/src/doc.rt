@@ -15,6 +15,7 @@ mod accepting;
 mod editing;
 mod limiting;
 mod marking;
+mod noting;
 mod reading;
 mod replacing;
 mod reverting;

@@ -15,6 +15,7 @@ mod lending;
 mod limiting;
 mod losing;
 mod marking;
+mod noting;
 mod reading;
 mod replacing;
 mod reverting;

@@ -134,9 +134,15 @@ flag_parted xs ys kept forced = by_option (rest_after xs kept)
     ∙ sym (or_true forced (not (same_numbers ys [])))
     ∙ ap (λ b. forced || not b) (ap is_all (sym (rest_none xs ys kept e)) ∙ sym (same_rest (xs ++ ys) kept)))
 
+-- whatever can be undone later, the numbers of the oldest groups count as if they stood in front
+pub later_flag : (n : ℕ) (h later : History ℕ)
+    → is_modified (record (dropped n h) { closed = later.closed; current = later.current })
+    ≡ h.forced || not (same_numbers (numbers_in (take n h.closed) ++ numbers later) h.kept)
+later_flag n h later = flag_parted (numbers_in (take n h.closed)) (numbers later) h.kept h.forced
+
 pub same_flag : (n : ℕ) (h : History ℕ) → is_modified (dropped n h) ≡ is_modified h
 same_flag n h =
-    flag_parted (numbers_in (take n h.closed)) (numbers (dropped n h)) h.kept h.forced
+    later_flag n h (dropped n h)
     ∙ ap (λ l. h.forced || not (same_numbers l h.kept)) (sym (numbers_parted n h))
 
 -- THE NEWEST GROUPS STAY
@@ -169,7 +175,14 @@ newest_stay h = sym (drop-append-le (too_many h) h.closed (as_group h.current) (
 pub most_stay : (h : History ℕ) → 0 < h.most → length (to_undo (limited h)) ≤ h.most
 most_stay h l = omega (arith, ap (λ gs. length gs) (newest_stay h), length-drop (too_many h) (to_undo h), some_too_many h l)
 
+pub full_stay : (h : History ℕ) → 0 < h.most → h.most ≤ length (to_undo h) → length (to_undo (limited h)) ≡ h.most
+full_stay h l m = omega (arith, ap (λ gs. length gs) (newest_stay h), length-drop (too_many h) (to_undo h), some_too_many h l)
+
+none_dropped : (h : History ℕ) → too_many h ≡ 0 → limited h ≡ h
+none_dropped h none = ap (λ n. dropped n h) none ∙ (λ i. record h { forced = or_false h.forced i })
+
 pub few_stay : (h : History ℕ) → length (to_undo h) ≤ h.most → limited h ≡ h
-few_stay h l =
-    let none : too_many h ≡ 0 = by_zero h.most (none_too_many h) (λ p. omega (arith, some_too_many h p)) in
-    ap (λ n. dropped n h) none ∙ (λ i. record h { forced = or_false h.forced i })
+few_stay h l = none_dropped h (by_zero h.most (none_too_many h) (λ p. omega (arith, some_too_many h p)))
+
+pub any_stay : (h : History ℕ) → h.most ≡ 0 → limited h ≡ h
+any_stay h e = none_dropped h (none_too_many h e)

@@ -1,10 +1,10 @@
 // Places by stamps, and stamps by places.
 ghost use Rattle.std.specs.Prelude.{◌≡◌};
-ghost use Rattle.rt_peers.specs.Cursors.{limits_by, place_by, stamp_by};
+ghost use Rattle.rt_peers.specs.Cursors.{limits_by, place_by, shown_by, stamp_by};
 
 use super::SiteState;
 use crate::paths::number_of;
-use rt_lines::Limits;
+use rt_lines::{Limits, Stretch};
 use rt_stamps::Stamp;
 
 impl SiteState {
@@ -14,6 +14,16 @@ impl SiteState {
     {
         let at = number_of(&self.paths, path)?;
         Some(self.text.limits_at(at))
+    }
+
+    /// Which places of the whole text the widget of a path shows, its last newline's among them: what is told of changes
+    /// speaks of the whole text (`answer_telling`, `receive_telling`), and the lines of a widget with limits move with it.
+    /// None where there is no such widget. It takes no memory.
+    pub fn shown(&self, path: &str) -> Option<Stretch>
+        ensures { result ≡ shown_by path.now self.now }
+    {
+        let limits = self.limits_by(path)?;
+        Some(self.text.view().shown_within(limits))
     }
 
     /// The stamp of the character at a place of what the widget of a path shows, counted from where that begins, from 0.

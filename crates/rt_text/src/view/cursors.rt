@@ -1,9 +1,11 @@
 // Places by stamps, and stamps by places.
-ghost use Rattle.std.specs.Prelude.{◌≡◌, ◌<◌, Some, length, option_map, slice_get};
+ghost use Rattle.std.specs.Prelude.{◌≡◌, ◌<◌, ◌≤◌, Some, length, option_map, slice_get};
+ghost use Rattle.rt_store.specs.Cells.{text_of};
+ghost use Rattle.rt_lines.specs.Stretches.{stretch_of};
 ghost use Rattle.rt_text.specs.Cursors.{place_of_stamp, stamp_at};
 
 use super::View;
-use rt_lines::Limits;
+use rt_lines::{Limits, Stretch};
 use rt_stamps::Stamp;
 use rt_store::TextStore;
 
@@ -14,6 +16,15 @@ impl<S: TextStore> View<S> {
         ensures { option_map (λ own. own.limits) (slice_get self.now.others other) ≡ Some result }
     {
         self.others[other].limits
+    }
+
+    /// The places of the whole text that are shown within limits. It takes no memory.
+    pub fn shown_within(&self, limits: Limits) -> Stretch
+        ensures value { result ≡ stretch_of self.now.doc.cells limits }
+        ensures some { result.begin < result.end }
+        ensures within { result.end ≤ length (text_of self.now.doc.cells) }
+    {
+        self.doc.stretch(limits)
     }
 
     /// The stamp of the character at a place of what is shown within limits, counted from where that begins, from 0; none

@@ -1,4 +1,4 @@
-use Rattle.rt_script.proofs.engine.line_of.Given as goal
+use Rattle.rt_script.proofs.engine.answer_bytes.Given as goal
 
 abbrev pub ghosts-rendered-A-Ledger : goal.ghosts-rendered-A-Ledger
 ghosts-rendered-A-Ledger a = record { name = a.writes.name; parts = a.writes.parts }
