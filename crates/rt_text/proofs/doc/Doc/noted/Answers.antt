@@ -1,4 +1,4 @@
-use Rattle.std.proofs.Common.{◌∙◌, List, Vec, Global, Option, ap, reverse, subst, sym}
+use Rattle.std.proofs.Common.{◌∙◌, List, ap, reverse, subst, sym}
 use Rattle.std.specs.Prelude.{IfSome}
 use Rattle.rt_ops.specs.Operations.{Operation}
 use Rattle.rt_plans.specs.DocValue.{DocValue}
