@@ -1,10 +1,8 @@
 // The command line, by clap.
-ghost use Rattle.std.specs.Prelude.{◌≡◌, ◌<◌, IfErr, IsOkUnless, IfOk, Some, codes, false, map, option_map, string_bytes};
+ghost use Rattle.std.specs.Prelude.{◌≡◌, ◌<◌, IfErr, IfOk, Some, codes, map, option_map, string_bytes};
 ghost use Rattle.rt_stamps.specs.Words.{as_words};
-ghost use Rattle.clap.specs.Words.{app_of, found_of, new_app, rows_of, rule_of, subcommand_rows_of, with_rule, with_subcommand};
-ghost use Rattle.clap.specs.declared.builder.Command.TheViews.{out-Command as fields_of};
-ghost use Rattle.rt_args.specs.CommandLine.{HasFile, HasSite, HasValues, IsCommand, IsOption, IsWhole, LineIn, LineOf, RefusesLine, Takes, file_given, file_word, files_given, files_word, join_command, path_option, peertext, program, run_command, run_options, show_command, site_given, site_option, subcommand_name};
-ghost use Rattle.rt_args.specs.declared.command_line.LineFault.TheVariants.{NoMemory};
+ghost use Rattle.clap.specs.Words.{App, Rule, found_of, new_app, rows_of, subcommand_rows_of, with_rule, with_subcommand};
+ghost use Rattle.rt_args.specs.CommandLine.{HasFile, HasSite, HasValues, IsCommand, IsOption, IsWhole, LineIn, LineOf, RefusesLine, Takes, file_given, file_word, files_given, files_word, join_command, path_option, peertext, program, run_command, show_command, site_given, site_option, subcommand_name};
 
 use crate::{Line, LineFault};
 use clap::builder::ValueParser;
@@ -24,20 +22,43 @@ fn site_option<'a>(alloc: Global) -> Arg<'a>
         .value_parser(ValueParser::unsigned(1, GREATEST_SITE as u64))
 }
 
-fn with_option<'a>(command: Command<'a>, arg: Arg<'a>) -> Result<Command<'a>, AllocError>
-    requires command { (fields_of command).has_globals ≡ false }
-    requires arg { arg.global ≡ false }
-    ensures { IfOk result (IsCommand (with_rule (app_of command.entry) (rule_of arg.entry))) }
+// A command with one more argument, if there was memory for it so far. An argument that isn't taken is let go by a call, so
+// that the check need not go through its fields here.
+fn with_option<'a>(
+    command: Result<Command<'a>, AllocError>,
+    arg: Arg<'a>,
+) -> Result<Command<'a>, AllocError>
+    ensures { (app : App) (rule : Rule) → IfOk command.entry (IsCommand app) → IsOption rule arg.entry → IfOk result (IsCommand (with_rule app rule)) }
 {
-    command.arg(arg)
+    match command {
+        Ok(command) => command.arg(arg),
+        Err(error) => {
+            drop(arg);
+            Err(error)
+        }
+    }
 }
 
-fn with_command<'a>(command: Command<'a>, below: Command<'a>) -> Result<Command<'a>, AllocError>
-    requires command { (fields_of command).has_globals ≡ false }
-    requires below { (fields_of below).has_globals ≡ false }
-    ensures { IfOk result (IsCommand (with_subcommand (app_of command.entry) (app_of below.entry).top)) }
+// A command with one more subcommand, if there was memory for both.
+fn with_command<'a>(
+    command: Result<Command<'a>, AllocError>,
+    below: Result<Command<'a>, AllocError>,
+) -> Result<Command<'a>, AllocError>
+    ensures { (app sub : App) → IfOk command.entry (IsCommand app) → IfOk below.entry (IsCommand sub) → IfOk result (IsCommand (with_subcommand app sub.top)) }
 {
-    command.subcommand(below)
+    match command {
+        Ok(command) => match below {
+            Ok(below) => command.subcommand(below),
+            Err(error) => {
+                drop(command);
+                Err(error)
+            }
+        },
+        Err(error) => {
+            drop(below);
+            Err(error)
+        }
+    }
 }
 
 fn path_option<'a>(alloc: Global, name: &'a str, help: &'a str) -> Arg<'a>
@@ -55,26 +76,23 @@ fn files_word<'a>(alloc: Global) -> Arg<'a>
         .help("A file of operations that the script may receive")
 }
 
-fn run_options<'a>(alloc: Global) -> Result<Command<'a>, AllocError>
-    ensures { IfOk result (IsCommand run_options) }
+// A subcommand without arguments.
+fn subcommand<'a>(alloc: Global, name: &'a str, about: &'a str) -> Command<'a>
+    ensures { IsCommand (new_app name.now) result }
 {
-    let log = path_option(
-        alloc,
-        "log",
-        "The file of the log that the site begins with",
-    );
-    let out = path_option(alloc, "out", "The file that gets the log after the script");
-    let command = Command::new(alloc, "run").about("Runs a script");
-    with_option(
-        with_option(with_option(command, site_option(alloc))?, log)?,
-        out,
-    )
+    Command::new(alloc, name).about(about)
 }
 
 fn run_command<'a>(alloc: Global) -> Result<Command<'a>, AllocError>
     ensures { IfOk result (IsCommand run_command) }
 {
-    with_option(run_options(alloc)?, files_word(alloc))
+    let run = Ok(subcommand(alloc, "run", "Runs a script"));
+    let run = with_option(run, site_option(alloc));
+    let log = "The file of the log that the site begins with";
+    let run = with_option(run, path_option(alloc, "log", log));
+    let out = "The file that gets the log after the script";
+    let run = with_option(run, path_option(alloc, "out", out));
+    with_option(run, files_word(alloc))
 }
 
 fn file_word<'a>(alloc: Global, name: &'a str, help: &'a str) -> Arg<'a>
@@ -86,31 +104,21 @@ fn file_word<'a>(alloc: Global, name: &'a str, help: &'a str) -> Arg<'a>
         .help(help)
 }
 
-fn join_of_two<'a>(alloc: Global) -> Result<Command<'a>, AllocError>
-    ensures { IfOk result (IsCommand (with_rule (with_rule (new_app (codes "join")) (file_word (codes "A"))) (file_word (codes "B")))) }
-{
-    let first = file_word(alloc, "A", "A file of operations");
-    let second = file_word(alloc, "B", "Another file of operations");
-    let command = Command::new(alloc, "join").about("Joins two files of operations");
-    with_option(with_option(command, first)?, second)
-}
-
 fn join_command<'a>(alloc: Global) -> Result<Command<'a>, AllocError>
     ensures { IfOk result (IsCommand join_command) }
 {
-    with_option(
-        join_of_two(alloc)?,
-        file_word(alloc, "OUT", "The file that gets the join"),
-    )
+    let join = Ok(subcommand(alloc, "join", "Joins two files of operations"));
+    let join = with_option(join, file_word(alloc, "A", "A file of operations"));
+    let join = with_option(join, file_word(alloc, "B", "Another file of operations"));
+    with_option(join, file_word(alloc, "OUT", "The file that gets the join"))
 }
 
 fn show_command<'a>(alloc: Global) -> Result<Command<'a>, AllocError>
     ensures { IfOk result (IsCommand show_command) }
 {
-    with_option(
-        Command::new(alloc, "show").about("Shows the operations of a file, one a line"),
-        file_word(alloc, "FILE", "A file of operations"),
-    )
+    let about = "Shows the operations of a file, one a line";
+    let show = Ok(subcommand(alloc, "show", about));
+    with_option(show, file_word(alloc, "FILE", "A file of operations"))
 }
 
 fn program<'a>(alloc: Global) -> Command<'a>
@@ -123,19 +131,12 @@ fn program<'a>(alloc: Global) -> Command<'a>
         .disable_help_subcommand(true)
 }
 
-fn runs_and_joins<'a>(alloc: Global) -> Result<Command<'a>, AllocError>
-    ensures { IfOk result (IsCommand (with_subcommand (with_subcommand program run_command.top) join_command.top)) }
-{
-    with_command(
-        with_command(program(alloc), run_command(alloc)?)?,
-        join_command(alloc)?,
-    )
-}
-
 fn command<'a>(alloc: Global) -> Result<Command<'a>, AllocError>
     ensures { IfOk result (IsCommand peertext) }
 {
-    with_command(runs_and_joins(alloc)?, show_command(alloc)?)
+    let program = with_command(Ok(program(alloc)), run_command(alloc));
+    let program = with_command(program, join_command(alloc));
+    with_command(program, show_command(alloc))
 }
 
 fn site_of(number: u16) -> Site
@@ -154,21 +155,19 @@ fn site_in(run: &ArgMatches<'_>) -> Site
 }
 
 // A name of a file that a subcommand was given.
-fn file_in(alloc: Global, matches: &ArgMatches<'_>, name: &str) -> Result<String, LineFault>
+fn file_in(alloc: Global, matches: &ArgMatches<'_>, name: &str) -> Result<String, AllocError>
     requires { HasFile name.now (rows_of (found_of matches.now)) }
-    ensures file { IfOk result (λ file. file_given name.now (rows_of (found_of matches.now)) ≡ Some (string_bytes file)) }
-    ensures fault { IsOkUnless result NoMemory }
+    ensures { IfOk result (λ file. file_given name.now (rows_of (found_of matches.now)) ≡ Some (string_bytes file)) }
 {
     let file = matches.get_str(name).unwrap();
-    Ok(String::from_str(alloc, file)?)
+    String::from_str(alloc, file)
 }
 
-fn join_in(alloc: Global, join: &ArgMatches<'_>) -> Result<Line, LineFault>
+fn join_in(alloc: Global, join: &ArgMatches<'_>) -> Result<Line, AllocError>
     requires a { HasFile (codes "A") (rows_of (found_of join.now)) }
     requires b { HasFile (codes "B") (rows_of (found_of join.now)) }
     requires out { HasFile (codes "OUT") (rows_of (found_of join.now)) }
-    ensures line { IfOk result (λ line. (subcommand_name line ≡ codes "join") × HasValues (rows_of (found_of join.now)) line) }
-    ensures fault { IsOkUnless result NoMemory }
+    ensures { IfOk result (λ line. (subcommand_name line ≡ codes "join") × HasValues (rows_of (found_of join.now)) line) }
 {
     let a = file_in(alloc, join, "A")?;
     let b = file_in(alloc, join, "B")?;
@@ -177,9 +176,8 @@ fn join_in(alloc: Global, join: &ArgMatches<'_>) -> Result<Line, LineFault>
 }
 
 // The path that an option was given, if it was.
-fn path_in(alloc: Global, run: &ArgMatches<'_>, name: &str) -> Result<Option<String>, LineFault>
-    ensures path { IfOk result (λ path. file_given name.now (rows_of (found_of run.now)) ≡ option_map string_bytes path) }
-    ensures fault { IsOkUnless result NoMemory }
+fn path_in(alloc: Global, run: &ArgMatches<'_>, name: &str) -> Result<Option<String>, AllocError>
+    ensures { IfOk result (λ path. file_given name.now (rows_of (found_of run.now)) ≡ option_map string_bytes path) }
 {
     match run.get_str(name) {
         Some(path) => Ok(Some(String::from_str(alloc, path)?)),
@@ -198,20 +196,18 @@ fn copied(alloc: Global, texts: &[&str]) -> Result<Vec<String>, AllocError>
 }
 
 // The names of the files that a subcommand was given, as many as there are.
-fn files_in(alloc: Global, run: &ArgMatches<'_>, name: &str) -> Result<Vec<String>, LineFault>
-    ensures files { IfOk result (λ files. files_given name.now (rows_of (found_of run.now)) ≡ as_words files.items) }
-    ensures fault { IsOkUnless result NoMemory }
+fn files_in(alloc: Global, run: &ArgMatches<'_>, name: &str) -> Result<Vec<String>, AllocError>
+    ensures { IfOk result (λ files. files_given name.now (rows_of (found_of run.now)) ≡ as_words files.items) }
 {
     match run.get_raw(name) {
-        Some(files) => Ok(copied(alloc, files)?),
+        Some(files) => copied(alloc, files),
         None => Ok(Vec::new(alloc)),
     }
 }
 
-fn run_in(alloc: Global, run: &ArgMatches<'_>) -> Result<Line, LineFault>
+fn run_in(alloc: Global, run: &ArgMatches<'_>) -> Result<Line, AllocError>
     requires { HasSite (rows_of (found_of run.now)) }
-    ensures line { IfOk result (λ line. (subcommand_name line ≡ codes "run") × HasValues (rows_of (found_of run.now)) line) }
-    ensures fault { IsOkUnless result NoMemory }
+    ensures { IfOk result (λ line. (subcommand_name line ≡ codes "run") × HasValues (rows_of (found_of run.now)) line) }
 {
     let site = site_in(run);
     let log = path_in(alloc, run, "log")?;
@@ -225,21 +221,24 @@ fn run_in(alloc: Global, run: &ArgMatches<'_>) -> Result<Line, LineFault>
     })
 }
 
+fn show_in(alloc: Global, show: &ArgMatches<'_>) -> Result<Line, AllocError>
+    requires { HasFile (codes "FILE") (rows_of (found_of show.now)) }
+    ensures { IfOk result (λ line. (subcommand_name line ≡ codes "show") × HasValues (rows_of (found_of show.now)) line) }
+{
+    let file = file_in(alloc, show, "FILE")?;
+    Ok(Line::Show { file })
+}
+
 // The line of a subcommand that was given all that it wants.
-fn line_in(alloc: Global, matches: &ArgMatches<'_>) -> Result<Line, LineFault>
+fn line_in(alloc: Global, matches: &ArgMatches<'_>) -> Result<Line, AllocError>
     requires { IsWhole (subcommand_rows_of matches.now) }
-    ensures line { IfOk result (LineIn (subcommand_rows_of matches.now)) }
-    ensures fault { IsOkUnless result NoMemory }
+    ensures { IfOk result (LineIn (subcommand_rows_of matches.now)) }
 {
     match matches.subcommand_matches("run") {
         Some(run) => run_in(alloc, run),
         None => match matches.subcommand_matches("join") {
             Some(join) => join_in(alloc, join),
-            None => {
-                let show = matches.subcommand_matches("show").unwrap();
-                let file = file_in(alloc, show, "FILE")?;
-                Ok(Line::Show { file })
-            }
+            None => show_in(alloc, matches.subcommand_matches("show").unwrap()),
         },
     }
 }
@@ -253,5 +252,10 @@ pub fn line(alloc: Global, words: &[&str]) -> Result<Line, LineFault>
     ensures refuses { IfErr result (RefusesLine (map (λ w. w.now) words.now)) }
 {
     let matches = command(alloc)?.try_get_matches_from(words)?;
-    line_in(alloc, &matches)
+    let read = line_in(alloc, &matches);
+    drop(matches);
+    match read {
+        Ok(read) => Ok(read),
+        Err(_) => Err(LineFault::NoMemory),
+    }
 }
