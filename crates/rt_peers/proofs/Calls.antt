@@ -117,7 +117,7 @@ created_keeps place path state new settings None words h =
     made_keeps place path state new words (text_with_peer led settings)
     (λ text e. sym (one_more led.view text.view start end (configured_is led text settings.shared (with_peer led.view start end) e)).0) h
 
-peer_keeps : (path : Word) (place : ℕ) (state new : SiteValue) (request : PeerRequest) (result : Result (List Word) Fault)
+pub peer_keeps : (path : Word) (place : ℕ) (state new : SiteValue) (request : PeerRequest) (result : Result (List Word) Fault)
     → Answers (peer_step path place state request) state result new → KeepsOperations state new
 peer_keeps path place state new (Create name settings) (Ok words) h = created_keeps place name state new settings (path_check name state.paths) words h
 peer_keeps path place state new Names (Ok words) h = same_keeps state new (ap (λ (o : Outcome SiteValue). left_in o state) (sym h))

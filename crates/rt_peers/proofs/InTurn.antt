@@ -13,13 +13,17 @@ use Rattle.rt_stamps.specs.Outcomes.{Answers}
 use Rattle.rt_stamps.specs.Words.{Word}
 use Rattle.rt_recording.specs.EditedValue.{EditedValue}
 use Rattle.rt_peers.specs.Peers.{text_led}
-use Rattle.rt_peers.specs.SiteStep.{AnswersInTurn, Gives, KeepsOperations, MakesAndTries, at_widget, by_widget, has_made, log_of, outcome_at, widget_step}
+use Rattle.rt_peers.specs.SiteStep.{AnswersInTurn, Gives, KeepsOperations, MakesAndTries, at_widget, by_leading, by_widget, has_made, log_of, outcome_at, widget_step}
 use Rattle.rt_peers.specs.SiteValue.{SiteValue, number_of}
 use Rattle.rt_peers.specs.Step.{step}
-use Rattle.rt_peers.specs.ViewStep.{Outcome}
-use Rattle.rt_peers.proofs.Gaining.{Gains}
-use Rattle.rt_peers.proofs.PeerLaws.{by_led}
-use Rattle.rt_peers.proofs.Staying.{answer_stays}
+use Rattle.rt_peers.specs.ViewStep.{Outcome, as_outcome}
+use Rattle.rt_peers.proofs.Gaining.{gains_none}
+use Rattle.rt_peers.proofs.PeerLaws.{leading_answers, led_number}
+use Rattle.rt_peers.proofs.Staying.{Steps, answer_stays}
+
+abbrev left_in : {S : Type 0} → Outcome S → S → S
+left_in (Ok answer) none = answer.1
+left_in (Err fault) none = none
 
 less : (n m : ℕ) → n < m → nat_lt n m ≡ true
 less n m h = grind (arith, nat_tests)
@@ -57,21 +61,31 @@ pub at_once : (outcome : Outcome SiteValue) (old : SiteValue) (result : Result (
 at_once outcome old result answers = made_none outcome old old result answers (omega arith) (all_kept old)
 
 -- a request of the widget at a place is answered by the text, which that widget leads meanwhile
-pub request_answers : (place : ℕ) (request : Request) (state : SiteValue) (led after back : EditedValue) (result : Result (List Word) Fault)
-    → led ≡ text_led place state.text → Answers (step led request) led result after → back ≡ text_led place after
-    → Answers (by_widget place state (λ text. step text request)) state result (record state { text = back })
-request_answers place request state led after back result l a b =
-    let answers : Answers (step (text_led place state.text) request) (text_led place state.text) result after =
-    subst (λ (t : EditedValue). Answers (step t request) t result after) l a in
-    subst (λ (t : EditedValue). Answers (by_widget place state (λ text. step text request)) state result (record state { text = t })) (sym b)
-    (by_led place state (λ text. step text request) result after answers)
+pub asked_answers : (place : ℕ) (request : Request) (text led after back : EditedValue) (result : Result (List Word) Fault)
+    → led ≡ text_led place text → Answers (step led request) led result after → back ≡ text_led place after
+    → Answers (by_leading place text (λ text. step text request)) text result back
+asked_answers place request text led after back result l a b =
+    subst (Answers (by_leading place text (λ text. step text request)) text result) (sym b)
+    (leading_answers place text (λ text. step text request) result after (subst (λ (t : EditedValue). Answers (step t request) t result after) l a))
 
--- and the document gains the operations of drafts
-pub request_gains : (place : ℕ) (request : Request) (state : SiteValue) (led after back : EditedValue) (result : Result (List Word) Fault)
-    → led ≡ text_led place state.text → Answers (step led request) led result after → back ≡ text_led place after → Gains state.text.view.doc back.view.doc
-request_gains place request state led after back result l a b =
-    let steps = answer_stays led request result after a in
-    subst (λ (t : EditedValue). Gains state.text.view.doc t.view.doc) (sym b) (subst (λ (t : EditedValue). Gains t.view.doc after.view.doc) l steps.gains)
+-- which gains the operations of drafts, and keeps its widgets
+pub asked_steps : (place : ℕ) (request : Request) (old new : EditedValue) (result : Result (List Word) Fault)
+    → Answers (by_leading place old (λ text. step text request)) old result new → Steps old.view new.view
+asked_steps place request old new (Ok words) h = by (step (text_led place old) request) refl h
+  where
+    by : (outcome : Outcome EditedValue) → step (text_led place old) request ≡ outcome
+        → as_outcome (λ answer. (answer.0, text_led place answer.1)) outcome ≡ Ok (words, new) → Steps old.view new.view
+    by (Ok answer) e h =
+        let after = answer.1 in
+        let steps = answer_stays (text_led place old) request (Ok answer.0) after e in
+        let is : text_led place after ≡ new = ap (λ (o : Outcome EditedValue). left_in o old) h in
+        let led = led_number old.view place in
+        let back = led_number after.view place in
+        let number : length (text_led place after).view.others ≡ length old.view.others = omega (arith, led, back, steps.number) in
+        subst (λ (t : EditedValue). Steps old.view t.view) is (record { number = number; gains = steps.gains })
+    by (Err fault) e h = absurd (cc h)
+asked_steps place request old new (Err fault) h =
+    subst (λ (t : EditedValue). Steps old.view t.view) (sym h.0) (record { number = refl; gains = gains_none old.view.doc })
 
 -- what isn't asked of peers is asked of the text
 pub of_text : (path : Word) (place : ℕ) (state : SiteValue) (request : Request) → ((asked : PeerRequest) → request ≡ Peer asked → ⊥)

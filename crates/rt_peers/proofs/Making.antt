@@ -7,7 +7,7 @@ use Rattle.rt_ops.specs.Operations.{Body, Operation, stamp_of}
 use Rattle.rt_plans.specs.DocValue.{DocValue}
 use Rattle.rt_oplog.specs.Logs.{with_operation}
 use Rattle.rt_rga.specs.Cells.{cells_of}
-use Rattle.rt_rga.specs.Drafts.{next_operation, with_drafts}
+use Rattle.rt_rga.specs.Drafts.{ContinueInTurn, next_operation, operations_of, with_drafts, with_operations}
 use Rattle.rt_rga.specs.Histories.{IsHistory, greatest_last_count}
 use Rattle.rt_rga.specs.Requests.{MayBeMade, fit, last_count_after}
 use Rattle.rt_rga.proofs.Drafting.{newest}
@@ -36,6 +36,14 @@ made_may site (draft ∷ drafts) set h =
     let one = one_made site draft set (older site drafts more h) in
     (one.1.rules, one.1.known, made_may site drafts more h)
 
+-- each of their operations continued those before it
+pub continue_made : (site : ℕ) (drafts : List Body) (set : List Operation) → IsHistory (with_drafts site drafts set)
+    → ContinueInTurn set (operations_of site drafts set)
+continue_made site [] set h = tt
+continue_made site (draft ∷ drafts) set h =
+    let more = with_operation (next_operation site draft set) set in
+    ((one_made site draft set (older site drafts more h)).1, continue_made site drafts more h)
+
 made_fit : (site limit : ℕ) (drafts : List Body) (set : List Operation) → IsHistory (with_drafts site drafts set) → length (cells_of (with_drafts site drafts set)) ≤ limit → fit site limit drafts set ≡ true
 made_fit site limit drafts set h few = both (last_count_after (greatest_last_count set) drafts) (length (cells_of (with_drafts site drafts set)))
     (let b = greatest_bound (with_drafts site drafts set) h in let c = all_count_on site drafts set in omega (arith, b, c)) few
@@ -48,6 +56,13 @@ made_fit site limit drafts set h few = both (last_count_after (greatest_last_cou
 longer : (op : Operation) (set : List Operation) → length (with_operation op set) ≡ suc (length set)
 longer op [] = refl
 longer op (q ∷ set) = split (is_before (stamp_of q) (stamp_of op)) (λ e. rw e refl) (λ e. rw e (ap suc (longer op set)))
+
+pub operations_longer : (ops set : List Operation) → length (with_operations ops set) ≡ length set + length ops
+operations_longer [] set = omega arith
+operations_longer (op ∷ ops) set =
+    let i = operations_longer ops (with_operation op set) in
+    let l = longer op set in
+    omega (arith, i, l)
 
 all_longer : (site : ℕ) (drafts : List Body) (set : List Operation) → length (with_drafts site drafts set) ≡ length set + length drafts
 all_longer site [] set = omega arith

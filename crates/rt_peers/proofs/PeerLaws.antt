@@ -15,7 +15,7 @@ use Rattle.rt_store.proofs.Shown.{position_map}
 use Rattle.rt_recording.specs.EditedValue.{EditedValue}
 use Rattle.rt_text.specs.Widgets.{WidgetValue, ViewValue}
 use Rattle.rt_peers.specs.Peers.{HavePaths, text_led, view_led, view_without, widgets_of}
-use Rattle.rt_peers.specs.SiteStep.{by_widget}
+use Rattle.rt_peers.specs.SiteStep.{by_leading, by_widget}
 use Rattle.rt_peers.specs.SiteValue.{SiteValue, new_view, number_of}
 use Rattle.rt_peers.specs.ViewStep.{Outcome, as_outcome}
 
@@ -49,18 +49,33 @@ led_number view zero = refl
 led_number view (suc k) = ap suc (set_length view.others k view.own)
 
 -- one that commands in the place of the first, and then gives it back
-pub by_led : (place : ℕ) (state : SiteValue) (does : EditedValue → Outcome EditedValue) (result : Result (List Word) Fault) (new : EditedValue)
-    → Answers (does (text_led place state.text)) (text_led place state.text) result new
-    → Answers (by_widget place state does) state result (record state { text = text_led place new })
-by_led place state does (Ok reply) new h = ap (as_outcome (λ answer. (answer.0, record state { text = text_led place answer.1 }))) h
-by_led place state does (Err fault) new h = (
-  (λ i. record state { text = text_led place (h.0 i) }) ∙ (λ i. record state { text = text_back state.text place i }),
-  refused (does (text_led place state.text)) h.1,
-)
+pub leading_answers : (place : ℕ) (text : EditedValue) (does : EditedValue → Outcome EditedValue) (result : Result (List Word) Fault) (new : EditedValue)
+    → Answers (does (text_led place text)) (text_led place text) result new → Answers (by_leading place text does) text result (text_led place new)
+leading_answers place text does (Ok reply) new h = ap (as_outcome (λ answer. (answer.0, text_led place answer.1))) h
+leading_answers place text does (Err fault) new h = ((λ i. text_led place (h.0 i)) ∙ text_back text place, refused (does (text_led place text)) h.1)
   where
-    refused : (outcome : Outcome EditedValue) → Refuses outcome fault → Refuses (as_outcome (λ answer. (answer.0, record state { text = text_led place answer.1 })) outcome) fault
+    refused : (outcome : Outcome EditedValue) → Refuses outcome fault → Refuses (as_outcome (λ answer. (answer.0, text_led place answer.1)) outcome) fault
     refused outcome (inl e) = inl e
-    refused outcome (inr e) = inr (ap (as_outcome (λ answer. (answer.0, record state { text = text_led place answer.1 }))) e)
+    refused outcome (inr e) = inr (ap (as_outcome (λ answer. (answer.0, text_led place answer.1))) e)
+
+-- what it is to the text, is to the site
+abbrev in_site : SiteValue → Outcome EditedValue → Outcome SiteValue
+in_site state outcome = as_outcome (λ answer. (answer.0, record state { text = answer.1 })) outcome
+
+twice : (place : ℕ) (state : SiteValue) (outcome : Outcome EditedValue)
+    → as_outcome (λ answer. (answer.0, record state { text = text_led place answer.1 })) outcome
+    ≡ in_site state (as_outcome (λ answer. (answer.0, text_led place answer.1)) outcome)
+twice place state (Ok answer) = refl
+twice place state (Err fault) = refl
+
+pub leading_site : (place : ℕ) (state : SiteValue) (does : EditedValue → Outcome EditedValue) (result : Result (List Word) Fault) (new : EditedValue)
+    → Answers (by_leading place state.text does) state.text result new → Answers (by_widget place state does) state result (record state { text = new })
+leading_site place state does (Ok reply) new h = twice place state (does (text_led place state.text)) ∙ ap (in_site state) h
+leading_site place state does (Err fault) new h = ((λ i. record state { text = h.0 i }), refused h.1)
+  where
+    refused : Refuses (by_leading place state.text does) fault → Refuses (by_widget place state does) fault
+    refused (inl e) = inl e
+    refused (inr e) = inr (twice place state (does (text_led place state.text)) ∙ ap (in_site state) e)
 
 -- PATHS
 

@@ -11,7 +11,7 @@ use Rattle.rt_recording.specs.EditedValue.{EditedValue}
 use Rattle.rt_recording.specs.Edits.{text_with_new}
 use Rattle.rt_holding.specs.declared.receiving.Received.{Received}
 use Rattle.rt_holding.specs.Receiving.{Receives}
-use Rattle.rt_holding.specs.Taken.{AreTried}
+use Rattle.rt_holding.specs.Taken.{AreTried, holding}
 use Rattle.rt_ops.specs.Operations.{Body, Operation}
 use Rattle.rt_rga.specs.Drafts.{with_drafts}
 use Rattle.rt_rga.specs.Requests.{MayBeMade, fit}
@@ -24,6 +24,10 @@ use Rattle.rt_peers.specs.Peers.{text_led}
 -- what the widget of a number does to the text that it shows, as one to the site
 abbrev pub by_widget : ℕ → SiteValue → (EditedValue → Outcome EditedValue) → Outcome SiteValue
 by_widget number state does = as_outcome (λ answer. (answer.0, record state { text = text_led number answer.1 })) (does (text_led number state.text))
+
+-- the same, as one to the text
+abbrev pub by_leading : ℕ → EditedValue → (EditedValue → Outcome EditedValue) → Outcome EditedValue
+by_leading number text does = as_outcome (λ answer. (answer.0, text_led number answer.1)) (does (text_led number text))
 
 -- what is asked of the widget of a path, where there is one
 abbrev pub at_widget : Option ℕ → (ℕ → Outcome SiteValue) → Outcome SiteValue
@@ -52,6 +56,10 @@ text_log text = text.view.doc.log
 
 abbrev pub text_limit : EditedValue → ℕ
 text_limit text = text.view.doc.limit
+
+-- held operations are tried for a text, and some of them are taken
+abbrev pub TextTries : EditedValue → List Operation → EditedValue → List Operation → Type 0
+TextTries old held new left = (count : ℕ) × AreTried text_log text_with_new (text_limit old) (holding text_log old held) old new left count
 
 -- Held operations are tried: those that can be taken are, one after the other, and change the text as received ones do.
 pub record Tries (old new : SiteValue) : Type 0 where

@@ -18,4 +18,4 @@ pub use reply::Reply;
 pub use rt_changes::ToldChange;
 pub use rt_holding::Received;
 pub use site::SiteState;
-pub use told::ReceivedChanges;
+pub use told::{ReceivedChanges, ToldAnswer};

@@ -10,6 +10,7 @@ ghost use Rattle.rt_peers.specs.Step.{step};
 mod cursors;
 mod exchange;
 mod peers;
+mod telling;
 mod undoing;
 
 use crate::paths::number_of;
@@ -93,9 +94,7 @@ impl SiteState {
         ensures { AnswersInTurn (by_widget number self.old (λ text. step text request.now)) self.old result self.new }
     {
         let before = self.text.log().len();
-        self.text.lead(number);
-        let reply = self.text.request(request);
-        self.text.lead(number);
+        let reply = self.text.ask(number, request);
         if before < self.text.log().len() {
             let site = self.text.site().number();
             self.held.settle(&mut self.text, site);

@@ -1,13 +1,16 @@
 // The text of a site, and what is asked of the widget that commands.
-ghost use Rattle.std.specs.Prelude.{◌≡◌, ◌≤◌, IfOk, IsOkUnless};
+ghost use Rattle.std.specs.Prelude.{◌≡◌, ◌<◌, ◌≤◌, IfOk, IsOkUnless, length};
 ghost use Rattle.rt_stamps.specs.declared.limits.TheConstants.{MOST_CELLS};
 ghost use Rattle.rt_stamps.specs.Outcomes.{Answers};
+ghost use Rattle.rt_peers.specs.Peers.{widgets_of};
+ghost use Rattle.rt_peers.specs.SiteStep.{by_leading};
 ghost use Rattle.rt_peers.specs.SiteValue.{new_text};
 ghost use Rattle.rt_peers.specs.Step.{step};
 
 mod editing;
 mod exchange;
 mod marking;
+mod noting;
 mod options;
 mod peers;
 mod telling;
@@ -107,5 +110,15 @@ impl EditedText {
             Request::Cget { option } => self.tell(*option),
             Request::Peer(_) => Err(Fault::BadCommand),
         }
+    }
+    /// What is asked of the widget of a number, as `request` of the one that commands.
+    pub(crate) fn ask(&mut self, number: usize, request: &Request<'_>) -> Result<Reply, Fault>
+        requires { number < length (widgets_of self.old.view) }
+        ensures { Answers (by_leading number self.old (λ text. step text request.now)) self.old result self.new }
+    {
+        self.lead(number);
+        let reply = self.request(request);
+        self.lead(number);
+        reply
     }
 }

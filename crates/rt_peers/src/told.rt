@@ -1,6 +1,8 @@
-// What a site tells of a file that it received.
+// What a site tells of what it changed.
+use crate::reply::Reply;
 use rt_changes::ToldChange;
 use rt_holding::Received;
+use rt_stamps::Fault;
 
 /// What became of a file that was received, and what changed in the visible text.
 #[derive(Drop)]
@@ -11,4 +13,17 @@ pub struct ReceivedChanges {
     /// What changed, by operations that were accepted, in an order in which they could be taken; each change is of the text that
     /// those before it left. Their places are those of the whole text, whichever lines a widget shows.
     pub changes: Vec<ToldChange>,
+}
+
+/// What is answered to a request, and what changed in the visible text.
+#[derive(Drop)]
+pub struct ToldAnswer {
+    /// As `answer` and `command` answer.
+    pub reply: Result<Reply, Fault>,
+    /// What changed, by the operations that were made and then by the held ones that were taken, in order; each change
+    /// is of the text that those before it left. Their places are those of the whole text, whichever lines a widget
+    /// shows. None of it where no operation was accepted. `None` where it isn't known what the accepted ones changed:
+    /// for want of memory, which no fault tells, or where several were made at once of which one changes tags. The text
+    /// is then to be read anew.
+    pub changes: Option<Vec<ToldChange>>,
 }

@@ -1,6 +1,7 @@
 // A text that tells what the operations change that it takes.
-ghost use Rattle.std.specs.Prelude.{◌≡◌, ◌≤◌, ◌++◌, ◌∷◌, [], IfErr, OnErr, OnOk, length, map};
+ghost use Rattle.std.specs.Prelude.{◌≡◌, ◌≤◌, ◌++◌, ◌∷◌, [], IfErr, IfSome, List, OnErr, OnOk, length, map};
 ghost use Rattle.rt_stamps.specs.declared.limits.TheConstants.{MOST_BYTES};
+ghost use Rattle.rt_ops.specs.Operations.{Operation};
 ghost use Rattle.rt_rga.specs.Answers.{New};
 ghost use Rattle.rt_rga.specs.Cells.{cells_of};
 ghost use Rattle.rt_rga.specs.Texts.{tagged_text};
@@ -8,10 +9,11 @@ ghost use Rattle.rt_changes.specs.Replays.{AreInText, changes_of, replayed};
 ghost use Rattle.rt_changes.specs.Telling.{all_changes_in, changes_in};
 ghost use Rattle.rt_text.specs.Accepted.{answer_of};
 ghost use Rattle.rt_recording.specs.Edits.{text_with_new};
-ghost use Rattle.rt_holding.specs.Grown.{AreTriedAt};
+ghost use Rattle.rt_holding.specs.Grown.{AreTriedAt, AreTriedBefore};
 ghost use Rattle.rt_holding.specs.Receiving.{Receives};
-ghost use Rattle.rt_peers.specs.SiteStep.{text_limit, text_log};
-ghost use Rattle.rt_peers.specs.Telling.{AreToldBetween, HasToldMore, telling_with_new};
+ghost use Rattle.rt_holding.specs.Taken.{AreTried, holding};
+ghost use Rattle.rt_peers.specs.SiteStep.{TextTries, text_limit, text_log};
+ghost use Rattle.rt_peers.specs.Telling.{AreToldBetween, AreToldInTurn, HasToldMore, telling_with_new};
 
 use super::EditedText;
 use crate::told::ReceivedChanges;
@@ -156,6 +158,37 @@ fn receive_told(
     receive_lent(alloc, &mut telling, held, bytes)
 }
 
+// A text that is lent tries held operations, and stays the one that was lent.
+fn settle_lent(telling: &mut TellingText<'_, '_>, held: &mut Held, made_by: u16) -> usize
+    requires { AreTriedBefore (text_limit telling.old.text.now) made_by held.old (text_log telling.old.text.now) }
+    ensures tried { AreTried text_log text_with_new (text_limit telling.old.text.now) (holding text_log telling.old.text.now held.old.held)
+        telling.old.text.now telling.new.text.now held.new.held result }
+    ensures log { AreTriedAt (text_limit telling.new.text.now) (text_log telling.new.text.now) held.new }
+    ensures more { HasToldMore telling.old.text.now telling.new.text.now telling.old.told.now telling.new.told.now }
+    ensures lent { telling.new.text.ghost_name ≡ telling.old.text.ghost_name }
+    ensures lent_told { telling.new.told.ghost_name ≡ telling.old.told.ghost_name }
+{
+    held.settle(telling, made_by)
+}
+
+// A text tries held operations, and what changes is told behind what is told already.
+fn settle_told(
+    alloc: Global,
+    text: &mut EditedText,
+    told: &mut Told,
+    held: &mut Held,
+    made_by: u16,
+) -> usize
+    requires { AreTriedBefore (text_limit text.old) made_by held.old (text_log text.old) }
+    ensures tried { AreTried text_log text_with_new (text_limit text.old) (holding text_log text.old held.old.held) text.old text.new
+        held.new.held result }
+    ensures log { AreTriedAt (text_limit text.new) (text_log text.new) held.new }
+    ensures more { HasToldMore text.old text.new told.old told.new }
+{
+    let mut telling = TellingText { alloc, text, told };
+    settle_lent(&mut telling, held, made_by)
+}
+
 impl EditedText {
     /// Receives the bytes of a file of operations, as `receive` of rt_holding does, and tells what they change in the visible text.
     pub(crate) fn receive_telling(&mut self, held: &mut Held, bytes: &[u8]) -> ReceivedChanges
@@ -179,6 +212,51 @@ impl EditedText {
         ReceivedChanges {
             received,
             changes: told.changes(),
+        }
+    }
+    // Tries held operations, and tells what they change behind what is told already.
+    fn settle_behind(
+        &mut self,
+        held: &mut Held,
+        made_by: u16,
+        changes: Vec<ToldChange>,
+    ) -> Vec<ToldChange>
+        requires { AreTriedBefore (text_limit self.old) made_by held.old (text_log self.old) }
+        ensures tries { TextTries self.old held.old.held self.new held.new.held }
+        ensures log { AreTriedAt (text_limit self.new) (text_log self.new) held.new }
+        ensures told { (older : List Operation) → AreToldInTurn older (text_log self.old) (map changes_in changes.items)
+            → AreToldInTurn older (text_log self.new) (map changes_in result.items) }
+    {
+        // For its clauses alone.
+        let _ = self.log();
+        let alloc = self.alloc;
+        let mut told = Told { changes };
+        settle_told(alloc, self, &mut told, held, made_by);
+        // For its clauses alone.
+        let _ = self.log();
+        told.changes()
+    }
+
+    /// Tries held operations, as `Held::settle` does, behind those that a site made. Where it is known what these
+    /// changed, what the held ones change is told behind that.
+    pub(crate) fn settle_telling(
+        &mut self,
+        held: &mut Held,
+        made_by: u16,
+        changes: Option<Vec<ToldChange>>,
+    ) -> Option<Vec<ToldChange>>
+        requires { AreTriedBefore (text_limit self.old) made_by held.old (text_log self.old) }
+        ensures tries { TextTries self.old held.old.held self.new held.new.held }
+        ensures log { AreTriedAt (text_limit self.new) (text_log self.new) held.new }
+        ensures told { (older : List Operation) → IfSome changes (λ own. AreToldInTurn older (text_log self.old) (map changes_in own.items))
+            → IfSome result (λ all. AreToldInTurn older (text_log self.new) (map changes_in all.items)) }
+    {
+        match changes {
+            Some(own) => Some(self.settle_behind(held, made_by, own)),
+            None => {
+                held.settle(self, made_by);
+                None
+            }
         }
     }
 }
