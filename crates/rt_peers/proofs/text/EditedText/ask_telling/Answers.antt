@@ -29,7 +29,7 @@ pub noted_from-changes-requires : goal.noted_from-changes-requires
 noted_from-changes-requires c =
     let old = c.args.self.now in
     let new = c.ask-reply.new.self in
-    let answers = asked c.args.number c.args.request.now old new c.self.inside.view c.note.new.view c.self.inside.recorder c.ask-reply.result
+    let answers = asked c.args.number c.args.request.now old new c.self.inside.view c.note.new.self c.self.inside.recorder c.ask-reply.result
     c.note.ensures c.self.view_is c.ask-reply.ensures in
     let gains = (asked_steps c.args.number c.args.request.now old new c.ask-reply.result answers).gains in
     let more = operations_longer (operations_of old.view.doc.site gains.drafts (text_log old)) (text_log old) in
@@ -38,7 +38,7 @@ noted_from-changes-requires c =
 pub returns-clause-answers : goal.returns-clause-answers
 returns-clause-answers c =
     let old = c.args.self.now in
-    let answers = asked c.args.number c.args.request.now old c.ask-reply.new.self c.self.inside.view c.note.new.view c.self.inside.recorder c.ask-reply.result
+    let answers = asked c.args.number c.args.request.now old c.ask-reply.new.self c.self.inside.view c.note.new.self c.self.inside.recorder c.ask-reply.result
     c.note.ensures c.self.view_is c.ask-reply.ensures in
     subst (Answers (by_leading c.args.number old (λ text. step text c.args.request.now)) old c.ask-reply.result) (sym c.noted_from-changes.ensures.same) answers
 
@@ -46,7 +46,7 @@ pub returns-clause-told : goal.returns-clause-told
 returns-clause-told c =
     let old = c.args.self.now in
     let new = c.ask-reply.new.self in
-    let answers = asked c.args.number c.args.request.now old new c.self.inside.view c.note.new.view c.self.inside.recorder c.ask-reply.result
+    let answers = asked c.args.number c.args.request.now old new c.self.inside.view c.note.new.self c.self.inside.recorder c.ask-reply.result
     c.note.ensures c.self.view_is c.ask-reply.ensures in
     let gains = (asked_steps c.args.number c.args.request.now old new c.ask-reply.result answers).gains in
     let before : c.len-before.result ≡ length (text_log old) = c.len-before.ensures ∙ ap length c.log.ensures.operations in
