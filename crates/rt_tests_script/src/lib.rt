@@ -18,6 +18,8 @@ mod cursors;
 #[cfg(test)]
 mod early;
 #[cfg(test)]
+mod editor;
+#[cfg(test)]
 mod embedding;
 #[cfg(test)]
 mod exchange;

@@ -1,7 +1,8 @@
-// What a site tells of the operations that it receives, as changes that an editor makes to its own text.
+// What a site tells of the operations that it receives and of its own, as changes that an editor makes to its own text.
 use crate::checks::same;
 use crate::sites::{Script, answered, new_site};
 use rt_samples::files::CUT;
+use rt_script::words::words;
 use rt_script::{SiteState, ToldChange};
 use rt_stamps::Fault;
 use rt_stamps::limits::{MOST_BYTES, MOST_CELLS};
@@ -152,4 +153,152 @@ fn changes_before_a_fault_are_told(rt: HostRuntime) {
     let fault = Some((Fault::Truncated, 44));
     tells_until(&rt, alloc, &mut site, CUT, fault, "put ab at 0; ");
     tells_until(&rt, alloc, &mut site, CUT, fault, "");
+}
+
+// Commands of a site and what each changes: the site tells it by itself, and another one of the operations.
+const OWN: Script = r#"
+.t configure -undo 1 -> nothing
+.t insert 1.0 abcd -> put abcd at 0;
+.t insert 1.2 X -> put X at 2;
+.t insert end YZ t -> put YZ t at 5;
+.t insert 1.0 12 {} 34 t 5 {t u} -> put 12 at 0; put 34 t at 2; put 5 t u at 4;
+.t get 1.0 end -> nothing
+.t replace 1.0 1.2 90 u -> gone 0 to 2; put 90 u at 0;
+.t delete 1.0 1.1 1.3 1.5 -> gone 3 to 5; gone 0 to 1;
+.t delete 1.0 1.0 -> nothing
+.t tag add v 1.0 1.2 1.4 1.6 -> on v 4 to 6; on v 0 to 2;
+.t tag add v 1.1 1.5 -> on v 2 to 4;
+.t tag add sel 1.0 1.2 -> nothing
+.t tag remove v 1.1 1.3 -> off v 1 to 3;
+.t tag delete v -> off v 3 to 6; off v 0 to 1;
+.t edit undo -> put 9 u at 0; put 4 t at 3; put 5 t u at 4;
+.t edit redo -> gone 3 to 5; gone 0 to 1;
+.t mark set here 1.2 -> nothing
+"#;
+
+// What makes several operations at once, tags among them: the site doesn't tell what changes, the other one does.
+const UNKNOWN: Script = "
+.t tag delete t u -> off t 7 to 9; off t 1 to 2; off u 0 to 1;
+";
+
+// What a site tells of a line that it is asked; none where it isn't known.
+fn told_by_itself(
+    rt: &impl Abort,
+    alloc: Global,
+    site: &mut SiteState,
+    line: &str,
+    fault: Option<Fault>,
+) -> Option<String> {
+    let words = words(alloc, line).expect(rt, line);
+    let (path, rest) = words.split_first().expect(rt, line);
+    let told = site.command_telling(path, rest);
+    same(rt, told.reply.err(), fault);
+    let changes = told.changes?;
+    Some(spelled(alloc, &changes).expect(rt, "memory"))
+}
+
+// What a site tells of the operations of another one that it lacks.
+fn told_by_other(rt: &impl Abort, alloc: Global, from: &SiteState, to: &mut SiteState) -> String {
+    let bytes = lacking(rt, from, to);
+    if bytes.len() > MOST_BYTES {
+        same(rt, bytes.len(), MOST_BYTES);
+        return String::new(alloc);
+    }
+    let told = to.receive_telling(&bytes);
+    same(rt, told.received.fault, None);
+    spelled(alloc, &told.changes).expect(rt, "memory")
+}
+
+// Stops a test where a site tells something else of a row's line than another one does of the operations that it makes.
+fn tells_of_own(
+    rt: &impl Abort,
+    alloc: Global,
+    sites: (&mut SiteState, &mut SiteState),
+    row: &str,
+    is_known: bool,
+) {
+    let (site, other) = sites;
+    let (line, wanted) = row.split_once(" -> ").expect(rt, row);
+    let own = told_by_itself(rt, alloc, site, line, None);
+    let told = told_by_other(rt, alloc, site, other);
+    same(rt, own.is_some(), is_known);
+    if let Some(own) = own {
+        same(rt, own.as_str(), told.as_str());
+    }
+    if told.is_empty() {
+        same(rt, "nothing", wanted);
+    } else {
+        same(rt, told.as_str().trim_end(), wanted);
+    }
+}
+
+#[test]
+fn own_changes_are_told(rt: HostRuntime) {
+    let alloc = rt.alloc();
+    let mut first = new_site(&rt, alloc, 1, MOST_CELLS);
+    let mut second = new_site(&rt, alloc, 2, MOST_CELLS);
+    for row in OWN.lines() {
+        if !row.is_empty() {
+            tells_of_own(&rt, alloc, (&mut first, &mut second), row, true);
+        }
+    }
+    for row in UNKNOWN.lines() {
+        if !row.is_empty() {
+            tells_of_own(&rt, alloc, (&mut first, &mut second), row, false);
+        }
+    }
+}
+
+// Stops a test where a site tells something else of a line, which may be refused.
+fn tells_of_line(
+    rt: &impl Abort,
+    alloc: Global,
+    site: &mut SiteState,
+    line: &str,
+    fault: Option<Fault>,
+    wanted: &str,
+) {
+    let told = told_by_itself(rt, alloc, site, line, fault).expect(rt, line);
+    same(rt, told.as_str(), wanted);
+}
+
+// What is held for an operation that a site makes again is told behind it; and what is refused changes nothing.
+#[test]
+fn held_ones_are_told_behind_own(rt: HostRuntime) {
+    let alloc = rt.alloc();
+    let mut first = new_site(&rt, alloc, 1, MOST_CELLS);
+    let mut second = new_site(&rt, alloc, 2, MOST_CELLS);
+    let mut again = new_site(&rt, alloc, 1, MOST_CELLS);
+    let line = ".t insert 1.0 ab";
+    tells_of_line(&rt, alloc, &mut first, line, None, "put ab at 0; ");
+    let own = lacking(&rt, &first, &second);
+    tells(&rt, alloc, &mut second, &own, "put ab at 0; ");
+    let typed = ".t insert 1.1 X";
+    tells_of_line(&rt, alloc, &mut second, typed, None, "put X at 1; ");
+    let other = lacking(&rt, &second, &first);
+    tells(&rt, alloc, &mut again, &other, "");
+    tells_of_line(
+        &rt,
+        alloc,
+        &mut again,
+        ".x get 1.0",
+        Some(Fault::NoWidget),
+        "",
+    );
+    tells_of_line(
+        &rt,
+        alloc,
+        &mut again,
+        ".t frob",
+        Some(Fault::BadCommand),
+        "",
+    );
+    tells_of_line(
+        &rt,
+        alloc,
+        &mut again,
+        line,
+        None,
+        "put ab at 0; put X at 1; ",
+    );
 }
