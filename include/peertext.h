@@ -1,16 +1,20 @@
 /* peertext: a replicated text widget that C holds. docs/LIBRARY.md tells how it is built, linked and used.
 
-   A pt_site holds one site, or none: it begins as PT_NONE, which is all zero. It is not copied, and only these
-   functions write to it or read it. What it points to belongs to the library, which takes its memory by malloc and
-   realloc and gives it back by free. Nothing else is the caller's to free: bytes go out into memory that the caller
-   gives, and what is given is never kept.
+   A pt_site is a handle: it holds one site, or none. It begins as PT_NONE, which is all zero, in allocated memory by
+   calloc or memset. Its `held` tells whether it holds a site, and may be read; nothing of it is written but by these
+   functions. A handle isn't copied, since one copy would be used after another had freed the site. It may be moved: it
+   is copied, and its old place isn't used after that.
+
+   What a handle points to belongs to the library, which takes its memory by malloc and realloc and gives it back by
+   free. The caller frees none of it: bytes go out into memory that the caller gives. The library keeps no pointer that
+   it was given.
 
    Two handles share nothing: two threads may use two of them at one time. A handle stays on one thread, and no two
    calls are given one at one time. No call waits, reads a file or starts a thread, and none is made from a signal
    handler, nor in a child that was forked of a process with threads.
 
-   No pointer is NULL, with a length or room of 0 neither. What two pointers of one call point to doesn't overlap. All
-   text is UTF-8. */
+   No pointer is NULL, with a length or room of 0 neither. What two pointers of one call point to doesn't overlap.
+   Lengths count bytes, and no zero byte ends what goes in or comes out. All text is UTF-8. */
 #ifndef PEERTEXT_H
 #define PEERTEXT_H
 
@@ -32,20 +36,23 @@ typedef struct {
 /* A handle that holds no site, as in `pt_site site = PT_NONE;`. */
 #define PT_NONE { false, { NULL } }
 
-/* What functions answer. After an answer below 0 all is as it was before the call: the site, what it said, and what
-   pointers point to. */
+/* What functions answer. After an answer below 0 all is as it was before the call: the site, what it said, the changes
+   of the last file, and what pointers point to. */
 enum {
     PT_DONE = 0,
     PT_NO_SITE = -1,    /* the handle holds no site */
     PT_NO_MEMORY = -2,  /* memory was wanting; the call may be made again */
     PT_IS_HELD = -3,    /* the handle holds a site already */
-    PT_BAD_NUMBER = -4, /* no site has the number 0 */
+    PT_BAD_NUMBER = -4, /* no site has the number: it is 0, or above 65535 */
     PT_BAD_BYTES = -5,  /* more than PT_MOST_BYTES bytes, or counts that aren't 10 bytes each */
     PT_NOT_THERE = -6   /* there is no such change, widget, character or place */
 };
 
-/* The most bytes of a file of operations. */
+/* The most bytes of a file of operations that is received. */
 #define PT_MOST_BYTES 1073741824
+
+/* The most bytes of a line. */
+#define PT_MOST_LINE_BYTES 1048576
 
 /* Faults, by their numbers (docs/SCRIPTS.md has their causes). */
 enum {
@@ -82,12 +89,13 @@ enum {
     PT_FAULT_WRITE_FAULT = 41
 };
 
-/* What became of a file that was received. */
+/* What became of a file that was received. A held operation is tried again after each operation that is accepted. If
+   memory is wanting for it then, it stays held, which no fault and no code tells. */
 typedef struct {
     uint64_t fresh;   /* how many operations were accepted, those that had been held among them */
     uint64_t repeats; /* how many of the file's operations the site had or held already */
-    uint64_t held;    /* how many operations the site holds now, since they came before what they were made upon */
-    uint64_t changes; /* how many changes pt_change tells */
+    uint64_t held;    /* how many operations the site holds in the end, since they came early */
+    uint64_t changes; /* how many numbers pt_change takes: one for each operation that was accepted */
     uint64_t offset;  /* where the record of the fault begins in the file; 0 without a fault */
     uint8_t fault;    /* the number of the fault that ended the file early, or 0 */
 } pt_received;
@@ -98,63 +106,74 @@ typedef struct {
     uint16_t site;
 } pt_stamp;
 
-/* Makes a new site of a number from 1 to 65535, which no other site of the text has.
+/* Makes a new site of a number from 1 to 65535, which no other site of the text ever has. It is new: to go on with a
+   text that it had before, it receives what it exported then, before any line (docs/LIBRARY.md, "To keep a site").
    PT_DONE; else PT_IS_HELD, PT_BAD_NUMBER or PT_NO_MEMORY. */
-int32_t pt_site_new(pt_site *site, uint16_t number);
+int32_t pt_site_new(pt_site *site, uint32_t number);
 
 /* Frees the site of a handle, which then holds none. Of a handle that holds none nothing is done. */
 void pt_site_free(pt_site *site);
 
-/* Runs a line of a script, without a newline at its end (docs/SCRIPTS.md), and says its reply line, with a newline, or
-   nothing for an empty line, one of blanks and a comment.
+/* Runs a line of a script (docs/SCRIPTS.md) of at most PT_MOST_LINE_BYTES bytes, and says its reply line, with a
+   newline, or nothing for an empty line, one of blanks and a comment. The line is to have no newline at its end:
+   nothing but `len` ends it, and a newline or return left there is the last character of its last word.
    PT_DONE; the number of the fault by which the line was refused, above 0, with its reply line `! N Name` said; else
    PT_NO_SITE. A refused line leaves the text, its tags, marks and undo as they were, that which finds no memory too
-   (PT_FAULT_NO_MEMORY). As no file is given by name, the line `receive NAME` is refused: PT_FAULT_NO_FILE. */
+   (PT_FAULT_NO_MEMORY). No file can be named: `receive NAME` is refused by PT_FAULT_NO_FILE. A longer line is refused
+   by PT_FAULT_BAD_QUOTING, and so is one that isn't UTF-8. */
 int32_t pt_command(pt_site *site, const uint8_t *line, size_t len);
 
 /* Copies what was said last by pt_command, pt_change, pt_export, pt_ends or pt_export_since: its first `room` bytes, or
-   all of it where it has fewer. The rest of `out` stays as it was, and what was said stays too, so that it can be read
-   again.
-   The length of all that was said, 0 or more; else PT_NO_SITE or PT_NO_MEMORY. With a room of 0 it asks for the length
-   alone. It takes memory only where a reply line found none when its line was run; that reply isn't lost. */
+   all of it where it has fewer. The rest of `out` stays as it was: no zero byte comes behind what was said, and zero
+   bytes of a text come out as they are. What was said stays, so it can be read again.
+   The length of all that was said, which may be more than `room`; else PT_NO_SITE or PT_NO_MEMORY. With a room of 0 it
+   tells the length alone, and `out` isn't NULL then either. PT_NO_MEMORY comes only of a reply line for which there was
+   no memory when its line was run. The line was run all the same, and its reply isn't lost: ask again. */
 ptrdiff_t pt_said(pt_site *site, uint8_t *out, size_t room);
 
-/* Receives the bytes of a file of operations (docs/FILES.md). What was said last stays.
-   PT_DONE, also where the file or an operation has a fault, which `told` has (PT_FAULT_NO_MEMORY, where memory was
-   wanting for an operation; those before it were taken); else PT_NO_SITE or PT_BAD_BYTES. */
+/* Receives the bytes of a file of operations (docs/FILES.md), and tells what became of it. What was said last stays.
+   PT_DONE, also where the file or one of its operations has a fault, which `told` has. What came before the fault was
+   taken. PT_FAULT_NO_MEMORY there says that memory was wanting for an operation of the file; the same bytes may be
+   received again. Else PT_NO_SITE or PT_BAD_BYTES. */
 int32_t pt_receive(pt_site *site, const uint8_t *bytes, size_t len, pt_received *told);
 
-/* Says what one of the last received file's operations changed in the visible text; numbers begin at 0, and there are
-   `changes` of them until the next pt_receive. It says lines, each with a newline, or none where nothing changes:
+/* Says what an operation changed in the visible text: of those that the last pt_receive took, held ones among them, in
+   the order in which they were taken. Their numbers are those from 0 on, less than `changes`. Make the changes of all
+   of them, from 0 on, before another line is run: each line is of the text that all lines before it left. It says
+   lines, each with a newline, or none where nothing changes:
        insert AT TEXT TAG ..     TEXT comes in before the character at AT, with just these tags
-       delete FROM TO            the characters from FROM on are gone, without that at TO
-       tag NAME FROM TO          they have a tag now
-       untag NAME FROM TO        they have it no more
-   Words are written as in a reply. Places count characters of the whole text, from 0, in the text that the lines before
-   left.
+       delete FROM TO            the characters from FROM up to TO are gone, without that at TO
+       tag NAME FROM TO          these characters get a tag
+       untag NAME FROM TO        they lose it
+   Words are written as in a reply. Places count characters from 0 in the whole text, whichever lines a widget shows.
+   The changes stay until the next pt_receive; pt_command tells none.
    PT_DONE; else PT_NO_SITE, PT_NOT_THERE or PT_NO_MEMORY. */
 int32_t pt_change(pt_site *site, size_t number);
 
-/* Says the file of all operations that the site has, for other sites to receive.
+/* Says the file of all operations that the site accepted or made. Those that it holds (`held` of pt_received) are not
+   in it, and are to be received again after a restart. More than PT_MOST_BYTES bytes can't be received.
    PT_DONE; else PT_NO_SITE or PT_NO_MEMORY. */
 int32_t pt_export(pt_site *site);
 
-/* Says the last counts that the site knows of each site: 10 bytes each, the number of a site (2) and a count (8),
-   highest byte first.
+/* Says its ends, the last count that the site knows of each site: 10 bytes for each, the number of that site (2) and
+   the count (8), highest byte first. The numbers rise.
    PT_DONE; else PT_NO_SITE or PT_NO_MEMORY. */
 int32_t pt_ends(pt_site *site);
 
-/* Says the file of the operations whose last count is past such counts, which are those that another site said by
-   pt_ends. Of one site the first count holds; of a site that isn't named all operations are said.
+/* Says the file of the operations that another site lacks, by the ends that this one said by pt_ends: those whose last
+   count is past that of their site. Of a site that isn't named there all operations are said; of one that is named
+   twice the first count holds.
    PT_DONE; else PT_NO_SITE, PT_BAD_BYTES or PT_NO_MEMORY. */
 int32_t pt_export_since(pt_site *site, const uint8_t *ends, size_t len);
 
-/* The stamp of the character at a place of what the widget of a path shows. Places count from 0.
-   PT_DONE; else PT_NO_SITE, or PT_NOT_THERE: no such widget, or no such character. */
+/* Tells the stamp of the character at a place of what the widget of a path, as `.t`, shows. Places count characters
+   from 0, from where the widget's lines begin.
+   PT_DONE; else PT_NO_SITE, or PT_NOT_THERE: no such widget, or no character at the place. */
 int32_t pt_stamp_at(pt_site *site, const uint8_t *path, size_t len, size_t place, pt_stamp *stamp);
 
-/* How many characters stand before that of a stamp in what the widget of a path shows; where it is gone, before the
-   place at which it stood; where it stands outside, the nearer end.
+/* Tells the place of the character of a stamp: how many characters stand before it in what the widget of a path shows.
+   Where it is gone, that is the place at which it stood; where it stands outside of the widget's lines, their nearer
+   end.
    PT_DONE; else PT_NO_SITE, or PT_NOT_THERE: no such widget, or no character of the stamp. */
 int32_t pt_place_of(pt_site *site, const uint8_t *path, size_t len, const pt_stamp *stamp, size_t *place);
 

@@ -1,10 +1,9 @@
 """Two sites that edit one text, exchange their operations and then show the same: two_sites.py libpeertext.so."""
-import ctypes
 import sys
 
-from peertext import Site
+from peertext import Site, loaded
 
-library = ctypes.CDLL(sys.argv[1])
+library = loaded(sys.argv[1])
 one, two = Site(library, 1), Site(library, 2)
 one.ask('.t insert 1.0 "milk, bread"')
 two.receive(one.export())

@@ -38,6 +38,9 @@ static void receive(const uint8_t *bytes, size_t len) {
     int32_t code = pt_receive(used, bytes, len, &told);
     printf("received %" PRId32 " new %" PRIu64 " repeat %" PRIu64 " held %" PRIu64 " fault %d at %" PRIu64 "\n", code, told.fresh, told.repeats,
            told.held, told.fault, told.offset);
+    if (told.changes != told.fresh) {
+        printf("changes %" PRIu64 "\n", told.changes);
+    }
     for (size_t number = 0; number < told.changes; number++) {
         if (pt_change(used, number) != PT_DONE) {
             printf("no change\n");
@@ -119,7 +122,7 @@ static void directed(const char *word, const char *rest) {
     if (strcmp(word, "site") == 0) {
         used = handle(rest);
         pt_site_free(used);
-        printf("site %" PRId32 "\n", pt_site_new(used, (uint16_t)strtoul(rest + 1, NULL, 10)));
+        printf("site %" PRId32 "\n", pt_site_new(used, (uint32_t)strtoul(rest + 1, NULL, 10)));
     } else if (strcmp(word, "use") == 0) {
         used = handle(rest);
     } else if (strcmp(word, "free") == 0) {

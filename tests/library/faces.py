@@ -7,7 +7,7 @@ ROOT = pathlib.Path(__file__).resolve().parent.parent.parent
 SOURCES = ROOT / "crates/peertext_c/src"
 # what a parameter of an export is in C; the allocator takes no bytes and isn't passed
 IN_C = {
-    "Global": (), "u16": ("uint16_t",), "usize": ("size_t",), "&mut usize": ("size_t *",),
+    "Global": (), "u32": ("uint32_t",), "usize": ("size_t",), "&mut usize": ("size_t *",),
     "&[u8]": ("const uint8_t *", "size_t"), "&mut [u8]": ("uint8_t *", "size_t"),
     "&mut Handle": ("pt_site *",), "&mut Told": ("pt_received *",), "&StampNumbers": ("const pt_stamp *",), "&mut StampNumbers": ("pt_stamp *",),
     "i32": ("int32_t",), "isize": ("ptrdiff_t",), "": ("void",),
@@ -81,5 +81,7 @@ def compare(archive, check):
     check("codes", codes(told), {name: int(number) for name, number in re.findall(r"const ([A-Z_]+): i32 = (-?\d+);", made)})
     of_fault = (ROOT / "crates/rt_stamps/src/fault.rt").read_text()
     check("faults", faults(told), {name.lower(): int(number) for name, number in re.findall(r"Fault::(\w+) => (\d+),", of_fault)})
-    most = re.search(r"MOST_BYTES: usize = (\w+);", (ROOT / "crates/rt_stamps/src/limits.rt").read_text())
-    check("the most bytes", int(re.search(r"PT_MOST_BYTES (\d+)", told)[1]), int(most[1].replace("_", ""), 0))
+    of_limits = (ROOT / "crates/rt_stamps/src/limits.rt").read_text()
+    most = {name: int(number.replace("_", ""), 0) for name, number in re.findall(r"const (MOST_\w+): usize = (\w+);", of_limits)}
+    defined_most = re.findall(r"#define PT_(MOST_\w+) (\d+)", told)
+    check("limits", defined_most, [(name, str(most.get(name))) for name in ("MOST_BYTES", "MOST_LINE_BYTES")])

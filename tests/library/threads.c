@@ -6,7 +6,7 @@
 #define EDITS 300
 
 typedef struct {
-    uint16_t number;
+    uint32_t number;
     bool right;
     char *file;
     size_t len;

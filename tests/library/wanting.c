@@ -11,10 +11,8 @@ typedef struct {
 
 static text before, after, now;
 static long refusals;
-
-static const uint8_t early[] = "RGATEXT1\0\0\0\x1f\1\0\0\0\0\0\0\0\x09\0\2\0\0\0\0\0\0\0\0\0\0\0\0\0\0\0\4\0\3\0Y";
-static char file[ROOM];
-static size_t file_len;
+static char file[ROOM], first[ROOM], behind[ROOM];
+static size_t file_len, first_len, behind_len;
 
 /* Puts what was said behind a text. */
 static void put_said(pt_site *site, text *into) {
@@ -163,19 +161,57 @@ static void received(void) {
     }
 }
 
-/* The file of another site, with an operation behind that comes early. */
-static void make_file(void) {
-    pt_site site = PT_NONE;
-    CHECK(pt_site_new(&site, 3) == PT_DONE && run(&site, ".t insert 1.0 \"cheese, \" red") == 0 && run(&site, ".t delete 1.2") == 0);
-    CHECK(run(&site, ".t tag add new 1.0 1.4") == 0 && pt_export(&site) == PT_DONE);
-    ptrdiff_t len = pt_said(&site, (uint8_t *)file, sizeof file);
-    file_len = (size_t)len;
+/* The file that a site said, in some room. */
+static size_t file_said(pt_site *site, int32_t code, char *into) {
+    ptrdiff_t len = code == PT_DONE ? pt_said(site, (uint8_t *)into, ROOM) : -1;
+    CHECK(len >= 8 && len <= ROOM);
+    return (size_t)len;
+}
+
+/* The file of another site, that of its first operation alone, and that of an operation which a third site made upon this. */
+static void make_files(void) {
+    static const uint8_t end_of_first[10] = {0, 3, 0, 0, 0, 0, 0, 0, 0, 255};
+    pt_site site = PT_NONE, third = PT_NONE;
+    pt_received told;
+    CHECK(pt_site_new(&site, 3) == PT_DONE && run(&site, ".t insert 1.0 \"cheese, \" red") == 0);
+    first_len = file_said(&site, pt_export(&site), first);
+    CHECK(run(&site, ".t delete 1.2") == 0 && run(&site, ".t tag add new 1.0 1.4") == 0);
+    file_len = file_said(&site, pt_export(&site), file);
+    CHECK(pt_site_new(&third, 2) == PT_DONE && pt_receive(&third, (const uint8_t *)first, first_len, &told) == PT_DONE && told.fresh == 1);
+    CHECK(run(&third, ".t insert 1.2 \"text that is copied where it is told\" {red {not red} fine big new}") == 0);
+    behind_len = file_said(&third, pt_export_since(&third, end_of_first, 10), behind);
     pt_site_free(&site);
+    pt_site_free(&third);
+}
+
+/* A held operation for which memory is wanting stays held, which no fault tells; it is taken behind the next one that is accepted. */
+static void stays_held(void) {
+    pt_received told;
+    long stayed = 0;
+    bool was_refused = true;
+    for (long refused = 0; was_refused; refused++) {
+        pt_site site = PT_NONE;
+        begin(&site);
+        CHECK(pt_receive(&site, (const uint8_t *)behind, behind_len, &told) == PT_DONE && told.held == 1 && told.changes == 0);
+        until_refused = refused;
+        CHECK(pt_receive(&site, (const uint8_t *)first, first_len, &told) == PT_DONE);
+        was_refused = until_refused < 0;
+        until_refused = -1;
+        refusals += was_refused;
+        CHECK(told.changes == told.fresh && told.fresh + told.held == (told.fault == 0 ? 2 : 1));
+        CHECK(was_refused || told.held == 0);
+        if (told.fault == 0 && told.held == 1) {
+            stayed++;
+            CHECK(run(&site, ".t insert 1.0 x") == 0);
+            CHECK(pt_receive(&site, (const uint8_t *)"RGATEXT1", 8, &told) == PT_DONE && told.held == 0);
+        }
+        pt_site_free(&site);
+    }
+    CHECK(stayed > 0);
 }
 
 int main(void) {
-    pt_received told_of_early;
-    make_file();
+    make_files();
     lines();
     sites();
     saying(pt_export);
@@ -183,10 +219,7 @@ int main(void) {
     saying(export_some);
     saying(change);
     received();
-    pt_site site = PT_NONE;
-    begin(&site);
-    CHECK(pt_receive(&site, early, sizeof early - 1, &told_of_early) == PT_DONE && told_of_early.held == 1 && told_of_early.changes == 0);
-    pt_site_free(&site);
+    stays_held();
     CHECK(blocks == 0 && bytes_in_blocks == 0);
     printf("%ld refusals\n", refusals);
     return told_of_all();

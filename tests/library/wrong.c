@@ -3,8 +3,6 @@
 
 #include <sys/mman.h>
 
-#define LONGEST 1048576
-
 static const uint8_t path[] = ".t";
 
 static void empty_handles(void) {
@@ -30,14 +28,17 @@ static void empty_handles(void) {
 }
 
 static void numbers(void) {
+    static const uint32_t none[] = {0, 65536, 65537, 131071, UINT32_MAX};
     pt_site site = PT_NONE;
-    CHECK(pt_site_new(&site, 0) == PT_BAD_NUMBER);
-    CHECK(!site.held && site.slot.at == NULL);
+    for (size_t at = 0; at < sizeof none / sizeof *none; at++) {
+        CHECK(pt_site_new(&site, none[at]) == PT_BAD_NUMBER);
+        CHECK(!site.held && site.slot.at == NULL);
+    }
     CHECK(pt_site_new(&site, 65535) == PT_DONE);
     CHECK(site.held && site.slot.at != NULL);
     CHECK(answers(&site, ".t insert 1.0 ab", 0, "=\n"));
     CHECK(pt_site_new(&site, 2) == PT_IS_HELD);
-    CHECK(pt_site_new(&site, 0) == PT_IS_HELD);
+    CHECK(pt_site_new(&site, 0) == PT_IS_HELD && pt_site_new(&site, 65536) == PT_IS_HELD);
     CHECK(answers(&site, ".t get 1.0 end", 0, "= \"ab\\n\"\n"));
     pt_site_free(&site);
     CHECK(!site.held && site.slot.at == NULL);
@@ -61,8 +62,8 @@ static void rooms(pt_site *site) {
 }
 
 static void lines(pt_site *site) {
-    char *longest = malloc(LONGEST + 1);
-    memset(longest, 'a', LONGEST + 1);
+    char *longest = malloc(PT_MOST_LINE_BYTES + 1);
+    memset(longest, 'a', PT_MOST_LINE_BYTES + 1);
     CHECK(answers(site, "", 0, "") && answers(site, " \t", 0, "") && answers(site, "# .t frob", 0, ""));
     CHECK(answers(site, ".t frob", PT_FAULT_BAD_COMMAND, "! 4 BadCommand\n"));
     CHECK(answers(site, ".none get 1.0", PT_FAULT_NO_WIDGET, "! 5 NoWidget\n"));
@@ -71,9 +72,9 @@ static void lines(pt_site *site) {
     CHECK(answers(site, "\xc3", PT_FAULT_BAD_QUOTING, "! 19 BadQuoting\n"));
     CHECK(answers(site, "# \xc3", PT_FAULT_BAD_QUOTING, "! 19 BadQuoting\n"));
     CHECK(answers(site, "receive a", PT_FAULT_NO_FILE, "! 20 NoFile\n"));
-    CHECK(pt_command(site, (const uint8_t *)longest, LONGEST + 1) == PT_FAULT_BAD_QUOTING);
+    CHECK(pt_command(site, (const uint8_t *)longest, PT_MOST_LINE_BYTES + 1) == PT_FAULT_BAD_QUOTING);
     CHECK(says(site, "! 19 BadQuoting\n"));
-    CHECK(pt_command(site, (const uint8_t *)longest, LONGEST) == PT_FAULT_NO_WIDGET);
+    CHECK(pt_command(site, (const uint8_t *)longest, PT_MOST_LINE_BYTES) == PT_FAULT_NO_WIDGET);
     CHECK(pt_command(site, (const uint8_t *)".t get\0 1.0", 11) == PT_FAULT_BAD_COMMAND);
     CHECK(answers(site, ".t get 1.0 end", 0, "= \"ab\\n\"\n"));
     free(longest);
@@ -89,6 +90,71 @@ static void newlines(void) {
     CHECK(answers(&site, ".t get 1.0 end\n", PT_FAULT_BAD_INDEX, "! 2 BadIndex\n"));
     CHECK(answers(&site, "\n", PT_FAULT_NO_WIDGET, "! 5 NoWidget\n"));
     pt_site_free(&site);
+}
+
+/* A handle that is moved, and one in memory that is all zero. */
+static void moved(void) {
+    pt_site one = PT_NONE, other, *allocated = calloc(1, sizeof *allocated);
+    CHECK(pt_site_new(&one, 1) == PT_DONE && answers(&one, ".t insert 1.0 ab", 0, "=\n"));
+    other = one;
+    CHECK(answers(&other, ".t get 1.0 end", 0, "= \"ab\\n\"\n"));
+    pt_site_free(&other);
+    CHECK(run(allocated, ".t index end") == PT_NO_SITE && pt_site_new(allocated, 2) == PT_DONE);
+    CHECK(answers(allocated, ".t index end", 0, "= 2.0\n"));
+    pt_site_free(allocated);
+    free(allocated);
+}
+
+/* Zero bytes of a text go in and come out as they are. */
+static void zero_bytes(void) {
+    static const char line[] = ".t insert 1.0 a\0b";
+    uint8_t out[16];
+    pt_site site = PT_NONE;
+    CHECK(pt_site_new(&site, 1) == PT_DONE);
+    CHECK(pt_command(&site, (const uint8_t *)line, sizeof line - 1) == PT_DONE);
+    CHECK(run(&site, ".t get 1.0 1.3") == PT_DONE && pt_said(&site, out, sizeof out) == 6 && memcmp(out, "= a\0b\n", 6) == 0);
+    pt_site_free(&site);
+}
+
+/* The ends of several sites come by rising numbers. */
+static void ends_rise(void) {
+    static const uint32_t numbers[] = {300, 7, 65535, 256, 2};
+    static const uint8_t rising[] = {0, 2, 0, 7, 1, 0, 1, 44, 255, 255};
+    pt_site to = PT_NONE;
+    uint8_t ends[64] = {0};
+    CHECK(pt_site_new(&to, 1) == PT_DONE);
+    for (size_t at = 0; at < sizeof numbers / sizeof *numbers; at++) {
+        pt_site from = PT_NONE;
+        pt_received told;
+        size_t len = 0;
+        CHECK(pt_site_new(&from, numbers[at]) == PT_DONE && run(&from, ".t insert 1.0 a") == PT_DONE && pt_export(&from) == PT_DONE);
+        char *file = said(&from, &len);
+        CHECK(pt_receive(&to, (const uint8_t *)file, len, &told) == PT_DONE && told.fault == 0);
+        free(file);
+        pt_site_free(&from);
+    }
+    CHECK(pt_ends(&to) == PT_DONE && pt_said(&to, ends, sizeof ends) == 50);
+    for (size_t at = 0; at < 5; at++) {
+        CHECK(memcmp(ends + 10 * at, rising + 2 * at, 2) == 0);
+    }
+    pt_site_free(&to);
+}
+
+/* A site that goes on from its own file, before any line, gives its stamps on; one that doesn't gives some again. */
+static void kept(void) {
+    pt_site before = PT_NONE, site = PT_NONE, lost = PT_NONE;
+    pt_received told;
+    size_t len = 0;
+    CHECK(pt_site_new(&before, 1) == PT_DONE && answers(&before, ".t insert 1.0 ab", 0, "=\n") && pt_export(&before) == PT_DONE);
+    char *file = said(&before, &len);
+    CHECK(pt_site_new(&site, 1) == PT_DONE && pt_receive(&site, (const uint8_t *)file, len, &told) == PT_DONE && told.fault == 0);
+    CHECK(answers(&site, ".t insert 1.0 c", 0, "=\n") && answers(&site, ".t get 1.0 1.3", 0, "= cab\n"));
+    CHECK(pt_site_new(&lost, 1) == PT_DONE && answers(&lost, ".t insert 1.0 xy", 0, "=\n"));
+    CHECK(pt_receive(&lost, (const uint8_t *)file, len, &told) == PT_DONE && told.fault == PT_FAULT_CONFLICT && told.offset == 8);
+    free(file);
+    pt_site_free(&before);
+    pt_site_free(&site);
+    pt_site_free(&lost);
 }
 
 /* A file is received, and is at fault; the text stays. */
@@ -169,6 +235,10 @@ int main(void) {
     empty_handles();
     numbers();
     newlines();
+    moved();
+    zero_bytes();
+    ends_rise();
+    kept();
     CHECK(pt_site_new(&site, 1) == PT_DONE);
     CHECK(pt_said(&site, (uint8_t[1]){0}, 1) == 0);
     CHECK(answers(&site, ".t insert 1.0 ab", 0, "=\n"));

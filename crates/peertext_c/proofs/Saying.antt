@@ -4,12 +4,12 @@ use Rattle.std.specs.Prelude.{IfOk, MatchResult}
 use Rattle.rt_stamps.specs.declared.fault.Fault.{Fault}
 use Rattle.peertext_c.specs.Calls.{SaysOf}
 use Rattle.peertext_c.specs.Codes.{DONE, NO_MEMORY}
-use Rattle.peertext_c.specs.Held.{Held}
+use Rattle.peertext_c.specs.Held.{Held, saying}
 
 -- the answer may be told as another one, where those that there are stay
 pub says_made : (told : ℤ → ℤ) → told DONE ≡ DONE → told NO_MEMORY ≡ NO_MEMORY → (made : Result (Vec ℕ Global) Fault) (held : Held) (text : List ℕ) (result : ℤ) (new : Option Held)
     → IfOk made (λ bytes. bytes.items ≡ text)
-    → MatchResult made (λ bytes. (result ≡ DONE) × (new ≡ Some (record held { said = bytes.items }))) (λ _. (result ≡ NO_MEMORY) × (new ≡ Some held))
+    → MatchResult made (λ bytes. (result ≡ DONE) × (new ≡ Some (saying bytes.items held))) (λ _. (result ≡ NO_MEMORY) × (new ≡ Some held))
     → SaysOf held text (told result) new
-says_made told done wanting (Ok bytes) held text result new is says = inl (ap told says.0 ∙ done, says.1 ∙ ap (λ (said : List ℕ). Some (record held { said = said })) is)
+says_made told done wanting (Ok bytes) held text result new is says = inl (ap told says.0 ∙ done, says.1 ∙ ap (λ (said : List ℕ). Some (saying said held)) is)
 says_made told done wanting (Err fault) held text result new is says = inr (ap told says.0 ∙ wanting, says.1)

@@ -1,7 +1,7 @@
 -- What each function answers, and what its handle holds then.
 use Rattle.std.specs.Prelude.{◌≡◌, ◌⊎◌, ◌*◌, ◌<◌, ◌≤◌, ◌++◌, ◌&&◌, ℕ, ℤ, pos, List, [], Option, None, Some, true, false, length, take, drop, reverse, slice_get, if◌then◌else◌}
 use Rattle.std.specs.Str.{is_utf8}
-use Rattle.rt_stamps.specs.declared.limits.TheConstants.{MOST_BYTES, MOST_CELLS}
+use Rattle.rt_stamps.specs.declared.limits.TheConstants.{GREATEST_SITE, MOST_BYTES, MOST_CELLS}
 use Rattle.rt_stamps.specs.declared.fault.Fault.{Fault}
 use Rattle.rt_stamps.specs.declared.stamp.Stamp.{Stamp}
 use Rattle.rt_stamps.specs.Fault.{number_of}
@@ -26,8 +26,8 @@ use Rattle.peertext_c.specs.declared.numbers.Told.{Told}
 use Rattle.peertext_c.specs.declared.numbers.StampNumbers.{StampNumbers}
 use Rattle.peertext_c.specs.Changes.{change_lines}
 use Rattle.peertext_c.specs.Codes.{BAD_BYTES, BAD_NUMBER, DONE, IS_HELD, NOT_THERE, NO_MEMORY, NO_SITE, fault_of}
-use Rattle.peertext_c.specs.Ends.{ends_bytes, known_by}
-use Rattle.peertext_c.specs.Held.{CommandGives, Held, new_held}
+use Rattle.peertext_c.specs.Ends.{AreBySite, ends_bytes, known_by}
+use Rattle.peertext_c.specs.Held.{CommandGives, Held, new_held, saying}
 
 -- there is no site, and that is answered
 abbrev pub IsNoSite : Option Held → ℤ → Option Held → Type 0
@@ -37,20 +37,28 @@ IsNoSite old result new = (result ≡ NO_SITE) × (old ≡ None) × (new ≡ Non
 abbrev pub IsRefused : ℤ → Option Held → ℤ → Option Held → Type 0
 IsRefused code old result new = (result ≡ code) × ((held : Held) × (old ≡ Some held)) × (new ≡ old)
 
--- A site is made where there is none and its number isn't 0.
+-- the numbers that sites have, and those that none has
+abbrev pub IsSiteNumber : ℕ → Type 0
+IsSiteNumber number = (0 < number) × (number ≤ GREATEST_SITE)
+
+abbrev pub IsNoSiteNumber : ℕ → Type 0
+IsNoSiteNumber number = (number ≡ 0) ⊎ (GREATEST_SITE < number)
+
+-- A site is made where there is none and its number is that of a site.
 abbrev pub IsMade : ℕ → Option Held → ℤ → Option Held → Type 0
 IsMade number old result new =
-    ((result ≡ DONE) × (0 < number) × (old ≡ None) × (new ≡ Some (new_held number MOST_CELLS)))
+    ((result ≡ DONE) × IsSiteNumber number × (old ≡ None) × (new ≡ Some (new_held number MOST_CELLS)))
     ⊎ IsRefused IS_HELD old result new
-    ⊎ ((result ≡ BAD_NUMBER) × (number ≡ 0) × (old ≡ None) × (new ≡ None))
-    ⊎ ((result ≡ NO_MEMORY) × (0 < number) × (old ≡ None) × (new ≡ None))
+    ⊎ ((result ≡ BAD_NUMBER) × IsNoSiteNumber number × (old ≡ None) × (new ≡ None))
+    ⊎ ((result ≡ NO_MEMORY) × IsSiteNumber number × (old ≡ None) × (new ≡ None))
 
--- A line gives what it gives in a script, and the line of its answer is said; a silent one says nothing.
+-- A line gives what it gives in a script, and the line of its answer is said, which is ready if there was memory for
+-- it; a silent one says nothing.
 abbrev pub RunsLine : List ℕ → Held → ℤ → Held → Type 0
 RunsLine line old result new =
-    ((is_readable line && is_silent line ≡ true) × (result ≡ DONE) × (new ≡ record old { said = [] }))
+    ((is_readable line && is_silent line ≡ true) × (result ≡ DONE) × (new ≡ saying [] old))
     ⊎ ((given : Held) × (answer : Answer) × (is_readable line && is_silent line ≡ false) × LineGives CommandGives old line answer given
-    × (result ≡ pos (fault_of answer)) × (new ≡ record given { said = reply_line answer }))
+    × (result ≡ pos (fault_of answer)) × (new ≡ record given { said = reply_line answer; ready = new.ready }))
 
 abbrev pub IsCommanded : List ℕ → Option Held → ℤ → Option Held → Type 0
 IsCommanded line old result new =
@@ -60,33 +68,38 @@ IsCommanded line old result new =
 abbrev pub in_front : List ℕ → List ℕ → List ℕ
 in_front bytes room = take (length room) bytes ++ drop (length bytes) room
 
--- What was said is put in the front of the room, and its whole length is answered; or there is no memory for that.
+-- What was said is put in the front of the room, and its whole length is answered; or, if it isn't ready, there is no
+-- memory for that.
 abbrev pub IsSaid : Option Held → List ℕ → ℤ → Option Held → List ℕ → Type 0
 IsSaid old room result new out = (new ≡ old)
     × (((result ≡ NO_SITE) × (old ≡ None) × (out ≡ room))
     ⊎ ((held : Held) × (old ≡ Some held)
-    × (((result ≡ pos (length held.said)) × (out ≡ in_front held.said room)) ⊎ ((result ≡ NO_MEMORY) × (out ≡ room)))))
+    × (((result ≡ pos (length held.said)) × (out ≡ in_front held.said room))
+    ⊎ ((result ≡ NO_MEMORY) × (held.ready ≡ false) × (out ≡ room)))))
 
 -- A site says some bytes, and else stays as it is; or there is no memory for that.
 abbrev pub SaysOf : Held → List ℕ → ℤ → Option Held → Type 0
 SaysOf held bytes result new =
-    ((result ≡ DONE) × (new ≡ Some (record held { said = bytes }))) ⊎ ((result ≡ NO_MEMORY) × (new ≡ Some held))
+    ((result ≡ DONE) × (new ≡ Some (saying bytes held))) ⊎ ((result ≡ NO_MEMORY) × (new ≡ Some held))
 
 -- what each site says
 abbrev pub Says : (Held → List ℕ) → Option Held → ℤ → Option Held → Type 0
 Says said old result new = IsNoSite old result new ⊎ ((held : Held) × (old ≡ Some held) × SaysOf held (said held) result new)
 
--- the file of all operations that a site has
+-- the file of all operations that a site accepted or made
 abbrev pub file_of : Held → List ℕ
 file_of held = spelling (reverse (log_of held.site))
 
--- Bytes are said that spell the last count that a site knows of each site; or there is no memory for that.
+-- these are the last counts that a site knows, by the numbers of their sites
+abbrev pub AreEndsOf : SiteValue → List (ℕ × ℕ) → Type 0
+AreEndsOf state ends = AreBySite ends × ((site : ℕ) → known_by ends site ≡ known_end (log_of state) site)
+
+-- Bytes are said that spell the last counts that a site knows; or there is no memory for that.
 abbrev pub SaysEnds : Option Held → ℤ → Option Held → Type 0
 SaysEnds old result new =
     IsNoSite old result new
     ⊎ ((held : Held) × (old ≡ Some held)
-    × (((ends : List (ℕ × ℕ)) × (result ≡ DONE) × ((site : ℕ) → known_by ends site ≡ known_end (log_of held.site) site)
-    × (new ≡ Some (record held { said = ends_bytes ends })))
+    × (((ends : List (ℕ × ℕ)) × AreEndsOf held.site ends × (result ≡ DONE) × (new ≡ Some (saying (ends_bytes ends) held)))
     ⊎ ((result ≡ NO_MEMORY) × (new ≡ Some held))))
 
 -- bytes spell no counts: those of each would be ten
@@ -121,14 +134,15 @@ numbers_of received changes = record {
   fault = (fault_numbers received.fault).0;
 }
 
--- A site receives a file, and keeps what it changed: made one after the other to the text before, with its tags, these changes give
--- the text after. What was said stays.
+-- A site receives a file, and keeps what it changed: of each operation that was accepted, in an order in which they could
+-- be. Made one after the other to the text before, with its tags, these changes give the text after. What was said stays.
 pub record ReceivesTelling (bytes : List ℕ) (old : Held) (received : Received) (new : Held) : Type 0 where
   pub receives : SiteReceives bytes old.site received new.site
+  pub counted : length new.changes ≡ received.new
   pub told : AreToldBetween (log_of old.site) (log_of new.site) new.changes
   pub replayed : replayed (all_changes_in new.changes) (tagged_text old.site.text.view.doc.cells) ≡ tagged_text new.site.text.view.doc.cells
   pub within : AreInText (all_changes_in new.changes) (tagged_text old.site.text.view.doc.cells)
-  pub said : new.said ≡ old.said
+  pub said : (new.said ≡ old.said) × (new.ready ≡ old.ready)
 
 -- A file of no more bytes than one may have is received, and what became of it is told.
 abbrev pub IsReceived : List ℕ → Option Held → Told → ℤ → Option Held → Told → Type 0

@@ -3,7 +3,8 @@ use Rattle.std.specs.Prelude.{ℕ, List, ◌++◌, unwrap_or}
 use Rattle.std.specs.BTreeMap.{is_at}
 use Rattle.std.specs.Int.{to_be_bytes, w16, w64}
 use Rattle.std.specs.List.{flat_map}
-use Rattle.std.specs.Map.{lookup}
+use Rattle.std.specs.List.Sorted.{IsStrictlySortedBy}
+use Rattle.std.specs.Map.{keys_of, lookup}
 use Rattle.std.specs.Ordering.{nat_cmp}
 
 -- the number of a site and a count, the highest byte first
@@ -16,3 +17,7 @@ ends_bytes ends = flat_map end_bytes ends
 -- the count that is known of a site: the first one that is told of it, 0 where none is
 abbrev pub known_by : List (ℕ × ℕ) → ℕ → ℕ
 known_by ends site = unwrap_or (lookup (is_at (nat_cmp site)) ends) 0
+
+-- the numbers of their sites rise, so none stands twice
+abbrev pub AreBySite : List (ℕ × ℕ) → Type 0
+AreBySite ends = IsStrictlySortedBy nat_cmp (keys_of ends)

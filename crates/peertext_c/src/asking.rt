@@ -65,7 +65,7 @@ fn is_destroy(word: &str) -> bool
 }
 
 /// What the words of a line are answered, and what they change.
-pub fn words_give(site: &mut SiteState, words: &[String]) -> Answer
+pub(crate) fn words_give(site: &mut SiteState, words: &[String]) -> Answer
     ensures { WordsGive [] (as_words words.now) site.old result site.new }
 {
     let Some((first, rest)) = words.split_first() else {

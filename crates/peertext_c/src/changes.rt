@@ -115,7 +115,7 @@ fn rendered<A: Ledger, B: Ledger>(
 }
 
 /// The lines of what an operation changed, in memory of their own. Want of memory.
-pub fn lines_of_change(alloc: Global, change: &ToldChange) -> Result<Vec<u8>, Fault>
+pub(crate) fn lines_of_change(alloc: Global, change: &ToldChange) -> Result<Vec<u8>, Fault>
     ensures ok { IfOk result (λ lines. lines.items ≡ change_lines change.now) }
     ensures err { IsOkUnless result NoMemory }
 {

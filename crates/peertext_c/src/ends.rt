@@ -1,10 +1,11 @@
-// The last counts that are known of sites, as bytes: 10 of each, the number of its site (2) and the count (8), the highest byte first.
+// The last counts that are known of sites, as bytes: 10 of each, the number of its site (2) and the count (8), the
+// highest byte first.
 ghost use Rattle.std.specs.Prelude.{◌≡◌, ◌⊎◌, ℕ, IfErr, IfOk, IsOkUnless, List, length, unwrap_or};
 ghost use Rattle.std.specs.BTreeMap.{get};
 ghost use Rattle.std.specs.Ordering.{nat_cmp};
 ghost use Rattle.rt_stamps.specs.declared.fault.Fault.TheVariants.{NoMemory, Truncated};
 ghost use Rattle.peertext_c.specs.Calls.{SpellNoEnds};
-ghost use Rattle.peertext_c.specs.Ends.{end_bytes, ends_bytes, known_by};
+ghost use Rattle.peertext_c.specs.Ends.{AreBySite, end_bytes, ends_bytes, known_by};
 
 use rt_stamps::Fault;
 use std::alloc::Global;
@@ -13,9 +14,10 @@ use std::collections::BTreeMap;
 // The bytes of each.
 const END_BYTES: usize = 10;
 
-/// Of these counts. Want of memory.
-pub fn bytes_of_ends(alloc: Global, ends: &BTreeMap<u16, u64>) -> Result<Vec<u8>, Fault>
+/// Of these counts, by the numbers of their sites. Want of memory.
+pub(crate) fn bytes_of_ends(alloc: Global, ends: &BTreeMap<u16, u64>) -> Result<Vec<u8>, Fault>
     ensures ok { IfOk result (λ bytes. bytes.items ≡ ends_bytes ends.now.entries) }
+    ensures order { AreBySite ends.now.entries }
     ensures err { IsOkUnless result NoMemory }
 {
     let mut bytes = Vec::new(alloc);
@@ -38,8 +40,9 @@ fn end_of(bytes: &[u8]) -> (u16, u64)
     (site, count)
 }
 
-/// The counts that bytes spell: of one site the first counts. `Truncated` where they aren't 10 bytes each, or want of memory.
-pub fn ends_of_bytes(alloc: Global, bytes: &[u8]) -> Result<BTreeMap<u16, u64>, Fault>
+/// The counts that bytes spell: of one site the first counts. `Truncated` where they aren't 10 bytes each, or want of
+/// memory.
+pub(crate) fn ends_of_bytes(alloc: Global, bytes: &[u8]) -> Result<BTreeMap<u16, u64>, Fault>
     ensures ok { IfOk result (λ map. (ends : List (ℕ × ℕ)) × (bytes.now ≡ ends_bytes ends)
         × ((site : ℕ) → unwrap_or (get nat_cmp map site) 0 ≡ known_by ends site)) }
     ensures err { IfErr result (λ fault. (fault ≡ NoMemory) ⊎ ((fault ≡ Truncated) × SpellNoEnds bytes.now)) }

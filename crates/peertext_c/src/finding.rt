@@ -7,7 +7,7 @@ use rt_stamps::Stamp;
 use std::str;
 
 /// The stamp of the character at a place of what the widget of a path shows.
-pub fn stamp_of_path(site: &SiteState, path: &[u8], place: usize) -> Option<Stamp>
+pub(crate) fn stamp_of_path(site: &SiteState, path: &[u8], place: usize) -> Option<Stamp>
     ensures { result ≡ stamp_of_path path.now place site.now }
 {
     match str::from_utf8(path) {
@@ -17,7 +17,7 @@ pub fn stamp_of_path(site: &SiteState, path: &[u8], place: usize) -> Option<Stam
 }
 
 /// The place of the character of a stamp in what the widget of a path shows.
-pub fn place_of_path(site: &SiteState, path: &[u8], stamp: Stamp) -> Option<usize>
+pub(crate) fn place_of_path(site: &SiteState, path: &[u8], stamp: Stamp) -> Option<usize>
     ensures { result ≡ place_of_path path.now stamp site.now }
 {
     match str::from_utf8(path) {

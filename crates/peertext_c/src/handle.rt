@@ -1,11 +1,13 @@
 // What C holds of a site: a handle.
-ghost use Rattle.std.specs.Prelude.{◌≡◌, MatchOption, MatchResult, None, Option, Some, is_some};
+ghost use Rattle.std.specs.Prelude.{◌≡◌, IsOkUnless, MatchOption, MatchResult, None, Option, Some, is_some};
+ghost use Rattle.rt_stamps.specs.declared.fault.Fault.TheVariants.{NoMemory};
 ghost use Rattle.peertext_c.specs.Codes.{DONE, NO_MEMORY};
-ghost use Rattle.peertext_c.specs.Held.{Held};
+ghost use Rattle.peertext_c.specs.Held.{Held, saying};
 ghost use Rattle.peertext_c.specs.Owned.{slot_coded};
 
 use crate::kept::{Kept, Said};
 use crate::parts::Parts;
+use crate::{DONE, NO_MEMORY};
 use rt_stamps::Fault;
 use std::alloc::Global;
 use std::marker::Model;
@@ -74,7 +76,7 @@ pub struct Handle {
 
 impl Handle {
     /// One that holds no site.
-    pub fn none(alloc: Global) -> Handle
+    pub(crate) fn none(alloc: Global) -> Handle
         ensures { result.slot.value ≡ None }
     {
         Handle {
@@ -93,7 +95,7 @@ impl Handle {
     }
 
     /// What it holds.
-    pub fn into_box(self) -> Option<Box<Kept>>
+    pub(crate) fn into_box(self) -> Option<Box<Kept>>
         ensures { MatchOption result (self.slot.value ≡ None) (λ kept. self.slot.value ≡ Some kept.value) }
     {
         let Handle { held, slot } = self;
@@ -105,7 +107,7 @@ impl Handle {
     }
 
     /// Takes out what it holds.
-    pub fn take(&mut self, alloc: Global) -> Option<Box<Kept>>
+    pub(crate) fn take(&mut self, alloc: Global) -> Option<Box<Kept>>
         ensures left { self.new.slot.value ≡ None }
         ensures taken { MatchOption result (self.old.slot.value ≡ None) (λ kept. self.old.slot.value ≡ Some kept.value) }
     {
@@ -113,29 +115,32 @@ impl Handle {
     }
 
     /// Puts a site in where there is none.
-    pub fn put(&mut self, kept: Box<Kept>)
+    pub(crate) fn put(&mut self, kept: Box<Kept>)
         requires { self.old.slot.value ≡ None }
         ensures { self.new.slot.value ≡ Some kept.value }
     {
         let Handle { held: _, slot } = mem::replace(self, Handle::of(kept));
         slot.forget();
     }
-    /// Puts a site in where there is none, which says some bytes if there was memory for them, and answers whether there was: 0, or -2.
-    pub fn say(&mut self, mut kept: Box<Kept>, made: Result<Vec<u8>, Fault>) -> i32
-        requires { self.old.slot.value ≡ None }
+
+    /// Puts a site in where there is none, which says some bytes if there was memory for them, and answers whether
+    /// there was.
+    pub(crate) fn say(&mut self, mut kept: Box<Kept>, made: Result<Vec<u8>, Fault>) -> i32
+        requires empty { self.old.slot.value ≡ None }
+        requires fault { IsOkUnless made NoMemory }
         ensures { MatchResult made
-            (λ bytes. (result ≡ DONE) × (self.new.slot.value ≡ Some (record kept.value { said = bytes.items })))
+            (λ bytes. (result ≡ DONE) × (self.new.slot.value ≡ Some (saying bytes.items kept.value)))
             (λ _. (result ≡ NO_MEMORY) × (self.new.slot.value ≡ Some kept.value)) }
     {
         match made {
             Ok(bytes) => {
                 kept.said = Said::of(bytes);
                 self.put(kept);
-                0
+                DONE
             }
             Err(_) => {
                 self.put(kept);
-                -2
+                NO_MEMORY
             }
         }
     }

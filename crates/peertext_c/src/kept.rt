@@ -1,60 +1,65 @@
 // What a handle holds.
-ghost use Rattle.std.specs.Prelude.{◌≡◌, ◌⊎◌, ℕ, [], IfErr, IfOk, List, MatchOption, MatchResult, None, Some, length, pos, slice_get};
+ghost use Rattle.std.specs.Prelude.{◌≡◌, ◌⊎◌, ◌≤◌, ℕ, [], IfErr, IfOk, IsOkUnless, List, MatchOption, MatchResult, None, Some};
+ghost use Rattle.std.specs.Prelude.{false, length, pos, slice_get, true};
+ghost use Rattle.rt_stamps.specs.declared.limits.TheConstants.{MOST_BYTES};
 ghost use Rattle.rt_stamps.specs.declared.fault.Fault.TheVariants.{NoMemory, Truncated};
-ghost use Rattle.rt_oplog.specs.Logs.{known_end};
 ghost use Rattle.rt_changes.specs.declared.change.ToldChange.{ToldChange};
-ghost use Rattle.rt_peers.specs.SiteStep.{log_of};
+ghost use Rattle.rt_holding.specs.declared.receiving.Received.{Received};
 ghost use Rattle.rt_script.specs.Replies.{reply_line};
-ghost use Rattle.peertext_c.specs.Calls.{RunsLine, SpellNoEnds, file_since, in_front};
+ghost use Rattle.peertext_c.specs.Calls.{AreEndsOf, ReceivesTelling, RunsLine, SpellNoEnds, file_since, in_front, numbers_of};
 ghost use Rattle.peertext_c.specs.Changes.{change_lines};
 ghost use Rattle.peertext_c.specs.Codes.{fault_of};
-ghost use Rattle.peertext_c.specs.Ends.{ends_bytes, known_by};
+ghost use Rattle.peertext_c.specs.Ends.{ends_bytes};
 
+use crate::DONE;
 use crate::asking::words_give;
 use crate::changes::lines_of_change;
 use crate::ends::{bytes_of_ends, ends_of_bytes};
-use rt_script::{Answer, Commands, SiteState, Spare, ToldChange, answer_line, line_of};
+use crate::numbers::Told;
+use rt_script::{
+    Answer, Commands, ReceivedChanges, SiteState, Spare, ToldChange, answer_bytes, answer_line,
+};
 use rt_stamps::Fault;
 use std::alloc::Global;
 use std::marker::Model;
 
 /// What was said: bytes, or the line of an answer for which there was no memory yet.
 #[derive(Drop)]
-pub enum Spoken {
+pub(crate) enum Spoken {
     Bytes(Vec<u8>),
     Line(Answer),
 }
 
 /// The bytes that were said last.
 #[derive(Drop)]
-pub struct Said {
+pub(crate) struct Said {
     spoken: Spoken,
 }
 
 impl Model for Said {
-    ghost use Rattle.std.specs.Prelude.{List, ℕ};
-    ghost use Rattle.peertext_c.specs.Held.{bytes_of};
+    ghost use Rattle.std.specs.Prelude.{Bool, List, ℕ};
+    ghost use Rattle.peertext_c.specs.Held.{bytes_of, is_ready};
 
-    ghost Value = { List ℕ };
+    ghost Value = { List ℕ × Bool };
 
-    ghost view = { λ s. bytes_of s.spoken };
+    ghost view = { λ s. (bytes_of s.spoken, is_ready s.spoken) };
 }
 
 impl Said {
     /// These bytes.
-    pub fn of(bytes: Vec<u8>) -> Said
-        ensures { result ≡ bytes.items }
+    pub(crate) fn of(bytes: Vec<u8>) -> Said
+        ensures { result ≡ (bytes.items, true) }
     {
         Said {
             spoken: Spoken::Bytes(bytes),
         }
     }
 
-    /// The line of an answer. Where there is no memory for it, it is made when it is read.
-    pub fn of_answer(alloc: Global, answer: Answer) -> Said
-        ensures { result ≡ reply_line answer }
+    // The line of an answer. Where there is no memory for it, it is made when it is read.
+    fn of_answer(alloc: Global, answer: Answer) -> Said
+        ensures { result.0 ≡ reply_line answer }
     {
-        match line_of(alloc, &answer) {
+        match answer_bytes(alloc, &answer) {
             Ok(line) => Said::of(line),
             Err(_) => Said {
                 spoken: Spoken::Line(answer),
@@ -62,14 +67,17 @@ impl Said {
         }
     }
 
-    /// Puts the front of the bytes into room for some, as many as there is room for, and answers how many there are. Want
-    /// of memory, where there was none for the line of an answer; then the room stays as it is.
-    pub fn copy(&self, alloc: Global, out: &mut [u8]) -> Result<isize, Fault>
-        ensures { MatchResult result (λ len. (len ≡ pos (length self.now)) × (out.new ≡ in_front self.now out.old)) (λ _. out.new ≡ out.old) }
+    /// Puts the front of the bytes into room for some, as many as there is room for, and answers how many there are.
+    /// Want of memory, where there was none for the line of an answer; then the room stays as it is.
+    pub(crate) fn copy(&self, alloc: Global, out: &mut [u8]) -> Result<isize, Fault>
+        ensures copied { MatchResult result
+            (λ len. (len ≡ pos (length self.now.0)) × (out.new ≡ in_front self.now.0 out.old))
+            (λ _. (self.now.1 ≡ false) × (out.new ≡ out.old)) }
+        ensures err { IsOkUnless result NoMemory }
     {
         match &self.spoken {
             Spoken::Bytes(bytes) => Ok(copy_out(bytes, out)),
-            Spoken::Line(answer) => match line_of(alloc, answer) {
+            Spoken::Line(answer) => match answer_bytes(alloc, answer) {
                 Ok(line) => Ok(copy_out(&line, out)),
                 Err(fault) => Err(fault),
             },
@@ -99,7 +107,7 @@ fn copy_out(bytes: &Vec<u8>, out: &mut [u8]) -> isize
 
 /// A site, what was said last, and what the last file that it received changed, operation by operation.
 #[derive(Drop)]
-pub struct Kept {
+pub(crate) struct Kept {
     pub site: SiteState,
     pub said: Said,
     pub changes: Vec<ToldChange>,
@@ -110,13 +118,13 @@ impl Model for Kept {
 
     ghost Value = { Held };
 
-    ghost view = { λ k. record { site = k.site; said = k.said; changes = k.changes.items } };
+    ghost view = { λ k. record { site = k.site; said = k.said.0; ready = k.said.1; changes = k.changes.items } };
 }
 
 impl Kept {
     /// Of a site that said and changed nothing yet.
-    pub fn new(alloc: Global, site: SiteState) -> Kept
-        ensures { result ≡ record { site = site; said = []; changes = [] } }
+    pub(crate) fn new(alloc: Global, site: SiteState) -> Kept
+        ensures { result ≡ record { site = site; said = []; ready = true; changes = [] } }
     {
         Kept {
             site,
@@ -125,40 +133,55 @@ impl Kept {
         }
     }
 
-    /// Runs a line, and says the line of its answer, or nothing for a silent line. 0, or the number of the fault by which it was refused.
-    pub fn run(&mut self, alloc: Global, line: &[u8]) -> i32
+    /// Runs a line, and says the line of its answer, or nothing for a silent line. 0, or the number of the fault by
+    /// which it was refused.
+    pub(crate) fn run(&mut self, alloc: Global, line: &[u8]) -> i32
         ensures { RunsLine line.now self.old result self.new }
     {
         let mut spare = Spare::new(alloc);
         let Some(answer) = answer_line(alloc, &mut spare, self, line) else {
             self.said = Said::of(Vec::new(alloc));
-            return 0;
+            return DONE;
         };
         let fault = fault_of(&answer);
         self.said = Said::of_answer(alloc, answer);
         i32::from(fault)
     }
 
+    /// Receives the bytes of a file, and keeps what it changed. What became of it.
+    pub(crate) fn receive(&mut self, bytes: &[u8]) -> Told
+        requires { length bytes.now ≤ MOST_BYTES }
+        ensures { (received : Received) × ReceivesTelling bytes.now self.old received self.new
+            × (result ≡ numbers_of received self.new.changes) }
+    {
+        let ReceivedChanges { received, changes } = self.site.receive_telling(bytes);
+        let told = Told::of(received, &changes);
+        self.changes = changes;
+        told
+    }
+
     /// The lines of the change of a number, or want of memory. None where there is no such change.
-    pub fn lines_at(&self, alloc: Global, number: usize) -> Option<Result<Vec<u8>, Fault>>
+    pub(crate) fn lines_at(&self, alloc: Global, number: usize) -> Option<Result<Vec<u8>, Fault>>
         ensures { MatchOption result (slice_get self.now.changes number ≡ None)
-            (λ made. (change : ToldChange) × (slice_get self.now.changes number ≡ Some change) × IfOk made (λ lines. lines.items ≡ change_lines change)) }
+            (λ made. (change : ToldChange) × (slice_get self.now.changes number ≡ Some change)
+            × IfOk made (λ lines. lines.items ≡ change_lines change) × IsOkUnless made NoMemory) }
     {
         let change = self.changes.get(number)?;
         Some(lines_of_change(alloc, change))
     }
 
-    /// The bytes of the last count that its site knows of each site. Want of memory.
-    pub fn ends(&self, alloc: Global) -> Result<Vec<u8>, Fault>
-        ensures { IfOk result (λ bytes. (ends : List (ℕ × ℕ)) × (bytes.items ≡ ends_bytes ends)
-            × ((site : ℕ) → known_by ends site ≡ known_end (log_of self.now.site) site)) }
+    /// The bytes of the last counts that its site knows. Want of memory.
+    pub(crate) fn ends(&self, alloc: Global) -> Result<Vec<u8>, Fault>
+        ensures ok { IfOk result (λ bytes. (ends : List (ℕ × ℕ)) × (bytes.items ≡ ends_bytes ends) × AreEndsOf self.now.site ends) }
+        ensures err { IsOkUnless result NoMemory }
     {
         let ends = self.site.ends()?;
         bytes_of_ends(alloc, &ends)
     }
 
-    /// The file of the operations that are past the counts that bytes spell. `Truncated` where they spell none, or want of memory.
-    pub fn file_since(&self, alloc: Global, bytes: &[u8]) -> Result<Vec<u8>, Fault>
+    /// The file of the operations that are past the counts that bytes spell. `Truncated` where they spell none, or want
+    /// of memory.
+    pub(crate) fn file_since(&self, alloc: Global, bytes: &[u8]) -> Result<Vec<u8>, Fault>
         ensures ok { IfOk result (λ file. (ends : List (ℕ × ℕ)) × (bytes.now ≡ ends_bytes ends) × (file.items ≡ file_since ends self.now)) }
         ensures err { IfErr result (λ fault. (fault ≡ NoMemory) ⊎ ((fault ≡ Truncated) × SpellNoEnds bytes.now)) }
     {

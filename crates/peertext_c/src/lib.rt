@@ -1,29 +1,30 @@
 //! Sites that C holds.
 //!
-//! A handle holds a site, or none where all of it is zero, as it begins. C hands it to one call at a time, and on one thread; two
-//! handles share nothing. The first parameter of each function, the allocator, takes no bytes and isn't passed. No pointer is
-//! null, with a length of 0 neither.
+//! A handle holds a site, or none where all of it is zero, as it begins. C hands it to one call at a time, and on one
+//! thread; two handles share nothing. The first parameter of each function, the allocator, takes no bytes and isn't
+//! passed. No pointer is null, with a length of 0 neither. After an answer below 0 all is as it was.
 #![tactic(auto)]
 
-ghost use Rattle.std.specs.Prelude.{◌≡◌, None};
-ghost use Rattle.peertext_c.specs.Calls.{IsCommanded, IsFound, IsMade, IsReceived, IsSaid, Says, SaysChange, SaysEnds, SaysSince};
-ghost use Rattle.peertext_c.specs.Calls.{file_of, place_of_path, stamp_numbers, stamp_of_numbers, stamp_of_path};
+ghost use Rattle.std.specs.Prelude.{◌≡◌, MatchOption, None};
+ghost use Rattle.peertext_c.specs.Calls.{IsCommanded, IsFound, IsMade, IsNoSiteNumber, IsReceived, IsSaid, IsSiteNumber, Says};
+ghost use Rattle.peertext_c.specs.Calls.{SaysChange, SaysEnds, SaysSince, file_of, place_of_path, stamp_numbers};
+ghost use Rattle.peertext_c.specs.Calls.{stamp_of_numbers, stamp_of_path};
 
 mod asking;
 mod changes;
 mod ends;
 mod finding;
-pub mod handle;
-pub mod kept;
-pub mod numbers;
+mod handle;
+mod kept;
+mod numbers;
 mod parts;
 
 use finding::{place_of_path, stamp_of_path};
 use handle::Handle;
 use kept::Kept;
 use numbers::{StampNumbers, Told};
-use rt_script::{ReceivedChanges, SiteState};
-use rt_stamps::limits::{MOST_BYTES, MOST_CELLS};
+use rt_script::SiteState;
+use rt_stamps::limits::{GREATEST_SITE, MOST_BYTES, MOST_CELLS};
 use rt_stamps::{Fault, Site};
 use std::alloc::Global;
 
@@ -42,20 +43,30 @@ const BAD_BYTES: i32 = -5;
 
 const NOT_THERE: i32 = -6;
 
-/// Makes a new site of a number from 1 to 65,535 in a handle that holds none. 0, or -3 where it holds one, -4 for the
-/// number 0, or -2 for want of memory; then all is as it was.
+// The site of a number from 1 to 65,535.
+fn site_of(number: u32) -> Option<Site>
+    ensures { MatchOption result (IsNoSiteNumber number) (λ site. IsSiteNumber number × (site.number ≡ number)) }
+{
+    if number > u32::from(GREATEST_SITE) {
+        return None;
+    }
+    Site::new(number as u16)
+}
+
+/// Makes a new site of a number from 1 to 65,535 in a handle that holds none. 0, or -3 where it holds one, -4 for a
+/// number that no site has, or -2 for want of memory.
 #[unsafe(no_mangle)]
-pub extern "C" fn pt_site_new(alloc: Global, handle: &mut Handle, number: u16) -> i32
+pub extern "C" fn pt_site_new(alloc: Global, handle: &mut Handle, number: u32) -> i32
     ensures { IsMade number handle.old.slot.value result handle.new.slot.value }
 {
     if let Some(kept) = handle.take(alloc) {
         handle.put(kept);
         return IS_HELD;
     }
-    let Some(number) = Site::new(number) else {
+    let Some(site) = site_of(number) else {
         return BAD_NUMBER;
     };
-    let Ok(site) = SiteState::new(alloc, number, MOST_CELLS) else {
+    let Ok(site) = SiteState::new(alloc, site, MOST_CELLS) else {
         return NO_MEMORY;
     };
     let Ok(kept) = Box::new(alloc, Kept::new(alloc, site)) else {
@@ -73,10 +84,10 @@ pub extern "C" fn pt_site_free(alloc: Global, handle: &mut Handle)
     let _ = handle.take(alloc);
 }
 
-/// Runs a line of a script, without a newline at its end, where no file can be named. Its reply line, with a newline, is what
-/// is said then, and of an empty line, one of spaces and tabs and a comment nothing. 0 where it was replied to or is such a
-/// line; the number of the fault by which it was refused, 1 to 41; or -1 where there is no site. It tells no changes: those of the
-/// last file stay.
+/// Runs a line of a script, where no file can be named and nothing ends the line but its length. Its reply line, with a
+/// newline, is what is said then, and of an empty line, one of spaces and tabs and a comment nothing. 0 where it was
+/// replied to or is such a line; the number of the fault by which it was refused; or -1 where there is no site. It
+/// tells no changes: those of the last file stay.
 #[unsafe(no_mangle)]
 pub extern "C" fn pt_command(alloc: Global, handle: &mut Handle, line: &[u8]) -> i32
     ensures { IsCommanded line.now handle.old.slot.value result handle.new.slot.value }
@@ -89,9 +100,9 @@ pub extern "C" fn pt_command(alloc: Global, handle: &mut Handle, line: &[u8]) ->
     code
 }
 
-/// Copies the first bytes of what was said last into `out`, as many as there is room for; the rest of `out` stays as it is.
-/// How many bytes were said; or -1 where there is no site, or -2 where there was no memory for a reply line when its command ran,
-/// and there is none now. What was said stays, so the call may be made again.
+/// Copies the first bytes of what was said last into `out`, as many as there is room for; the rest of `out` stays as it
+/// is. How many bytes were said; or -1 where there is no site, or -2 where there was no memory for a reply line when
+/// its line was run, and none when it is read. What was said stays, so the call may be made again.
 #[unsafe(no_mangle)]
 pub extern "C" fn pt_said(alloc: Global, handle: &mut Handle, out: &mut [u8]) -> isize
     ensures { IsSaid handle.old.slot.value out.old result handle.new.slot.value out.new }
@@ -107,9 +118,10 @@ pub extern "C" fn pt_said(alloc: Global, handle: &mut Handle, out: &mut [u8]) ->
     }
 }
 
-/// Receives the bytes of a file of operations, at most 2^30, and tells what became of it. What it changed in the visible text is
-/// kept until the next file, and `pt_change` says it; what the site itself edits, undoes and redoes tells nothing. 0, also where
-/// the file ended early with a fault; or -1 where there is no site, or -5 for too many bytes; then all is as it was.
+/// Receives the bytes of a file of operations, at most 2^30, and tells what became of it. What it changed in the
+/// visible text is kept until the next file, and `pt_change` says it; what the site itself edits, undoes and redoes
+/// tells nothing. 0, also where the file ended early with a fault; or -1 where there is no site, or -5 for too many
+/// bytes.
 #[unsafe(no_mangle)]
 pub extern "C" fn pt_receive(
     alloc: Global,
@@ -126,16 +138,15 @@ pub extern "C" fn pt_receive(
         handle.put(kept);
         return BAD_BYTES;
     }
-    let ReceivedChanges { received, changes } = kept.site.receive_telling(bytes);
-    *told = Told::of(received, &changes);
-    kept.changes = changes;
+    *told = kept.receive(bytes);
     handle.put(kept);
     DONE
 }
 
-/// Says what the operation of a number, from 0, changed of those that the last file brought in: a line for each change, each
-/// in the text that those before it left. 0; or -1 where there is no site, -6 where there is no such operation, or -2 for want of
-/// memory; then all is as it was.
+/// Says what one operation changed in the visible text, of those that were accepted when the last file was received, in
+/// the order in which they were; their numbers begin at 0. A line for each change, which is of the text that all lines
+/// before it left, those of lesser numbers among them. 0; or -1 where there is no site, -6 where there is no such
+/// operation, or -2 for want of memory.
 #[unsafe(no_mangle)]
 pub extern "C" fn pt_change(alloc: Global, handle: &mut Handle, number: usize) -> i32
     ensures { SaysChange number handle.old.slot.value result handle.new.slot.value }
@@ -150,7 +161,8 @@ pub extern "C" fn pt_change(alloc: Global, handle: &mut Handle, number: usize) -
     handle.say(kept, made)
 }
 
-/// Says the file of all operations that a site has. 0; or -1 where there is no site, or -2 for want of memory; then all is as it was.
+/// Says the file of all operations that the site accepted or made. Those that it holds (`held` of `Told`) are not in
+/// it, and are to be received again after a restart. 0; or -1 where there is no site, or -2 for want of memory.
 #[unsafe(no_mangle)]
 pub extern "C" fn pt_export(alloc: Global, handle: &mut Handle) -> i32
     ensures { Says file_of handle.old.slot.value result handle.new.slot.value }
@@ -162,8 +174,8 @@ pub extern "C" fn pt_export(alloc: Global, handle: &mut Handle) -> i32
     handle.say(kept, made)
 }
 
-/// Says the last count that a site knows of each site, each in 10 bytes, the number of its site (2) and the count (8), the highest byte
-/// first. 0; or -1 where there is no site, or -2 for want of memory; then all is as it was.
+/// Says the last count that the site knows of each site, by rising numbers of these, each in 10 bytes, the number (2)
+/// and the count (8), the highest byte first. 0; or -1 where there is no site, or -2 for want of memory.
 #[unsafe(no_mangle)]
 pub extern "C" fn pt_ends(alloc: Global, handle: &mut Handle) -> i32
     ensures { SaysEnds handle.old.slot.value result handle.new.slot.value }
@@ -175,9 +187,9 @@ pub extern "C" fn pt_ends(alloc: Global, handle: &mut Handle) -> i32
     handle.say(kept, made)
 }
 
-/// Says the file of those operations of a site whose last count is past what such bytes tell of their site, as another site says by
-/// `pt_ends`; of one site the first count is taken. 0; or -1 where there is no site, -5 where the bytes aren't 10 each, or -2 for want
-/// of memory; then all is as it was.
+/// Says the file of those operations that the site accepted or made whose last count is past what such bytes tell of
+/// their site, as another one says them by `pt_ends`; of one site the first count is taken. 0; or -1 where there is no
+/// site, -5 where the bytes aren't 10 each, or -2 for want of memory.
 #[unsafe(no_mangle)]
 pub extern "C" fn pt_export_since(alloc: Global, handle: &mut Handle, ends: &[u8]) -> i32
     ensures { SaysSince ends.now handle.old.slot.value result handle.new.slot.value }
@@ -193,8 +205,8 @@ pub extern "C" fn pt_export_since(alloc: Global, handle: &mut Handle, ends: &[u8
     handle.say(kept, made)
 }
 
-/// Tells the stamp of the character at a place of what the widget of a path shows, counted from 0. 0; or -1 where there is no site, or
-/// -6 where there is no such widget or no such character; then all is as it was.
+/// Tells the stamp of the character at a place of what the widget of a path shows, counted from 0. 0; or -1 where there
+/// is no site, or -6 where there is no such widget or no such character.
 #[unsafe(no_mangle)]
 pub extern "C" fn pt_stamp_at(
     alloc: Global,
@@ -217,8 +229,8 @@ pub extern "C" fn pt_stamp_at(
     DONE
 }
 
-/// Tells how many characters of what the widget of a path shows stand before that of a stamp, whether it is gone or not. 0; or -1 where
-/// there is no site, or -6 where there is no such widget or no character of the stamp; then all is as it was.
+/// Tells how many characters of what the widget of a path shows stand before that of a stamp, whether it is gone or
+/// not. 0; or -1 where there is no site, or -6 where there is no such widget or no character of the stamp.
 #[unsafe(no_mangle)]
 pub extern "C" fn pt_place_of(
     alloc: Global,

@@ -9,17 +9,19 @@ use rt_stamps::{Fault, Stamp};
 #[repr(C)]
 #[derive(Clone, Copy)]
 pub struct Told {
-    /// How many operations were accepted: those of the file that were new, and those that had been held.
+    /// How many operations were accepted, of the file and of those that had been held.
     pub fresh: u64,
-    /// How many of the file the site had or held already.
+    /// How many of the file's operations the site had or held already.
     pub repeats: u64,
-    /// How many operations the site holds in the end, since they came before what they were made upon.
+    /// How many operations the site holds in the end: they came before what they were made upon, or memory was wanting
+    /// when they were tried.
     pub held: u64,
-    /// How many operations changed something or could have: those whose changes `pt_change` says.
+    /// How many operations have changes that `pt_change` says: as many as were accepted.
     pub changes: u64,
     /// The offset of the fault's record in the file, in bytes; 0 without a fault.
     pub offset: u64,
-    /// The number of the fault that ended the file early, 1 to 41, or 0.
+    /// The number of the fault that ended the file early, or 0. None tells that memory was wanting for a held
+    /// operation.
     pub fault: u8,
 }
 
@@ -43,7 +45,7 @@ fn fault_numbers(found: Option<(Fault, u64)>) -> (u8, u64)
 
 impl Told {
     /// Of a file, and of the changes that it made.
-    pub fn of(received: Received, changes: &Vec<ToldChange>) -> Told
+    pub(crate) fn of(received: Received, changes: &Vec<ToldChange>) -> Told
         ensures { result ≡ numbers_of received changes.now.items }
     {
         let (fault, offset) = fault_numbers(received.fault);
@@ -60,7 +62,7 @@ impl Told {
 
 impl StampNumbers {
     /// Of a stamp.
-    pub fn of(stamp: Stamp) -> StampNumbers
+    pub(crate) fn of(stamp: Stamp) -> StampNumbers
         ensures { result ≡ stamp_numbers stamp }
     {
         StampNumbers {
@@ -70,7 +72,7 @@ impl StampNumbers {
     }
 
     /// The stamp.
-    pub fn stamp(self) -> Stamp
+    pub(crate) fn stamp(self) -> Stamp
         ensures { result ≡ stamp_of_numbers self }
     {
         Stamp {

@@ -9,4 +9,4 @@ pub returns : goal.returns
 returns c =
     let change = c.in_ok-change.change.now in
     let found = got_at c.deref.result.now c.args.number change c.in_ok-change.ensures.lookup.3.0 c.in_ok-change.ensures.lookup.1 in
-    (change, subst (λ (changes : List ToldChange). slice_get changes c.args.number ≡ Some change) (c.deref.ensures.value ∙ ap (λ (held : Held). held.changes) c.self.view_is) found, c.lines_of_change.ensures.ok)
+    (change, subst (λ (changes : List ToldChange). slice_get changes c.args.number ≡ Some change) (c.deref.ensures.value ∙ ap (λ (held : Held). held.changes) c.self.view_is) found, c.lines_of_change.ensures.ok, c.lines_of_change.ensures.err)

@@ -1,0 +1,24 @@
+use Rattle.std.proofs.Common.{◌≡◌, refl, subst}
+use Rattle.rt_holding.specs.declared.receiving.Received.{Received}
+use Rattle.peertext_c.specs.Calls.{ReceivesTelling, numbers_of}
+use Rattle.peertext_c.specs.Held.{Held}
+use Rattle.peertext_c.proofs.Counted.{counted}
+use Rattle.peertext_c.proofs.kept.Kept.receive.Goals as goal
+
+pub returns : goal.returns
+returns c =
+    let file = c.receive_telling-changes in
+    let changes = file.result.changes.items in
+    let new : Held = record { site = file.new.self; said = c.self.inside.said.0; ready = c.self.inside.said.1; changes = changes } in
+    subst (λ (old : Held). (received : Received) × ReceivesTelling c.args.bytes.now old received new × (c.of-told.result ≡ numbers_of received changes)) c.self.view_is (
+      file.result.received,
+      record {
+        receives = file.ensures.receives;
+        counted = counted c.args.bytes.now c.self.inside.site file.new.self file.result.received changes file.ensures.receives file.ensures.told;
+        told = file.ensures.told;
+        replayed = file.ensures.replayed;
+        within = file.ensures.within;
+        said = (refl, refl);
+      },
+      c.of-told.ensures,
+    )
