@@ -97,10 +97,10 @@ typedef struct {
     uint64_t held;    /* how many operations the site holds in the end, since they came early */
     uint64_t changes; /* how many numbers pt_change takes: one for each operation that was accepted */
     uint64_t offset;  /* where the record of the fault begins in the file; 0 without a fault */
-    uint8_t fault;    /* the number of the fault that ended the file early, or 0 */
+    uint8_t fault;    /* the number of the fault that ended the file early, or 0; never one of a held operation */
 } pt_received;
 
-/* The stamp of a character: it keeps it for good, on every site. */
+/* The stamp of a character, which keeps it for good, on every site. */
 typedef struct {
     uint64_t count;
     uint16_t site;
