@@ -12,6 +12,7 @@ pub mod Counts
 pub mod Drafting
 pub mod Files
 pub mod Final
+pub mod FoundAlike
 pub mod Fresh
 pub mod Histories
 pub mod Joining
@@ -22,6 +23,7 @@ pub mod Making
 pub mod Merging
 pub mod NamedRuns
 pub mod NotedPuts
+pub mod NotedTags
 pub mod Orders
 pub mod PlaceRuns
 pub mod PlacesAt

@@ -1,62 +1,34 @@
--- What operations that leave all tags change, noted as they are put in one after the other.
-use Rattle.std.proofs.Common.{◌≡◌, ◌∙◌, ℕ, ◌+◌, ◌≤◌, true, false, List, [], ◌∷◌, ◌++◌, ap, arith, drop, length, map, refl, reverse, subst, sym}
-use Rattle.std.specs.Prelude.{Option, Some, None, option_map, slice_get, unwrap_or}
-use Rattle.std.specs.List.{AllByRecursion}
-use Rattle.std.proofs.lemmas.List.{length-append, length-drop, length-map, reverse-append}
-use Rattle.std.proofs.lemmas.List.Elements.{All-drop}
+-- What operations change, noted as they are put in one after the other.
+use Rattle.std.proofs.Common.{◌≡◌, ◌∙◌, ℕ, ◌+◌, ◌≤◌, false, List, ◌++◌, ap, arith, drop, length, map, refl, subst, sym}
+use Rattle.std.specs.List.{IsDistinct}
+use Rattle.std.proofs.lemmas.List.{length-append, length-drop, length-map}
 use Rattle.rt_stamps.specs.declared.stamp.Stamp.{Stamp}
-use Rattle.rt_ops.specs.Operations.{Operation, Body, Insert, Delete, Tag, stamp_of}
-use Rattle.rt_oplog.specs.Logs.{with_operation}
+use Rattle.rt_stamps.specs.declared.stamp.TheConstants.{FINAL}
+use Rattle.rt_stamps.specs.Stamps.{is_same}
+use Rattle.rt_ops.specs.Operations.{Operation, Body, Insert, Delete, Tag, Name, stamp_of}
 use Rattle.rt_store.specs.declared.cell.Cell.{Cell}
-use Rattle.rt_store.specs.Cells.{visible_of}
+use Rattle.rt_store.specs.Cells.{AreDistinct, IsPlaced, stamps_of}
 use Rattle.rt_store.specs.Shown.{shown, TaggedCell}
-use Rattle.rt_store.specs.Tagged.{AreStates}
-use Rattle.rt_tags.specs.States.{IsState, TagStates}
-use Rattle.rt_rga.specs.Batches.{put_by}
-use Rattle.rt_rga.specs.Cells.{cells_of}
-use Rattle.rt_rga.specs.Changes.{changed_by}
-use Rattle.rt_rga.specs.Drafts.{ContinueInTurn, with_operations}
-use Rattle.rt_rga.specs.Histories.{Continues}
-use Rattle.rt_rga.specs.Making.{AreNewest, CanBePut, fresh_by, fresh_cells, put_by_kept}
-use Rattle.rt_rga.specs.Noted.{leaves_tags}
-use Rattle.rt_rga.specs.Replicas.{IsReplica}
+use Rattle.rt_store.proofs.Shown.{stamps_shown}
+use Rattle.rt_tags.specs.States.{TagStates, state_at}
+use Rattle.rt_rga.specs.Cells.{cells_of, deletes}
+use Rattle.rt_rga.specs.Histories.{IsHistory}
+use Rattle.rt_rga.specs.Making.{CanBePut, fresh_by, put_by_kept}
 use Rattle.rt_rga.specs.Requests.{characters_in}
-use Rattle.rt_rga.specs.Taken.{changes_tag, retags}
-use Rattle.rt_rga.proofs.Batching.{batch_placed}
-use Rattle.rt_rga.proofs.Drafting.{newest}
-use Rattle.rt_rga.proofs.Histories.{history_with}
-use Rattle.rt_rga.proofs.Merging.{cells_with}
-use Rattle.rt_rga.proofs.Putting.{left_shown, length_fresh, put_every, put_length, put_shown}
+use Rattle.rt_rga.proofs.Corollaries.{cells_distinct}
+use Rattle.rt_rga.proofs.Planned.{stamps_keep}
+use Rattle.rt_rga.proofs.Putting.{length_fresh, put_length}
 
 -- ONE OPERATION
 
--- an operation that leaves all tags changes no tag at a place
-pub none_retagged : (stamp : Stamp) (body : Body) (cells : List TaggedCell) (place : ℕ) → leaves_tags body ≡ true → retags stamp body cells place ≡ false
-none_retagged stamp body cells place h = by body (slice_get (visible_of cells) place) h
-  where
-    by : (body : Body) (o : Option TaggedCell) → leaves_tags body ≡ true → unwrap_or (option_map (changes_tag stamp body) o) false ≡ false
-    by body None h = refl
-    by (Insert after tags text) (Some c) h = refl
-    by (Delete spans) (Some c) h = refl
-    by (Tag on name spans) (Some c) h = absurd (cc h)
+-- what a store asks of an operation says where an Insert goes, and that a Delete leaves the last newline
+pub goes_in : (stamp : Stamp) (body : Body) (new kept : List (Cell ℕ)) → CanBePut stamp body new kept → (after : Stamp) (tags : List Name) (text : List ℕ) → body ≡ Insert after tags text → IsPlaced kept after stamp
+goes_in stamp body new kept can after tags text e = (subst (λ (b : Body). CanBePut stamp b new kept) e can).0
 
--- putting it in is all that it does
-put_is_all : (stamp : Stamp) (body : Body) (cells : List TaggedCell) → leaves_tags body ≡ true → put_by stamp body cells ≡ changed_by stamp body cells
-put_is_all stamp (Insert after tags text) cells h = refl
-put_is_all stamp (Delete spans) cells h = refl
-put_is_all stamp (Tag on name spans) cells h = absurd (cc h)
-
--- what is kept then is that of the log with the operation
-replica_put : (log : List Operation) (op : Operation) (table : TagStates) (new kept : List (Cell ℕ)) (rest : List TaggedCell) → IsReplica log table kept → Continues log op → leaves_tags op.body ≡ true
-    → map (shown table) new ≡ fresh_by (stamp_of op) op.body ++ rest → AreStates table new → IsReplica (with_operation op log) table (put_by_kept (stamp_of op) op.body new kept)
-replica_put log op table new kept rest r k t e g = record {
-  history = history_with op log r.history k;
-  states = put_every (λ (cell : Cell ℕ). IsState table cell.state) (λ cell p. p) (stamp_of op) op.body new kept g r.states;
-  cells = put_shown table (stamp_of op) op.body new kept rest e
-      ∙ ap (put_by (stamp_of op) op.body) r.cells
-      ∙ put_is_all (stamp_of op) op.body (cells_of log) t
-      ∙ sym (cells_with op log r.history k);
-}
+pub newline_stays : (stamp : Stamp) (body : Body) (new kept : List (Cell ℕ)) → CanBePut stamp body new kept → deletes body FINAL ≡ false
+newline_stays stamp (Insert after tags text) new kept can = refl
+newline_stays stamp (Delete spans) new kept can = can
+newline_stays stamp (Tag on name spans) new kept can = refl
 
 -- there are new cells for it
 pub enough_left : (table : TagStates) (stamp : Stamp) (body : Body) (new : List (Cell ℕ)) (rest : List TaggedCell) → map (shown table) new ≡ fresh_by stamp body ++ rest → characters_in body ≤ length new
@@ -69,43 +41,12 @@ enough_left table stamp body new rest e =
 
 -- SEVERAL
 
--- Of operations that are newer than a log some are done, and others are left: what is kept is that of the log with those that are
--- done, and the new cells that are left are those of the others.
-pub record IsUnderWay (log all done left : List Operation) (table : TagStates) (new kept : List (Cell ℕ)) : Type 0 where
-  pub replica : IsReplica (reverse done ++ log) table kept
-  pub continues : ContinueInTurn (reverse done ++ log) left
-  pub newest : AreNewest (reverse done ++ log) left
-  pub text : AllByRecursion (λ op. leaves_tags op.body ≡ true) left
-  pub cells : map (shown table) new ≡ fresh_cells left
-  pub given : AreStates table new
-  pub whole : with_operations left (reverse done ++ log) ≡ with_operations all log
-
--- what a store asks of the first that is left
-pub first_placed : (log all done rest : List Operation) (op : Operation) (table : TagStates) (new kept : List (Cell ℕ)) → IsUnderWay log all done (op ∷ rest) table new kept → CanBePut (stamp_of op) op.body new kept
-first_placed log all done rest op table new kept w = (batch_placed (reverse done ++ log) (op ∷ rest) table table kept new w.replica w.continues w.cells).0
-
--- with the first that is left
-one_done : (log all done rest : List Operation) (op : Operation) (table : TagStates) (new kept : List (Cell ℕ)) → IsUnderWay log all done (op ∷ rest) table new kept
-    → IsUnderWay log all (done ++ op ∷ []) rest table (drop (characters_in op.body) new) (put_by_kept (stamp_of op) op.body new kept)
-one_done log all done rest op table new kept w =
-    let old : List Operation = reverse done ++ log in
-    let front : with_operation op old ≡ reverse (done ++ op ∷ []) ++ log = newest op old w.newest.0 ∙ ap (λ (ops : List Operation). ops ++ log) (sym (reverse-append done (op ∷ []))) in
-    record {
-      replica = subst (λ (l : List Operation). IsReplica l table (put_by_kept (stamp_of op) op.body new kept)) front
-          (replica_put old op table new kept (fresh_cells rest) w.replica w.continues.0 w.text.0 w.cells w.given);
-      continues = subst (λ (l : List Operation). ContinueInTurn l rest) front w.continues.1;
-      newest = subst (λ (l : List Operation). AreNewest l rest) front w.newest.1;
-      text = w.text.1;
-      cells = left_shown table (stamp_of op) op.body new (fresh_cells rest) w.cells;
-      given = All-drop (λ (cell : Cell ℕ). IsState table cell.state) (characters_in op.body) new w.given;
-      whole = ap (with_operations rest) (sym front) ∙ w.whole;
-    }
-
-pub goes_on : (log all done more left rest : List Operation) (op : Operation) (table : TagStates) (new now kept cells : List (Cell ℕ)) → left ≡ op ∷ rest → more ≡ done ++ op ∷ []
-    → now ≡ drop (characters_in op.body) new → cells ≡ put_by_kept (stamp_of op) op.body new kept → IsUnderWay log all done left table new kept → IsUnderWay log all more rest table now cells
-goes_on log all done more left rest op table new now kept cells l d n k w =
-    subst (λ (p : _). p) (λ j. IsUnderWay log all (sym d j) rest table (sym n j) (sym k j))
-    (one_done log all done rest op table new kept (subst (λ (ops : List Operation). IsUnderWay log all done ops table new kept) l w))
+-- no two cells of a store have one stamp that are those of a history but for their states
+pub alike_distinct : (log : List Operation) (table : TagStates) (f : TaggedCell → TaggedCell) (kept : List (Cell ℕ)) (known : List TaggedCell) → IsHistory log → ((c : TaggedCell) → (f c).stamp ≡ c.stamp)
+    → map (shown table) kept ≡ known → map f known ≡ cells_of log → AreDistinct kept
+alike_distinct log table f kept known h stamps is all =
+    let same : stamps_of kept ≡ stamps_of (cells_of log) = sym (stamps_shown (state_at table) kept) ∙ ap (λ (cells : List TaggedCell). stamps_of cells) is ∙ sym (stamps_keep f stamps known) ∙ ap (λ (cells : List TaggedCell). stamps_of cells) all in
+    subst (λ (stamps : List Stamp). IsDistinct is_same stamps) (sym same) (cells_distinct log h)
 
 -- the cells that are kept and those that are left are as many as before
 pub cells_in_all : (op : Operation) (table : TagStates) (new now kept cells : List (Cell ℕ)) (rest : List TaggedCell) (n : ℕ) → now ≡ drop (characters_in op.body) new

@@ -28,7 +28,7 @@ use Rattle.rt_rga.proofs.Writes.{spans_name}
 -- CELLS THAT KEEP THEIR STAMPS
 
 module _ (g : TaggedCell → TaggedCell) (keeps : (c : TaggedCell) → (g c).stamp ≡ c.stamp) where
-  stamps_keep : (cells : List TaggedCell) → stamps_of (map g cells) ≡ stamps_of cells
+  pub stamps_keep : (cells : List TaggedCell) → stamps_of (map g cells) ≡ stamps_of cells
   stamps_keep [] = refl
   stamps_keep (c ∷ cells) = λ i. keeps c i ∷ stamps_keep cells i
 
@@ -41,7 +41,7 @@ module _ (g : TaggedCell → TaggedCell) (keeps : (c : TaggedCell) → (g c).sta
   past_keeps : (new : Stamp) (cells : List TaggedCell) → length (take_while (λ cell. is_before new cell.stamp) (map g cells)) ≡ length (take_while (λ cell. is_before new cell.stamp) cells)
   past_keeps new cells = past_is new (map g cells) ∙ ap (past new) (stamps_keep cells) ∙ sym (past_is new cells)
 
-  skip_keeps : (cells : List TaggedCell) (left new : Stamp) → skip_from (map g cells) left new ≡ skip_from cells left new
+  pub skip_keeps : (cells : List TaggedCell) (left new : Stamp) → skip_from (map g cells) left new ≡ skip_from cells left new
   skip_keeps cells left new =
       ap (λ n. n + length (take_while (λ cell. is_before new cell.stamp) (drop n (map g cells)))) (after_keeps cells left)
       ∙ ap (λ k. after_element cells left + k)

@@ -1,4 +1,4 @@
--- The places at which a Tag changes whether its tag is on.
+-- The places at which a Tag changes whether its tag is on, and those at which it switches it.
 use Rattle.std.proofs.Common.{◌≡◌, ℕ, ◌+◌, ◌<◌, List, [], ◌∷◌, ◌++◌, Bool, true, false, cond, not, ◌&&◌, All, filter, get_or, length, map, take, refl, sym, ◌∙◌, ap, Option, Some, None}
 use Rattle.std.specs.Prelude.{option_map, slice_get, unwrap_or}
 use Rattle.std.proofs.lemmas.List.{take_more}
@@ -19,6 +19,7 @@ use Rattle.rt_tags.proofs.Listing.{keeps_both}
 use Rattle.rt_tags.proofs.Places.{name_itself, split}
 use Rattle.rt_rga.specs.Changes.{with_write, written_in_any}
 use Rattle.rt_rga.specs.NamedRuns.{IsRun, changes_kept, names_at, spans_of_runs}
+use Rattle.rt_rga.specs.Noted.{switches, switches_at}
 use Rattle.rt_rga.specs.Taken.{changes_tag, differ, retags}
 use Rattle.rt_store.proofs.Positions.{among_at}
 use Rattle.rt_rga.proofs.NamedRuns.{passing}
@@ -90,6 +91,30 @@ module _ (stamp : Stamp) (on : Bool) (name : Name) (spans : List Span) where
           passing (changes_kept table w) kept runs cell (alike table) d rs (found_visible kept place cell d e).found
           ∙ ap (λ b. b && changes_kept table w cell) (named cell.stamp (among_at kept n cell v.there))
           ∙ kept_test table cell
+
+-- a tag isn't as it is to be in the state of a kept cell
+abbrev pub is_switched : TagStates → Bool → Name → Cell ℕ → Bool
+is_switched table on name cell = differ on (is_on name (state_at table cell.state))
+
+-- The runs of the cells that a Tag names, of which it switches the first ones, have the places at which it switches its tag.
+pub places_switched : (on : Bool) (name : Name) (spans : List Span) (table : TagStates) (kept : List (Cell ℕ)) (runs : List CellRun) (place : ℕ)
+    → AreDistinct kept → All (IsRun kept) runs
+    → ((s : Stamp) → is_among (stamps_of kept) s ≡ true → is_in_spans (spans_of_runs runs) s ≡ is_in_spans spans s)
+    → names_at (spans_of_runs (filter (λ run. is_switched table on name run.cell) runs)) kept place
+    ≡ switches_at (Tag on name spans) (map (shown table) kept) place
+places_switched on name spans table kept runs place d rs named =
+    by (slice_get (visible_of kept) place) refl
+    ∙ sym (ap (λ o. unwrap_or (option_map (switches (Tag on name spans)) o) false) (visible_at_shown (state_at table) kept place))
+  where
+    by : (o : Option (Cell ℕ)) → slice_get (visible_of kept) place ≡ o
+        → unwrap_or (option_map (λ cell. is_in_spans (spans_of_runs (filter (λ run. is_switched table on name run.cell) runs)) cell.stamp) o) false
+        ≡ unwrap_or (option_map (switches (Tag on name spans)) (option_map (shown table) o)) false
+    by None e = refl
+    by (Some cell) e =
+        let (n, v) = visible_from kept place cell e in
+        passing (is_switched table on name) kept runs cell (λ a b h. ap (λ s. differ on (is_on name (state_at table s))) h) d rs
+        (found_visible kept place cell d e).found
+        ∙ ap (λ b. b && is_switched table on name cell) (named cell.stamp (among_at kept n cell v.there))
 
 -- ONE RUN MORE IS LOOKED AT
 

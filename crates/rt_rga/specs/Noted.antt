@@ -1,8 +1,14 @@
 -- What a replica notes of its own operations.
-use Rattle.std.specs.Prelude.{◌≡◌, Bool, false, true, List, [], ◌∷◌, ◌++◌, length, reverse, ⊤}
-use Rattle.rt_ops.specs.Operations.{Operation, Body, Insert, Delete, Tag}
+use Rattle.std.specs.Prelude.{◌≡◌, ◌&&◌, All, Bool, false, true, not, ℕ, List, [], ◌∷◌, ◌++◌, length, option_map, reverse, slice_get, unwrap_or, ⊤}
+use Rattle.std.specs.List.{AllByRecursion}
+use Rattle.std.specs.Str.{bytes_eq}
+use Rattle.rt_ops.specs.Operations.{Operation, Body, Insert, Delete, Tag, stamp_of}
+use Rattle.rt_store.specs.Cells.{visible_of}
+use Rattle.rt_store.specs.Shown.{TaggedCell}
+use Rattle.rt_store.specs.Spans.{is_in_spans}
+use Rattle.rt_tags.specs.States.{is_on}
 use Rattle.rt_rga.specs.Cells.{cells_of}
-use Rattle.rt_rga.specs.Taken.{IsChange}
+use Rattle.rt_rga.specs.Taken.{IsChange, changes_tag, differ}
 use Rattle.rt_rga.specs.declared.notes.Notes.{Notes}
 use Rattle.rt_rga.specs.declared.notes.Notes.TheVariants as notes
 use Rattle.rt_rga.specs.declared.taken.Change.{Change}
@@ -31,8 +37,32 @@ are_kept notes.Off = false
 are_kept (notes.Kept changes) = true
 are_kept notes.Lost = false
 
--- it puts characters in or takes some away, and leaves all tags
-abbrev pub leaves_tags : Body → Bool
-leaves_tags (Insert after tags text) = true
-leaves_tags (Delete spans) = true
-leaves_tags (Tag on name spans) = false
+-- two operations aren't Tags of one tag
+abbrev pub are_apart : Body → Body → Bool
+are_apart (Tag on name spans) (Tag now other there) = not (bytes_eq other name)
+are_apart (Tag on name spans) (Insert after tags text) = true
+are_apart (Tag on name spans) (Delete gone) = true
+are_apart (Insert after tags text) later = true
+are_apart (Delete gone) later = true
+
+-- no two of some operations are
+abbrev pub AreApart : List Operation → Type 0
+AreApart [] = ⊤
+AreApart (op ∷ ops) = AllByRecursion (λ later. are_apart op.body later.body ≡ true) ops × AreApart ops
+
+-- An operation switches the tag of a cell, if no write of it there is as new: it is a Tag that names it, and the tag isn't as it says.
+abbrev pub switches : Body → TaggedCell → Bool
+switches (Insert after tags text) cell = false
+switches (Delete spans) cell = false
+switches (Tag on name spans) cell = is_in_spans spans cell.stamp && differ on (is_on name cell.state)
+
+-- it switches that of the visible cell at a place
+abbrev pub switches_at : Body → List TaggedCell → ℕ → Bool
+switches_at body cells place = unwrap_or (option_map (switches body) (slice_get (visible_of cells) place)) false
+
+-- Cells of which others are known: each has the stamp of the other and is gone as it is, and the operation changes its tag just where
+-- it switches that of the other.
+pub record IsFoundAlike (op : Operation) (true_of : TaggedCell → TaggedCell) (known : List TaggedCell) : Type 0 where
+  pub stamps : (cell : TaggedCell) → (true_of cell).stamp ≡ cell.stamp
+  pub gone : (cell : TaggedCell) → (true_of cell).gone ≡ cell.gone
+  pub tags : All (λ cell. changes_tag (stamp_of op) op.body (true_of cell) ≡ switches op.body cell) known

@@ -34,8 +34,8 @@ reading characters = forest (length characters) characters (children characters 
 -- The same as a relation: the reading of siblings is each, followed by the reading of its children.
 pub data ReadsSiblings (characters : List Character) : List Character → List Character → Type 0 where
   none : ReadsSiblings characters [] []
-  next : {c : Character} {inner siblings rest : List Character} → ReadsSiblings characters (children characters c.stamp) inner → ReadsSiblings characters siblings rest
-      → ReadsSiblings characters (c ∷ siblings) (c ∷ inner ++ rest)
+  next : {c : Character} {inner siblings rest : List Character} → ReadsSiblings characters (children characters c.stamp) inner
+      → ReadsSiblings characters siblings rest → ReadsSiblings characters (c ∷ siblings) (c ∷ inner ++ rest)
 
 abbrev pub IsReading : List Character → List Character → Type 0
 IsReading characters list = ReadsSiblings characters (children characters ROOT) list

@@ -1,20 +1,20 @@
 // What an operation will change in the visible text.
-ghost use Rattle.std.specs.Prelude.{◌≡◌, ◌+◌, ◌<◌, ◌≤◌, IfOk, IsOkUnless, List, ℕ, [], ◌∷◌, false, true, length, map};
+ghost use Rattle.std.specs.Prelude.{◌≡◌, ◌+◌, ◌<◌, ◌≤◌, IfOk, IsOkUnless, List, ℕ, [], ◌∷◌, false, length, map};
 ghost use Rattle.rt_stamps.specs.declared.limits.TheConstants.{MOST_CELLS};
 ghost use Rattle.rt_stamps.specs.declared.stamp.Stamp.{Stamp as StampOf};
 ghost use Rattle.rt_stamps.specs.declared.stamp.TheConstants.{FINAL};
 ghost use Rattle.rt_stamps.specs.Words.{as_words};
 ghost use Rattle.rt_ops.specs.Operations.{Insert, Name, Operation, stamp_of};
 ghost use Rattle.rt_store.specs.Cells.{AreDistinct, IsPlaced, visible_before, visible_of};
-ghost use Rattle.rt_store.specs.Shown.{shown};
+ghost use Rattle.rt_store.specs.Shown.{TaggedCell, shown};
 ghost use Rattle.rt_tags.specs.States.{KeepsIds, TagStates};
 ghost use Rattle.rt_rga.specs.Cells.{deletes};
-ghost use Rattle.rt_rga.specs.Noted.{leaves_tags};
+ghost use Rattle.rt_rga.specs.Noted.{IsFoundAlike, switches_at};
 ghost use Rattle.rt_rga.specs.Taken.{AreFallingRuns, IsChange, is_in_runs, lists_of, place_in, retags, takes_away};
 
 use crate::answer::cells_more;
 use crate::removed::runs_in;
-use crate::retagged::retagged_in;
+use crate::retagged::{retagged_in, switched_in};
 use crate::taken::{Change, PlaceRun};
 use rt_oplog::{Edit, Op};
 use rt_stamps::{Fault, Stamp};
@@ -163,29 +163,61 @@ fn lists(alloc: Global, op: &Op) -> Result<Vec<String>, Fault>
     }
 }
 
-/// What an operation will change that leaves all tags. Want of memory.
-pub(crate) fn describe_text<S: TextStore>(
+/// The places whose tag an operation switches, if no write of it there is as new, as runs, the last one in the text first.
+/// Want of memory.
+fn switched<S: TextStore>(
     alloc: Global,
     store: &S,
+    states: &StateTable,
+    op: &Op,
+) -> Result<Vec<PlaceRun>, Fault>
+    requires agrees { S.agrees store.now states.now }
+    requires distinct { AreDistinct (S.list store.now) }
+    requires few { length (S.list store.now) ≤ MOST_CELLS }
+    ensures switched { IfOk result (λ runs. (place : ℕ) → is_in_runs runs.items place
+        ≡ switches_at op.now.body (map (shown states.now) (S.list store.now)) place) }
+    ensures runs { IfOk result (λ runs. AreFallingRuns (length (visible_of (S.list store.now)) + 1) runs.items) }
+    ensures fault { IsOkUnless result Fault.NoMemory }
+{
+    match op.edit() {
+        Edit::Insert {
+            after: _,
+            tags: _,
+            text: _,
+        } => Ok(Vec::new(alloc)),
+        Edit::Delete { spans: _ } => Ok(Vec::new(alloc)),
+        Edit::Tag { on, name, spans } => switched_in(alloc, store, states, spans, name, *on),
+    }
+}
+
+/// What an operation will change that finds no write as new as its own, by cells that may lack writes of other tags. Want of
+/// memory.
+pub(crate) fn describe_own<S: TextStore>(
+    alloc: Global,
+    store: &S,
+    states: &StateTable,
     op: &Op,
 ) -> Result<Change, Fault>
     requires placed { (after : StampOf) (tags : List Name) (text : List ℕ) → op.now.body ≡ Insert after tags text
         → IsPlaced (S.list store.now) after (stamp_of op.now) }
+    requires agrees { S.agrees store.now states.now }
     requires distinct { AreDistinct (S.list store.now) }
     requires few { length (S.list store.now) ≤ MOST_CELLS }
     requires stays { deletes op.now.body FINAL ≡ false }
-    requires text { leaves_tags op.now.body ≡ true }
-    ensures change { IfOk result (λ change. (table : TagStates) → IsChange op.now (map (shown table) (S.list store.now)) change) }
+    ensures change { IfOk result (λ change. (true_of : TaggedCell → TaggedCell)
+        → IsFoundAlike op.now true_of (map (shown states.now) (S.list store.now))
+        → IsChange op.now (map true_of (map (shown states.now) (S.list store.now))) change) }
     ensures fault { IsOkUnless result Fault.NoMemory }
 {
     let removed = removed(alloc, store, op)?;
+    let retagged = switched(alloc, store, states, op)?;
     let lists = lists(alloc, op)?;
     let place = place_in(store, op);
     Ok(Change {
         place,
         inserted: cells_more(op),
         removed,
-        retagged: Vec::new(alloc),
+        retagged,
         lists,
     })
 }

@@ -11,6 +11,7 @@ ghost use Rattle.rt_store.specs.Tagged.{AreStates};
 ghost use Rattle.rt_tags.specs.States.{KeepsIds, TagStates};
 ghost use Rattle.rt_oplog.specs.Logs.{with_operation};
 ghost use Rattle.rt_rga.specs.Drafts.{ContinueInTurn, with_operations};
+ghost use Rattle.rt_rga.specs.Noted.{AreNotedOf};
 ghost use Rattle.rt_rga.specs.OneOrMany.{items_in};
 ghost use Rattle.rt_rga.specs.Histories.{Continues, greatest_last_count};
 ghost use Rattle.rt_rga.specs.Made.{RefusesFor, refusal_from};
@@ -21,9 +22,11 @@ ghost use Rattle.rt_rga.specs.Replicas.{IsReplica};
 use crate::Draft;
 use crate::edits::{change, set_all_gone};
 use crate::new_cells::NewCells;
+use crate::noting::{change_one, put_and_note};
 use crate::one_or_many::OneOrMany;
 use crate::plan::planned_states;
 use crate::tagging::put_states;
+use crate::taken::Change;
 use rt_oplog::{Edit, Op, OpLog};
 use rt_stamps::{Clock, Fault, ROOT, Stamp, count_after};
 use rt_store::{Cell, TextStore};
@@ -439,7 +442,8 @@ pub(crate) fn prepared(
 }
 
 /// Changes what is kept of a log as operations do that are newer than it, each of which continues it
-/// with those before. Want of memory, and then the cells stay.
+/// with those before, and tells what each changes, where that is to be told (`put_and_note`). Want of memory, and then the
+/// cells stay.
 #[tactic(auto, using(rt_tags::proofs::Listing::keeps_both))]
 #[inline(always)]
 pub(crate) fn change_all<S: TextStore>(
@@ -448,7 +452,8 @@ pub(crate) fn change_all<S: TextStore>(
     states: &mut StateTable,
     log: &OpLog,
     ops: &[Op],
-) -> Result<(), Fault>
+    noting: bool,
+) -> Result<Option<Vec<Change>>, Fault>
     requires replica { IsReplica log.now.operations states.old (S.list store.old) }
     requires agrees { S.agrees store.old states.old }
     requires continues { ContinueInTurn log.now.operations ops.now }
@@ -459,17 +464,22 @@ pub(crate) fn change_all<S: TextStore>(
     ensures agrees { S.agrees store.new states.new }
     ensures ids { KeepsIds states.old states.new }
     ensures same { OnErr result (S.list store.new ≡ S.list store.old) }
+    ensures noted { IfOk result (λ noted. IfSome noted (λ changes. AreNotedOf log.now.operations ops.now changes.items)) }
     ensures fault { IsOkUnless result Fault.NoMemory }
 {
     // One operation is done as one that is received: a Tag goes from run to run.
     if ops.len() == 1 {
-        return change(alloc, store, states, log, &ops[0]);
+        if noting {
+            return change_one(alloc, store, states, log, &ops[0]);
+        }
+        change(alloc, store, states, log, &ops[0])?;
+        return Ok(None);
     }
     let new = fresh(alloc, states, ops)?;
     let cells = new.as_slice();
     let runs = planned_states(alloc, store, states, cells, ops)?;
     make_room(store, states, cells.len(), ops, runs.len())?;
-    put_all(store, states, cells, ops);
+    let noted = put_and_note(alloc, store, states, log, cells, ops, noting);
     put_states(store, states, &runs);
-    Ok(())
+    Ok(noted)
 }

@@ -14,7 +14,6 @@ ghost use Rattle.rt_tags.specs.States.{KeepsIds, TagStates};
 
 use crate::describe::insertion_at;
 use crate::make::change_all;
-use crate::noting::change_noting;
 use crate::taken::Change;
 use rt_oplog::{Op, OpLog};
 use rt_stamps::{Fault, Stamp};
@@ -105,8 +104,7 @@ impl Notes {
         only(alloc, insertion_at(alloc, store, stamp, after))
     }
 
-    /// Changes what is kept of a log as `change_all` does, and tells what each operation changes, where that is to be noted
-    /// (`change_noting`).
+    /// Changes what is kept of a log as `change_all` does, which tells what each operation changes where that is to be noted.
     #[inline(always)]
     pub(crate) fn change<S: TextStore>(
         &self,
@@ -129,11 +127,7 @@ impl Notes {
         ensures noted { IfOk result (λ noted. IfSome noted (λ changes. AreNotedOf log.now.operations ops.now changes.items)) }
         ensures fault { IsOkUnless result NoMemory }
     {
-        if self.are_kept() {
-            return change_noting(alloc, store, states, log, ops);
-        }
-        change_all(alloc, store, states, log, ops)?;
-        Ok(None)
+        change_all(alloc, store, states, log, ops, self.are_kept())
     }
 
     /// What was noted, the changes of the newest operations in order, if it is known; nothing is noted from here on.

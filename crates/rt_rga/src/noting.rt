@@ -1,6 +1,5 @@
 // What operations that a replica makes change, told as they are put in.
-ghost use Rattle.std.specs.Prelude.{◌≡◌, ◌+◌, ◌++◌, ◌≤◌, List, ℕ, [], ◌∷◌, false, not, reverse, true, IfOk, IfSome, IsOkUnless, OnErr, OnOk, length, map};
-ghost use Rattle.std.specs.List.{AllByRecursion};
+ghost use Rattle.std.specs.Prelude.{◌≡◌, ◌+◌, ◌++◌, ◌≤◌, List, ℕ, [], ◌∷◌, false, map, reverse, true, IfOk, IfSome, IsOkUnless, OnErr, OnOk, length};
 ghost use Rattle.rt_stamps.specs.declared.limits.TheConstants.{MOST_CELLS};
 ghost use Rattle.rt_stamps.specs.declared.fault.Fault.TheVariants.{NoMemory};
 ghost use Rattle.rt_stamps.specs.declared.stamp.Stamp.{Stamp as StampOf};
@@ -8,54 +7,57 @@ ghost use Rattle.rt_stamps.specs.declared.stamp.TheConstants.{FINAL};
 ghost use Rattle.rt_ops.specs.Operations.{Insert, Name, Operation, stamp_of};
 ghost use Rattle.rt_oplog.specs.Logs.{with_operation};
 ghost use Rattle.rt_store.specs.Cells.{AreDistinct, HasRoom, IsPlaced};
-ghost use Rattle.rt_store.specs.Shown.{shown};
+ghost use Rattle.rt_store.specs.Shown.{TaggedCell, shown};
 ghost use Rattle.rt_store.specs.Tagged.{AreStates};
 ghost use Rattle.rt_tags.specs.States.{KeepsIds, TagStates};
 ghost use Rattle.rt_rga.specs.Cells.{cells_of, deletes};
-ghost use Rattle.rt_rga.specs.Drafts.{ContinueInTurn, with_operations};
+ghost use Rattle.rt_rga.specs.Drafts.{ContinueInTurn};
 ghost use Rattle.rt_rga.specs.Histories.{Continues, inserted};
-ghost use Rattle.rt_rga.specs.Making.{AreNewest, cuts_of, fresh_cells};
-ghost use Rattle.rt_rga.specs.Noted.{AreNotedOf, leaves_tags};
+ghost use Rattle.rt_rga.specs.Making.{AreNewest, cuts_of, fresh_cells, kept_after};
+ghost use Rattle.rt_rga.specs.Noted.{AreApart, AreNotedOf, IsFoundAlike};
 ghost use Rattle.rt_rga.specs.Replicas.{IsReplica};
 
-use crate::describe::{describe, describe_text};
+use crate::describe::{describe, describe_own};
 use crate::edits::change;
-use crate::make::{change_all, fresh, make_room, put};
+use crate::make::{put, put_all};
 use crate::notes::only;
 use crate::taken::Change;
+use indexmap::IndexSet;
 use rt_oplog::{Edit, Op, OpLog};
 use rt_stamps::Fault;
 use rt_store::{Cell, TextStore};
 use rt_tags::{StateId, StateTable};
 use std::alloc::Global;
 
-// Adds what an operation that leaves all tags will change; none for want of memory, or where there were none.
+// Adds what an operation will change that is newer than all before it; none for want of memory, or where there were none.
 fn and_change<S: TextStore>(
     alloc: Global,
     store: &S,
+    states: &StateTable,
     op: &Op,
     changes: Option<Vec<Change>>,
 ) -> Option<Vec<Change>>
     requires placed { (after : StampOf) (tags : List Name) (text : List ℕ) → op.now.body ≡ Insert after tags text
         → IsPlaced (S.list store.now) after (stamp_of op.now) }
+    requires agrees { S.agrees store.now states.now }
     requires distinct { AreDistinct (S.list store.now) }
     requires few { length (S.list store.now) ≤ MOST_CELLS }
     requires stays { deletes op.now.body FINAL ≡ false }
-    requires text { leaves_tags op.now.body ≡ true }
-    ensures { (log ops : List Operation) (table : TagStates) → map (shown table) (S.list store.now) ≡ cells_of (reverse ops ++ log)
+    ensures { (log ops : List Operation) (true_of : TaggedCell → TaggedCell) → IsFoundAlike op.now true_of (map (shown states.now) (S.list store.now))
+        → map true_of (map (shown states.now) (S.list store.now)) ≡ cells_of (reverse ops ++ log)
         → IfSome changes (λ changes. AreNotedOf log ops changes.items)
         → IfSome result (λ changes. AreNotedOf log (ops ++ op.now ∷ []) changes.items) }
 {
     let mut changes = changes?;
-    let change = describe_text(alloc, store, op).ok()?;
+    let change = describe_own(alloc, store, states, op).ok()?;
     match changes.push(change) {
         Ok(()) => Some(changes),
         Err(_) => None,
     }
 }
 
-/// Puts in what operations do that leave all tags, one after the other, and tells what each changes; none for want of
-/// memory, and then they are put in too.
+// Puts in what operations do of which no two are Tags of one tag, as `put_all` does, and tells what each changes; none for
+// want of memory, and then they are put in all the same.
 fn put_all_noting<S: TextStore>(
     alloc: Global,
     store: &mut S,
@@ -68,53 +70,82 @@ fn put_all_noting<S: TextStore>(
     requires agrees { S.agrees store.old states.now }
     requires continues { ContinueInTurn log.now.operations ops.now }
     requires newest { AreNewest log.now.operations ops.now }
-    requires text { AllByRecursion (λ op. leaves_tags op.body ≡ true) ops.now }
+    requires apart { AreApart ops.now }
     requires fresh { map (shown states.now) new.now ≡ fresh_cells ops.now }
     requires given { AreStates states.now new.now }
     requires few { length (S.list store.old) + length new.now ≤ MOST_CELLS }
     requires room { HasRoom (S.room store.old) (length new.now) (cuts_of ops.now) (length states.now.names) }
-    ensures replica { IsReplica (with_operations ops.now log.now.operations) states.now (S.list store.new) }
-    ensures cells { length (S.list store.new) ≡ length (S.list store.old) + length new.now }
-    ensures agrees { S.agrees store.new states.now }
+    ensures list { S.list store.new ≡ kept_after ops.now new.now (S.list store.old) }
+    ensures room { (S.room store.old).cuts ≤ (S.room store.new).cuts + cuts_of ops.now }
+    ensures tags { (S.room store.old).tags ≤ (S.room store.new).tags }
+    ensures states { S.agrees store.new states.now }
     ensures noted { IfSome result (λ changes. AreNotedOf log.now.operations ops.now changes.items) }
 {
     let mut changes = Some(Vec::new(alloc));
     let mut left = new;
     for op in ops {
-        changes = and_change(alloc, store, op, changes);
+        changes = and_change(alloc, store, states, op, changes);
         left = put(store, states, left, op);
     }
     changes
 }
 
-// Whether an operation puts a tag on or takes it off.
-fn is_tag(op: &Op) -> bool
-    ensures { result ≡ not (leaves_tags op.now.body) }
+// Whether no two of some operations are Tags of one tag. It may say no for want of memory.
+fn are_apart(alloc: Global, ops: &[Op]) -> bool
+    ensures { result ≡ true → AreApart ops.now }
 {
-    match op.edit() {
-        Edit::Insert {
-            after: _,
-            tags: _,
-            text: _,
-        } => false,
-        Edit::Delete { spans: _ } => false,
-        Edit::Tag {
+    let mut names: IndexSet<&str> = IndexSet::new(alloc);
+    for op in ops {
+        if let Edit::Tag {
             on: _,
-            name: _,
+            name,
             spans: _,
-        } => true,
+        } = op.edit()
+        {
+            match names.insert(name.as_str()) {
+                Ok(true) => {}
+                _ => return false,
+            }
+        }
     }
+    true
 }
 
-// Whether operations leave all tags.
-fn all_leave_tags(ops: &[Op]) -> bool
-    ensures { result ≡ true → AllByRecursion (λ op. leaves_tags op.body ≡ true) ops.now }
+/// Puts in what operations do, as `put_all` does, and tells what each changes, where that is to be told; none where two of
+/// them are Tags of one tag, and for want of memory, which refuses nothing.
+pub(crate) fn put_and_note<S: TextStore>(
+    alloc: Global,
+    store: &mut S,
+    states: &StateTable,
+    log: &OpLog,
+    new: &[Cell<StateId>],
+    ops: &[Op],
+    noting: bool,
+) -> Option<Vec<Change>>
+    requires replica { IsReplica log.now.operations states.now (S.list store.old) }
+    requires agrees { S.agrees store.old states.now }
+    requires continues { ContinueInTurn log.now.operations ops.now }
+    requires newest { AreNewest log.now.operations ops.now }
+    requires fresh { map (shown states.now) new.now ≡ fresh_cells ops.now }
+    requires given { AreStates states.now new.now }
+    requires few { length (S.list store.old) + length new.now ≤ MOST_CELLS }
+    requires room { HasRoom (S.room store.old) (length new.now) (cuts_of ops.now) (length states.now.names) }
+    ensures list { S.list store.new ≡ kept_after ops.now new.now (S.list store.old) }
+    ensures room { (S.room store.old).cuts ≤ (S.room store.new).cuts + cuts_of ops.now }
+    ensures tags { (S.room store.old).tags ≤ (S.room store.new).tags }
+    ensures states { S.agrees store.new states.now }
+    ensures noted { IfSome result (λ changes. AreNotedOf log.now.operations ops.now changes.items) }
 {
-    !ops.iter().any(is_tag)
+    if noting && are_apart(alloc, ops) {
+        return put_all_noting(alloc, store, states, log, new, ops);
+    }
+    put_all(store, states, new, ops);
+    None
 }
 
-// Changes what is kept of a log as one operation does that continues it, and tells what it changes, as `change_noting`.
-fn change_one<S: TextStore>(
+/// Changes what is kept of a log as one operation does that continues it, as `change` does, and tells what it changes; none
+/// for want of memory to tell it, which refuses nothing.
+pub(crate) fn change_one<S: TextStore>(
     alloc: Global,
     store: &mut S,
     states: &mut StateTable,
@@ -139,64 +170,4 @@ fn change_one<S: TextStore>(
     };
     change(alloc, store, states, log, op)?;
     Ok(noted)
-}
-
-// Changes what is kept of a log as several operations do that leave all tags, and tells what each changes, as `change_noting`.
-fn change_several<S: TextStore>(
-    alloc: Global,
-    store: &mut S,
-    states: &mut StateTable,
-    log: &OpLog,
-    ops: &[Op],
-) -> Result<Option<Vec<Change>>, Fault>
-    requires replica { IsReplica log.now.operations states.old (S.list store.old) }
-    requires agrees { S.agrees store.old states.old }
-    requires continues { ContinueInTurn log.now.operations ops.now }
-    requires newest { AreNewest log.now.operations ops.now }
-    requires text { AllByRecursion (λ op. leaves_tags op.body ≡ true) ops.now }
-    requires room { length (S.list store.old) + length (fresh_cells ops.now) ≤ MOST_CELLS }
-    ensures replica { OnOk result (IsReplica (with_operations ops.now log.now.operations) states.new (S.list store.new)) }
-    ensures cells { OnOk result (length (S.list store.new) ≡ length (S.list store.old) + length (fresh_cells ops.now)) }
-    ensures agrees { S.agrees store.new states.new }
-    ensures ids { KeepsIds states.old states.new }
-    ensures same { OnErr result (S.list store.new ≡ S.list store.old) }
-    ensures noted { IfOk result (λ noted. IfSome noted (λ changes. AreNotedOf log.now.operations ops.now changes.items)) }
-    ensures fault { IsOkUnless result NoMemory }
-{
-    let new = fresh(alloc, states, ops)?;
-    let cells = new.as_slice();
-    make_room(store, states, cells.len(), ops, 0)?;
-    Ok(put_all_noting(alloc, store, states, log, cells, ops))
-}
-
-/// Changes what is kept of a log as `change_all` does, and tells what each operation changes; none where there are several
-/// and one is a Tag, or for want of memory to tell it, which refuses nothing.
-pub(crate) fn change_noting<S: TextStore>(
-    alloc: Global,
-    store: &mut S,
-    states: &mut StateTable,
-    log: &OpLog,
-    ops: &[Op],
-) -> Result<Option<Vec<Change>>, Fault>
-    requires replica { IsReplica log.now.operations states.old (S.list store.old) }
-    requires agrees { S.agrees store.old states.old }
-    requires continues { ContinueInTurn log.now.operations ops.now }
-    requires newest { AreNewest log.now.operations ops.now }
-    requires room { length (S.list store.old) + length (fresh_cells ops.now) ≤ MOST_CELLS }
-    ensures replica { OnOk result (IsReplica (with_operations ops.now log.now.operations) states.new (S.list store.new)) }
-    ensures cells { OnOk result (length (S.list store.new) ≡ length (S.list store.old) + length (fresh_cells ops.now)) }
-    ensures agrees { S.agrees store.new states.new }
-    ensures ids { KeepsIds states.old states.new }
-    ensures same { OnErr result (S.list store.new ≡ S.list store.old) }
-    ensures noted { IfOk result (λ noted. IfSome noted (λ changes. AreNotedOf log.now.operations ops.now changes.items)) }
-    ensures fault { IsOkUnless result NoMemory }
-{
-    if ops.len() == 1 {
-        return change_one(alloc, store, states, log, &ops[0]);
-    }
-    if all_leave_tags(ops) {
-        return change_several(alloc, store, states, log, ops);
-    }
-    change_all(alloc, store, states, log, ops)?;
-    Ok(None)
 }

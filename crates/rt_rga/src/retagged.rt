@@ -1,11 +1,12 @@
 // The places at which a Tag changes whether its tag is on, as runs.
-ghost use Rattle.std.specs.Prelude.{◌≡◌, ◌+◌, ◌≤◌, All, IfOk, IsOkUnless, ℕ, filter, length, map};
+ghost use Rattle.std.specs.Prelude.{◌≡◌, ◌+◌, ◌≤◌, All, IfOk, IfSome, IsOkUnless, MatchOption, ℕ, false, filter, length, map};
 ghost use Rattle.rt_stamps.specs.declared.limits.TheConstants.{MOST_CELLS};
-ghost use Rattle.rt_ops.specs.Operations.{Tag};
+ghost use Rattle.rt_ops.specs.Operations.{Name, Tag};
 ghost use Rattle.rt_store.specs.Cells.{AreDistinct, visible_of};
 ghost use Rattle.rt_store.specs.Shown.{shown};
 ghost use Rattle.rt_tags.specs.States.{IsState, IsTag, KeepsIds, is_on, name_at, state_at, write_at};
 ghost use Rattle.rt_rga.specs.NamedRuns.{changes_kept};
+ghost use Rattle.rt_rga.specs.Noted.{switches_at};
 ghost use Rattle.rt_rga.specs.Taken.{AreFallingRuns, differ, is_in_runs, retags};
 
 use crate::named::named_runs;
@@ -80,4 +81,63 @@ pub(crate) fn retagged_in<S: TextStore>(
     let tag = states.number(name)?;
     let changed = changed_runs(alloc, states, &named, tag, writer, on)?;
     places_of(alloc, store, &changed)
+}
+
+// Whether a tag that has a number is on in a state; one without a number is on in none.
+fn is_on(states: &StateTable, tag: Option<TagId>, state: StateId) -> bool
+    requires state { IsState states.now state }
+    requires tag { IfSome tag (IsTag states.now) }
+    ensures { (name : Name) → MatchOption tag ((state : ℕ) → is_on name (state_at states.now state) ≡ false) (λ tag. name_at states.now tag ≡ name)
+        → result ≡ is_on name (state_at states.now state) }
+{
+    match tag {
+        Some(tag) => states.has(state, tag),
+        None => false,
+    }
+}
+
+// Those of some runs of cells on which a tag isn't as it is to be. Want of memory.
+fn switched_runs(
+    alloc: Global,
+    states: &StateTable,
+    runs: &[CellRun],
+    name: &str,
+    on: bool,
+) -> Result<Vec<CellRun>, Fault>
+    requires states { All (λ run. IsState states.now run.cell.state) runs.now }
+    ensures runs { IfOk result (λ switched. switched.items ≡ filter (λ run. differ on (is_on name.now (state_at states.now run.cell.state))) runs.now) }
+    ensures fault { IsOkUnless result Fault.NoMemory }
+{
+    let tag = states.known(name);
+    let mut switched = Vec::new(alloc);
+    for run in runs {
+        let known = tag;
+        if is_on(states, known, run.cell.state) != on {
+            switched.push(*run)?;
+        }
+    }
+    Ok(switched)
+}
+
+/// The places of the visible cells of spans at which a tag isn't as it is to be, as runs, the last one in the text
+/// first. Takes time and memory for the runs of cells that the spans name. Want of memory.
+pub(crate) fn switched_in<S: TextStore>(
+    alloc: Global,
+    store: &S,
+    states: &StateTable,
+    spans: &[Span],
+    name: &str,
+    on: bool,
+) -> Result<Vec<PlaceRun>, Fault>
+    requires agrees { S.agrees store.now states.now }
+    requires distinct { AreDistinct (S.list store.now) }
+    requires few { length (S.list store.now) ≤ MOST_CELLS }
+    ensures switched { IfOk result (λ runs. (place : ℕ) → is_in_runs runs.items place
+        ≡ switches_at (Tag on name.now spans.now) (map (shown states.now) (S.list store.now)) place) }
+    ensures runs { IfOk result (λ runs. AreFallingRuns (length (visible_of (S.list store.now)) + 1) runs.items) }
+    ensures fault { IsOkUnless result Fault.NoMemory }
+{
+    let named = named_runs(alloc, store, spans)?;
+    let switched = switched_runs(alloc, states, &named, name, on)?;
+    places_of(alloc, store, &switched)
 }

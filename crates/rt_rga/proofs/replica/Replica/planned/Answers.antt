@@ -1,4 +1,4 @@
-use Rattle.std.proofs.Common.{◌≡◌, ◌∙◌, ◌⊎◌, ℕ, List, Option, None, Some, ap, arith, length, map, subst, sym, ◌+◌, ◌-◌, ◌≤◌}
+use Rattle.std.proofs.Common.{◌≡◌, ◌∙◌, ℕ, List, Option, ap, arith, length, map, subst, sym, ◌+◌, ◌≤◌}
 use Rattle.std.specs.Prelude.{Err, OnOk, IfOk, Ok, Result}
 use Rattle.std.proofs.lemmas.List.{length-map}
 use Rattle.std.proofs.lemmas.Result.{IfErr-weaker, IfOk-weaker}
@@ -16,7 +16,6 @@ use Rattle.rt_rga.specs.Making.{AreNewest, fresh_cells}
 use Rattle.rt_rga.specs.Drafts.{ContinueInTurn}
 use Rattle.rt_rga.proofs.Making.{made_of, ready, rules_of}
 use Rattle.rt_stamps.specs.declared.fault.Fault.{Fault}
-use Rattle.rt_stamps.specs.declared.fault.Fault.TheVariants.{NoMemory}
 use Rattle.rt_rga.proofs.replica.Replica.planned.Goals as goal
 
 -- what an answer is said to be, with what is known because there is one
