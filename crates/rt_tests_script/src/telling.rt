@@ -174,12 +174,15 @@ const OWN: Script = r#"
 .t edit undo -> put 9 u at 0; put 4 t at 3; put 5 t u at 4;
 .t edit redo -> gone 3 to 5; gone 0 to 1;
 .t mark set here 1.2 -> nothing
+.t tag delete t u -> off t 7 to 9; off t 1 to 2; off u 0 to 1;
+.t tag add v 1.6 end -> on v 6 to 10;
+.t tag add w 1.8 end -> on w 8 to 10;
+.t delete 1.2 end -> gone 2 to 9; off v 2 to 3; off w 2 to 3;
 "#;
 
-// What makes several operations at once, tags among them: the site doesn't tell what changes, the other one does.
-const UNKNOWN: Script = "
-.t tag delete t u -> off t 7 to 9; off t 1 to 2; off u 0 to 1;
-";
+// As many tags as an Insert lists.
+const LISTED: &str =
+    "0 1 2 3 4 5 6 7 8 9 A B C D E F G H I J K L M N O P Q R S T U V W X Y Z a aa ab ac b c d e f g h i j k l m n o p q r s t u v w x y";
 
 // What a site tells of a line that it is asked; none where it isn't known.
 fn told_by_itself(
@@ -242,11 +245,23 @@ fn own_changes_are_told(rt: HostRuntime) {
             tells_of_own(&rt, alloc, (&mut first, &mut second), row, true);
         }
     }
-    for row in UNKNOWN.lines() {
-        if !row.is_empty() {
-            tells_of_own(&rt, alloc, (&mut first, &mut second), row, false);
-        }
-    }
+}
+
+// One tag more is a Tag of its own, which is told. Two parts of a text have two Tags of it: of these the site doesn't tell
+// what changes, the other one does.
+#[test]
+fn more_tags_than_an_insert_lists(rt: HostRuntime) {
+    let alloc = rt.alloc();
+    let mut first = new_site(&rt, alloc, 1, MOST_CELLS);
+    let mut second = new_site(&rt, alloc, 2, MOST_CELLS);
+    let row = format!(in alloc;
+        ".t insert 1.0 x {{{LISTED} z}} -> put x {LISTED} at 0; on z 0 to 1;"
+    ).expect(&rt, "memory");
+    tells_of_own(&rt, alloc, (&mut first, &mut second), row.as_str(), true);
+    let row = format!(in alloc;
+        ".t insert 1.0 v {{{LISTED} z}} w {{{LISTED} z}} -> put v {LISTED} at 0; on z 0 to 1; put w {LISTED} at 1; on z 1 to 2;"
+    ).expect(&rt, "memory");
+    tells_of_own(&rt, alloc, (&mut first, &mut second), row.as_str(), false);
 }
 
 // Stops a test where a site tells something else of a line, which may be refused.
