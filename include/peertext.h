@@ -3,17 +3,17 @@
    A pt_site is a handle: it holds one site, or none. It begins as PT_NONE, which is all zero, in allocated memory by
    calloc or memset. Its `held` tells whether it holds a site, and may be read; nothing of it is written but by these
    functions. A handle isn't copied, since one copy would be used after another had freed the site. It may be moved: it
-   is copied, and its old place isn't used after that.
+   is copied, and its old place is set to PT_NONE, as by `site = (pt_site)PT_NONE;`, or not used again.
 
    What a handle points to belongs to the library, which takes its memory by malloc and realloc and gives it back by
    free. The caller frees none of it: bytes go out into memory that the caller gives. The library keeps no pointer that
    it was given.
 
-   Two handles share nothing: two threads may use two of them at one time. A handle stays on one thread, and no two
-   calls are given one at one time. No call waits, reads a file or starts a thread, and none is made from a signal
-   handler, nor in a child that was forked of a process with threads.
+   Two handles share nothing: two threads may use two of them at the same time. A handle stays on one thread, and is
+   never in two calls at once. No call waits, reads a file or starts a thread, and none is made from a signal handler,
+   nor in a child that was forked of a process with threads.
 
-   No pointer is NULL, with a length or room of 0 neither. What two pointers of one call point to doesn't overlap.
+   No pointer is NULL, not even where its length or room is 0. What two pointers of one call point to doesn't overlap.
    Lengths count bytes, and no zero byte ends what goes in or comes out. All text is UTF-8. */
 #ifndef PEERTEXT_H
 #define PEERTEXT_H
@@ -37,15 +37,16 @@ typedef struct {
 #define PT_NONE { false, { NULL } }
 
 /* What functions answer. After an answer below 0 all is as it was before the call: the site, what it said, the changes
-   of the last file, and what pointers point to. */
+   that it keeps, and what pointers point to. */
 enum {
     PT_DONE = 0,
     PT_NO_SITE = -1,    /* the handle holds no site */
-    PT_NO_MEMORY = -2,  /* memory was wanting; the call may be made again */
+    PT_NO_MEMORY = -2,  /* memory was wanting; the call may be made again when there is more */
     PT_IS_HELD = -3,    /* the handle holds a site already */
     PT_BAD_NUMBER = -4, /* no site has the number: it is 0, or above 65535 */
     PT_BAD_BYTES = -5,  /* more than PT_MOST_BYTES bytes, or counts that aren't 10 bytes each */
-    PT_NOT_THERE = -6   /* there is no such change, widget, character or place */
+    PT_NOT_THERE = -6,  /* there is no such change, widget, character or place */
+    PT_NOT_KNOWN = -7   /* what the last line changed isn't known */
 };
 
 /* The most bytes of a file of operations that is received. */
@@ -54,7 +55,9 @@ enum {
 /* The most bytes of a line. */
 #define PT_MOST_LINE_BYTES 1048576
 
-/* Faults, by their numbers (docs/SCRIPTS.md has their causes). */
+/* Faults, by their numbers (docs/SCRIPTS.md has their causes): of a line 1 to 20, of a file 1, 18 and those from 30 on.
+   1 also comes where numbers run out, and then comes again. 36, 40 and 41 never come: what is made upon an operation
+   that isn't known is held, and no file is read or written. */
 enum {
     PT_FAULT_NO_MEMORY = 1,
     PT_FAULT_BAD_INDEX = 2,
@@ -92,15 +95,15 @@ enum {
 /* What became of a file that was received. A held operation is tried again after each operation that is accepted. If
    memory is wanting for it then, it stays held, which no fault and no code tells. */
 typedef struct {
-    uint64_t fresh;   /* how many operations were accepted, those that had been held among them */
+    uint64_t fresh;   /* how many operations were accepted, held ones among them; pt_changes tells as many then */
     uint64_t repeats; /* how many of the file's operations the site had or held already */
     uint64_t held;    /* how many operations the site holds in the end, since they came early */
-    uint64_t changes; /* how many numbers pt_change takes: one for each operation that was accepted */
     uint64_t offset;  /* where the record of the fault begins in the file; 0 without a fault */
     uint8_t fault;    /* the number of the fault that ended the file early, or 0; never one of a held operation */
 } pt_received;
 
-/* The stamp of a character, which keeps it for good, on every site. */
+/* The stamp of a character, which keeps it for good, on every site. That of the text's last newline is count 1 of site
+   0; {0, 0} is no character's. */
 typedef struct {
     uint64_t count;
     uint16_t site;
@@ -115,12 +118,13 @@ int32_t pt_site_new(pt_site *site, uint32_t number);
 void pt_site_free(pt_site *site);
 
 /* Runs a line of a script (docs/SCRIPTS.md) of at most PT_MOST_LINE_BYTES bytes, and says its reply line, with a
-   newline, or nothing for an empty line, one of blanks and a comment. The line is to have no newline at its end:
-   nothing but `len` ends it, and a newline or return left there is the last character of its last word.
+   newline; of an empty line, one of blanks and a comment what is said is empty. The line is to have no newline at its
+   end: nothing but `len` ends it, and a newline or return left there is the last character of its last word.
    PT_DONE; the number of the fault by which the line was refused, above 0, with its reply line `! N Name` said; else
-   PT_NO_SITE. A refused line leaves the text, its tags, marks and undo as they were, that which finds no memory too
-   (PT_FAULT_NO_MEMORY). No file can be named: `receive NAME` is refused by PT_FAULT_NO_FILE. A longer line is refused
-   by PT_FAULT_BAD_QUOTING, and so is one that isn't UTF-8. */
+   PT_NO_SITE. A refused line leaves the site as it was, also that which finds no memory (PT_FAULT_NO_MEMORY). No file
+   can be named: `receive NAME` is refused by PT_FAULT_NO_FILE. A longer line is refused by PT_FAULT_BAD_QUOTING, and so
+   is one that isn't UTF-8. What the line changed is kept for pt_change, and what was kept before goes, whatever the
+   line is. */
 int32_t pt_command(pt_site *site, const uint8_t *line, size_t len);
 
 /* Copies what was said last by pt_command, pt_change, pt_export, pt_ends or pt_export_since: its first `room` bytes, or
@@ -137,17 +141,23 @@ ptrdiff_t pt_said(pt_site *site, uint8_t *out, size_t room);
    received again. Else PT_NO_SITE or PT_BAD_BYTES. */
 int32_t pt_receive(pt_site *site, const uint8_t *bytes, size_t len, pt_received *told);
 
-/* Says what an operation changed in the visible text: of those that the last pt_receive took, held ones among them, in
-   the order in which they were taken. Their numbers are those from 0 on, less than `changes`. Make the changes of all
-   of them, from 0 on, before another line is run: each line is of the text that all lines before it left. It says
-   lines, each with a newline, or none where nothing changes:
+/* Tells how many operations were made or accepted by the last pt_command or pt_receive: those that the line made, or
+   that the file had, and held ones that these let in. A line that changes no text and no tags has none. pt_change says
+   what each of them changed.
+   PT_DONE; else PT_NO_SITE, or PT_NOT_KNOWN: the line was run, but what it changed isn't known, for want of memory, or
+   since it wrote one tag by two operations (docs/LIBRARY.md, "What was changed"). Then read the text anew. */
+int32_t pt_changes(pt_site *site, size_t *count);
+
+/* Says what an operation changed in the visible text, of those that pt_changes counts, in an order in which they could
+   be accepted. Their numbers are those from 0 on. Read them all before the next pt_command, also one that only asks, or
+   pt_receive: each change is of the text that all before it left. It says lines, each with a newline, or what is said
+   is empty where nothing changes:
        insert AT TEXT TAG ..     TEXT comes in before the character at AT, with just these tags
        delete FROM TO            the characters from FROM up to TO are gone, without that at TO
        tag NAME FROM TO          these characters get a tag
        untag NAME FROM TO        they lose it
    Words are written as in a reply. Places count characters from 0 in the whole text, whichever lines a widget shows.
-   The changes stay until the next pt_receive; pt_command tells none.
-   PT_DONE; else PT_NO_SITE, PT_NOT_THERE or PT_NO_MEMORY. */
+   PT_DONE; else PT_NO_SITE, PT_NO_MEMORY, or PT_NOT_THERE: there is no such operation, or nothing is known. */
 int32_t pt_change(pt_site *site, size_t number);
 
 /* Says the file of all operations that the site accepted or made. Those that it holds (`held` of pt_received) are not

@@ -8,7 +8,7 @@ class Handle(ctypes.Structure):
 
 class Received(ctypes.Structure):
     _fields_ = [
-        *((name, ctypes.c_uint64) for name in ("fresh", "repeats", "held", "changes", "offset")),
+        *((name, ctypes.c_uint64) for name in ("fresh", "repeats", "held", "offset")),
         ("fault", ctypes.c_uint8),
     ]
 

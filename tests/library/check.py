@@ -132,13 +132,13 @@ def main():
             build.build(archive, False)
         faces.compare(archive, check)
         in_cpp()
+        known = {}
         for way, words in ways(folder, archive).items():
             run = driven_by(words, f"driven, {way}")
             stored_scripts(run, way, program)
             exchanged_files(run, way, program)
             groups(run, way, 30 if way == "plain" else 3)
-            if program and way == "plain":
-                hostile_scripts(run, program)
+            hostile_scripts(run, way, program, known)
         examples(folder, archive)
     print("{} passed, {} failed".format(*CHECKED))
     sys.exit(1 if CHECKED[1] else 0)

@@ -4,9 +4,13 @@
 
 #include "peertext.h"
 
+#include <stddef.h>
 #include <stdio.h>
 #include <stdlib.h>
 #include <string.h>
+
+/* a handle as the library has it */
+_Static_assert(sizeof(pt_site) == 16 && offsetof(pt_site, held) == 0 && offsetof(pt_site, slot) == 8, "a flag, and a pointer behind it");
 
 static int passed, failed;
 

@@ -20,7 +20,13 @@ static size_t bytes_in_blocks;
 /* how many more allocations go well before one is refused; less than 0 where none is */
 static long until_refused = -1;
 
+/* whether all behind it are refused too */
+static bool stays_refused;
+
 static inline bool is_refused(void) {
+    if (until_refused == 0 && stays_refused) {
+        return true;
+    }
     return until_refused >= 0 && until_refused-- == 0;
 }
 

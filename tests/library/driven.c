@@ -6,6 +6,7 @@
        receive HEX     the site in use receives these bytes, and what became of them and what changed is written
        give H          it receives the file of all operations of the site of H
        lack H          it receives the file of those of H that are past its ends
+       own             how many operations the last line made or let in, and what each changed
        export          the file of its operations, in hexadecimal digits
        stamp PLACE     the stamp of the character at a place of the widget .t
        place C.S       the place of a stamp */
@@ -33,20 +34,36 @@ static pt_site *handle(const char *word) {
     return &sites[(unsigned)(*word - '0') % HANDLES];
 }
 
-static void receive(const uint8_t *bytes, size_t len) {
-    pt_received told = {0};
-    int32_t code = pt_receive(used, bytes, len, &told);
-    printf("received %" PRId32 " new %" PRIu64 " repeat %" PRIu64 " held %" PRIu64 " fault %d at %" PRIu64 "\n", code, told.fresh, told.repeats,
-           told.held, told.fault, told.offset);
-    if (told.changes != told.fresh) {
-        printf("changes %" PRIu64 "\n", told.changes);
-    }
-    for (size_t number = 0; number < told.changes; number++) {
+/* What changed, of each of some operations. */
+static void write_changes(size_t count) {
+    for (size_t number = 0; number < count; number++) {
         if (pt_change(used, number) != PT_DONE) {
             printf("no change\n");
         }
         write_said();
     }
+    if (pt_change(used, count) != PT_NOT_THERE) {
+        printf("one change more\n");
+    }
+}
+
+static void write_own(void) {
+    size_t count = 0;
+    int32_t code = pt_changes(used, &count);
+    printf("own %" PRId32 " %zu\n", code, count);
+    write_changes(count);
+}
+
+static void receive(const uint8_t *bytes, size_t len) {
+    pt_received told = {0};
+    int32_t code = pt_receive(used, bytes, len, &told);
+    printf("received %" PRId32 " new %" PRIu64 " repeat %" PRIu64 " held %" PRIu64 " fault %d at %" PRIu64 "\n", code, told.fresh, told.repeats,
+           told.held, told.fault, told.offset);
+    size_t count = 0;
+    if (pt_changes(used, &count) != PT_DONE || count != told.fresh) {
+        printf("changes %zu\n", count);
+    }
+    write_changes(count);
 }
 
 static void receive_said_of(pt_site *from) {
@@ -133,6 +150,8 @@ static void directed(const char *word, const char *rest) {
         give(handle(rest));
     } else if (strcmp(word, "lack") == 0) {
         give_lacking(handle(rest));
+    } else if (strcmp(word, "own") == 0) {
+        write_own();
     } else if (strcmp(word, "export") == 0) {
         write_digits();
     } else if (strcmp(word, "stamp") == 0) {

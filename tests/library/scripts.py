@@ -13,6 +13,10 @@ from refusing.tables import tables
 
 NEW = b"\x01site 0 1\n"
 TEXT = ".t dump -text -tag 1.0 end"
+# stamps at places, and the places of stamps, some of characters that are gone, or of none
+ASKED = [f"\x01stamp {place}" for place in (0, 1, 7)] + [f"\x01place {stamp}" for stamp in ("1.0", "1.1", "2.1", "3.2", "9.1", "12.2", "20.3", "99999.1")]
+# more tags than one Insert lists
+MANY = " ".join(f"t{at}" for at in range(67))
 FAULTS = ("NoMemory BadIndex NoneTagged BadCommand NoWidget WidgetExists NoTag NoMark BadOption BackwardsRange EmptyPattern NothingToUndo "
           "NothingToRedo BadName BadView LastWidget ClockSpent TextFull BadQuoting NoFile").split()
 FAULTS = {**dict(enumerate(FAULTS, 1)), **dict(enumerate("BadMagic BadVersion Truncated BadRecord BadStamp Conflict NotYet BadTarget WaitingFull".split(), 30))}
@@ -48,15 +52,17 @@ def stored_scripts(run, way, program):
     print(f"{len(scripts)} stored scripts of {sum(map(len, found))} replies, {way}", flush=True)
 
 
-def hostile_scripts(run, program):
-    """Bytes by chance, and bytes of commands in disorder; without those that driven.c takes for its own."""
+def hostile_scripts(run, way, program, known):
+    """Bytes by chance, and bytes of commands in disorder; without those that driven.c takes for its own. Each way answers alike."""
     chance = random.Random(20261130)
     alphabet = b".t insert get index end 1.0\n\n\r\t\"{}\\#\x00\x80\xff\xc3\xa9"
     texts = [bytes(chance.randrange(2, 256) for _ in range(4096)) + b"\n" for _ in range(20)]
     texts += [bytes(chance.choice(alphabet) for _ in range(4096)) + b"\n" for _ in range(20)]
     texts += [b"a" * 1048576 + b"\n", b"a" * 1048577 + b"\n.t index end\n", b"a" * 1048576 + b"\r\n"]
     for at, (text, got) in enumerate(zip(texts, runs_of(run(b"".join(NEW + text for text in texts))))):
-        check(f"hostile bytes {at}", got, by_program(program, text))
+        check(f"hostile bytes {at}, {way}", got, known.setdefault(at, got))
+        if program and way == "plain":
+            check(f"hostile bytes {at}, by the program", got, by_program(program, text))
 
 
 def reply_of(line):
@@ -156,25 +162,33 @@ def received_by_program(program, pair, own):
         return ran.stdout.decode().splitlines()[1 if own else 0:]
 
 
-def edit(chance):
-    """An edit at a place by chance."""
+def edit(chance, more):
+    """An edit at a place by chance, or one of some more."""
     at = f'"1.0 + {chance.randrange(40)} chars"'
     to = f'"1.0 + {chance.randrange(40)} chars"'
     text = spelled("".join(chance.choice("ab cde\nfü\t") for _ in range(chance.randrange(1, 6))))
     tag = chance.choice(("red", "big", "a\xe4", "two words"))
     return chance.choice((f".t insert {at} {text}", f".t insert {at} {text} {{{spelled(tag)}}}", f".t delete {at} {to}", f".t tag add {spelled(tag)} {at} {to}",
-                          f".t tag remove {spelled(tag)} {at} {to}", ".t edit undo", ".t edit redo", f".t replace {at} {at} {text}"))
+                          f".t tag remove {spelled(tag)} {at} {to}", f".t replace {at} {at} {text}", f".t delete {at} end", f".t tag add {spelled(tag)} {at} end",
+                          ".t tag delete red big a\xe4", ".t get 1.0 end", *(it.format(at=at, text=text) for it in more)))
+
+
+def edited(chance, more):
+    """An edit with the text before and after it, and what the site tells of it."""
+    return [TEXT, edit(chance, more), "\x01own", TEXT]
 
 
 def group(chance, count):
     """Lines of sites that edit and exchange, and in the end all have the same."""
     lines = [line for site in range(count) for line in (f"\x01site {site} {site + 1}", ".t configure -undo 1")]
+    # what comes back under more tags than one Insert lists may not be known
+    more = chance.choice(((".t edit undo", ".t edit redo"), (".t insert {at} {text} {{" + MANY + "}}",)))
     for _ in range(chance.randrange(10, 40)):
         one, other = chance.sample(range(count), 2)
-        lines += [f"\x01use {one}"] + [edit(chance) for _ in range(chance.randrange(4))] + [TEXT, f"\x01{chance.choice(('give', 'lack'))} {other}", TEXT]
+        lines += [f"\x01use {one}"] + [line for _ in range(chance.randrange(4)) for line in edited(chance, more)] + [TEXT, f"\x01{chance.choice(('give', 'lack'))} {other}", TEXT]
     for _ in range(2):
         lines += [line for site in range(count) for other in range(count) if site != other for line in (f"\x01use {site}", TEXT, f"\x01lack {other}", TEXT)]
-    return lines + [line for site in range(count) for line in (f"\x01use {site}", ".t get 1.0 end", TEXT, "\x01stamp 0", "\x01stamp 1", "\x01export")]
+    return lines + [line for site in range(count) for line in (f"\x01use {site}", ".t get 1.0 end", TEXT, *ASKED, "\x01export")]
 
 
 def groups(run, way, count):
@@ -185,13 +199,18 @@ def groups(run, way, count):
         lines = run("".join(line + "\n" for line in group(chance, sites)).encode())
         at = 0
         while at < len(lines):
-            if lines[at].startswith("received"):
+            what = lines[at].split(" ")[0]
+            if what in ("received", "own"):
                 changes = list(itertools.takewhile(is_change, lines[at + 1:]))
-                before = next(it for it in reversed(lines[:at]) if it.startswith("="))
-                check(f"group {number}, {way}: changes", replayed(shown(before), changes), (shown(lines[at + 1 + len(changes)]), True))
+                # a line's own reply stands between the text before it and what it changed
+                before = lines[at - 2] if what == "own" else next(it for it in reversed(lines[:at]) if it.startswith("="))
+                check(f"group {number}, {way}: {what} changes", replayed(shown(before), changes), (shown(lines[at + 1 + len(changes)]), True))
+            if what == "own":
+                check(f"group {number}, {way}: own changes are known", lines[at].startswith("own 0 "), True)
             at += 1
         # the order of tags, which a dump follows, is each site's own
-        ends = [(text, shown(dump), rest) for text, dump, *rest in (lines[-5 * (site + 1):][:5] for site in range(sites))]
+        told = 3 + len(ASKED)
+        ends = [(text, shown(dump), rest) for text, dump, *rest in (lines[-told * (site + 1):][:told] for site in range(sites))]
         check(f"group {number}, {way}: all agree", all(it == ends[0] for it in ends), True)
-        check(f"group {number}, {way}: a file", ends[0][2][2].startswith("exported 0 5247415445585431"), True)
+        check(f"group {number}, {way}: a file", ends[0][2][-1].startswith("exported 0 5247415445585431"), True)
     print(f"{count} groups of sites, {way}", flush=True)

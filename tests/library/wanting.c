@@ -86,6 +86,28 @@ static void lines(void) {
     }
 }
 
+/* A line is run, and its reply finds no memory until it is asked again. */
+static void reply_later(void) {
+    uint8_t out[16];
+    long later = 0;
+    for (long refused = 0; refused < 200; refused++) {
+        pt_site site = PT_NONE;
+        begin(&site);
+        until_refused = refused;
+        stays_refused = true;
+        int32_t code = run(&site, ".t tag ranges red");
+        memset(out, '.', sizeof out);
+        bool is_later = code == PT_DONE && pt_said(&site, out, sizeof out) == PT_NO_MEMORY;
+        stays_refused = false;
+        until_refused = -1;
+        CHECK(!is_later || memcmp(out, "................", sizeof out) == 0);
+        CHECK(code == PT_DONE ? says(&site, "= 1.0 2.6\n") : code == PT_FAULT_NO_MEMORY && says(&site, "! 1 NoMemory\n"));
+        later += is_later;
+        pt_site_free(&site);
+    }
+    CHECK(later > 0);
+}
+
 static void sites(void) {
     bool was_refused = true;
     for (long refused = 0; was_refused; refused++) {
@@ -111,24 +133,24 @@ static int32_t change(pt_site *site) {
     return pt_change(site, 0);
 }
 
-/* A call that says bytes: these, or want of memory, and then what was said stays. */
-static void saying(int32_t (*call)(pt_site *)) {
+/* A call that says bytes, after a line: these, or want of memory, and then what was said stays. */
+static void saying(int32_t (*call)(pt_site *), const char *line, const char *reply) {
     pt_site site = PT_NONE;
     pt_received told;
     begin(&site);
-    CHECK(pt_receive(&site, (const uint8_t *)file, file_len, &told) == PT_DONE && told.changes > 0);
-    CHECK(call(&site) == PT_DONE);
+    CHECK(pt_receive(&site, (const uint8_t *)file, file_len, &told) == PT_DONE && told.fresh > 0);
+    CHECK(answers(&site, line, 0, reply) && call(&site) == PT_DONE);
     after.len = 0;
     put_said(&site, &after);
     bool was_refused = true;
     for (long refused = 0; was_refused; refused++) {
-        CHECK(answers(&site, ".t index end", 0, "= 3.0\n"));
+        CHECK(answers(&site, line, 0, reply));
         until_refused = refused;
         int32_t code = call(&site);
         was_refused = until_refused < 0;
         until_refused = -1;
         refusals += was_refused;
-        CHECK(code == PT_DONE || (was_refused && code == PT_NO_MEMORY && says(&site, "= 3.0\n")));
+        CHECK(code == PT_DONE || (was_refused && code == PT_NO_MEMORY && says(&site, reply)));
         CHECK(code == PT_DONE || call(&site) == PT_DONE);
         now.len = 0;
         put_said(&site, &now);
@@ -192,13 +214,13 @@ static void stays_held(void) {
     for (long refused = 0; was_refused; refused++) {
         pt_site site = PT_NONE;
         begin(&site);
-        CHECK(pt_receive(&site, (const uint8_t *)behind, behind_len, &told) == PT_DONE && told.held == 1 && told.changes == 0);
+        CHECK(pt_receive(&site, (const uint8_t *)behind, behind_len, &told) == PT_DONE && told.held == 1 && told.fresh == 0);
         until_refused = refused;
         CHECK(pt_receive(&site, (const uint8_t *)first, first_len, &told) == PT_DONE);
         was_refused = until_refused < 0;
         until_refused = -1;
         refusals += was_refused;
-        CHECK(told.changes == told.fresh && told.fresh + told.held == (told.fault == 0 ? 2 : 1));
+        CHECK(told.fresh + told.held == (told.fault == 0 ? 2 : 1));
         CHECK(was_refused || told.held == 0);
         if (told.fault == 0 && told.held == 1) {
             stayed++;
@@ -214,10 +236,11 @@ int main(void) {
     make_files();
     lines();
     sites();
-    saying(pt_export);
-    saying(pt_ends);
-    saying(export_some);
-    saying(change);
+    reply_later();
+    saying(pt_export, ".t index end", "= 3.0\n");
+    saying(pt_ends, ".t index end", "= 3.0\n");
+    saying(export_some, ".t index end", "= 3.0\n");
+    saying(change, ".t insert 1.0 x", "=\n");
     received();
     stays_held();
     CHECK(blocks == 0 && bytes_in_blocks == 0);

@@ -8,12 +8,13 @@ static const uint8_t path[] = ".t";
 static void empty_handles(void) {
     pt_site none = PT_NONE;
     uint8_t out[4] = "abc";
-    pt_received told = {1, 2, 3, 4, 5, 6};
+    pt_received told = {1, 2, 3, 5, 6};
     pt_stamp stamp = {7, 8};
     size_t place = 9;
     CHECK(run(&none, ".t get 1.0 end") == PT_NO_SITE);
     CHECK(pt_said(&none, out, sizeof out) == PT_NO_SITE);
     CHECK(pt_receive(&none, out, 3, &told) == PT_NO_SITE);
+    CHECK(pt_changes(&none, &place) == PT_NO_SITE && place == 9);
     CHECK(pt_change(&none, 0) == PT_NO_SITE);
     CHECK(pt_export(&none) == PT_NO_SITE);
     CHECK(pt_ends(&none) == PT_NO_SITE);
@@ -21,7 +22,7 @@ static void empty_handles(void) {
     CHECK(pt_stamp_at(&none, path, 2, 0, &stamp) == PT_NO_SITE);
     CHECK(pt_place_of(&none, path, 2, &stamp, &place) == PT_NO_SITE);
     CHECK(memcmp(out, "abc", 4) == 0);
-    CHECK(told.fresh == 1 && told.repeats == 2 && told.held == 3 && told.changes == 4 && told.offset == 5 && told.fault == 6);
+    CHECK(told.fresh == 1 && told.repeats == 2 && told.held == 3 && told.offset == 5 && told.fault == 6);
     CHECK(stamp.count == 7 && stamp.site == 8 && place == 9);
     pt_site_free(&none);
     CHECK(!none.held && none.slot.at == NULL);
@@ -159,14 +160,14 @@ static void kept(void) {
 
 /* A file is received, and is at fault; the text stays. */
 static bool refused(pt_site *site, const char *bytes, size_t len, uint8_t fault, uint64_t offset) {
-    pt_received told = {9, 9, 9, 9, 9, 9};
+    pt_received told = {9, 9, 9, 9, 9};
     bool same = answers(site, ".t get 1.0 end", 0, "= \"ab\\n\"\n");
     int32_t code = pt_receive(site, (const uint8_t *)bytes, len, &told);
     if (told.fault != fault || told.offset != offset) {
         printf("fault %d at %d\n", told.fault, (int)told.offset);
     }
     return same && code == PT_DONE && told.fault == fault && told.offset == offset && told.fresh == 0 && told.repeats == 0 && told.held == 0
-        && told.changes == 0 && pt_change(site, 0) == PT_NOT_THERE && answers(site, ".t get 1.0 end", 0, "= \"ab\\n\"\n");
+        && pt_change(site, 0) == PT_NOT_THERE && answers(site, ".t get 1.0 end", 0, "= \"ab\\n\"\n");
 }
 
 static void files(pt_site *site) {
@@ -182,13 +183,13 @@ static void files(pt_site *site) {
 }
 
 static void too_many_bytes(pt_site *site) {
-    pt_received told = {1, 2, 3, 4, 5, 6};
+    pt_received told = {1, 2, 3, 5, 6};
     size_t len = (size_t)PT_MOST_BYTES + 1;
     void *bytes = mmap(NULL, len, PROT_READ, MAP_PRIVATE | MAP_ANONYMOUS | MAP_NORESERVE, -1, 0);
     CHECK(bytes != MAP_FAILED);
     CHECK(answers(site, ".t index end", 0, "= 2.0\n"));
     CHECK(pt_receive(site, bytes, len, &told) == PT_BAD_BYTES);
-    CHECK(told.fresh == 1 && told.repeats == 2 && told.held == 3 && told.changes == 4 && told.offset == 5 && told.fault == 6);
+    CHECK(told.fresh == 1 && told.repeats == 2 && told.held == 3 && told.offset == 5 && told.fault == 6);
     CHECK(says(site, "= 2.0\n"));
     munmap(bytes, len);
 }

@@ -8,8 +8,7 @@ use Rattle.std.specs.Ordering.{nat_cmp}
 use Rattle.std.proofs.lemmas.Bool.{cases_eq}
 use Rattle.std.proofs.lemmas.Bool.Decides.{nat_tests}
 use Rattle.std.proofs.lemmas.List.{length-append}
-use Rattle.peertext_c.specs.Calls.{SpellNoEnds}
-use Rattle.peertext_c.specs.Ends.{ends_bytes, known_by}
+use Rattle.peertext_c.specs.Ends.{SpellNoEnds, ends_bytes, known_by}
 
 at_apart : (k q : ℕ) → (k ≡ q → ⊥) → is_at (nat_cmp k) q ≡ false
 at_apart k q n = grind (arith, nat_tests)

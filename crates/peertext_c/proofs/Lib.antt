@@ -5,3 +5,4 @@ pub mod Counted
 pub mod Items
 pub mod Paths
 pub mod Saying
+pub mod Untold

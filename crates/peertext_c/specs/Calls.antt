@@ -1,5 +1,5 @@
 -- What each function answers, and what its handle holds then.
-use Rattle.std.specs.Prelude.{◌≡◌, ◌⊎◌, ◌*◌, ◌<◌, ◌≤◌, ◌++◌, ◌&&◌, ℕ, ℤ, pos, List, [], Option, None, Some, true, false, length, take, drop, reverse, slice_get, if◌then◌else◌}
+use Rattle.std.specs.Prelude.{◌≡◌, ◌⊎◌, ◌<◌, ◌≤◌, ◌++◌, ◌&&◌, ℕ, ℤ, pos, List, [], Option, None, Some, true, false, length, take, drop, reverse, slice_get, if◌then◌else◌}
 use Rattle.std.specs.Str.{is_utf8}
 use Rattle.rt_stamps.specs.declared.limits.TheConstants.{GREATEST_SITE, MOST_BYTES, MOST_CELLS}
 use Rattle.rt_stamps.specs.declared.fault.Fault.{Fault}
@@ -8,16 +8,12 @@ use Rattle.rt_stamps.specs.Fault.{number_of}
 use Rattle.rt_stamps.specs.Words.{Word}
 use Rattle.rt_ops.specs.File.{spelling}
 use Rattle.rt_oplog.specs.Logs.{known_end}
-use Rattle.rt_rga.specs.Texts.{tagged_text}
 use Rattle.rt_changes.specs.declared.change.ToldChange.{ToldChange}
-use Rattle.rt_changes.specs.Replays.{AreInText, replayed}
-use Rattle.rt_changes.specs.Telling.{all_changes_in}
 use Rattle.rt_holding.specs.declared.receiving.Received.{Received}
 use Rattle.rt_peers.specs.Cursors.{place_by, stamp_by}
 use Rattle.rt_peers.specs.Lacking.{since}
 use Rattle.rt_peers.specs.SiteStep.{SiteReceives, log_of}
 use Rattle.rt_peers.specs.SiteValue.{SiteValue}
-use Rattle.rt_peers.specs.Telling.{AreToldBetween}
 use Rattle.rt_script.specs.declared.answer.Answer.{Answer}
 use Rattle.rt_script.specs.Lines.{is_readable, is_silent}
 use Rattle.rt_script.specs.Replies.{reply_line}
@@ -25,9 +21,10 @@ use Rattle.rt_script.specs.Run.{LineGives}
 use Rattle.peertext_c.specs.declared.numbers.Told.{Told}
 use Rattle.peertext_c.specs.declared.numbers.StampNumbers.{StampNumbers}
 use Rattle.peertext_c.specs.Changes.{change_lines}
-use Rattle.peertext_c.specs.Codes.{BAD_BYTES, BAD_NUMBER, DONE, IS_HELD, NOT_THERE, NO_MEMORY, NO_SITE, fault_of}
-use Rattle.peertext_c.specs.Ends.{AreBySite, ends_bytes, known_by}
-use Rattle.peertext_c.specs.Held.{CommandGives, Held, new_held, saying}
+use Rattle.peertext_c.specs.Codes.{BAD_BYTES, BAD_NUMBER, DONE, IS_HELD, NOT_KNOWN, NOT_THERE, NO_MEMORY, NO_SITE, fault_of}
+use Rattle.peertext_c.specs.Ends.{AreBySite, SpellEnds, SpellNoEnds, ends_bytes, known_by}
+use Rattle.peertext_c.specs.Held.{CommandGives, Held, known_changes, new_held, saying, untold}
+use Rattle.peertext_c.specs.Telling.{TellsChanges}
 
 -- there is no site, and that is answered
 abbrev pub IsNoSite : Option Held → ℤ → Option Held → Type 0
@@ -53,11 +50,11 @@ IsMade number old result new =
     ⊎ ((result ≡ NO_MEMORY) × IsSiteNumber number × (old ≡ None) × (new ≡ None))
 
 -- A line gives what it gives in a script, and the line of its answer is said, which is ready if there was memory for
--- it; a silent one says nothing.
+-- it; a silent one says nothing. What was changed before it is no longer told.
 abbrev pub RunsLine : List ℕ → Held → ℤ → Held → Type 0
 RunsLine line old result new =
-    ((is_readable line && is_silent line ≡ true) × (result ≡ DONE) × (new ≡ saying [] old))
-    ⊎ ((given : Held) × (answer : Answer) × (is_readable line && is_silent line ≡ false) × LineGives CommandGives old line answer given
+    ((is_readable line && is_silent line ≡ true) × (result ≡ DONE) × (new ≡ saying [] (untold old)))
+    ⊎ ((given : Held) × (answer : Answer) × (is_readable line && is_silent line ≡ false) × LineGives CommandGives (untold old) line answer given
     × (result ≡ pos (fault_of answer)) × (new ≡ record given { said = reply_line answer; ready = new.ready }))
 
 abbrev pub IsCommanded : List ℕ → Option Held → ℤ → Option Held → Type 0
@@ -102,10 +99,6 @@ SaysEnds old result new =
     × (((ends : List (ℕ × ℕ)) × AreEndsOf held.site ends × (result ≡ DONE) × (new ≡ Some (saying (ends_bytes ends) held)))
     ⊎ ((result ≡ NO_MEMORY) × (new ≡ Some held))))
 
--- bytes spell no counts: those of each would be ten
-abbrev pub SpellNoEnds : List ℕ → Type 0
-SpellNoEnds bytes = (n : ℕ) → length bytes ≡ n * 10 → ⊥
-
 -- the file of the operations of a site that are past some counts
 abbrev pub file_since : List (ℕ × ℕ) → Held → List ℕ
 file_since ends held = spelling (reverse (since (known_by ends) (log_of held.site)))
@@ -116,7 +109,7 @@ SaysSince bytes old result new =
     IsNoSite old result new
     ⊎ (SpellNoEnds bytes × IsRefused BAD_BYTES old result new)
     ⊎ ((held : Held) × (old ≡ Some held)
-    × (((ends : List (ℕ × ℕ)) × (bytes ≡ ends_bytes ends) × SaysOf held (file_since ends held) result new) ⊎ ((result ≡ NO_MEMORY) × (new ≡ Some held))))
+    × (((ends : List (ℕ × ℕ)) × SpellEnds bytes ends × SaysOf held (file_since ends held) result new) ⊎ ((result ≡ NO_MEMORY) × (new ≡ Some held))))
 
 -- the fault that ended a file, by its number, and its offset; 0 for none
 abbrev pub fault_numbers : Option (Fault × ℕ) → ℕ × ℕ
@@ -124,24 +117,21 @@ fault_numbers None = (0, 0)
 fault_numbers (Some (fault, offset)) = (number_of fault, offset)
 
 -- what became of a file, as numbers
-abbrev pub numbers_of : Received → List ToldChange → Told
-numbers_of received changes = record {
+abbrev pub numbers_of : Received → Told
+numbers_of received = record {
   fresh = received.new;
   repeats = received.repeats;
   held = received.held;
-  changes = length changes;
   offset = (fault_numbers received.fault).1;
   fault = (fault_numbers received.fault).0;
 }
 
--- A site receives a file, and keeps what it changed: of each operation that was accepted, in an order in which they could
--- be. Made one after the other to the text before, with its tags, these changes give the text after. What was said stays.
+-- A site receives a file, and keeps what it changed, which is known: the changes of each operation that was accepted. What
+-- was said stays.
 pub record ReceivesTelling (bytes : List ℕ) (old : Held) (received : Received) (new : Held) : Type 0 where
   pub receives : SiteReceives bytes old.site received new.site
-  pub counted : length new.changes ≡ received.new
-  pub told : AreToldBetween (log_of old.site) (log_of new.site) new.changes
-  pub replayed : replayed (all_changes_in new.changes) (tagged_text old.site.text.view.doc.cells) ≡ tagged_text new.site.text.view.doc.cells
-  pub within : AreInText (all_changes_in new.changes) (tagged_text old.site.text.view.doc.cells)
+  pub counted : (changes : List ToldChange) × (new.changes ≡ Some changes) × (length changes ≡ received.new)
+  pub tells : TellsChanges old.site new.site new.changes
   pub said : (new.said ≡ old.said) × (new.ready ≡ old.ready)
 
 -- A file of no more bytes than one may have is received, and what became of it is told.
@@ -150,15 +140,27 @@ IsReceived bytes old room result new told =
     (IsNoSite old result new × (told ≡ room))
     ⊎ ((MOST_BYTES < length bytes) × IsRefused BAD_BYTES old result new × (told ≡ room))
     ⊎ ((before after : Held) × (received : Received) × (length bytes ≤ MOST_BYTES) × (old ≡ Some before) × (new ≡ Some after) × (result ≡ DONE)
-    × ReceivesTelling bytes before received after × (told ≡ numbers_of received after.changes))
+    × ReceivesTelling bytes before received after × (told ≡ numbers_of received))
 
 -- The lines of the change of a number are said, where there is one.
 abbrev pub SaysChange : ℕ → Option Held → ℤ → Option Held → Type 0
 SaysChange number old result new =
     IsNoSite old result new
     ⊎ ((held : Held) × (old ≡ Some held)
-    × (((result ≡ NOT_THERE) × (slice_get held.changes number ≡ None) × (new ≡ old))
-    ⊎ ((change : ToldChange) × (slice_get held.changes number ≡ Some change) × SaysOf held (change_lines change) result new)))
+    × (((result ≡ NOT_THERE) × (slice_get (known_changes held) number ≡ None) × (new ≡ old))
+    ⊎ ((change : ToldChange) × (slice_get (known_changes held) number ≡ Some change) × SaysOf held (change_lines change) result new)))
+
+-- Something is found in what a handle holds, and told as it is; or it isn't found, which a code says, and nothing is told. All stays.
+abbrev pub IsFound : {Found Out : Type 0} → ℤ → (Found → Out) → (Held → Option Found) → Option Held → Out → ℤ → Option Held → Out → Type 0
+IsFound {Found} code told find old room result new out = (new ≡ old)
+    × (((result ≡ NO_SITE) × (old ≡ None) × (out ≡ room))
+    ⊎ ((held : Held) × (old ≡ Some held)
+    × (((result ≡ code) × (find held ≡ None) × (out ≡ room))
+    ⊎ ((found : Found) × (result ≡ DONE) × (find held ≡ Some found) × (out ≡ told found)))))
+
+-- What the last line or file changed is counted, operation by operation, if it is known. All stays.
+abbrev pub CountsChanges : Option Held → ℕ → ℤ → Option Held → ℕ → Type 0
+CountsChanges = IsFound NOT_KNOWN (λ changes. length changes) (λ held. held.changes)
 
 -- the stamp at a place by a path, which is that of a widget if it is a text
 abbrev pub stamp_of_path : Word → ℕ → SiteValue → Option Stamp
@@ -166,14 +168,6 @@ stamp_of_path path place site = if is_utf8 path then stamp_by path place site el
 
 abbrev pub place_of_path : Word → Stamp → SiteValue → Option ℕ
 place_of_path path stamp site = if is_utf8 path then place_by path stamp site else None
-
--- Something is found in a site, and told as it is; or it isn't there, and nothing is told. The site stays.
-abbrev pub IsFound : {Found Out : Type 0} → (Found → Out) → (SiteValue → Option Found) → Option Held → Out → ℤ → Option Held → Out → Type 0
-IsFound {Found} told find old room result new out = (new ≡ old)
-    × (((result ≡ NO_SITE) × (old ≡ None) × (out ≡ room))
-    ⊎ ((held : Held) × (old ≡ Some held)
-    × (((result ≡ NOT_THERE) × (find held.site ≡ None) × (out ≡ room))
-    ⊎ ((found : Found) × (result ≡ DONE) × (find held.site ≡ Some found) × (out ≡ told found)))))
 
 abbrev pub stamp_numbers : Stamp → StampNumbers
 stamp_numbers stamp = record { count = stamp.count; site = stamp.site }

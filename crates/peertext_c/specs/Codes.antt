@@ -31,6 +31,10 @@ BAD_BYTES = negsuc 4
 abbrev pub NOT_THERE : ℤ
 NOT_THERE = negsuc 5
 
+-- minus 7: what was changed isn't known
+abbrev pub NOT_KNOWN : ℤ
+NOT_KNOWN = negsuc 6
+
 -- the number of the fault by which a line was refused, 0 where it was replied to
 abbrev pub fault_of : Answer → ℕ
 fault_of (Replied words) = 0

@@ -1,5 +1,5 @@
 -- What a handle holds.
-use Rattle.std.specs.Prelude.{◌≡◌, Bool, true, false, List, [], ℕ}
+use Rattle.std.specs.Prelude.{◌≡◌, Bool, true, false, List, [], Option, Some, ℕ, unwrap_or}
 use Rattle.rt_stamps.specs.Words.{Word}
 use Rattle.rt_changes.specs.declared.change.ToldChange.{ToldChange}
 use Rattle.rt_peers.specs.SiteValue.{SiteValue, new_site}
@@ -8,14 +8,15 @@ use Rattle.rt_script.specs.Replies.{reply_line}
 use Rattle.rt_script.specs.Site.{WordsGive}
 use Rattle.peertext_c.specs.declared.kept.Spoken.{Spoken}
 use Rattle.peertext_c.specs.declared.kept.Spoken.TheVariants.{Bytes, Line}
+use Rattle.peertext_c.specs.Telling.{TellsChanges}
 
--- A site, the bytes that were said last, and what the last file that it received changed, operation by operation. The
--- bytes are ready, or are those of a reply line that is to be made when it is read: there was no memory for it.
+-- A site, the bytes that were said last, and what the last line or file changed, operation by operation, if that is known.
+-- The bytes are ready, or are those of a reply line that is to be made when it is read: there was no memory for it.
 pub record Held : Type 0 where
   pub site : SiteValue
   pub said : List ℕ
   pub ready : Bool
-  pub changes : List ToldChange
+  pub changes : Option (List ToldChange)
 
 -- the bytes that are said
 abbrev pub bytes_of : Spoken → List ℕ
@@ -33,8 +34,18 @@ saying bytes held = record held { said = bytes; ready = true }
 
 -- a new site, which said and changed nothing yet
 abbrev pub new_held : ℕ → ℕ → Held
-new_held number limit = record { site = new_site number limit; said = []; ready = true; changes = [] }
+new_held number limit = record { site = new_site number limit; said = []; ready = true; changes = Some [] }
 
--- What the words of a line give: what they give a site by itself, without files. Nothing else changes.
-abbrev pub CommandGives : Held → List Word → Answer → Held → Type 0
-CommandGives old words answer new = WordsGive [] words old.site answer new.site × (new ≡ record old { site = new.site })
+-- what is known of what was changed
+abbrev pub known_changes : Held → List ToldChange
+known_changes held = unwrap_or held.changes []
+
+-- what has changed nothing yet
+abbrev pub untold : Held → Held
+untold held = record held { changes = Some [] }
+
+-- What the words of a line give: what they give a site by itself, without files, and what that changed. What was said stays.
+pub record CommandGives (old : Held) (words : List Word) (answer : Answer) (new : Held) : Type 0 where
+  pub gives : WordsGive [] words old.site answer new.site
+  pub tells : TellsChanges old.site new.site new.changes
+  pub said : (new.said ≡ old.said) × (new.ready ≡ old.ready)

@@ -4,3 +4,4 @@ pub mod Codes
 pub mod Ends
 pub mod Held
 pub mod Owned
+pub mod Telling

@@ -1,52 +1,51 @@
 // What the words of a line ask of a site that has no files.
-ghost use Rattle.std.specs.Prelude.{◌≡◌, [], codes};
+ghost use Rattle.std.specs.Prelude.{◌≡◌, [], Some, codes};
 ghost use Rattle.std.specs.Str.{bytes_eq};
 ghost use Rattle.rt_stamps.specs.Words.{as_words};
 ghost use Rattle.rt_peers.specs.PeerStep.{destroyed};
 ghost use Rattle.rt_peers.specs.SiteValue.{SiteValue};
-ghost use Rattle.rt_script.specs.Site.{DestroyGives, IsDone, PathGives, ReceiveGives, WordsGive};
+ghost use Rattle.rt_script.specs.declared.answer.Answer.TheVariants.{Refused};
+ghost use Rattle.rt_script.specs.Site.{DestroyGives, IsDone, ReceiveGives, WordsGive, as_answer};
+ghost use Rattle.peertext_c.specs.Telling.{TellsChanges, told_items};
 
+use rt_peers::laws::calls;
 use rt_requests::Destroy;
-use rt_script::{Answer, SiteState};
+use rt_script::{Reply, SiteState, ToldAnswer};
 use rt_stamps::Fault;
+use std::alloc::Global;
 
-// `receive NAME`, where there is no file.
-fn receive(words: &[String]) -> Answer
-    ensures { (site : SiteValue) → ReceiveGives [] (as_words words.now) site result site }
+// Why `receive NAME` is refused, where there is no file.
+fn receive(words: &[String]) -> Fault
+    ensures { (site : SiteValue) → ReceiveGives [] (as_words words.now) site (Refused result) site }
 {
     match words {
-        [_] => Answer::Refused(Fault::NoFile),
-        _ => Answer::Refused(Fault::BadCommand),
+        [_] => Fault::NoFile,
+        _ => Fault::BadCommand,
     }
 }
 
 // Takes the widget of a path away.
-fn let_go(site: &mut SiteState, path: &str) -> Answer
-    ensures { IsDone (destroyed path.now site.old) site.old result site.new }
+fn let_go(site: &mut SiteState, path: &str) -> Result<Reply, Fault>
+    ensures done { IsDone (destroyed path.now site.old) site.old (as_answer result) site.new }
+    ensures untold { TellsChanges site.old site.new (Some []) }
 {
-    match site.destroy(path) {
-        Ok(reply) => Answer::Replied(reply),
-        Err(fault) => Answer::Refused(fault),
-    }
+    // For their clauses alone.
+    calls();
+    let _ = site.log();
+    let reply = site.destroy(path);
+    // For its clauses alone.
+    let _ = site.log();
+    reply
 }
 
 // `destroy PATH`.
-fn destroy(site: &mut SiteState, words: &[String]) -> Answer
-    ensures { DestroyGives (as_words words.now) site.old result site.new }
+fn destroy(site: &mut SiteState, words: &[String]) -> Result<Reply, Fault>
+    ensures gives { DestroyGives (as_words words.now) site.old (as_answer result) site.new }
+    ensures untold { TellsChanges site.old site.new (Some []) }
 {
     match Destroy::of(words) {
         Ok(request) => let_go(site, request.path.text()),
-        Err(fault) => Answer::Refused(fault),
-    }
-}
-
-// `PATH COMMAND WORDS`.
-fn command(site: &mut SiteState, path: &str, words: &[String]) -> Answer
-    ensures { PathGives path.now (as_words words.now) site.old result site.new }
-{
-    match site.command(path, words) {
-        Ok(reply) => Answer::Replied(reply),
-        Err(fault) => Answer::Refused(fault),
+        Err(fault) => Err(fault),
     }
 }
 
@@ -64,18 +63,30 @@ fn is_destroy(word: &str) -> bool
     word == "destroy"
 }
 
-/// What the words of a line are answered, and what they change.
-pub(crate) fn words_give(site: &mut SiteState, words: &[String]) -> Answer
-    ensures { WordsGive [] (as_words words.now) site.old result site.new }
+// What is replied to words that change nothing in the visible text.
+fn untold(alloc: Global, reply: Result<Reply, Fault>) -> ToldAnswer
+    ensures reply { result.reply ≡ reply }
+    ensures changes { told_items result.changes ≡ Some [] }
+{
+    ToldAnswer {
+        reply,
+        changes: Some(Vec::new(alloc)),
+    }
+}
+
+/// What is replied to the words of a line, and what they change.
+pub(crate) fn words_give(alloc: Global, site: &mut SiteState, words: &[String]) -> ToldAnswer
+    ensures gives { WordsGive [] (as_words words.now) site.old (as_answer result.reply) site.new }
+    ensures tells { TellsChanges site.old site.new (told_items result.changes) }
 {
     let Some((first, rest)) = words.split_first() else {
-        return Answer::Refused(Fault::BadCommand);
+        return untold(alloc, Err(Fault::BadCommand));
     };
     if is_receive(first) {
-        return receive(rest);
+        return untold(alloc, Err(receive(rest)));
     }
     if is_destroy(first) {
-        return destroy(site, rest);
+        return untold(alloc, destroy(site, rest));
     }
-    command(site, first, rest)
+    site.command_telling(first, rest)
 }

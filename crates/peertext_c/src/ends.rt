@@ -1,11 +1,10 @@
 // The last counts that are known of sites, as bytes: 10 of each, the number of its site (2) and the count (8), the
 // highest byte first.
-ghost use Rattle.std.specs.Prelude.{◌≡◌, ◌⊎◌, ℕ, IfErr, IfOk, IsOkUnless, List, length, unwrap_or};
+ghost use Rattle.std.specs.Prelude.{◌≡◌, ◌⊎◌, ◌<◌, ◌^◌, ℕ, IfErr, IfOk, IsOkUnless, List, length, unwrap_or};
 ghost use Rattle.std.specs.BTreeMap.{get};
 ghost use Rattle.std.specs.Ordering.{nat_cmp};
 ghost use Rattle.rt_stamps.specs.declared.fault.Fault.TheVariants.{NoMemory, Truncated};
-ghost use Rattle.peertext_c.specs.Calls.{SpellNoEnds};
-ghost use Rattle.peertext_c.specs.Ends.{AreBySite, end_bytes, ends_bytes, known_by};
+ghost use Rattle.peertext_c.specs.Ends.{AreBySite, SpellEnds, SpellNoEnds, end_bytes, ends_bytes, known_by};
 
 use rt_stamps::Fault;
 use std::alloc::Global;
@@ -31,7 +30,8 @@ pub(crate) fn bytes_of_ends(alloc: Global, ends: &BTreeMap<u16, u64>) -> Result<
 // The number and the count that ten bytes spell.
 fn end_of(bytes: &[u8]) -> (u16, u64)
     requires { length bytes.now ≡ 10 }
-    ensures { bytes.now ≡ end_bytes result }
+    ensures spelled { bytes.now ≡ end_bytes result }
+    ensures fit { (result.0 < 2 ^ 16) × (result.1 < 2 ^ 64) }
 {
     let site = u16::from_be_bytes([bytes[0], bytes[1]]);
     let count = u64::from_be_bytes([
@@ -43,7 +43,7 @@ fn end_of(bytes: &[u8]) -> (u16, u64)
 /// The counts that bytes spell: of one site the first counts. `Truncated` where they aren't 10 bytes each, or want of
 /// memory.
 pub(crate) fn ends_of_bytes(alloc: Global, bytes: &[u8]) -> Result<BTreeMap<u16, u64>, Fault>
-    ensures ok { IfOk result (λ map. (ends : List (ℕ × ℕ)) × (bytes.now ≡ ends_bytes ends)
+    ensures ok { IfOk result (λ map. (ends : List (ℕ × ℕ)) × SpellEnds bytes.now ends
         × ((site : ℕ) → unwrap_or (get nat_cmp map site) 0 ≡ known_by ends site)) }
     ensures err { IfErr result (λ fault. (fault ≡ NoMemory) ⊎ ((fault ≡ Truncated) × SpellNoEnds bytes.now)) }
 {

@@ -1,15 +1,16 @@
 // What a handle holds.
 ghost use Rattle.std.specs.Prelude.{◌≡◌, ◌⊎◌, ◌≤◌, ℕ, [], IfErr, IfOk, IsOkUnless, List, MatchOption, MatchResult, None, Some};
-ghost use Rattle.std.specs.Prelude.{false, length, pos, slice_get, true};
+ghost use Rattle.std.specs.Prelude.{false, length, option_map, pos, slice_get, true};
 ghost use Rattle.rt_stamps.specs.declared.limits.TheConstants.{MOST_BYTES};
 ghost use Rattle.rt_stamps.specs.declared.fault.Fault.TheVariants.{NoMemory, Truncated};
 ghost use Rattle.rt_changes.specs.declared.change.ToldChange.{ToldChange};
 ghost use Rattle.rt_holding.specs.declared.receiving.Received.{Received};
 ghost use Rattle.rt_script.specs.Replies.{reply_line};
-ghost use Rattle.peertext_c.specs.Calls.{AreEndsOf, ReceivesTelling, RunsLine, SpellNoEnds, file_since, in_front, numbers_of};
+ghost use Rattle.peertext_c.specs.Calls.{AreEndsOf, ReceivesTelling, RunsLine, file_since, in_front, numbers_of};
 ghost use Rattle.peertext_c.specs.Changes.{change_lines};
 ghost use Rattle.peertext_c.specs.Codes.{fault_of};
-ghost use Rattle.peertext_c.specs.Ends.{ends_bytes};
+ghost use Rattle.peertext_c.specs.Ends.{SpellEnds, SpellNoEnds, ends_bytes};
+ghost use Rattle.peertext_c.specs.Held.{known_changes, untold};
 
 use crate::DONE;
 use crate::asking::words_give;
@@ -17,7 +18,8 @@ use crate::changes::lines_of_change;
 use crate::ends::{bytes_of_ends, ends_of_bytes};
 use crate::numbers::Told;
 use rt_script::{
-    Answer, Commands, ReceivedChanges, SiteState, Spare, ToldChange, answer_bytes, answer_line,
+    Answer, Commands, ReceivedChanges, SiteState, Spare, ToldAnswer, ToldChange, answer_bytes,
+    answer_line,
 };
 use rt_stamps::Fault;
 use std::alloc::Global;
@@ -105,39 +107,50 @@ fn copy_out(bytes: &Vec<u8>, out: &mut [u8]) -> isize
     isize::try_from(bytes.len()).unwrap_or(0)
 }
 
-/// A site, what was said last, and what the last file that it received changed, operation by operation.
+/// A site, what was said last, and what the last line or file changed, operation by operation, if that is known.
 #[derive(Drop)]
 pub(crate) struct Kept {
+    alloc: Global,
     pub site: SiteState,
     pub said: Said,
-    pub changes: Vec<ToldChange>,
+    pub changes: Option<Vec<ToldChange>>,
 }
 
 impl Model for Kept {
     ghost use Rattle.peertext_c.specs.Held.{Held};
+    ghost use Rattle.peertext_c.specs.Telling.{told_items};
 
     ghost Value = { Held };
 
-    ghost view = { λ k. record { site = k.site; said = k.said.0; ready = k.said.1; changes = k.changes.items } };
+    ghost view = { λ k. record { site = k.site; said = k.said.0; ready = k.said.1; changes = told_items k.changes } };
 }
 
 impl Kept {
     /// Of a site that said and changed nothing yet.
     pub(crate) fn new(alloc: Global, site: SiteState) -> Kept
-        ensures { result ≡ record { site = site; said = []; ready = true; changes = [] } }
+        ensures { result ≡ record { site = site; said = []; ready = true; changes = Some [] } }
     {
         Kept {
+            alloc,
             site,
             said: Said::of(Vec::new(alloc)),
-            changes: Vec::new(alloc),
+            changes: Some(Vec::new(alloc)),
         }
     }
 
-    /// Runs a line, and says the line of its answer, or nothing for a silent line. 0, or the number of the fault by
-    /// which it was refused.
+    // Tells no more what was changed.
+    fn forget(&mut self)
+        ensures { self.new ≡ untold self.old }
+    {
+        self.changes = Some(Vec::new(self.alloc));
+    }
+
+    /// Runs a line, says the line of its answer, or nothing for a silent line, and keeps what it changed. 0, or the
+    /// number of the fault by which it was refused.
     pub(crate) fn run(&mut self, alloc: Global, line: &[u8]) -> i32
         ensures { RunsLine line.now self.old result self.new }
     {
+        self.forget();
         let mut spare = Spare::new(alloc);
         let Some(answer) = answer_line(alloc, &mut spare, self, line) else {
             self.said = Said::of(Vec::new(alloc));
@@ -152,21 +165,41 @@ impl Kept {
     pub(crate) fn receive(&mut self, bytes: &[u8]) -> Told
         requires { length bytes.now ≤ MOST_BYTES }
         ensures { (received : Received) × ReceivesTelling bytes.now self.old received self.new
-            × (result ≡ numbers_of received self.new.changes) }
+            × (result ≡ numbers_of received) }
     {
         let ReceivedChanges { received, changes } = self.site.receive_telling(bytes);
-        let told = Told::of(received, &changes);
-        self.changes = changes;
+        let told = Told::of(received);
+        self.changes = Some(changes);
         told
+    }
+
+    // What was changed, as far as it is known.
+    fn known(&self) -> &[ToldChange]
+        ensures { result.now ≡ known_changes self.now }
+    {
+        match &self.changes {
+            Some(changes) => changes.as_slice(),
+            None => &[],
+        }
+    }
+
+    /// How many operations changes are told of; none where it isn't known.
+    pub(crate) fn count(&self) -> Option<usize>
+        ensures { result ≡ option_map (λ changes. length changes) self.now.changes }
+    {
+        match &self.changes {
+            Some(changes) => Some(changes.len()),
+            None => None,
+        }
     }
 
     /// The lines of the change of a number, or want of memory. None where there is no such change.
     pub(crate) fn lines_at(&self, alloc: Global, number: usize) -> Option<Result<Vec<u8>, Fault>>
-        ensures { MatchOption result (slice_get self.now.changes number ≡ None)
-            (λ made. (change : ToldChange) × (slice_get self.now.changes number ≡ Some change)
+        ensures { MatchOption result (slice_get (known_changes self.now) number ≡ None)
+            (λ made. (change : ToldChange) × (slice_get (known_changes self.now) number ≡ Some change)
             × IfOk made (λ lines. lines.items ≡ change_lines change) × IsOkUnless made NoMemory) }
     {
-        let change = self.changes.get(number)?;
+        let change = self.known().get(number)?;
         Some(lines_of_change(alloc, change))
     }
 
@@ -182,7 +215,7 @@ impl Kept {
     /// The file of the operations that are past the counts that bytes spell. `Truncated` where they spell none, or want
     /// of memory.
     pub(crate) fn file_since(&self, alloc: Global, bytes: &[u8]) -> Result<Vec<u8>, Fault>
-        ensures ok { IfOk result (λ file. (ends : List (ℕ × ℕ)) × (bytes.now ≡ ends_bytes ends) × (file.items ≡ file_since ends self.now)) }
+        ensures ok { IfOk result (λ file. (ends : List (ℕ × ℕ)) × SpellEnds bytes.now ends × (file.items ≡ file_since ends self.now)) }
         ensures err { IfErr result (λ fault. (fault ≡ NoMemory) ⊎ ((fault ≡ Truncated) × SpellNoEnds bytes.now)) }
     {
         let ends = ends_of_bytes(alloc, bytes)?;
@@ -200,6 +233,11 @@ impl Commands for Kept {
     ghost gives = { CommandGives };
 
     fn run_words(&mut self, words: &[String]) -> Answer {
-        words_give(&mut self.site, words)
+        let ToldAnswer { reply, changes } = words_give(self.alloc, &mut self.site, words);
+        self.changes = changes;
+        match reply {
+            Ok(reply) => Answer::Replied(reply),
+            Err(fault) => Answer::Refused(fault),
+        }
     }
 }

@@ -6,9 +6,10 @@
 #![tactic(auto)]
 
 ghost use Rattle.std.specs.Prelude.{◌≡◌, MatchOption, None};
-ghost use Rattle.peertext_c.specs.Calls.{IsCommanded, IsFound, IsMade, IsNoSiteNumber, IsReceived, IsSaid, IsSiteNumber, Says};
+ghost use Rattle.peertext_c.specs.Calls.{CountsChanges, IsCommanded, IsFound, IsMade, IsNoSiteNumber, IsReceived, IsSaid, IsSiteNumber, Says};
 ghost use Rattle.peertext_c.specs.Calls.{SaysChange, SaysEnds, SaysSince, file_of, place_of_path, stamp_numbers};
 ghost use Rattle.peertext_c.specs.Calls.{stamp_of_numbers, stamp_of_path};
+ghost use Rattle.peertext_c.specs.Codes.{NOT_THERE};
 
 mod asking;
 mod changes;
@@ -42,6 +43,8 @@ const BAD_NUMBER: i32 = -4;
 const BAD_BYTES: i32 = -5;
 
 const NOT_THERE: i32 = -6;
+
+const NOT_KNOWN: i32 = -7;
 
 // The site of a number from 1 to 65,535.
 fn site_of(number: u32) -> Option<Site>
@@ -85,9 +88,9 @@ pub extern "C" fn pt_site_free(alloc: Global, handle: &mut Handle)
 }
 
 /// Runs a line of a script, where no file can be named and nothing ends the line but its length. Its reply line, with a
-/// newline, is what is said then, and of an empty line, one of spaces and tabs and a comment nothing. 0 where it was
-/// replied to or is such a line; the number of the fault by which it was refused; or -1 where there is no site. It
-/// tells no changes: those of the last file stay.
+/// newline, is what is said then, and of an empty line, one of spaces and tabs and a comment nothing. What it changed in
+/// the visible text is kept until the next line or file, and `pt_change` says it. 0 where it was replied to or is such a
+/// line; the number of the fault by which it was refused; or -1 where there is no site.
 #[unsafe(no_mangle)]
 pub extern "C" fn pt_command(alloc: Global, handle: &mut Handle, line: &[u8]) -> i32
     ensures { IsCommanded line.now handle.old.slot.value result handle.new.slot.value }
@@ -119,9 +122,8 @@ pub extern "C" fn pt_said(alloc: Global, handle: &mut Handle, out: &mut [u8]) ->
 }
 
 /// Receives the bytes of a file of operations, at most 2^30, and tells what became of it. What it changed in the
-/// visible text is kept until the next file, and `pt_change` says it; what the site itself edits, undoes and redoes
-/// tells nothing. 0, also where the file ended early with a fault; or -1 where there is no site, or -5 for too many
-/// bytes.
+/// visible text is kept until the next line or file, and `pt_change` says it. 0, also where the file ended early with a
+/// fault; or -1 where there is no site, or -5 for too many bytes.
 #[unsafe(no_mangle)]
 pub extern "C" fn pt_receive(
     alloc: Global,
@@ -143,10 +145,29 @@ pub extern "C" fn pt_receive(
     DONE
 }
 
-/// Says what one operation changed in the visible text, of those that were accepted when the last file was received, in
-/// the order in which they were; their numbers begin at 0. A line for each change, which is of the text that all lines
-/// before it left, those of lesser numbers among them. 0; or -1 where there is no site, -6 where there is no such
-/// operation, or -2 for want of memory.
+/// Tells how many operations the last line made or the last file brought, with the held ones that were accepted then:
+/// `pt_change` says of each what it changed. 0; or -1 where there is no site, or -7 where it isn't known what a line
+/// changed, though it was run: for want of memory, or as it made several operations at once of which one changes tags.
+#[unsafe(no_mangle)]
+pub extern "C" fn pt_changes(alloc: Global, handle: &mut Handle, count: &mut usize) -> i32
+    ensures { CountsChanges handle.old.slot.value count.old result handle.new.slot.value count.new }
+{
+    let Some(kept) = handle.take(alloc) else {
+        return NO_SITE;
+    };
+    let found = kept.count();
+    handle.put(kept);
+    let Some(found) = found else {
+        return NOT_KNOWN;
+    };
+    *count = found;
+    DONE
+}
+
+/// Says what one operation changed in the visible text, of those that `pt_changes` counts, in the order in which they
+/// were made or accepted; their numbers begin at 0. A line for each change, which is of the text that all lines before
+/// it left, those of lesser numbers among them. 0; or -1 where there is no site, -6 where there is no such operation, or
+/// -2 for want of memory.
 #[unsafe(no_mangle)]
 pub extern "C" fn pt_change(alloc: Global, handle: &mut Handle, number: usize) -> i32
     ensures { SaysChange number handle.old.slot.value result handle.new.slot.value }
@@ -215,7 +236,8 @@ pub extern "C" fn pt_stamp_at(
     place: usize,
     stamp: &mut StampNumbers,
 ) -> i32
-    ensures { IsFound stamp_numbers (stamp_of_path path.now place) handle.old.slot.value stamp.old result handle.new.slot.value stamp.new }
+    ensures { IsFound NOT_THERE stamp_numbers (λ held. stamp_of_path path.now place held.site) handle.old.slot.value stamp.old result
+        handle.new.slot.value stamp.new }
 {
     let Some(kept) = handle.take(alloc) else {
         return NO_SITE;
@@ -239,8 +261,8 @@ pub extern "C" fn pt_place_of(
     stamp: &StampNumbers,
     place: &mut usize,
 ) -> i32
-    ensures { IsFound (λ found. found) (place_of_path path.now (stamp_of_numbers stamp.now)) handle.old.slot.value place.old result
-        handle.new.slot.value place.new }
+    ensures { IsFound NOT_THERE (λ found. found) (λ held. place_of_path path.now (stamp_of_numbers stamp.now) held.site) handle.old.slot.value
+        place.old result handle.new.slot.value place.new }
 {
     let Some(kept) = handle.take(alloc) else {
         return NO_SITE;

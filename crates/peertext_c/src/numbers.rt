@@ -2,22 +2,20 @@
 ghost use Rattle.std.specs.Prelude.{◌≡◌};
 ghost use Rattle.peertext_c.specs.Calls.{fault_numbers, numbers_of, stamp_numbers, stamp_of_numbers};
 
-use rt_script::{Received, ToldChange};
+use rt_script::Received;
 use rt_stamps::{Fault, Stamp};
 
 /// What became of a file that was received.
 #[repr(C)]
 #[derive(Clone, Copy)]
 pub struct Told {
-    /// How many operations were accepted, of the file and of those that had been held.
+    /// How many operations were accepted, of the file and of those that had been held: as many as `pt_changes` counts then.
     pub fresh: u64,
     /// How many of the file's operations the site had or held already.
     pub repeats: u64,
     /// How many operations the site holds in the end: they came before what they were made upon, or memory was wanting
     /// when they were tried.
     pub held: u64,
-    /// How many operations have changes that `pt_change` says: as many as were accepted.
-    pub changes: u64,
     /// The offset of the fault's record in the file, in bytes; 0 without a fault.
     pub offset: u64,
     /// The number of the fault that ended the file early, or 0. None tells that memory was wanting for a held
@@ -44,16 +42,15 @@ fn fault_numbers(found: Option<(Fault, u64)>) -> (u8, u64)
 }
 
 impl Told {
-    /// Of a file, and of the changes that it made.
-    pub(crate) fn of(received: Received, changes: &Vec<ToldChange>) -> Told
-        ensures { result ≡ numbers_of received changes.now.items }
+    /// Of a file.
+    pub(crate) fn of(received: Received) -> Told
+        ensures { result ≡ numbers_of received }
     {
         let (fault, offset) = fault_numbers(received.fault);
         Told {
             fresh: received.new,
             repeats: received.repeats,
             held: received.held,
-            changes: changes.len() as u64,
             offset,
             fault,
         }

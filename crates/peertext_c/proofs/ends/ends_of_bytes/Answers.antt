@@ -10,7 +10,8 @@ loop-left-preserved c =
     let front = c.split_at.result.0.now in
     record {
       ends = end ∷ invariant.ends;
-      whole = invariant.whole ∙ ap (λ (left : List ℕ). left ++ ends_bytes invariant.ends) (c.split_at.ensures.by_index.0 ∙ ap (λ (back : List ℕ). front ++ back) c.end_of-site.ensures) ∙ append_assoc front (end_bytes end) (ends_bytes invariant.ends);
+      fit = (c.end_of-site.ensures.fit, invariant.fit);
+      whole = invariant.whole ∙ ap (λ (left : List ℕ). left ++ ends_bytes invariant.ends) (c.split_at.ensures.by_index.0 ∙ ap (λ (back : List ℕ). front ++ back) c.end_of-site.ensures.spelled) ∙ append_assoc front (end_bytes end) (ends_bytes invariant.ends);
       known = known_first c.loop-left.ends c.insert.new.self end invariant.ends c.in_ok-insert.ensures.updates invariant.known;
     }
 
