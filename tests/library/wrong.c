@@ -162,7 +162,9 @@ static void kept(void) {
 static bool refused(pt_site *site, const char *bytes, size_t len, uint8_t fault, uint64_t offset) {
     pt_received told = {9, 9, 9, 9, 9};
     bool same = answers(site, ".t get 1.0 end", 0, "= \"ab\\n\"\n");
+    size_t count = 9;
     int32_t code = pt_receive(site, (const uint8_t *)bytes, len, &told);
+    same = same && pt_changes(site, &count) == PT_DONE && count == 0;
     if (told.fault != fault || told.offset != offset) {
         printf("fault %d at %d\n", told.fault, (int)told.offset);
     }
