@@ -1,6 +1,8 @@
 -- The command line of peertext, as clap reads it: `peertext run --site N [--log F] [--out F] [FILE..]`, `peertext join A B OUT`
 -- and `peertext show FILE`.
-use Rattle.std.specs.Prelude.{◌≡◌, ◌⊎◌, ℕ, List, ◌∷◌, ◌++◌, Bool, true, false, not, Option, Some, None, option_map, unwrap_or, codes, string_bytes, [], if◌then◌else◌, ⊤}
+use Rattle.std.specs.Prelude.{◌≡◌, ◌⊎◌, ℕ, List, [], ◌∷◌, ◌++◌, Bool, true, false, not, ⊤, if◌then◌else◌}
+use Rattle.std.specs.Prelude.{IfOk, None, Option, Result, Some, codes, option_map, string_bytes, unwrap_or}
+use Rattle.std.specs.declared.alloc.AllocError.{AllocError}
 use Rattle.std.specs.declared.io.ErrorKind.{ErrorKind as ReadKind}
 use Rattle.std.specs.declared.io.ErrorKind.TheVariants as read
 use Rattle.std.specs.Str.Parse.{digits_value, without_leading_plus}
@@ -157,6 +159,10 @@ IsOption rule arg = (rule_of arg ≡ rule) × (arg.global ≡ false)
 -- a command is read as this one, and has nothing global
 abbrev pub IsCommand : App → Command → Type 0
 IsCommand app command = (app_of command ≡ app) × ((fields_of command).has_globals ≡ false)
+
+-- a command that was made, where there was memory for it, is read as this one
+abbrev pub IsMade : App → Result Command AllocError → Type 0
+IsMade app made = IfOk made (IsCommand app)
 
 abbrev pub is_out_of_memory : ErrorKind → Bool
 is_out_of_memory OutOfMemory = true

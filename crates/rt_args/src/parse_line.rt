@@ -2,7 +2,9 @@
 ghost use Rattle.std.specs.Prelude.{◌≡◌, ◌<◌, IfErr, IfOk, Some, codes, map, option_map, string_bytes};
 ghost use Rattle.rt_stamps.specs.Words.{as_words};
 ghost use Rattle.clap.specs.Words.{App, Rule, found_of, new_app, rows_of, subcommand_rows_of, with_rule, with_subcommand};
-ghost use Rattle.rt_args.specs.CommandLine.{HasFile, HasSite, HasValues, IsCommand, IsOption, IsWhole, LineIn, LineOf, RefusesLine, Takes, file_given, file_word, files_given, files_word, join_command, path_option, peertext, program, run_command, show_command, site_given, site_option, subcommand_name};
+ghost use Rattle.rt_args.specs.CommandLine.{HasFile, HasSite, HasValues, IsCommand, IsMade, IsOption, IsWhole, LineIn, LineOf, RefusesLine, Takes};
+ghost use Rattle.rt_args.specs.CommandLine.{file_given, file_word, files_given, files_word, join_command, path_option, peertext, program};
+ghost use Rattle.rt_args.specs.CommandLine.{run_command, show_command, site_given, site_option, subcommand_name};
 
 use crate::{Line, LineFault};
 use clap::builder::ValueParser;
@@ -28,7 +30,7 @@ fn with_option<'a>(
     command: Result<Command<'a>, AllocError>,
     arg: Arg<'a>,
 ) -> Result<Command<'a>, AllocError>
-    ensures { (app : App) (rule : Rule) → IfOk command.entry (IsCommand app) → IsOption rule arg.entry → IfOk result (IsCommand (with_rule app rule)) }
+    ensures { (app : App) (rule : Rule) → IsMade app command.entry → IsOption rule arg.entry → IsMade (with_rule app rule) result }
 {
     match command {
         Ok(command) => command.arg(arg),
@@ -44,7 +46,7 @@ fn with_command<'a>(
     command: Result<Command<'a>, AllocError>,
     below: Result<Command<'a>, AllocError>,
 ) -> Result<Command<'a>, AllocError>
-    ensures { (app sub : App) → IfOk command.entry (IsCommand app) → IfOk below.entry (IsCommand sub) → IfOk result (IsCommand (with_subcommand app sub.top)) }
+    ensures { (app sub : App) → IsMade app command.entry → IsMade sub below.entry → IsMade (with_subcommand app sub.top) result }
 {
     match command {
         Ok(command) => match below {
@@ -84,7 +86,7 @@ fn subcommand<'a>(alloc: Global, name: &'a str, about: &'a str) -> Command<'a>
 }
 
 fn run_command<'a>(alloc: Global) -> Result<Command<'a>, AllocError>
-    ensures { IfOk result (IsCommand run_command) }
+    ensures { IsMade run_command result }
 {
     let run = Ok(subcommand(alloc, "run", "Runs a script"));
     let run = with_option(run, site_option(alloc));
@@ -105,7 +107,7 @@ fn file_word<'a>(alloc: Global, name: &'a str, help: &'a str) -> Arg<'a>
 }
 
 fn join_command<'a>(alloc: Global) -> Result<Command<'a>, AllocError>
-    ensures { IfOk result (IsCommand join_command) }
+    ensures { IsMade join_command result }
 {
     let join = Ok(subcommand(alloc, "join", "Joins two files of operations"));
     let join = with_option(join, file_word(alloc, "A", "A file of operations"));
@@ -114,7 +116,7 @@ fn join_command<'a>(alloc: Global) -> Result<Command<'a>, AllocError>
 }
 
 fn show_command<'a>(alloc: Global) -> Result<Command<'a>, AllocError>
-    ensures { IfOk result (IsCommand show_command) }
+    ensures { IsMade show_command result }
 {
     let about = "Shows the operations of a file, one a line";
     let show = Ok(subcommand(alloc, "show", about));
@@ -132,7 +134,7 @@ fn program<'a>(alloc: Global) -> Command<'a>
 }
 
 fn command<'a>(alloc: Global) -> Result<Command<'a>, AllocError>
-    ensures { IfOk result (IsCommand peertext) }
+    ensures { IsMade peertext result }
 {
     let program = with_command(Ok(program(alloc)), run_command(alloc));
     let program = with_command(program, join_command(alloc));
