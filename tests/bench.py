@@ -12,6 +12,9 @@ tests/bench.py nodes: times calls of node memory, in a program of its own, tests
 tests/bench.py replica: times a replica over the plain list that accepts typed text, in a program of its own, tests/bench/replica.
 tests/bench.py tree: counts, by callgrind too, the instructions that an operation takes on the tree of a text and on the plain list, in
 a program of its own, tests/bench/tree.
+tests/bench.py values [PROGRAM]: counts, by callgrind too, the instructions that the position of an index takes as a value, by calls of a
+site that is borrowed, in a program of its own, tests/bench/values, and as a line of a script. It is wrong where the value takes more than
+half of the line's.
 tests/bench.py growth [PROGRAM [PERCENT]]: times what an editor and its peers do, at n and at 2n (tests/bench/growth.py), in seconds of
 the processor, the least of seven runs, of three where one takes a second; with PERCENT, so many hundredths of each n. It is wrong where
 2n takes more than 2.3 times n.
@@ -44,7 +47,7 @@ ROOT = os.path.dirname(os.path.dirname(os.path.abspath(__file__)))
 sys.path.insert(0, os.path.join(ROOT, "tests", "bench"))
 import growth as cases
 import tagged
-MODES = ("early", "received", "lists", "spans", "nodes", "replica", "tree", "instructions", "growth", "steps", "tags")
+MODES = ("early", "received", "lists", "spans", "nodes", "replica", "tree", "values", "instructions", "growth", "steps", "tags")
 MODE = sys.argv[1] if sys.argv[1:2] and sys.argv[1] in MODES else ""
 WORDS = sys.argv[2:] if MODE else sys.argv[1:]
 PROGRAM = WORDS[0] if WORDS else os.path.join(ROOT, "crates", "peertext", "out", "peertext")
@@ -240,6 +243,33 @@ def instructions():
     return 1 if wrong else 0
 
 
+def below(crate):
+    """The crates on which one stands, itself among them, as crates.txt has them."""
+    with open(os.path.join(ROOT, "crates.txt"), encoding="utf-8") as file:
+        stands = {line.split(":")[0]: line.split(":")[1].split() for line in file if ":" in line}
+    found, todo = set(), [crate]
+    while todo:
+        name = todo.pop()
+        if name in stands and name not in found:
+            found.add(name)
+            todo += stands[name]
+    return sorted(found)
+
+
+def values():
+    """Proves and builds tests/bench/values, a program over rt_peers, and counts the instructions of a value and of a line."""
+    with tempfile.TemporaryDirectory() as folder:
+        ours = laid(folder, "values", "bench_values", *below("rt_peers"))
+        subprocess.run(["rt", "run"], cwd=ours, stdout=subprocess.DEVNULL, check=True)
+        program = os.path.join(ours, "out", "bench_values")
+        few, many = (counted(program, str(times))[0] for times in (4_000, 8_000))
+        value = (many - few) / 4_000
+    line = (collected(b".t index 1.0", 8_000) - collected(b".t index 1.0", 4_000)) / 4_000
+    print(f"an index as a value {value:10,.0f} instructions, as a line {line:10,.0f}", flush=True)
+    expect("a value takes at most half of a line", value <= line / 2)
+    return 1 if wrong else 0
+
+
 def spent(lines, *words, site=1, faults=0):
     """Runs a script in the current folder, which so many lines of are refused: seconds of the processor, and the greatest memory before
     the input ends, in bytes."""
@@ -389,5 +419,6 @@ def tags():
 
 
 if __name__ == "__main__":
-    parts = {"early": early, "received": received, "instructions": instructions, "lists": lists, "spans": spans, "nodes": nodes, "replica": replica, "tree": tree}
+    parts = {"early": early, "received": received, "instructions": instructions, "lists": lists, "spans": spans, "nodes": nodes, "replica": replica, "tree": tree,
+             "values": values}
     sys.exit({**parts, "growth": grown, "steps": steps, "tags": tags, "": main}[MODE]())

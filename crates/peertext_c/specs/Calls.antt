@@ -7,6 +7,7 @@ use Rattle.rt_stamps.specs.declared.stamp.Stamp.{Stamp}
 use Rattle.rt_stamps.specs.Fault.{number_of}
 use Rattle.rt_stamps.specs.Words.{Word}
 use Rattle.rt_ops.specs.File.{spelling}
+use Rattle.rt_files.specs.Ends.{AreBySite, SpellEnds, SpellNoEnds, ends_bytes, known_by}
 use Rattle.rt_oplog.specs.Logs.{known_end}
 use Rattle.rt_changes.specs.declared.change.ToldChange.{ToldChange}
 use Rattle.rt_holding.specs.declared.receiving.Received.{Received}
@@ -15,16 +16,15 @@ use Rattle.rt_peers.specs.Lacking.{since}
 use Rattle.rt_peers.specs.SiteStep.{SiteReceives, log_of}
 use Rattle.rt_peers.specs.SiteValue.{SiteValue}
 use Rattle.rt_script.specs.declared.answer.Answer.{Answer}
+use Rattle.rt_script.specs.Changes.{change_lines}
 use Rattle.rt_script.specs.Lines.{is_readable, is_silent}
-use Rattle.rt_script.specs.Replies.{reply_line}
+use Rattle.rt_script.specs.Replies.{fault_number, reply_line}
 use Rattle.rt_script.specs.Run.{LineGives}
+use Rattle.rt_script.specs.Telling.{TellsChanges}
 use Rattle.peertext_c.specs.declared.numbers.Told.{Told}
 use Rattle.peertext_c.specs.declared.numbers.StampNumbers.{StampNumbers}
-use Rattle.peertext_c.specs.Changes.{change_lines}
-use Rattle.peertext_c.specs.Codes.{BAD_BYTES, BAD_NUMBER, DONE, IS_HELD, NOT_KNOWN, NOT_THERE, NO_MEMORY, NO_SITE, fault_of}
-use Rattle.peertext_c.specs.Ends.{AreBySite, SpellEnds, SpellNoEnds, ends_bytes, known_by}
+use Rattle.peertext_c.specs.Codes.{BAD_BYTES, BAD_NUMBER, DONE, IS_HELD, NOT_KNOWN, NOT_THERE, NO_MEMORY, NO_SITE}
 use Rattle.peertext_c.specs.Held.{CommandGives, Held, known_changes, new_held, saying, untold}
-use Rattle.peertext_c.specs.Telling.{TellsChanges}
 
 -- there is no site, and that is answered
 abbrev pub IsNoSite : Option Held → ℤ → Option Held → Type 0
@@ -55,7 +55,7 @@ abbrev pub RunsLine : List ℕ → Held → ℤ → Held → Type 0
 RunsLine line old result new =
     ((is_readable line && is_silent line ≡ true) × (result ≡ DONE) × (new ≡ saying [] (untold old)))
     ⊎ ((given : Held) × (answer : Answer) × (is_readable line && is_silent line ≡ false) × LineGives CommandGives (untold old) line answer given
-    × (result ≡ pos (fault_of answer)) × (new ≡ record given { said = reply_line answer; ready = new.ready }))
+    × (result ≡ pos (fault_number answer)) × (new ≡ record given { said = reply_line answer; ready = new.ready }))
 
 abbrev pub IsCommanded : List ℕ → Option Held → ℤ → Option Held → Type 0
 IsCommanded line old result new =

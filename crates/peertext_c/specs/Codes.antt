@@ -1,8 +1,5 @@
 -- What the functions answer: 0 or more where they are done, and less where they are refused.
-use Rattle.std.specs.Prelude.{ℕ, ℤ, pos, negsuc}
-use Rattle.rt_stamps.specs.Fault.{number_of}
-use Rattle.rt_script.specs.declared.answer.Answer.{Answer}
-use Rattle.rt_script.specs.declared.answer.Answer.TheVariants.{Replied, Refused, Received}
+use Rattle.std.specs.Prelude.{ℤ, pos, negsuc}
 
 abbrev pub DONE : ℤ
 DONE = pos 0
@@ -34,9 +31,3 @@ NOT_THERE = negsuc 5
 -- minus 7: what was changed isn't known
 abbrev pub NOT_KNOWN : ℤ
 NOT_KNOWN = negsuc 6
-
--- the number of the fault by which a line was refused, 0 where it was replied to
-abbrev pub fault_of : Answer → ℕ
-fault_of (Replied words) = 0
-fault_of (Refused fault) = number_of fault
-fault_of (Received received) = 0

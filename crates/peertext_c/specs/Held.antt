@@ -6,9 +6,9 @@ use Rattle.rt_peers.specs.SiteValue.{SiteValue, new_site}
 use Rattle.rt_script.specs.declared.answer.Answer.{Answer}
 use Rattle.rt_script.specs.Replies.{reply_line}
 use Rattle.rt_script.specs.Site.{WordsGive}
+use Rattle.rt_script.specs.Telling.{TellsChanges}
 use Rattle.peertext_c.specs.declared.kept.Spoken.{Spoken}
 use Rattle.peertext_c.specs.declared.kept.Spoken.TheVariants.{Bytes, Line}
-use Rattle.peertext_c.specs.Telling.{TellsChanges}
 
 -- A site, the bytes that were said last, and what the last line or file changed, operation by operation, if that is known.
 -- The bytes are ready, or are those of a reply line that is to be made when it is read: there was no memory for it.

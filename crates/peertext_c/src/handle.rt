@@ -5,7 +5,7 @@ ghost use Rattle.peertext_c.specs.Codes.{DONE, NO_MEMORY};
 ghost use Rattle.peertext_c.specs.Held.{Held, saying};
 ghost use Rattle.peertext_c.specs.Owned.{slot_coded};
 
-use crate::kept::{Kept, Said};
+use crate::kept::{Kept, Spoken};
 use crate::parts::Parts;
 use crate::{DONE, NO_MEMORY};
 use rt_stamps::Fault;
@@ -85,20 +85,12 @@ impl Handle {
         }
     }
 
-    fn of(kept: Box<Kept>) -> Handle
-        ensures { result.slot.value ≡ Some kept.value }
+    /// Takes out what it holds.
+    pub(crate) fn take(&mut self, alloc: Global) -> Option<Box<Kept>>
+        ensures left { self.new.slot.value ≡ None }
+        ensures taken { MatchOption result (self.old.slot.value ≡ None) (λ kept. self.old.slot.value ≡ Some kept.value) }
     {
-        Handle {
-            held: true,
-            slot: Slot::of_parts(Parts::of(kept)),
-        }
-    }
-
-    /// What it holds.
-    pub(crate) fn into_box(self) -> Option<Box<Kept>>
-        ensures { MatchOption result (self.slot.value ≡ None) (λ kept. self.slot.value ≡ Some kept.value) }
-    {
-        let Handle { held, slot } = self;
+        let Handle { held, slot } = mem::replace(self, Handle::none(alloc));
         if held {
             return Some(slot.into_parts().into_box());
         }
@@ -106,20 +98,16 @@ impl Handle {
         None
     }
 
-    /// Takes out what it holds.
-    pub(crate) fn take(&mut self, alloc: Global) -> Option<Box<Kept>>
-        ensures left { self.new.slot.value ≡ None }
-        ensures taken { MatchOption result (self.old.slot.value ≡ None) (λ kept. self.old.slot.value ≡ Some kept.value) }
-    {
-        mem::replace(self, Handle::none(alloc)).into_box()
-    }
-
     /// Puts a site in where there is none.
     pub(crate) fn put(&mut self, kept: Box<Kept>)
         requires { self.old.slot.value ≡ None }
         ensures { self.new.slot.value ≡ Some kept.value }
     {
-        let Handle { held: _, slot } = mem::replace(self, Handle::of(kept));
+        let one = Handle {
+            held: true,
+            slot: Slot::of_parts(Parts::of(kept)),
+        };
+        let Handle { held: _, slot } = mem::replace(self, one);
         slot.forget();
     }
 
@@ -134,7 +122,7 @@ impl Handle {
     {
         match made {
             Ok(bytes) => {
-                kept.said = Said::of(bytes);
+                kept.said = Spoken::Bytes(bytes);
                 self.put(kept);
                 DONE
             }

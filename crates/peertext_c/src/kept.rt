@@ -1,25 +1,22 @@
 // What a handle holds.
 ghost use Rattle.std.specs.Prelude.{◌≡◌, ◌⊎◌, ◌≤◌, ℕ, [], IfErr, IfOk, IsOkUnless, List, MatchOption, MatchResult, None, Some};
-ghost use Rattle.std.specs.Prelude.{false, length, option_map, pos, slice_get, true};
+ghost use Rattle.std.specs.Prelude.{false, length, pos, slice_get, true};
 ghost use Rattle.rt_stamps.specs.declared.limits.TheConstants.{MOST_BYTES};
 ghost use Rattle.rt_stamps.specs.declared.fault.Fault.TheVariants.{NoMemory, Truncated};
+ghost use Rattle.rt_files.specs.Ends.{SpellEnds, SpellNoEnds, ends_bytes};
 ghost use Rattle.rt_changes.specs.declared.change.ToldChange.{ToldChange};
 ghost use Rattle.rt_holding.specs.declared.receiving.Received.{Received};
+ghost use Rattle.rt_script.specs.Changes.{change_lines};
 ghost use Rattle.rt_script.specs.Replies.{reply_line};
 ghost use Rattle.peertext_c.specs.Calls.{AreEndsOf, ReceivesTelling, RunsLine, file_since, in_front, numbers_of};
-ghost use Rattle.peertext_c.specs.Changes.{change_lines};
-ghost use Rattle.peertext_c.specs.Codes.{fault_of};
-ghost use Rattle.peertext_c.specs.Ends.{SpellEnds, SpellNoEnds, ends_bytes};
-ghost use Rattle.peertext_c.specs.Held.{known_changes, untold};
+ghost use Rattle.peertext_c.specs.Held.{bytes_of, is_ready, known_changes, untold};
 
 use crate::DONE;
-use crate::asking::words_give;
-use crate::changes::lines_of_change;
-use crate::ends::{bytes_of_ends, ends_of_bytes};
 use crate::numbers::Told;
+use rt_files::{bytes_of_ends, ends_of_bytes};
 use rt_script::{
     Answer, Commands, ReceivedChanges, SiteState, Spare, ToldAnswer, ToldChange, answer_bytes,
-    answer_line,
+    answer_line, change_bytes, words_tell,
 };
 use rt_stamps::Fault;
 use std::alloc::Global;
@@ -32,40 +29,14 @@ pub(crate) enum Spoken {
     Line(Answer),
 }
 
-/// The bytes that were said last.
-#[derive(Drop)]
-pub(crate) struct Said {
-    spoken: Spoken,
-}
-
-impl Model for Said {
-    ghost use Rattle.std.specs.Prelude.{Bool, List, ℕ};
-    ghost use Rattle.peertext_c.specs.Held.{bytes_of, is_ready};
-
-    ghost Value = { List ℕ × Bool };
-
-    ghost view = { λ s. (bytes_of s.spoken, is_ready s.spoken) };
-}
-
-impl Said {
-    /// These bytes.
-    pub(crate) fn of(bytes: Vec<u8>) -> Said
-        ensures { result ≡ (bytes.items, true) }
-    {
-        Said {
-            spoken: Spoken::Bytes(bytes),
-        }
-    }
-
+impl Spoken {
     // The line of an answer. Where there is no memory for it, it is made when it is read.
-    fn of_answer(alloc: Global, answer: Answer) -> Said
-        ensures { result.0 ≡ reply_line answer }
+    fn of_answer(alloc: Global, answer: Answer) -> Spoken
+        ensures { bytes_of result ≡ reply_line answer }
     {
         match answer_bytes(alloc, &answer) {
-            Ok(line) => Said::of(line),
-            Err(_) => Said {
-                spoken: Spoken::Line(answer),
-            },
+            Ok(line) => Spoken::Bytes(line),
+            Err(_) => Spoken::Line(answer),
         }
     }
 
@@ -73,27 +44,17 @@ impl Said {
     /// Want of memory, where there was none for the line of an answer; then the room stays as it is.
     pub(crate) fn copy(&self, alloc: Global, out: &mut [u8]) -> Result<isize, Fault>
         ensures copied { MatchResult result
-            (λ len. (len ≡ pos (length self.now.0)) × (out.new ≡ in_front self.now.0 out.old))
-            (λ _. (self.now.1 ≡ false) × (out.new ≡ out.old)) }
+            (λ len. (len ≡ pos (length (bytes_of self.now))) × (out.new ≡ in_front (bytes_of self.now) out.old))
+            (λ _. (is_ready self.now ≡ false) × (out.new ≡ out.old)) }
         ensures err { IsOkUnless result NoMemory }
     {
-        match &self.spoken {
+        match self {
             Spoken::Bytes(bytes) => Ok(copy_out(bytes, out)),
             Spoken::Line(answer) => match answer_bytes(alloc, answer) {
                 Ok(line) => Ok(copy_out(&line, out)),
                 Err(fault) => Err(fault),
             },
         }
-    }
-}
-
-// The number of the fault by which a line was refused, 0 where it was replied to.
-fn fault_of(answer: &Answer) -> u8
-    ensures { result ≡ fault_of answer.now }
-{
-    match answer {
-        Answer::Refused(fault) => fault.number(),
-        _ => 0,
     }
 }
 
@@ -108,21 +69,32 @@ fn copy_out(bytes: &Vec<u8>, out: &mut [u8]) -> isize
 }
 
 /// A site, what was said last, and what the last line or file changed, operation by operation, if that is known.
-#[derive(Drop)]
 pub(crate) struct Kept {
     alloc: Global,
     pub site: SiteState,
-    pub said: Said,
+    pub said: Spoken,
     pub changes: Option<Vec<ToldChange>>,
 }
 
+// Written out, so that where it is let go is one step, and not one for each field of each field.
+impl Drop for Kept {
+    fn drop(self) {
+        let Kept {
+            alloc: _,
+            site: _,
+            said: _,
+            changes: _,
+        } = self;
+    }
+}
+
 impl Model for Kept {
-    ghost use Rattle.peertext_c.specs.Held.{Held};
-    ghost use Rattle.peertext_c.specs.Telling.{told_items};
+    ghost use Rattle.rt_script.specs.Telling.{told_items};
+    ghost use Rattle.peertext_c.specs.Held.{Held, bytes_of, is_ready};
 
     ghost Value = { Held };
 
-    ghost view = { λ k. record { site = k.site; said = k.said.0; ready = k.said.1; changes = told_items k.changes } };
+    ghost view = { λ k. record { site = k.site; said = bytes_of k.said; ready = is_ready k.said; changes = told_items k.changes } };
 }
 
 impl Kept {
@@ -133,7 +105,7 @@ impl Kept {
         Kept {
             alloc,
             site,
-            said: Said::of(Vec::new(alloc)),
+            said: Spoken::Bytes(Vec::new(alloc)),
             changes: Some(Vec::new(alloc)),
         }
     }
@@ -153,11 +125,11 @@ impl Kept {
         self.forget();
         let mut spare = Spare::new(alloc);
         let Some(answer) = answer_line(alloc, &mut spare, self, line) else {
-            self.said = Said::of(Vec::new(alloc));
+            self.said = Spoken::Bytes(Vec::new(alloc));
             return DONE;
         };
-        let fault = fault_of(&answer);
-        self.said = Said::of_answer(alloc, answer);
+        let fault = answer.fault_number();
+        self.said = Spoken::of_answer(alloc, answer);
         i32::from(fault)
     }
 
@@ -173,34 +145,17 @@ impl Kept {
         told
     }
 
-    // What was changed, as far as it is known.
-    fn known(&self) -> &[ToldChange]
-        ensures { result.now ≡ known_changes self.now }
-    {
-        match &self.changes {
-            Some(changes) => changes.as_slice(),
-            None => &[],
-        }
-    }
-
-    /// How many operations changes are told of; none where it isn't known.
-    pub(crate) fn count(&self) -> Option<usize>
-        ensures { result ≡ option_map (λ changes. length changes) self.now.changes }
-    {
-        match &self.changes {
-            Some(changes) => Some(changes.len()),
-            None => None,
-        }
-    }
-
     /// The lines of the change of a number, or want of memory. None where there is no such change.
     pub(crate) fn lines_at(&self, alloc: Global, number: usize) -> Option<Result<Vec<u8>, Fault>>
         ensures { MatchOption result (slice_get (known_changes self.now) number ≡ None)
             (λ made. (change : ToldChange) × (slice_get (known_changes self.now) number ≡ Some change)
             × IfOk made (λ lines. lines.items ≡ change_lines change) × IsOkUnless made NoMemory) }
     {
-        let change = self.known().get(number)?;
-        Some(lines_of_change(alloc, change))
+        let Some(changes) = &self.changes else {
+            return None;
+        };
+        let change = changes.get(number)?;
+        Some(change_bytes(alloc, change))
     }
 
     /// The bytes of the last counts that its site knows. Want of memory.
@@ -233,7 +188,7 @@ impl Commands for Kept {
     ghost gives = { CommandGives };
 
     fn run_words(&mut self, words: &[String]) -> Answer {
-        let ToldAnswer { reply, changes } = words_give(self.alloc, &mut self.site, words);
+        let ToldAnswer { reply, changes } = words_tell(self.alloc, &mut self.site, words);
         self.changes = changes;
         match reply {
             Ok(reply) => Answer::Replied(reply),

@@ -11,9 +11,6 @@ ghost use Rattle.peertext_c.specs.Calls.{SaysChange, SaysEnds, SaysSince, file_o
 ghost use Rattle.peertext_c.specs.Calls.{stamp_of_numbers, stamp_of_path};
 ghost use Rattle.peertext_c.specs.Codes.{NOT_THERE};
 
-mod asking;
-mod changes;
-mod ends;
 mod finding;
 mod handle;
 mod kept;
@@ -26,7 +23,7 @@ use kept::Kept;
 use numbers::{StampNumbers, Told};
 use rt_script::SiteState;
 use rt_stamps::limits::{GREATEST_SITE, MOST_BYTES, MOST_CELLS};
-use rt_stamps::{Fault, Site};
+use rt_stamps::{Fault, Site, Stamp};
 use std::alloc::Global;
 
 // What functions answer (specs/Codes.antt).
@@ -147,7 +144,7 @@ pub extern "C" fn pt_receive(
 
 /// Tells how many operations the last line made or the last file brought, with the held ones that were accepted then:
 /// `pt_change` says of each what it changed. 0; or -1 where there is no site, or -7 where it isn't known what a line
-/// changed, though it was run: for want of memory, or as it made several operations at once of which one changes tags.
+/// changed, though it was run: for want of memory, or as two of the operations that it made at once are Tags of one tag.
 #[unsafe(no_mangle)]
 pub extern "C" fn pt_changes(alloc: Global, handle: &mut Handle, count: &mut usize) -> i32
     ensures { CountsChanges handle.old.slot.value count.old result handle.new.slot.value count.new }
@@ -155,12 +152,12 @@ pub extern "C" fn pt_changes(alloc: Global, handle: &mut Handle, count: &mut usi
     let Some(kept) = handle.take(alloc) else {
         return NO_SITE;
     };
-    let found = kept.count();
-    handle.put(kept);
-    let Some(found) = found else {
+    let Some(changes) = &kept.changes else {
+        handle.put(kept);
         return NOT_KNOWN;
     };
-    *count = found;
+    *count = changes.len();
+    handle.put(kept);
     DONE
 }
 
@@ -247,7 +244,10 @@ pub extern "C" fn pt_stamp_at(
     let Some(found) = found else {
         return NOT_THERE;
     };
-    *stamp = StampNumbers::of(found);
+    *stamp = StampNumbers {
+        count: found.count,
+        site: found.site,
+    };
     DONE
 }
 
@@ -267,7 +267,11 @@ pub extern "C" fn pt_place_of(
     let Some(kept) = handle.take(alloc) else {
         return NO_SITE;
     };
-    let found = place_of_path(&kept.site, path, stamp.stamp());
+    let stamp = Stamp {
+        count: stamp.count,
+        site: stamp.site,
+    };
+    let found = place_of_path(&kept.site, path, stamp);
     handle.put(kept);
     let Some(found) = found else {
         return NOT_THERE;

@@ -1,9 +1,8 @@
 // Numbers that C is told.
 ghost use Rattle.std.specs.Prelude.{◌≡◌};
-ghost use Rattle.peertext_c.specs.Calls.{fault_numbers, numbers_of, stamp_numbers, stamp_of_numbers};
+ghost use Rattle.peertext_c.specs.Calls.{numbers_of};
 
 use rt_script::Received;
-use rt_stamps::{Fault, Stamp};
 
 /// What became of a file that was received.
 #[repr(C)]
@@ -31,50 +30,25 @@ pub struct StampNumbers {
     pub site: u16,
 }
 
-// The number of a fault and its offset, 0 for none.
-fn fault_numbers(found: Option<(Fault, u64)>) -> (u8, u64)
-    ensures { result ≡ fault_numbers found }
-{
-    match found {
-        Some((fault, offset)) => (fault.number(), offset),
-        None => (0, 0),
-    }
-}
-
 impl Told {
     /// Of a file.
     pub(crate) fn of(received: Received) -> Told
         ensures { result ≡ numbers_of received }
     {
-        let (fault, offset) = fault_numbers(received.fault);
-        Told {
+        let told = Told {
             fresh: received.new,
             repeats: received.repeats,
             held: received.held,
-            offset,
-            fault,
-        }
-    }
-}
-
-impl StampNumbers {
-    /// Of a stamp.
-    pub(crate) fn of(stamp: Stamp) -> StampNumbers
-        ensures { result ≡ stamp_numbers stamp }
-    {
-        StampNumbers {
-            count: stamp.count,
-            site: stamp.site,
-        }
-    }
-
-    /// The stamp.
-    pub(crate) fn stamp(self) -> Stamp
-        ensures { result ≡ stamp_of_numbers self }
-    {
-        Stamp {
-            count: self.count,
-            site: self.site,
+            offset: 0,
+            fault: 0,
+        };
+        match received.fault {
+            Some((fault, offset)) => Told {
+                offset,
+                fault: fault.number(),
+                ..told
+            },
+            None => told,
         }
     }
 }

@@ -1,1 +1,2 @@
+pub mod CountBytes
 pub mod SpacedLaws

@@ -1,3 +1,4 @@
+pub mod Ends
 pub mod Files
 pub mod Parts
 pub mod Shown

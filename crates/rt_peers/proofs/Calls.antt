@@ -8,6 +8,7 @@ use Rattle.rt_stamps.specs.Words.{Word}
 use Rattle.rt_requests.specs.declared.options.NamedOption.{NamedOption}
 use Rattle.rt_requests.specs.declared.peers.PeerRequest.{PeerRequest}
 use Rattle.rt_requests.specs.declared.peers.PeerRequest.TheVariants.{Create, Names}
+use Rattle.rt_requests.specs.declared.request.Request.{Request}
 use Rattle.rt_requests.specs.declared.request.Request.TheVariants.{Cget, Configure, Peer}
 use Rattle.rt_requests.specs.declared.settings.WidgetSettings.{WidgetSettings}
 use Rattle.rt_ops.specs.Operations.{Operation}
@@ -19,12 +20,14 @@ use Rattle.rt_peers.specs.Lives.{IsOfFile, KeepsOrMakes, Lives, LivesOn, came_to
 use Rattle.rt_peers.specs.Options.{choice_of, option_step, settings_step, text_set}
 use Rattle.rt_peers.specs.Peers.{text_led, with_widget, without_widget}
 use Rattle.rt_peers.specs.PeerStep.{created, destroyed, destroyed_at, last_check, path_check, peer_step, text_with_peer}
+use Rattle.rt_peers.specs.Reading.{reads}
 use Rattle.rt_peers.specs.SiteStep.{AnswersInTurn, Gives, KeepsOperations, MakesAndTries, SiteReceives, at_widget, by_widget, step_at}
 use Rattle.rt_peers.specs.SiteValue.{SiteValue, number_of}
 use Rattle.rt_peers.specs.ViewStep.{Outcome, as_outcome, changed_step, one_word}
-use Rattle.rt_peers.proofs.OptionLaws.{configured_is, limited_leaves, one_more, told_unchanged}
+use Rattle.rt_peers.proofs.OptionLaws.{configured_is, limited_leaves, one_more}
 use Rattle.rt_peers.proofs.Coming.{file_of, made_of}
 use Rattle.rt_peers.proofs.InTurn.{all_kept, left_kept, made_none}
+use Rattle.rt_peers.proofs.ReadingLaws.{told_leaves}
 
 -- CALLS THAT ACCEPT NOTHING
 
@@ -166,13 +169,12 @@ option_kept path option old new result h =
     (λ mid a. at_keeps (number_of path old.paths) (λ place. by_widget place old (λ text. option_step text option)) old mid result
     (λ place b. by_keeps place old mid (λ text. option_step text option) result (told_stays option) b) a) h
 
--- and leaves the site as it was
-pub option_leaves : (path : Word) (option : NamedOption) (old new : SiteValue) (result : Result (List Word) Fault)
-    → AnswersInTurn (step_at path old (Cget option)) old result new → new ≡ old
-option_leaves path option old new result h =
+-- a request that only reads leaves the site as it was
+pub reads_leaves : (path : Word) (request : Request) (old new : SiteValue) (result : Result (List Word) Fault) → reads request ≡ true
+    → AnswersInTurn (step_at path old request) old result new → new ≡ old
+reads_leaves path request old new result r h =
     let mid : SiteValue = h.0 in
-    let told : mid ≡ old = at_each (number_of path old.paths) (λ place. by_widget place old (λ text. option_step text option)) old mid result (mid ≡ old) (λ e. e)
-    (λ place b. told_unchanged place old mid option result b) h.1 in
+    let told = told_leaves path request old mid result r h.1 in
     left_kept old mid new (same_keeps old mid told) h.2 ∙ told
 
 pub peers_kept : (path : Word) (request : PeerRequest) (old new : SiteValue) (result : Result (List Word) Fault)

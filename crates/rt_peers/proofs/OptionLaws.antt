@@ -11,12 +11,12 @@ use Rattle.rt_requests.specs.declared.options.Settings.{Settings}
 use Rattle.rt_requests.specs.declared.settings.WidgetSettings.{WidgetSettings}
 use Rattle.rt_recording.specs.EditedValue.{EditedValue}
 use Rattle.rt_text.specs.Limited.{limited, new_peer, with_limits, with_new_peer, with_peer}
-use Rattle.rt_text.specs.Widgets.{ViewValue}
+use Rattle.rt_text.specs.Widgets.{ViewValue, widgets_of}
 use Rattle.rt_lines.specs.declared.choice.Choice.{Choice}
 use Rattle.rt_lines.specs.declared.limits.Limits.{Limits}
 use Rattle.rt_lines.specs.Choices.{limits_chosen}
 use Rattle.rt_peers.specs.Options.{choice_of, option_step, text_configured}
-use Rattle.rt_peers.specs.Peers.{text_led, widgets_of, with_widget}
+use Rattle.rt_peers.specs.Peers.{text_led, with_widget}
 use Rattle.rt_peers.specs.PeerStep.{created, path_check, text_with_peer}
 use Rattle.rt_peers.specs.SiteStep.{by_widget}
 use Rattle.rt_peers.specs.SiteValue.{SiteValue, number_of}
@@ -122,16 +122,3 @@ created_refused place path state settings fault free (inr e) = inr (
     ap (λ b. created place path state settings (cond b (Some WidgetExists) None)) free
     ∙ ap (as_outcome (λ text. (one_word path, with_widget place path state text))) e
     )
-
--- TELLING
-
-abbrev state_in : Outcome SiteValue → SiteValue → SiteValue
-state_in (Ok answer) none = answer.1
-state_in (Err fault) none = none
-
--- what an option is set to is told, and the site is as it was
-pub told_unchanged : (place : ℕ) (old new : SiteValue) (option : NamedOption) (result : Result (List Word) Fault)
-    → Answers (by_widget place old (λ text. option_step text option)) old result new → new ≡ old
-told_unchanged place old new option (Ok words) h =
-    sym (ap (λ (o : Outcome SiteValue). state_in o old) h) ∙ ap (λ (text : EditedValue). record old { text = text }) (text_back old.text place)
-told_unchanged place old new option (Err fault) h = h.0

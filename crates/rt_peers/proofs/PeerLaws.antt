@@ -13,8 +13,8 @@ use Rattle.rt_stamps.specs.Outcomes.{Answers, Refuses}
 use Rattle.rt_stamps.specs.Words.{Word, as_words}
 use Rattle.rt_store.proofs.Shown.{position_map}
 use Rattle.rt_recording.specs.EditedValue.{EditedValue}
-use Rattle.rt_text.specs.Widgets.{WidgetValue, ViewValue}
-use Rattle.rt_peers.specs.Peers.{HavePaths, text_led, view_led, view_without, widgets_of}
+use Rattle.rt_text.specs.Widgets.{WidgetValue, ViewValue, widgets_of}
+use Rattle.rt_peers.specs.Peers.{HavePaths, text_led, view_led, view_without}
 use Rattle.rt_peers.specs.SiteStep.{by_leading, by_widget}
 use Rattle.rt_peers.specs.SiteValue.{SiteValue, new_view, number_of}
 use Rattle.rt_peers.specs.ViewStep.{Outcome, as_outcome}

@@ -7,6 +7,7 @@ pub mod Memory
 pub mod Options
 pub mod PeerStep
 pub mod Peers
+pub mod Reading
 pub mod SiteStep
 pub mod SiteValue
 pub mod Step

@@ -5,12 +5,8 @@ use Rattle.std.specs.List.{IsDistinct, remove}
 use Rattle.std.specs.Str.{bytes_eq}
 use Rattle.rt_stamps.specs.Words.{Word}
 use Rattle.rt_recording.specs.EditedValue.{EditedValue}
-use Rattle.rt_text.specs.Widgets.{WidgetValue, ViewValue}
+use Rattle.rt_text.specs.Widgets.{ViewValue, widgets_of}
 use Rattle.rt_peers.specs.SiteValue.{SiteValue}
-
--- what is each widget's own, the first one's first
-abbrev pub widgets_of : ViewValue → List WidgetValue
-widgets_of view = view.own ∷ view.others
 
 -- each widget has a path of its own
 pub record HavePaths (paths : List Word) (view : ViewValue) : Type 0 where

@@ -59,4 +59,5 @@ step text (Tag request) = on_view text (tag_step text.view request)
 step text (Edit request) = edit_step text request
 step text (Configure settings) = settings_step text settings
 step text (Cget option) = option_step text option
+-- never asked: of peers the site answers
 step text (Peer request) = Err BadCommand

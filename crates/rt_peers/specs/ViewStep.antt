@@ -63,6 +63,7 @@ as_piece piece = record { text = piece.text; tags = piece.tags }
 abbrev pub get_step : ViewValue → List Word → Outcome ViewValue
 get_step view (index ∷ []) = told_step one_word view (got_one view index)
 get_step view (from ∷ to ∷ []) = told_step one_word view (got view from to)
+-- never asked: there is at least one index
 get_step view [] = told_step (λ texts. texts) view (got_list view [])
 get_step view (from ∷ to ∷ more ∷ indices) = told_step (λ texts. texts) view (got_list view (from ∷ to ∷ more ∷ indices))
 

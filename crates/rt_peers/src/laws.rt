@@ -1,5 +1,5 @@
 // Laws of the definitions, and of sites, each the contract of a function that changes nothing.
-ghost use Rattle.std.specs.Prelude.{◌≡◌, ℕ, List, Ok, Result, Some, encode_utf8_all};
+ghost use Rattle.std.specs.Prelude.{◌≡◌, ◌<◌, ◌≤◌, ◌^◌, ℕ, List, Ok, Result, Some, encode_utf8_all, true};
 ghost use Rattle.rt_stamps.specs.declared.fault.Fault.{Fault};
 ghost use Rattle.rt_stamps.specs.declared.stamp.Stamp.{Stamp};
 ghost use Rattle.rt_stamps.specs.Words.{Word};
@@ -8,15 +8,20 @@ ghost use Rattle.rt_recording.specs.EditedValue.{EditedValue};
 ghost use Rattle.rt_oplog.specs.Logs.{AreOf};
 ghost use Rattle.rt_requests.specs.declared.options.NamedOption.{NamedOption};
 ghost use Rattle.rt_requests.specs.declared.peers.PeerRequest.{PeerRequest};
+ghost use Rattle.rt_requests.specs.declared.request.Request.{Request};
 ghost use Rattle.rt_requests.specs.declared.request.Request.TheVariants.{Cget, Configure, Peer};
 ghost use Rattle.rt_requests.specs.declared.settings.WidgetSettings.{WidgetSettings};
-ghost use Rattle.rt_peers.specs.Cursors.{place_by, stamp_by};
+ghost use Rattle.rt_index.specs.Index.{index_of};
+ghost use Rattle.rt_text.specs.PlaceWords.{place_word};
+ghost use Rattle.rt_text.specs.Widgets.{ViewValue, length_shown, widget_of};
+ghost use Rattle.rt_peers.specs.Cursors.{place_by, stamp_by, widget_by};
 ghost use Rattle.rt_peers.specs.Events.{EventsGoOneWay, EventsLive};
 ghost use Rattle.rt_peers.specs.Exchange.{AgreeOnceCaughtUp, AgreeOnceExchanged, ExchangeAgrees, ReceivesAny, ReceivesLacking, ReceivesWhole, TellsClash};
 ghost use Rattle.rt_peers.specs.Lives.{AcceptsGreatest, AcceptsHistory, AgreeInAnyOrder, KeepsOrMakes, SitesHold};
 ghost use Rattle.rt_peers.specs.Memory.{CommandsGoOneWay, ReceivingFindsMemory, ReceivingGoesOneWay, RequestsGoOneWay};
 ghost use Rattle.rt_peers.specs.Peers.{text_led};
 ghost use Rattle.rt_peers.specs.PeerStep.{destroyed};
+ghost use Rattle.rt_peers.specs.Reading.{reads, told_at};
 ghost use Rattle.rt_peers.specs.SiteStep.{AnswersInTurn, Gives, KeepsOperations, by_widget, log_of, step_at};
 ghost use Rattle.rt_peers.specs.SiteValue.{SiteValue};
 ghost use Rattle.rt_peers.specs.ViewStep.{Outcome, one_word};
@@ -26,14 +31,27 @@ ghost use Rattle.rt_store.specs.Cells.{text_of};
 use crate::SiteState;
 
 /// A widget that commands changes places with the first one, and then back again: so a step that leaves the text as it
-/// was leaves the site as it was. So a site is left as it was that tells what an option is set to.
+/// was leaves the site as it was. So a request that only reads leaves the site as it was, and its reply is what `step` says of
+/// the text as the widget shows it (`SiteState::widget`): each value that is asked of that, by its words.
 pub fn telling()
     ensures back { (place : ℕ) (text : EditedValue) → text_led place (text_led place text) ≡ text }
     ensures told { (place : ℕ) (state : SiteValue) (reply : List Word)
         → by_widget place state (λ text. Ok (reply, text)) ≡ Ok (reply, state) }
-    ensures option { (path : Word) (option : NamedOption) (old new : SiteValue) (result : Result (List Word) Fault)
-        → AnswersInTurn (step_at path old (Cget option)) old result new → new ≡ old }
+    ensures reads { (path : Word) (request : Request) (state : SiteValue) → reads request ≡ true
+        → step_at path state request ≡ told_at path state request }
+    ensures left { (path : Word) (request : Request) (old new : SiteValue) (result : Result (List Word) Fault) → reads request ≡ true
+        → AnswersInTurn (step_at path old request) old result new → new ≡ old }
 {}
+
+/// On each widget of a site the index of a place (`PlaceIndex` of rt_text), up to the number of the characters that it shows, is that
+/// place.
+pub fn places(site: &SiteState)
+    ensures { (path : Word) (view : ViewValue) (place : ℕ) → widget_by path site.now ≡ Some view → place < 2 ^ 64 → place ≤ length_shown view
+        → index_of (widget_of view) (place_word place) ≡ Ok place }
+{
+    // For its clauses alone.
+    let _ = site.log();
+}
 
 /// The stamp of a character that a widget shows finds the place at which it stands there.
 pub fn cursors(site: &SiteState)

@@ -17,5 +17,6 @@ mod widgets;
 pub use reply::Reply;
 pub use rt_changes::ToldChange;
 pub use rt_holding::Received;
+pub use rt_text::ViewRef;
 pub use site::SiteState;
 pub use told::{ReceivedChanges, ToldAnswer};

@@ -114,7 +114,7 @@ impl SiteState {
     }
 
     /// What is asked of the widget of a path. Refused by the first of `NoWidget` and the request's own
-    /// faults, or for want of memory; then the site is as it was. Where the site made operations for it, those that
+    /// faults (docs/WIDGET.md, docs/PEERS.md, by command), or for want of memory; then the site is as it was. Where the site made operations for it, those that
     /// it holds are tried then, and those that can be taken change text, marks and tags as received ones do; the
     /// reply speaks of the state before that.
     pub fn answer(&mut self, path: &str, request: &Request<'_>) -> Result<Reply, Fault>

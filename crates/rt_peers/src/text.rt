@@ -2,7 +2,7 @@
 ghost use Rattle.std.specs.Prelude.{◌≡◌, ◌<◌, ◌≤◌, IfOk, IsOkUnless, length};
 ghost use Rattle.rt_stamps.specs.declared.limits.TheConstants.{MOST_CELLS};
 ghost use Rattle.rt_stamps.specs.Outcomes.{Answers};
-ghost use Rattle.rt_peers.specs.Peers.{widgets_of};
+ghost use Rattle.rt_text.specs.Widgets.{view_as, widgets_of};
 ghost use Rattle.rt_peers.specs.SiteStep.{by_leading};
 ghost use Rattle.rt_peers.specs.SiteValue.{new_text};
 ghost use Rattle.rt_peers.specs.Step.{step};
@@ -21,7 +21,7 @@ use crate::reply::Reply;
 use rt_recording::Recorder;
 use rt_requests::Request;
 use rt_stamps::{Fault, Site};
-use rt_text::View;
+use rt_text::{View, ViewRef};
 use rt_tree::TreeStore;
 use std::alloc::Global;
 use std::marker::Model;
@@ -73,11 +73,12 @@ impl EditedText {
         })
     }
 
-    /// The text as the widget that commands shows it.
-    pub(crate) fn view(&self) -> &View<TreeStore>
-        ensures { result.now ≡ self.now.view }
+    /// The text as the widget of a number shows it, borrowed.
+    pub(crate) fn widget(&self, number: usize) -> ViewRef<'_, TreeStore>
+        requires { number < length (widgets_of self.now.view) }
+        ensures { result ≡ view_as number self.now.view }
     {
-        &self.view
+        self.view.shown_by(number)
     }
 
     /// What is asked of the widget. Refused by the request's own faults, or for want of memory; then
@@ -89,19 +90,19 @@ impl EditedText {
             Request::Insert { index, texts } => self.insert(index, texts),
             Request::Delete { indices } => self.delete(indices),
             Request::Replace { from, to, texts } => self.replace(from, to, texts),
-            Request::Get { indices } => commands::get(self.alloc, &self.view, indices),
-            Request::Index { index } => commands::index(self.alloc, &self.view, index),
+            Request::Get { indices } => commands::get(self.alloc, &self.view.shown(), indices),
+            Request::Index { index } => commands::index(self.alloc, &self.view.shown(), index),
             Request::Compare {
                 first,
                 comparison,
                 second,
-            } => commands::compare(self.alloc, &self.view, first, *comparison, second),
+            } => commands::compare(self.alloc, &self.view.shown(), first, *comparison, second),
             Request::Count { measures, from, to } => {
-                commands::count(self.alloc, &self.view, measures, from, to)
+                commands::count(self.alloc, &self.view.shown(), measures, from, to)
             }
-            Request::Search(request) => commands::search(self.alloc, &self.view, request),
+            Request::Search(request) => commands::search(self.alloc, &self.view.shown(), request),
             Request::Dump { kinds, from, to } => {
-                commands::dump(self.alloc, &self.view, *kinds, from, to)
+                commands::dump(self.alloc, &self.view.shown(), *kinds, from, to)
             }
             Request::Mark(request) => self.mark(request),
             Request::Tag(request) => self.tag(request),

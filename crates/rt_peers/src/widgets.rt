@@ -1,6 +1,7 @@
 // The widgets that show a document, by their numbers.
 ghost use Rattle.std.specs.Prelude.{◌≡◌, ◌<◌, length};
-ghost use Rattle.rt_peers.specs.Peers.{view_led, view_without, widgets_of};
+ghost use Rattle.rt_text.specs.Widgets.{widgets_of};
+ghost use Rattle.rt_peers.specs.Peers.{view_led, view_without};
 
 use rt_text::View;
 use rt_tree::TreeStore;

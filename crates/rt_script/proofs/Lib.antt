@@ -1,3 +1,4 @@
+pub mod ChangeLines
 pub mod EndsLaws
 pub mod FilesStay
 pub mod Indexed
@@ -7,3 +8,4 @@ pub mod OneOutput
 pub mod ReadReplies
 pub mod ReplyWords
 pub mod RunLaws
+pub mod Untold

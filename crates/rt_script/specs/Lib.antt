@@ -1,3 +1,4 @@
+pub mod Changes
 pub mod Headline
 pub mod Indexed
 pub mod Lines
@@ -8,10 +9,14 @@ pub mod Replies
 pub mod Run
 pub mod Site
 pub mod SiteRun
+pub mod Telling
+pub use Rattle.rt_changes.specs.Replays
+pub use Rattle.rt_changes.specs.Telling as ChangeTelling
 pub use Rattle.rt_peers.specs.PeerStep
 pub use Rattle.rt_peers.specs.SiteStep
 pub use Rattle.rt_peers.specs.SiteValue
 pub use Rattle.rt_peers.specs.Step
+pub use Rattle.rt_peers.specs.Telling as SiteTelling
 pub use Rattle.rt_stamps.specs.Fault
 pub use Rattle.rt_words.specs.Spelling
 pub use Rattle.rt_words.specs.Writing

@@ -2,7 +2,7 @@
 use Rattle.std.specs.Prelude.{ℕ, ◌==◌, List, [], ◌∷◌, ◌++◌, flat_map, Option, Some, None, codes, if◌then◌else◌}
 use Rattle.std.specs.Fmt.{decimal}
 use Rattle.rt_stamps.specs.declared.fault.Fault.{Fault}
-use Rattle.rt_stamps.specs.Fault.{text_of}
+use Rattle.rt_stamps.specs.Fault.{number_of, text_of}
 use Rattle.rt_words.specs.Writing.{text_of_word}
 use Rattle.rt_files.specs.Shown.{spaced}
 use Rattle.rt_script.specs.declared.answer.Answer.{Answer}
@@ -35,3 +35,9 @@ text_of_answer (Received received) = text_of_received received.new received.repe
 
 abbrev pub reply_line : Answer → List ℕ
 reply_line answer = text_of_answer answer ++ (10 ∷ [])
+
+-- the number of the fault by which a line was refused, 0 where it was not
+abbrev pub fault_number : Answer → ℕ
+fault_number (Replied words) = 0
+fault_number (Refused fault) = number_of fault
+fault_number (Received received) = 0

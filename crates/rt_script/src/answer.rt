@@ -10,6 +10,21 @@ pub enum Answer {
     Received(Received),
 }
 
+impl Answer {
+    ghost use Rattle.std.specs.Prelude.{◌≡◌};
+    ghost use Rattle.rt_script.specs.Replies.{fault_number};
+
+    /// The number of the fault by which a line was refused, 0 where it was not.
+    pub fn fault_number(&self) -> u8
+        ensures { result ≡ fault_number self.now }
+    {
+        match self {
+            Answer::Refused(fault) => fault.number(),
+            _ => 0,
+        }
+    }
+}
+
 impl From<Result<Reply, Fault>> for Answer {
     ghost use Rattle.std.specs.Prelude.{◌≡◌, MatchResult};
     ghost use Rattle.rt_script.specs.declared.answer.Answer.TheVariants.{Replied, Refused};

@@ -2,6 +2,7 @@
 #![tactic(auto)]
 
 pub mod answer;
+pub mod changes;
 pub mod commands;
 pub mod engine;
 pub mod examples;
@@ -10,14 +11,17 @@ pub mod reply;
 pub mod scripts;
 pub mod site_lines;
 pub mod site_run;
+pub mod telling;
 
 pub use answer::Answer;
+pub use changes::change_bytes;
 pub use commands::Commands;
 pub use engine::{Ended, answer_bytes, answer_line};
 pub use reply::reply_line;
 pub use rt_files::{JoinFault, join_files, show_file};
-pub use rt_peers::{Received, ReceivedChanges, Reply, SiteState, ToldAnswer, ToldChange};
+pub use rt_peers::{Received, ReceivedChanges, Reply, SiteState, ToldAnswer, ToldChange, ViewRef};
 pub use rt_words::{Spare, words};
 pub use scripts::{run, run_bounded};
 pub use site_lines::Session;
 pub use site_run::{ScriptRun, begun, run_site};
+pub use telling::words_tell;

@@ -1,16 +1,18 @@
 // A site that runs the lines of a script, which may name files.
-ghost use Rattle.std.specs.Prelude.{◌≡◌, All, Some, None, codes, length, ◌≤◌, MatchOption, IfSome};
+ghost use Rattle.std.specs.Prelude.{◌≡◌, [], All, Some, None, codes, length, ◌≤◌, MatchOption, IfSome};
 ghost use Rattle.std.specs.Str.{bytes_eq};
 ghost use Rattle.rt_stamps.specs.declared.limits.TheConstants.{MOST_BYTES};
 ghost use Rattle.rt_stamps.specs.Words.{as_words};
 ghost use Rattle.rt_peers.specs.PeerStep.{destroyed};
 ghost use Rattle.rt_script.specs.Indexed.{Finds};
-ghost use Rattle.rt_script.specs.Site.{AreWithin, DestroyGives, IsDone, ReceiveGives, PathGives, SiteGives, file_named, named_files};
+ghost use Rattle.rt_script.specs.Site.{AreWithin, DestroyGives, IsDone, ReceiveGives, PathGives, SiteGives, as_answer, file_named, named_files};
+ghost use Rattle.rt_script.specs.Telling.{TellsChanges};
 
 use crate::answer::Answer;
 use crate::commands::Commands;
 use indexmap::IndexMap;
-use rt_peers::SiteState;
+use rt_peers::laws::calls;
+use rt_peers::{Reply, SiteState};
 use rt_requests::Destroy;
 use rt_stamps::Fault;
 use std::alloc::Global;
@@ -38,17 +40,42 @@ impl<'a> Model for Session<'a> {
 }
 
 // Whether a line's first word is that of `receive NAME`.
-fn is_receive(word: &str) -> bool
+pub(crate) fn is_receive(word: &str) -> bool
     ensures { result ≡ bytes_eq word.now (codes "receive") }
 {
     word == "receive"
 }
 
 // Whether it is that of `destroy PATH`.
-fn is_destroy(word: &str) -> bool
+pub(crate) fn is_destroy(word: &str) -> bool
     ensures { result ≡ bytes_eq word.now (codes "destroy") }
 {
     word == "destroy"
+}
+
+// Takes the widget of a path away.
+fn let_go(site: &mut SiteState, path: &str) -> Result<Reply, Fault>
+    ensures done { IsDone (destroyed path.now site.old) site.old (as_answer result) site.new }
+    ensures untold { TellsChanges site.old site.new (Some []) }
+{
+    // For their clauses alone.
+    calls();
+    let _ = site.log();
+    let reply = site.destroy(path);
+    // For its clauses alone.
+    let _ = site.log();
+    reply
+}
+
+// `destroy PATH`, which changes nothing in the visible text.
+pub(crate) fn destroy(site: &mut SiteState, words: &[String]) -> Result<Reply, Fault>
+    ensures gives { DestroyGives (as_words words.now) site.old (as_answer result) site.new }
+    ensures untold { TellsChanges site.old site.new (Some []) }
+{
+    match Destroy::of(words) {
+        Ok(request) => let_go(site, request.path.text()),
+        Err(fault) => Err(fault),
+    }
 }
 
 // The bytes of the file of a name: the first, where there are several.
@@ -150,24 +177,13 @@ impl<'a> Session<'a> {
         }
     }
 
-    // Takes the widget of a path away.
-    fn let_go(&mut self, path: &str) -> Answer
-        ensures files { self.new.files ≡ self.old.files }
-        ensures gives { IsDone (destroyed path.now self.old.site) self.old.site result self.new.site }
-    {
-        match self.site.destroy(path) {
-            Ok(reply) => Answer::Replied(reply),
-            Err(fault) => Answer::Refused(fault),
-        }
-    }
-
     // `destroy PATH`.
     fn destroy(&mut self, words: &[String]) -> Answer
         ensures files { self.new.files ≡ self.old.files }
         ensures gives { DestroyGives (as_words words.now) self.old.site result self.new.site }
     {
-        match Destroy::of(words) {
-            Ok(request) => self.let_go(request.path.text()),
+        match destroy(&mut self.site, words) {
+            Ok(reply) => Answer::Replied(reply),
             Err(fault) => Answer::Refused(fault),
         }
     }

@@ -10,12 +10,12 @@ use crate::placed::Placed;
 use crate::stretch::Stretch;
 use rt_stamps::Fault;
 use rt_store::TextStore;
-use rt_text::View;
+use rt_text::ViewRef;
 use std::alloc::Global;
 
 /// The first place from one on whose character has a tag, where it is before another.
 fn next_begin<S: TextStore>(
-    view: &View<S>,
+    view: &ViewRef<'_, S>,
     name: &str,
     place: usize,
     behind: usize,
@@ -30,7 +30,7 @@ fn next_begin<S: TextStore>(
 }
 
 /// Where the characters from a place on that have a tag end, or another place if they go on up to that.
-fn end_within<S: TextStore>(view: &View<S>, name: &str, begin: usize, behind: usize) -> usize
+fn end_within<S: TextStore>(view: &ViewRef<'_, S>, name: &str, begin: usize, behind: usize) -> usize
     requires before { begin < behind }
     requires tagged { Passes (is_tagged view.now.own name.now) (shown_by view.now) begin }
     ensures { RunsTo (is_tagged view.now.own name.now) (shown_by view.now) begin result behind }
@@ -43,7 +43,7 @@ fn end_within<S: TextStore>(view: &View<S>, name: &str, begin: usize, behind: us
 /// the stretch, and for one that reaches into it no further back than by one character.
 fn push_tag<S: TextStore>(
     alloc: Global,
-    view: &View<S>,
+    view: &ViewRef<'_, S>,
     stretch: Stretch,
     name: &str,
     ends: &mut Vec<Placed>,
@@ -67,7 +67,7 @@ fn push_tag<S: TextStore>(
 /// tag it looks up its ranges there. `NoMemory` is its only fault.
 pub(crate) fn borders<S: TextStore>(
     alloc: Global,
-    view: &View<S>,
+    view: &ViewRef<'_, S>,
     stretch: Stretch,
 ) -> Result<Vec<Placed>, Fault>
     ensures ok { IfOk result (λ all. all.items ≡ within stretch (tagoffs view.now) ++ within stretch (tagons view.now)) }

@@ -8,13 +8,13 @@ use crate::stretch::Stretch;
 use crate::{Key, marks_between};
 use rt_stamps::Fault;
 use rt_store::TextStore;
-use rt_text::View;
+use rt_text::ViewRef;
 use std::alloc::Global;
 
 /// Puts the marks of a stretch behind other elements, in their order. `NoMemory` is its only fault.
 pub(crate) fn push_marks<S: TextStore>(
     alloc: Global,
-    view: &View<S>,
+    view: &ViewRef<'_, S>,
     stretch: Stretch,
     elements: &mut Vec<Placed>,
 ) -> Result<(), Fault>

@@ -17,11 +17,15 @@ use crate::{Element, shown};
 use rt_requests::Kinds;
 use rt_stamps::Fault;
 use rt_store::TextStore;
-use rt_text::View;
+use rt_text::ViewRef;
 use std::alloc::Global;
 
 /// The place where a dump stops: that of its second index, and without one the next place.
-fn stop_of<S: TextStore>(view: &View<S>, from: usize, to: Option<&str>) -> Result<usize, Fault>
+fn stop_of<S: TextStore>(
+    view: &ViewRef<'_, S>,
+    from: usize,
+    to: Option<&str>,
+) -> Result<usize, Fault>
     requires { from ≤ length_shown view.now }
     ensures ok { IfOk result (λ place. place ≡ stop_of view.now from (option_copied to.entry)) }
     ensures checked { OnOk result (first_of (map (index_check (widget_of view.now)) (option_to_list (option_copied to.entry))) ≡ None) }
@@ -36,7 +40,7 @@ fn stop_of<S: TextStore>(view: &View<S>, from: usize, to: Option<&str>) -> Resul
 }
 
 /// The stretch from one place up to before another, with the text's end where the other is that.
-fn stretch_of<S: TextStore>(view: &View<S>, from: usize, to: usize) -> Stretch
+fn stretch_of<S: TextStore>(view: &ViewRef<'_, S>, from: usize, to: usize) -> Stretch
     requires { to ≤ length_shown view.now }
     ensures { result ≡ record { from = from; behind = if to == length_shown view.now then to + 1 else to } }
 {
@@ -49,7 +53,7 @@ fn stretch_of<S: TextStore>(view: &View<S>, from: usize, to: usize) -> Stretch
 /// The elements of a stretch that are asked for and aren't text, of one kind after the other.
 fn others_in<S: TextStore>(
     alloc: Global,
-    view: &View<S>,
+    view: &ViewRef<'_, S>,
     kinds: Kinds,
     stretch: Stretch,
 ) -> Result<Vec<Placed>, Fault>
@@ -70,7 +74,7 @@ fn others_in<S: TextStore>(
 /// Elements at the lines and characters of their places. `NoMemory` is its only fault.
 fn elements_at<S: TextStore>(
     alloc: Global,
-    view: &View<S>,
+    view: &ViewRef<'_, S>,
     all: Vec<Placed>,
 ) -> Result<Vec<Element>, Fault>
     requires { All (λ e. e.place ≤ length_shown view.now) all.items }
@@ -89,7 +93,7 @@ fn elements_at<S: TextStore>(
 /// the text's end too where the other is that.
 fn gathered<S: TextStore>(
     alloc: Global,
-    view: &View<S>,
+    view: &ViewRef<'_, S>,
     kinds: Kinds,
     from: usize,
     to: usize,
@@ -121,7 +125,7 @@ fn gathered<S: TextStore>(
 /// counted by the store: to find the next of them, or the next that isn't selected, a dump goes from place to place.
 pub fn dump<S: TextStore>(
     alloc: Global,
-    view: &View<S>,
+    view: &ViewRef<'_, S>,
     kinds: Kinds,
     from: &str,
     to: Option<&str>,

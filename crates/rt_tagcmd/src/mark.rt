@@ -4,15 +4,16 @@ ghost use Rattle.rt_stamps.specs.Outcomes.{Refuses};
 ghost use Rattle.rt_stamps.specs.Words.{as_words};
 ghost use Rattle.rt_tagcmd.specs.MarkCommands.{mark_set, mark_unset, mark_gravity, mark_gravity_set};
 
-use crate::seen::order;
+use crate::seen::{named, order};
 use rt_marks::Gravity;
 use rt_stamps::{Fault, check_name, check_names};
 use rt_store::TextStore;
-use rt_text::{OwnMark, View};
+use rt_text::{OwnMark, View, ViewRef};
 
 /// `mark set NAME INDEX` (Tk text manual): sets a mark at the place of the index. A mark that is there
 /// keeps its gravity, and a new one has right gravity; `insert` stands at most before the last
-/// newline. `BadName`, `BadIndex`, `NoneTagged`, or want of memory, and then nothing changes.
+/// newline. `BadName`, `BadIndex`, `NoneTagged`, or want of memory, and then nothing changes. It takes memory for a new
+/// name, and for an index of more than four modifiers.
 pub fn mark_set<S: TextStore>(view: &mut View<S>, name: &str, index: &str) -> Result<(), Fault>
     ensures ok { OnOk result (mark_set view.old name.now index.now ≡ Ok view.new) }
     ensures err { IfErr result (Refuses (mark_set view.old name.now index.now)) }
@@ -44,7 +45,7 @@ pub fn mark_unset<S: TextStore>(view: &mut View<S>, names: &[String]) -> Result<
 
 /// `mark gravity NAME` (Tk text manual): the gravity of a mark. `BadName` or `NoMark`. It takes no
 /// memory.
-pub fn mark_gravity<S: TextStore>(view: &View<S>, name: &str) -> Result<Gravity, Fault>
+pub fn mark_gravity<S: TextStore>(view: &ViewRef<'_, S>, name: &str) -> Result<Gravity, Fault>
     ensures { result ≡ mark_gravity view.now name.now }
 {
     check_name(name)?;
@@ -67,7 +68,7 @@ pub fn set_mark_gravity<S: TextStore>(
     ensures unchanged { OnErr result (view.new ≡ view.old) }
 {
     check_name(name)?;
-    order(view);
+    named(view);
     match OwnMark::of(name) {
         Some(which) => {
             view.set_own_gravity(which, gravity);

@@ -12,13 +12,13 @@ use rt_lines::Stretch;
 use rt_marks::{Gravity, Marks, Spot};
 use rt_stamps::Fault;
 use rt_store::TextStore;
-use rt_text::{OwnMark, View};
+use rt_text::{OwnMark, ViewRef};
 use std::alloc::Global;
 use std::cmp::Ordering;
 
 /// The first mark of a widget after a spot, where it stands before a place.
 fn next_before<'a, S: TextStore>(
-    view: &'a View<S>,
+    view: &ViewRef<'a, S>,
     here: &Spot<'_>,
     behind: usize,
 ) -> Option<Spot<'a>>
@@ -38,7 +38,7 @@ fn next_before<'a, S: TextStore>(
 /// The marks of a stretch, one after the other: a few binary searches for each where the widget shows all of the text.
 fn one_by_one<'a, S: TextStore>(
     alloc: Global,
-    view: &'a View<S>,
+    view: &ViewRef<'a, S>,
     from: usize,
     behind: usize,
 ) -> Result<Vec<Spot<'a>>, Fault>
@@ -117,7 +117,7 @@ fn sort(spots: &mut Vec<Spot<'_>>) -> Result<(), Fault>
 /// The marks of a stretch, each looked at once and then put in order.
 fn sorted<'a, S: TextStore>(
     alloc: Global,
-    view: &'a View<S>,
+    view: &ViewRef<'a, S>,
     from: usize,
     behind: usize,
 ) -> Result<Vec<Spot<'a>>, Fault>
@@ -132,12 +132,12 @@ fn sorted<'a, S: TextStore>(
     Ok(spots)
 }
 
-/// The marks of a widget that stand at a place or behind it, and before another, in the order of place, gravity and
+/// The marks of a widget that stand at a place of what it shows, counted from 0, or behind it, and before another, in the order of place, gravity and
 /// name: a few binary searches for each where the widget shows all of the text; else all marks are looked at, and those
 /// of the stretch sorted, as those outside of what is shown stand in another order then. `NoMemory` is its only fault.
 pub fn marks_between<'a, S: TextStore>(
     alloc: Global,
-    view: &'a View<S>,
+    view: &ViewRef<'a, S>,
     from: usize,
     behind: usize,
 ) -> Result<Vec<Spot<'a>>, Fault>

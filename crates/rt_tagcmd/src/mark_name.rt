@@ -8,7 +8,7 @@ ghost use Rattle.rt_tagcmd.specs.MarkCommands.{mark_names, inserted_by_bytes};
 
 use rt_stamps::Fault;
 use rt_store::TextStore;
-use rt_text::{OwnMark, View};
+use rt_text::{OwnMark, ViewRef};
 use std::alloc::Global;
 
 /// Whether a name comes before another by their bytes.
@@ -38,8 +38,8 @@ fn add_name(alloc: Global, names: &mut Vec<String>, name: &str) -> Result<(), Fa
 }
 
 /// `mark names` (Tk text manual): the names of all marks of a widget by their bytes, `insert` and
-/// `current` among them. `NoMemory` is its only fault.
-pub fn mark_names<S: TextStore>(alloc: Global, view: &View<S>) -> Result<Vec<String>, Fault>
+/// `current` and those outside of what it shows among them. `NoMemory` is its only fault.
+pub fn mark_names<S: TextStore>(alloc: Global, view: &ViewRef<'_, S>) -> Result<Vec<String>, Fault>
     ensures ok { IfOk result (λ names. as_words names.items ≡ mark_names view.now) }
     ensures fault { IsOkUnless result Fault.NoMemory }
 {

@@ -12,10 +12,10 @@ use rt_index::is_fixed;
 use rt_marks::{Gravity, Spot};
 use rt_stamps::Fault;
 use rt_store::TextStore;
-use rt_text::{OwnMark, View};
+use rt_text::{OwnMark, ViewRef};
 
 /// Where the mark of a name stands among the characters that the widget shows, an own one or one of the site.
-fn spot_of<'a, S: TextStore>(view: &'a View<S>, name: &str) -> Option<Spot<'a>>
+fn spot_of<'a, S: TextStore>(view: &ViewRef<'a, S>, name: &str) -> Option<Spot<'a>>
     ensures { option_map spotted result ≡ mark_of view.now name.now }
 {
     order(view);
@@ -26,7 +26,7 @@ fn spot_of<'a, S: TextStore>(view: &'a View<S>, name: &str) -> Option<Spot<'a>>
 }
 
 /// Where a word looks from.
-fn look<'a, S: TextStore>(view: &'a View<S>, word: &str) -> Result<Spot<'a>, Fault>
+fn look<'a, S: TextStore>(view: &ViewRef<'a, S>, word: &str) -> Result<Spot<'a>, Fault>
     ensures ok { IfOk result (λ spot. looked_from view.now word.now ≡ Ok (spotted spot)) }
     ensures err { IfErr result (Refuses (looked_from view.now word.now)) }
 {
@@ -54,7 +54,10 @@ fn name_of<'a>(mark: Option<Spot<'a>>) -> Option<&'a str>
 /// order of place, gravity and name. A word that names no mark, or is a position or `end`, is an
 /// index, and then it is the first mark at or after it. None where there is no such mark.
 /// `BadIndex`, `NoneTagged`, or want of memory.
-pub fn mark_next<'a, S: TextStore>(view: &'a View<S>, word: &str) -> Result<Option<&'a str>, Fault>
+pub fn mark_next<'a, S: TextStore>(
+    view: &ViewRef<'a, S>,
+    word: &str,
+) -> Result<Option<&'a str>, Fault>
     ensures ok { IfOk result (λ name. mark_next view.now word.now ≡ Ok (option_copied name)) }
     ensures err { IfErr result (Refuses (mark_next view.now word.now)) }
 {
@@ -68,7 +71,7 @@ pub fn mark_next<'a, S: TextStore>(view: &'a View<S>, word: &str) -> Result<Opti
 /// index, and then it is the last mark strictly before it. None where there is no such mark.
 /// `BadIndex`, `NoneTagged`, or want of memory.
 pub fn mark_previous<'a, S: TextStore>(
-    view: &'a View<S>,
+    view: &ViewRef<'a, S>,
     word: &str,
 ) -> Result<Option<&'a str>, Fault>
     ensures ok { IfOk result (λ name. mark_previous view.now word.now ≡ Ok (option_copied name)) }

@@ -9,7 +9,7 @@ use crate::seen::{order, own_spot, seen};
 use rt_lines::Stretch;
 use rt_marks::{Marks, Spot};
 use rt_store::TextStore;
-use rt_text::{OwnMark, View};
+use rt_text::{OwnMark, ViewRef};
 
 /// The first mark after a spot, of the one that was found and one more.
 fn nearer_after<'a>(here: &Spot<'_>, found: Option<Spot<'a>>, own: Spot<'a>) -> Option<Spot<'a>>
@@ -83,7 +83,7 @@ fn last_seen<'a>(marks: &'a Marks, stretch: Stretch, here: &Spot<'_>) -> Option<
 }
 
 /// Whether a widget shows all of the text.
-pub(crate) fn shows_all<S: TextStore>(view: &View<S>) -> bool
+pub(crate) fn shows_all<S: TextStore>(view: &ViewRef<'_, S>) -> bool
     ensures { result ≡ (stretch_by view.now).begin == 0 && (stretch_by view.now).end == length (text_of view.now.doc.cells) }
 {
     let stretch = view.stretch();
@@ -91,7 +91,7 @@ pub(crate) fn shows_all<S: TextStore>(view: &View<S>) -> bool
 }
 
 /// The first mark of the site after a spot, as the widget sees them: a binary search where it shows all of the text.
-fn first_shown<'a, S: TextStore>(view: &'a View<S>, here: &Spot<'_>) -> Option<Spot<'a>>
+fn first_shown<'a, S: TextStore>(view: &ViewRef<'a, S>, here: &Spot<'_>) -> Option<Spot<'a>>
     ensures { option_map spotted result ≡ find (comes_before (spotted here.now)) (marks_shown view.now) }
 {
     let marks = view.doc().marks();
@@ -104,7 +104,7 @@ fn first_shown<'a, S: TextStore>(view: &'a View<S>, here: &Spot<'_>) -> Option<S
 }
 
 /// The last mark of the site before a spot, as the widget sees them: a binary search where it shows all of the text.
-fn last_shown<'a, S: TextStore>(view: &'a View<S>, here: &Spot<'_>) -> Option<Spot<'a>>
+fn last_shown<'a, S: TextStore>(view: &ViewRef<'a, S>, here: &Spot<'_>) -> Option<Spot<'a>>
     ensures { option_map spotted result ≡ find_last (λ m. comes_before m (spotted here.now)) (marks_shown view.now) }
 {
     let marks = view.doc().marks();
@@ -117,7 +117,10 @@ fn last_shown<'a, S: TextStore>(view: &'a View<S>, here: &Spot<'_>) -> Option<Sp
 }
 
 /// The first mark of a widget after a spot.
-pub(crate) fn first_after<'a, S: TextStore>(view: &'a View<S>, here: &Spot<'_>) -> Option<Spot<'a>>
+pub(crate) fn first_after<'a, S: TextStore>(
+    view: &ViewRef<'a, S>,
+    here: &Spot<'_>,
+) -> Option<Spot<'a>>
     ensures { option_map spotted result ≡ find (comes_before (spotted here.now)) (marks_of view.now) }
 {
     order(view);
@@ -130,7 +133,10 @@ pub(crate) fn first_after<'a, S: TextStore>(view: &'a View<S>, here: &Spot<'_>) 
 }
 
 /// The last mark of a widget before a spot.
-pub(crate) fn last_before<'a, S: TextStore>(view: &'a View<S>, here: &Spot<'_>) -> Option<Spot<'a>>
+pub(crate) fn last_before<'a, S: TextStore>(
+    view: &ViewRef<'a, S>,
+    here: &Spot<'_>,
+) -> Option<Spot<'a>>
     ensures { option_map spotted result ≡ find_last (λ m. comes_before m (spotted here.now)) (marks_of view.now) }
 {
     order(view);

@@ -12,11 +12,11 @@ use rt_requests::{SearchRequest, Wanted, Word};
 use rt_search::{Direction, Overlaps, Part, Search, find_all, find_first, positions};
 use rt_stamps::{Fault, Position};
 use rt_store::TextStore;
-use rt_text::View;
+use rt_text::ViewRef;
 use std::alloc::Global;
 
 /// The text that a widget shows.
-pub fn shown<S: TextStore>(view: &View<S>) -> Part<'_, S>
+pub fn shown<'a, S: TextStore>(view: &ViewRef<'a, S>) -> Part<'a, S>
     ensures { result ≡ text_shown view.now }
 {
     Part::of(view.store(), view.stretch())
@@ -32,7 +32,7 @@ fn characters_of(alloc: Global, pattern: &str) -> Result<Vec<char>, Fault>
 }
 
 /// The place of an index.
-fn place_of_index<S: TextStore>(view: &View<S>, index: &Word<'_>) -> Result<usize, Fault>
+fn place_of_index<S: TextStore>(view: &ViewRef<'_, S>, index: &Word<'_>) -> Result<usize, Fault>
     ensures ok { IfOk result (λ place. place ≡ place_at_index (widget_of view.now) index.now) }
     ensures checked { IfOk result (λ place. index_check (widget_of view.now) index.now ≡ None) }
     ensures within { IfOk result (λ place. place ≤ length_shown view.now) }
@@ -42,7 +42,10 @@ fn place_of_index<S: TextStore>(view: &View<S>, index: &Word<'_>) -> Result<usiz
 }
 
 /// The place of an index, if there is one.
-fn stop_of<S: TextStore>(view: &View<S>, stop: &Option<Word<'_>>) -> Result<Option<usize>, Fault>
+fn stop_of<S: TextStore>(
+    view: &ViewRef<'_, S>,
+    stop: &Option<Word<'_>>,
+) -> Result<Option<usize>, Fault>
     ensures ok { IfOk result (λ place. place ≡ option_map (place_at_index (widget_of view.now)) stop.now) }
     ensures checked { IfOk result (λ place. first_of (map (index_check (widget_of view.now)) (option_to_list stop.now)) ≡ None) }
     ensures within { IfOk result (λ place. IfSome place (λ p. p ≤ length_shown view.now)) }
@@ -58,7 +61,7 @@ fn stop_of<S: TextStore>(view: &View<S>, stop: &Option<Word<'_>>) -> Result<Opti
 /// The line and the character of the first match, if there is one.
 fn one_found<S: TextStore>(
     alloc: Global,
-    view: &View<S>,
+    view: &ViewRef<'_, S>,
     pattern: &[char],
     search: Search,
     start: usize,
@@ -80,7 +83,7 @@ fn one_found<S: TextStore>(
 /// The lines and characters of places, which mostly rise, or mostly fall.
 fn positions_along<S: TextStore>(
     alloc: Global,
-    view: &View<S>,
+    view: &ViewRef<'_, S>,
     direction: Direction,
     mut places: Vec<usize>,
 ) -> Result<Vec<Position>, Fault>
@@ -103,7 +106,7 @@ fn positions_along<S: TextStore>(
 /// The lines and characters of all matches.
 fn each_found<S: TextStore>(
     alloc: Global,
-    view: &View<S>,
+    view: &ViewRef<'_, S>,
     pattern: &[char],
     search: Search,
     overlaps: Overlaps,
@@ -123,11 +126,12 @@ fn each_found<S: TextStore>(
 
 /// `search` (Tk text manual, "search"), by what its words ask for: where the
 /// pattern stands, as lines and characters. Without `-all` that is at most one place: forwards the least of the first
-/// stretch that has one, backwards the greatest. With `-all` they are all places, stretch after stretch, rising when
-/// forwards and falling when backwards. `BadIndex`, `NoneTagged`, then `EmptyPattern`, or want of memory.
+/// stretch that has one, backwards the greatest. With `-all` they are those of the matches that are taken in turn, stretch
+/// after stretch, rising when forwards and falling when backwards; without `-overlap` a match that shares a character with
+/// one that is taken is passed over. `BadIndex`, `NoneTagged`, then `EmptyPattern`, or want of memory.
 pub fn search<S: TextStore>(
     alloc: Global,
-    view: &View<S>,
+    view: &ViewRef<'_, S>,
     request: &SearchRequest<'_>,
 ) -> Result<Vec<Position>, Fault>
     ensures ok { IfOk result (λ found. searched view.now request.now ≡ Ok found.items) }

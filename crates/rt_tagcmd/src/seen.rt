@@ -8,10 +8,10 @@ ghost use Rattle.rt_text.specs.Widgets.{mark_of, mark_seen, marks_of, marks_show
 use rt_lines::Stretch;
 use rt_marks::Spot;
 use rt_store::TextStore;
-use rt_text::{OwnMark, View};
+use rt_text::{OwnMark, View, ViewRef};
 
 /// The marks of a widget are in order, each has a name, and a name names what it names among them.
-pub(crate) fn order<S: TextStore>(view: &View<S>)
+pub(crate) fn order<S: TextStore>(view: &ViewRef<'_, S>)
     ensures order { AreInOrder (marks_of view.now) }
     ensures names { AllByRecursion (λ m. IsName m.name) (marks_of view.now) }
     ensures named { (name : List ℕ) → named name (marks_of view.now) ≡ mark_of view.now name }
@@ -24,8 +24,15 @@ pub(crate) fn order<S: TextStore>(view: &View<S>)
     let _ = view.widget();
 }
 
+/// The site's marks of the names, as the widget that commands shows them.
+pub(crate) fn named<S: TextStore>(view: &View<S>)
+    ensures { (name : List ℕ) → named name (marks_shown view.now) ≡ option_map (mark_seen (stretch_by view.now)) (named name view.now.doc.marks) }
+{
+    order(&view.shown());
+}
+
 /// Where a widget's own mark stands among the characters that it shows.
-pub(crate) fn own_spot<S: TextStore>(view: &View<S>, which: OwnMark) -> Spot<'static>
+pub(crate) fn own_spot<S: TextStore>(view: &ViewRef<'_, S>, which: OwnMark) -> Spot<'static>
     ensures { spotted result ≡ own_mark which (own_shown view.now) }
 {
     let widget = view.widget();

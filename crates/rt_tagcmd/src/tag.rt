@@ -7,7 +7,7 @@ ghost use Rattle.rt_tagcmd.specs.TagCommands.{tag_added, tag_lowered, tag_names,
 use crate::name::check_both;
 use rt_stamps::{Fault, check_name, check_names};
 use rt_store::TextStore;
-use rt_text::View;
+use rt_text::{View, ViewRef};
 use std::alloc::Global;
 
 // Puts a tag on the characters in the ranges that indices name in pairs, or takes it off.
@@ -60,8 +60,8 @@ pub fn tag_remove<S: TextStore>(
     write(view, false, name, indices)
 }
 
-/// `tag delete NAME ?NAME ...?` (Tk text manual): takes tags off all characters, and lists them no
-/// longer. Names that aren't listed are passed over, and so is `sel`. `BadName`, `ClockSpent`, or
+/// `tag delete NAME ?NAME ...?` (Tk text manual): takes tags off all characters of the whole text, whichever
+/// lines the widget shows, and lists them no longer. Names that aren't listed are passed over, and so is `sel`. `BadName`, `ClockSpent`, or
 /// want of memory, and then nothing changes. It takes one count for each 65,536 spans of stamps of
 /// each tag or a part of them.
 pub fn tag_delete<S: TextStore>(view: &mut View<S>, names: &[String]) -> Result<(), Fault>
@@ -107,7 +107,7 @@ pub fn tag_lower<S: TextStore>(
 
 /// `tag names` (Tk text manual): the listed tags, lowest priority first. `NoMemory` is its only
 /// fault.
-pub fn tag_names<S: TextStore>(view: &View<S>) -> Result<Vec<String>, Fault>
+pub fn tag_names<S: TextStore>(view: &ViewRef<'_, S>) -> Result<Vec<String>, Fault>
     ensures ok { IfOk result (λ names. as_words names.items ≡ tag_names view.now) }
     ensures err { IsOkUnless result Fault.NoMemory }
 {
@@ -118,7 +118,7 @@ pub fn tag_names<S: TextStore>(view: &View<S>) -> Result<Vec<String>, Fault>
 /// first, and none at the text's end. `BadIndex`, `NoneTagged`, or want of memory.
 pub fn tag_names_at<S: TextStore>(
     alloc: Global,
-    view: &View<S>,
+    view: &ViewRef<'_, S>,
     index: &str,
 ) -> Result<Vec<String>, Fault>
     ensures ok { IfOk result (λ names. tag_names_at view.now index.now ≡ Ok (as_words names.items)) }

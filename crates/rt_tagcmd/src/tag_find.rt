@@ -10,13 +10,13 @@ ghost use Rattle.rt_text.specs.Widgets.{length_shown, widget_of};
 use crate::tag_range::{next_range, previous_range, ranges};
 use rt_stamps::{Fault, Position, check_name};
 use rt_store::TextStore;
-use rt_text::{Range, View};
+use rt_text::{Range, ViewRef};
 use std::alloc::Global;
 
 // Where ranges begin and end, in turn.
 fn range_ends<S: TextStore>(
     alloc: Global,
-    view: &View<S>,
+    view: &ViewRef<'_, S>,
     ranges: &[Range],
 ) -> Result<Vec<Position>, Fault>
     requires { All (λ range. (range.from ≤ length_shown view.now) × (range.to ≤ length_shown view.now)) ranges.now }
@@ -36,7 +36,7 @@ fn range_ends<S: TextStore>(
 /// memory.
 pub fn tag_ranges<S: TextStore>(
     alloc: Global,
-    view: &View<S>,
+    view: &ViewRef<'_, S>,
     name: &str,
 ) -> Result<Vec<Position>, Fault>
     ensures ok { IfOk result (λ positions. tag_ranges view.now name.now ≡ Ok positions.items) }
@@ -51,7 +51,7 @@ pub fn tag_ranges<S: TextStore>(
 
 // The places of an index and perhaps another one, or of an index and a place where that isn't given.
 fn search_places<S: TextStore>(
-    view: &View<S>,
+    view: &ViewRef<'_, S>,
     index: &str,
     other: Option<&str>,
     without: usize,
@@ -76,7 +76,7 @@ fn search_places<S: TextStore>(
 // Where a range begins and ends, if there is one.
 fn found_ends<S: TextStore>(
     alloc: Global,
-    view: &View<S>,
+    view: &ViewRef<'_, S>,
     range: Option<Range>,
 ) -> Result<Vec<Position>, Fault>
     requires { All (λ range. (range.from ≤ length_shown view.now) × (range.to ≤ length_shown view.now)) (option_to_list range) }
@@ -95,7 +95,7 @@ fn found_ends<S: TextStore>(
 /// text's end. `BadName`, `BadIndex`, `NoneTagged`, or want of memory.
 pub fn tag_nextrange<S: TextStore>(
     alloc: Global,
-    view: &View<S>,
+    view: &ViewRef<'_, S>,
     name: &str,
     from: &str,
     to: Option<&str>,
@@ -114,7 +114,7 @@ pub fn tag_nextrange<S: TextStore>(
 /// a second index it is the text's beginning. `BadName`, `BadIndex`, `NoneTagged`, or want of memory.
 pub fn tag_prevrange<S: TextStore>(
     alloc: Global,
-    view: &View<S>,
+    view: &ViewRef<'_, S>,
     name: &str,
     to: &str,
     from: Option<&str>,

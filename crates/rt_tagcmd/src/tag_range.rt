@@ -6,18 +6,18 @@ ghost use Rattle.rt_text.specs.Widgets.{is_tagged, shown_by};
 
 use rt_stamps::Fault;
 use rt_store::TextStore;
-use rt_text::{Range, View};
+use rt_text::{Range, ViewRef};
 use std::alloc::Global;
 
 // Whether a character stands at a place and has a tag.
-fn has_tag<S: TextStore>(view: &View<S>, name: &str, place: usize) -> bool
+fn has_tag<S: TextStore>(view: &ViewRef<'_, S>, name: &str, place: usize) -> bool
     ensures { Decides result (Passes (is_tagged view.now.own name.now) (shown_by view.now) place) }
 {
     view.next_tagged(name, place) == Some(place)
 }
 
 // Up to where all characters from a place on have a tag.
-fn tagged_up_to<S: TextStore>(view: &View<S>, name: &str, place: usize) -> usize
+fn tagged_up_to<S: TextStore>(view: &ViewRef<'_, S>, name: &str, place: usize) -> usize
     requires { place ≤ length (shown_by view.now) }
     ensures { PassUpTo (is_tagged view.now.own name.now) (shown_by view.now) place result }
 {
@@ -26,7 +26,7 @@ fn tagged_up_to<S: TextStore>(view: &View<S>, name: &str, place: usize) -> usize
 }
 
 // The end of the range that reaches over a place, or the place where none does.
-fn clear_from<S: TextStore>(view: &View<S>, name: &str, place: usize) -> usize
+fn clear_from<S: TextStore>(view: &ViewRef<'_, S>, name: &str, place: usize) -> usize
     ensures { IsClearFrom (is_tagged view.now.own name.now) (shown_by view.now) place result }
 {
     if place > 0 && has_tag(view, name, place - 1) {
@@ -36,7 +36,7 @@ fn clear_from<S: TextStore>(view: &View<S>, name: &str, place: usize) -> usize
 }
 
 // The first range that begins at a place or later.
-fn first_range<S: TextStore>(view: &View<S>, name: &str, place: usize) -> Option<Range>
+fn first_range<S: TextStore>(view: &ViewRef<'_, S>, name: &str, place: usize) -> Option<Range>
     ensures { result ≡ first_range_from place (passing_ranges (is_tagged view.now.own name.now) (shown_by view.now)) }
 {
     let clear = clear_from(view, name, place);
@@ -45,8 +45,12 @@ fn first_range<S: TextStore>(view: &View<S>, name: &str, place: usize) -> Option
     Some(Range { from, to })
 }
 
-/// The ranges of characters that have a tag, in order. `NoMemory` is its only fault.
-pub fn ranges<S: TextStore>(alloc: Global, view: &View<S>, name: &str) -> Result<Vec<Range>, Fault>
+/// The ranges of characters that have a tag, in order, by places of what the widget shows, from 0. `NoMemory` is its only fault.
+pub fn ranges<S: TextStore>(
+    alloc: Global,
+    view: &ViewRef<'_, S>,
+    name: &str,
+) -> Result<Vec<Range>, Fault>
     ensures ok { IfOk result (λ ranges. ranges.items ≡ passing_ranges (is_tagged view.now.own name.now) (shown_by view.now)) }
     ensures err { IsOkUnless result Fault.NoMemory }
 {
@@ -61,7 +65,7 @@ pub fn ranges<S: TextStore>(alloc: Global, view: &View<S>, name: &str) -> Result
 
 /// The first range of a tag that begins at one place or later, and before another.
 pub(crate) fn next_range<S: TextStore>(
-    view: &View<S>,
+    view: &ViewRef<'_, S>,
     name: &str,
     from: usize,
     to: usize,
@@ -73,7 +77,7 @@ pub(crate) fn next_range<S: TextStore>(
 }
 
 // Whether all characters from a place on have a tag, up to one that has it.
-fn all_tagged<S: TextStore>(view: &View<S>, name: &str, from: usize, last: usize) -> bool
+fn all_tagged<S: TextStore>(view: &ViewRef<'_, S>, name: &str, from: usize, last: usize) -> bool
     requires { Passes (is_tagged view.now.own name.now) (shown_by view.now) last }
     ensures { Decides result (PassThrough (is_tagged view.now.own name.now) (shown_by view.now) from last) }
 {
@@ -85,7 +89,7 @@ fn all_tagged<S: TextStore>(view: &View<S>, name: &str, from: usize, last: usize
 
 // A place that the range of another, which has the tag, doesn't begin before. It is looked for in steps that double, so
 // it isn't much farther away than where the range begins.
-fn begin_from<S: TextStore>(view: &View<S>, name: &str, place: usize) -> usize
+fn begin_from<S: TextStore>(view: &ViewRef<'_, S>, name: &str, place: usize) -> usize
     requires { Passes (is_tagged view.now.own name.now) (shown_by view.now) place }
     ensures within { result ≤ place }
     ensures begin { BeginFrom (is_tagged view.now.own name.now) (shown_by view.now) place result }
@@ -103,7 +107,7 @@ fn begin_from<S: TextStore>(view: &View<S>, name: &str, place: usize) -> usize
 }
 
 // Where the range begins that holds a place.
-fn range_begin<S: TextStore>(view: &View<S>, name: &str, place: usize) -> usize
+fn range_begin<S: TextStore>(view: &ViewRef<'_, S>, name: &str, place: usize) -> usize
     requires { Passes (is_tagged view.now.own name.now) (shown_by view.now) place }
     ensures { IsBegin (is_tagged view.now.own name.now) (shown_by view.now) place result }
 {
@@ -122,7 +126,7 @@ fn range_begin<S: TextStore>(view: &View<S>, name: &str, place: usize) -> usize
 
 /// The last range of a tag that begins before one place, and at another or later.
 pub(crate) fn previous_range<S: TextStore>(
-    view: &View<S>,
+    view: &ViewRef<'_, S>,
     name: &str,
     to: usize,
     from: usize,

@@ -6,7 +6,10 @@ use rt_requests::{
 };
 use rt_script::{Reply, SiteState, ToldChange};
 use rt_stamps::limits::{MOST_BYTES, MOST_CELLS};
-use rt_stamps::{FINAL, Fault, Site, Stamp};
+use rt_stamps::{FINAL, Fault, Position, Site, Stamp};
+use rt_tagcmd::{Element, Key, dump, tag_ranges};
+use rt_text::{PlaceIndex, ViewRef};
+use rt_tree::TreeStore;
 use std::alloc::Global;
 use std::process::Abort;
 
@@ -91,20 +94,18 @@ impl Screen {
         Ok(())
     }
 
-    // What a dump tells, three words for each element: its kind, its value and its index.
-    fn of(alloc: Global, dump: &[String]) -> Result<Screen, Fault> {
+    // What the elements of a dump tell.
+    fn of(alloc: Global, elements: &[Element]) -> Result<Screen, Fault> {
         let mut screen = Screen {
             glyphs: Vec::new(alloc),
         };
         let mut is_bold = false;
-        for element in dump.chunks(3) {
-            if let [kind, value, _] = element {
-                match (kind.as_str(), value.as_str()) {
-                    ("text", text) => screen.add(text, is_bold)?,
-                    ("tagon", "bold") => is_bold = true,
-                    ("tagoff", "bold") => is_bold = false,
-                    _ => {}
-                }
+        for element in elements {
+            match (element.key(), element.value()) {
+                (Key::Text, text) => screen.add(text, is_bold)?,
+                (Key::TagOn, "bold") => is_bold = true,
+                (Key::TagOff, "bold") => is_bold = false,
+                _ => {}
             }
         }
         Ok(screen)
@@ -183,6 +184,11 @@ impl Editor {
         Ok(editor)
     }
 
+    // What the site's widget shows, to be read.
+    fn widget(&self) -> Result<ViewRef<'_, TreeStore>, Fault> {
+        self.site.widget(".t").ok_or(Fault::NoWidget)
+    }
+
     // Draws all anew.
     fn draw(&mut self) -> Result<(), Fault> {
         self.is_stale = true;
@@ -191,10 +197,8 @@ impl Editor {
             marks: false,
             text: true,
         };
-        let from = Word::new("1.0");
-        let to = Some(Word::new("end"));
-        let dump = self.site.answer(".t", &Request::Dump { kinds, from, to })?;
-        self.screen = Screen::of(self.alloc, &dump.words)?;
+        let all = dump(self.alloc, &self.widget()?, kinds, "1.0", Some("end"))?;
+        self.screen = Screen::of(self.alloc, &all)?;
         self.is_stale = false;
         self.draws = self.draws.saturating_add(1);
         Ok(())
@@ -300,16 +304,13 @@ impl Editor {
     }
 
     // The whole text.
-    fn text(&mut self) -> Result<Reply, Fault> {
-        let range = range(self.alloc, "1.0", "end")?;
-        let indices = Words::new(&range).ok_or(Fault::BadCommand)?;
-        self.ask(&Request::Get { indices })
+    fn text(&self) -> Result<String, Fault> {
+        self.widget()?.get("1.0", "end")
     }
 
-    // The ranges that are bold.
-    fn ranges(&mut self) -> Result<Reply, Fault> {
-        let name = Word::new("bold");
-        self.ask(&Request::Tag(TagRequest::Ranges { name }))
+    // Where ranges that are bold begin and end.
+    fn ranges(&self) -> Result<Vec<Position>, Fault> {
+        tag_ranges(self.alloc, &self.widget()?, "bold")
     }
 }
 
@@ -322,69 +323,69 @@ fn text_of(alloc: Global, glyphs: &[Glyph]) -> Result<String, Fault> {
     Ok(text)
 }
 
-// Adds an index, a space behind it.
-fn add_index(alloc: Global, to: &mut String, line: usize, character: usize) -> Result<(), Fault> {
-    let index = format!(in alloc; "{line}.{character} ")?;
-    to.push_str(index.as_str())?;
-    Ok(())
-}
-
-// The indices at which bold begins and ends.
-fn borders(alloc: Global, glyphs: &[Glyph]) -> Result<String, Fault> {
-    let mut borders = String::new(alloc);
+// Where bold begins and ends.
+fn borders(alloc: Global, glyphs: &[Glyph]) -> Result<Vec<Position>, Fault> {
+    let mut borders = Vec::new(alloc);
     let mut was_bold = false;
-    let mut line = 1usize;
-    let mut character = 0usize;
+    let mut at = Position {
+        line: 1,
+        character: 0,
+    };
     for glyph in glyphs {
         if glyph.is_bold != was_bold {
-            add_index(alloc, &mut borders, line, character)?;
+            borders.push(at)?;
             was_bold = glyph.is_bold;
         }
-        character = character.saturating_add(1);
+        at.character = at.character.saturating_add(1);
         if glyph.character == '\n' {
-            line = line.saturating_add(1);
-            character = 0;
+            at.line = at.line.saturating_add(1);
+            at.character = 0;
         }
     }
     if was_bold {
-        add_index(alloc, &mut borders, line, character)?;
+        borders.push(at)?;
     }
     Ok(borders)
 }
 
+// Some indices, a space behind each.
+fn indices(alloc: Global, positions: &[Position]) -> Result<String, Fault> {
+    let mut indices = String::new(alloc);
+    for position in positions {
+        indices.push_str(&format!(in alloc; "{position} ")?)?;
+    }
+    Ok(indices)
+}
+
 // Stops a test where an editor shows another text than its site has.
-fn shows_text(rt: &impl Abort, editor: &mut Editor) {
-    let alloc = editor.alloc;
-    let shown = text_of(alloc, &editor.screen.glyphs).expect(rt, "memory");
-    let reply = editor.text().expect(rt, "memory");
-    let text = reply.words.concat(alloc).expect(rt, "memory");
+fn shows_text(rt: &impl Abort, editor: &Editor) {
+    let shown = text_of(editor.alloc, &editor.screen.glyphs).expect(rt, "memory");
+    let text = editor.text().expect(rt, "memory");
     same(rt, shown.as_str(), text.as_str());
 }
 
 // Stops a test where other characters are bold.
-fn shows_bold(rt: &impl Abort, editor: &mut Editor) {
-    let alloc = editor.alloc;
-    let shown = borders(alloc, &editor.screen.glyphs).expect(rt, "memory");
-    let reply = editor.ranges().expect(rt, "memory");
-    let ranges = reply.words.join(alloc, " ").expect(rt, "memory");
-    same(rt, shown.as_str().trim_end(), ranges.as_str());
+fn shows_bold(rt: &impl Abort, editor: &Editor) {
+    let shown = borders(editor.alloc, &editor.screen.glyphs).expect(rt, "memory");
+    let ranges = editor.ranges().expect(rt, "memory");
+    same(rt, shown.as_slice(), ranges.as_slice());
 }
 
 // Stops a test where an editor shows something else than its site has, or drew all another number of times.
-fn follows(rt: &impl Abort, editor: &mut Editor, draws: usize) {
+fn follows(rt: &impl Abort, editor: &Editor, draws: usize) {
     shows_text(rt, editor);
     shows_bold(rt, editor);
     same(rt, editor.draws, draws);
 }
 
 // Stops a test where two editors don't follow by changes alone.
-fn both_follow(rt: &impl Abort, one: &mut Editor, other: &mut Editor) {
+fn both_follow(rt: &impl Abort, one: &Editor, other: &Editor) {
     follows(rt, one, 1);
     follows(rt, other, 1);
 }
 
 // Stops a test where a step is refused, or two editors don't follow it by changes alone.
-fn step(rt: &impl Abort, reply: Result<Reply, Fault>, one: &mut Editor, other: &mut Editor) {
+fn step(rt: &impl Abort, reply: Result<Reply, Fault>, one: &Editor, other: &Editor) {
     same(rt, reply.err(), None);
     both_follow(rt, one, other);
 }
@@ -408,6 +409,7 @@ fn shows(rt: &impl Abort, editor: &Editor, wanted: &str) {
 // Stops a test where other indices are the borders of what is bold.
 fn is_bold(rt: &impl Abort, editor: &Editor, wanted: &str) {
     let shown = borders(editor.alloc, &editor.screen.glyphs).expect(rt, "memory");
+    let shown = indices(editor.alloc, &shown).expect(rt, "memory");
     same(rt, shown.as_str().trim_end(), wanted);
 }
 
@@ -423,7 +425,8 @@ fn write(rt: &impl Abort, anna: &mut Editor, ben: &mut Editor) {
     step(rt, anna.insert("1.0", "milk, bread"), anna, ben);
     exchange(rt, anna, ben, "milk, bread\n");
     anna.point(6, ben);
-    step(rt, anna.insert("1.0", "buy "), anna, ben);
+    let first = PlaceIndex::new(0);
+    step(rt, anna.insert(first.text(), "buy "), anna, ben);
     step(rt, ben.insert("1.0", "- "), anna, ben);
     same(rt, ben.guest_place(), Some(8));
     step(rt, ben.delete("1.8", "1.end"), anna, ben);
@@ -483,11 +486,11 @@ fn an_editor_draws_all_anew(rt: HostRuntime) {
     let mut editor = Editor::new(alloc, 1).expect(&rt, "memory");
     same(&rt, editor.insert("1.0", "a\nb").err(), None);
     same(&rt, editor.tag(true, "1.1", "end").err(), None);
-    follows(&rt, &mut editor, 1);
+    follows(&rt, &editor, 1);
     same(&rt, editor.delete("2.0", "end").err(), None);
-    follows(&rt, &mut editor, 1);
+    follows(&rt, &editor, 1);
     shows(&rt, &editor, "a\n");
     editor.is_stale = true;
     same(&rt, editor.insert("1.1", "c").err(), None);
-    follows(&rt, &mut editor, 2);
+    follows(&rt, &editor, 2);
 }

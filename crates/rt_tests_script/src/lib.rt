@@ -78,4 +78,6 @@ mod undoing;
 #[cfg(test)]
 mod undoing_sites;
 #[cfg(test)]
+mod values;
+#[cfg(test)]
 mod widgets;

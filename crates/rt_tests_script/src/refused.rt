@@ -71,15 +71,16 @@ fn tag(alloc: Global, view: &mut Text, line: &str) -> Result<(), Fault> {
 
 // What a text tells: its characters, where each tag is, a mark, and how many operations there are.
 fn seen(alloc: Global, view: &Text) -> Result<String, Fault> {
-    let mut seen = view.get("1.0", "end")?;
-    for name in tag_names(view)? {
+    let shown = view.shown();
+    let mut seen = shown.get("1.0", "end")?;
+    for name in tag_names(&shown)? {
         seen.push_str(&name)?;
-        for position in tag_ranges(alloc, view, &name)? {
+        for position in tag_ranges(alloc, &shown, &name)? {
             seen.push_str(&format!(in alloc; " {position}")?)?;
         }
         seen.push_str(", ")?;
     }
-    let cursor = view.index("insert")?;
+    let cursor = shown.index("insert")?;
     let operations = view.doc().log().len();
     seen.push_str(&format!(in alloc; "{cursor}, {operations}")?)?;
     Ok(seen)
@@ -267,7 +268,7 @@ fn taken(rt: &impl Abort, alloc: Global, from: &EditedText, refused: usize) -> u
         let op = op.copied(alloc).expect(rt, "memory");
         refusals = refusals.saturating_add(site.took(rt, op));
     }
-    let text = site.view.get("1.0", "end").expect(rt, "memory");
+    let text = site.view.shown().get("1.0", "end").expect(rt, "memory");
     same(rt, text.as_str(), "yzd\n");
     refusals
 }

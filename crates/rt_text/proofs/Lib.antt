@@ -25,6 +25,7 @@ pub mod ListedText
 pub mod MadeDocument
 pub mod MarkLaws
 pub mod MovingLaws
+pub mod NamedPlaces
 pub mod NeighbourLines
 pub mod NewCells
 pub mod PartLines

@@ -13,6 +13,7 @@ pub mod Limited
 pub mod Lines
 pub mod Neighbours
 pub mod Owned
+pub mod PlaceWords
 pub mod Proper
 pub mod Ranges
 pub mod Replacements

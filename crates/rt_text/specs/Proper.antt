@@ -1,4 +1,4 @@
--- What is so of every widget, as index expressions see it.
+-- What is so of every widget, as index expressions see it: proofs, nothing to believe.
 use Rattle.std.proofs.Common.{◌≡◌, ◌∙◌, ℕ, zero, suc, ◌+◌, ◌-◌, ◌<◌, ◌≤◌, List, [], ◌∷◌, ◌++◌, Bool, true, false, cond, not, Option, Some, None, length, map, take, drop, refl, sym, ap, arith}
 use Rattle.std.specs.Prelude.{codes, IsSome, option_map, option_and_then, nat_lt, slice_get}
 use Rattle.std.specs.List.{position_or_len}

@@ -1,5 +1,5 @@
 -- A widget: its own marks, and what index expressions see of it.
-use Rattle.std.specs.Prelude.{◌≡◌, ℕ, ◌+◌, ◌-◌, ◌<◌, ◌≤◌, ◌&&◌, nat_lt, Bool, false, List, [], ◌∷◌, length, map, min, filter, Option, Some, None, is_some, option_map, option_and_then, slice_get, unwrap_or, if◌then◌else◌, codes}
+use Rattle.std.specs.Prelude.{◌≡◌, ℕ, ◌+◌, ◌-◌, ◌<◌, ◌≤◌, ◌&&◌, nat_lt, Bool, false, List, [], ◌∷◌, length, map, min, filter, Option, Some, None, is_some, option_map, option_and_then, get_or, slice_get, unwrap_or, if◌then◌else◌, codes}
 use Rattle.std.specs.List.{AllByRecursion}
 use Rattle.std.specs.Str.{bytes_eq}
 use Rattle.rt_index.specs.Widget.{IndexedWidget, TagEnds}
@@ -139,6 +139,14 @@ pub record ViewValue : Type 0 where
   pub others : List WidgetValue
 
 -- EACH WIDGET OF A SITE
+
+-- each widget of the site, the one that commands first
+abbrev pub widgets_of : ViewValue → List WidgetValue
+widgets_of view = view.own ∷ view.others
+
+-- the document as the widget of a number shows it
+abbrev pub view_as : ℕ → ViewValue → ViewValue
+view_as number view = record view { own = get_or (widgets_of view) number view.own }
 
 -- the limits of each widget, those of the one that commands first
 abbrev pub limits_of : ViewValue → List Limits

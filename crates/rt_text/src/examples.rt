@@ -6,6 +6,7 @@ ghost use Rattle.rt_index.specs.Index.{index_of};
 ghost use Rattle.rt_text.specs.Commands.{insertion_place};
 ghost use Rattle.rt_text.specs.Distances.{distance_of};
 ghost use Rattle.rt_text.specs.Examples.{two_lines};
+ghost use Rattle.rt_text.specs.PlaceWords.{place_word};
 ghost use Rattle.rt_text.specs.Ranges.{ranges_of, text_between, texts_of};
 
 /// Of the lines `abc` and `de`: a character past a line's end is its newline, `end` is behind the last newline, and modifiers
@@ -36,4 +37,10 @@ pub fn distances()
     ensures backward { distance_of two_lines.text 4 1 Chars ≡ pos 0 -ℤ pos 3 }
     ensures lines { distance_of two_lines.text 0 5 Lines ≡ pos 1 }
     ensures one_line { distance_of two_lines.text 4 5 Lines ≡ pos 0 }
+{}
+
+/// Places as indices are written.
+pub fn places()
+    ensures first { place_word 0 ≡ codes "1.0+0c" }
+    ensures twelve { place_word 12 ≡ codes "1.0+12c" }
 {}

@@ -9,14 +9,12 @@ ghost use Rattle.rt_text.specs.Widgets.{IsOwnOf, limits_of, new_own};
 ghost use Rattle.rt_lines.specs.Ordered.{AreInOrder};
 
 mod accepting;
-mod cursors;
 mod editing;
-mod lending;
 mod limiting;
 mod losing;
 mod marking;
 mod noting;
-mod reading;
+mod placing;
 mod replacing;
 mod reverting;
 mod tagging;

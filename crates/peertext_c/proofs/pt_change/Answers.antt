@@ -1,6 +1,6 @@
 use Rattle.std.proofs.Common.{◌≡◌, Some, inr, of_z, refl, subst, to_z, w32}
 use Rattle.std.specs.Prelude.{slice_get}
-use Rattle.peertext_c.specs.Changes.{change_lines}
+use Rattle.rt_script.specs.Changes.{change_lines}
 use Rattle.peertext_c.specs.Held.{Held, known_changes}
 use Rattle.peertext_c.proofs.Saying.{says_made}
 use Rattle.peertext_c.proofs.pt_change.Goals as goal

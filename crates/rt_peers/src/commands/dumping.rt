@@ -11,7 +11,7 @@ use crate::reply::Reply;
 use rt_requests::{Kinds, Word};
 use rt_stamps::Fault;
 use rt_tagcmd::Element;
-use rt_text::View;
+use rt_text::ViewRef;
 use rt_tree::TreeStore;
 use std::alloc::Global;
 
@@ -41,7 +41,7 @@ fn elements_reply(alloc: Global, elements: &[Element]) -> Result<Reply, Fault>
 // Tags, marks and text from an index up to before another, or of the character at an index.
 pub(crate) fn dump(
     alloc: Global,
-    view: &View<TreeStore>,
+    view: &ViewRef<'_, TreeStore>,
     kinds: Kinds,
     from: &Word<'_>,
     to: &Option<Word<'_>>,

@@ -14,7 +14,7 @@ use rt_stamps::Fault;
 use rt_tagcmd::{
     mark_gravity, mark_names, mark_next, mark_previous, mark_set, mark_unset, set_mark_gravity,
 };
-use rt_text::View;
+use rt_text::{View, ViewRef};
 use rt_tree::TreeStore;
 use std::alloc::Global;
 
@@ -51,7 +51,7 @@ fn unset_marks(alloc: Global, view: &mut View<TreeStore>, names: &Words<'_>) -> 
 }
 
 // The gravity of a mark.
-fn gravity(alloc: Global, view: &View<TreeStore>, name: &Word<'_>) -> Result<Reply, Fault>
+fn gravity(alloc: Global, view: &ViewRef<'_, TreeStore>, name: &Word<'_>) -> Result<Reply, Fault>
     ensures { Answers (told_step (λ gravity. one_word (gravity_word gravity)) view.now (mark_gravity view.now name.now)) view.now result view.now }
 {
     let gravity = mark_gravity(view, name.text())?;
@@ -72,7 +72,7 @@ fn set_gravity(
 }
 
 // The names of all marks.
-fn all_marks(alloc: Global, view: &View<TreeStore>) -> Result<Reply, Fault>
+fn all_marks(alloc: Global, view: &ViewRef<'_, TreeStore>) -> Result<Reply, Fault>
     ensures { Answers (Ok (mark_names view.now, view.now)) view.now result view.now }
 {
     let words = mark_names(alloc, view)?;
@@ -80,7 +80,7 @@ fn all_marks(alloc: Global, view: &View<TreeStore>) -> Result<Reply, Fault>
 }
 
 // The mark after another, or after an index.
-fn next_mark(alloc: Global, view: &View<TreeStore>, word: &Word<'_>) -> Result<Reply, Fault>
+fn next_mark(alloc: Global, view: &ViewRef<'_, TreeStore>, word: &Word<'_>) -> Result<Reply, Fault>
     ensures { Answers (told_step words_of view.now (mark_next view.now word.now)) view.now result view.now }
 {
     let name = mark_next(view, word.text())?;
@@ -88,7 +88,11 @@ fn next_mark(alloc: Global, view: &View<TreeStore>, word: &Word<'_>) -> Result<R
 }
 
 // The mark before another, or before an index.
-fn previous_mark(alloc: Global, view: &View<TreeStore>, word: &Word<'_>) -> Result<Reply, Fault>
+fn previous_mark(
+    alloc: Global,
+    view: &ViewRef<'_, TreeStore>,
+    word: &Word<'_>,
+) -> Result<Reply, Fault>
     ensures { Answers (told_step words_of view.now (mark_previous view.now word.now)) view.now result view.now }
 {
     let name = mark_previous(view, word.text())?;
@@ -106,10 +110,10 @@ pub(crate) fn mark(
     match request {
         MarkRequest::Set { name, index } => set_mark(alloc, view, name, index),
         MarkRequest::Unset { names } => unset_marks(alloc, view, names),
-        MarkRequest::Gravity { name } => gravity(alloc, view, name),
+        MarkRequest::Gravity { name } => gravity(alloc, &view.shown(), name),
         MarkRequest::SetGravity { name, gravity } => set_gravity(alloc, view, name, *gravity),
-        MarkRequest::Names => all_marks(alloc, view),
-        MarkRequest::Next { word } => next_mark(alloc, view, word),
-        MarkRequest::Previous { word } => previous_mark(alloc, view, word),
+        MarkRequest::Names => all_marks(alloc, &view.shown()),
+        MarkRequest::Next { word } => next_mark(alloc, &view.shown(), word),
+        MarkRequest::Previous { word } => previous_mark(alloc, &view.shown(), word),
     }
 }

@@ -12,14 +12,14 @@ use crate::replies::{numbers, one_word, position_text, truth};
 use crate::reply::Reply;
 use rt_requests::{Comparison, Measures, Word, Words};
 use rt_stamps::Fault;
-use rt_text::View;
+use rt_text::ViewRef;
 use rt_tree::TreeStore;
 use std::alloc::Global;
 
 // The text of some indices.
 pub(crate) fn get(
     alloc: Global,
-    view: &View<TreeStore>,
+    view: &ViewRef<'_, TreeStore>,
     indices: &Words<'_>,
 ) -> Result<Reply, Fault>
     ensures { Answers (get_step view.now (all_of indices.now)) view.now result view.now }
@@ -34,7 +34,7 @@ pub(crate) fn get(
 }
 
 // The character at an index.
-fn get_one(alloc: Global, view: &View<TreeStore>, index: &str) -> Result<Reply, Fault>
+fn get_one(alloc: Global, view: &ViewRef<'_, TreeStore>, index: &str) -> Result<Reply, Fault>
     ensures { Answers (told_step one_word view.now (got_one view.now index.now)) view.now result view.now }
 {
     let text = view.get_one(index)?;
@@ -42,7 +42,12 @@ fn get_one(alloc: Global, view: &View<TreeStore>, index: &str) -> Result<Reply, 
 }
 
 // The text from an index to another.
-fn get_between(alloc: Global, view: &View<TreeStore>, from: &str, to: &str) -> Result<Reply, Fault>
+fn get_between(
+    alloc: Global,
+    view: &ViewRef<'_, TreeStore>,
+    from: &str,
+    to: &str,
+) -> Result<Reply, Fault>
     ensures { Answers (told_step one_word view.now (got view.now from.now to.now)) view.now result view.now }
 {
     let text = view.get(from, to)?;
@@ -50,7 +55,7 @@ fn get_between(alloc: Global, view: &View<TreeStore>, from: &str, to: &str) -> R
 }
 
 // The texts of more indices.
-fn get_list(view: &View<TreeStore>, indices: &[String]) -> Result<Reply, Fault>
+fn get_list(view: &ViewRef<'_, TreeStore>, indices: &[String]) -> Result<Reply, Fault>
     ensures { Answers (told_step (λ texts. texts) view.now (got_list view.now (as_words indices.now))) view.now result view.now }
 {
     let words = view.get_list(indices)?;
@@ -58,7 +63,11 @@ fn get_list(view: &View<TreeStore>, indices: &[String]) -> Result<Reply, Fault>
 }
 
 // Where an index stands.
-pub(crate) fn index(alloc: Global, view: &View<TreeStore>, index: &Word<'_>) -> Result<Reply, Fault>
+pub(crate) fn index(
+    alloc: Global,
+    view: &ViewRef<'_, TreeStore>,
+    index: &Word<'_>,
+) -> Result<Reply, Fault>
     ensures { Answers (told_step (λ position. one_word (text_of_position position)) view.now (position_of_index view.now index.now))
         view.now result view.now }
 {
@@ -70,7 +79,7 @@ pub(crate) fn index(alloc: Global, view: &View<TreeStore>, index: &Word<'_>) -> 
 // Whether a comparison holds of two indices.
 pub(crate) fn compare(
     alloc: Global,
-    view: &View<TreeStore>,
+    view: &ViewRef<'_, TreeStore>,
     first: &Word<'_>,
     comparison: Comparison,
     second: &Word<'_>,
@@ -85,7 +94,7 @@ pub(crate) fn compare(
 // How far an index is from another.
 pub(crate) fn count(
     alloc: Global,
-    view: &View<TreeStore>,
+    view: &ViewRef<'_, TreeStore>,
     measures: &Measures,
     from: &Word<'_>,
     to: &Word<'_>,

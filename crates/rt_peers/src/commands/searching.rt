@@ -9,14 +9,14 @@ use crate::replies::positions_reply;
 use crate::reply::Reply;
 use rt_requests::SearchRequest;
 use rt_stamps::Fault;
-use rt_text::View;
+use rt_text::ViewRef;
 use rt_tree::TreeStore;
 use std::alloc::Global;
 
 // Where a pattern stands.
 pub(crate) fn search(
     alloc: Global,
-    view: &View<TreeStore>,
+    view: &ViewRef<'_, TreeStore>,
     request: &SearchRequest<'_>,
 ) -> Result<Reply, Fault>
     ensures { Answers (told_step (map text_of_position) view.now (searched view.now request.now)) view.now result view.now }

@@ -14,7 +14,7 @@ use rt_tagcmd::{
     tag_add, tag_delete, tag_lower, tag_names, tag_names_at, tag_nextrange, tag_prevrange,
     tag_raise, tag_ranges, tag_remove,
 };
-use rt_text::View;
+use rt_text::{View, ViewRef};
 use rt_tree::TreeStore;
 use std::alloc::Global;
 
@@ -89,7 +89,7 @@ fn lower(
 }
 
 // All listed tags.
-fn all_tags(view: &View<TreeStore>) -> Result<Reply, Fault>
+fn all_tags(view: &ViewRef<'_, TreeStore>) -> Result<Reply, Fault>
     ensures { Answers (Ok (tag_names view.now, view.now)) view.now result view.now }
 {
     let words = tag_names(view)?;
@@ -97,7 +97,7 @@ fn all_tags(view: &View<TreeStore>) -> Result<Reply, Fault>
 }
 
 // The tags of the character at an index.
-fn tags_at(alloc: Global, view: &View<TreeStore>, index: &Word<'_>) -> Result<Reply, Fault>
+fn tags_at(alloc: Global, view: &ViewRef<'_, TreeStore>, index: &Word<'_>) -> Result<Reply, Fault>
     ensures { Answers (told_step (λ names. names) view.now (tag_names_at view.now index.now)) view.now result view.now }
 {
     let words = tag_names_at(alloc, view, index.text())?;
@@ -105,7 +105,7 @@ fn tags_at(alloc: Global, view: &View<TreeStore>, index: &Word<'_>) -> Result<Re
 }
 
 // The ranges of a tag.
-fn ranges(alloc: Global, view: &View<TreeStore>, name: &Word<'_>) -> Result<Reply, Fault>
+fn ranges(alloc: Global, view: &ViewRef<'_, TreeStore>, name: &Word<'_>) -> Result<Reply, Fault>
     ensures { Answers (told_step (map text_of_position) view.now (tag_ranges view.now name.now)) view.now result view.now }
 {
     let positions = tag_ranges(alloc, view, name.text())?;
@@ -115,7 +115,7 @@ fn ranges(alloc: Global, view: &View<TreeStore>, name: &Word<'_>) -> Result<Repl
 // The first range of a tag that begins at an index or later, and before another or the end.
 fn next_range(
     alloc: Global,
-    view: &View<TreeStore>,
+    view: &ViewRef<'_, TreeStore>,
     name: &Word<'_>,
     from: &Word<'_>,
     to: &Option<Word<'_>>,
@@ -129,7 +129,7 @@ fn next_range(
 // The last range of a tag that begins before an index, and at another or later, or anywhere.
 fn previous_range(
     alloc: Global,
-    view: &View<TreeStore>,
+    view: &ViewRef<'_, TreeStore>,
     name: &Word<'_>,
     to: &Word<'_>,
     from: &Option<Word<'_>>,
@@ -154,10 +154,14 @@ pub(crate) fn tag(
         TagRequest::Delete { names } => delete_tags(alloc, view, names),
         TagRequest::Raise { name, above } => raise(alloc, view, name, above),
         TagRequest::Lower { name, below } => lower(alloc, view, name, below),
-        TagRequest::Names => all_tags(view),
-        TagRequest::NamesAt { index } => tags_at(alloc, view, index),
-        TagRequest::Ranges { name } => ranges(alloc, view, name),
-        TagRequest::NextRange { name, from, to } => next_range(alloc, view, name, from, to),
-        TagRequest::PreviousRange { name, to, from } => previous_range(alloc, view, name, to, from),
+        TagRequest::Names => all_tags(&view.shown()),
+        TagRequest::NamesAt { index } => tags_at(alloc, &view.shown(), index),
+        TagRequest::Ranges { name } => ranges(alloc, &view.shown(), name),
+        TagRequest::NextRange { name, from, to } => {
+            next_range(alloc, &view.shown(), name, from, to)
+        }
+        TagRequest::PreviousRange { name, to, from } => {
+            previous_range(alloc, &view.shown(), name, to, from)
+        }
     }
 }

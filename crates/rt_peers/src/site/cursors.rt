@@ -1,29 +1,24 @@
-// Places by stamps, and stamps by places.
+// What a widget of a site shows, by values; places by stamps, and stamps by places.
 ghost use Rattle.std.specs.Prelude.{◌≡◌};
-ghost use Rattle.rt_peers.specs.Cursors.{limits_by, place_by, shown_by, stamp_by};
+ghost use Rattle.rt_peers.specs.Cursors.{place_by, stamp_by, widget_by};
 
 use super::SiteState;
 use crate::paths::number_of;
-use rt_lines::{Limits, Stretch};
 use rt_stamps::Stamp;
+use rt_text::ViewRef;
+use rt_tree::TreeStore;
 
 impl SiteState {
-    // The limits of the widget of a path; none where there is no such widget.
-    fn limits_by(&self, path: &str) -> Option<Limits>
-        ensures { result ≡ limits_by path.now self.now }
+    /// What the widget of a path shows, borrowed: of it positions, ranges, counts, texts and truth are asked by values, by its
+    /// own calls and by those of rt_tagcmd (`mark_names`, `tag_ranges`, `search`, `dump` and the others that change nothing).
+    /// What they answer is what `answer` has the words of (`laws::telling`). Its `stretch` tells which places of the whole
+    /// text are shown, as what is told of changes speaks of these (`answer_telling`, `receive_telling`), and the lines of a
+    /// widget with limits move with it. None where there is no such widget. It takes no memory.
+    pub fn widget(&self, path: &str) -> Option<ViewRef<'_, TreeStore>>
+        ensures { result ≡ widget_by path.now self.now }
     {
-        let at = number_of(&self.paths, path)?;
-        Some(self.text.limits_at(at))
-    }
-
-    /// Which places of the whole text the widget of a path shows, its last newline's among them: what is told of changes
-    /// speaks of the whole text (`answer_telling`, `receive_telling`), and the lines of a widget with limits move with it.
-    /// None where there is no such widget. It takes no memory.
-    pub fn shown(&self, path: &str) -> Option<Stretch>
-        ensures { result ≡ shown_by path.now self.now }
-    {
-        let limits = self.limits_by(path)?;
-        Some(self.text.view().shown_within(limits))
+        let number = number_of(&self.paths, path)?;
+        Some(self.text.widget(number))
     }
 
     /// The stamp of the character at a place of what the widget of a path shows, counted from where that begins, from 0.
@@ -32,8 +27,7 @@ impl SiteState {
     pub fn stamp_at(&self, path: &str, place: usize) -> Option<Stamp>
         ensures { result ≡ stamp_by path.now place self.now }
     {
-        let limits = self.limits_by(path)?;
-        self.text.view().stamp_at(limits, place)
+        self.widget(path)?.stamp_at(place)
     }
 
     /// The place of the character of a stamp in what the widget of a path shows, counted from where that begins: how many
@@ -43,7 +37,6 @@ impl SiteState {
     pub fn place_of(&self, path: &str, stamp: Stamp) -> Option<usize>
         ensures { result ≡ place_by path.now stamp self.now }
     {
-        let limits = self.limits_by(path)?;
-        self.text.view().place_of_stamp(limits, stamp)
+        self.widget(path)?.place_of_stamp(stamp)
     }
 }

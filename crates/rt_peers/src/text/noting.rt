@@ -2,7 +2,7 @@
 ghost use Rattle.std.specs.Prelude.{◌≡◌, ◌+◌, ◌<◌, ◌≤◌, IfSome, IsSome, drop, length, map, reverse};
 ghost use Rattle.rt_stamps.specs.Outcomes.{Answers};
 ghost use Rattle.rt_changes.specs.Telling.{changes_in};
-ghost use Rattle.rt_peers.specs.Peers.{widgets_of};
+ghost use Rattle.rt_text.specs.Widgets.{widgets_of};
 ghost use Rattle.rt_peers.specs.SiteStep.{by_leading, text_log};
 ghost use Rattle.rt_peers.specs.Step.{step};
 ghost use Rattle.rt_rga.specs.Noted.{AreOfNewest};

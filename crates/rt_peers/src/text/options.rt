@@ -77,8 +77,8 @@ impl EditedText {
         match option {
             NamedOption::Shared(option) => self.tell_shared(option),
             NamedOption::MaxUndo => self.tell_max_undo(),
-            NamedOption::StartLine => number_reply(self.alloc, self.view.start_number()),
-            NamedOption::EndLine => number_reply(self.alloc, self.view.end_number()),
+            NamedOption::StartLine => number_reply(self.alloc, self.view.shown().start_number()),
+            NamedOption::EndLine => number_reply(self.alloc, self.view.shown().end_number()),
         }
     }
 }

@@ -1,13 +1,13 @@
 // The widgets that show the text.
-ghost use Rattle.std.specs.Prelude.{◌≡◌, ◌<◌, Ok, IfErr, OnErr, OnOk, Some, length, option_map, slice_get};
+ghost use Rattle.std.specs.Prelude.{◌≡◌, ◌<◌, Ok, IfErr, OnErr, OnOk, length};
 ghost use Rattle.rt_stamps.specs.Outcomes.{Refuses};
-ghost use Rattle.rt_peers.specs.Peers.{text_led, view_without, widgets_of};
+ghost use Rattle.rt_text.specs.Widgets.{widgets_of};
+ghost use Rattle.rt_peers.specs.Peers.{text_led, view_without};
 ghost use Rattle.rt_peers.specs.PeerStep.{text_with_peer};
 
 use super::EditedText;
 use crate::choices::choice_of;
 use crate::widgets;
-use rt_lines::Limits;
 use rt_requests::WidgetSettings;
 use rt_stamps::Fault;
 
@@ -18,19 +18,6 @@ impl EditedText {
         ensures { self.new ≡ text_led number self.old }
     {
         widgets::lead(&mut self.view, number);
-    }
-
-    /// The limits of the widget of a number.
-    pub(crate) fn limits_at(&self, number: usize) -> Limits
-        requires { number < length (widgets_of self.now.view) }
-        ensures { option_map (λ own. own.limits) (slice_get (widgets_of self.now.view) number) ≡ Some result }
-    {
-        let view = self.view();
-        if number == 0 {
-            view.widget().limits()
-        } else {
-            view.other_limits(number - 1)
-        }
     }
 
     // Adds a new widget behind the others, which the first one makes, with options. `BadView`, or want of memory, and then

@@ -47,10 +47,12 @@ impl<S: TextStore> View<S> {
     /// `delete INDEX ?INDEX ...?` (Tk text manual): removes the characters in the ranges that the
     /// indices name in pairs, and moves all marks for that: a mark within a range comes to stand
     /// where the range was. All indices are read before the first change, a last index without
-    /// another is one character. The last newline stays; where a range holds it, it loses its tags,
-    /// and `sel` in every widget. `BadIndex`, `NoneTagged`, `ClockSpent`, or want of memory, and then
+    /// another is one character. The last newline that the widget shows stays; where a range holds it, it
+    /// loses its tags, and `sel` in every widget. Where all that is shown behind a newline is in the ranges,
+    /// down to the end, that newline goes too. `BadIndex`, `NoneTagged`, `ClockSpent`, or want of memory, and then
     /// nothing changes. It takes one count for each 65,536 spans of removed stamps or a part of them,
-    /// none where nothing is removed, and one for each tag of the last newline.
+    /// none where nothing is removed, and, where a range holds the last newline, one for each of its tags but
+    /// `sel`.
     pub fn delete(&mut self, indices: &[String]) -> Result<(), Fault>
         ensures ok { OnOk result (deleted self.old (as_words indices.now) ≡ Ok self.new) }
         ensures err { IfErr result (Refuses (deleted self.old (as_words indices.now))) }

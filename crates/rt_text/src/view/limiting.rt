@@ -2,7 +2,6 @@
 ghost use Rattle.std.specs.Prelude.{◌≡◌, Ok, Err, IfErr, OnErr, OnOk};
 ghost use Rattle.rt_stamps.specs.Outcomes.{Refuses};
 ghost use Rattle.rt_text.specs.Limited.{limited, with_peer};
-ghost use Rattle.rt_lines.specs.Limits.{end_number, start_number};
 
 use super::View;
 use crate::Widget;
@@ -40,21 +39,5 @@ impl<S: TextStore> View<S> {
         let limits = self.doc.limits_chosen(self.widget.limits(), start, end)?;
         let begin = self.doc.stretch(limits).begin;
         Ok(self.others.push(Widget::at(self.alloc, begin, limits))?)
-    }
-
-    /// The line of the whole text that the widget shows first; none without a limit there (`cget
-    /// -startline`).
-    pub fn start_number(&self) -> Option<usize>
-        ensures { result ≡ start_number self.now.doc.cells self.now.own.limits }
-    {
-        self.doc.start_number(self.widget.limits())
-    }
-
-    /// The line of the whole text behind the last one that the widget shows; none without a limit there
-    /// (`cget -endline`).
-    pub fn end_number(&self) -> Option<usize>
-        ensures { result ≡ end_number self.now.doc.cells self.now.own.limits }
-    {
-        self.doc.end_number(self.widget.limits())
     }
 }

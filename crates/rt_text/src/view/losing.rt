@@ -13,7 +13,7 @@ use rt_store::{Cell, TextStore};
 use rt_tags::{StateId, StateTable};
 
 impl<S: TextStore> View<S> {
-    /// The characters that a deletion of ranges takes of what the widget shows, in the text's order, and
+    /// The characters that a deletion of ranges of places takes of what the widget shows, counted from where that begins, in the text's order, and
     /// what their states mean: each with its stamp and its tags, for whoever puts them back later. It
     /// changes nothing. Want of memory.
     pub fn lost(&self, ranges: &[Range]) -> Result<(Vec<Cell<StateId>>, &StateTable), Fault>

@@ -11,8 +11,8 @@ use rt_stamps::Fault;
 use rt_store::TextStore;
 
 impl<S: TextStore> View<S> {
-    /// Sets one of the widget's own marks at a place, `insert` at most before the last newline ("mark
-    /// set"). The mark keeps its gravity. It takes no memory.
+    /// Sets one of the widget's own marks at a place of what it shows, from 0 to as many as it shows, `insert` at
+    /// most before the last newline ("mark set"). The mark keeps its gravity. It takes no memory.
     pub fn set_own(&mut self, which: OwnMark, place: usize)
         requires { place ≤ length_shown self.old }
         ensures { self.new ≡ record self.old { own = own_set which (in_text self.old (own_place which (length_shown self.old) place)) self.old.own } }
@@ -33,7 +33,7 @@ impl<S: TextStore> View<S> {
         self.widget.set_gravity(which, gravity);
     }
 
-    /// Sets a mark of the site at a place ("mark set"). One that is there keeps its gravity, and
+    /// Sets a mark of the site at a place of what the widget shows, from 0 to as many as it shows ("mark set"). One that is there keeps its gravity, and
     /// takes no memory; a new one has right gravity. `BadName` for a name that is empty or longer
     /// than `MOST_NAME_BYTES` bytes, and else `NoMemory` for a new name alone; then nothing changes.
     pub fn set_mark(&mut self, name: &str, place: usize) -> Result<(), Fault>

@@ -28,7 +28,8 @@ impl<S: TextStore> View<S> {
     /// and before the last newline. Both are made as a whole or not at all: so characters without a list
     /// get the tags that both neighbours have once the range is gone, and counts and cells are asked of
     /// both together. `BadName`, `BadIndex`, `NoneTagged`, `BackwardsRange` where the second index comes
-    /// before the first, `ClockSpent`, `TextFull`, or want of memory, and then nothing changes.
+    /// before the first, `ClockSpent`, `TextFull`, or want of memory, and then nothing changes. It takes
+    /// the counts of the deletion, and then those of the insertion.
     pub fn replace(
         &mut self,
         from: &str,

@@ -1,7 +1,6 @@
-// The tags of the text that a widget shows: which characters have them, and how they are put on and taken off.
+// The tags of the text that a widget shows: how they are put on and taken off.
 ghost use Rattle.std.specs.Prelude.{◌≡◌, ◌⊎◌, if◌then◌else◌, ◌<◌, ◌&&◌, Ok, Err, None, Some, IfOk, IfErr, IsOkUnless, OnOk, OnErr, length, not, option_copied, option_map, slice_get};
 ghost use Rattle.rt_stamps.specs.Words.{as_words};
-ghost use Rattle.rt_store.specs.Tagged.{next_place, previous_place};
 ghost use Rattle.rt_tags.specs.Tags.{IsName, is_listed, is_place, lowered, raised};
 ghost use Rattle.rt_text.specs.Commands.{clock_check, with_tag_in, with_tags_deleted};
 ghost use Rattle.rt_text.specs.Widgets.{is_tagged, shown_by, tags_on, with_tags};
@@ -13,42 +12,7 @@ use rt_stamps::Fault;
 use rt_store::TextStore;
 
 impl<S: TextStore> View<S> {
-    /// The least place from one up whose character has a tag; none if there is none. It takes no
-    /// memory.
-    pub fn next_tagged(&self, name: &str, place: usize) -> Option<usize>
-        ensures { result ≡ next_place (is_tagged self.now.own name.now) (shown_by self.now) place }
-    {
-        self.doc.next_tagged(&self.widget, name, place)
-    }
-
-    /// The least place from one up whose character hasn't a tag; none if there is none. It takes no
-    /// memory.
-    pub fn next_untagged(&self, name: &str, place: usize) -> Option<usize>
-        ensures { result ≡ next_place (λ cell. not (is_tagged self.now.own name.now cell)) (shown_by self.now) place }
-    {
-        self.doc.next_untagged(&self.widget, name, place)
-    }
-
-    /// The greatest place below one whose character has a tag; none if there is none. It takes no
-    /// memory.
-    pub fn previous_tagged(&self, name: &str, place: usize) -> Option<usize>
-        ensures { result ≡ previous_place (is_tagged self.now.own name.now) (shown_by self.now) place }
-    {
-        self.doc.previous_tagged(&self.widget, name, place)
-    }
-
-    /// The listed tags of the character at a place, lowest priority first (Tk text manual, "tag
-    /// names"). Want of memory.
-    pub fn tags_at(&self, place: usize) -> Result<Vec<String>, Fault>
-        requires { place < length (shown_by self.now) }
-        ensures ok { IfOk result (λ names. option_map (tags_on self.now.own self.now.doc.tags) (slice_get (shown_by self.now) place)
-            ≡ Some (as_words names.items)) }
-        ensures err { IsOkUnless result Fault.NoMemory }
-    {
-        self.doc.tags_at(&self.widget, place)
-    }
-
-    /// Puts a tag on the characters in ranges of places, or takes it off ("tag add", "tag remove"):
+    /// Puts a tag on the characters in ranges of places of what the widget shows, or takes it off ("tag add", "tag remove"):
     /// `sel` is the widget's own, any other one is the text's. One that is put on is listed, also
     /// where no character gets it. `ClockSpent`, or want of memory, and then nothing changes. It takes
     /// one count for each 65,536 spans of stamps that it changes or a part of them; `sel` takes none.

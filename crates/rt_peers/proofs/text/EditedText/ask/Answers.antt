@@ -1,5 +1,5 @@
 use Rattle.std.proofs.Common.{◌∙◌, ap, arith, length}
-use Rattle.rt_peers.specs.Peers.{widgets_of}
+use Rattle.rt_text.specs.Widgets.{widgets_of}
 use Rattle.rt_peers.proofs.InTurn.{asked_answers}
 use Rattle.rt_peers.proofs.PeerLaws.{led_number}
 use Rattle.rt_peers.proofs.Staying.{answer_stays}

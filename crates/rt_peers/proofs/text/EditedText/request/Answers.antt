@@ -6,7 +6,7 @@ use Rattle.rt_tagcmd.specs.Dumping.{dumped}
 use Rattle.rt_tagcmd.specs.SearchCommand.{searched}
 use Rattle.rt_text.specs.Commands.{compared, counted, position_of_index}
 use Rattle.rt_peers.specs.ViewStep.{element_words, get_step, one_word, text_of_bool, told_step}
-use Rattle.rt_peers.proofs.Steps.{told_to}
+use Rattle.rt_peers.proofs.Steps.{told_shown}
 use Rattle.rt_peers.proofs.text.EditedText.request.Goals as goal
 
 pub returns-in-Insert : goal.returns-in-Insert
@@ -21,37 +21,37 @@ returns-in-Replace c = rw c.in-Replace.is c.replace.ensures
 pub returns-in-Index : goal.returns-in-Index
 returns-in-Index c =
     rw c.in-Index.is
-    (told_to c.args.self.now c.self-in-Index.inside.view c.self-in-Index.inside.recorder c.self-in-Index.view_is
+    (told_shown c.args.self.now c.self-in-Index.inside.view c.shown-in-Index.result c.self-in-Index.inside.recorder c.self-in-Index.view_is c.shown-in-Index.ensures
     (λ view. told_step (λ position. one_word (text_of_position position)) view (position_of_index view c.in-Index.index)) c.index.result c.index.ensures)
 
 pub returns-in-Compare : goal.returns-in-Compare
 returns-in-Compare c =
     rw c.in-Compare.is
-    (told_to c.args.self.now c.self-in-Compare.inside.view c.self-in-Compare.inside.recorder c.self-in-Compare.view_is
+    (told_shown c.args.self.now c.self-in-Compare.inside.view c.shown-in-Compare.result c.self-in-Compare.inside.recorder c.self-in-Compare.view_is c.shown-in-Compare.ensures
     (λ view. told_step (λ holds. one_word (text_of_bool holds)) view (compared view c.in-Compare.first c.in-Compare.comparison c.in-Compare.second)) c.compare.result c.compare.ensures)
 
 pub returns-in-Count : goal.returns-in-Count
 returns-in-Count c =
     rw c.in-Count.is
-    (told_to c.args.self.now c.self-in-Count.inside.view c.self-in-Count.inside.recorder c.self-in-Count.view_is
+    (told_shown c.args.self.now c.self-in-Count.inside.view c.shown-in-Count.result c.self-in-Count.inside.recorder c.self-in-Count.view_is c.shown-in-Count.ensures
     (λ view. told_step (map signed_decimal) view (counted view c.in-Count.measures c.in-Count.from c.in-Count.to)) c.count.result c.count.ensures)
 
 pub returns-in-Search : goal.returns-in-Search
 returns-in-Search c =
     rw c.in-Search.is
-    (told_to c.args.self.now c.self-in-Search.inside.view c.self-in-Search.inside.recorder c.self-in-Search.view_is
+    (told_shown c.args.self.now c.self-in-Search.inside.view c.shown-in-Search.result c.self-in-Search.inside.recorder c.self-in-Search.view_is c.shown-in-Search.ensures
     (λ view. told_step (map text_of_position) view (searched view c.in-Search.request)) c.search.result c.search.ensures)
 
 pub returns-in-Dump : goal.returns-in-Dump
 returns-in-Dump c =
     rw c.in-Dump.is
-    (told_to c.args.self.now c.self-in-Dump.inside.view c.self-in-Dump.inside.recorder c.self-in-Dump.view_is
+    (told_shown c.args.self.now c.self-in-Dump.inside.view c.shown-in-Dump.result c.self-in-Dump.inside.recorder c.self-in-Dump.view_is c.shown-in-Dump.ensures
     (λ view. told_step (flat_map element_words) view (dumped view c.in-Dump.kinds c.in-Dump.from c.in-Dump.to)) c.dump.result c.dump.ensures)
 
 pub returns-in-Get : goal.returns-in-Get
 returns-in-Get c =
     rw c.in-Get.is
-    (told_to c.args.self.now c.self.inside.view c.self.inside.recorder c.self.view_is
+    (told_shown c.args.self.now c.self.inside.view c.shown.result c.self.inside.recorder c.self.view_is c.shown.ensures
     (λ view. get_step view (all_of c.in-Get.indices)) c.get.result c.get.ensures)
 
 pub returns-in-Mark : goal.returns-in-Mark

@@ -1,0 +1,63 @@
+// The last counts that are known of sites, as bytes: 10 of each, the number of its site (2) and the count (8), the
+// highest byte first.
+ghost use Rattle.std.specs.Prelude.{◌≡◌, ◌⊎◌, ◌<◌, ◌^◌, ℕ, IfErr, IfOk, IsOkUnless, List, length, unwrap_or};
+ghost use Rattle.std.specs.BTreeMap.{get};
+ghost use Rattle.std.specs.Ordering.{nat_cmp};
+ghost use Rattle.rt_stamps.specs.declared.fault.Fault.TheVariants.{NoMemory, Truncated};
+ghost use Rattle.rt_files.specs.Ends.{AreBySite, SpellEnds, SpellNoEnds, end_bytes, ends_bytes, known_by};
+
+use rt_stamps::Fault;
+use std::alloc::Global;
+use std::collections::BTreeMap;
+
+// The bytes of each.
+const END_BYTES: usize = 10;
+
+/// Of these counts, by the numbers of their sites. Want of memory.
+pub fn bytes_of_ends(alloc: Global, ends: &BTreeMap<u16, u64>) -> Result<Vec<u8>, Fault>
+    ensures ok { IfOk result (λ bytes. bytes.items ≡ ends_bytes ends.now.entries) }
+    ensures order { AreBySite ends.now.entries }
+    ensures err { IsOkUnless result NoMemory }
+{
+    let mut bytes = Vec::new(alloc);
+    for (site, count) in ends {
+        bytes.extend_from_slice(&site.to_be_bytes())?;
+        bytes.extend_from_slice(&count.to_be_bytes())?;
+    }
+    Ok(bytes)
+}
+
+// The number and the count that ten bytes spell.
+fn end_of(bytes: &[u8]) -> (u16, u64)
+    requires { length bytes.now ≡ 10 }
+    ensures spelled { bytes.now ≡ end_bytes result }
+    ensures fit { (result.0 < 2 ^ 16) × (result.1 < 2 ^ 64) }
+{
+    let site = u16::from_be_bytes([bytes[0], bytes[1]]);
+    let count = u64::from_be_bytes([
+        bytes[2], bytes[3], bytes[4], bytes[5], bytes[6], bytes[7], bytes[8], bytes[9],
+    ]);
+    (site, count)
+}
+
+/// The counts that bytes spell: of one site the first counts. `Truncated` where they aren't 10 bytes each, or want of
+/// memory.
+pub fn ends_of_bytes(alloc: Global, bytes: &[u8]) -> Result<BTreeMap<u16, u64>, Fault>
+    ensures ok { IfOk result (λ map. (ends : List (ℕ × ℕ)) × SpellEnds bytes.now ends
+        × ((site : ℕ) → unwrap_or (get nat_cmp map site) 0 ≡ known_by ends site)) }
+    ensures err { IfErr result (λ fault. (fault ≡ NoMemory) ⊎ ((fault ≡ Truncated) × SpellNoEnds bytes.now)) }
+{
+    let mut ends = BTreeMap::new(alloc);
+    let mut left = bytes;
+    while left.len() >= END_BYTES {
+        let (front, end) = left.split_at(left.len() - END_BYTES);
+        let (site, count) = end_of(end);
+        ends.insert(site, count)?;
+        left = front;
+    }
+    if left.is_empty() {
+        Ok(ends)
+    } else {
+        Err(Fault::Truncated)
+    }
+}
