@@ -181,6 +181,14 @@ int32_t pt_export_since(pt_site *site, const uint8_t *ends, size_t len);
    PT_DONE; else PT_NO_SITE, or PT_NOT_THERE: no such widget, or no character at the place. */
 int32_t pt_stamp_at(pt_site *site, const uint8_t *path, size_t len, size_t place, pt_stamp *stamp);
 
+/* Tells the place of an index, as "2.3", "end" or "insert - 1 chars", in what the widget of a path shows, counted from 0
+   up to how many characters it shows.
+   PT_DONE; the number of the fault by which it is refused: PT_FAULT_NO_WIDGET, PT_FAULT_BAD_INDEX,
+   PT_FAULT_NONE_TAGGED, PT_FAULT_BAD_QUOTING where the path or the index is no UTF-8, or PT_FAULT_NO_MEMORY; else
+   PT_NO_SITE. */
+int32_t pt_place_at(pt_site *site, const uint8_t *path, size_t len, const uint8_t *index, size_t index_len,
+    size_t *place);
+
 /* Tells the place of the character of a stamp: how many characters stand before it in what the widget of a path shows.
    Where it is gone, that is the place at which it stood; where it stands outside of the widget's lines, their nearer
    end.

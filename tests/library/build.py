@@ -18,6 +18,15 @@ import early
 import faces
 
 CRATE = early.ROOT / "crates/peertext_c"
+# lets a handle go that holds nothing: C's handles are never let go, those of the tests are
+FORGET = """
+impl Handle {
+    pub(crate) fn forget(self) {
+        let Handle { held: _, slot } = self;
+        slot.forget();
+    }
+}
+"""
 # an export's name in the module of the tests
 EXPORT = re.compile(r'@"peertext_c::(?:\w+::)*(pt_\w+)"')
 
@@ -45,6 +54,8 @@ def with_calls(root):
         shutil.copy(early.ROOT / name, root / name)
     crate = root / "crates" / CRATE.name
     shutil.copy(HERE / "called.rt.in", crate / "src/tests.rt")
+    with open(crate / "src/handle.rt", "a", encoding="utf-8") as file:
+        file.write(FORGET)
     with open(crate / "src/lib.rt", "a", encoding="utf-8") as file:
         file.write("\n#[cfg(test)]\nmod tests;\n")
     return crate

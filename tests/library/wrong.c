@@ -20,6 +20,7 @@ static void empty_handles(void) {
     CHECK(pt_ends(&none) == PT_NO_SITE);
     CHECK(pt_export_since(&none, out, 0) == PT_NO_SITE);
     CHECK(pt_stamp_at(&none, path, 2, 0, &stamp) == PT_NO_SITE);
+    CHECK(pt_place_at(&none, path, 2, path, 2, &place) == PT_NO_SITE);
     CHECK(pt_place_of(&none, path, 2, &stamp, &place) == PT_NO_SITE);
     CHECK(memcmp(out, "abc", 4) == 0);
     CHECK(told.fresh == 1 && told.repeats == 2 && told.held == 3 && told.offset == 5 && told.fault == 6);
@@ -214,6 +215,19 @@ static void counts(pt_site *site) {
     CHECK(pt_export_since(site, ends, 9) == PT_BAD_BYTES && pt_said(site, own, 0) == 44);
 }
 
+static void indices(pt_site *site) {
+    static const uint8_t end[] = "end";
+    size_t place = 9;
+    CHECK(pt_place_at(site, (const uint8_t *)".none", 5, end, 3, &place) == PT_FAULT_NO_WIDGET);
+    CHECK(pt_place_at(site, (const uint8_t *)"\xff", 1, end, 3, &place) == PT_FAULT_BAD_QUOTING);
+    CHECK(pt_place_at(site, path, 2, (const uint8_t *)"\xff", 1, &place) == PT_FAULT_BAD_QUOTING);
+    CHECK(pt_place_at(site, path, 2, end, 0, &place) == PT_FAULT_BAD_INDEX);
+    CHECK(pt_place_at(site, path, 2, end, 2, &place) == PT_FAULT_BAD_INDEX);
+    CHECK(pt_place_at(site, path, 2, (const uint8_t *)"sel.first", 9, &place) == PT_FAULT_NONE_TAGGED && place == 9);
+    CHECK(pt_place_at(site, path, 2, end, 3, &place) == PT_DONE && place == 3);
+    CHECK(pt_place_at(site, path, 2, (const uint8_t *)"end - 2 chars", 13, &place) == PT_DONE && place == 1);
+}
+
 static void cursors(pt_site *site) {
     pt_stamp stamp = {7, 8};
     size_t place = 9;
@@ -250,6 +264,7 @@ int main(void) {
     files(&site);
     too_many_bytes(&site);
     counts(&site);
+    indices(&site);
     cursors(&site);
     CHECK(answers(&site, ".t get 1.0 end", 0, "= \"ab\\n\"\n"));
     pt_site_free(&site);

@@ -6,8 +6,8 @@ use Rattle.std_alloc.proofs.BoxSteps.Form.{Bx}
 use Rattle.std_heap.specs.contracts.Global as Heap
 use Rattle.std_heap.specs.contracts.GlobalAllocator.TheImpl.{ghosts, dict}
 use Rattle.std_heap.proofs.Global.TheLaws as heap
-use Rattle.peertext_c.specs.contracts.kept.Kept as Kept
-use Rattle.peertext_c.proofs.kept.Kept.TheLaws as kept
+use Rattle.rt_script.specs.contracts.line_site.LineSite as Kept
+use Rattle.rt_script.proofs.line_site.LineSite.TheLaws as kept
 use Rattle.peertext_c.specs.contracts.parts.Parts as Parts
 use Rattle.peertext_c.specs.contracts.handle.Slot as Held
 

@@ -4,10 +4,10 @@ use Rattle.std.specs.Prelude.{IfOk, MatchResult}
 use Rattle.rt_stamps.specs.declared.fault.Fault.{Fault}
 use Rattle.peertext_c.specs.Calls.{SaysOf}
 use Rattle.peertext_c.specs.Codes.{DONE, NO_MEMORY}
-use Rattle.peertext_c.specs.Held.{Held, saying}
+use Rattle.rt_script.specs.LineSite.{LineSiteValue, saying}
 
 -- the answer may be told as another one, where those that there are stay
-pub says_made : (told : ℤ → ℤ) → told DONE ≡ DONE → told NO_MEMORY ≡ NO_MEMORY → (made : Result (Vec ℕ Global) Fault) (held : Held) (text : List ℕ) (result : ℤ) (new : Option Held)
+pub says_made : (told : ℤ → ℤ) → told DONE ≡ DONE → told NO_MEMORY ≡ NO_MEMORY → (made : Result (Vec ℕ Global) Fault) (held : LineSiteValue) (text : List ℕ) (result : ℤ) (new : Option LineSiteValue)
     → IfOk made (λ bytes. bytes.items ≡ text)
     → MatchResult made (λ bytes. (result ≡ DONE) × (new ≡ Some (saying bytes.items held))) (λ _. (result ≡ NO_MEMORY) × (new ≡ Some held))
     → SaysOf held text (told result) new

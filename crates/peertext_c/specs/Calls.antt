@@ -1,38 +1,33 @@
 -- What each function answers, and what its handle holds then.
-use Rattle.std.specs.Prelude.{◌≡◌, ◌⊎◌, ◌<◌, ◌≤◌, ◌++◌, ◌&&◌, ℕ, ℤ, pos, List, [], Option, None, Some, true, false, length, take, drop, reverse, slice_get, if◌then◌else◌}
+use Rattle.std.specs.Prelude.{◌≡◌, ◌⊎◌, ◌<◌, ◌≤◌, ◌&&◌, ℕ, ℤ, pos, List, Option, None, Some, Result, Ok, Err, false, length, reverse, slice_get, if◌then◌else◌}
 use Rattle.std.specs.Str.{is_utf8}
 use Rattle.rt_stamps.specs.declared.limits.TheConstants.{GREATEST_SITE, MOST_BYTES, MOST_CELLS}
 use Rattle.rt_stamps.specs.declared.fault.Fault.{Fault}
 use Rattle.rt_stamps.specs.declared.stamp.Stamp.{Stamp}
+use Rattle.rt_stamps.specs.declared.fault.Fault.TheVariants.{BadQuoting}
 use Rattle.rt_stamps.specs.Fault.{number_of}
+use Rattle.rt_stamps.specs.Outcomes.{Refuses}
 use Rattle.rt_stamps.specs.Words.{Word}
 use Rattle.rt_ops.specs.File.{spelling}
-use Rattle.rt_files.specs.Ends.{AreBySite, SpellEnds, SpellNoEnds, ends_bytes, known_by}
-use Rattle.rt_oplog.specs.Logs.{known_end}
+use Rattle.rt_files.specs.Ends.{SpellEnds, SpellNoEnds, ends_bytes}
 use Rattle.rt_changes.specs.declared.change.ToldChange.{ToldChange}
 use Rattle.rt_holding.specs.declared.receiving.Received.{Received}
-use Rattle.rt_peers.specs.Cursors.{place_by, stamp_by}
-use Rattle.rt_peers.specs.Lacking.{since}
-use Rattle.rt_peers.specs.SiteStep.{SiteReceives, log_of}
+use Rattle.rt_peers.specs.Cursors.{index_by, place_by, stamp_by}
+use Rattle.rt_peers.specs.SiteStep.{log_of}
 use Rattle.rt_peers.specs.SiteValue.{SiteValue}
-use Rattle.rt_script.specs.declared.answer.Answer.{Answer}
 use Rattle.rt_script.specs.Changes.{change_lines}
-use Rattle.rt_script.specs.Lines.{is_readable, is_silent}
-use Rattle.rt_script.specs.Replies.{fault_number, reply_line}
-use Rattle.rt_script.specs.Run.{LineGives}
-use Rattle.rt_script.specs.Telling.{TellsChanges}
+use Rattle.rt_script.specs.LineSite.{AreEndsOf, LineSiteValue, ReceivesTelling, RunsLine, file_since, in_front, known_changes, new_line_site, saying}
 use Rattle.peertext_c.specs.declared.numbers.Told.{Told}
 use Rattle.peertext_c.specs.declared.numbers.StampNumbers.{StampNumbers}
 use Rattle.peertext_c.specs.Codes.{BAD_BYTES, BAD_NUMBER, DONE, IS_HELD, NOT_KNOWN, NOT_THERE, NO_MEMORY, NO_SITE}
-use Rattle.peertext_c.specs.Held.{CommandGives, Held, known_changes, new_held, saying, untold}
 
 -- there is no site, and that is answered
-abbrev pub IsNoSite : Option Held → ℤ → Option Held → Type 0
+abbrev pub IsNoSite : Option LineSiteValue → ℤ → Option LineSiteValue → Type 0
 IsNoSite old result new = (result ≡ NO_SITE) × (old ≡ None) × (new ≡ None)
 
 -- there is a site, which stays as it is; a code is answered
-abbrev pub IsRefused : ℤ → Option Held → ℤ → Option Held → Type 0
-IsRefused code old result new = (result ≡ code) × ((held : Held) × (old ≡ Some held)) × (new ≡ old)
+abbrev pub IsRefused : ℤ → Option LineSiteValue → ℤ → Option LineSiteValue → Type 0
+IsRefused code old result new = (result ≡ code) × ((held : LineSiteValue) × (old ≡ Some held)) × (new ≡ old)
 
 -- the numbers that sites have, and those that none has
 abbrev pub IsSiteNumber : ℕ → Type 0
@@ -42,73 +37,55 @@ abbrev pub IsNoSiteNumber : ℕ → Type 0
 IsNoSiteNumber number = (number ≡ 0) ⊎ (GREATEST_SITE < number)
 
 -- A site is made where there is none and its number is that of a site.
-abbrev pub IsMade : ℕ → Option Held → ℤ → Option Held → Type 0
+abbrev pub IsMade : ℕ → Option LineSiteValue → ℤ → Option LineSiteValue → Type 0
 IsMade number old result new =
-    ((result ≡ DONE) × IsSiteNumber number × (old ≡ None) × (new ≡ Some (new_held number MOST_CELLS)))
+    ((result ≡ DONE) × IsSiteNumber number × (old ≡ None) × (new ≡ Some (new_line_site number MOST_CELLS)))
     ⊎ IsRefused IS_HELD old result new
     ⊎ ((result ≡ BAD_NUMBER) × IsNoSiteNumber number × (old ≡ None) × (new ≡ None))
     ⊎ ((result ≡ NO_MEMORY) × IsSiteNumber number × (old ≡ None) × (new ≡ None))
 
--- A line gives what it gives in a script, and the line of its answer is said, which is ready if there was memory for
--- it; a silent one says nothing. What was changed before it is no longer told.
-abbrev pub RunsLine : List ℕ → Held → ℤ → Held → Type 0
-RunsLine line old result new =
-    ((is_readable line && is_silent line ≡ true) × (result ≡ DONE) × (new ≡ saying [] (untold old)))
-    ⊎ ((given : Held) × (answer : Answer) × (is_readable line && is_silent line ≡ false) × LineGives CommandGives (untold old) line answer given
-    × (result ≡ pos (fault_number answer)) × (new ≡ record given { said = reply_line answer; ready = new.ready }))
-
-abbrev pub IsCommanded : List ℕ → Option Held → ℤ → Option Held → Type 0
+-- A line is run, and the number of its fault is answered, or 0.
+abbrev pub IsCommanded : List ℕ → Option LineSiteValue → ℤ → Option LineSiteValue → Type 0
 IsCommanded line old result new =
-    IsNoSite old result new ⊎ ((before after : Held) × (old ≡ Some before) × (new ≡ Some after) × RunsLine line before result after)
-
--- bytes in the front of some room, as many as there is room for
-abbrev pub in_front : List ℕ → List ℕ → List ℕ
-in_front bytes room = take (length room) bytes ++ drop (length bytes) room
+    IsNoSite old result new
+    ⊎ ((before after : LineSiteValue) × (number : ℕ) × (old ≡ Some before) × (new ≡ Some after) × RunsLine line before number after × (result ≡ pos number))
 
 -- What was said is put in the front of the room, and its whole length is answered; or, if it isn't ready, there is no
 -- memory for that.
-abbrev pub IsSaid : Option Held → List ℕ → ℤ → Option Held → List ℕ → Type 0
+abbrev pub IsSaid : Option LineSiteValue → List ℕ → ℤ → Option LineSiteValue → List ℕ → Type 0
 IsSaid old room result new out = (new ≡ old)
     × (((result ≡ NO_SITE) × (old ≡ None) × (out ≡ room))
-    ⊎ ((held : Held) × (old ≡ Some held)
+    ⊎ ((held : LineSiteValue) × (old ≡ Some held)
     × (((result ≡ pos (length held.said)) × (out ≡ in_front held.said room))
     ⊎ ((result ≡ NO_MEMORY) × (held.ready ≡ false) × (out ≡ room)))))
 
 -- A site says some bytes, and else stays as it is; or there is no memory for that.
-abbrev pub SaysOf : Held → List ℕ → ℤ → Option Held → Type 0
+abbrev pub SaysOf : LineSiteValue → List ℕ → ℤ → Option LineSiteValue → Type 0
 SaysOf held bytes result new =
     ((result ≡ DONE) × (new ≡ Some (saying bytes held))) ⊎ ((result ≡ NO_MEMORY) × (new ≡ Some held))
 
 -- what each site says
-abbrev pub Says : (Held → List ℕ) → Option Held → ℤ → Option Held → Type 0
-Says said old result new = IsNoSite old result new ⊎ ((held : Held) × (old ≡ Some held) × SaysOf held (said held) result new)
+abbrev pub Says : (LineSiteValue → List ℕ) → Option LineSiteValue → ℤ → Option LineSiteValue → Type 0
+Says said old result new = IsNoSite old result new ⊎ ((held : LineSiteValue) × (old ≡ Some held) × SaysOf held (said held) result new)
 
 -- the file of all operations that a site accepted or made
-abbrev pub file_of : Held → List ℕ
+abbrev pub file_of : LineSiteValue → List ℕ
 file_of held = spelling (reverse (log_of held.site))
 
--- these are the last counts that a site knows, by the numbers of their sites
-abbrev pub AreEndsOf : SiteValue → List (ℕ × ℕ) → Type 0
-AreEndsOf state ends = AreBySite ends × ((site : ℕ) → known_by ends site ≡ known_end (log_of state) site)
-
 -- Bytes are said that spell the last counts that a site knows; or there is no memory for that.
-abbrev pub SaysEnds : Option Held → ℤ → Option Held → Type 0
+abbrev pub SaysEnds : Option LineSiteValue → ℤ → Option LineSiteValue → Type 0
 SaysEnds old result new =
     IsNoSite old result new
-    ⊎ ((held : Held) × (old ≡ Some held)
+    ⊎ ((held : LineSiteValue) × (old ≡ Some held)
     × (((ends : List (ℕ × ℕ)) × AreEndsOf held.site ends × (result ≡ DONE) × (new ≡ Some (saying (ends_bytes ends) held)))
     ⊎ ((result ≡ NO_MEMORY) × (new ≡ Some held))))
 
--- the file of the operations of a site that are past some counts
-abbrev pub file_since : List (ℕ × ℕ) → Held → List ℕ
-file_since ends held = spelling (reverse (since (known_by ends) (log_of held.site)))
-
 -- The file of the operations is said that are past the counts that bytes spell.
-abbrev pub SaysSince : List ℕ → Option Held → ℤ → Option Held → Type 0
+abbrev pub SaysSince : List ℕ → Option LineSiteValue → ℤ → Option LineSiteValue → Type 0
 SaysSince bytes old result new =
     IsNoSite old result new
     ⊎ (SpellNoEnds bytes × IsRefused BAD_BYTES old result new)
-    ⊎ ((held : Held) × (old ≡ Some held)
+    ⊎ ((held : LineSiteValue) × (old ≡ Some held)
     × (((ends : List (ℕ × ℕ)) × SpellEnds bytes ends × SaysOf held (file_since ends held) result new) ⊎ ((result ≡ NO_MEMORY) × (new ≡ Some held))))
 
 -- the fault that ended a file, by its number, and its offset; 0 for none
@@ -126,41 +103,46 @@ numbers_of received = record {
   fault = (fault_numbers received.fault).0;
 }
 
--- A site receives a file, and keeps what it changed, which is known: the changes of each operation that was accepted. What
--- was said stays.
-pub record ReceivesTelling (bytes : List ℕ) (old : Held) (received : Received) (new : Held) : Type 0 where
-  pub receives : SiteReceives bytes old.site received new.site
-  pub counted : (changes : List ToldChange) × (new.changes ≡ Some changes) × (length changes ≡ received.new)
-  pub tells : TellsChanges old.site new.site new.changes
-  pub said : (new.said ≡ old.said) × (new.ready ≡ old.ready)
-
 -- A file of no more bytes than one may have is received, and what became of it is told.
-abbrev pub IsReceived : List ℕ → Option Held → Told → ℤ → Option Held → Told → Type 0
+abbrev pub IsReceived : List ℕ → Option LineSiteValue → Told → ℤ → Option LineSiteValue → Told → Type 0
 IsReceived bytes old room result new told =
     (IsNoSite old result new × (told ≡ room))
     ⊎ ((MOST_BYTES < length bytes) × IsRefused BAD_BYTES old result new × (told ≡ room))
-    ⊎ ((before after : Held) × (received : Received) × (length bytes ≤ MOST_BYTES) × (old ≡ Some before) × (new ≡ Some after) × (result ≡ DONE)
+    ⊎ ((before after : LineSiteValue) × (received : Received) × (length bytes ≤ MOST_BYTES) × (old ≡ Some before) × (new ≡ Some after) × (result ≡ DONE)
     × ReceivesTelling bytes before received after × (told ≡ numbers_of received))
 
 -- The lines of the change of a number are said, where there is one.
-abbrev pub SaysChange : ℕ → Option Held → ℤ → Option Held → Type 0
+abbrev pub SaysChange : ℕ → Option LineSiteValue → ℤ → Option LineSiteValue → Type 0
 SaysChange number old result new =
     IsNoSite old result new
-    ⊎ ((held : Held) × (old ≡ Some held)
+    ⊎ ((held : LineSiteValue) × (old ≡ Some held)
     × (((result ≡ NOT_THERE) × (slice_get (known_changes held) number ≡ None) × (new ≡ old))
     ⊎ ((change : ToldChange) × (slice_get (known_changes held) number ≡ Some change) × SaysOf held (change_lines change) result new)))
 
 -- Something is found in what a handle holds, and told as it is; or it isn't found, which a code says, and nothing is told. All stays.
-abbrev pub IsFound : {Found Out : Type 0} → ℤ → (Found → Out) → (Held → Option Found) → Option Held → Out → ℤ → Option Held → Out → Type 0
+abbrev pub IsFound : {Found Out : Type 0} → ℤ → (Found → Out) → (LineSiteValue → Option Found) → Option LineSiteValue → Out → ℤ → Option LineSiteValue → Out → Type 0
 IsFound {Found} code told find old room result new out = (new ≡ old)
     × (((result ≡ NO_SITE) × (old ≡ None) × (out ≡ room))
-    ⊎ ((held : Held) × (old ≡ Some held)
+    ⊎ ((held : LineSiteValue) × (old ≡ Some held)
     × (((result ≡ code) × (find held ≡ None) × (out ≡ room))
     ⊎ ((found : Found) × (result ≡ DONE) × (find held ≡ Some found) × (out ≡ told found)))))
 
 -- What the last line or file changed is counted, operation by operation, if it is known. All stays.
-abbrev pub CountsChanges : Option Held → ℕ → ℤ → Option Held → ℕ → Type 0
+abbrev pub CountsChanges : Option LineSiteValue → ℕ → ℤ → Option LineSiteValue → ℕ → Type 0
 CountsChanges = IsFound NOT_KNOWN (λ changes. length changes) (λ held. held.changes)
+
+-- The place of an index in what the widget of a path shows, or why it is refused, if both are texts; else it is refused as a line
+-- that is none.
+abbrev pub place_at_path : Word → Word → SiteValue → Result ℕ Fault
+place_at_path path index site = if is_utf8 path && is_utf8 index then index_by path index site else Err BadQuoting
+
+-- The place of an index is told, or it is refused by a fault, whose number is answered; then nothing is told. All stays.
+abbrev pub IsPlaced : Word → Word → Option LineSiteValue → ℕ → ℤ → Option LineSiteValue → ℕ → Type 0
+IsPlaced path index old room result new out = (new ≡ old)
+    × (((result ≡ NO_SITE) × (old ≡ None) × (out ≡ room))
+    ⊎ ((held : LineSiteValue) × (old ≡ Some held)
+    × (((result ≡ DONE) × (place_at_path path index held.site ≡ Ok out))
+    ⊎ ((fault : Fault) × Refuses (place_at_path path index held.site) fault × (result ≡ pos (number_of fault)) × (out ≡ room)))))
 
 -- the stamp at a place by a path, which is that of a widget if it is a text
 abbrev pub stamp_of_path : Word → ℕ → SiteValue → Option Stamp

@@ -1,4 +1,3 @@
 pub mod Calls
 pub mod Codes
-pub mod Held
 pub mod Owned

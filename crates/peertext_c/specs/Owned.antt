@@ -7,19 +7,19 @@ use Rattle.std.specs.Coded.{coded_option}
 use Rattle.std.specs.Box.Ownership.{box_owns}
 use Rattle.std.specs.Global.{Global}
 use Rattle.std_heap.specs.contracts.GlobalAllocator.TheImpl.{ghosts}
-use Rattle.peertext_c.specs.contracts.kept.Kept.{the_row}
-use Rattle.peertext_c.specs.Held.{Held}
+use Rattle.rt_script.specs.contracts.line_site.LineSite.{the_row}
+use Rattle.rt_script.specs.LineSite.{LineSiteValue}
 
-abbrev pub kept_owns : Global → Ptr → Held → Fml
+abbrev pub kept_owns : Global → Ptr → LineSiteValue → Fml
 kept_owns alloc = box_owns (ghosts.dealloc_token alloc) the_row
 
-abbrev pub kept_coded : Coded Held
+abbrev pub kept_coded : Coded LineSiteValue
 kept_coded = the_row.coded
 
 -- a slot owns such a box, or nothing
-abbrev pub slot_owns : Global → Ptr → Option Held → Fml
+abbrev pub slot_owns : Global → Ptr → Option LineSiteValue → Fml
 slot_owns alloc at None = ftrue
 slot_owns alloc at (Some held) = kept_owns alloc at held
 
-abbrev pub slot_coded : Coded (Option Held)
+abbrev pub slot_coded : Coded (Option LineSiteValue)
 slot_coded = coded_option kept_coded

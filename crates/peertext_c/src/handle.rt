@@ -2,12 +2,12 @@
 ghost use Rattle.std.specs.Prelude.{◌≡◌, IsOkUnless, MatchOption, MatchResult, None, Option, Some, is_some};
 ghost use Rattle.rt_stamps.specs.declared.fault.Fault.TheVariants.{NoMemory};
 ghost use Rattle.peertext_c.specs.Codes.{DONE, NO_MEMORY};
-ghost use Rattle.peertext_c.specs.Held.{Held, saying};
+ghost use Rattle.rt_script.specs.LineSite.{LineSiteValue, saying};
 ghost use Rattle.peertext_c.specs.Owned.{slot_coded};
 
-use crate::kept::{Kept, Spoken};
 use crate::parts::Parts;
 use crate::{DONE, NO_MEMORY};
+use rt_script::LineSite;
 use rt_stamps::Fault;
 use std::alloc::Global;
 use std::marker::Model;
@@ -18,7 +18,7 @@ use std::mem;
 pub struct Slot {
     at: *mut u8,
     alloc: Global,
-    pub ghost value: { Option Held } by { slot_coded },
+    pub ghost value: { Option LineSiteValue } by { slot_coded },
 }
 
 impl Model for Slot {
@@ -37,7 +37,7 @@ impl Slot {
         }
     }
 
-    fn of_parts(parts: Parts<Kept, Global>) -> Slot
+    fn of_parts(parts: Parts<LineSite, Global>) -> Slot
         ensures { result.value ≡ Some parts.value }
     {
         let Parts { ptr, alloc } = parts;
@@ -47,14 +47,14 @@ impl Slot {
         }
     }
 
-    fn into_parts(self) -> Parts<Kept, Global>
-        ghost held: { Held }
+    fn into_parts(self) -> Parts<LineSite, Global>
+        ghost held: { LineSiteValue }
         requires { self.value ≡ Some held }
         ensures { result.value ≡ held }
     {
         let Slot { at, alloc } = self;
         Parts {
-            ptr: at as *mut Kept,
+            ptr: at as *mut LineSite,
             alloc,
         }
     }
@@ -86,7 +86,7 @@ impl Handle {
     }
 
     /// Takes out what it holds.
-    pub(crate) fn take(&mut self, alloc: Global) -> Option<Box<Kept>>
+    pub(crate) fn take(&mut self, alloc: Global) -> Option<Box<LineSite>>
         ensures left { self.new.slot.value ≡ None }
         ensures taken { MatchOption result (self.old.slot.value ≡ None) (λ kept. self.old.slot.value ≡ Some kept.value) }
     {
@@ -99,7 +99,7 @@ impl Handle {
     }
 
     /// Puts a site in where there is none.
-    pub(crate) fn put(&mut self, kept: Box<Kept>)
+    pub(crate) fn put(&mut self, kept: Box<LineSite>)
         requires { self.old.slot.value ≡ None }
         ensures { self.new.slot.value ≡ Some kept.value }
     {
@@ -113,7 +113,7 @@ impl Handle {
 
     /// Puts a site in where there is none, which says some bytes if there was memory for them, and answers whether
     /// there was.
-    pub(crate) fn say(&mut self, mut kept: Box<Kept>, made: Result<Vec<u8>, Fault>) -> i32
+    pub(crate) fn say(&mut self, mut kept: Box<LineSite>, made: Result<Vec<u8>, Fault>) -> i32
         requires empty { self.old.slot.value ≡ None }
         requires fault { IsOkUnless made NoMemory }
         ensures { MatchResult made
@@ -122,7 +122,7 @@ impl Handle {
     {
         match made {
             Ok(bytes) => {
-                kept.said = Spoken::Bytes(bytes);
+                kept.say(bytes);
                 self.put(kept);
                 DONE
             }

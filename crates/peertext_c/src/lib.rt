@@ -6,22 +6,20 @@
 #![tactic(auto)]
 
 ghost use Rattle.std.specs.Prelude.{◌≡◌, MatchOption, None};
-ghost use Rattle.peertext_c.specs.Calls.{CountsChanges, IsCommanded, IsFound, IsMade, IsNoSiteNumber, IsReceived, IsSaid, IsSiteNumber, Says};
+ghost use Rattle.peertext_c.specs.Calls.{CountsChanges, IsCommanded, IsFound, IsMade, IsPlaced, IsNoSiteNumber, IsReceived, IsSaid, IsSiteNumber, Says};
 ghost use Rattle.peertext_c.specs.Calls.{SaysChange, SaysEnds, SaysSince, file_of, place_of_path, stamp_numbers};
 ghost use Rattle.peertext_c.specs.Calls.{stamp_of_numbers, stamp_of_path};
 ghost use Rattle.peertext_c.specs.Codes.{NOT_THERE};
 
 mod finding;
 mod handle;
-mod kept;
 mod numbers;
 mod parts;
 
-use finding::{place_of_path, stamp_of_path};
+use finding::{place_at_path, place_of_path, stamp_of_path};
 use handle::Handle;
-use kept::Kept;
 use numbers::{StampNumbers, Told};
-use rt_script::SiteState;
+use rt_script::{LineSite, SiteState};
 use rt_stamps::limits::{GREATEST_SITE, MOST_BYTES, MOST_CELLS};
 use rt_stamps::{Fault, Site, Stamp};
 use std::alloc::Global;
@@ -69,7 +67,7 @@ pub extern "C" fn pt_site_new(alloc: Global, handle: &mut Handle, number: u32) -
     let Ok(site) = SiteState::new(alloc, site, MOST_CELLS) else {
         return NO_MEMORY;
     };
-    let Ok(kept) = Box::new(alloc, Kept::new(alloc, site)) else {
+    let Ok(kept) = Box::new(alloc, LineSite::new(alloc, site)) else {
         return NO_MEMORY;
     };
     handle.put(kept);
@@ -95,9 +93,9 @@ pub extern "C" fn pt_command(alloc: Global, handle: &mut Handle, line: &[u8]) ->
     let Some(mut kept) = handle.take(alloc) else {
         return NO_SITE;
     };
-    let code = kept.run(alloc, line);
+    let fault = kept.run(line);
     handle.put(kept);
-    code
+    i32::from(fault)
 }
 
 /// Copies the first bytes of what was said last into `out`, as many as there is room for; the rest of `out` stays as it
@@ -110,7 +108,7 @@ pub extern "C" fn pt_said(alloc: Global, handle: &mut Handle, out: &mut [u8]) ->
     let Some(kept) = handle.take(alloc) else {
         return NO_SITE as isize;
     };
-    let copied = kept.said.copy(alloc, out);
+    let copied = kept.copy_said(out);
     handle.put(kept);
     match copied {
         Ok(len) => len,
@@ -137,7 +135,7 @@ pub extern "C" fn pt_receive(
         handle.put(kept);
         return BAD_BYTES;
     }
-    *told = kept.receive(bytes);
+    *told = Told::of(kept.receive(bytes));
     handle.put(kept);
     DONE
 }
@@ -152,17 +150,17 @@ pub extern "C" fn pt_changes(alloc: Global, handle: &mut Handle, count: &mut usi
     let Some(kept) = handle.take(alloc) else {
         return NO_SITE;
     };
-    let Some(changes) = &kept.changes else {
-        handle.put(kept);
+    let counted = kept.count_changes();
+    handle.put(kept);
+    let Some(counted) = counted else {
         return NOT_KNOWN;
     };
-    *count = changes.len();
-    handle.put(kept);
+    *count = counted;
     DONE
 }
 
-/// Says what one operation changed in the visible text, of those that `pt_changes` counts, in the order in which they
-/// were made or accepted; their numbers begin at 0. A line for each change, which is of the text that all lines before
+/// Says what one operation changed in the visible text, of those that `pt_changes` counts, in an order in which they could
+/// be made or accepted; their numbers begin at 0. A line for each change, which is of the text that all lines before
 /// it left, those of lesser numbers among them. 0; or -1 where there is no site, -6 where there is no such operation, or
 /// -2 for want of memory.
 #[unsafe(no_mangle)]
@@ -172,7 +170,7 @@ pub extern "C" fn pt_change(alloc: Global, handle: &mut Handle, number: usize) -
     let Some(kept) = handle.take(alloc) else {
         return NO_SITE;
     };
-    let Some(made) = kept.lines_at(alloc, number) else {
+    let Some(made) = kept.lines_at(number) else {
         handle.put(kept);
         return NOT_THERE;
     };
@@ -188,7 +186,7 @@ pub extern "C" fn pt_export(alloc: Global, handle: &mut Handle) -> i32
     let Some(kept) = handle.take(alloc) else {
         return NO_SITE;
     };
-    let made = kept.site.export();
+    let made = kept.site().export();
     handle.say(kept, made)
 }
 
@@ -201,7 +199,7 @@ pub extern "C" fn pt_ends(alloc: Global, handle: &mut Handle) -> i32
     let Some(kept) = handle.take(alloc) else {
         return NO_SITE;
     };
-    let made = kept.ends(alloc);
+    let made = kept.ends();
     handle.say(kept, made)
 }
 
@@ -215,12 +213,39 @@ pub extern "C" fn pt_export_since(alloc: Global, handle: &mut Handle, ends: &[u8
     let Some(kept) = handle.take(alloc) else {
         return NO_SITE;
     };
-    let made = kept.file_since(alloc, ends);
+    let made = kept.file_since(ends);
     if let Err(Fault::Truncated) = made {
         handle.put(kept);
         return BAD_BYTES;
     }
     handle.say(kept, made)
+}
+
+/// Tells the place of an index (Tk text manual, "Indices") in what the widget of a path shows, counted from 0 up to how many
+/// characters it shows. 0; the number of the fault by which it was refused, as there is no such widget, the index is none, or
+/// memory was wanting; or -1 where there is no site. `BadQuoting` where the path or the index is no UTF-8.
+#[unsafe(no_mangle)]
+pub extern "C" fn pt_place_at(
+    alloc: Global,
+    handle: &mut Handle,
+    path: &[u8],
+    index: &[u8],
+    place: &mut usize,
+) -> i32
+    ensures { IsPlaced path.now index.now handle.old.slot.value place.old result handle.new.slot.value place.new }
+{
+    let Some(kept) = handle.take(alloc) else {
+        return NO_SITE;
+    };
+    let found = place_at_path(kept.site(), path, index);
+    handle.put(kept);
+    match found {
+        Ok(at) => {
+            *place = at;
+            DONE
+        }
+        Err(fault) => i32::from(fault.number()),
+    }
 }
 
 /// Tells the stamp of the character at a place of what the widget of a path shows, counted from 0. 0; or -1 where there
@@ -239,7 +264,7 @@ pub extern "C" fn pt_stamp_at(
     let Some(kept) = handle.take(alloc) else {
         return NO_SITE;
     };
-    let found = stamp_of_path(&kept.site, path, place);
+    let found = stamp_of_path(kept.site(), path, place);
     handle.put(kept);
     let Some(found) = found else {
         return NOT_THERE;
@@ -271,7 +296,7 @@ pub extern "C" fn pt_place_of(
         count: stamp.count,
         site: stamp.site,
     };
-    let found = place_of_path(&kept.site, path, stamp);
+    let found = place_of_path(kept.site(), path, stamp);
     handle.put(kept);
     let Some(found) = found else {
         return NOT_THERE;

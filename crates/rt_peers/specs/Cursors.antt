@@ -1,14 +1,26 @@
--- What the widget of a path shows. Places by stamps there: another site's cursor, a comment's anchor.
-use Rattle.std.specs.Prelude.{ℕ, Option, option_and_then, option_map}
+-- What the widget of a path shows. Places of indices there, and places by stamps: another site's cursor, a comment's anchor.
+use Rattle.std.specs.Prelude.{ℕ, Option, None, Some, Result, Err, option_and_then, option_map}
+use Rattle.rt_stamps.specs.declared.fault.Fault.{Fault}
+use Rattle.rt_stamps.specs.declared.fault.Fault.TheVariants.{NoWidget}
 use Rattle.rt_stamps.specs.declared.stamp.Stamp.{Stamp}
 use Rattle.rt_stamps.specs.Words.{Word}
+use Rattle.rt_index.specs.Index.{index_of}
 use Rattle.rt_text.specs.Cursors.{place_of_stamp, stamp_at}
-use Rattle.rt_text.specs.Widgets.{ViewValue, view_as}
+use Rattle.rt_text.specs.Widgets.{ViewValue, view_as, widget_of}
 use Rattle.rt_peers.specs.SiteValue.{SiteValue, number_of}
 
 -- the text as the widget of a path shows it; none where there is no such widget
 abbrev pub widget_by : Word → SiteValue → Option ViewValue
 widget_by path state = option_map (λ number. view_as number state.text.view) (number_of path state.paths)
+
+-- the place of an index in what a widget shows, where there is one
+abbrev pub place_in : Word → Option ViewValue → Result ℕ Fault
+place_in index None = Err NoWidget
+place_in index (Some view) = index_of (widget_of view) index
+
+-- the place of an index in what the widget of a path shows
+abbrev pub index_by : Word → Word → SiteValue → Result ℕ Fault
+index_by path index state = place_in index (widget_by path state)
 
 -- the stamp of the character at a place of what the widget of a path shows; none from its end on, or where there is no such widget
 abbrev pub stamp_by : Word → ℕ → SiteValue → Option Stamp

@@ -4,6 +4,7 @@ pub mod Exchange
 pub mod Lacking
 pub mod Lives
 pub mod Memory
+pub mod Numbered
 pub mod Options
 pub mod PeerStep
 pub mod Peers

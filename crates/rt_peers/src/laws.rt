@@ -1,5 +1,5 @@
 // Laws of the definitions, and of sites, each the contract of a function that changes nothing.
-ghost use Rattle.std.specs.Prelude.{◌≡◌, ◌<◌, ◌≤◌, ◌^◌, ℕ, List, Ok, Result, Some, encode_utf8_all, true};
+ghost use Rattle.std.specs.Prelude.{◌≡◌, ◌≢◌, ◌<◌, ◌≤◌, ◌^◌, ℕ, List, Ok, Result, Some, encode_utf8_all, true};
 ghost use Rattle.rt_stamps.specs.declared.fault.Fault.{Fault};
 ghost use Rattle.rt_stamps.specs.declared.stamp.Stamp.{Stamp};
 ghost use Rattle.rt_stamps.specs.Words.{Word};
@@ -19,11 +19,12 @@ ghost use Rattle.rt_peers.specs.Events.{EventsGoOneWay, EventsLive};
 ghost use Rattle.rt_peers.specs.Exchange.{AgreeOnceCaughtUp, AgreeOnceExchanged, ExchangeAgrees, ReceivesAny, ReceivesLacking, ReceivesWhole, TellsClash};
 ghost use Rattle.rt_peers.specs.Lives.{AcceptsGreatest, AcceptsHistory, AgreeInAnyOrder, KeepsOrMakes, SitesHold};
 ghost use Rattle.rt_peers.specs.Memory.{CommandsGoOneWay, ReceivingFindsMemory, ReceivingGoesOneWay, RequestsGoOneWay};
+ghost use Rattle.rt_peers.specs.Numbered.{step_by, view_by};
 ghost use Rattle.rt_peers.specs.Peers.{text_led};
 ghost use Rattle.rt_peers.specs.PeerStep.{destroyed};
 ghost use Rattle.rt_peers.specs.Reading.{reads, told_at};
 ghost use Rattle.rt_peers.specs.SiteStep.{AnswersInTurn, Gives, KeepsOperations, by_widget, log_of, step_at};
-ghost use Rattle.rt_peers.specs.SiteValue.{SiteValue};
+ghost use Rattle.rt_peers.specs.SiteValue.{SiteValue, number_of};
 ghost use Rattle.rt_peers.specs.ViewStep.{Outcome, one_word};
 ghost use Rattle.rt_peers.specs.WholeText.{ShowsAll, get_all};
 ghost use Rattle.rt_store.specs.Cells.{text_of};
@@ -41,6 +42,14 @@ pub fn telling()
         → step_at path state request ≡ told_at path state request }
     ensures left { (path : Word) (request : Request) (old new : SiteValue) (result : Result (List Word) Fault) → reads request ≡ true
         → AnswersInTurn (step_at path old request) old result new → new ≡ old }
+{}
+
+/// What the widget of a number is asked is what that of its path is asked, but for its peers; and both show the same.
+pub fn numbers()
+    ensures asked { (path : Word) (number : ℕ) (state : SiteValue) (request : Request) → number_of path state.paths ≡ Some number
+        → ((peers : PeerRequest) → request ≢ Peer peers) → step_by number state request ≡ step_at path state request }
+    ensures shown { (path : Word) (number : ℕ) (state : SiteValue) → number_of path state.paths ≡ Some number
+        → view_by number state ≡ widget_by path state }
 {}
 
 /// On each widget of a site the index of a place (`PlaceIndex` of rt_text), up to the number of the characters that it shows, is that

@@ -9,6 +9,7 @@ ghost use Rattle.rt_peers.specs.Step.{step};
 
 mod cursors;
 mod exchange;
+mod numbered;
 mod peers;
 mod telling;
 mod undoing;

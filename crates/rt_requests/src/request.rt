@@ -1,5 +1,6 @@
 // Requests, and the words that ask for them.
-ghost use Rattle.std.specs.Prelude.{◌≡◌, ◌⊎◌, Err};
+ghost use Rattle.std.specs.Prelude.{◌≡◌, ◌⊎◌, Err, codes, false};
+ghost use Rattle.std.specs.Str.{bytes_eq};
 ghost use Rattle.rt_stamps.specs.Words.{as_words};
 ghost use Rattle.rt_requests.specs.Asking.{Asks, AsksOf};
 
@@ -216,12 +217,29 @@ impl<'a> Request<'a> {
     }
 }
 
+// Whether a command is `insert`, which typing asks for: its bytes are compared in place, as a comparison of texts is a call.
+fn is_insert(name: &str) -> bool
+    ensures { result ≡ bytes_eq name.now (codes "insert") }
+{
+    matches!(name.as_bytes(), [b'i', b'n', b's', b'e', b'r', b't'])
+}
+
 // A command by its name.
 fn by_name<'a>(alloc: Global, name: &str, words: &'a [String]) -> Result<Request<'a>, Fault>
     ensures { AsksOf name.now (as_words words.now) result ⊎ (result ≡ Err Fault.NoMemory) }
 {
+    if is_insert(name) {
+        return insert(alloc, words);
+    }
+    by_other_name(alloc, name, words)
+}
+
+// A command that isn't `insert`, by its name.
+fn by_other_name<'a>(alloc: Global, name: &str, words: &'a [String]) -> Result<Request<'a>, Fault>
+    requires { bytes_eq name.now (codes "insert") ≡ false }
+    ensures { AsksOf name.now (as_words words.now) result ⊎ (result ≡ Err Fault.NoMemory) }
+{
     match name {
-        "insert" => insert(alloc, words),
         "delete" => delete(words),
         "replace" => replace(alloc, words),
         "get" => get(words),

@@ -1,7 +1,9 @@
 pub mod ChangeLines
+pub mod Counted
 pub mod EndsLaws
 pub mod FilesStay
 pub mod Indexed
+pub mod Items
 pub mod LinesLaws
 pub mod Living
 pub mod OneOutput

@@ -1,6 +1,7 @@
 pub mod Changes
 pub mod Headline
 pub mod Indexed
+pub mod LineSite
 pub mod Lines
 pub mod Lived
 pub mod Output

@@ -39,18 +39,18 @@ impl<'a> Model for Session<'a> {
     ghost invariant = { λ s. AreWithin s.files.now × IfSome s.index (λ index. Finds index s.files.now) };
 }
 
-// Whether a line's first word is that of `receive NAME`.
+// Whether a line's first word is that of `receive NAME`: its bytes are compared in place, as a comparison of texts is a call.
 pub(crate) fn is_receive(word: &str) -> bool
     ensures { result ≡ bytes_eq word.now (codes "receive") }
 {
-    word == "receive"
+    matches!(word.as_bytes(), [b'r', b'e', b'c', b'e', b'i', b'v', b'e'])
 }
 
-// Whether it is that of `destroy PATH`.
+// Whether it is that of `destroy PATH`, as `is_receive` tells it.
 pub(crate) fn is_destroy(word: &str) -> bool
     ensures { result ≡ bytes_eq word.now (codes "destroy") }
 {
-    word == "destroy"
+    matches!(word.as_bytes(), [b'd', b'e', b's', b't', b'r', b'o', b'y'])
 }
 
 // Takes the widget of a path away.

@@ -28,6 +28,8 @@ mod expressions;
 #[cfg(test)]
 mod files;
 #[cfg(test)]
+mod following;
+#[cfg(test)]
 mod found;
 #[cfg(test)]
 mod fronts;
@@ -35,6 +37,8 @@ mod fronts;
 mod limit_borders;
 #[cfg(test)]
 mod limits;
+#[cfg(test)]
+mod line_sites;
 #[cfg(test)]
 mod lines;
 #[cfg(test)]

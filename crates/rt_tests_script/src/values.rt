@@ -1,7 +1,7 @@
 // What a widget shows, asked by values of a site that is only borrowed.
 use crate::checks::same;
 use crate::sites::{Script, answered, new_site};
-use rt_requests::Comparison;
+use rt_requests::{Comparison, Request, Texts, Word};
 use rt_script::SiteState;
 use rt_stamps::limits::MOST_CELLS;
 use rt_stamps::{Fault, Position};
@@ -17,6 +17,11 @@ const LINES: Script = "
 .t tag add bold 1.1 2.1 -> =
 .t mark set here 2.1 -> =
 .t peer create .u -startline 2 -endline 3 -> = .u
+";
+
+const UNDO: Script = "
+.t edit modified 0 -> =
+.t configure -undo 1 -> =
 ";
 
 // A line and a character.
@@ -63,6 +68,47 @@ fn tells(rt: &impl Abort, alloc: Global, site: &SiteState) {
     tells_all(rt, alloc, &site.widget(".t").expect(rt, "a widget"));
     tells_one(rt, &site.widget(".u").expect(rt, "a widget"));
     same(rt, site.widget(".x").is_none(), true);
+}
+
+// The second line is asked and edited by the number of its widget.
+fn is_asked_by_number(rt: &impl Abort, alloc: Global, site: &mut SiteState) {
+    same(rt, site.number_of(".u"), Some(1));
+    same(rt, site.number_of(".x"), None);
+    same(rt, site.shown_by(2).is_none(), true);
+    let texts = Texts::new(Vec::new(alloc), "x");
+    let index = Word::new("1.0");
+    let request = Request::Insert { index, texts };
+    same(rt, site.ask(2, &request).err(), Some(Fault::NoWidget));
+    same(rt, site.can_undo(), false);
+    same(rt, site.ask(1, &request).err(), None);
+    same(rt, site.is_modified(), true);
+    same(rt, site.can_undo(), true);
+    let second = site.shown_by(1).expect(rt, "a widget");
+    let text = second.get("1.0", "end").expect(rt, "memory");
+    same(rt, text.as_str(), "xcd\n");
+}
+
+// What was put in goes and comes back by calls, and its change is told.
+fn is_undone_by_calls(rt: &impl Abort, site: &mut SiteState) {
+    let undone = site.undo(0);
+    same(rt, undone.reply.err(), None);
+    let changes = undone.changes.expect(rt, "memory");
+    same(rt, changes.len(), 1);
+    same(rt, site.can_undo(), false);
+    same(rt, site.can_redo(), true);
+    same(rt, site.undo(0).reply.err(), Some(Fault::NothingToUndo));
+    same(rt, site.redo(3).reply.err(), Some(Fault::NoWidget));
+    same(rt, site.redo(1).reply.err(), None);
+    same(rt, site.can_redo(), false);
+}
+
+#[test]
+fn widgets_are_asked_by_numbers(rt: HostRuntime) {
+    let alloc = rt.alloc();
+    let site = new_site(&rt, alloc, 1, MOST_CELLS);
+    let mut site = answered(&rt, alloc, site, &[], &[LINES, UNDO], 4096);
+    is_asked_by_number(&rt, alloc, &mut site);
+    is_undone_by_calls(&rt, &mut site);
 }
 
 #[test]

@@ -1,4 +1,4 @@
--- Places by stamps: what another site's cursor or a comment's anchor holds, and which no edit changes.
+-- Places by stamps: what another site's cursor or a comment's anchor holds.
 use Rattle.std.specs.Prelude.{ℕ, ◌+◌, ◌-◌, nat_lt, List, Option, None, option_map, slice_get, if◌then◌else◌}
 use Rattle.rt_stamps.specs.declared.stamp.Stamp.{Stamp}
 use Rattle.rt_store.specs.declared.cell.Cell.{Cell}

@@ -24,7 +24,8 @@ impl Model for PlaceIndex {
 }
 
 impl PlaceIndex {
-    /// The index of the place.
+    /// The index of a place of what a widget shows, counted from where that begins, from 0. Past its end it is an index of
+    /// the end, as in Tk.
     pub fn new(place: usize) -> PlaceIndex
         ensures value { result ≡ place_word place }
     {

@@ -16,8 +16,8 @@ use rt_store::TextStore;
 use std::alloc::Global;
 use std::marker::Model;
 
-/// A document as one of its site's widgets shows it, borrowed: all that only reads a text is asked of it, by values. It is of
-/// the size of some pointers, and whoever has it need not name the widget again.
+/// A document as one of its site's widgets shows it, borrowed until the text is next changed: all that only reads a text is
+/// asked of it, by values. It is of the size of some pointers.
 #[derive(Drop)]
 pub struct ViewRef<'a, S: TextStore> {
     alloc: Global,
@@ -57,7 +57,7 @@ impl<'a, S: TextStore> ViewRef<'a, S> {
         }
     }
 
-    /// The document.
+    /// The document, whichever widget shows it.
     pub fn doc(&self) -> &'a Doc<S>
         ensures { result.now ≡ self.now.doc }
     {

@@ -1,10 +1,11 @@
 // What a widget of a site shows, by values; places by stamps, and stamps by places.
-ghost use Rattle.std.specs.Prelude.{◌≡◌};
-ghost use Rattle.rt_peers.specs.Cursors.{place_by, stamp_by, widget_by};
+ghost use Rattle.std.specs.Prelude.{◌≡◌, IfErr, IfOk, Ok};
+ghost use Rattle.rt_stamps.specs.Outcomes.{Refuses};
+ghost use Rattle.rt_peers.specs.Cursors.{index_by, place_by, stamp_by, widget_by};
 
 use super::SiteState;
 use crate::paths::number_of;
-use rt_stamps::Stamp;
+use rt_stamps::{Fault, Stamp};
 use rt_text::ViewRef;
 use rt_tree::TreeStore;
 
@@ -19,6 +20,19 @@ impl SiteState {
     {
         let number = number_of(&self.paths, path)?;
         Some(self.text.widget(number))
+    }
+
+    /// The place of an index (Tk text manual, "Indices") in what the widget of a path shows, counted from where that begins,
+    /// from 0 to how many characters it shows. Refused by the first of `NoWidget` and the faults of an index, `BadIndex` and
+    /// `NoneTagged`, or for want of memory.
+    pub fn place_at(&self, path: &str, index: &str) -> Result<usize, Fault>
+        ensures ok { IfOk result (λ place. index_by path.now index.now self.now ≡ Ok place) }
+        ensures err { IfErr result (Refuses (index_by path.now index.now self.now)) }
+    {
+        match self.widget(path) {
+            Some(widget) => widget.place(index),
+            None => Err(Fault::NoWidget),
+        }
     }
 
     /// The stamp of the character at a place of what the widget of a path shows, counted from where that begins, from 0.

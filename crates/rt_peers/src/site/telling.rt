@@ -17,7 +17,7 @@ use rt_stamps::Fault;
 
 impl SiteState {
     // What is asked of what the widget of a number shows, as `ask_text` does it, with what changed.
-    fn ask_text_telling(&mut self, number: usize, request: &Request<'_>) -> ToldAnswer
+    pub(super) fn ask_text_telling(&mut self, number: usize, request: &Request<'_>) -> ToldAnswer
         requires { number < length self.old.paths }
         ensures answers { AnswersInTurn (by_widget number self.old (λ text. step text request.now)) self.old result.reply self.new }
         ensures told { IfSome result.changes (λ changes. AreToldOf self.old.text self.new.text changes.items) }
@@ -57,7 +57,7 @@ impl SiteState {
     }
 
     /// What is asked of the widget of a path, as `answer` does it, and what changed in the visible text: what each of
-    /// the operations changed that the site made for it, in order, and then what each held one changed that was taken.
+    /// the operations changed that the site made for it, and each held one that was taken, in an order in which they could be.
     /// Each change is of the text that those before it left, so all of them, done one after the other to what was
     /// shown, with its tags, give what is shown now. Only what changes is told. `None` only where operations
     /// were accepted and it isn't known what they changed: for want of memory to tell, or where two of those that were made

@@ -40,7 +40,8 @@ impl<S: TextStore> View<S> {
         )
     }
 
-    /// As `place` of what it shows.
+    /// The place of an index in what the widget that commands shows, from 0 to `visible` (Tk text manual, "Indices"), as
+    /// `ViewRef::place` tells it. `BadIndex`, `NoneTagged`, or want of memory.
     pub fn place(&self, index: &str) -> Result<usize, Fault>
         ensures ok { IfOk result (λ place. index_of (widget_of self.now) index.now ≡ Ok place) }
         ensures within { IfOk result (λ place. place ≤ length_shown self.now) }
@@ -70,7 +71,8 @@ impl<S: TextStore> View<S> {
         self.shown().stretch()
     }
 
-    /// As `ranges` of what it shows.
+    /// The ranges that indices name in pairs in what the widget that commands shows (Tk text manual), as `ViewRef::ranges` tells
+    /// them. `BadIndex`, `NoneTagged`, or want of memory.
     pub fn ranges(&self, indices: &[String]) -> Result<Vec<Range>, Fault>
         ensures ok { IfOk result (λ ranges. ranges.items
             ≡ ranges_of (map (place_at_index (widget_of self.now)) (as_words indices.now))) }

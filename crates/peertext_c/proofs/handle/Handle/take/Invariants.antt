@@ -1,10 +1,10 @@
 -- what the slot holds is what its parts have
 use Rattle.std.specs.Prelude.{Option, None, Some}
-use Rattle.peertext_c.specs.Held.{Held, new_held}
+use Rattle.rt_script.specs.LineSite.{LineSiteValue, new_line_site}
 use Rattle.peertext_c.proofs.handle.Handle.take.Given as goal
 
-abbrev held_of : Option Held → Held
-held_of None = new_held 1 1
+abbrev held_of : Option LineSiteValue → LineSiteValue
+held_of None = new_line_site 1 1
 held_of (Some held) = held
 
 abbrev pub ghost-into_parts : goal.ghost-into_parts

@@ -26,7 +26,7 @@ use Rattle.std.specs.Prelude.{Option, Some}
 use Rattle.std_alloc.proofs.BoxSteps.Form.{D, word, box_typed}
 use Rattle.std_alloc.proofs.BoxSteps.Steps.{box_out, box_in}
 use Rattle.peertext_c.proofs.AsBox.{E, FromSlot as From}
-use Rattle.peertext_c.specs.Held.{Held}
+use Rattle.rt_script.specs.LineSite.{LineSiteValue}
 use Rattle.peertext_c.specs.contracts.handle.Slot as Slot
 use Rattle.peertext_c.specs.contracts.handle.Slot.into_parts as F
 use Rattle.peertext_c.specs.contracts.handle.Slot.into_parts.Key.{name as #self}
@@ -48,7 +48,7 @@ module _ {M : Type 1} {𝓤 : Ura M} (𝓛 : Logic 𝓤) (at_mem : Memory → SP
       let To = type_at (F.signature).result tt in
       let made : To.Denot = record { ptr = v.ptr; alloc = v.alloc; value = v.value } in
       qed 𝓛 ((‵ ftrue ⊛ ‵ (fsep (Slot.the_row.own_val slot z.0.4.0) ftrue)) ∷ raw (fact 𝓤 (slot.value ≡ Some z.1)) ∷ []) ∵ move ! (1 ∷ []) $ heard ! (slot.value ≡ Some z.1) (λ is.
-      split ! $ drop ! $ fsplit ! $ rewrite ! 0 (λ (held : Option Held). ‵ (Slot.the_row.own_val (record slot { value = held }) z.0.4.0)) is refl $
+      split ! $ drop ! $ fsplit ! $ rewrite ! 0 (λ (held : Option LineSiteValue). ‵ (Slot.the_row.own_val (record slot { value = held }) z.0.4.0)) is refl $
       box_out E ! v z.0.4.0 (λ b o hv e ws fa. box_in E ! v b o v.value e refl $ use1 𝓛 (‵ (To.own_val made (word E hv b o ∷ []))) (id⊢ 𝓤 _) $ move ! (1 ∷ []) $ drop ! $
       let w = word E hv b o in
       let Γ : List (Item 𝓤) = ‵ (To.own_val made (w ∷ [])) ∷ [] in

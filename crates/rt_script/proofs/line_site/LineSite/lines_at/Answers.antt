@@ -2,9 +2,9 @@ use Rattle.std.proofs.Common.{◌≡◌, ◌∙◌, List, [], Option, Some, Vec,
 use Rattle.std.specs.Prelude.{slice_get, unwrap_or}
 use Rattle.rt_changes.specs.declared.change.ToldChange.{ToldChange}
 use Rattle.rt_script.specs.Telling.{told_items}
-use Rattle.peertext_c.specs.Held.{known_changes}
-use Rattle.peertext_c.proofs.Items.{got_at}
-use Rattle.peertext_c.proofs.kept.Kept.lines_at.Goals as goal
+use Rattle.rt_script.specs.LineSite.{known_changes}
+use Rattle.rt_script.proofs.Items.{got_at}
+use Rattle.rt_script.proofs.line_site.LineSite.lines_at.Goals as goal
 
 pub returns : goal.returns
 returns c =

@@ -1,0 +1,88 @@
+-- A site that is asked by lines, one at a time, and what each call makes of it.
+use Rattle.std.specs.Prelude.{◌≡◌, ◌⊎◌, ◌++◌, ◌&&◌, Bool, true, false, List, [], Option, Some, ℕ, drop, length, reverse, take, unwrap_or}
+use Rattle.rt_stamps.specs.Words.{Word}
+use Rattle.rt_ops.specs.File.{spelling}
+use Rattle.rt_oplog.specs.Logs.{known_end}
+use Rattle.rt_files.specs.Ends.{AreBySite, known_by}
+use Rattle.rt_changes.specs.declared.change.ToldChange.{ToldChange}
+use Rattle.rt_holding.specs.declared.receiving.Received.{Received}
+use Rattle.rt_peers.specs.Lacking.{since}
+use Rattle.rt_peers.specs.SiteStep.{SiteReceives, log_of}
+use Rattle.rt_peers.specs.SiteValue.{SiteValue, new_site}
+use Rattle.rt_script.specs.declared.answer.Answer.{Answer}
+use Rattle.rt_script.specs.declared.line_site.Spoken.{Spoken}
+use Rattle.rt_script.specs.declared.line_site.Spoken.TheVariants.{Bytes, Line}
+use Rattle.rt_script.specs.Lines.{is_readable, is_silent}
+use Rattle.rt_script.specs.Replies.{fault_number, reply_line}
+use Rattle.rt_script.specs.Run.{LineGives}
+use Rattle.rt_script.specs.Site.{WordsGive}
+use Rattle.rt_script.specs.Telling.{TellsChanges}
+
+-- A site, the bytes that were said last, and what the last line or file changed, operation by operation, if that is known.
+-- The bytes are ready, or are those of a reply line that is to be made when it is read: there was no memory for it.
+pub record LineSiteValue : Type 0 where
+  pub site : SiteValue
+  pub said : List ℕ
+  pub ready : Bool
+  pub changes : Option (List ToldChange)
+
+-- the bytes that are said
+abbrev pub bytes_of : Spoken → List ℕ
+bytes_of (Bytes bytes) = bytes.items
+bytes_of (Line answer) = reply_line answer
+
+-- whether they are ready
+abbrev pub is_ready : Spoken → Bool
+is_ready (Bytes bytes) = true
+is_ready (Line answer) = false
+
+-- what says some bytes, which are ready
+abbrev pub saying : List ℕ → LineSiteValue → LineSiteValue
+saying bytes kept = record kept { said = bytes; ready = true }
+
+-- a new site, which said and changed nothing yet
+abbrev pub new_line_site : ℕ → ℕ → LineSiteValue
+new_line_site number limit = record { site = new_site number limit; said = []; ready = true; changes = Some [] }
+
+-- what is known of what was changed
+abbrev pub known_changes : LineSiteValue → List ToldChange
+known_changes kept = unwrap_or kept.changes []
+
+-- what has changed nothing yet
+abbrev pub untold : LineSiteValue → LineSiteValue
+untold kept = record kept { changes = Some [] }
+
+-- bytes in the front of some room, as many as there is room for
+abbrev pub in_front : List ℕ → List ℕ → List ℕ
+in_front bytes room = take (length room) bytes ++ drop (length bytes) room
+
+-- What the words of a line give: what they give a site by itself, without files, and what that changed. What was said stays.
+pub record CommandGives (old : LineSiteValue) (words : List Word) (answer : Answer) (new : LineSiteValue) : Type 0 where
+  pub gives : WordsGive [] words old.site answer new.site
+  pub tells : TellsChanges old.site new.site new.changes
+  pub said : (new.said ≡ old.said) × (new.ready ≡ old.ready)
+
+-- A line gives what it gives in a script, and the line of its answer is said, which is ready if there was memory for
+-- it; a silent one says nothing. What was changed before it is no longer told. The number of its fault is answered, or 0.
+abbrev pub RunsLine : List ℕ → LineSiteValue → ℕ → LineSiteValue → Type 0
+RunsLine line old number new =
+    ((is_readable line && is_silent line ≡ true) × (number ≡ 0) × (new ≡ saying [] (untold old)))
+    ⊎ ((given : LineSiteValue) × (answer : Answer) × (is_readable line && is_silent line ≡ false)
+    × LineGives CommandGives (untold old) line answer given
+    × (number ≡ fault_number answer) × (new ≡ record given { said = reply_line answer; ready = new.ready }))
+
+-- A site receives a file, and keeps what it changed, which is known: the changes of each operation that was accepted. What
+-- was said stays.
+pub record ReceivesTelling (bytes : List ℕ) (old : LineSiteValue) (received : Received) (new : LineSiteValue) : Type 0 where
+  pub receives : SiteReceives bytes old.site received new.site
+  pub counted : (changes : List ToldChange) × (new.changes ≡ Some changes) × (length changes ≡ received.new)
+  pub tells : TellsChanges old.site new.site new.changes
+  pub said : (new.said ≡ old.said) × (new.ready ≡ old.ready)
+
+-- these are the last counts that a site knows, by the numbers of their sites
+abbrev pub AreEndsOf : SiteValue → List (ℕ × ℕ) → Type 0
+AreEndsOf state ends = AreBySite ends × ((site : ℕ) → known_by ends site ≡ known_end (log_of state) site)
+
+-- the file of the operations of a site that are past some counts
+abbrev pub file_since : List (ℕ × ℕ) → LineSiteValue → List ℕ
+file_since ends kept = spelling (reverse (since (known_by ends) (log_of kept.site)))
