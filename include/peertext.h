@@ -144,8 +144,8 @@ int32_t pt_receive(pt_site *site, const uint8_t *bytes, size_t len, pt_received 
 /* Tells how many operations were made or accepted by the last pt_command or pt_receive: those that the line made, or
    that the file had, and held ones that these let in. A line that changes no text and no tags has none. pt_change says
    what each of them changed.
-   PT_DONE; else PT_NO_SITE, or PT_NOT_KNOWN: the line was run, but what it changed isn't known, for want of memory, or
-   since it wrote one tag by two operations (docs/LIBRARY.md, "What was changed"). Then read the text anew. */
+   PT_DONE; else PT_NO_SITE, or PT_NOT_KNOWN: the line was run, but what it changed isn't known, for want of memory. Then
+   read the text anew. */
 int32_t pt_changes(pt_site *site, size_t *count);
 
 /* Says what an operation changed in the visible text, of those that pt_changes counts, in an order in which they could

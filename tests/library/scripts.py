@@ -181,8 +181,8 @@ def edited(chance, more):
 def group(chance, count):
     """Lines of sites that edit and exchange, and in the end all have the same."""
     lines = [line for site in range(count) for line in (f"\x01site {site} {site + 1}", ".t configure -undo 1")]
-    # what comes back under more tags than one Insert lists may not be known
-    more = chance.choice(((".t edit undo", ".t edit redo"), (".t insert {at} {text} {{" + MANY + "}}",)))
+    # more tags than one Insert lists, for which several Tags of one tag are made
+    more = (".t edit undo", ".t edit redo", ".t insert {at} {text} {{" + MANY + "}}")
     for _ in range(chance.randrange(10, 40)):
         one, other = chance.sample(range(count), 2)
         lines += [f"\x01use {one}"] + [line for _ in range(chance.randrange(4)) for line in edited(chance, more)] + [TEXT, f"\x01{chance.choice(('give', 'lack'))} {other}", TEXT]

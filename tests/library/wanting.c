@@ -10,7 +10,7 @@ typedef struct {
 } text;
 
 static text before, after, now;
-static long refusals;
+static long refusals, unknown;
 static char file[ROOM], first[ROOM], behind[ROOM];
 static size_t file_len, first_len, behind_len;
 
@@ -53,6 +53,10 @@ static bool refused_line(const char *line, long refused, int32_t code, const cha
     int32_t got = run(&site, line);
     bool was_refused = until_refused < 0;
     until_refused = -1;
+    size_t count;
+    int32_t known = pt_changes(&site, &count);
+    CHECK(known == PT_DONE || (known == PT_NOT_KNOWN && was_refused && got == code));
+    unknown += known == PT_NOT_KNOWN;
     bool wanted = got == PT_FAULT_NO_MEMORY && says(&site, "! 1 NoMemory\n");
     bool answered = !wanted && got == code && says(&site, reply);
     CHECK(wanted || answered);
@@ -244,6 +248,7 @@ int main(void) {
     received();
     stays_held();
     CHECK(blocks == 0 && bytes_in_blocks == 0);
-    printf("%ld refusals\n", refusals);
+    CHECK(unknown > 0);
+    printf("%ld refusals, of which %ld left unknown what a line changed\n", refusals, unknown);
     return told_of_all();
 }

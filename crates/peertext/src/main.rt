@@ -11,7 +11,7 @@ ghost use Rattle.peertext.specs.Program.{ProgramRuns, WritesLog};
 ghost use Rattle.rt_program.specs.Endings.{log_failure};
 ghost use Rattle.rt_program.specs.Readers.{stream_of};
 ghost use Rattle.rt_script.specs.Site.{AreWithin, named_files};
-ghost use Rattle.rt_script.specs.SiteRun.{BeginsWith};
+ghost use Rattle.rt_script.specs.SiteRun.{BeginsFrom};
 
 mod counted;
 
@@ -59,7 +59,7 @@ fn read_path<'a>(rt: &HostRuntime, path: &'a str) -> Result<Vec<u8>, Failure<'a>
 
 // A new site.
 fn begun_new<'a>(rt: &HostRuntime, site: Site) -> Result<SiteState, Failure<'a>>
-    ensures { MatchResult result (BeginsWith site.number None) (λ failure. failure ≡ log_failure (Fault.NoMemory, 0) None) }
+    ensures { MatchResult result (BeginsFrom site.number None) (λ failure. failure ≡ log_failure (Fault.NoMemory, 0) None) }
 {
     match begun(rt.alloc(), site, None) {
         Ok(state) => Ok(state),
@@ -85,7 +85,7 @@ fn begun_at<'a>(
     site: Site,
     log: Option<&'a str>,
 ) -> Result<SiteState, Failure<'a>>
-    ensures { log.entry ≡ None → MatchResult result (BeginsWith site.number None) (λ failure. failure ≡ log_failure (Fault.NoMemory, 0) None) }
+    ensures { log.entry ≡ None → MatchResult result (BeginsFrom site.number None) (λ failure. failure ≡ log_failure (Fault.NoMemory, 0) None) }
 {
     match log {
         Some(path) => begun_with(rt, site, path),

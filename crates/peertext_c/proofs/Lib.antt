@@ -1,3 +1,2 @@
 pub mod AsBox
-pub mod Paths
 pub mod Saying

@@ -1,10 +1,8 @@
 -- What each function answers, and what its handle holds then.
-use Rattle.std.specs.Prelude.{◌≡◌, ◌⊎◌, ◌<◌, ◌≤◌, ◌&&◌, ℕ, ℤ, pos, List, Option, None, Some, Result, Ok, Err, false, length, reverse, slice_get, if◌then◌else◌}
-use Rattle.std.specs.Str.{is_utf8}
+use Rattle.std.specs.Prelude.{◌≡◌, ◌⊎◌, ◌<◌, ◌≤◌, ℕ, ℤ, pos, List, Option, None, Some, Ok, false, length, reverse, slice_get}
 use Rattle.rt_stamps.specs.declared.limits.TheConstants.{GREATEST_SITE, MOST_BYTES, MOST_CELLS}
 use Rattle.rt_stamps.specs.declared.fault.Fault.{Fault}
 use Rattle.rt_stamps.specs.declared.stamp.Stamp.{Stamp}
-use Rattle.rt_stamps.specs.declared.fault.Fault.TheVariants.{BadQuoting}
 use Rattle.rt_stamps.specs.Fault.{number_of}
 use Rattle.rt_stamps.specs.Outcomes.{Refuses}
 use Rattle.rt_stamps.specs.Words.{Word}
@@ -12,11 +10,9 @@ use Rattle.rt_ops.specs.File.{spelling}
 use Rattle.rt_files.specs.Ends.{SpellEnds, SpellNoEnds, ends_bytes}
 use Rattle.rt_changes.specs.declared.change.ToldChange.{ToldChange}
 use Rattle.rt_holding.specs.declared.receiving.Received.{Received}
-use Rattle.rt_peers.specs.Cursors.{index_by, place_by, stamp_by}
 use Rattle.rt_peers.specs.SiteStep.{log_of}
-use Rattle.rt_peers.specs.SiteValue.{SiteValue}
 use Rattle.rt_script.specs.Changes.{change_lines}
-use Rattle.rt_script.specs.LineSite.{AreEndsOf, LineSiteValue, ReceivesTelling, RunsLine, file_since, in_front, known_changes, new_line_site, saying}
+use Rattle.rt_script.specs.LineSite.{AreEndsOf, LineSiteValue, ReceivesTelling, RunsLine, file_since, in_front, known_changes, new_line_site, place_at_path, saying}
 use Rattle.peertext_c.specs.declared.numbers.Told.{Told}
 use Rattle.peertext_c.specs.declared.numbers.StampNumbers.{StampNumbers}
 use Rattle.peertext_c.specs.Codes.{BAD_BYTES, BAD_NUMBER, DONE, IS_HELD, NOT_KNOWN, NOT_THERE, NO_MEMORY, NO_SITE}
@@ -26,8 +22,8 @@ abbrev pub IsNoSite : Option LineSiteValue → ℤ → Option LineSiteValue → 
 IsNoSite old result new = (result ≡ NO_SITE) × (old ≡ None) × (new ≡ None)
 
 -- there is a site, which stays as it is; a code is answered
-abbrev pub IsRefused : ℤ → Option LineSiteValue → ℤ → Option LineSiteValue → Type 0
-IsRefused code old result new = (result ≡ code) × ((held : LineSiteValue) × (old ≡ Some held)) × (new ≡ old)
+abbrev pub AnswersCode : ℤ → Option LineSiteValue → ℤ → Option LineSiteValue → Type 0
+AnswersCode code old result new = (result ≡ code) × ((held : LineSiteValue) × (old ≡ Some held)) × (new ≡ old)
 
 -- the numbers that sites have, and those that none has
 abbrev pub IsSiteNumber : ℕ → Type 0
@@ -37,10 +33,10 @@ abbrev pub IsNoSiteNumber : ℕ → Type 0
 IsNoSiteNumber number = (number ≡ 0) ⊎ (GREATEST_SITE < number)
 
 -- A site is made where there is none and its number is that of a site.
-abbrev pub IsMade : ℕ → Option LineSiteValue → ℤ → Option LineSiteValue → Type 0
-IsMade number old result new =
+abbrev pub MakesSite : ℕ → Option LineSiteValue → ℤ → Option LineSiteValue → Type 0
+MakesSite number old result new =
     ((result ≡ DONE) × IsSiteNumber number × (old ≡ None) × (new ≡ Some (new_line_site number MOST_CELLS)))
-    ⊎ IsRefused IS_HELD old result new
+    ⊎ AnswersCode IS_HELD old result new
     ⊎ ((result ≡ BAD_NUMBER) × IsNoSiteNumber number × (old ≡ None) × (new ≡ None))
     ⊎ ((result ≡ NO_MEMORY) × IsSiteNumber number × (old ≡ None) × (new ≡ None))
 
@@ -52,8 +48,8 @@ IsCommanded line old result new =
 
 -- What was said is put in the front of the room, and its whole length is answered; or, if it isn't ready, there is no
 -- memory for that.
-abbrev pub IsSaid : Option LineSiteValue → List ℕ → ℤ → Option LineSiteValue → List ℕ → Type 0
-IsSaid old room result new out = (new ≡ old)
+abbrev pub TellsSaid : Option LineSiteValue → List ℕ → ℤ → Option LineSiteValue → List ℕ → Type 0
+TellsSaid old room result new out = (new ≡ old)
     × (((result ≡ NO_SITE) × (old ≡ None) × (out ≡ room))
     ⊎ ((held : LineSiteValue) × (old ≡ Some held)
     × (((result ≡ pos (length held.said)) × (out ≡ in_front held.said room))
@@ -84,7 +80,7 @@ SaysEnds old result new =
 abbrev pub SaysSince : List ℕ → Option LineSiteValue → ℤ → Option LineSiteValue → Type 0
 SaysSince bytes old result new =
     IsNoSite old result new
-    ⊎ (SpellNoEnds bytes × IsRefused BAD_BYTES old result new)
+    ⊎ (SpellNoEnds bytes × AnswersCode BAD_BYTES old result new)
     ⊎ ((held : LineSiteValue) × (old ≡ Some held)
     × (((ends : List (ℕ × ℕ)) × SpellEnds bytes ends × SaysOf held (file_since ends held) result new) ⊎ ((result ≡ NO_MEMORY) × (new ≡ Some held))))
 
@@ -94,8 +90,8 @@ fault_numbers None = (0, 0)
 fault_numbers (Some (fault, offset)) = (number_of fault, offset)
 
 -- what became of a file, as numbers
-abbrev pub numbers_of : Received → Told
-numbers_of received = record {
+abbrev pub received_numbers : Received → Told
+received_numbers received = record {
   fresh = received.new;
   repeats = received.repeats;
   held = received.held;
@@ -107,9 +103,9 @@ numbers_of received = record {
 abbrev pub IsReceived : List ℕ → Option LineSiteValue → Told → ℤ → Option LineSiteValue → Told → Type 0
 IsReceived bytes old room result new told =
     (IsNoSite old result new × (told ≡ room))
-    ⊎ ((MOST_BYTES < length bytes) × IsRefused BAD_BYTES old result new × (told ≡ room))
+    ⊎ ((MOST_BYTES < length bytes) × AnswersCode BAD_BYTES old result new × (told ≡ room))
     ⊎ ((before after : LineSiteValue) × (received : Received) × (length bytes ≤ MOST_BYTES) × (old ≡ Some before) × (new ≡ Some after) × (result ≡ DONE)
-    × ReceivesTelling bytes before received after × (told ≡ numbers_of received))
+    × ReceivesTelling bytes before received after × (told ≡ received_numbers received))
 
 -- The lines of the change of a number are said, where there is one.
 abbrev pub SaysChange : ℕ → Option LineSiteValue → ℤ → Option LineSiteValue → Type 0
@@ -131,25 +127,13 @@ IsFound {Found} code told find old room result new out = (new ≡ old)
 abbrev pub CountsChanges : Option LineSiteValue → ℕ → ℤ → Option LineSiteValue → ℕ → Type 0
 CountsChanges = IsFound NOT_KNOWN (λ changes. length changes) (λ held. held.changes)
 
--- The place of an index in what the widget of a path shows, or why it is refused, if both are texts; else it is refused as a line
--- that is none.
-abbrev pub place_at_path : Word → Word → SiteValue → Result ℕ Fault
-place_at_path path index site = if is_utf8 path && is_utf8 index then index_by path index site else Err BadQuoting
-
 -- The place of an index is told, or it is refused by a fault, whose number is answered; then nothing is told. All stays.
-abbrev pub IsPlaced : Word → Word → Option LineSiteValue → ℕ → ℤ → Option LineSiteValue → ℕ → Type 0
-IsPlaced path index old room result new out = (new ≡ old)
+abbrev pub FindsPlace : Word → Word → Option LineSiteValue → ℕ → ℤ → Option LineSiteValue → ℕ → Type 0
+FindsPlace path index old room result new out = (new ≡ old)
     × (((result ≡ NO_SITE) × (old ≡ None) × (out ≡ room))
     ⊎ ((held : LineSiteValue) × (old ≡ Some held)
     × (((result ≡ DONE) × (place_at_path path index held.site ≡ Ok out))
     ⊎ ((fault : Fault) × Refuses (place_at_path path index held.site) fault × (result ≡ pos (number_of fault)) × (out ≡ room)))))
-
--- the stamp at a place by a path, which is that of a widget if it is a text
-abbrev pub stamp_of_path : Word → ℕ → SiteValue → Option Stamp
-stamp_of_path path place site = if is_utf8 path then stamp_by path place site else None
-
-abbrev pub place_of_path : Word → Stamp → SiteValue → Option ℕ
-place_of_path path stamp site = if is_utf8 path then place_by path stamp site else None
 
 abbrev pub stamp_numbers : Stamp → StampNumbers
 stamp_numbers stamp = record { count = stamp.count; site = stamp.site }

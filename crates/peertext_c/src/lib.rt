@@ -6,17 +6,15 @@
 #![tactic(auto)]
 
 ghost use Rattle.std.specs.Prelude.{◌≡◌, MatchOption, None};
-ghost use Rattle.peertext_c.specs.Calls.{CountsChanges, IsCommanded, IsFound, IsMade, IsPlaced, IsNoSiteNumber, IsReceived, IsSaid, IsSiteNumber, Says};
-ghost use Rattle.peertext_c.specs.Calls.{SaysChange, SaysEnds, SaysSince, file_of, place_of_path, stamp_numbers};
-ghost use Rattle.peertext_c.specs.Calls.{stamp_of_numbers, stamp_of_path};
+ghost use Rattle.peertext_c.specs.Calls.{CountsChanges, IsCommanded, IsFound, MakesSite, FindsPlace, IsNoSiteNumber, IsReceived, TellsSaid, IsSiteNumber, Says};
+ghost use Rattle.peertext_c.specs.Calls.{SaysChange, SaysEnds, SaysSince, file_of, stamp_numbers, stamp_of_numbers};
 ghost use Rattle.peertext_c.specs.Codes.{NOT_THERE};
+ghost use Rattle.rt_script.specs.LineSite.{place_of_path, stamp_of_path};
 
-mod finding;
 mod handle;
 mod numbers;
 mod parts;
 
-use finding::{place_at_path, place_of_path, stamp_of_path};
 use handle::Handle;
 use numbers::{StampNumbers, Told};
 use rt_script::{LineSite, SiteState};
@@ -55,7 +53,7 @@ fn site_of(number: u32) -> Option<Site>
 /// number that no site has, or -2 for want of memory.
 #[unsafe(no_mangle)]
 pub extern "C" fn pt_site_new(alloc: Global, handle: &mut Handle, number: u32) -> i32
-    ensures { IsMade number handle.old.slot.value result handle.new.slot.value }
+    ensures { MakesSite number handle.old.slot.value result handle.new.slot.value }
 {
     if let Some(kept) = handle.take(alloc) {
         handle.put(kept);
@@ -103,7 +101,7 @@ pub extern "C" fn pt_command(alloc: Global, handle: &mut Handle, line: &[u8]) ->
 /// its line was run, and none when it is read. What was said stays, so the call may be made again.
 #[unsafe(no_mangle)]
 pub extern "C" fn pt_said(alloc: Global, handle: &mut Handle, out: &mut [u8]) -> isize
-    ensures { IsSaid handle.old.slot.value out.old result handle.new.slot.value out.new }
+    ensures { TellsSaid handle.old.slot.value out.old result handle.new.slot.value out.new }
 {
     let Some(kept) = handle.take(alloc) else {
         return NO_SITE as isize;
@@ -142,7 +140,7 @@ pub extern "C" fn pt_receive(
 
 /// Tells how many operations the last line made or the last file brought, with the held ones that were accepted then:
 /// `pt_change` says of each what it changed. 0; or -1 where there is no site, or -7 where it isn't known what a line
-/// changed, though it was run: for want of memory, or as two of the operations that it made at once are Tags of one tag.
+/// changed, though it was run, for want of memory.
 #[unsafe(no_mangle)]
 pub extern "C" fn pt_changes(alloc: Global, handle: &mut Handle, count: &mut usize) -> i32
     ensures { CountsChanges handle.old.slot.value count.old result handle.new.slot.value count.new }
@@ -232,12 +230,12 @@ pub extern "C" fn pt_place_at(
     index: &[u8],
     place: &mut usize,
 ) -> i32
-    ensures { IsPlaced path.now index.now handle.old.slot.value place.old result handle.new.slot.value place.new }
+    ensures { FindsPlace path.now index.now handle.old.slot.value place.old result handle.new.slot.value place.new }
 {
     let Some(kept) = handle.take(alloc) else {
         return NO_SITE;
     };
-    let found = place_at_path(kept.site(), path, index);
+    let found = kept.place_of_index(path, index);
     handle.put(kept);
     match found {
         Ok(at) => {
@@ -264,7 +262,7 @@ pub extern "C" fn pt_stamp_at(
     let Some(kept) = handle.take(alloc) else {
         return NO_SITE;
     };
-    let found = stamp_of_path(kept.site(), path, place);
+    let found = kept.stamp_at(path, place);
     handle.put(kept);
     let Some(found) = found else {
         return NOT_THERE;
@@ -296,7 +294,7 @@ pub extern "C" fn pt_place_of(
         count: stamp.count,
         site: stamp.site,
     };
-    let found = place_of_path(kept.site(), path, stamp);
+    let found = kept.place_of(path, stamp);
     handle.put(kept);
     let Some(found) = found else {
         return NOT_THERE;

@@ -1,6 +1,6 @@
 // Numbers that C is told.
 ghost use Rattle.std.specs.Prelude.{◌≡◌};
-ghost use Rattle.peertext_c.specs.Calls.{numbers_of};
+ghost use Rattle.peertext_c.specs.Calls.{received_numbers};
 
 use rt_script::Received;
 
@@ -33,7 +33,7 @@ pub struct StampNumbers {
 impl Told {
     /// Of a file.
     pub(crate) fn of(received: Received) -> Told
-        ensures { result ≡ numbers_of received }
+        ensures { result ≡ received_numbers received }
     {
         let told = Told {
             fresh: received.new,

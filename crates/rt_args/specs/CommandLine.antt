@@ -142,8 +142,8 @@ IsWhole found = (rows : List Row) × (
     ⊎ ((found ≡ Some (codes "show", rows)) × HasFile (codes "FILE") rows)))
 
 -- clap takes the words: no step of its reading fails
-abbrev pub Takes : List Text → Type 0
-Takes words = fault_of peertext words ≡ []
+abbrev pub TakesLine : List Text → Type 0
+TakesLine words = fault_of peertext words ≡ []
 
 -- Clap's error is of a kind with which its reading of the words fails. Memory may be wanting whatever the words are. Words
 -- that were read are text.
@@ -190,10 +190,10 @@ is_mistake NoText = true
 is_mistake NoMemory = true
 
 -- the status with which the program ends: 1 for want of memory, wherever it comes
-abbrev pub status_of : LineFault → ℕ
-status_of (Usage error) = if is_shown (kind_of error) then 0 else 2
-status_of NoText = 2
-status_of NoMemory = 1
+abbrev pub line_status : LineFault → ℕ
+line_status (Usage error) = if is_shown (kind_of error) then 0 else 2
+line_status NoText = 2
+line_status NoMemory = 1
 
 -- the text for the user: clap's own, which its contract leaves open, that of words that are no text, or that of want of memory
 abbrev pub text_of_fault : LineFault → Option Text

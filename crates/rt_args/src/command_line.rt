@@ -1,6 +1,6 @@
 // What a command line asks for, or why it asks for nothing.
 ghost use Rattle.std.specs.Prelude.{◌≡◌};
-ghost use Rattle.rt_args.specs.CommandLine.{is_mistake, status_of, unread};
+ghost use Rattle.rt_args.specs.CommandLine.{is_mistake, line_status, unread};
 
 use clap::Error;
 use clap::error::ErrorKind;
@@ -70,7 +70,7 @@ impl LineFault {
     /// The status with which the program ends: 2 for words that it does not take, 1 for want of
     /// memory, and 0 for its help and its version.
     pub fn status(&self) -> u8
-        ensures { result ≡ status_of self.now }
+        ensures { result ≡ line_status self.now }
     {
         match self {
             LineFault::Usage(_) => { if self.is_mistake() { 2 } else { 0 } }

@@ -2,7 +2,7 @@
 ghost use Rattle.std.specs.Prelude.{◌≡◌, ◌<◌, IfErr, IfOk, Some, codes, map, option_map, string_bytes};
 ghost use Rattle.rt_stamps.specs.Words.{as_words};
 ghost use Rattle.clap.specs.Words.{App, Rule, found_of, new_app, rows_of, subcommand_rows_of, with_rule, with_subcommand};
-ghost use Rattle.rt_args.specs.CommandLine.{HasFile, HasSite, HasValues, IsCommand, IsMade, IsOption, IsWhole, LineIn, LineOf, RefusesLine, Takes};
+ghost use Rattle.rt_args.specs.CommandLine.{HasFile, HasSite, HasValues, IsCommand, IsMade, IsOption, IsWhole, LineIn, LineOf, RefusesLine, TakesLine};
 ghost use Rattle.rt_args.specs.CommandLine.{file_given, file_word, files_given, files_word, join_command, path_option, peertext, program};
 ghost use Rattle.rt_args.specs.CommandLine.{run_command, show_command, site_given, site_option, subcommand_name};
 
@@ -250,7 +250,7 @@ fn line_in(alloc: Global, matches: &ArgMatches<'_>) -> Result<Line, AllocError>
 /// FILE`. `Usage`, with clap's error, where clap refuses the words, or want of memory.
 pub fn line(alloc: Global, words: &[&str]) -> Result<Line, LineFault>
     ensures line { IfOk result (LineOf (map (λ w. w.now) words.now)) }
-    ensures takes { IfOk result (λ _. Takes (map (λ w. w.now) words.now)) }
+    ensures takes { IfOk result (λ _. TakesLine (map (λ w. w.now) words.now)) }
     ensures refuses { IfErr result (RefusesLine (map (λ w. w.now) words.now)) }
 {
     let matches = command(alloc)?.try_get_matches_from(words)?;

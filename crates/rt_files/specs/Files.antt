@@ -11,7 +11,7 @@ use Rattle.rt_ops.specs.Intake.{ReadsFile, LacksMemory}
 use Rattle.rt_oplog.specs.Logs.{joined}
 use Rattle.rt_ops.specs.Operations.{Operation}
 use Rattle.rt_oplog.specs.Outcomes.{IsFirstRefused, IsLogOf}
-use Rattle.rt_files.specs.Shown.{lines_of}
+use Rattle.rt_files.specs.Shown.{shown_lines}
 use Rattle.rt_files.specs.declared.join.JoinFault.{JoinFault}
 
 -- a reading ended with no fault, or with this one at an offset
@@ -23,8 +23,8 @@ ending_of (Some fault) = Err fault
 -- of the lines.
 abbrev pub TellsLines : List Operation → Option (Fault × ℕ) → Stream → Stream → Result (Unit {0}) (Fault × ℕ) → Type 0
 TellsLines ops fault before after result =
-    (Appends before.bytes after.bytes (lines_of ops) × (after.failures ≡ before.failures) × (result ≡ ending_of fault))
-    ⊎ (AppendsPart before.bytes after.bytes (lines_of ops) × (after.failures ≡ before.failures + 1) × (result ≡ Err (WriteFault, 0)))
+    (Appends before.bytes after.bytes (shown_lines ops) × (after.failures ≡ before.failures) × (result ≡ ending_of fault))
+    ⊎ (AppendsPart before.bytes after.bytes (shown_lines ops) × (after.failures ≡ before.failures + 1) × (result ≡ Err (WriteFault, 0)))
 
 -- The file was read to its end or its first fault, and the lines of its operations were told. Or they found no memory
 -- before that, and nothing was written.

@@ -36,5 +36,5 @@ spaced words = flat_map (λ word. 32 ∷ word) words
 abbrev pub line_of : Operation → List ℕ
 line_of op = kind_of op.body ++ (spaced (text_of_stamp (stamp_of op) ∷ codes "prev" ∷ decimal op.prev ∷ words_of op.body) ++ (10 ∷ []))
 
-abbrev pub lines_of : List Operation → List ℕ
-lines_of ops = flat_map line_of ops
+abbrev pub shown_lines : List Operation → List ℕ
+shown_lines ops = flat_map line_of ops

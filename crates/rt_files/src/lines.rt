@@ -5,7 +5,7 @@ ghost use Rattle.rt_stamps.specs.Written.{WritesText};
 ghost use Rattle.rt_stamps.specs.Words.{as_words};
 ghost use Rattle.rt_ops.specs.Edits.{body_of};
 ghost use Rattle.rt_ops.specs.Operations.{Insert, Delete, Tag, stamp_of};
-ghost use Rattle.rt_files.specs.Shown.{kind_of, line_of, lines_of, spaced, text_of_stamp, words_of};
+ghost use Rattle.rt_files.specs.Shown.{kind_of, line_of, shown_lines, spaced, text_of_stamp, words_of};
 
 use crate::parts::{Part, write_names, write_parts, write_spans};
 use rt_ops::{Edit, Op};
@@ -14,7 +14,7 @@ use rt_stamps::{Fault, Sink, Span, Stamp, write_all};
 /// Writes the line of each operation, in their order. `WriteFault` where a write fails or takes
 /// nothing; a front of the lines was then written. It takes no memory and checks no stamp.
 pub fn write_lines<W: Sink>(ops: &[Op], out: &mut W) -> Result<(), Fault>
-    ensures { WritesText (W.stream out.old) (W.stream out.new) result (lines_of ops.now) }
+    ensures { WritesText (W.stream out.old) (W.stream out.new) result (shown_lines ops.now) }
 {
     for op in ops {
         write_line(op, out)?;

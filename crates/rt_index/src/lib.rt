@@ -17,4 +17,4 @@ pub use comparison::Comparison;
 pub use expression::{Expr, is_fixed, parse, resolve};
 pub use ground::Ground;
 pub use measure::Measure;
-pub use place::place_of;
+pub use place::place_of_index;

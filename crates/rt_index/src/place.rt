@@ -73,7 +73,7 @@ fn moved_by<G: Ground>(ground: &G, start: usize, text: &[u8]) -> Result<usize, F
 /// no base fits, or what follows it isn't modifiers; `NoneTagged` for `NAME.first` and `NAME.last`
 /// where the tag is listed and no character has it; `NoMemory` only where a growth of the list of
 /// modifiers behind a name was refused.
-pub fn place_of<G: Ground>(alloc: Global, ground: &G, word: &str) -> Result<usize, Fault>
+pub fn place_of_index<G: Ground>(alloc: Global, ground: &G, word: &str) -> Result<usize, Fault>
     ensures ok { IfOk result (λ place. index_of (G.widget ground.now) word.now ≡ Ok place) }
     ensures within { IfOk result (λ place. place ≤ length (G.widget ground.now).text) }
     ensures err { IfErr result (Refuses (index_of (G.widget ground.now) word.now)) }

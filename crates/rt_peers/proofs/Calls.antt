@@ -12,7 +12,7 @@ use Rattle.rt_requests.specs.declared.request.Request.{Request}
 use Rattle.rt_requests.specs.declared.request.Request.TheVariants.{Cget, Configure, Peer}
 use Rattle.rt_requests.specs.declared.settings.WidgetSettings.{WidgetSettings}
 use Rattle.rt_ops.specs.Operations.{Operation}
-use Rattle.rt_text.specs.Limited.{limited, with_peer}
+use Rattle.rt_text.specs.Limited.{view_limited, with_peer}
 use Rattle.rt_recording.specs.EditedValue.{EditedValue}
 use Rattle.rt_recording.proofs.Outcomes.{given}
 use Rattle.rt_holding.specs.declared.receiving.Received.{Received}
@@ -95,7 +95,7 @@ set_stays : (settings : WidgetSettings) → StaysBy (λ text. settings_step text
 set_stays settings text after words h =
     let start = choice_of settings.start_line in
     let end = choice_of settings.end_line in
-    sym (limited_leaves text.view after.view start end (configured_is text after settings.shared (limited text.view start end) (changed_is (text_set text settings) words after h))).0
+    sym (limited_leaves text.view after.view start end (configured_is text after settings.shared (view_limited text.view start end) (changed_is (text_set text settings) words after h))).0
 
 told_stays : (option : NamedOption) → StaysBy (λ text. option_step text option)
 told_stays option text after words h = ap (λ (o : Outcome EditedValue). (left_in o text).view.doc) (sym h)

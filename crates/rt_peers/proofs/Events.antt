@@ -6,7 +6,7 @@ use Rattle.rt_stamps.specs.declared.fault.Fault.{Fault}
 use Rattle.rt_stamps.specs.Words.{Word}
 use Rattle.rt_ops.specs.Operations.{Operation}
 use Rattle.rt_oplog.specs.Logs.{Has}
-use Rattle.rt_peers.specs.Events.{Answer, Command, Destroy, Event, EventFoundMemory, EventGives, EventsFoundMemory, EventsGive, IsOfReceived, OfFile, Receive, Replied, Told}
+use Rattle.rt_peers.specs.Events.{Answer, Command, Destroy, Event, EventFoundMemory, EventGives, EventsFoundMemory, EventsGive, IsOfReceived, OfFile, Receive, Replied, EventAnswer}
 use Rattle.rt_peers.specs.PeerStep.{Destroys}
 use Rattle.rt_peers.specs.Lives.{IsOfFile, Lives, LivesOn}
 use Rattle.rt_peers.specs.SiteStep.{step_at}
@@ -26,7 +26,7 @@ destroys_once path old (Err fault) (Err other) new left h k = (cc (h.err, k.err)
 replied_once : (one two : Result (List Word) Fault) (new left : SiteValue) → (one ≡ two) × (new ≡ left) → (Replied one ≡ Replied two) × (new ≡ left)
 replied_once one two new left same = (ap Replied same.0, same.1)
 
-event_once : (event : Event) (old : SiteValue) (one two : Told) (new left : SiteValue) (h : EventGives event old one new) (k : EventGives event old two left)
+event_once : (event : Event) (old : SiteValue) (one two : EventAnswer) (new left : SiteValue) (h : EventGives event old one new) (k : EventGives event old two left)
     → EventFoundMemory event old one new h → EventFoundMemory event old two left k → (one ≡ two) × (new ≡ left)
 event_once (Command path words) old (Replied a) (Replied b) new left h k f g = replied_once a b new left (commands_once path words old a b new left h k f g)
 event_once (Answer path request) old (Replied a) (Replied b) new left h k f g =
@@ -41,7 +41,7 @@ event_once event old one (OfFile b) new left h k f g = absurd k
 
 -- EVENTS
 
-pub events_once : (events : List Event) (one two : List Told) (old new left : SiteValue) (h : EventsGive events old one new) (k : EventsGive events old two left)
+pub events_once : (events : List Event) (one two : List EventAnswer) (old new left : SiteValue) (h : EventsGive events old one new) (k : EventsGive events old two left)
     → EventsFoundMemory events old one new h → EventsFoundMemory events old two left k → (one ≡ two) × (new ≡ left)
 events_once [] [] [] old new left h k f g = (refl, h ∙ sym k)
 events_once [] [] (b ∷ two) old new left h k f g = absurd k
@@ -88,7 +88,7 @@ destroys_on : (IsOther : Operation → Type 0) (path : Word) (old new : SiteValu
 destroys_on IsOther path old new (Ok reply) h = destroyed_on IsOther path old new h.ok
 destroys_on IsOther path old new (Err fault) h = kept_on IsOther old new (same_keeps old new h.unchanged)
 
-event_on : (event : Event) (events : List Event) (old new : SiteValue) (told : Told) → EventGives event old told new → LivesOn (IsOfReceived (event ∷ events)) old new
+event_on : (event : Event) (events : List Event) (old new : SiteValue) (told : EventAnswer) → EventGives event old told new → LivesOn (IsOfReceived (event ∷ events)) old new
 event_on (Command path words) events old new (Replied result) h = gives_on _ path words old new result h
 event_on (Answer path request) events old new (Replied result) h = goes_on _ old new (answered (step_at path old request) old new result h)
 event_on (Destroy path) events old new (Replied result) h = destroys_on _ path old new result h
@@ -96,7 +96,7 @@ event_on (Receive bytes) events old new (OfFile received) h =
     known_on (IsOfFile bytes) (IsOfReceived (Receive bytes ∷ events)) old new (λ op i. (bytes, is_first (Receive bytes) events, i)) (received_on bytes received old new h)
 event_on event events old new told h = absurd h
 
-pub events_on : (events : List Event) (told : List Told) (old new : SiteValue) → EventsGive events old told new → LivesOn (IsOfReceived events) old new
+pub events_on : (events : List Event) (told : List EventAnswer) (old new : SiteValue) → EventsGive events old told new → LivesOn (IsOfReceived events) old new
 events_on [] [] old new h = kept_on _ old new (same_keeps old new h)
 events_on [] (told ∷ more) old new h = absurd h
 events_on (event ∷ events) [] old new h = absurd h

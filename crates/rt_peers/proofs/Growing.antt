@@ -11,7 +11,7 @@ use Rattle.rt_requests.specs.declared.request.MarkRequest.{MarkRequest}
 use Rattle.rt_requests.specs.declared.request.TagRequest.{TagRequest}
 use Rattle.rt_text.specs.Widgets.{ViewValue}
 use Rattle.rt_recording.specs.Recordings.{Recording}
-use Rattle.rt_recording.specs.Settled.{AreGoneOnce, IsSettled, all_taken, is_gone}
+use Rattle.rt_recording.specs.Settled.{AreGoneOnce, IsSettled, removed_in_history, is_gone}
 use Rattle.rt_recording.specs.Noting.{IsOfLog}
 use Rattle.rt_text.proofs.Growing.{Grows, grows_drafts}
 use Rattle.rt_recording.proofs.Noted.{settled_same}
@@ -32,8 +32,8 @@ tag_grows view new request words h = steps_grow view new (tag_stays view new req
 -- SETTLED SITES
 
 -- where nothing was done nobody was taken away
-pub none_taken : (cells : List TaggedCell) (h : History (List Word)) → h ≡ no_history → AreGoneOnce cells (all_taken h)
-none_taken cells h e = subst (λ (x : History (List Word)). AreGoneOnce cells (all_taken x)) (sym e) (λ s. omega arith)
+pub none_taken : (cells : List TaggedCell) (h : History (List Word)) → h ≡ no_history → AreGoneOnce cells (removed_in_history h)
+none_taken cells h e = subst (λ (x : History (List Word)). AreGoneOnce cells (removed_in_history x)) (sym e) (λ s. omega arith)
 
 -- a site stays settled where what its widget shows is changed so
 pub view_settled : (view new : ViewValue) (recording : Recording) (outcome : Outcome ViewValue) (result : Result (List Word) Fault) → Answers outcome view result new
@@ -45,7 +45,7 @@ view_settled view new recording outcome (Err fault) h grows settled kept same = 
 pub settled_with : (view new : ViewValue) (recording : Recording) → view.doc ≡ new.doc → IsSettled view recording → IsSettled new recording
 settled_with view new recording same h = record {
   gone = λ stamp back. subst (λ (d : DocValue). is_gone d.cells stamp ≡ true) same (h.gone stamp back);
-  taken = subst (λ (d : DocValue). AreGoneOnce d.cells (all_taken recording.history)) same h.taken;
+  taken = subst (λ (d : DocValue). AreGoneOnce d.cells (removed_in_history recording.history)) same h.taken;
   closed = h.closed;
   current = h.current;
   undone = h.undone;

@@ -25,10 +25,10 @@ abbrev left_in : {S : Type 0} → Outcome S → S → S
 left_in (Ok answer) none = answer.1
 left_in (Err fault) none = none
 
-less : (n m : ℕ) → n < m → nat_lt n m ≡ true
+pub less : (n m : ℕ) → n < m → nat_lt n m ≡ true
 less n m h = grind (arith, nat_tests)
 
-not_less : (n m : ℕ) → m ≤ n → nat_lt n m ≡ false
+pub not_less : (n m : ℕ) → m ≤ n → nat_lt n m ≡ false
 not_less n m h = grind (arith, nat_tests)
 
 -- where operations were made, held ones are tried

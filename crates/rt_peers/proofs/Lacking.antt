@@ -21,7 +21,7 @@ use Rattle.rt_oplog.proofs.Sets.{none_at, same_set, split}
 use Rattle.rt_rga.specs.Histories.{IsHistory}
 use Rattle.rt_rga.proofs.Accepting.{falling, sound_in}
 use Rattle.rt_rga.proofs.Rising.{in_reverse}
-use Rattle.rt_peers.specs.Lacking.{known_in, is_past, since}
+use Rattle.rt_peers.specs.Lacking.{known_in, is_past, past_known}
 
 -- WHAT IS KNOWN
 
@@ -134,13 +134,13 @@ falling_filter p [] h = tt
 falling_filter p (op ∷ ops) h = falling_by op (filter p ops) (p op) (before_filter p op ops h.0) (falling_filter p ops h.1)
 
 -- the log of what was kept of a log is that part of it
-pub lacking_is : (known : ℕ → ℕ) (log ops made : List Operation) → IsHistory log → ops ≡ filter (is_past known) (reverse log) → IsLogOf ops made → made ≡ since known log
-lacking_is known log ops made h e m = same_set made (since known log) m.is_log.falling (falling_filter (is_past known) log (falling log h)) (λ x. (to x, from x))
+pub lacking_is : (known : ℕ → ℕ) (log ops made : List Operation) → IsHistory log → ops ≡ filter (is_past known) (reverse log) → IsLogOf ops made → made ≡ past_known known log
+lacking_is known log ops made h e m = same_set made (past_known known log) m.is_log.falling (falling_filter (is_past known) log (falling log h)) (λ x. (to x, from x))
   where
-    to : (x : Operation) → Has made x → Has (since known log) x
+    to : (x : Operation) → Has made x → Has (past_known known log) x
     to x i = let r = filter_has (is_past known) (reverse log) x (subst (λ l. Has l x) e ((m.members x).0 i)) in has_filter (is_past known) log x (of_reverse log x r.0) r.1
 
-    from : (x : Operation) → Has (since known log) x → Has made x
+    from : (x : Operation) → Has (past_known known log) x → Has made x
     from x i =
         let r = filter_has (is_past known) log x i in
         (m.members x).1 (subst (λ l. Has l x) (sym e) (has_filter (is_past known) (reverse log) x (in_reverse log x r.0) r.1))

@@ -17,7 +17,7 @@ use Rattle.rt_holding.proofs.Accepted.{greatest_accepted, histories_accepted, si
 use Rattle.rt_holding.proofs.Came.{file_goes, runs_on}
 use Rattle.rt_holding.proofs.Sites.{requests_keep}
 use Rattle.rt_peers.specs.Lives.{IsAtRest, Lives, begins, came_to, keeps, made_by, makes, receives}
-use Rattle.rt_peers.specs.SiteStep.{KeepsOperations, MakesAndTries, SiteReceives, limit_of, log_of, site_of, text_limit, text_log}
+use Rattle.rt_peers.specs.SiteStep.{KeepsOperations, MakesAndTries, SiteReceives, cell_limit, log_of, site_of, text_limit, text_log}
 use Rattle.rt_peers.specs.SiteValue.{SiteValue, holding_of}
 use Rattle.rt_peers.proofs.Staying.{received_keep, tried_keep}
 
@@ -62,30 +62,30 @@ kept_runs site limit old new came r k =
 
 -- OPERATIONS OF ITS OWN
 
-own_leads : (old mid new : SiteValue) (h : MakesAndTries old mid new) → Leads (site_of old) (limit_of old) (Make h.drafts) (holding_of old) (holding_of new) h.tries.tried.more
+own_leads : (old mid new : SiteValue) (h : MakesAndTries old mid new) → Leads (site_of old) (cell_limit old) (Make h.drafts) (holding_of old) (holding_of new) h.tries.tried.more
 own_leads old mid new h =
     let first : Holding = record { log = with_drafts (site_of old) h.drafts (log_of old); held = old.held } in
-    let at : at_first (site_of old) (limit_of old) (Make h.drafts) (holding_of old) ≡ first = rw h.makes.fit refl in
+    let at : at_first (site_of old) (cell_limit old) (Make h.drafts) (holding_of old) ≡ first = rw h.makes.fit refl in
     let from : holding_of mid ≡ first = λ i. record { log = h.makes.log i; held = h.makes.held i } in
-    let tried : Settles (limit_of mid) [] (holding_of mid) (holding_of new) h.tries.tried.more = h.tries.tried.settles in
-    let here : Settles (limit_of old) [] (holding_of mid) (holding_of new) h.tries.tried.more =
+    let tried : Settles (cell_limit mid) [] (holding_of mid) (holding_of new) h.tries.tried.more = h.tries.tried.settles in
+    let here : Settles (cell_limit old) [] (holding_of mid) (holding_of new) h.tries.tried.more =
     subst (λ l. Settles l [] (holding_of mid) (holding_of new) h.tries.tried.more) h.makes.limit tried in
-    inl (h.makes.fit, subst (λ s. Settles (limit_of old) [] s (holding_of new) h.tries.tried.more) (from ∙ sym at) here)
+    inl (h.makes.fit, subst (λ s. Settles (cell_limit old) [] s (holding_of new) h.tries.tried.more) (from ∙ sym at) here)
 
-own_brings : (old mid new : SiteValue) (h : MakesAndTries old mid new) → brought_by (site_of old) (limit_of old) (Make h.drafts) (holding_of old) ++ [] ≡ made_by h
+own_brings : (old mid new : SiteValue) (h : MakesAndTries old mid new) → brought_by (site_of old) (cell_limit old) (Make h.drafts) (holding_of old) ++ [] ≡ made_by h
 own_brings old mid new h =
-    let brought : brought_by (site_of old) (limit_of old) (Make h.drafts) (holding_of old) ≡ made_by h = rw h.makes.fit refl in
-    append-nil (brought_by (site_of old) (limit_of old) (Make h.drafts) (holding_of old)) ∙ brought
+    let brought : brought_by (site_of old) (cell_limit old) (Make h.drafts) (holding_of old) ≡ made_by h = rw h.makes.fit refl in
+    append-nil (brought_by (site_of old) (cell_limit old) (Make h.drafts) (holding_of old)) ∙ brought
 
-own_runs : (old mid new : SiteValue) (before : List Operation) (h : MakesAndTries old mid new) → HasRun (site_of old) (limit_of old) old before
-    → HasRun (site_of old) (limit_of old) new (before ++ made_by h)
+own_runs : (old mid new : SiteValue) (before : List Operation) (h : MakesAndTries old mid new) → HasRun (site_of old) (cell_limit old) old before
+    → HasRun (site_of old) (cell_limit old) new (before ++ made_by h)
 own_runs old mid new before h r =
     let site = site_of old in
-    let limit = limit_of old in
+    let limit = cell_limit old in
     let leads = own_leads old mid new h in
     let one : Runs site limit (Make h.drafts ∷ []) (holding_of old) (holding_of new) (made_by h) =
     subst (Runs site limit (Make h.drafts ∷ []) (holding_of old) (holding_of new)) (own_brings old mid new h) (next h.tries.tried.more h.makes.may leads none) in
-    let after = tried_keep (IsOf (site_of mid) (limit_of mid)) (taken_of (site_of mid) (limit_of mid)) (text_limit mid.text) (holding_of mid) mid.text new.text new.held h.tries.count h.tries.tried (refl, refl) in
+    let after = tried_keep (IsOf (site_of mid) (cell_limit mid)) (taken_of (site_of mid) (cell_limit mid)) (text_limit mid.text) (holding_of mid) mid.text new.text new.held h.tries.count h.tries.tried (refl, refl) in
     record {
       requests = r.requests ++ Make h.drafts ∷ [];
       runs = runs_on site limit r.requests (Make h.drafts ∷ []) nothing (holding_of old) (holding_of new) before (made_by h) r.runs one;
@@ -96,18 +96,18 @@ own_runs old mid new before h r =
 
 -- the same under the names that the number and the limit had
 as_named : (site limit : ℕ) (old new : SiteValue) (before came : List Operation) → IsOf site limit old.text
-    → (HasRun (site_of old) (limit_of old) old before → HasRun (site_of old) (limit_of old) new came) → HasRun site limit old before → HasRun site limit new came
+    → (HasRun (site_of old) (cell_limit old) old before → HasRun (site_of old) (cell_limit old) new came) → HasRun site limit old before → HasRun site limit new came
 as_named site limit old new before came of goes r =
     subst (λ n. HasRun n limit new came) of.0 (subst (λ l. HasRun (site_of old) l new came) of.1
-    (goes (subst (λ n. HasRun n (limit_of old) old before) (sym of.0) (subst (λ l. HasRun site l old before) (sym of.1) r))))
+    (goes (subst (λ n. HasRun n (cell_limit old) old before) (sym of.0) (subst (λ l. HasRun site l old before) (sym of.1) r))))
 
 -- A FILE
 
 file_runs : (bytes : List ℕ) (old new : SiteValue) (received : Received) (before : List Operation) (h : SiteReceives bytes old received new)
-    → HasRun (site_of old) (limit_of old) old before → HasRun (site_of old) (limit_of old) new (before ++ came_to bytes old received new h)
+    → HasRun (site_of old) (cell_limit old) old before → HasRun (site_of old) (cell_limit old) new (before ++ came_to bytes old received new h)
 file_runs bytes old new received before h r =
     let site = site_of old in
-    let limit = limit_of old in
+    let limit = cell_limit old in
     let from : Holder EditedValue = record { site = old.text; held = old.held } in
     let to : Holder EditedValue = record { site = new.text; held = new.held } in
     let goes = file_goes text_log text_limit text_with_new (λ op text. refl) site bytes from received to h.text r.some r.holding in

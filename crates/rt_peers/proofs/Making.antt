@@ -15,7 +15,7 @@ use Rattle.rt_rga.proofs.Requests.{all_count_on, greatest_bound}
 use Rattle.rt_rga.proofs.Skipping.{split}
 use Rattle.rt_holding.specs.Grown.{HasGrownBy}
 use Rattle.rt_holding.proofs.Drafts.{drafts_grow_by}
-use Rattle.rt_peers.specs.SiteStep.{KeepsOperations, Makes, limit_of, log_of, site_of}
+use Rattle.rt_peers.specs.SiteStep.{KeepsOperations, SiteMakes, cell_limit, log_of, site_of}
 use Rattle.rt_peers.specs.SiteValue.{SiteValue}
 use Rattle.rt_peers.proofs.Gaining.{Gains}
 
@@ -80,14 +80,14 @@ none_made site (draft ∷ drafts) set h = absurd (let l = all_longer site (draft
 
 -- The document gained the operations of drafts, and is that of a history still, within its limit: so these were made.
 pub site_makes : (old new : SiteValue) (g : Gains old.text.view.doc new.text.view.doc) → new.held ≡ old.held → IsHistory (log_of new)
-    → length (cells_of (log_of new)) ≤ limit_of new → Makes g.drafts old new
+    → length (cells_of (log_of new)) ≤ cell_limit new → SiteMakes g.drafts old new
 site_makes old new g held history few =
     let made : IsHistory (with_drafts (site_of old) g.drafts (log_of old)) = subst IsHistory g.log history in
     let cells = ap (λ (l : List Operation). length (cells_of l)) g.log in
     let limit = g.same.limit in
     record {
       may = made_may (site_of old) g.drafts (log_of old) made;
-      fit = made_fit (site_of old) (limit_of old) g.drafts (log_of old) made (omega (arith, cells, limit, few));
+      fit = made_fit (site_of old) (cell_limit old) g.drafts (log_of old) made (omega (arith, cells, limit, few));
       log = g.log;
       held = held;
       site = g.same.site;

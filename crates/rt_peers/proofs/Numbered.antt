@@ -1,7 +1,5 @@
 -- What is asked of the widget of a number.
-use Rattle.std.proofs.Common.{◌≡◌, ◌≤◌, ◌<◌, ℕ, Bool, true, false, List, None, Option, Some, Err, String, Global, ap, arith, cond, length, subst}
-use Rattle.std.specs.Prelude.{nat_lt}
-use Rattle.std.proofs.lemmas.Bool.Decides.{nat_tests}
+use Rattle.std.proofs.Common.{◌≡◌, ◌≤◌, ◌<◌, ℕ, Bool, List, None, Option, Some, Err, String, Global, ap, arith, cond, length, subst}
 use Rattle.rt_stamps.specs.declared.fault.Fault.TheVariants.{NoWidget}
 use Rattle.rt_stamps.specs.Words.{as_words}
 use Rattle.rt_requests.specs.declared.request.Request.{Request}
@@ -11,13 +9,8 @@ use Rattle.rt_peers.specs.SiteStep.{by_widget}
 use Rattle.rt_peers.specs.SiteValue.{SiteValue}
 use Rattle.rt_peers.specs.Step.{step}
 use Rattle.rt_peers.specs.ViewStep.{Outcome}
+use Rattle.rt_peers.proofs.InTurn.{less, not_less}
 use Rattle.rt_peers.proofs.PeerLaws.{number_of_strings}
-
-less : (n m : ℕ) → n < m → nat_lt n m ≡ true
-less n m h = grind (arith, nat_tests)
-
-not_less : (n m : ℕ) → m ≤ n → nat_lt n m ≡ false
-not_less n m h = grind (arith, nat_tests)
 
 module _ (number : ℕ) (state : SiteValue) where
   abbrev does : Request → Outcome SiteValue

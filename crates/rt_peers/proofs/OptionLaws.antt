@@ -4,23 +4,21 @@ use Rattle.std.specs.Prelude.{IfErr, OnErr, OnOk, is_some}
 use Rattle.std.proofs.lemmas.List.{length-append}
 use Rattle.rt_stamps.specs.declared.fault.Fault.{Fault}
 use Rattle.rt_stamps.specs.declared.fault.Fault.TheVariants.{WidgetExists}
-use Rattle.rt_stamps.specs.Outcomes.{Answers, Refuses}
+use Rattle.rt_stamps.specs.Outcomes.{Refuses}
 use Rattle.rt_stamps.specs.Words.{Word}
-use Rattle.rt_requests.specs.declared.options.NamedOption.{NamedOption}
 use Rattle.rt_requests.specs.declared.options.Settings.{Settings}
 use Rattle.rt_requests.specs.declared.settings.WidgetSettings.{WidgetSettings}
 use Rattle.rt_recording.specs.EditedValue.{EditedValue}
-use Rattle.rt_text.specs.Limited.{limited, new_peer, with_limits, with_new_peer, with_peer}
+use Rattle.rt_text.specs.Limited.{view_limited, new_peer, with_limits, with_new_peer, with_peer}
 use Rattle.rt_text.specs.Widgets.{ViewValue, widgets_of}
 use Rattle.rt_lines.specs.declared.choice.Choice.{Choice}
 use Rattle.rt_lines.specs.declared.limits.Limits.{Limits}
 use Rattle.rt_lines.specs.Choices.{limits_chosen}
-use Rattle.rt_peers.specs.Options.{choice_of, option_step, text_configured}
+use Rattle.rt_peers.specs.Options.{choice_of, text_configured}
 use Rattle.rt_peers.specs.Peers.{text_led, with_widget}
 use Rattle.rt_peers.specs.PeerStep.{created, path_check, text_with_peer}
-use Rattle.rt_peers.specs.SiteStep.{by_widget}
 use Rattle.rt_peers.specs.SiteValue.{SiteValue, number_of}
-use Rattle.rt_peers.specs.ViewStep.{Outcome, as_outcome, one_word}
+use Rattle.rt_peers.specs.ViewStep.{as_outcome, one_word}
 use Rattle.rt_peers.proofs.PeerLaws.{led_number, text_back}
 
 -- WHAT A VIEW IS LEFT
@@ -34,7 +32,7 @@ limits_leave view new (Ok limits) h =
     (ap (λ r. (view_in r view).doc) h, ap (λ r. (view_in r view).others) h)
 limits_leave view new (Err fault) h = absurd (cc h)
 
-pub limited_leaves : (view new : ViewValue) (start end : Choice) → limited view start end ≡ Ok new → (view.doc ≡ new.doc) × (view.others ≡ new.others)
+pub limited_leaves : (view new : ViewValue) (start end : Choice) → view_limited view start end ≡ Ok new → (view.doc ≡ new.doc) × (view.others ≡ new.others)
 limited_leaves view new start end h = limits_leave view new (limits_chosen view.doc.cells start end view.own.limits) h
 
 peer_leaves : (view new : ViewValue) (limits : Result Limits Fault) → with_new_peer view limits ≡ Ok new → (view.doc ≡ new.doc) × (length (widgets_of new) ≡ length (widgets_of view) + 1)

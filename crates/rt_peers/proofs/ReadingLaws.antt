@@ -1,9 +1,8 @@
 -- A request that only reads leaves the site as it was, and speaks of the text as its widget shows it.
-use Rattle.std.proofs.Common.{◌≡◌, ◌∙◌, ℕ, Bool, true, false, List, [], ◌∷◌, Option, Some, None, Ok, Err, Result, ap, map, flat_map, refl, subst, sym}
+use Rattle.std.proofs.Common.{◌≡◌, ◌∙◌, ℕ, true, List, [], ◌∷◌, Option, Some, None, Ok, Err, Result, ap, map, flat_map, refl, sym}
 use Rattle.std.specs.Fmt.{signed_decimal}
 use Rattle.rt_marks.specs.Marks.{gravity_word}
 use Rattle.rt_stamps.specs.declared.fault.Fault.{Fault}
-use Rattle.rt_stamps.specs.declared.fault.Fault.TheVariants.{NoWidget}
 use Rattle.rt_stamps.specs.Outcomes.{Answers}
 use Rattle.rt_stamps.specs.Places.{text_of_position}
 use Rattle.rt_stamps.specs.Words.{Word}
@@ -24,15 +23,14 @@ use Rattle.rt_tagcmd.specs.MarkCommands.{mark_gravity, mark_names, mark_next, ma
 use Rattle.rt_tagcmd.specs.SearchCommand.{searched}
 use Rattle.rt_tagcmd.specs.TagCommands.{tag_names, tag_names_at, tag_nextrange, tag_prevrange, tag_ranges}
 use Rattle.rt_text.specs.Commands.{compared, counted, got, got_list, got_one, position_of_index}
-use Rattle.rt_text.specs.Widgets.{ViewValue, view_as}
+use Rattle.rt_text.specs.Widgets.{view_as}
 use Rattle.rt_recording.specs.EditedValue.{EditedValue}
-use Rattle.rt_peers.specs.Options.{option_step, option_value_word}
-use Rattle.rt_peers.specs.Peers.{text_led}
+use Rattle.rt_peers.specs.Options.{option_step}
 use Rattle.rt_peers.specs.Reading.{mark_reads, reads, tag_reads, edit_reads, text_as, told_at}
-use Rattle.rt_peers.specs.SiteStep.{AnswersInTurn, at_widget, by_widget, step_at, widget_step}
+use Rattle.rt_peers.specs.SiteStep.{at_widget, by_widget, step_at, widget_step}
 use Rattle.rt_peers.specs.SiteValue.{SiteValue, number_of}
 use Rattle.rt_peers.specs.Step.{edit_step, on_view, step}
-use Rattle.rt_peers.specs.ViewStep.{Outcome, as_outcome, element_words, get_step, mark_step, one_word, tag_step, told_step, words_of}
+use Rattle.rt_peers.specs.ViewStep.{Outcome, as_outcome, element_words, get_step, mark_step, one_word, tag_step, told_step, word_or_none}
 use Rattle.rt_peers.proofs.PeerLaws.{text_back}
 
 -- what is replied by the widget of a number, and by a site that stays as it is
@@ -65,8 +63,8 @@ mark_told number state (marks.SetGravity name gravity) h = absurd (cc h)
 mark_told number state (marks.Gravity name) h =
     value_told number state (λ gravity. one_word (gravity_word gravity)) (mark_gravity (view_as number state.text.view) name)
 mark_told number state marks.Names h = replied number state (mark_names (view_as number state.text.view))
-mark_told number state (marks.Next word) h = value_told number state words_of (mark_next (view_as number state.text.view) word)
-mark_told number state (marks.Previous word) h = value_told number state words_of (mark_previous (view_as number state.text.view) word)
+mark_told number state (marks.Next word) h = value_told number state word_or_none (mark_next (view_as number state.text.view) word)
+mark_told number state (marks.Previous word) h = value_told number state word_or_none (mark_previous (view_as number state.text.view) word)
 
 tag_told : (number : ℕ) (state : SiteValue) (request : TagRequest) → tag_reads request ≡ true
     → by_widget number state (λ text. on_view text (tag_step text.view request)) ≡ told state (on_view (text_as number state.text) (tag_step (view_as number state.text.view) request))

@@ -14,15 +14,15 @@ use Rattle.rt_rga.proofs.Joining.{all_free, joined_free_histories, union_history
 use Rattle.rt_rga.proofs.Later.{bad_prev}
 use Rattle.rt_recording.specs.Edits.{text_with_new}
 use Rattle.rt_holding.proofs.Exchanged.{HasLog, by_stamp, in_reverse, of_reverse, part_ends, part_joins}
-use Rattle.rt_peers.specs.Exchange.{AgreeOnceCaughtUp, AreApart, ReceivesLacking}
-use Rattle.rt_peers.specs.Lacking.{is_past, since}
+use Rattle.rt_peers.specs.Exchange.{AgreeOnceCaughtUp, HaveNoClash, ReceivesLacking}
+use Rattle.rt_peers.specs.Lacking.{is_past, past_known}
 use Rattle.rt_peers.specs.SiteStep.{log_of, text_limit, text_log}
 use Rattle.rt_peers.specs.SiteValue.{SiteValue}
 use Rattle.rt_peers.proofs.Exchanging.{holder, one_join}
 use Rattle.rt_peers.proofs.Lacking.{filter_has, has_filter}
 
 -- what isn't past the counts that are known is known
-covered : (set log : List Operation) (known : ℕ → ℕ) → IsHistory set → IsHistory log → AreApart set log → ((site : ℕ) → known site ≤ known_end set site)
+covered : (set log : List Operation) (known : ℕ → ℕ) → IsHistory set → IsHistory log → HaveNoClash set log → ((site : ℕ) → known site ≤ known_end set site)
     → (x : Operation) → Has log x → is_past known x ≡ false → Has set x
 covered set log known h k apart up x i f = split (holds set x)
     (λ e. has_held set x e)
@@ -63,7 +63,7 @@ rest_in_time p all (op ∷ ops) first seen f g t = rest_by all seen (filter p op
 
 -- THE FILE
 
-module _ (set log : List Operation) (known : ℕ → ℕ) (h : IsHistory set) (k : IsHistory log) (apart : AreApart set log)
+module _ (set log : List Operation) (known : ℕ → ℕ) (h : IsHistory set) (k : IsHistory log) (apart : HaveNoClash set log)
     (up : (site : ℕ) → known site ≤ known_end set site) where
   abbrev both : List Operation
   both = union set log
@@ -71,18 +71,18 @@ module _ (set log : List Operation) (known : ℕ → ℕ) (h : IsHistory set) (k
   whole_history : IsHistory both
   whole_history = union_history set log h k (all_free set log h k apart)
 
-  members : (x : Operation) → Has both x ↔ (Has set x ⊎ Has (reverse (since known log)) x)
+  members : (x : Operation) → Has both x ↔ (Has set x ⊎ Has (reverse (past_known known log)) x)
   members x = (
     λ i. elim (has_union set log x i) [
       | inl j ↦ inl j
       | inr j ↦ split (is_past known x)
-          (λ e. inr (in_reverse (since known log) x (has_filter (is_past known) log x j e)))
+          (λ e. inr (in_reverse (past_known known log) x (has_filter (is_past known) log x j e)))
           (λ e. inl (covered set log known h k apart up x j e))
     ],
-    λ i. union_has set log x (elim i [ inl j ↦ inl j | inr j ↦ inr (filter_has (is_past known) log x (of_reverse (since known log) x j)).0 ]),
+    λ i. union_has set log x (elim i [ inl j ↦ inl j | inr j ↦ inr (filter_has (is_past known) log x (of_reverse (past_known known log) x j)).0 ]),
   )
 
-  come : ComeInTime both set (reverse (since known log))
+  come : ComeInTime both set (reverse (past_known known log))
   come = subst (ComeInTime both set) (sym (reverse_filter (is_past known) log))
       (rest_in_time (is_past known) both (reverse log) set set (λ x i. i)
       (λ x i e. covered set log known h k apart up x (of_reverse log x i) e)
@@ -91,7 +91,7 @@ module _ (set log : List Operation) (known : ℕ → ℕ) (h : IsHistory set) (k
 pub receives_lacking : (one : SiteValue) (log : List Operation) → IsHistory (log_of one) → IsHistory log → ReceivesLacking one log
 receives_lacking one log p q known bytes received new up file apart none h =
     let set = log_of one in
-    let ops = reverse (since known log) in
+    let ops = reverse (past_known known log) in
     let same = members set log known p q apart up in
     let time = come set log known p q apart up in
     let whole = whole_history set log known p q apart up in
@@ -105,7 +105,7 @@ receives_lacking one log p q known bytes received new up file apart none h =
 pub one_log_caught_up : (one other left_one left_other : SiteValue) → IsHistory (log_of one) → IsHistory (log_of other)
     → AgreeOnceCaughtUp log_of one other left_one left_other
 one_log_caught_up one other left_one left_other p q known_one known_other file_one file_other up_one up_other apart back file h k =
-    let other_way : AreApart (log_of other) (log_of one) = λ x y i j. clash_sym x y ∙ apart y x j i in
+    let other_way : HaveNoClash (log_of other) (log_of one) = λ x y i j. clash_sym x y ∙ apart y x j i in
     one_join (log_of one) (log_of other) (log_of left_one) (log_of left_other) p q
     ((receives_lacking one (log_of other) p q known_one file_other h.1 left_one up_one file apart h.0 h.2).0 h.3).0
     ((receives_lacking other (log_of one) q p known_other file_one k.1 left_other up_other back other_way k.0 k.2).0 k.3).0

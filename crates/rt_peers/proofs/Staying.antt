@@ -33,16 +33,16 @@ use Rattle.rt_store.specs.Shown.{TaggedCell}
 use Rattle.rt_tagcmd.specs.MarkCommands.{set_at, with_gravity}
 use Rattle.rt_tagcmd.specs.TagCommands.{tag_written}
 use Rattle.rt_text.specs.declared.own_mark.OwnMark.{OwnMark}
-use Rattle.rt_text.specs.Commands.{compared, counted, deleted, got, got_list, got_one, inserted, insertion_place, position_of_index, replaced, with_pieces_at, with_range_replaced, with_tag_in, with_tags_deleted, without_ranges}
+use Rattle.rt_text.specs.Commands.{compared, counted, view_deleted, got, got_list, got_one, view_inserted, insertion_place, position_of_index, view_replaced, with_pieces_at, with_range_replaced, with_tag_in, with_tags_deleted, without_ranges}
 use Rattle.rt_text.specs.Index.{place_at_index}
-use Rattle.rt_text.specs.Limited.{limited}
+use Rattle.rt_text.specs.Limited.{view_limited}
 use Rattle.rt_text.specs.Ranges.{ranges_of}
 use Rattle.rt_text.specs.Widgets.{WidgetValue, ViewValue, length_shown, own_mark_of, widget_of, with_marks, with_selections, with_tags}
 use Rattle.rt_undo.specs.declared.action.Kind.{Kind}
 use Rattle.rt_undo.specs.declared.action.Kind.TheVariants as kinds
 use Rattle.rt_undo.specs.Actions.{Action}
 use Rattle.rt_undo.specs.Undo.{History, next_redo, next_undo, redo_done, undo_done}
-use Rattle.rt_recording.specs.Reversals.{redone, reverted_by, undone}
+use Rattle.rt_recording.specs.Reversals.{group_redone, reverted_by, group_undone}
 use Rattle.rt_recording.specs.EditedValue.{EditedValue}
 use Rattle.rt_recording.specs.Edits.{lost_between, lost_from, recorded_edit, text_deleted, text_inserted, text_replaced, text_with_new}
 use Rattle.rt_recording.specs.Reverts.{text_redone, text_undone, with_history}
@@ -122,15 +122,15 @@ ranges_stay view ranges = record { number = length-map view.others _; gains = ra
 both : (old mid new : ViewValue) → Steps old mid → Steps mid new → Steps old new
 both old mid new p q = record { number = q.number ∙ p.number; gains = gains_then old.doc mid.doc new.doc p.gains q.gains }
 
-inserted_stays : (view new : ViewValue) (index : Word) (pieces : List Piece) (rest : Word) → inserted view index pieces rest ≡ Ok new → Steps view new
+inserted_stays : (view new : ViewValue) (index : Word) (pieces : List Piece) (rest : Word) → view_inserted view index pieces rest ≡ Ok new → Steps view new
 inserted_stays view new index pieces rest h =
     let place = insertion_place (widget_of view) index in checked _ view (with_pieces_at view place pieces rest) new h (pieces_stay view place pieces rest)
 
-deleted_stays : (view new : ViewValue) (indices : List Word) → deleted view indices ≡ Ok new → Steps view new
+deleted_stays : (view new : ViewValue) (indices : List Word) → view_deleted view indices ≡ Ok new → Steps view new
 deleted_stays view new indices h =
     let ranges = ranges_of (map (place_at_index (widget_of view)) indices) in checked _ view (without_ranges view ranges) new h (ranges_stay view ranges)
 
-replaced_stays : (view new : ViewValue) (from to : Word) (pieces : List Piece) (rest : Word) → replaced view from to pieces rest ≡ Ok new → Steps view new
+replaced_stays : (view new : ViewValue) (from to : Word) (pieces : List Piece) (rest : Word) → view_replaced view from to pieces rest ≡ Ok new → Steps view new
 replaced_stays view new from to pieces rest h =
     let range : Range = record { from = place_at_index (widget_of view) from; to = place_at_index (widget_of view) to } in
     let left = without_ranges view (range ∷ []) in
@@ -164,13 +164,13 @@ undone_by false text new said h steps = same text.view new.view (ap (λ (o : Res
 
 undone_stays : (text new : EditedValue) → text_undone text ≡ Ok new → Steps text.view new.view
 undone_stays text new h =
-    undone_by text.undo text new (with_history text (undone text.view text.history)) h
-    (λ e. let said = reverted_is text new (undone text.view text.history) e in last_stays undo_done NothingToUndo text.view new.view text.history said.0 (next_undo text.history) said.1)
+    undone_by text.undo text new (with_history text (group_undone text.view text.history)) h
+    (λ e. let said = reverted_is text new (group_undone text.view text.history) e in last_stays undo_done NothingToUndo text.view new.view text.history said.0 (next_undo text.history) said.1)
 
 redone_stays : (text new : EditedValue) → text_redone text ≡ Ok new → Steps text.view new.view
 redone_stays text new h =
-    undone_by text.undo text new (with_history text (redone text.view text.history)) h
-    (λ e. let said = reverted_is text new (redone text.view text.history) e in last_stays redo_done NothingToRedo text.view new.view text.history said.0 (next_redo text.history) said.1)
+    undone_by text.undo text new (with_history text (group_redone text.view text.history)) h
+    (λ e. let said = reverted_is text new (group_redone text.view text.history) e in last_stays redo_done NothingToRedo text.view new.view text.history said.0 (next_redo text.history) said.1)
 
 -- MARKS AND TAGS
 
@@ -246,14 +246,14 @@ step_stays : (text new : EditedValue) (request : Request) (words : List Word) �
 step_stays text new (Insert index texts) words h =
     let pieces : List Piece = map as_piece texts.pieces in
     inserted_stays text.view new.view index pieces texts.rest
-    (recorded_is kinds.Insert [] text new (inserted text.view index pieces texts.rest) (changed_is (text_inserted text index pieces texts.rest) words new h))
+    (recorded_is kinds.Insert [] text new (view_inserted text.view index pieces texts.rest) (changed_is (text_inserted text index pieces texts.rest) words new h))
 step_stays text new (Delete indices) words h =
     deleted_stays text.view new.view (all_of indices)
-    (recorded_is kinds.Delete (lost_between text.view (all_of indices)) text new (deleted text.view (all_of indices)) (changed_is (text_deleted text (all_of indices)) words new h))
+    (recorded_is kinds.Delete (lost_between text.view (all_of indices)) text new (view_deleted text.view (all_of indices)) (changed_is (text_deleted text (all_of indices)) words new h))
 step_stays text new (Replace from to texts) words h =
     let pieces : List Piece = map as_piece texts.pieces in
     replaced_stays text.view new.view from to pieces texts.rest
-    (recorded_is kinds.Replace (lost_from text.view from to) text new (replaced text.view from to pieces texts.rest) (changed_is (text_replaced text from to pieces texts.rest) words new h))
+    (recorded_is kinds.Replace (lost_from text.view from to) text new (view_replaced text.view from to pieces texts.rest) (changed_is (text_replaced text from to pieces texts.rest) words new h))
 step_stays text new (Get indices) words h = get_stays text.view new.view (all_of indices) words (shown_is text new (get_step text.view (all_of indices)) words h)
 step_stays text new (Index index) words h = told_stays (λ position. one_word (text_of_position position)) text new (position_of_index text.view index) words h
 step_stays text new (Compare first comparison second) words h = told_stays (λ holds. one_word (text_of_bool holds)) text new (compared text.view first comparison second) words h
@@ -266,7 +266,7 @@ step_stays text new (Edit request) words h = edit_stays text new request words h
 step_stays text new (Configure settings) words h =
     let start = choice_of settings.start_line in
     let end = choice_of settings.end_line in
-    let said : limited text.view start end ≡ Ok new.view = configured_is text new settings.shared (limited text.view start end) (changed_is (text_set text settings) words new h) in
+    let said : view_limited text.view start end ≡ Ok new.view = configured_is text new settings.shared (view_limited text.view start end) (changed_is (text_set text settings) words new h) in
     let leaves = limited_leaves text.view new.view start end said in
     record { number = sym (ap length leaves.1); gains = subst (λ (doc : DocValue). Gains text.view.doc doc) leaves.0 (gains_none text.view.doc) }
 step_stays text new (Cget option) words h = same text.view new.view (ap (λ (o : Outcome EditedValue). (left_by o text).view) h)

@@ -14,13 +14,13 @@ abbrev pub widget_by : Word → SiteValue → Option ViewValue
 widget_by path state = option_map (λ number. view_as number state.text.view) (number_of path state.paths)
 
 -- the place of an index in what a widget shows, where there is one
-abbrev pub place_in : Word → Option ViewValue → Result ℕ Fault
-place_in index None = Err NoWidget
-place_in index (Some view) = index_of (widget_of view) index
+abbrev pub index_in : Word → Option ViewValue → Result ℕ Fault
+index_in index None = Err NoWidget
+index_in index (Some view) = index_of (widget_of view) index
 
 -- the place of an index in what the widget of a path shows
 abbrev pub index_by : Word → Word → SiteValue → Result ℕ Fault
-index_by path index state = place_in index (widget_by path state)
+index_by path index state = index_in index (widget_by path state)
 
 -- the stamp of the character at a place of what the widget of a path shows; none from its end on, or where there is no such widget
 abbrev pub stamp_by : Word → ℕ → SiteValue → Option Stamp
@@ -28,5 +28,5 @@ stamp_by path place state = option_and_then (λ view. stamp_at view.own.limits p
 
 -- how many of the characters that the widget of a path shows stand before that of a stamp, which may be gone or outside; none where no
 -- cell has the stamp, or where there is no such widget
-abbrev pub place_by : Word → Stamp → SiteValue → Option ℕ
-place_by path stamp state = option_and_then (λ view. place_of_stamp view.own.limits stamp view.doc.cells) (widget_by path state)
+abbrev pub stamp_place_by : Word → Stamp → SiteValue → Option ℕ
+stamp_place_by path stamp state = option_and_then (λ view. place_of_stamp view.own.limits stamp view.doc.cells) (widget_by path state)

@@ -27,13 +27,13 @@ pub data Event : Type 0 where
   Receive : (bytes : List ℕ) → Event
 
 -- what a call tells: a reply or a fault; or what became of a file
-pub data Told : Type 0 where
-  Replied : (result : Result (List Word) Fault) → Told
-  OfFile : (received : Received) → Told
+pub data EventAnswer : Type 0 where
+  Replied : (result : Result (List Word) Fault) → EventAnswer
+  OfFile : (received : Received) → EventAnswer
 
 -- What an event tells in a state, and the state after it: by the clause `answers` of the call's contract, or by its only ones. Of a
 -- file `OfFile` tells, and of all else `Replied`.
-abbrev pub EventGives : Event → SiteValue → Told → SiteValue → Type 0
+abbrev pub EventGives : Event → SiteValue → EventAnswer → SiteValue → Type 0
 EventGives (Command path words) old (Replied result) new = Gives path words old result new
 EventGives (Answer path request) old (Replied result) new = AnswersInTurn (step_at path old request) old result new
 EventGives (Destroy path) old (Replied result) new = Destroys path old result new
@@ -41,7 +41,7 @@ EventGives (Receive bytes) old (OfFile received) new = SiteReceives bytes old re
 EventGives event old told new = ⊥
 
 -- this is told of some events, one after the other
-abbrev pub EventsGive : List Event → SiteValue → List Told → SiteValue → Type 0
+abbrev pub EventsGive : List Event → SiteValue → List EventAnswer → SiteValue → Type 0
 EventsGive [] old [] new = new ≡ old
 EventsGive (event ∷ events) old (told ∷ more) new = (mid : SiteValue) × EventGives event old told mid × EventsGive events mid more new
 EventsGive [] old (told ∷ more) new = ⊥
@@ -50,7 +50,7 @@ EventsGive (event ∷ events) old [] new = ⊥
 -- WHERE NO MEMORY WAS WANTING
 
 -- an event found memory; `destroy` takes none
-abbrev pub EventFoundMemory : (event : Event) (old : SiteValue) (told : Told) (new : SiteValue) → EventGives event old told new → Type 0
+abbrev pub EventFoundMemory : (event : Event) (old : SiteValue) (told : EventAnswer) (new : SiteValue) → EventGives event old told new → Type 0
 EventFoundMemory (Command path words) old (Replied result) new h = GivesFoundMemory path words old result new h
 EventFoundMemory (Answer path request) old (Replied result) new h = RequestFoundMemory (step_at path old request) old result new h
 EventFoundMemory (Destroy path) old (Replied result) new h = Unit {0}
@@ -58,7 +58,7 @@ EventFoundMemory (Receive bytes) old (OfFile received) new h = ReceivingFoundMem
 EventFoundMemory event old told new h = Unit {0}
 
 -- each of some events found memory
-abbrev pub EventsFoundMemory : (events : List Event) (old : SiteValue) (told : List Told) (new : SiteValue) → EventsGive events old told new → Type 0
+abbrev pub EventsFoundMemory : (events : List Event) (old : SiteValue) (told : List EventAnswer) (new : SiteValue) → EventsGive events old told new → Type 0
 EventsFoundMemory (event ∷ events) old (told ∷ more) new h = EventFoundMemory event old told h.0 h.1 × EventsFoundMemory events h.0 more new h.2
 EventsFoundMemory events old told new h = Unit {0}
 
@@ -67,7 +67,7 @@ EventsFoundMemory events old told new h = Unit {0}
 -- The same events from the same state on, where they found memory, tell the same and leave the same state.
 abbrev pub EventsGoOneWay : Type 0
 EventsGoOneWay =
-    (events : List Event) (one two : List Told) (old new left : SiteValue)
+    (events : List Event) (one two : List EventAnswer) (old new left : SiteValue)
     (h : EventsGive events old one new) (k : EventsGive events old two left)
     → EventsFoundMemory events old one new h → EventsFoundMemory events old two left k → (one ≡ two) × (new ≡ left)
 
@@ -80,4 +80,4 @@ IsOfReceived events op = (bytes : List ℕ) × Contains events (Receive bytes) �
 -- Whatever is asked of a site that lives, it lives on: what came to it with the events are operations of its own number, and of files that
 -- they receive.
 abbrev pub EventsLive : Type 0
-EventsLive = (events : List Event) (told : List Told) (old new : SiteValue) → EventsGive events old told new → LivesOn (IsOfReceived events) old new
+EventsLive = (events : List Event) (told : List EventAnswer) (old new : SiteValue) → EventsGive events old told new → LivesOn (IsOfReceived events) old new

@@ -6,7 +6,7 @@ use Rattle.rt_ops.specs.Operations.{Operation}
 use Rattle.rt_ops.specs.Reading.{Reads}
 use Rattle.rt_oplog.specs.Logs.{Has, HasClashOf, clash, joined, known_end}
 use Rattle.rt_holding.specs.declared.receiving.Received.{Received}
-use Rattle.rt_peers.specs.Lacking.{since}
+use Rattle.rt_peers.specs.Lacking.{past_known}
 use Rattle.rt_peers.specs.SiteStep.{SiteReceives, log_of}
 use Rattle.rt_peers.specs.SiteValue.{SiteValue}
 
@@ -15,8 +15,8 @@ abbrev pub IsFileOf : List ℕ → List Operation → Type 0
 IsFileOf bytes log = (offsets : List ℕ) × Reads bytes (reverse log) offsets None
 
 -- no operation of one log clashes with one of the other
-abbrev pub AreApart : List Operation → List Operation → Type 0
-AreApart one other = (p q : Operation) → Has one p → Has other q → clash p q ≡ false
+abbrev pub HaveNoClash : List Operation → List Operation → Type 0
+HaveNoClash one other = (p q : Operation) → Has one p → Has other q → clash p q ≡ false
 
 -- what is told of a file comes to the join of two logs, with nothing held, or a fault was told; and no other than want of memory or of
 -- room is
@@ -28,25 +28,25 @@ ComesToJoin one log received new =
 -- A site that holds nothing receives the whole log of another, from which it is apart.
 abbrev pub ReceivesWhole : SiteValue → List Operation → Type 0
 ReceivesWhole one log =
-    (bytes : List ℕ) (received : Received) (new : SiteValue) → IsFileOf bytes log → AreApart (log_of one) log → one.held ≡ []
+    (bytes : List ℕ) (received : Received) (new : SiteValue) → IsFileOf bytes log → HaveNoClash (log_of one) log → one.held ≡ []
     → SiteReceives bytes one received new → ComesToJoin one log received new
 
 -- the counts of a log reach those that are known
-abbrev pub Reaches : List Operation → (ℕ → ℕ) → Type 0
-Reaches log known = (site : ℕ) → known site ≤ known_end log site
+abbrev pub CoversKnown : List Operation → (ℕ → ℕ) → Type 0
+CoversKnown log known = (site : ℕ) → known site ≤ known_end log site
 
 -- It receives of that log only what is past some counts, up to which it knows the operations of each site.
 abbrev pub ReceivesLacking : SiteValue → List Operation → Type 0
 ReceivesLacking one log =
-    (known : ℕ → ℕ) (bytes : List ℕ) (received : Received) (new : SiteValue) → Reaches (log_of one) known
-    → IsFileOf bytes (since known log) → AreApart (log_of one) log → one.held ≡ []
+    (known : ℕ → ℕ) (bytes : List ℕ) (received : Received) (new : SiteValue) → CoversKnown (log_of one) known
+    → IsFileOf bytes (past_known known log) → HaveNoClash (log_of one) log → one.held ≡ []
     → SiteReceives bytes one received new → ComesToJoin one log received new
 
 -- Two such sites receive each other's logs, and no fault is told: then both have one log.
 abbrev pub ExchangeAgrees : SiteValue → SiteValue → Type 0
 ExchangeAgrees one other =
     (file_one file_other : List ℕ) (received_one received_other : Received) (new_one new_other : SiteValue)
-    → IsFileOf file_one (log_of one) → IsFileOf file_other (log_of other) → AreApart (log_of one) (log_of other) → one.held ≡ [] → other.held ≡ []
+    → IsFileOf file_one (log_of one) → IsFileOf file_other (log_of other) → HaveNoClash (log_of one) (log_of other) → one.held ≡ [] → other.held ≡ []
     → SiteReceives file_other one received_one new_one → SiteReceives file_one other received_other new_other
     → received_one.fault ≡ None → received_other.fault ≡ None → log_of new_one ≡ log_of new_other
 
@@ -85,6 +85,6 @@ AgreeOnceExchanged shown one other left_one left_other =
 -- so do two that are apart and receive of each other's log what is past counts up to which they know the operations of each site
 abbrev pub AgreeOnceCaughtUp : {Shown : Type 0} → (SiteValue → Shown) → SiteValue → SiteValue → SiteValue → SiteValue → Type 0
 AgreeOnceCaughtUp shown one other left_one left_other =
-    (known_one known_other : ℕ → ℕ) (file_one file_other : List ℕ) → Reaches (log_of one) known_one → Reaches (log_of other) known_other
-    → AreApart (log_of one) (log_of other) → IsFileOf file_one (since known_other (log_of one)) → IsFileOf file_other (since known_one (log_of other))
+    (known_one known_other : ℕ → ℕ) (file_one file_other : List ℕ) → CoversKnown (log_of one) known_one → CoversKnown (log_of other) known_other
+    → HaveNoClash (log_of one) (log_of other) → IsFileOf file_one (past_known known_other (log_of one)) → IsFileOf file_other (past_known known_one (log_of other))
     → ReceivesAll file_other one left_one → ReceivesAll file_one other left_other → shown left_one ≡ shown left_other

@@ -15,5 +15,5 @@ abbrev pub is_past : (ℕ → ℕ) → Operation → Bool
 is_past known op = nat_lt (known op.site) (last_count op)
 
 -- the operations that are
-abbrev pub since : (ℕ → ℕ) → List Operation → List Operation
-since known log = filter (is_past known) log
+abbrev pub past_known : (ℕ → ℕ) → List Operation → List Operation
+past_known known log = filter (is_past known) log

@@ -9,7 +9,7 @@ use Rattle.rt_recording.specs.Edits.{text_with_new}
 use Rattle.rt_holding.specs.declared.receiving.Received.{Received}
 use Rattle.rt_holding.specs.Came.{came_with}
 use Rattle.rt_holding.specs.Runs.{AreFree, IsGreatestHistoryWithin, IsHolding, NoneCouldBeTaken}
-use Rattle.rt_peers.specs.SiteStep.{KeepsOperations, MakesAndTries, SiteReceives, limit_of, log_of, site_of, text_limit, text_log}
+use Rattle.rt_peers.specs.SiteStep.{KeepsOperations, MakesAndTries, SiteReceives, cell_limit, log_of, site_of, text_limit, text_log}
 use Rattle.rt_peers.specs.SiteValue.{SiteValue, holding_of, new_site}
 
 -- the operations that a site made for a call
@@ -50,7 +50,7 @@ LivesOn IsOther old new =
 
 -- none of the operations that it holds could be taken, if there were memory and room: so it is where it holds none
 abbrev pub IsAtRest : SiteValue → Type 0
-IsAtRest state = NoneCouldBeTaken (limit_of state) (holding_of state)
+IsAtRest state = NoneCouldBeTaken (cell_limit state) (holding_of state)
 
 -- In whatever order operations come to two sites, in whatever files and with repeats, and whatever they make between: where the same
 -- came to both, no two of which clash, and both are at rest, they show the same.

@@ -13,7 +13,7 @@ use Rattle.rt_requests.specs.declared.options.WidgetOption.{WidgetOption}
 use Rattle.rt_requests.specs.declared.options.WidgetOption.TheVariants.{Undo, AutoSeparators}
 use Rattle.rt_requests.specs.declared.settings.WidgetSettings.{WidgetSettings}
 use Rattle.rt_recording.specs.EditedValue.{EditedValue}
-use Rattle.rt_text.specs.Limited.{limited}
+use Rattle.rt_text.specs.Limited.{view_limited}
 use Rattle.rt_text.specs.Widgets.{ViewValue}
 use Rattle.rt_lines.specs.declared.choice.Choice.{Choice}
 use Rattle.rt_lines.specs.declared.choice.Choice.TheVariants.{Kept, Away, Line}
@@ -50,7 +50,7 @@ text_configured text settings (Err fault) = Err fault
 
 -- configure OPTION VALUE ?OPTION VALUE ...?
 abbrev pub text_set : EditedValue → WidgetSettings → Result EditedValue Fault
-text_set text settings = text_configured text settings.shared (limited text.view (choice_of settings.start_line) (choice_of settings.end_line))
+text_set text settings = text_configured text settings.shared (view_limited text.view (choice_of settings.start_line) (choice_of settings.end_line))
 
 abbrev pub settings_step : EditedValue → WidgetSettings → Outcome EditedValue
 settings_step text settings = changed_step (text_set text settings)

@@ -25,7 +25,7 @@ use Rattle.rt_peers.specs.Peers.{text_led}
 abbrev pub by_widget : ℕ → SiteValue → (EditedValue → Outcome EditedValue) → Outcome SiteValue
 by_widget number state does = as_outcome (λ answer. (answer.0, record state { text = text_led number answer.1 })) (does (text_led number state.text))
 
--- the same, as one to the text
+-- what `by_widget` does to a site, as one to its text
 abbrev pub by_leading : ℕ → EditedValue → (EditedValue → Outcome EditedValue) → Outcome EditedValue
 by_leading number text does = as_outcome (λ answer. (answer.0, text_led number answer.1)) (does (text_led number text))
 
@@ -76,30 +76,30 @@ log_of state = text_log state.text
 abbrev pub site_of : SiteValue → ℕ
 site_of state = state.text.view.doc.site
 
-abbrev pub limit_of : SiteValue → ℕ
-limit_of state = text_limit state.text
+abbrev pub cell_limit : SiteValue → ℕ
+cell_limit state = text_limit state.text
 
 -- a site accepts no operation, and holds those that it held
 pub record KeepsOperations (old new : SiteValue) : Type 0 where
   pub log : log_of new ≡ log_of old
   pub held : new.held ≡ old.held
   pub site : site_of new ≡ site_of old
-  pub limit : limit_of new ≡ limit_of old
+  pub limit : cell_limit new ≡ cell_limit old
 
 -- It makes operations of drafts. Each keeps the rules and names what is known when its turn comes; their counts fit, and so do all
 -- cells; the log has just these operations more.
-pub record Makes (drafts : List Body) (old new : SiteValue) : Type 0 where
+pub record SiteMakes (drafts : List Body) (old new : SiteValue) : Type 0 where
   pub may : MayBeMade (site_of old) (log_of old) drafts
-  pub fit : fit (site_of old) (limit_of old) drafts (log_of old) ≡ true
+  pub fit : fit (site_of old) (cell_limit old) drafts (log_of old) ≡ true
   pub log : log_of new ≡ with_drafts (site_of old) drafts (log_of old)
   pub held : new.held ≡ old.held
   pub site : site_of new ≡ site_of old
-  pub limit : limit_of new ≡ limit_of old
+  pub limit : cell_limit new ≡ cell_limit old
 
 -- it makes some, and then those that it holds are tried
 pub record MakesAndTries (old mid new : SiteValue) : Type 0 where
   pub drafts : List Body
-  pub makes : Makes drafts old mid
+  pub makes : SiteMakes drafts old mid
   pub tries : Tries mid new
 
 -- a site made operations: its log has more than before

@@ -45,9 +45,9 @@ abbrev pub text_of_bool : Bool → Word
 text_of_bool holds = if holds then codes "1" else codes "0"
 
 -- a name, where there is one
-abbrev pub words_of : Option Word → List Word
-words_of None = []
-words_of (Some name) = name ∷ []
+abbrev pub word_or_none : Option Word → List Word
+word_or_none None = []
+word_or_none (Some name) = name ∷ []
 
 -- an element of a dump: what it is, its name or its characters, and where it stands
 abbrev pub element_words : Element → List Word
@@ -74,8 +74,8 @@ mark_step view (marks.Unset names) = changed_step (mark_unset view (all_of names
 mark_step view (marks.Gravity name) = told_step (λ gravity. one_word (gravity_word gravity)) view (mark_gravity view name)
 mark_step view (marks.SetGravity name gravity) = changed_step (mark_gravity_set view name gravity)
 mark_step view marks.Names = Ok (mark_names view, view)
-mark_step view (marks.Next word) = told_step words_of view (mark_next view word)
-mark_step view (marks.Previous word) = told_step words_of view (mark_previous view word)
+mark_step view (marks.Next word) = told_step word_or_none view (mark_next view word)
+mark_step view (marks.Previous word) = told_step word_or_none view (mark_previous view word)
 
 -- what is asked of tags: names of tags go lowest priority first, positions are LINE.CHARACTER
 abbrev pub tag_step : ViewValue → TagRequest → Outcome ViewValue

@@ -14,7 +14,7 @@ ghost use Rattle.rt_requests.specs.declared.settings.WidgetSettings.{WidgetSetti
 ghost use Rattle.rt_index.specs.Index.{index_of};
 ghost use Rattle.rt_text.specs.PlaceWords.{place_word};
 ghost use Rattle.rt_text.specs.Widgets.{ViewValue, length_shown, widget_of};
-ghost use Rattle.rt_peers.specs.Cursors.{place_by, stamp_by, widget_by};
+ghost use Rattle.rt_peers.specs.Cursors.{stamp_place_by, stamp_by, widget_by};
 ghost use Rattle.rt_peers.specs.Events.{EventsGoOneWay, EventsLive};
 ghost use Rattle.rt_peers.specs.Exchange.{AgreeOnceCaughtUp, AgreeOnceExchanged, ExchangeAgrees, ReceivesAny, ReceivesLacking, ReceivesWhole, TellsClash};
 ghost use Rattle.rt_peers.specs.Lives.{AcceptsGreatest, AcceptsHistory, AgreeInAnyOrder, KeepsOrMakes, SitesHold};
@@ -64,7 +64,7 @@ pub fn places(site: &SiteState)
 
 /// The stamp of a character that a widget shows finds the place at which it stands there.
 pub fn cursors(site: &SiteState)
-    ensures { (path : Word) (place : ℕ) (stamp : Stamp) → stamp_by path place site.now ≡ Some stamp → place_by path stamp site.now ≡ Some place }
+    ensures { (path : Word) (place : ℕ) (stamp : Stamp) → stamp_by path place site.now ≡ Some stamp → stamp_place_by path stamp site.now ≡ Some place }
 {
     // For its clauses alone.
     let _ = site.log();

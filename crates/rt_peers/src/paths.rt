@@ -9,14 +9,21 @@ ghost use Rattle.rt_peers.specs.SiteValue.{number_of};
 use rt_stamps::Fault;
 use std::alloc::Global;
 
-// Where the first of some strings stands that is a text.
+// Where the first of some strings stands that is a text. The first one is looked at without a call: most sites have one widget.
+#[inline(always)]
 fn position_of(strings: &[String], text: &str) -> Option<usize>
     ensures { result ≡ position (λ w. bytes_eq (string_bytes w) text.now) strings.now }
 {
+    if let Some(first) = strings.first() {
+        if first.as_str() == text {
+            return Some(0);
+        }
+    }
     strings.iter().position(|string| string.as_str() == text)
 }
 
 /// Which of some paths is this one.
+#[inline(always)]
 pub(crate) fn number_of(paths: &[String], path: &str) -> Option<usize>
     ensures { result ≡ number_of path.now (as_words paths.now) }
 {

@@ -5,7 +5,7 @@ ghost use Rattle.rt_stamps.specs.declared.fault.Fault.TheVariants.{NoMemory};
 ghost use Rattle.rt_ops.specs.Operations.{last_count};
 ghost use Rattle.rt_oplog.specs.Logs.{known_end};
 ghost use Rattle.rt_rga.specs.Histories.{IsHistory};
-ghost use Rattle.rt_peers.specs.Lacking.{is_past, known_in, since};
+ghost use Rattle.rt_peers.specs.Lacking.{is_past, known_in, past_known};
 
 use rt_oplog::{Op, OpLog};
 use rt_stamps::Fault;
@@ -38,7 +38,7 @@ fn is_past(op: &Op, ends: &BTreeMap<u16, u64>) -> bool
 /// The operations of a log that are past what is known of their sites.
 pub(crate) fn lacking(alloc: Global, log: &OpLog, ends: &BTreeMap<u16, u64>) -> Result<OpLog, Fault>
     requires { IsHistory log.now.operations }
-    ensures ok { IfOk result (λ lacking. lacking.operations ≡ since (known_in ends.now) log.now.operations) }
+    ensures ok { IfOk result (λ lacking. lacking.operations ≡ past_known (known_in ends.now) log.now.operations) }
     ensures fault { IsOkUnless result NoMemory }
 {
     let all = log.in_order()?;

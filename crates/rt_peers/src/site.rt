@@ -137,9 +137,10 @@ impl SiteState {
         let Some(number) = number_of(&self.paths, path) else {
             return Err(Fault::NoWidget);
         };
-        match Request::of(self.alloc, words) {
-            Ok(request) => self.request(path, number, &request),
-            Err(fault) => Err(fault),
+        // The request is looked at where it was made: moving it costs some thirty instructions.
+        match &Request::of(self.alloc, words) {
+            Ok(request) => self.request(path, number, request),
+            Err(fault) => Err(*fault),
         }
     }
 }

@@ -22,8 +22,7 @@ pub struct ToldAnswer {
     pub reply: Result<Reply, Fault>,
     /// What changed, by the operations that were made and the held ones that were taken, in an order in which they could be;
     /// each change is of the text that those before it left. Their places are those of the whole text, whichever lines a widget
-    /// shows. An empty list where no operation was accepted. `None` where it isn't known what the accepted ones changed:
-    /// for want of memory, which no fault tells, or where two of those that were made at once are Tags of one tag. The
-    /// text is then to be read anew.
+    /// shows. An empty list where no operation was accepted. `None` where it isn't known what the accepted ones changed,
+    /// for want of memory, which no fault tells. The text is then to be read anew.
     pub changes: Option<Vec<ToldChange>>,
 }

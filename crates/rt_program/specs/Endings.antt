@@ -21,14 +21,14 @@ has_offset fault = nat_le 30 (number_of fault) && nat_le (number_of fault) 37
 
 -- The line on standard error, without its newline: the file, if one is at fault, the fault, and the offset of a fault of
 -- a file's records.
-abbrev pub line_at : Option (Bor (List ℕ) × ℕ) → Fault → List ℕ
-line_at None fault = codes "peertext: " ++ text_of fault
-line_at (Some place) fault =
+abbrev pub fault_line : Option (Bor (List ℕ) × ℕ) → Fault → List ℕ
+fault_line None fault = codes "peertext: " ++ text_of fault
+fault_line (Some place) fault =
     if has_offset fault then codes "peertext: " ++ (place.0.now ++ (codes ": " ++ (text_of fault ++ (codes " at " ++ decimal place.1))))
     else codes "peertext: " ++ (place.0.now ++ (codes ": " ++ text_of fault))
 
 abbrev pub error_line : Failure → List ℕ
-error_line failure = line_at failure.file failure.fault
+error_line failure = fault_line failure.file failure.fault
 
 -- a run has no file
 abbrev pub run_failure : Option Fault → Option Failure
@@ -36,13 +36,13 @@ run_failure None = None
 run_failure (Some fault) = Some (record { fault = fault; file = None })
 
 -- the file that is at fault in a join: the first, the second, or neither
-abbrev pub file_of : ℕ → ℕ → Bor (List ℕ) → Bor (List ℕ) → Option (Bor (List ℕ) × ℕ)
-file_of file offset a b =
+abbrev pub join_file : ℕ → ℕ → Bor (List ℕ) → Bor (List ℕ) → Option (Bor (List ℕ) × ℕ)
+join_file file offset a b =
     if file == 1 then Some (a, offset)
     else if file == 2 then Some (b, offset) else None
 
 abbrev pub join_failure : JoinFault → Bor (List ℕ) → Bor (List ℕ) → Failure
-join_failure why a b = record { fault = why.fault; file = file_of why.file why.offset a b }
+join_failure why a b = record { fault = why.fault; file = join_file why.file why.offset a b }
 
 -- want of memory and a failed write of the lines are no faults of the file
 abbrev pub is_of_file : Fault → Bool

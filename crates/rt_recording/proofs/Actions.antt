@@ -34,7 +34,7 @@ use Rattle.rt_text.specs.Widgets.{ViewValue, begin_of, text_shown}
 use Rattle.rt_text.proofs.LimitedDeletions.{spared}
 use Rattle.rt_undo.specs.declared.action.Kind.{Kind}
 use Rattle.rt_undo.specs.Actions.{Removed}
-use Rattle.rt_recording.specs.Edits.{action_of, counts_between}
+use Rattle.rt_recording.specs.Edits.{edit_action, counts_between}
 use Rattle.rt_recording.specs.Noting.{IsOfLog}
 use Rattle.rt_recording.proofs.Growing.{character_gone, gone_in_log}
 
@@ -155,5 +155,5 @@ pub action_sound : (kind : Kind) (site before after : ℕ) (removed : List (Remo
 action_sound kind site before after removed h k = record { inserted = counts_spare_final site before after h; removed = k }
 
 -- an edit's action, where it is the site's own
-pub edit_sound : (kind : Kind) (site : ℕ) (old new : DocValue) (lost : List TaggedCell) → site ≡ old.site → 0 < site → AllByRecursion MayReturn (map as_removed lost) → IsSound (action_of kind old new lost)
+pub edit_sound : (kind : Kind) (site : ℕ) (old new : DocValue) (lost : List TaggedCell) → site ≡ old.site → 0 < site → AllByRecursion MayReturn (map as_removed lost) → IsSound (edit_action kind old new lost)
 edit_sound kind site old new lost e h k = action_sound kind old.site old.count new.count (map as_removed lost) (subst (λ n. 0 < n) e h) k

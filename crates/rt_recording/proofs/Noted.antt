@@ -10,7 +10,7 @@ use Rattle.rt_store.specs.Shown.{TaggedCell}
 use Rattle.rt_revert.specs.Reverting.{as_removed}
 use Rattle.rt_revert.specs.ReversionLaws.{AreSound, IsSound}
 use Rattle.rt_recording.specs.Recordings.{HasStayed, Recording, came_back, made}
-use Rattle.rt_recording.specs.Settled.{AreGoneOnce, IsSettled, all_taken, is_gone}
+use Rattle.rt_recording.specs.Settled.{AreGoneOnce, IsSettled, removed_in_history, is_gone}
 use Rattle.rt_plans.specs.declared.range.Range.{Range}
 use Rattle.rt_plans.specs.Deletions.{loss_in}
 use Rattle.rt_text.specs.Commands.{lost_in}
@@ -19,7 +19,7 @@ use Rattle.rt_undo.specs.declared.action.Kind.{Kind}
 use Rattle.rt_undo.specs.Actions.{Action, Removed}
 use Rattle.rt_undo.specs.Undo.{History, added, as_group, asks_separator, forced_on, limited, recorded, separated, too_many, with_most}
 use Rattle.rt_recording.specs.EditedValue.{edited}
-use Rattle.rt_recording.specs.Edits.{action_of, counts_between, has_changed, noted, noted_by, recorded_edit}
+use Rattle.rt_recording.specs.Edits.{edit_action, counts_between, has_changed, noted, noted_by, recorded_edit}
 use Rattle.rt_recording.specs.Noting.{IsOfLog, Keeps}
 use Rattle.rt_recording.proofs.Actions.{action_stays, places_stay}
 use Rattle.rt_text.proofs.Growing.{Grows}
@@ -83,7 +83,7 @@ stay_gone view new kept same grows s h =
     ∙ cells_stay_gone view.doc.log new.doc.log same.history grows s (sym (ap (λ (cells : List TaggedCell). is_gone cells s) kept.cells) ∙ h)
 
 pub settled_after : (view new : ViewValue) (old next : Recording) → IsSettled view old → IsOfLog view.doc → IsOfLog new.doc → Grows view.doc.log new.doc.log
-    → ((s : Stamp) → came_back next s ≡ came_back old s) → IsSoundHistory next.history → AreGoneOnce new.doc.cells (all_taken next.history) → IsSettled new next
+    → ((s : Stamp) → came_back next s ≡ came_back old s) → IsSoundHistory next.history → AreGoneOnce new.doc.cells (removed_in_history next.history) → IsSettled new next
 settled_after view new old next settled kept same grows back sound once = record {
   gone = λ s h. stay_gone view new kept same grows s (settled.gone s (sym (back s) ∙ h));
   taken = once;
@@ -99,7 +99,7 @@ settled_most view old new most e settled =
     let sound = limited_sound all (record { closed = settled.closed; current = settled.current; undone = settled.undone }) in
     let left : IsSettled view (record old { history = with_most most old.history }) = record {
       gone = settled.gone;
-      taken = once_fewer view.doc.cells (all_taken (with_most most old.history)) (all_taken old.history) (λ s. in_limited s all) settled.taken;
+      taken = once_fewer view.doc.cells (removed_in_history (with_most most old.history)) (removed_in_history old.history) (λ s. in_limited s all) settled.taken;
       closed = sound.closed;
       current = sound.current;
       undone = sound.undone;
@@ -126,17 +126,17 @@ module _ (kind : Kind) (lost : List TaggedCell) (view new : ViewValue) (old mid 
       ∙ (λ i. Ok (record { view = new; history = sym noted_history i; undo = sym (settings.0 ∙ keeps.undo) i; auto = sym (settings.1 ∙ keeps.auto) i }))
 
   pub edit_settled : IsSettled view old → IsOfLog view.doc → IsOfLog new.doc → Grows view.doc.log new.doc.log → next.moves ≡ mid.moves
-      → IsSound (action_of kind view.doc new.doc lost) → HaveGone view.doc.cells new.doc.cells (map (λ (r : Removed (List Word)). r.stamp) (map as_removed lost)) → IsSettled new next
+      → IsSound (edit_action kind view.doc new.doc lost) → HaveGone view.doc.cells new.doc.cells (map (λ (r : Removed (List Word)). r.stamp) (map as_removed lost)) → IsSettled new next
   edit_settled settled kept same grows moves sound went =
       let changed = has_changed (length view.doc.cells) (length (text_of view.doc.cells)) new.doc in
-      let action = action_of kind view.doc new.doc lost in
+      let action = edit_action kind view.doc new.doc lost in
       settled_after view new old next settled kept same grows (λ s. ap (λ m. came_back (record next { moves = m }) s) moves ∙ keeps.back s)
       (subst IsSoundHistory (sym noted_history)
       (noted_sound changed old.undo old.auto action old.history sound (history_of view old settled)))
-      (subst (λ (h : History (List Word)). AreGoneOnce new.doc.cells (all_taken h)) (sym noted_history)
-      (once_fewer new.doc.cells (all_taken (noted_by changed old.undo old.auto action old.history)) (all_taken old.history ++ map (λ (r : Removed (List Word)). r.stamp) (map as_removed lost))
+      (subst (λ (h : History (List Word)). AreGoneOnce new.doc.cells (removed_in_history h)) (sym noted_history)
+      (once_fewer new.doc.cells (removed_in_history (noted_by changed old.undo old.auto action old.history)) (removed_in_history old.history ++ map (λ (r : Removed (List Word)). r.stamp) (map as_removed lost))
       (λ s. in_noted s changed old.undo old.auto action old.history)
-      (once_more view.doc.cells new.doc.cells (all_taken old.history) (map (λ (r : Removed (List Word)). r.stamp) (map as_removed lost)) (stay_gone view new kept same grows) settled.taken went)))
+      (once_more view.doc.cells new.doc.cells (removed_in_history old.history) (map (λ (r : Removed (List Word)). r.stamp) (map as_removed lost)) (stay_gone view new kept same grows) settled.taken went)))
 
 -- who came back under another stamp is none of the edit's characters
 pub edit_stays : (kind : Kind) (view : ViewValue) (old mid : Recording) (count site after : ℕ) (removed : List (Removed (List Word)))
@@ -160,9 +160,9 @@ pub settled_forced : (view new : ViewValue) (old next : Recording) → next ≡ 
 settled_forced view new old next e settled kept same grows =
     subst (IsSettled new) (sym e)
     (settled_after view new old (record old { history = forced_on old.history }) settled kept same grows (λ s. refl) (forced_sound old.history (history_of view old settled))
-    (once_grown view.doc.cells new.doc.cells (all_taken old.history) (stay_gone view new kept same grows) settled.taken))
+    (once_grown view.doc.cells new.doc.cells (removed_in_history old.history) (stay_gone view new kept same grows) settled.taken))
 
 pub settled_same : (view new : ViewValue) (old next : Recording) → next ≡ old → IsSettled view old → IsOfLog view.doc → IsOfLog new.doc → Grows view.doc.log new.doc.log → IsSettled new next
 settled_same view new old next e settled kept same grows =
     subst (IsSettled new) (sym e) (settled_after view new old old settled kept same grows (λ s. refl) (history_of view old settled)
-    (once_grown view.doc.cells new.doc.cells (all_taken old.history) (stay_gone view new kept same grows) settled.taken))
+    (once_grown view.doc.cells new.doc.cells (removed_in_history old.history) (stay_gone view new kept same grows) settled.taken))

@@ -11,7 +11,7 @@ use Rattle.rt_store.specs.Shown.{TaggedCell}
 use Rattle.rt_undo.specs.Actions.{Action}
 use Rattle.rt_undo.specs.Undo.{History, added, as_group, asks_separator, forced_on, limited, recorded, separated, to_undo, too_many}
 use Rattle.rt_recording.specs.Edits.{noted_by}
-use Rattle.rt_recording.specs.Settled.{AreGoneOnce, all_taken, is_gone, taken_by, times}
+use Rattle.rt_recording.specs.Settled.{AreGoneOnce, removed_in_history, is_gone, taken_by, times}
 
 -- HOW OFTEN A STAMP STANDS AMONG SOME
 
@@ -95,7 +95,7 @@ in_groups_append s one other = ap (times s) (groups_append one other) ∙ times_
 pub in_one : (s : Stamp) (group : List (Action (List Word))) → in_groups s (group ∷ []) ≡ in_group s group
 in_one s group = let all = times_append s (taken_by group) [] in omega (arith, all)
 
-pub in_history : (s : Stamp) (h : History (List Word)) → times s (all_taken h) ≡ in_groups s h.closed + in_group s h.current + in_groups s h.undone
+pub in_history : (s : Stamp) (h : History (List Word)) → times s (removed_in_history h) ≡ in_groups s h.closed + in_group s h.current + in_groups s h.undone
 in_history s h =
     let first = times_append s (flat_map taken_by h.closed) (taken_by h.current ++ flat_map taken_by h.undone) in
     let rest = times_append s (taken_by h.current) (flat_map taken_by h.undone) in
@@ -109,7 +109,7 @@ pub in_to_undo : (s : Stamp) (h : History (List Word)) → in_groups s (to_undo 
 in_to_undo s h = let all = in_groups_append s h.closed (as_group h.current) in let group = in_as_group s h.current in omega (arith, all, group)
 
 -- a separator takes nothing
-pub in_separated : (s : Stamp) (h : History (List Word)) → times s (all_taken (separated h)) ≡ times s (all_taken h)
+pub in_separated : (s : Stamp) (h : History (List Word)) → times s (removed_in_history (separated h)) ≡ times s (removed_in_history h)
 in_separated s h =
     let new = in_history s (separated h) in
     let old = in_history s h in
@@ -117,7 +117,7 @@ in_separated s h =
     omega (arith, new, old, undo)
 
 -- groups are dropped
-pub in_limited : (s : Stamp) (h : History (List Word)) → times s (all_taken (limited h)) ≤ times s (all_taken h)
+pub in_limited : (s : Stamp) (h : History (List Word)) → times s (removed_in_history (limited h)) ≤ times s (removed_in_history h)
 in_limited s h =
     let n = too_many h in
     let new = in_history s (limited h) in
@@ -127,32 +127,32 @@ in_limited s h =
     omega (arith, new, old, parts, whole)
 
 -- an action is recorded, or not
-pub in_recorded : (s : Stamp) (action : Action (List Word)) (h : History (List Word)) → times s (all_taken (recorded action h)) ≤ times s (all_taken h ++ map (λ r. r.stamp) action.removed)
+pub in_recorded : (s : Stamp) (action : Action (List Word)) (h : History (List Word)) → times s (removed_in_history (recorded action h)) ≤ times s (removed_in_history h ++ map (λ r. r.stamp) action.removed)
 in_recorded s action h =
     let new = in_history s (recorded action h) in
     let old = in_history s h in
     let all = in_append s h.current (action ∷ []) in
     let one = times_append s (map (λ r. r.stamp) action.removed) [] in
-    let both = times_append s (all_taken h) (map (λ r. r.stamp) action.removed) in
+    let both = times_append s (removed_in_history h) (map (λ r. r.stamp) action.removed) in
     omega (arith, new, old, all, one, both)
 
-pub in_added : (s : Stamp) (auto : Bool) (action : Action (List Word)) (h : History (List Word)) → times s (all_taken (added auto action h)) ≤ times s (all_taken h ++ map (λ r. r.stamp) action.removed)
+pub in_added : (s : Stamp) (auto : Bool) (action : Action (List Word)) (h : History (List Word)) → times s (removed_in_history (added auto action h)) ≤ times s (removed_in_history h ++ map (λ r. r.stamp) action.removed)
 in_added s auto action h =
     let fewer = in_limited s (recorded action (cond (auto && asks_separator action.kind h) (separated h) h)) in
     let all = by (auto && asks_separator action.kind h) in
     omega (arith, fewer, all)
   where
-    by : (b : Bool) → times s (all_taken (recorded action (cond b (separated h) h))) ≤ times s (all_taken h ++ map (λ r. r.stamp) action.removed)
+    by : (b : Bool) → times s (removed_in_history (recorded action (cond b (separated h) h))) ≤ times s (removed_in_history h ++ map (λ r. r.stamp) action.removed)
     by false = in_recorded s action h
     by true =
         let more = in_recorded s action (separated h) in
         let same = in_separated s h in
-        let one = times_append s (all_taken (separated h)) (map (λ r. r.stamp) action.removed) in
-        let other = times_append s (all_taken h) (map (λ r. r.stamp) action.removed) in
+        let one = times_append s (removed_in_history (separated h)) (map (λ r. r.stamp) action.removed) in
+        let other = times_append s (removed_in_history h) (map (λ r. r.stamp) action.removed) in
         omega (arith, more, same, one, other)
 
 pub in_noted : (s : Stamp) (changed undo auto : Bool) (action : Action (List Word)) (h : History (List Word))
-    → times s (all_taken (noted_by changed undo auto action h)) ≤ times s (all_taken h ++ map (λ r. r.stamp) action.removed)
+    → times s (removed_in_history (noted_by changed undo auto action h)) ≤ times s (removed_in_history h ++ map (λ r. r.stamp) action.removed)
 in_noted s true true auto action h = in_added s auto action h
-in_noted s true false auto action h = let both = times_append s (all_taken h) (map (λ r. r.stamp) action.removed) in let old = in_history s h in let new = in_history s (forced_on h) in omega (arith, both, old, new)
-in_noted s false undo auto action h = let both = times_append s (all_taken h) (map (λ r. r.stamp) action.removed) in omega (arith, both)
+in_noted s true false auto action h = let both = times_append s (removed_in_history h) (map (λ r. r.stamp) action.removed) in let old = in_history s h in let new = in_history s (forced_on h) in omega (arith, both, old, new)
+in_noted s false undo auto action h = let both = times_append s (removed_in_history h) (map (λ r. r.stamp) action.removed) in omega (arith, both)

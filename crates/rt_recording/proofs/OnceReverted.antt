@@ -25,7 +25,7 @@ use Rattle.rt_revert.proofs.Steps.{IsOnWay, action_step, all_grow, all_reversed,
 use Rattle.rt_revert.proofs.TakenBack.{stamp_after_more, still_is}
 use Rattle.rt_recording.specs.Recordings.{HaveStayed}
 use Rattle.rt_recording.specs.Returns.{Return, back_after, stamp_after}
-use Rattle.rt_recording.specs.Settled.{AreGoneOnce, all_taken, is_gone, taken_by, times}
+use Rattle.rt_recording.specs.Settled.{AreGoneOnce, removed_in_history, is_gone, taken_by, times}
 use Rattle.rt_recording.proofs.Gone.{gone_still}
 use Rattle.rt_recording.proofs.Once.{HaveGone, by_append, in_append, in_groups, in_groups_append, in_history, in_limited, in_one, in_to_undo, none_replaced, once_fewer, once_grown, once_more, one_if, taken_append, times_append, times_by}
 use Rattle.rt_recording.proofs.OnceTaken.{places_gone, removed_stamps}
@@ -346,9 +346,9 @@ beside_undone h = flat_map taken_by (but_last (to_undo h)) ++ flat_map taken_by 
 abbrev pub beside_redone : History (List Word) → List Stamp
 beside_redone h = flat_map taken_by (to_undo h) ++ flat_map taken_by (but_last h.undone)
 
-pub before_undo : (cells : List TaggedCell) (h : History (List Word)) (group : List (Action (List Word))) → last (to_undo h) ≡ Some group → AreGoneOnce cells (all_taken h)
+pub before_undo : (cells : List TaggedCell) (h : History (List Word)) (group : List (Action (List Word))) → last (to_undo h) ≡ Some group → AreGoneOnce cells (removed_in_history h)
     → AreGoneOnce cells (taken_by group ++ beside_undone h)
-before_undo cells h group e = once_fewer cells (taken_by group ++ beside_undone h) (all_taken h) (λ s.
+before_undo cells h group e = once_fewer cells (taken_by group ++ beside_undone h) (removed_in_history h) (λ s.
     let parts = last_parts s (to_undo h) group e in
     let undo = in_to_undo s h in
     let a = times_append s (taken_by group) (beside_undone h) in
@@ -356,9 +356,9 @@ before_undo cells h group e = once_fewer cells (taken_by group ++ beside_undone 
     let all = in_history s h in
     omega (arith, parts, undo, a, b, all))
 
-pub before_redo : (cells : List TaggedCell) (h : History (List Word)) (group : List (Action (List Word))) → last h.undone ≡ Some group → AreGoneOnce cells (all_taken h)
+pub before_redo : (cells : List TaggedCell) (h : History (List Word)) (group : List (Action (List Word))) → last h.undone ≡ Some group → AreGoneOnce cells (removed_in_history h)
     → AreGoneOnce cells (taken_by group ++ beside_redone h)
-before_redo cells h group e = once_fewer cells (taken_by group ++ beside_redone h) (all_taken h) (λ s.
+before_redo cells h group e = once_fewer cells (taken_by group ++ beside_redone h) (removed_in_history h) (λ s.
     let parts = last_parts s h.undone group e in
     let undo = in_to_undo s h in
     let a = times_append s (taken_by group) (beside_redone h) in
@@ -367,8 +367,8 @@ before_redo cells h group e = once_fewer cells (taken_by group ++ beside_redone 
     omega (arith, parts, undo, a, b, all))
 
 pub after_undo : (cells : List TaggedCell) (f : Stamp → Stamp) (h : History (List Word)) (reverted : List (Action (List Word)))
-    → AreGoneOnce cells (map f (beside_undone h) ++ taken_by reverted) → AreGoneOnce cells (all_taken (undo_done reverted (renamed_by f h)))
-after_undo cells f h reverted = once_fewer cells (all_taken (undo_done reverted (renamed_by f h))) (map f (beside_undone h) ++ taken_by reverted) (λ s.
+    → AreGoneOnce cells (map f (beside_undone h) ++ taken_by reverted) → AreGoneOnce cells (removed_in_history (undo_done reverted (renamed_by f h)))
+after_undo cells f h reverted = once_fewer cells (removed_in_history (undo_done reverted (renamed_by f h))) (map f (beside_undone h) ++ taken_by reverted) (λ s.
     let all = in_history s (undo_done reverted (renamed_by f h)) in
     let closed = ap (λ l. in_groups s (but_last l)) (to_undo_now f h) ∙ ap (in_groups s) (but_last_now f (to_undo h)) ∙ ap (times s) (groups_now f (but_last (to_undo h))) in
     let undone = in_groups_append s (map (with_stamps_in f) h.undone) (reverted ∷ []) in
@@ -379,8 +379,8 @@ after_undo cells f h reverted = once_fewer cells (all_taken (undo_done reverted 
     omega (arith, all, closed, undone, one, old, a, b))
 
 pub after_redo : (cells : List TaggedCell) (f : Stamp → Stamp) (h : History (List Word)) (reverted : List (Action (List Word)))
-    → AreGoneOnce cells (map f (beside_redone h) ++ taken_by reverted) → AreGoneOnce cells (all_taken (redo_done reverted (renamed_by f h)))
-after_redo cells f h reverted = once_fewer cells (all_taken (redo_done reverted (renamed_by f h))) (map f (beside_redone h) ++ taken_by reverted) (λ s.
+    → AreGoneOnce cells (map f (beside_redone h) ++ taken_by reverted) → AreGoneOnce cells (removed_in_history (redo_done reverted (renamed_by f h)))
+after_redo cells f h reverted = once_fewer cells (removed_in_history (redo_done reverted (renamed_by f h))) (map f (beside_redone h) ++ taken_by reverted) (λ s.
     let now = renamed_by f h in
     let whole : History (List Word) = record now { closed = to_undo now ++ reverted ∷ []; current = []; undone = but_last now.undone } in
     let fewer = in_limited s whole in

@@ -22,10 +22,10 @@ use Rattle.rt_plans.specs.Removals.{cells_at, gone_at}
 use Rattle.rt_plans.specs.TagWrites.{bared, tag_write, tagged, with_tag}
 use Rattle.rt_store.specs.Cells.{after_element}
 use Rattle.rt_tags.specs.States.{names_on, written}
-use Rattle.rt_text.specs.Commands.{deleted, lost_in, none_inserted, replaced, right_behind, with_range_replaced, without_ranges}
+use Rattle.rt_text.specs.Commands.{view_deleted, lost_in, none_inserted, view_replaced, right_behind, with_range_replaced, without_ranges}
 use Rattle.rt_text.specs.Index.{place_at_index}
 use Rattle.rt_text.specs.Ranges.{ranges_of}
-use Rattle.rt_text.specs.Widgets.{ViewValue, begin_of, in_text, length_shown, shown_by, text_shown, widget_of}
+use Rattle.rt_text.specs.Widgets.{ViewValue, begin_of, in_text, length_shown, cells_shown, text_shown, widget_of}
 use Rattle.rt_revert.specs.Reverting.{as_removed}
 use Rattle.rt_undo.specs.Actions.{Removed}
 use Rattle.rt_recording.specs.Edits.{lost_between, lost_from}
@@ -244,14 +244,14 @@ none_lost old new = λ s. omega arith
 distinct_of : (flat : DocValue) → IsOfLog flat → AreDistinct flat.cells
 distinct_of flat kept = subst AreDistinct (sym kept.cells) (cells_distinct flat.log kept.history)
 
-pub deleted_gone : (view new : ViewValue) (indices : List Word) → IsOfLog view.doc → deleted view indices ≡ Ok new
+pub deleted_gone : (view new : ViewValue) (indices : List Word) → IsOfLog view.doc → view_deleted view indices ≡ Ok new
     → HaveGone view.doc.cells new.doc.cells (map (λ (r : Removed (List Word)). r.stamp) (map as_removed (lost_between view indices)))
 deleted_gone view new indices kept h =
     let ranges = ranges_of (map (place_at_index (widget_of view)) indices) in
     subst (λ (v : ViewValue). HaveGone view.doc.cells v.doc.cells (map (λ (r : Removed (List Word)). r.stamp) (map as_removed (lost_between view indices))))
     (given _ (without_ranges view ranges) new h) (without_gone view ranges (distinct_of view.doc kept))
 
-pub replaced_gone : (view new : ViewValue) (from to : Word) (pieces : List Piece) (rest : Word) → IsOfLog view.doc → IsOfLog new.doc → replaced view from to pieces rest ≡ Ok new
+pub replaced_gone : (view new : ViewValue) (from to : Word) (pieces : List Piece) (rest : Word) → IsOfLog view.doc → IsOfLog new.doc → view_replaced view from to pieces rest ≡ Ok new
     → HaveGone view.doc.cells new.doc.cells (map (λ (r : Removed (List Word)). r.stamp) (map as_removed (lost_from view from to)))
 replaced_gone view new from to pieces rest kept same h =
     let range : Range = record { from = place_at_index (widget_of view) from; to = place_at_index (widget_of view) to } in
@@ -260,7 +260,7 @@ replaced_gone view new from to pieces rest kept same h =
     let is : with_range_replaced view range pieces rest ≡ new = given _ (with_range_replaced view range pieces rest) new h in
     let at = in_text left place in
     let behind = left_of left.doc.cells at in
-    let put = insertion_of left.doc.site (left_neighbour (shown_by left) place) (right_behind left place pieces) pieces rest (none_inserted left) in
+    let put = insertion_of left.doc.site (left_neighbour (cells_shown left) place) (right_behind left place pieces) pieces rest (none_inserted left) in
     let cells : put_after left.doc.cells behind put.cells ≡ new.doc.cells = ap (λ (v : ViewValue). v.doc.cells) is in
     have_gone_on view.doc.cells left.doc.cells new.doc.cells (map (λ (r : Removed (List Word)). r.stamp) (map as_removed (lost_from view from to)))
     (λ s e. some_is new.doc.cells s (distinct_of new.doc same)

@@ -6,7 +6,7 @@ use Rattle.rt_stamps.specs.Outcomes.{first_of, unless}
 use Rattle.rt_stamps.specs.Words.{Word}
 use Rattle.rt_plans.specs.declared.range.Range.{Range}
 use Rattle.rt_plans.specs.Insertions.{Piece}
-use Rattle.rt_text.specs.Commands.{deleted, inserted, insertion_place, names_in, replaced, with_pieces_at, with_range_replaced, without_ranges}
+use Rattle.rt_text.specs.Commands.{view_deleted, view_inserted, insertion_place, names_in, view_replaced, with_pieces_at, with_range_replaced, without_ranges}
 use Rattle.rt_text.specs.Index.{index_check, place_at_index}
 use Rattle.rt_text.specs.Ranges.{ranges_of}
 use Rattle.rt_text.specs.Widgets.{ViewValue, widget_of}
@@ -33,23 +33,23 @@ none_first (Some fault) checks h = absurd (cc h)
 
 -- EDITS
 
-pub grows_inserted : (view new : ViewValue) (index : Word) (pieces : List Piece) (rest : Word) → inserted view index pieces rest ≡ Ok new → Grows view.doc.log new.doc.log
+pub grows_inserted : (view new : ViewValue) (index : Word) (pieces : List Piece) (rest : Word) → view_inserted view index pieces rest ≡ Ok new → Grows view.doc.log new.doc.log
 grows_inserted view new index pieces rest h =
     let place = insertion_place (widget_of view) index in
     subst (λ (v : ViewValue). Grows view.doc.log v.doc.log) (given _ (with_pieces_at view place pieces rest) new h) (put_grows view place pieces rest).log
 
-pub grows_deleted : (view new : ViewValue) (indices : List Word) → deleted view indices ≡ Ok new → Grows view.doc.log new.doc.log
+pub grows_deleted : (view new : ViewValue) (indices : List Word) → view_deleted view indices ≡ Ok new → Grows view.doc.log new.doc.log
 grows_deleted view new indices h =
     let ranges = ranges_of (map (place_at_index (widget_of view)) indices) in
     subst (λ (v : ViewValue). Grows view.doc.log v.doc.log) (given _ (without_ranges view ranges) new h) (without_grows view ranges).log
 
-pub grows_replaced : (view new : ViewValue) (from to : Word) (pieces : List Piece) (rest : Word) → replaced view from to pieces rest ≡ Ok new → Grows view.doc.log new.doc.log
+pub grows_replaced : (view new : ViewValue) (from to : Word) (pieces : List Piece) (rest : Word) → view_replaced view from to pieces rest ≡ Ok new → Grows view.doc.log new.doc.log
 grows_replaced view new from to pieces rest h =
     let range : Range = record { from = place_at_index (widget_of view) from; to = place_at_index (widget_of view) to } in
     subst (λ (v : ViewValue). Grows view.doc.log v.doc.log) (given _ (with_range_replaced view range pieces rest) new h) (replaced_grows view range pieces rest).log
 
 -- the indices of a replacement that is made
-pub both_indices : (view new : ViewValue) (from to : Word) (pieces : List Piece) (rest : Word) → replaced view from to pieces rest ≡ Ok new
+pub both_indices : (view new : ViewValue) (from to : Word) (pieces : List Piece) (rest : Word) → view_replaced view from to pieces rest ≡ Ok new
     → (index_check (widget_of view) from ≡ None) × (index_check (widget_of view) to ≡ None)
 both_indices view new from to pieces rest h =
     let checks = none_after (map name_check (names_in pieces)) _ (passed _ _ new h) in

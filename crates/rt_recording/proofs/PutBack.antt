@@ -29,8 +29,8 @@ use Rattle.rt_undo.specs.declared.action.Kind.TheVariants.{Insert}
 use Rattle.rt_undo.specs.Actions.{Action}
 use Rattle.rt_revert.specs.Reverting.{are_at, as_it_is, reverted, stamp_after, with_each_reverted, with_gone, with_returns}
 use Rattle.rt_text.specs.Commands.{none_inserted, right_behind, with_pieces_at}
-use Rattle.rt_text.specs.Widgets.{ViewValue, in_text, shown_by}
-use Rattle.rt_recording.specs.Edits.{action_of, counts_between}
+use Rattle.rt_text.specs.Widgets.{ViewValue, in_text, cells_shown}
+use Rattle.rt_recording.specs.Edits.{edit_action, counts_between}
 use Rattle.rt_recording.proofs.TakenBack.{counts_apart}
 
 -- THE STAMPS OF NEW CELLS
@@ -233,17 +233,17 @@ text_reverted flat action none =
 -- an insertion that is undone at once leaves the text as it was
 pub insertion_back : (site : ℕ) (log : List Operation) (view : ViewValue) (place : ℕ) (pieces : List Piece) (rest : Word) → 0 < site → IsHistory log → IsDocument site log view.doc
     → let new = (with_pieces_at view place pieces rest).doc in
-    tagged_text (reverted new (action_of Insert view.doc new [] ∷ [])).cells ≡ tagged_text view.doc.cells
+    tagged_text (reverted new (edit_action Insert view.doc new [] ∷ [])).cells ≡ tagged_text view.doc.cells
 insertion_back site log view place pieces rest p h doc =
     let flat = view.doc in
     let start = none_inserted view in
-    let inserted = insertion_of flat.site (left_neighbour (shown_by view) place) (right_behind view place pieces) pieces rest start in
+    let inserted = insertion_of flat.site (left_neighbour (cells_shown view) place) (right_behind view place pieces) pieces rest start in
     let after = left_of flat.cells (in_text view place) in
     let new = (with_pieces_at view place pieces rest).doc in
     let stamps = stamps_of_span (counts_between flat.site flat.count inserted.count) in
     let is_new : IsNew flat.site flat.count inserted =
-    new_insertion flat.site flat.count (left_neighbour (shown_by view) place) (right_behind view place pieces) pieces rest start (record { cells = tt; count = omega arith }) in
-    text_reverted new (action_of Insert flat new []) refl
+    new_insertion flat.site flat.count (left_neighbour (cells_shown view) place) (right_behind view place pieces) pieces rest start (record { cells = tt; count = omega arith }) in
+    text_reverted new (edit_action Insert flat new []) refl
     ∙ ap tagged_text (beside_put stamps flat.cells inserted.cells after
     (all_beside stamps flat.cells (counts_apart site log flat inserted.count p h doc))
     (none_beside flat.site flat.count inserted.count inserted.cells is_new.cells))

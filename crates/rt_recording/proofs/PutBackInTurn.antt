@@ -25,9 +25,9 @@ use Rattle.rt_undo.specs.declared.action.Kind.TheVariants.{Insert}
 use Rattle.rt_undo.specs.Actions.{Action}
 use Rattle.rt_revert.specs.Reverting.{Reversion, are_at, as_it_is, stamp_after, reverted, with_each_reverted, with_gone, with_returns, with_reverted}
 use Rattle.rt_text.specs.Commands.{none_inserted, right_behind}
-use Rattle.rt_text.specs.Widgets.{ViewValue, in_text, shown_by}
+use Rattle.rt_text.specs.Widgets.{ViewValue, in_text, cells_shown}
 use Rattle.rt_recording.specs.EditLaws.{Put, after_put, after_puts, put_actions}
-use Rattle.rt_recording.specs.Edits.{action_of, counts_between}
+use Rattle.rt_recording.specs.Edits.{edit_action, counts_between}
 use Rattle.rt_recording.proofs.PutBack.{AreBetween, IsNew, all_beside, beside, beside_put, new_insertion, none_beside, tagged_as}
 use Rattle.rt_recording.proofs.TakenBack.{below_apart, document_below}
 
@@ -108,17 +108,17 @@ module _ (view : ViewValue) (put : Put) where
   new = after_put view put
 
   abbrev inserted : Insertion
-  inserted = insertion_of view.doc.site (left_neighbour (shown_by view) put.place) (right_behind view put.place put.pieces) put.pieces put.rest (none_inserted view)
+  inserted = insertion_of view.doc.site (left_neighbour (cells_shown view) put.place) (right_behind view put.place put.pieces) put.pieces put.rest (none_inserted view)
 
   abbrev after : Stamp
   after = left_of view.doc.cells (in_text view put.place)
 
   abbrev action : Action (List Word)
-  action = action_of Insert view.doc new.doc []
+  action = edit_action Insert view.doc new.doc []
 
   is_new : IsNew view.doc.site view.doc.count inserted
   is_new =
-      new_insertion view.doc.site view.doc.count (left_neighbour (shown_by view) put.place) (right_behind view put.place put.pieces) put.pieces put.rest (none_inserted view)
+      new_insertion view.doc.site view.doc.count (left_neighbour (cells_shown view) put.place) (right_behind view put.place put.pieces) put.pieces put.rest (none_inserted view)
       (record { cells = tt; count = omega arith })
 
   -- after an insertion too no cell is newer than the greatest count

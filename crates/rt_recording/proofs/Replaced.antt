@@ -38,9 +38,9 @@ use Rattle.rt_undo.specs.Renames.{replaced}
 use Rattle.rt_revert.specs.Reverting.{Reversion, are_at, as_it_is, as_removed, gone_cell_of, reverted, stamp_after, with_character, with_each_reverted, with_gone, with_return, with_returns}
 use Rattle.rt_revert.proofs.TakenBack.{stamp_after_more}
 use Rattle.rt_text.specs.Commands.{lost_in, none_inserted, right_behind, with_pieces_at, with_range_replaced, without_ranges}
-use Rattle.rt_text.specs.Widgets.{ViewValue, begin_of, in_text, length_shown, shown_by, text_shown}
+use Rattle.rt_text.specs.Widgets.{ViewValue, begin_of, in_text, length_shown, cells_shown, text_shown}
 use Rattle.rt_recording.specs.EditLaws.{tags_lost}
-use Rattle.rt_recording.specs.Edits.{action_of, counts_between}
+use Rattle.rt_recording.specs.Edits.{edit_action, counts_between}
 use Rattle.rt_recording.proofs.PutBack.{AreBetween, IsNew, all_beside, beside, beside_put, between_wider, new_insertion, none_beside, one_reversed, tagged_as}
 use Rattle.rt_recording.proofs.TakenBack.{counts_apart}
 
@@ -305,10 +305,10 @@ record Lacks (places : ℕ → Bool) (flat less : DocValue) : Type 0 where
 edit_back : (site : ℕ) (log : List Operation) (flat : DocValue) (places : ℕ → Bool) (kind : Kind) (new : DocValue) → 0 < site → IsHistory log → IsDocument site log flat
     → new.site ≡ flat.site → flat.count ≤ new.count
     → beside (stamps_of_span (counts_between flat.site flat.count new.count)) new.cells ≡ gone_at places 0 flat.cells
-    → tagged_text (reverted new (action_of kind flat new (cells_at places 0 flat.cells) ∷ [])).cells ≡ tagged_text flat.cells
+    → tagged_text (reverted new (edit_action kind flat new (cells_at places 0 flat.cells) ∷ [])).cells ≡ tagged_text flat.cells
 edit_back site log flat places kind new p h doc same later old =
     let stamps = stamps_of_span (counts_between flat.site flat.count new.count) in
-    let action = action_of kind flat new (cells_at places 0 flat.cells) in
+    let action = edit_action kind flat new (cells_at places 0 flat.cells) in
     let r = as_it_is new in
     let start = with_gone stamps r in
     let removed = map as_removed (cells_at places 0 flat.cells) in
@@ -340,7 +340,7 @@ less_apart site log flat less places after p h doc lacks =
 
 -- characters are taken away, and that is undone
 removed_back : (site : ℕ) (log : List Operation) (flat : DocValue) (places : ℕ → Bool) (less : DocValue) → 0 < site → IsHistory log → IsDocument site log flat → Lacks places flat less
-    → tagged_text (reverted less (action_of Delete flat less (cells_at places 0 flat.cells) ∷ [])).cells ≡ tagged_text flat.cells
+    → tagged_text (reverted less (edit_action Delete flat less (cells_at places 0 flat.cells) ∷ [])).cells ≡ tagged_text flat.cells
 removed_back site log flat places less p h doc lacks =
     let stamps = stamps_of_span (counts_between flat.site flat.count less.count) in
     edit_back site log flat places Delete less p h doc lacks.site lacks.count
@@ -350,16 +350,16 @@ removed_back site log flat places less p h doc lacks =
 replaced_back : (site : ℕ) (log : List Operation) (flat : DocValue) (places : ℕ → Bool) (view : ViewValue) (place : ℕ) (pieces : List Piece) (rest : Word) → 0 < site → IsHistory log
     → IsDocument site log flat → Lacks places flat view.doc
     → let new = (with_pieces_at view place pieces rest).doc in
-    tagged_text (reverted new (action_of Replace flat new (cells_at places 0 flat.cells) ∷ [])).cells ≡ tagged_text flat.cells
+    tagged_text (reverted new (edit_action Replace flat new (cells_at places 0 flat.cells) ∷ [])).cells ≡ tagged_text flat.cells
 replaced_back site log flat places view place pieces rest p h doc lacks =
     let less = view.doc in
     let begun = none_inserted view in
-    let inserted = insertion_of less.site (left_neighbour (shown_by view) place) (right_behind view place pieces) pieces rest begun in
+    let inserted = insertion_of less.site (left_neighbour (cells_shown view) place) (right_behind view place pieces) pieces rest begun in
     let after = left_of less.cells (in_text view place) in
     let new = (with_pieces_at view place pieces rest).doc in
     let stamps = stamps_of_span (counts_between flat.site flat.count inserted.count) in
     let is_new : IsNew less.site less.count inserted =
-    new_insertion less.site less.count (left_neighbour (shown_by view) place) (right_behind view place pieces) pieces rest begun (record { cells = tt; count = omega arith }) in
+    new_insertion less.site less.count (left_neighbour (cells_shown view) place) (right_behind view place pieces) pieces rest begun (record { cells = tt; count = omega arith }) in
     let between : AreBetween flat.site flat.count inserted.count inserted.cells =
     between_wider flat.site less.count inserted.count flat.count inserted.count inserted.cells lacks.count (omega arith)
     (subst (λ s. AreBetween s less.count inserted.count inserted.cells) lacks.site is_new.cells) in
@@ -392,7 +392,7 @@ lacks_ranges view ranges none =
 pub deletion_back : (site : ℕ) (log : List Operation) (view : ViewValue) (ranges : List Range) → 0 < site → IsHistory log
     → IsDocument site log view.doc → tags_lost view ranges ≡ []
     → let new = (without_ranges view ranges).doc in
-    tagged_text (reverted new (action_of Delete view.doc new (lost_in view ranges) ∷ [])).cells ≡ tagged_text view.doc.cells
+    tagged_text (reverted new (edit_action Delete view.doc new (lost_in view ranges) ∷ [])).cells ≡ tagged_text view.doc.cells
 deletion_back site log view ranges p h doc none =
     removed_back site log view.doc (loss_in (text_shown view) (begin_of view) ranges).places (without_ranges view ranges).doc p h doc (lacks_ranges view ranges none)
 
@@ -400,7 +400,7 @@ deletion_back site log view ranges p h doc none =
 pub replacement_back : (site : ℕ) (log : List Operation) (view : ViewValue) (range : Range) (pieces : List Piece) (rest : Word) → 0 < site → IsHistory log
     → IsDocument site log view.doc → tags_lost view (range ∷ []) ≡ []
     → let new = (with_range_replaced view range pieces rest).doc in
-    tagged_text (reverted new (action_of Replace view.doc new (lost_in view (range ∷ [])) ∷ [])).cells ≡ tagged_text view.doc.cells
+    tagged_text (reverted new (edit_action Replace view.doc new (lost_in view (range ∷ [])) ∷ [])).cells ≡ tagged_text view.doc.cells
 replacement_back site log view range pieces rest p h doc none =
     let left = without_ranges view (range ∷ []) in
     replaced_back site log view.doc (loss_in (text_shown view) (begin_of view) (range ∷ [])).places left (min range.from (length_shown left - 1)) pieces rest p h doc

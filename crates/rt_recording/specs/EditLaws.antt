@@ -17,7 +17,7 @@ use Rattle.rt_revert.specs.Reverting.{reversion, reverted}
 use Rattle.rt_revert.specs.ReversionLaws.{AreSound}
 use Rattle.rt_text.specs.Commands.{lost_in, with_pieces_at, with_range_replaced, without_ranges}
 use Rattle.rt_text.specs.Widgets.{ViewValue, begin_of, text_shown}
-use Rattle.rt_recording.specs.Edits.{action_of}
+use Rattle.rt_recording.specs.Edits.{edit_action}
 use Rattle.rt_recording.specs.Settled.{AreGoneOnce, taken_by}
 
 -- the tags that a deletion takes off the last newline that the widget shows, which stays
@@ -32,7 +32,7 @@ DeletionIsTakenBack =
     (site : ℕ) (log : List Operation) (view : ViewValue) (ranges : List Range) → 0 < site → IsHistory log
     → IsDocument site log view.doc → tags_lost view ranges ≡ []
     → let new = (without_ranges view ranges).doc in
-    tagged_text (reverted new (action_of Delete view.doc new (lost_in view ranges) ∷ [])).cells ≡ tagged_text view.doc.cells
+    tagged_text (reverted new (edit_action Delete view.doc new (lost_in view ranges) ∷ [])).cells ≡ tagged_text view.doc.cells
 
 -- text to insert, in pieces with lists of tags, and then characters without one, before the character at a place
 pub record Put : Type 0 where
@@ -52,7 +52,7 @@ after_puts view (put ∷ puts) = after_puts (after_put view put) puts
 -- characters, of which nothing is recorded, one that put none in
 abbrev pub put_actions : ViewValue → List Put → List (Action (List Word))
 put_actions view [] = []
-put_actions view (put ∷ puts) = let new = after_put view put in action_of Insert view.doc new.doc [] ∷ put_actions new puts
+put_actions view (put ∷ puts) = let new = after_put view put in edit_action Insert view.doc new.doc [] ∷ put_actions new puts
 
 -- Texts are inserted one after the other, wherever each goes, with the actions that `insert` records of them, and these are undone
 -- at once, as one group: the text is again what it was, each character with its tags.
@@ -68,7 +68,7 @@ ReplacementIsTakenBack =
     (site : ℕ) (log : List Operation) (view : ViewValue) (range : Range) (pieces : List Piece) (rest : Word) → 0 < site → IsHistory log
     → IsDocument site log view.doc → tags_lost view (range ∷ []) ≡ []
     → let new = (with_range_replaced view range pieces rest).doc in
-    tagged_text (reverted new (action_of Replace view.doc new (lost_in view (range ∷ [])) ∷ [])).cells ≡ tagged_text view.doc.cells
+    tagged_text (reverted new (edit_action Replace view.doc new (lost_in view (range ∷ [])) ∷ [])).cells ≡ tagged_text view.doc.cells
 
 -- Where each character that a group took away was taken once and is gone, and the counts fit, just these come back when it is
 -- reverted. They are told by their former stamps, in the order of reverting.

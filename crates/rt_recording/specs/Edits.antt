@@ -16,7 +16,7 @@ use Rattle.rt_undo.specs.Undo.{History, added, forced_on}
 use Rattle.rt_revert.specs.Reverting.{as_removed}
 use Rattle.rt_recording.specs.Recordings.{made}
 use Rattle.rt_text.specs.Accepted.{view_with_new}
-use Rattle.rt_text.specs.Commands.{deleted, inserted, lost_in, replaced}
+use Rattle.rt_text.specs.Commands.{view_deleted, view_inserted, lost_in, view_replaced}
 use Rattle.rt_text.specs.Index.{place_at_index}
 use Rattle.rt_text.specs.Ranges.{ranges_of}
 use Rattle.rt_text.specs.Widgets.{ViewValue, widget_of}
@@ -27,8 +27,8 @@ use Rattle.rt_recording.specs.EditedValue.{EditedValue}
 abbrev pub has_changed : ℕ → ℕ → DocValue → Bool
 has_changed cells visible new = nat_lt cells (length new.cells) || nat_lt (length (text_of new.cells)) visible
 
-abbrev pub is_changed : DocValue → DocValue → Bool
-is_changed old new = has_changed (length old.cells) (length (text_of old.cells)) new
+abbrev pub text_changed : DocValue → DocValue → Bool
+text_changed old new = has_changed (length old.cells) (length (text_of old.cells)) new
 
 -- the counts that a site's operations took, from one greatest count to another
 abbrev pub counts_between : ℕ → ℕ → ℕ → Span
@@ -36,8 +36,8 @@ counts_between site before after = record { site = site; first = before + 1; las
 
 -- The action of an edit: its number is the count of its first operation; it put in the characters that have its counts, some of
 -- which are those of operations alone; and it took some away.
-abbrev pub action_of : Kind → DocValue → DocValue → List TaggedCell → Action (List Word)
-action_of kind old new lost = made kind (counts_between old.site old.count new.count) (map as_removed lost)
+abbrev pub edit_action : Kind → DocValue → DocValue → List TaggedCell → Action (List Word)
+edit_action kind old new lost = made kind (counts_between old.site old.count new.count) (map as_removed lost)
 
 -- An edit that changed the text is recorded where edits are, with automatic separators or without, and takes away what could be
 -- redone; else it forces the modified flag. One that changed no text leaves the history as it is.
@@ -45,7 +45,7 @@ abbrev pub noted_by : Bool → Bool → Bool → Action (List Word) → History 
 noted_by changed undo auto action history = if changed then (if undo then added auto action history else forced_on history) else history
 
 abbrev pub noted : Kind → List TaggedCell → EditedValue → DocValue → History (List Word)
-noted kind lost text new = noted_by (is_changed text.view.doc new) text.undo text.auto (action_of kind text.view.doc new lost) text.history
+noted kind lost text new = noted_by (text_changed text.view.doc new) text.undo text.auto (edit_action kind text.view.doc new lost) text.history
 
 -- an edit of the view, which takes some characters away, with what is recorded of it
 abbrev pub recorded_edit : Kind → List TaggedCell → EditedValue → Result ViewValue Fault → Result EditedValue Fault
@@ -64,15 +64,15 @@ lost_from view from to =
 
 -- insert INDEX ?CHARS TAGLIST ...? ?CHARS?
 abbrev pub text_inserted : EditedValue → Word → List Piece → Word → Result EditedValue Fault
-text_inserted text index pieces rest = recorded_edit Insert [] text (inserted text.view index pieces rest)
+text_inserted text index pieces rest = recorded_edit Insert [] text (view_inserted text.view index pieces rest)
 
 -- delete INDEX ?INDEX ...?
 abbrev pub text_deleted : EditedValue → List Word → Result EditedValue Fault
-text_deleted text indices = recorded_edit Delete (lost_between text.view indices) text (deleted text.view indices)
+text_deleted text indices = recorded_edit Delete (lost_between text.view indices) text (view_deleted text.view indices)
 
 -- replace INDEX INDEX ?CHARS TAGLIST ...? ?CHARS?: one action
 abbrev pub text_replaced : EditedValue → Word → Word → List Piece → Word → Result EditedValue Fault
-text_replaced text from to pieces rest = recorded_edit Replace (lost_from text.view from to) text (replaced text.view from to pieces rest)
+text_replaced text from to pieces rest = recorded_edit Replace (lost_from text.view from to) text (view_replaced text.view from to pieces rest)
 
 -- OPERATIONS OF OTHER SITES
 
@@ -80,4 +80,4 @@ text_replaced text from to pieces rest = recorded_edit Replace (lost_from text.v
 abbrev pub text_with_new : Operation → EditedValue → EditedValue
 text_with_new op text =
     let view = view_with_new op text.view in
-    record text { view = view; history = if is_changed text.view.doc view.doc then forced_on text.history else text.history }
+    record text { view = view; history = if text_changed text.view.doc view.doc then forced_on text.history else text.history }

@@ -20,9 +20,9 @@ reverted_by done view history group =
     (view_reverted view group, done (reverted_group view.doc group) (renamed_by (stamp_after (reversion view.doc group).returns) history))
 
 -- edit undo: the last group of the undo stack is reverted
-abbrev pub undone : ViewValue → History (List Word) → Result (ViewValue × History (List Word)) Fault
-undone view history = option_map_or (reverted_by undo_done view history) (next_undo history) (Err NothingToUndo)
+abbrev pub group_undone : ViewValue → History (List Word) → Result (ViewValue × History (List Word)) Fault
+group_undone view history = option_map_or (reverted_by undo_done view history) (next_undo history) (Err NothingToUndo)
 
 -- edit redo: the group that was undone last
-abbrev pub redone : ViewValue → History (List Word) → Result (ViewValue × History (List Word)) Fault
-redone view history = option_map_or (reverted_by redo_done view history) (next_redo history) (Err NothingToRedo)
+abbrev pub group_redone : ViewValue → History (List Word) → Result (ViewValue × History (List Word)) Fault
+group_redone view history = option_map_or (reverted_by redo_done view history) (next_redo history) (Err NothingToRedo)

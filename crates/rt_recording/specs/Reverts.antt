@@ -2,7 +2,7 @@
 use Rattle.std.specs.Prelude.{List, Result, Ok, Err, if◌then◌else◌}
 use Rattle.rt_stamps.specs.declared.fault.Fault.{Fault}
 use Rattle.rt_stamps.specs.Words.{Word}
-use Rattle.rt_recording.specs.Reversals.{redone, undone}
+use Rattle.rt_recording.specs.Reversals.{group_redone, group_undone}
 use Rattle.rt_text.specs.Widgets.{ViewValue}
 use Rattle.rt_undo.specs.Undo.{History}
 use Rattle.rt_recording.specs.EditedValue.{EditedValue}
@@ -14,8 +14,8 @@ with_history text (Err fault) = Err fault
 
 -- `edit undo`
 abbrev pub text_undone : EditedValue → Result EditedValue Fault
-text_undone text = if text.undo then with_history text (undone text.view text.history) else Ok text
+text_undone text = if text.undo then with_history text (group_undone text.view text.history) else Ok text
 
 -- `edit redo`
 abbrev pub text_redone : EditedValue → Result EditedValue Fault
-text_redone text = if text.undo then with_history text (redone text.view text.history) else Ok text
+text_redone text = if text.undo then with_history text (group_redone text.view text.history) else Ok text

@@ -16,8 +16,8 @@ pub use Rattle.rt_lines.specs.Limits.{is_gone}
 abbrev pub taken_by : List (Action (List Word)) → List Stamp
 taken_by group = flat_map (λ action. map (λ r. r.stamp) action.removed) group
 
-abbrev pub all_taken : History (List Word) → List Stamp
-all_taken h = flat_map taken_by h.closed ++ (taken_by h.current ++ flat_map taken_by h.undone)
+abbrev pub removed_in_history : History (List Word) → List Stamp
+removed_in_history h = flat_map taken_by h.closed ++ (taken_by h.current ++ flat_map taken_by h.undone)
 
 -- how often a stamp stands among some
 abbrev pub times : Stamp → List Stamp → ℕ
@@ -31,7 +31,7 @@ AreGoneOnce cells stamps = (stamp : Stamp) → times stamp stamps ≤ (if is_gon
 -- away. Each action of the history may be reverted: it names no final newline, and its tags are names as operations list them.
 pub record IsSettled (view : ViewValue) (recording : Recording) : Type 0 where
   pub gone : (stamp : Stamp) → came_back recording stamp ≡ true → is_gone view.doc.cells stamp ≡ true
-  pub taken : AreGoneOnce view.doc.cells (all_taken recording.history)
+  pub taken : AreGoneOnce view.doc.cells (removed_in_history recording.history)
   pub closed : AllByRecursion AreSound recording.history.closed
   pub current : AreSound recording.history.current
   pub undone : AllByRecursion AreSound recording.history.undone

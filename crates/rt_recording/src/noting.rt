@@ -6,7 +6,7 @@ ghost use Rattle.rt_stamps.specs.Words.{Word, as_words};
 ghost use Rattle.rt_undo.specs.Actions.{Removed};
 ghost use Rattle.rt_revert.specs.Reverting.{as_removed};
 ghost use Rattle.rt_recording.specs.Recordings.{HasStayed, came_back, made};
-ghost use Rattle.rt_text.specs.Commands.{deleted, lost_in};
+ghost use Rattle.rt_text.specs.Commands.{view_deleted, lost_in};
 ghost use Rattle.rt_text.specs.Index.{index_check, place_at_index};
 ghost use Rattle.rt_text.specs.Widgets.{widget_of};
 ghost use Rattle.rt_recording.specs.Edits.{counts_between, has_changed, lost_between, lost_from, noted_by};
@@ -64,7 +64,7 @@ pub(crate) fn prepare_deletion<S: TextStore>(
         → recorder.new.pending ≡ Some (map as_removed (lost_between view.now (as_words indices.now)))) }
     ensures kept { Keeps recorder.old recorder.new }
     ensures same { OnErr result (recorder.new ≡ record recorder.old { table = recorder.new.table }) }
-    ensures err { IfErr result (Refuses (deleted view.now (as_words indices.now))) }
+    ensures err { IfErr result (Refuses (view_deleted view.now (as_words indices.now))) }
 {
     if !recorder.is_undo_on() {
         return Ok(());

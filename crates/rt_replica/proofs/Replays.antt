@@ -14,7 +14,7 @@ use Rattle.rt_rga.proofs.Within.{continues_new}
 use Rattle.rt_changes.specs.Replays.{Deleted, Inserted, Tagged, VisibleChange, changes_in_turn, changes_of, replayed, told_by, with_change}
 use Rattle.rt_changes.proofs.Texts.{changes_replay}
 use Rattle.rt_holding.specs.Runs.{AreTakenInTurn}
-use Rattle.rt_replica.specs.Told.{Told, as_told, shown_by, told_in_turn, told_of}
+use Rattle.rt_replica.specs.Told.{Told, as_told, visible_changes, told_in_turn, told_of}
 
 -- CHANGES OF OPERATIONS IN TURN
 
@@ -50,11 +50,11 @@ told_by_as (Insert after tags text) change = refl
 told_by_as (Delete spans) change = refl
 told_by_as (Tag on name spans) change = refl
 
-shown_as : (ops : List Operation) (changes : List Change) → shown_by ops changes ≡ all_as ops (map as_told changes)
+shown_as : (ops : List Operation) (changes : List Change) → visible_changes ops changes ≡ all_as ops (map as_told changes)
 shown_as [] changes = refl
 shown_as (op ∷ ops) [] = refl
 shown_as (op ∷ ops) (change ∷ changes) =
-    ap (λ l. l ++ shown_by ops changes) (told_by_as op.body change) ∙ ap (λ l. told_as op.body (as_told change) ++ l) (shown_as ops changes)
+    ap (λ l. l ++ visible_changes ops changes) (told_by_as op.body change) ∙ ap (λ l. told_as op.body (as_told change) ++ l) (shown_as ops changes)
 
 as_changes : (op : Operation) (log : List Operation) → told_as op.body (told_of op (cells_of log)) ≡ changes_of op (cells_of log)
 as_changes op log = by op.body refl
@@ -71,7 +71,7 @@ all_changes (op ∷ ops) log =
     ap (λ l. l ++ all_as ops (told_in_turn ops more)) (as_changes op log) ∙ ap (λ l. changes_of op (cells_of log) ++ l) (all_changes ops more)
 
 pub told_replays : (limit : ℕ) (ops log : List Operation) (changes : List Change) → IsHistory log → ((op : Operation) → Has ops op → keeps_rules op.body ≡ true) → AreTakenInTurn limit log ops
-    → map as_told changes ≡ told_in_turn ops log → replayed (shown_by ops changes) (tagged_text (cells_of log)) ≡ tagged_text (cells_of (with_operations ops log))
+    → map as_told changes ≡ told_in_turn ops log → replayed (visible_changes ops changes) (tagged_text (cells_of log)) ≡ tagged_text (cells_of (with_operations ops log))
 told_replays limit ops log changes h rules turn told =
     ap (λ l. replayed l (tagged_text (cells_of log))) (shown_as ops changes ∙ ap (all_as ops) told ∙ all_changes ops log)
     ∙ turn_replays limit ops log h rules turn

@@ -13,7 +13,7 @@ use Rattle.rt_holding.specs.Replies.{Reply}
 use Rattle.rt_holding.specs.Replies as replies
 use Rattle.rt_replica.specs.declared.taken.Taken.{Taken}
 use Rattle.rt_replica.specs.declared.taken.Taken.TheVariants as takings
-use Rattle.rt_replica.specs.Told.{TellingValue, as_told, shown_by, told_in_turn}
+use Rattle.rt_replica.specs.Told.{TellingValue, as_told, visible_changes, told_in_turn}
 
 -- The accepted operations, the newest first; those that are held, by rising stamp; the cells with the writes on each; the site's
 -- number; the most cells that there may be.
@@ -43,7 +43,7 @@ pub record TakesAndTells (first log held : List Operation) (new : HoldingValue) 
   pub more : List Operation
   pub settles : Settles new.limit [] (record { log = with_operations first log; held = held }) (holding_of new) more
   pub told : map as_told changes ≡ told_in_turn (first ++ more) log
-  pub replays : replayed (shown_by (first ++ more) changes) (tagged_text (cells_of log)) ≡ tagged_text new.cells
+  pub replays : replayed (visible_changes (first ++ more) changes) (tagged_text (cells_of log)) ≡ tagged_text new.cells
   pub cells : new.cells ≡ cells_of new.log
 
 -- What an offer makes of a replica, by its answer. A new one is taken, and held no more.

@@ -46,10 +46,10 @@ told_in_turn [] log = []
 told_in_turn (op ∷ ops) log = told_of op (cells_of log) ∷ told_in_turn ops (with_operation op log)
 
 -- the changes of the visible text that are told, each with its operation
-abbrev pub shown_by : List Operation → List Change → List VisibleChange
-shown_by [] changes = []
-shown_by (op ∷ ops) [] = []
-shown_by (op ∷ ops) (change ∷ changes) = told_by op.body change ++ shown_by ops changes
+abbrev pub visible_changes : List Operation → List Change → List VisibleChange
+visible_changes [] changes = []
+visible_changes (op ∷ ops) [] = []
+visible_changes (op ∷ ops) (change ∷ changes) = told_by op.body change ++ visible_changes ops changes
 
 -- A REPLICA THAT TELLS
 

@@ -225,6 +225,7 @@ fn is_insert(name: &str) -> bool
 }
 
 // A command by its name.
+#[inline(always)]
 fn by_name<'a>(alloc: Global, name: &str, words: &'a [String]) -> Result<Request<'a>, Fault>
     ensures { AsksOf name.now (as_words words.now) result ⊎ (result ≡ Err Fault.NoMemory) }
 {
@@ -235,6 +236,7 @@ fn by_name<'a>(alloc: Global, name: &str, words: &'a [String]) -> Result<Request
 }
 
 // A command that isn't `insert`, by its name.
+#[inline(always)]
 fn by_other_name<'a>(alloc: Global, name: &str, words: &'a [String]) -> Result<Request<'a>, Fault>
     requires { bytes_eq name.now (codes "insert") ≡ false }
     ensures { AsksOf name.now (as_words words.now) result ⊎ (result ≡ Err Fault.NoMemory) }

@@ -10,6 +10,7 @@ pub mod Continuing
 pub mod Corollaries
 pub mod Counts
 pub mod Drafting
+pub mod Extents
 pub mod Files
 pub mod Final
 pub mod FoundAlike

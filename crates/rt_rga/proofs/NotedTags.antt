@@ -1,10 +1,10 @@
 -- What the store shows of the cells of a log, while the Tags of a batch wait; and which Tags are of one tag.
-use Rattle.std.proofs.Common.{◌≡◌, ◌∙◌, ℕ, ◌<◌, ◌&&◌, ◌||◌, Bool, Bor, true, false, not, All, Option, Some, None, List, [], ◌∷◌, ◌++◌, ap, arith, cond, get_or}
+use Rattle.std.proofs.Common.{◌≡◌, ◌∙◌, ℕ, ◌<◌, ◌&&◌, Bool, Bor, true, false, not, All, Option, Some, None, List, [], ◌∷◌, ◌++◌, ap, arith, cond, get_or}
 use Rattle.std.proofs.Common.{map, refl, reverse, subst, sym}
 use Rattle.std.proofs.lemmas.Bool.Decides.{nat_tests}
 use Rattle.std.proofs.lemmas.List.Elements.{All-from_recursion, recursion_from_All}
-use Rattle.std.proofs.lemmas.List.Folds.{list_any-append}
-use Rattle.std.specs.List.{AllByRecursion, list_any}
+use Rattle.indexmap.specs.IndexMap.{IndexMap}
+use Rattle.std.specs.List.{AllByRecursion}
 use Rattle.std.specs.Str.{bytes_eq}
 use Rattle.rt_stamps.specs.declared.stamp.Span.{Span}
 use Rattle.rt_stamps.specs.declared.stamp.Stamp.{Stamp}
@@ -17,14 +17,16 @@ use Rattle.rt_store.specs.Written.{IsWritten}
 use Rattle.rt_tags.specs.States.{Write, is_kept, is_on, is_settled, says_on, write_of, written}
 use Rattle.rt_tags.specs.Writers.{state_after}
 use Rattle.rt_tags.proofs.Greatest.{newer, write_of_written}
-use Rattle.rt_tags.proofs.Places.{clash, name_itself, same_name}
+use Rattle.rt_tags.proofs.Places.{clash, same_name}
 use Rattle.rt_tags.proofs.Sorted.{every, every_append}
 use Rattle.rt_rga.specs.Batches.{after_tags, all_put, put_by, tag_writes, tag_writes_by}
 use Rattle.rt_rga.specs.Cells.{cells_of}
 use Rattle.rt_rga.specs.Drafts.{ContinueInTurn, with_operations}
 use Rattle.rt_rga.specs.Histories.{Continues, IsHistory, greatest_last_count}
 use Rattle.rt_rga.specs.Making.{AreNewest}
-use Rattle.rt_rga.specs.Noted.{AreApart, IsFoundAlike, are_apart, switches}
+use Rattle.rt_rga.specs.Noted.{AreDisjoint, AreDisjointTwo, IsFoundAlike, switches}
+use Rattle.rt_rga.specs.Extents.{IsAdded, covers_under}
+use Rattle.rt_rga.specs.declared.extent.Extent.{Extent}
 use Rattle.rt_rga.specs.Taken.{changes_tag, differ}
 use Rattle.rt_rga.proofs.Corollaries.{cells_written}
 use Rattle.rt_rga.proofs.Noted.{in_front}
@@ -112,39 +114,40 @@ on_elsewhere name state (w ∷ writes) h =
     on_elsewhere name (written w state) writes h.1
     ∙ ap says_on (write_of_written name w state ∙ ap (λ b. cond b (Some (newer (write_of w.name state) w)) (write_of name state)) h.0)
 
--- TAGS OF OTHER NAMES
+-- TAGS OF OTHER NAMES, OR ELSEWHERE
 
 -- what holds of each of some operations holds of one in their midst
 amid : (P : Operation → Type 0) (xs ys : List Operation) (x : Operation) → AllByRecursion P (xs ++ x ∷ ys) → P x
 amid P [] ys x h = h.0
 amid P (y ∷ xs) ys x h = amid P xs ys x h.1
 
--- no operation that is done is a Tag of the tag of the next one
-apart_before : (done rest : List Operation) (op : Operation) → AreApart (done ++ op ∷ rest) → AllByRecursion (λ o. are_apart o.body op.body ≡ true) done
+-- no operation that is done is a Tag of the tag of the next one that names a stamp of it
+apart_before : (done rest : List Operation) (op : Operation) → AreDisjoint (done ++ op ∷ rest) → AllByRecursion (λ o. AreDisjointTwo o.body op.body) done
 apart_before [] rest op h = tt
-apart_before (o ∷ done) rest op h = (amid (λ later. are_apart o.body later.body ≡ true) done rest op h.0, apart_before done rest op h.1)
+apart_before (o ∷ done) rest op h = (amid (λ later. AreDisjointTwo o.body later.body) done rest op h.0, apart_before done rest op h.1)
 
-no_other : (b : Bool) → not b ≡ true → b ≡ false
-no_other b h = grind arith
+no_other : (b here : Bool) → here ≡ true → (b && (true && here)) ≡ false → b ≡ false
+no_other b here h k = grind (arith, h, k)
 
--- so they write none of it
-elsewhere : (done : List Operation) (on : Bool) (name : Name) (spans : List Span) → AllByRecursion (λ o. are_apart o.body (Tag on name spans) ≡ true) done
-    → (s : Stamp) → AllByRecursion (λ w. bytes_eq name w.name ≡ false) (tag_writes done s)
-elsewhere [] on name spans h s = tt
-elsewhere (o ∷ done) on name spans h s =
+-- so they write none of it at such a stamp
+elsewhere : (done : List Operation) (on : Bool) (name : Name) (spans : List Span) → AllByRecursion (λ o. AreDisjointTwo o.body (Tag on name spans)) done
+    → (s : Stamp) → is_in_spans spans s ≡ true → AllByRecursion (λ w. bytes_eq name w.name ≡ false) (tag_writes done s)
+elsewhere [] on name spans h s here = tt
+elsewhere (o ∷ done) on name spans h s here =
     every_append (λ (w : Write). bytes_eq name w.name ≡ false) (tag_writes_by (stamp_of o) o.body s) (tag_writes done s) (one (stamp_of o) o.body h.0)
-    (elsewhere done on name spans h.1 s)
+    (elsewhere done on name spans h.1 s here)
   where
-    one : (stamp : Stamp) (body : Body) → are_apart body (Tag on name spans) ≡ true
+    one : (stamp : Stamp) (body : Body) → AreDisjointTwo body (Tag on name spans)
         → AllByRecursion (λ (w : Write). bytes_eq name w.name ≡ false) (tag_writes_by stamp body s)
     one stamp (Insert after tags text) k = tt
     one stamp (Delete gone) k = tt
     one stamp (Tag now other there) k =
         let w : Write = record { name = other; writer = stamp; on = now } in
-        elim (is_in_spans there s) as (λ b. AllByRecursion (λ (w : Write). bytes_eq name w.name ≡ false) (cond b (w ∷ []) [])) [
-          | true ↦ (no_other (bytes_eq name other) k, tt)
-          | false ↦ tt
-        ]
+        (elim (is_in_spans there s) as (λ b. (bytes_eq name other && (b && is_in_spans spans s)) ≡ false
+        → AllByRecursion (λ (w : Write). bytes_eq name w.name ≡ false) (cond b (w ∷ []) [])) [
+          | true ↦ λ e. (no_other (bytes_eq name other) (is_in_spans spans s) here e, tt)
+          | false ↦ λ e. tt
+        ]) (k s)
 
 -- THE CELLS THAT ARE SHOWN ON THE WAY
 
@@ -162,17 +165,21 @@ always P f (c ∷ cells) = (f c, always P f cells)
 abbrev IsAlike : List Operation → Stamp → Body → TaggedCell → Type 0
 IsAlike done stamp body cell = changes_tag stamp body (after_tags done cell) ≡ switches body cell
 
--- so does a Tag, where none that is done is of its tag, if no write is as new
+-- so does a Tag, where none that is done is of its tag and names a stamp of it, if no write is as new
 tag_alike : (done : List Operation) (stamp : Stamp) (on : Bool) (name : Name) (spans : List Span)
-    → AllByRecursion (λ o. are_apart o.body (Tag on name spans) ≡ true) done → (cell : TaggedCell)
+    → AllByRecursion (λ o. AreDisjointTwo o.body (Tag on name spans)) done → (cell : TaggedCell)
     → is_settled (record { name = name; writer = stamp; on = on }) (after_tags done cell).state ≡ false → IsAlike done stamp (Tag on name spans) cell
-tag_alike done stamp on name spans apart cell s =
-    let e = on_elsewhere name cell.state (tag_writes done cell.stamp) (elsewhere done on name spans apart cell.stamp) in
-    λ i. is_in_spans spans cell.stamp && (not (s i) && differ on (e i))
+tag_alike done stamp on name spans apart cell s = split (is_in_spans spans cell.stamp)
+    (λ here. let e = on_elsewhere name cell.state (tag_writes done cell.stamp) (elsewhere done on name spans apart cell.stamp here) in
+    λ i. is_in_spans spans cell.stamp && (not (s i) && differ on (e i)))
+    (λ there. outside (is_in_spans spans cell.stamp) _ _ there)
+  where
+    outside : (b x y : Bool) → b ≡ false → (b && x) ≡ (b && y)
+    outside b x y h = grind (arith, h)
 
 -- of the next operation that holds of each cell that is put in
 pub found_alike : (log done rest : List Operation) (op : Operation) (known : List TaggedCell) → IsHistory log → ContinueInTurn log (done ++ op ∷ rest)
-    → AreNewest log (done ++ op ∷ rest) → AreApart (done ++ op ∷ rest) → known ≡ all_put done (cells_of log) → IsFoundAlike op (after_tags done) known
+    → AreNewest log (done ++ op ∷ rest) → AreDisjoint (done ++ op ∷ rest) → known ≡ all_put done (cells_of log) → IsFoundAlike op (after_tags done) known
 found_alike log done rest op known h k n a e = record {
   stamps = λ cell. refl;
   gone = λ cell. refl;
@@ -185,7 +192,7 @@ found_alike log done rest op known h k n a e = record {
     put : List TaggedCell
     put = all_put done (cells_of log)
 
-    each : (body : Body) → AllByRecursion (λ o. are_apart o.body body ≡ true) done → AllByRecursion (IsAlike done stamp body) put
+    each : (body : Body) → AllByRecursion (λ o. AreDisjointTwo o.body body) done → AllByRecursion (IsAlike done stamp body) put
     each (Insert after tags text) p = always (IsAlike done stamp (Insert after tags text)) (λ cell. refl) put
     each (Delete spans) p = always (IsAlike done stamp (Delete spans)) (λ cell. refl) put
     each (Tag on name spans) p =
@@ -197,86 +204,71 @@ found_alike log done rest op known h k n a e = record {
         every (λ cell. is_older (after_tags done cell)) (IsAlike done stamp (Tag on name spans)) (tag_alike done stamp on name spans p) put
         (from_map is_older (after_tags done) put shown)
 
--- THE NAMES SO FAR
+-- WHAT THE TAGS BEHIND NAME
 
--- a name is among some
-abbrev pub is_named : List (Bor (List ℕ)) → Name → Bool
-is_named names name = list_any (λ key. bytes_eq name key.now) names
+-- each stamp that a Tag names is covered by what is kept under its name
+abbrev pub IsCovered : {S : Type 0} → IndexMap (Bor (List ℕ)) Extent S → Body → Type 0
+IsCovered extents (Insert after tags text) = Unit {0}
+IsCovered extents (Delete spans) = Unit {0}
+IsCovered extents (Tag on name spans) = (stamp : Stamp) → is_in_spans spans stamp ≡ true → covers_under extents name stamp ≡ true
 
--- a Tag's is
-abbrev pub has_name : List (Bor (List ℕ)) → Body → Bool
-has_name names (Insert after tags text) = true
-has_name names (Delete spans) = true
-has_name names (Tag on name spans) = is_named names name
+-- what names no stamp that is covered under its name is disjoint from what is covered
+disjoint_from : {S : Type 0} (extents : IndexMap (Bor (List ℕ)) Extent S) (on : Bool) (name : Name) (spans : List Span) (body : Body)
+    → ((stamp : Stamp) → (is_in_spans spans stamp && covers_under extents name stamp) ≡ false) → IsCovered extents body → AreDisjointTwo (Tag on name spans) body
+disjoint_from extents on name spans (Insert after tags text) n h = λ stamp. refl
+disjoint_from extents on name spans (Delete gone) n h = λ stamp. refl
+disjoint_from extents on name spans (Tag also_on other others) n h = λ stamp. split (bytes_eq other name && (is_in_spans spans stamp && is_in_spans others stamp))
+    (λ t. let parts = all_three (bytes_eq other name) (is_in_spans spans stamp) (is_in_spans others stamp) t in
+    let covered : covers_under extents name stamp ≡ true = subst (λ (x : Name). covers_under extents x stamp ≡ true) (same_name other name parts.0) (h stamp parts.1.1) in
+    absurd (clash (is_in_spans spans stamp && covers_under extents name stamp) (λ i. parts.1.0 i && covered i) (n stamp)))
+    (λ f. f)
+  where
+    all_three : (a b c : Bool) → (a && (b && c)) ≡ true → (a ≡ true) × ((b ≡ true) × (c ≡ true))
+    all_three a b c h = (grind (arith, h), (grind (arith, h), grind (arith, h)))
 
-has_more : (names : List (Bor (List ℕ))) (key : Bor (List ℕ)) (body : Body) → has_name names body ≡ true → has_name (names ++ key ∷ []) body ≡ true
-has_more names key (Insert after tags text) h = refl
-has_more names key (Delete spans) h = refl
-has_more names key (Tag on name spans) h =
-    list_any-append (λ (k : Bor (List ℕ)). bytes_eq name k.now) names (key ∷ []) ∙ ap (λ b. b || is_named (key ∷ []) name) h
-
--- a Tag whose name isn't among them is apart from those whose names are
-apart_from : (names : List (Bor (List ℕ))) (on : Bool) (name : Name) (spans : List Span) (body : Body) → is_named names name ≡ false
-    → has_name names body ≡ true → are_apart body (Tag on name spans) ≡ true
-apart_from names on name spans (Insert after tags text) n h = refl
-apart_from names on name spans (Delete gone) n h = refl
-apart_from names on name spans (Tag now other there) n h = split (bytes_eq name other)
-    (λ t. absurd (clash (is_named names name) (subst (λ (x : Name). is_named names x ≡ true) (sym (same_name name other t)) h) n))
-    (λ f. ap not f)
-
--- operations are apart with one more that is apart from each
-apart_end : (ops : List Operation) (op : Operation) → AreApart ops → AllByRecursion (λ o. are_apart o.body op.body ≡ true) ops → AreApart (ops ++ op ∷ [])
-apart_end [] op a h = (tt, tt)
-apart_end (o ∷ ops) op a h = (every_append (λ later. are_apart o.body later.body ≡ true) ops (op ∷ []) a.0 (h.0, tt), apart_end ops op a.1 h.1)
-
--- operations are apart, and the names of their Tags are among some
-pub record HaveNames (names : List (Bor (List ℕ))) (ops : List Operation) : Type 0 where
-  pub apart : AreApart ops
-  pub named : AllByRecursion (λ o. has_name names o.body ≡ true) ops
+-- operations are disjoint, and what their Tags name is covered by what is kept
+pub record AreCovered {S : Type 0} (extents : IndexMap (Bor (List ℕ)) Extent S) (ops : List Operation) : Type 0 where
+  pub disjoint : AreDisjoint ops
+  pub covered : AllByRecursion (λ o. IsCovered extents o.body) ops
 
 -- what is no Tag
 abbrev pub IsNoTag : Body → Type 0
 IsNoTag body = (on : Bool) (name : Name) (spans : List Span) → body ≡ Tag on name spans → ⊥
 
--- with an operation that is none
-pub none_named : (names : List (Bor (List ℕ))) (ops : List Operation) (op : Operation) → IsNoTag op.body → HaveNames names ops
-    → HaveNames names (ops ++ op ∷ [])
-none_named names ops op n h = record {
-  apart = apart_end ops op h.apart
-      (every (λ o. has_name names o.body ≡ true) (λ o. are_apart o.body op.body ≡ true) (λ o p. other o.body op.body n) ops h.named);
-  named = every_append (λ o. has_name names o.body ≡ true) ops (op ∷ []) h.named (free op.body n, tt);
+-- with an operation before them that is none
+pub none_covered : {S : Type 0} (extents : IndexMap (Bor (List ℕ)) Extent S) (op : Operation) (ops : List Operation) → IsNoTag op.body → AreCovered extents ops
+    → AreCovered extents (op ∷ ops)
+none_covered extents op ops n h = record {
+  disjoint = (every (λ o. IsCovered extents o.body) (λ o. AreDisjointTwo op.body o.body) (λ o p. other op.body o.body n) ops h.covered, h.disjoint);
+  covered = (free op.body n, h.covered);
 }
   where
-    other : (a b : Body) → IsNoTag b → are_apart a b ≡ true
-    other (Insert after tags text) b f = refl
-    other (Delete gone) b f = refl
-    other (Tag now one there) (Insert after tags text) f = refl
-    other (Tag now one there) (Delete gone) f = refl
-    other (Tag now one there) (Tag on name spans) f = absurd (f on name spans refl)
+    other : (a b : Body) → IsNoTag a → AreDisjointTwo a b
+    other (Insert after tags text) b f = λ stamp. refl
+    other (Delete gone) b f = λ stamp. refl
+    other (Tag on name spans) b f = absurd (f on name spans refl)
 
-    free : (b : Body) → IsNoTag b → has_name names b ≡ true
-    free (Insert after tags text) f = refl
-    free (Delete gone) f = refl
+    free : (b : Body) → IsNoTag b → IsCovered extents b
+    free (Insert after tags text) f = tt
+    free (Delete gone) f = tt
     free (Tag on name spans) f = absurd (f on name spans refl)
 
--- with a Tag of a new name
-pub one_named : (names : List (Bor (List ℕ))) (key : Bor (List ℕ)) (ops : List Operation) (op : Operation) (on : Bool) (spans : List Span)
-    → op.body ≡ Tag on key.now spans → is_named names key.now ≡ false → HaveNames names ops → HaveNames (names ++ key ∷ []) (ops ++ op ∷ [])
-one_named names key ops op on spans e n h = record {
-  apart = apart_end ops op h.apart (every (λ o. has_name names o.body ≡ true) (λ o. are_apart o.body op.body ≡ true)
-      (λ o p. subst (λ (b : Body). are_apart o.body b ≡ true) (sym e) (apart_from names on key.now spans o.body n p)) ops h.named);
-  named = every_append (λ o. has_name more o.body ≡ true) ops (op ∷ [])
-      (every (λ o. has_name names o.body ≡ true) (λ o. has_name more o.body ≡ true) (λ o p. has_more names key o.body p) ops h.named)
-      (subst (λ (b : Body). has_name more b ≡ true) (sym e) itself, tt);
+-- with a Tag before them whose spans are added
+pub one_covered : {S : Type 0} (old new : IndexMap (Bor (List ℕ)) Extent S) (op : Operation) (ops : List Operation) (on : Bool) (name : Name) (spans : List Span)
+    → op.body ≡ Tag on name spans → IsAdded spans name old new → AreCovered old ops → AreCovered new (op ∷ ops)
+one_covered old new op ops on name spans e added h = record {
+  disjoint = (
+    every (λ o. IsCovered old o.body) (λ o. AreDisjointTwo op.body o.body)
+        (λ o p. subst (λ (b : Body). AreDisjointTwo b o.body) (sym e) (disjoint_from old on name spans o.body added.disjoint p)) ops h.covered,
+    h.disjoint,
+  );
+  covered = (
+    subst (λ (b : Body). IsCovered new b) (sym e) added.added,
+    every (λ o. IsCovered old o.body) (λ o. IsCovered new o.body) (λ o p. still o.body p) ops h.covered,
+  );
 }
   where
-    more : List (Bor (List ℕ))
-    more = names ++ key ∷ []
-
-    either : (a b : Bool) → b ≡ true → (a || b) ≡ true
-    either a b h = grind arith
-
-    itself : is_named more key.now ≡ true
-    itself =
-        list_any-append (λ (k : Bor (List ℕ)). bytes_eq key.now k.now) names (key ∷ [])
-        ∙ either (is_named names key.now) (is_named (key ∷ []) key.now) (ap (λ b. b || false) (name_itself key.now))
+    still : (b : Body) → IsCovered old b → IsCovered new b
+    still (Insert after tags text) p = tt
+    still (Delete gone) p = tt
+    still (Tag also_on other others) p = λ stamp i. added.kept other stamp (p stamp i)

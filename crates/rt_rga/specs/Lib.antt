@@ -4,6 +4,7 @@ pub mod Cells
 pub mod Changes
 pub mod Drafts
 pub mod Examples
+pub mod Extents
 pub mod Histories
 pub mod Kept
 pub mod Laws

@@ -1,7 +1,8 @@
 -- What a replica notes of its own operations.
-use Rattle.std.specs.Prelude.{◌≡◌, ◌&&◌, All, Bool, false, true, not, ℕ, List, [], ◌∷◌, ◌++◌, length, option_map, reverse, slice_get, unwrap_or, ⊤}
+use Rattle.std.specs.Prelude.{◌≡◌, ◌&&◌, All, Bool, false, true, ℕ, List, [], ◌∷◌, ◌++◌, length, option_map, reverse, slice_get, unwrap_or, ⊤}
 use Rattle.std.specs.List.{AllByRecursion}
 use Rattle.std.specs.Str.{bytes_eq}
+use Rattle.rt_stamps.specs.declared.stamp.Stamp.{Stamp}
 use Rattle.rt_ops.specs.Operations.{Operation, Body, Insert, Delete, Tag, stamp_of}
 use Rattle.rt_store.specs.Cells.{visible_of}
 use Rattle.rt_store.specs.Shown.{TaggedCell}
@@ -37,18 +38,22 @@ are_kept notes.Off = false
 are_kept (notes.Kept changes) = true
 are_kept notes.Lost = false
 
--- two operations aren't Tags of one tag
-abbrev pub are_apart : Body → Body → Bool
-are_apart (Tag on name spans) (Tag now other there) = not (bytes_eq other name)
-are_apart (Tag on name spans) (Insert after tags text) = true
-are_apart (Tag on name spans) (Delete gone) = true
-are_apart (Insert after tags text) later = true
-are_apart (Delete gone) later = true
+-- two operations are Tags of one tag, and both name a stamp
+abbrev pub name_both : Body → Body → Stamp → Bool
+name_both (Tag on name spans) (Tag also_on other others) stamp = bytes_eq other name && (is_in_spans spans stamp && is_in_spans others stamp)
+name_both (Tag on name spans) (Insert after tags text) stamp = false
+name_both (Tag on name spans) (Delete gone) stamp = false
+name_both (Insert after tags text) later stamp = false
+name_both (Delete gone) later stamp = false
 
--- no two of some operations are
-abbrev pub AreApart : List Operation → Type 0
-AreApart [] = ⊤
-AreApart (op ∷ ops) = AllByRecursion (λ later. are_apart op.body later.body ≡ true) ops × AreApart ops
+-- two operations aren't Tags of one tag that name one stamp, whether they put it on or take it off
+abbrev pub AreDisjointTwo : Body → Body → Type 0
+AreDisjointTwo body later = (stamp : Stamp) → name_both body later stamp ≡ false
+
+-- each two of some operations are so
+abbrev pub AreDisjoint : List Operation → Type 0
+AreDisjoint [] = ⊤
+AreDisjoint (op ∷ ops) = AllByRecursion (λ later. AreDisjointTwo op.body later.body) ops × AreDisjoint ops
 
 -- An operation switches the tag of a cell, if no write of it there is as new: it is a Tag that names it, and the tag isn't as it says.
 abbrev pub switches : Body → TaggedCell → Bool

@@ -6,6 +6,7 @@ mod character;
 mod describe;
 mod edits;
 pub mod examples;
+mod extent;
 pub mod laws;
 mod make;
 mod named;

@@ -14,15 +14,16 @@ ghost use Rattle.rt_rga.specs.Cells.{cells_of, deletes};
 ghost use Rattle.rt_rga.specs.Drafts.{ContinueInTurn};
 ghost use Rattle.rt_rga.specs.Histories.{Continues, inserted};
 ghost use Rattle.rt_rga.specs.Making.{AreNewest, cuts_of, fresh_cells, kept_after};
-ghost use Rattle.rt_rga.specs.Noted.{AreApart, AreNotedOf, IsFoundAlike};
+ghost use Rattle.rt_rga.specs.Noted.{AreDisjoint, AreNotedOf, IsFoundAlike};
 ghost use Rattle.rt_rga.specs.Replicas.{IsReplica};
 
 use crate::describe::{describe, describe_own};
 use crate::edits::change;
+use crate::extent::{Extent, add};
 use crate::make::{put, put_all};
 use crate::notes::only;
 use crate::taken::Change;
-use indexmap::IndexSet;
+use indexmap::IndexMap;
 use rt_oplog::{Edit, Op, OpLog};
 use rt_stamps::Fault;
 use rt_store::{Cell, TextStore};
@@ -56,8 +57,8 @@ fn and_change<S: TextStore>(
     }
 }
 
-// Puts in what operations do of which no two are Tags of one tag, as `put_all` does, and tells what each changes; none for
-// want of memory, and then they are put in all the same.
+// Puts in what operations do of which no two are Tags of one tag that name one stamp, as `put_all` does, and tells what each
+// changes; none for want of memory, and then they are put in all the same.
 fn put_all_noting<S: TextStore>(
     alloc: Global,
     store: &mut S,
@@ -70,7 +71,7 @@ fn put_all_noting<S: TextStore>(
     requires agrees { S.agrees store.old states.now }
     requires continues { ContinueInTurn log.now.operations ops.now }
     requires newest { AreNewest log.now.operations ops.now }
-    requires apart { AreApart ops.now }
+    requires disjoint { AreDisjoint ops.now }
     requires fresh { map (shown states.now) new.now ≡ fresh_cells ops.now }
     requires given { AreStates states.now new.now }
     requires few { length (S.list store.old) + length new.now ≤ MOST_CELLS }
@@ -90,29 +91,27 @@ fn put_all_noting<S: TextStore>(
     changes
 }
 
-// Whether no two of some operations are Tags of one tag. It may say no for want of memory.
-fn are_apart(alloc: Global, ops: &[Op]) -> bool
-    ensures { result ≡ true → AreApart ops.now }
+// Whether no two of some operations are Tags of one tag that name one stamp. It may say no for want of memory, and where
+// spans of one lie between those of the Tags behind it: what edits make doesn't, as of their Tags of one tag the stamps
+// rise, but for one of the last newline, which is older than what comes in and stands before it.
+fn are_disjoint(alloc: Global, ops: &[Op]) -> bool
+    ensures { result ≡ true → AreDisjoint ops.now }
 {
-    let mut names: IndexSet<&str> = IndexSet::new(alloc);
-    for op in ops {
-        if let Edit::Tag {
-            on: _,
-            name,
-            spans: _,
-        } = op.edit()
-        {
-            match names.insert(name.as_str()) {
-                Ok(true) => {}
-                _ => return false,
+    let mut extents: IndexMap<&str, Extent> = IndexMap::new(alloc);
+    let mut left = ops;
+    while let Some((op, rest)) = left.split_last() {
+        if let Edit::Tag { on: _, name, spans } = op.edit() {
+            if !add(&mut extents, name.as_str(), spans) {
+                return false;
             }
         }
+        left = rest;
     }
     true
 }
 
 /// Puts in what operations do, as `put_all` does, and tells what each changes, where that is to be told; none where two of
-/// them are Tags of one tag, and for want of memory, which refuses nothing.
+/// them may be Tags of one tag that name one stamp, and for want of memory, which refuses nothing.
 pub(crate) fn put_and_note<S: TextStore>(
     alloc: Global,
     store: &mut S,
@@ -136,7 +135,7 @@ pub(crate) fn put_and_note<S: TextStore>(
     ensures states { S.agrees store.new states.now }
     ensures noted { IfSome result (λ changes. AreNotedOf log.now.operations ops.now changes.items) }
 {
-    if noting && are_apart(alloc, ops) {
+    if noting && are_disjoint(alloc, ops) {
         return put_all_noting(alloc, store, states, log, new, ops);
     }
     put_all(store, states, new, ops);

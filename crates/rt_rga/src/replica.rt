@@ -178,7 +178,7 @@ impl<S: TextStore> Replica<S> {
 
     /// What the newest operations of the log changed, in the order in which they were made: all that were made since `note`,
     /// and nothing is noted from here on. None where `note` wasn't asked, an operation was taken since, two that were made
-    /// at once are Tags of one tag, or memory was wanting to note them, which refuses no operation.
+    /// at once may be Tags of one tag that name one stamp, or memory was wanting to note them, which refuses no operation.
     pub fn noted(&mut self) -> Option<Vec<Change>>
         ensures newest { IfSome result (λ changes. AreOfNewest (reverse changes.items) self.old.log) }
         ensures same { self.new ≡ self.old }

@@ -7,7 +7,7 @@ use Rattle.rt_stamps.specs.declared.fault.Fault.{Fault}
 use Rattle.rt_stamps.specs.declared.fault.Fault.TheVariants.{NoMemory, ReadFault, WriteFault}
 use Rattle.rt_stamps.specs.declared.limits.Bounds.{Bounds}
 use Rattle.rt_stamps.specs.declared.limits.TheConstants.{PIECE_BYTES}
-use Rattle.rt_script.specs.Lines.{cut, complete_of, rest_of, last_of, lines_of}
+use Rattle.rt_script.specs.Lines.{cut, complete_of, rest_of, rest_line, lines_of}
 use Rattle.rt_stamps.specs.Words.{Word}
 use Rattle.rt_stamps.specs.Streams.{Stream}
 use Rattle.rt_script.specs.declared.answer.Answer.{Answer}
@@ -225,7 +225,7 @@ ends_complete gives bounds old new script left read eaten few reads end ran same
 pub ends_whole : {S : Type 0} (gives : S → List Word → Answer → S → Type 0) (bounds : Bounds) (old mid new : Point S) (script middle left : Stream) (pending : List ℕ) (n : ℕ) (buf : List ℕ) (room turns : ℕ) (r : Result (Unit {0}) Fault)
     → Goes gives bounds old mid script middle pending room turns → turns < bounds.reads
     → Consumes middle.bytes left.bytes (take n buf) → n ≡ 0 → IsAtEnd left.bytes → left.calls ≡ middle.calls + 1 → left.failures ≡ middle.failures + 0
-    → ((rest : List ℕ) → pending ≡ kept rest → RanLines gives mid new (last_of rest) (last_of rest) r)
+    → ((rest : List ℕ) → pending ≡ kept rest → RanLines gives mid new (rest_line rest) (rest_line rest) r)
     → IfErr r (λ fault. fault ≡ WriteFault) → Ends gives bounds old new script left (result_err r)
 ends_whole gives bounds old mid new script middle left pending n buf room turns (Ok x) g few eaten none end calls failures ran fault =
     let bounded = g.bounded in

@@ -4,10 +4,10 @@ use Rattle.std.specs.Prelude.{IfSome}
 use Rattle.rt_stamps.specs.declared.fault.Fault.{Fault}
 use Rattle.rt_stamps.specs.declared.fault.Fault.TheVariants.{NoMemory, ReadFault, WriteFault}
 use Rattle.rt_stamps.specs.declared.limits.Bounds.{Bounds}
-use Rattle.rt_script.specs.Lines.{answered}
+use Rattle.rt_script.specs.Lines.{answered_lines}
 use Rattle.rt_stamps.specs.Streams.{Stream}
 use Rattle.rt_script.specs.declared.answer.Answer.{Answer}
-use Rattle.rt_script.specs.Run.{Ends, LineGives, Point, Ran, RanUnwritten, Runs, StopsInLast, point}
+use Rattle.rt_script.specs.Run.{Ends, LineGives, Point, Ran, RanUnwritten, RunsLines, StopsInLast, point}
 use Rattle.rt_peers.specs.SiteValue.{SiteValue}
 use Rattle.rt_script.specs.Site.{Session, SiteGives}
 
@@ -16,17 +16,17 @@ line_keeps old new line answer (inl (readable, (words, spells, gives))) = gives.
 line_keeps old new line answer (inr (inl (bad, refused, same))) = ap (λ (s : Session). s.files) same
 line_keeps old new line answer (inr (inr (readable, refused, same))) = ap (λ (s : Session). s.files) same
 
-runs_keep : (lines : List (List ℕ)) (answers : List Answer) (old new : Session) → Runs SiteGives old lines answers new → new.files ≡ old.files
+runs_keep : (lines : List (List ℕ)) (answers : List Answer) (old new : Session) → RunsLines SiteGives old lines answers new → new.files ≡ old.files
 runs_keep [] [] old new same = ap (λ (s : Session). s.files) same
 runs_keep (line ∷ lines) (answer ∷ answers) old new (mid, here, rest) = runs_keep lines answers mid new rest ∙ line_keeps old mid line answer here
 runs_keep [] (answer ∷ answers) old new bad = absurd bad
 runs_keep (line ∷ lines) [] old new bad = absurd bad
 
 ran_keeps : (old new : Point Session) (lines : List (List ℕ)) → Ran SiteGives old new lines → new.state.files ≡ old.state.files
-ran_keeps old new lines r = runs_keep (answered lines) r.answers old.state new.state r.runs
+ran_keeps old new lines r = runs_keep (answered_lines lines) r.answers old.state new.state r.runs
 
 unwritten_keeps : (old new : Point Session) (lines : List (List ℕ)) → RanUnwritten SiteGives old new lines → new.state.files ≡ old.state.files
-unwritten_keeps old new lines r = runs_keep (answered r.run) (r.answers ++ r.last ∷ []) old.state new.state r.runs
+unwritten_keeps old new lines r = runs_keep (answered_lines r.run) (r.answers ++ r.last ∷ []) old.state new.state r.runs
 
 either_keeps : (old new : Point Session) (complete lines : List (List ℕ)) (End : Type 0)
     → RanUnwritten SiteGives old new complete ⊎ (End × RanUnwritten SiteGives old new lines) → new.state.files ≡ old.state.files

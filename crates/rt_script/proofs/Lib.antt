@@ -7,6 +7,7 @@ pub mod Items
 pub mod LinesLaws
 pub mod Living
 pub mod OneOutput
+pub mod Paths
 pub mod ReadReplies
 pub mod ReplyWords
 pub mod RunLaws

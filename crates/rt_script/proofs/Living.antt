@@ -24,11 +24,11 @@ use Rattle.rt_peers.proofs.Events.{either_of, known_on, then_on as goes_on}
 use Rattle.rt_script.specs.declared.answer.Answer.{Answer}
 use Rattle.rt_script.specs.declared.answer.Answer.TheVariants as answers
 use Rattle.rt_script.specs.declared.site_run.ScriptRun.{ScriptRun}
-use Rattle.rt_script.specs.Lived.{IsOfLog, IsOfNamed, RunsLive}
-use Rattle.rt_script.specs.Lines.{answered, complete_of, lines_of}
-use Rattle.rt_script.specs.Run.{Ends, LineGives, Point, Ran, RanUnwritten, Runs, point}
+use Rattle.rt_script.specs.Lived.{IsOfFirstLog, IsOfNamed, RunsLive}
+use Rattle.rt_script.specs.Lines.{answered_lines, complete_of, lines_of}
+use Rattle.rt_script.specs.Run.{Ends, LineGives, Point, Ran, RanUnwritten, RunsLines, point}
 use Rattle.rt_script.specs.Site.{IsDone, LineIsRefused, NamedFile, PathGives, ReceiveGives, Session, SiteGives, WordsGive, file_named}
-use Rattle.rt_script.specs.SiteRun.{BeginsWith, RunsScript}
+use Rattle.rt_script.specs.SiteRun.{BeginsFrom, RunsScript}
 
 stays_on : (IsOther : Operation → Type 0) (old new : SiteValue) → new ≡ old → LivesOn IsOther old new
 stays_on IsOther old new e site limit came l =
@@ -85,7 +85,7 @@ line_on files old new line answer (inl h) e =
 line_on files old new line answer (inr (inl h)) e = (stays_on (IsOfNamed files) old.site new.site (λ i. (h.2 i).site), (λ i. (h.2 i).files) ∙ e)
 line_on files old new line answer (inr (inr h)) e = (stays_on (IsOfNamed files) old.site new.site (λ i. (h.2 i).site), (λ i. (h.2 i).files) ∙ e)
 
-lines_on : (files : List NamedFile) (lines : List (List ℕ)) (given : List Answer) (old new : Session) → Runs SiteGives old lines given new → GoesOn files old new
+lines_on : (files : List NamedFile) (lines : List (List ℕ)) (given : List Answer) (old new : Session) → RunsLines SiteGives old lines given new → GoesOn files old new
 lines_on files [] [] old new h e = (stays_on (IsOfNamed files) old.site new.site (λ i. (h i).site), (λ i. (h i).files) ∙ e)
 lines_on files [] (answer ∷ given) old new h e = absurd h
 lines_on files (line ∷ lines) [] old new h e = absurd h
@@ -96,10 +96,10 @@ lines_on files (line ∷ lines) (answer ∷ given) old new h e =
 
 module _ (files : List NamedFile) (old new : Point Session) (e : old.state.files ≡ files) where
   ran_on : (lines : List (List ℕ)) → Ran SiteGives old new lines → LivesOn (IsOfNamed files) old.state.site new.state.site
-  ran_on lines r = (lines_on files (answered lines) r.answers old.state new.state r.runs e).0
+  ran_on lines r = (lines_on files (answered_lines lines) r.answers old.state new.state r.runs e).0
 
   unwritten_on : (lines : List (List ℕ)) → RanUnwritten SiteGives old new lines → LivesOn (IsOfNamed files) old.state.site new.state.site
-  unwritten_on lines r = (lines_on files (answered r.run) (r.answers ++ r.last ∷ []) old.state new.state r.runs e).0
+  unwritten_on lines r = (lines_on files (answered_lines r.run) (r.answers ++ r.last ∷ []) old.state new.state r.runs e).0
 
   -- WHOLE RUNS
 
@@ -124,8 +124,8 @@ script_on files site wants_log script left before after outcome h =
 new_lives : (number : ℕ) → 0 < number → Lives number MOST_CELLS (new_site number MOST_CELLS) []
 new_lives number p = begins p (lit< tt)
 
-begun : (number : ℕ) (log : Option (Bor (List ℕ))) (start : SiteValue) → 0 < number → BeginsWith number log start
-    → (came : List Operation) × Lives number MOST_CELLS start came × ((op : Operation) → Has came op → (op.site ≡ number) ⊎ IsOfLog log op)
+begun : (number : ℕ) (log : Option (Bor (List ℕ))) (start : SiteValue) → 0 < number → BeginsFrom number log start
+    → (came : List Operation) × Lives number MOST_CELLS start came × ((op : Operation) → Has came op → (op.site ≡ number) ⊎ IsOfFirstLog log op)
 begun number None start p h = ([], subst (λ (s : SiteValue). Lives number MOST_CELLS s []) (sym h) (new_lives number p), λ op i. absurd i)
 begun number (Some log) start p h = received_on log.now h.0 (new_site number MOST_CELLS) start h.1 number MOST_CELLS [] (new_lives number p)
 
@@ -133,7 +133,7 @@ pub run_lives : RunsLive
 run_lives number end p r =
     let start = begun number r.log r.start p r.begins in
     let on = script_on r.files r.start r.wants_log r.script r.left r.before r.after r.outcome r.runs number MOST_CELLS start.0 start.1 in
-    let P : Operation → Type 0 = λ op. (op.site ≡ number) ⊎ (IsOfLog r.log op ⊎ IsOfNamed r.files op) in (
+    let P : Operation → Type 0 = λ op. (op.site ≡ number) ⊎ (IsOfFirstLog r.log op ⊎ IsOfNamed r.files op) in (
       start.0 ++ on.0,
       subst (λ (s : SiteValue). Lives number MOST_CELLS s (start.0 ++ on.0)) r.is_end on.1,
       either_of P start.0 on.0 (λ op i. elim (start.2 op i) [ inl e ↦ inl e | inr l ↦ inr (inl l) ]) (λ op i. elim (on.2 op i) [ inl e ↦ inl e | inr n ↦ inr (inr n) ]),

@@ -20,13 +20,13 @@ use Rattle.rt_peers.specs.SiteValue.{SiteValue, new_site}
 use Rattle.rt_peers.proofs.OneWay.{commands_once, receiving_once}
 use Rattle.rt_script.specs.declared.answer.Answer.{Answer}
 use Rattle.rt_script.specs.declared.answer.Answer.TheVariants as answers
-use Rattle.rt_script.specs.Lived.{IsRun}
-use Rattle.rt_script.specs.Lines.{answered, is_readable, lines_of}
-use Rattle.rt_script.specs.Output.{BeginFoundMemory, NamedFileFoundMemory, Given, IsWhole, LineFoundMemory, LinesFoundMemory, ReceiveFoundMemory, RunsHaveOneOutput, WordsFoundMemory}
+use Rattle.rt_script.specs.Lived.{IsScriptRun}
+use Rattle.rt_script.specs.Lines.{answered_lines, is_readable, lines_of}
+use Rattle.rt_script.specs.Output.{BeginFoundMemory, NamedFileFoundMemory, Given, IsWholeRun, LineFoundMemory, LinesFoundMemory, ReceiveFoundMemory, RunsHaveOneOutput, WordsFoundMemory}
 use Rattle.rt_script.specs.Replies.{reply_line}
-use Rattle.rt_script.specs.Run.{LineGives, Runs}
+use Rattle.rt_script.specs.Run.{LineGives, RunsLines}
 use Rattle.rt_script.specs.Site.{IsDone, LineIsRefused, NamedFile, PathGives, ReceiveGives, Session, SiteGives, WordsGive, as_answer, file_named}
-use Rattle.rt_script.specs.SiteRun.{BeginsWith}
+use Rattle.rt_script.specs.SiteRun.{BeginsFrom}
 
 -- ONE LINE
 
@@ -104,7 +104,7 @@ line_once line old one two new left (inr (inr h)) k f g = absurd f
 
 -- LINES
 
-pub lines_once : (lines : List (List ℕ)) (one two : List Answer) (old new left : Session) (h : Runs SiteGives old lines one new) (k : Runs SiteGives old lines two left)
+pub lines_once : (lines : List (List ℕ)) (one two : List Answer) (old new left : Session) (h : RunsLines SiteGives old lines one new) (k : RunsLines SiteGives old lines two left)
     → LinesFoundMemory old lines one new h → LinesFoundMemory old lines two left k → (one ≡ two) × (new ≡ left)
 lines_once [] [] [] old new left h k f g = (refl, h ∙ sym k)
 lines_once [] [] (b ∷ two) old new left h k f g = absurd k
@@ -113,7 +113,7 @@ lines_once (line ∷ lines) [] two old new left h k f g = absurd h
 lines_once (line ∷ lines) (a ∷ one) [] old new left h k f g = absurd k
 lines_once (line ∷ lines) (a ∷ one) (b ∷ two) old new left h k f g =
     let here = line_once line old a b h.0 k.0 h.1 k.1 f.0 g.0 in
-    let behind = subst (λ (s : Session). (l : Runs SiteGives s lines two left) → LinesFoundMemory s lines two left l → (one ≡ two) × (new ≡ left)) here.1
+    let behind = subst (λ (s : Session). (l : RunsLines SiteGives s lines two left) → LinesFoundMemory s lines two left l → (one ≡ two) × (new ≡ left)) here.1
     (λ l e. lines_once lines one two h.0 new left h.2 l f.1 e) k.2 g.1 in
     (λ i. here.0 i ∷ behind.0 i, behind.1)
 
@@ -122,7 +122,7 @@ lines_once (line ∷ lines) (a ∷ one) (b ∷ two) old new left h k f g =
 -- a site begins in one state with a log of given bytes
 begins_once : (number : ℕ) (log : Option (Bor (List ℕ))) (other : Option (Bor (List ℕ))) (start begun : SiteValue)
     → option_map (λ bytes. bytes.now) log ≡ option_map (λ bytes. bytes.now) other
-    → (h : BeginsWith number log start) (k : BeginsWith number other begun) → BeginFoundMemory number log start h → BeginFoundMemory number other begun k → start ≡ begun
+    → (h : BeginsFrom number log start) (k : BeginsFrom number other begun) → BeginFoundMemory number log start h → BeginFoundMemory number other begun k → start ≡ begun
 begins_once number None None start begun e h k f g = h ∙ sym k
 begins_once number None (Some other) start begun e h k f g = absurd (cc e)
 begins_once number (Some log) None start begun e h k f g = absurd (cc e)
@@ -154,11 +154,11 @@ wrote_all (Some front) (Some all) written text b a h =
 -- of a run: the lines that were answered
 record Answered (files : List NamedFile) (start end : SiteValue) (script written : List ℕ) : Type 0 where
   pub given : List Answer
-  pub runs : Runs SiteGives (record { site = start; files = files }) (answered (lines_of script)) given (record { site = end; files = files })
-  pub found : LinesFoundMemory (record { site = start; files = files }) (answered (lines_of script)) given (record { site = end; files = files }) runs
+  pub runs : RunsLines SiteGives (record { site = start; files = files }) (answered_lines (lines_of script)) given (record { site = end; files = files })
+  pub found : LinesFoundMemory (record { site = start; files = files }) (answered_lines (lines_of script)) given (record { site = end; files = files }) runs
   pub wrote : written ≡ flat_map reply_line given
 
-answered_of : {number : ℕ} {end : SiteValue} (run : IsRun number end) (given : Given) (written : List ℕ) → IsWhole run given written
+answered_of : {number : ℕ} {end : SiteValue} (run : IsScriptRun number end) (given : Given) (written : List ℕ) → IsWholeRun run given written
     → Answered given.files run.start end given.script written
 answered_of {end = end} run given written w =
     let ends = run.runs.0 in
@@ -176,10 +176,10 @@ one_output number given end other run again written rewritten v w =
     let one = answered_of run given written v in
     let two = answered_of again given rewritten w in
     let start = begins_once number run.log again.log run.start again.start (v.log ∙ sym w.log) run.begins again.begins v.begins w.begins in
-    let same = subst (λ (s : SiteValue). (l : Runs SiteGives (record { site = s; files = given.files }) (answered (lines_of given.script)) two.given
+    let same = subst (λ (s : SiteValue). (l : RunsLines SiteGives (record { site = s; files = given.files }) (answered_lines (lines_of given.script)) two.given
     (record { site = other; files = given.files }))
-    → LinesFoundMemory (record { site = s; files = given.files }) (answered (lines_of given.script)) two.given (record { site = other; files = given.files }) l
+    → LinesFoundMemory (record { site = s; files = given.files }) (answered_lines (lines_of given.script)) two.given (record { site = other; files = given.files }) l
     → (one.given ≡ two.given) × ◌≡◌ {A = Session} (record { site = end; files = given.files }) (record { site = other; files = given.files })) start
-    (λ l m. lines_once (answered (lines_of given.script)) one.given two.given (record { site = run.start; files = given.files })
+    (λ l m. lines_once (answered_lines (lines_of given.script)) one.given two.given (record { site = run.start; files = given.files })
     (record { site = end; files = given.files }) (record { site = other; files = given.files }) one.runs l one.found m) two.runs two.found in
     (one.wrote ∙ ap (flat_map reply_line) same.0 ∙ sym two.wrote, ap (λ (s : Session). s.site) same.1)

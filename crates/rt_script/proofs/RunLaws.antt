@@ -14,31 +14,31 @@ use Rattle.std.proofs.lemmas.Str.{IsUtf8-from_is_utf8, is_utf8-from_IsUtf8}
 use Rattle.rt_stamps.specs.declared.limits.TheConstants.{MOST_LINE_BYTES}
 use Rattle.rt_stamps.specs.declared.fault.Fault.{Fault}
 use Rattle.rt_stamps.specs.declared.fault.Fault.TheVariants.{NoMemory, WriteFault}
-use Rattle.rt_script.specs.Lines.{cut, lines_of, without_return, is_readable, is_silent, answered, complete_of, rest_of, last_of}
+use Rattle.rt_script.specs.Lines.{cut, lines_of, without_return, is_readable, is_silent, answered_lines, complete_of, rest_of, rest_line}
 use Rattle.rt_stamps.specs.Words.{Word}
 use Rattle.rt_stamps.proofs.Writes.{appends_then}
 use Rattle.rt_script.specs.declared.answer.Answer.{Answer}
 use Rattle.rt_script.specs.declared.engine.TheConstants.{MOST_KEPT_BYTES}
 use Rattle.rt_script.specs.Replies.{reply_line}
-use Rattle.rt_script.specs.Run.{LineGives, Point, Runs, Ran, RanFront, RanUnwritten}
+use Rattle.rt_script.specs.Run.{LineGives, Point, RunsLines, Ran, RanFront, RanUnwritten}
 use Rattle.rt_script.specs.Pieces.{is_inner, kept, RanLine, RanLines}
 use Rattle.rt_stamps.specs.Source.{failures_of}
 use Rattle.rt_script.proofs.LinesLaws.{complete_append, complete_newline, complete_front, rest_append, rest_newline, rest_front, cut_empty}
 
 -- a run goes on
-pub runs_then : {S : Type 0} (gives : S → List Word → Answer → S → Type 0) (old mid new : S) (ls ms : List (List ℕ)) (bs cs : List Answer) → Runs gives old ls bs mid → Runs gives mid ms cs new → Runs gives old (ls ++ ms) (bs ++ cs) new
-runs_then gives old mid new [] ms [] cs h k = subst (λ s. Runs gives s ms cs new) h k
+pub runs_then : {S : Type 0} (gives : S → List Word → Answer → S → Type 0) (old mid new : S) (ls ms : List (List ℕ)) (bs cs : List Answer) → RunsLines gives old ls bs mid → RunsLines gives mid ms cs new → RunsLines gives old (ls ++ ms) (bs ++ cs) new
+runs_then gives old mid new [] ms [] cs h k = subst (λ s. RunsLines gives s ms cs new) h k
 runs_then gives old mid new (l ∷ ls) ms (b ∷ bs) cs h k = (h.0, h.1, runs_then gives h.0 mid new ls ms bs cs h.2 k)
 runs_then gives old mid new [] ms (b ∷ bs) cs h k = absurd h
 runs_then gives old mid new (l ∷ ls) ms [] cs h k = absurd h
 
-pub answered_append : (ls ms : List (List ℕ)) → answered (ls ++ ms) ≡ answered ls ++ answered ms
+pub answered_append : (ls ms : List (List ℕ)) → answered_lines (ls ++ ms) ≡ answered_lines ls ++ answered_lines ms
 answered_append ls ms = filter-append (λ line. not (is_readable line && is_silent line)) ls ms
 
 pub ran_then : {S : Type 0} (gives : S → List Word → Answer → S → Type 0) (old mid new : Point S) (ls ms : List (List ℕ)) → Ran gives old mid ls → Ran gives mid new ms → Ran gives old new (ls ++ ms)
 ran_then gives old mid new ls ms h k = record {
   answers = h.answers ++ k.answers;
-  runs = rw (answered_append ls ms) (runs_then gives old.state mid.state new.state (answered ls) (answered ms) h.answers k.answers h.runs k.runs);
+  runs = rw (answered_append ls ms) (runs_then gives old.state mid.state new.state (answered_lines ls) (answered_lines ms) h.answers k.answers h.runs k.runs);
   wrote = rw (flat_map-append reply_line h.answers k.answers) (appends_then old.out.bytes mid.out.bytes new.out.bytes _ _ h.wrote k.wrote);
 }
 
@@ -58,7 +58,7 @@ unwritten_then gives old mid new ls ms h k = record {
   split = rw k.split (sym (append_assoc ls k.run k.more));
   answers = h.answers ++ k.answers;
   last = k.last;
-  runs = rw (answered_append ls k.run, append_assoc h.answers k.answers) (runs_then gives old.state mid.state new.state (answered ls) (answered k.run) h.answers (k.answers ++ k.last ∷ []) h.runs k.runs);
+  runs = rw (answered_append ls k.run, append_assoc h.answers k.answers) (runs_then gives old.state mid.state new.state (answered_lines ls) (answered_lines k.run) h.answers (k.answers ++ k.last ∷ []) h.runs k.runs);
   here = k.here;
   wrote = rw (flat_map-append reply_line h.answers k.answers) (appends_then old.out.bytes mid.out.bytes k.here _ _ h.wrote k.wrote);
   part = k.part;
@@ -95,10 +95,10 @@ pub ran_none : {S : Type 0} (gives : S → List Word → Answer → S → Type 0
 ran_none gives here = record { answers = []; runs = refl; wrote = appends_self here.out.bytes }
 
 -- a line that is answered, and one that isn't
-answered_one : (line : List ℕ) → is_readable line && is_silent line ≡ false → answered (line ∷ []) ≡ line ∷ []
+answered_one : (line : List ℕ) → is_readable line && is_silent line ≡ false → answered_lines (line ∷ []) ≡ line ∷ []
 answered_one line e = rw e refl
 
-answered_silent : (line : List ℕ) → is_readable line && is_silent line ≡ true → answered (line ∷ []) ≡ []
+answered_silent : (line : List ℕ) → is_readable line && is_silent line ≡ true → answered_lines (line ∷ []) ≡ []
 answered_silent line e = rw e refl
 
 -- a line was run, and what it was answered was written
@@ -188,10 +188,10 @@ take_none zero line h e = absurd (omega arith)
 take_none (suc n) [] h e = refl
 take_none (suc n) (c ∷ line) h e = cc
 
-pub last_none : (rest : List ℕ) → kept rest ≡ [] → last_of rest ≡ []
-last_none rest e = ap last_of (take_none MOST_KEPT_BYTES rest (omega arith) e)
+pub last_none : (rest : List ℕ) → kept rest ≡ [] → rest_line rest ≡ []
+last_none rest e = ap rest_line (take_none MOST_KEPT_BYTES rest (omega arith) e)
 
-pub last_some : (rest : List ℕ) → kept rest ≢ [] → last_of rest ≡ rest ∷ []
+pub last_some : (rest : List ℕ) → kept rest ≢ [] → rest_line rest ≡ rest ∷ []
 last_some [] n = absurd (n refl)
 last_some (c ∷ rest) n = refl
 
@@ -240,17 +240,17 @@ lines_some : (rest : List ℕ) → rest ≢ [] → (line : List ℕ) × (more : 
 lines_some rest some = go (cut rest) refl
   where
     seen : List (List ℕ) × List ℕ → List (List ℕ)
-    seen p = map without_return p.0 ++ last_of p.1
+    seen p = map without_return p.0 ++ rest_line p.1
 
     go : (p : List (List ℕ) × List ℕ) → cut rest ≡ p → (line : List ℕ) × (more : List (List ℕ)) × (lines_of rest ≡ line ∷ more)
     go ([], []) e = absurd (some (cut_empty rest e))
     go ([], c ∷ left) e = (c ∷ left, [], ap seen e)
-    go (l ∷ lines, left) e = (without_return l, map without_return lines ++ last_of left, ap seen e)
+    go (l ∷ lines, left) e = (without_return l, map without_return lines ++ rest_line left, ap seen e)
 
 pub lines_append : (xs ys : List ℕ) → lines_of (xs ++ ys) ≡ complete_of xs ++ lines_of (rest_of xs ++ ys)
 lines_append xs ys =
-    ap (λ v. v ++ last_of (rest_of (xs ++ ys))) (complete_append xs ys) ∙ append_assoc (complete_of xs) (complete_of (rest_of xs ++ ys)) (last_of (rest_of (xs ++ ys)))
-    ∙ ap (λ v. complete_of xs ++ (complete_of (rest_of xs ++ ys) ++ last_of v)) (rest_append xs ys)
+    ap (λ v. v ++ rest_line (rest_of (xs ++ ys))) (complete_append xs ys) ∙ append_assoc (complete_of xs) (complete_of (rest_of xs ++ ys)) (rest_line (rest_of (xs ++ ys)))
+    ∙ ap (λ v. complete_of xs ++ (complete_of (rest_of xs ++ ys) ++ rest_line v)) (rest_append xs ys)
 
 nothing_before : (xs ys : List ℕ) → ys ≢ [] → xs ++ ys ≢ []
 nothing_before [] ys some e = some e
@@ -385,7 +385,7 @@ unreadable_text line n = go (nat_le (length line) MOST_LINE_BYTES) (is_utf8 line
 
 -- the last line of a script was run
 pub ran_last : {S : Type 0} (gives : S → List Word → Answer → S → Type 0) (old new : Point S) (rest : List ℕ) (r : Result (Unit {0}) Fault)
-    → RanLine gives old new (kept rest) r → kept rest ≢ [] → IfErr r (λ fault. fault ≡ WriteFault) → new.out.failures ≡ old.out.failures + failures_of r → RanLines gives old new (last_of rest) (last_of rest) r
+    → RanLine gives old new (kept rest) r → kept rest ≢ [] → IfErr r (λ fault. fault ≡ WriteFault) → new.out.failures ≡ old.out.failures + failures_of r → RanLines gives old new (rest_line rest) (rest_line rest) r
 ran_last gives old new rest r h n w e = rw (last_some rest n) (one_line gives old new rest r (last_kept gives old new rest r h) w e)
 
 pub length_none : (bytes : List ℕ) → length bytes ≡ 0 → bytes ≡ []

@@ -1,12 +1,17 @@
 -- A site that is asked by lines, one at a time, and what each call makes of it.
-use Rattle.std.specs.Prelude.{◌≡◌, ◌⊎◌, ◌++◌, ◌&&◌, Bool, true, false, List, [], Option, Some, ℕ, drop, length, reverse, take, unwrap_or}
+use Rattle.std.specs.Prelude.{◌≡◌, ◌⊎◌, ◌++◌, ◌&&◌, Bool, true, false, List, [], Option, Some, None, Result, Err, ℕ, drop, length, reverse, take, unwrap_or, if◌then◌else◌}
+use Rattle.std.specs.Str.{is_utf8}
+use Rattle.rt_stamps.specs.declared.fault.Fault.{Fault}
+use Rattle.rt_stamps.specs.declared.fault.Fault.TheVariants.{BadQuoting}
+use Rattle.rt_stamps.specs.declared.stamp.Stamp.{Stamp}
 use Rattle.rt_stamps.specs.Words.{Word}
 use Rattle.rt_ops.specs.File.{spelling}
 use Rattle.rt_oplog.specs.Logs.{known_end}
 use Rattle.rt_files.specs.Ends.{AreBySite, known_by}
 use Rattle.rt_changes.specs.declared.change.ToldChange.{ToldChange}
 use Rattle.rt_holding.specs.declared.receiving.Received.{Received}
-use Rattle.rt_peers.specs.Lacking.{since}
+use Rattle.rt_peers.specs.Cursors.{index_by, stamp_place_by, stamp_by}
+use Rattle.rt_peers.specs.Lacking.{past_known}
 use Rattle.rt_peers.specs.SiteStep.{SiteReceives, log_of}
 use Rattle.rt_peers.specs.SiteValue.{SiteValue, new_site}
 use Rattle.rt_script.specs.declared.answer.Answer.{Answer}
@@ -83,6 +88,19 @@ pub record ReceivesTelling (bytes : List ℕ) (old : LineSiteValue) (received : 
 abbrev pub AreEndsOf : SiteValue → List (ℕ × ℕ) → Type 0
 AreEndsOf state ends = AreBySite ends × ((site : ℕ) → known_by ends site ≡ known_end (log_of state) site)
 
+-- The place of an index in what the widget of a path shows, or why it is refused, if both are texts; else it is refused as a line
+-- that is none.
+abbrev pub place_at_path : Word → Word → SiteValue → Result ℕ Fault
+place_at_path path index site = if is_utf8 path && is_utf8 index then index_by path index site else Err BadQuoting
+
+-- the stamp at a place by a path, which is that of a widget if it is a text
+abbrev pub stamp_of_path : Word → ℕ → SiteValue → Option Stamp
+stamp_of_path path place site = if is_utf8 path then stamp_by path place site else None
+
+-- the place of a stamp by a path
+abbrev pub place_of_path : Word → Stamp → SiteValue → Option ℕ
+place_of_path path stamp site = if is_utf8 path then stamp_place_by path stamp site else None
+
 -- the file of the operations of a site that are past some counts
 abbrev pub file_since : List (ℕ × ℕ) → LineSiteValue → List ℕ
-file_since ends kept = spelling (reverse (since (known_by ends) (log_of kept.site)))
+file_since ends kept = spelling (reverse (past_known (known_by ends) (log_of kept.site)))

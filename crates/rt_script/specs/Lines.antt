@@ -30,13 +30,13 @@ abbrev pub rest_of : List ℕ → List ℕ
 rest_of bytes = (cut bytes).1
 
 -- what follows the last newline is a line too, if there is anything
-abbrev pub last_of : List ℕ → List (List ℕ)
-last_of [] = []
-last_of (c ∷ rest) = (c ∷ rest) ∷ []
+abbrev pub rest_line : List ℕ → List (List ℕ)
+rest_line [] = []
+rest_line (c ∷ rest) = (c ∷ rest) ∷ []
 
 -- the lines of a script
 abbrev pub lines_of : List ℕ → List (List ℕ)
-lines_of bytes = complete_of bytes ++ last_of (rest_of bytes)
+lines_of bytes = complete_of bytes ++ rest_line (rest_of bytes)
 
 -- a line that isn't too long and is a text
 abbrev pub is_readable : List ℕ → Bool
@@ -48,5 +48,5 @@ is_silent [] = true
 is_silent (c ∷ line) = (c == 35) || list_all is_blank (c ∷ line)
 
 -- the lines that are answered: those that can't be read too
-abbrev pub answered : List (List ℕ) → List (List ℕ)
-answered lines = filter (λ line. not (is_readable line && is_silent line)) lines
+abbrev pub answered_lines : List (List ℕ) → List (List ℕ)
+answered_lines lines = filter (λ line. not (is_readable line && is_silent line)) lines

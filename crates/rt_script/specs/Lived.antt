@@ -13,7 +13,7 @@ use Rattle.rt_script.specs.Site.{NamedFile, file_named}
 use Rattle.rt_script.specs.SiteRun.{Begins, RunsScript}
 
 -- A site of a number begins, perhaps with a log, and runs a script; it is left so.
-pub record IsRun (number : ℕ) (end : SiteValue) : Type 0 where
+pub record IsScriptRun (number : ℕ) (end : SiteValue) : Type 0 where
   pub log : Option (Bor (List ℕ))
   pub start : SiteValue
   pub begins : Begins number log (Ok start)
@@ -28,9 +28,9 @@ pub record IsRun (number : ℕ) (end : SiteValue) : Type 0 where
   pub is_end : outcome.site ≡ end
 
 -- an operation is of the log that a site begins with
-abbrev pub IsOfLog : Option (Bor (List ℕ)) → Operation → Type 0
-IsOfLog None op = ⊥
-IsOfLog (Some log) op = IsOfFile log.now op
+abbrev pub IsOfFirstLog : Option (Bor (List ℕ)) → Operation → Type 0
+IsOfFirstLog None op = ⊥
+IsOfFirstLog (Some log) op = IsOfFile log.now op
 
 -- it is of a file that a line of a script may name
 abbrev pub IsOfNamed : List NamedFile → Operation → Type 0
@@ -40,9 +40,9 @@ IsOfNamed files op = (name : Word) × (bytes : List ℕ) × (file_named name fil
 -- lines may name.
 abbrev pub RunsLive : Type 0
 RunsLive =
-    (number : ℕ) (end : SiteValue) → 0 < number → (run : IsRun number end)
+    (number : ℕ) (end : SiteValue) → 0 < number → (run : IsScriptRun number end)
     → (came : List Operation) × Lives number MOST_CELLS end came
-    × ((op : Operation) → Has came op → (op.site ≡ number) ⊎ (IsOfLog run.log op ⊎ IsOfNamed run.files op))
+    × ((op : Operation) → Has came op → (op.site ≡ number) ⊎ (IsOfFirstLog run.log op ⊎ IsOfNamed run.files op))
 
 -- A site that goes on to run a script lives on, however the run ends: to it came operations of its own number, and of files that the
 -- lines may name.

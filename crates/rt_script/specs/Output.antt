@@ -11,11 +11,11 @@ use Rattle.rt_peers.specs.SiteStep.{SiteReceives}
 use Rattle.rt_peers.specs.SiteValue.{SiteValue, new_site}
 use Rattle.rt_script.specs.declared.answer.Answer.{Answer}
 use Rattle.rt_script.specs.declared.answer.Answer.TheVariants as answers
-use Rattle.rt_script.specs.Lived.{IsRun}
-use Rattle.rt_script.specs.Lines.{answered, lines_of}
-use Rattle.rt_script.specs.Run.{LineGives, Runs}
+use Rattle.rt_script.specs.Lived.{IsScriptRun}
+use Rattle.rt_script.specs.Lines.{answered_lines, lines_of}
+use Rattle.rt_script.specs.Run.{LineGives, RunsLines}
 use Rattle.rt_script.specs.Site.{LineIsRefused, NamedFile, ReceiveGives, Session, SiteGives, WordsGive, file_named}
-use Rattle.rt_script.specs.SiteRun.{BeginsWith}
+use Rattle.rt_script.specs.SiteRun.{BeginsFrom}
 use Rattle.rt_stamps.specs.declared.limits.TheConstants.{MOST_CELLS}
 
 -- WHERE NO MEMORY WAS WANTING
@@ -51,7 +51,7 @@ LineFoundMemory old line answer new (inr (inl h)) = Unit {0}
 LineFoundMemory old line answer new (inr (inr h)) = ⊥
 
 -- lines, one after the other
-abbrev pub LinesFoundMemory : (old : Session) (lines : List (List ℕ)) (given : List Answer) (new : Session) → Runs SiteGives old lines given new → Type 0
+abbrev pub LinesFoundMemory : (old : Session) (lines : List (List ℕ)) (given : List Answer) (new : Session) → RunsLines SiteGives old lines given new → Type 0
 LinesFoundMemory old [] [] new h = Unit {0}
 LinesFoundMemory old [] (answer ∷ given) new h = Unit {0}
 LinesFoundMemory old (line ∷ lines) [] new h = Unit {0}
@@ -59,7 +59,7 @@ LinesFoundMemory old (line ∷ lines) (answer ∷ given) new h =
     LineFoundMemory old line answer h.0 h.1 × LinesFoundMemory h.0 lines given new h.2
 
 -- the log that a site begins with
-abbrev pub BeginFoundMemory : (number : ℕ) (log : Option (Bor (List ℕ))) (start : SiteValue) → BeginsWith number log start → Type 0
+abbrev pub BeginFoundMemory : (number : ℕ) (log : Option (Bor (List ℕ))) (start : SiteValue) → BeginsFrom number log start → Type 0
 BeginFoundMemory number None start h = Unit {0}
 BeginFoundMemory number (Some log) start h = ReceivingFoundMemory log.now (new_site number MOST_CELLS) h.0 start h.1
 
@@ -69,7 +69,7 @@ BeginFoundMemory number (Some log) start h = ReceivingFoundMemory log.now (new_s
 abbrev pub LinesGoOneWay : Type 0
 LinesGoOneWay =
     (lines : List (List ℕ)) (one two : List Answer) (old new left : Session)
-    (h : Runs SiteGives old lines one new) (k : Runs SiteGives old lines two left)
+    (h : RunsLines SiteGives old lines one new) (k : RunsLines SiteGives old lines two left)
     → LinesFoundMemory old lines one new h → LinesFoundMemory old lines two left k → (one ≡ two) × (new ≡ left)
 
 -- what a run is given: a log to begin with, if there is one, the files that its lines may name, and the bytes of its script
@@ -79,7 +79,7 @@ pub record Given : Type 0 where
   pub script : List ℕ
 
 -- A run was given so much, and ended with no fault; no memory was wanting for it, and it wrote these bytes.
-pub record IsWhole {number : ℕ} {end : SiteValue} (run : IsRun number end) (given : Given) (written : List ℕ) : Type 0 where
+pub record IsWholeRun {number : ℕ} {end : SiteValue} (run : IsScriptRun number end) (given : Given) (written : List ℕ) : Type 0 where
   pub log : option_map (λ bytes. bytes.now) run.log ≡ given.log
   pub files : run.files ≡ given.files
   pub script : run.script.bytes ≡ Some given.script
@@ -87,11 +87,11 @@ pub record IsWhole {number : ℕ} {end : SiteValue} (run : IsRun number end) (gi
   pub after : run.after.bytes ≡ Some written
   pub whole : run.outcome.fault ≡ None
   pub begins : BeginFoundMemory number run.log run.start run.begins
-  pub finds : LinesFoundMemory (record { site = run.start; files = run.files }) (answered (lines_of run.runs.0.read)) (run.runs.0.whole whole).2.answers
+  pub finds : LinesFoundMemory (record { site = run.start; files = run.files }) (answered_lines (lines_of run.runs.0.read)) (run.runs.0.whole whole).2.answers
       (record { site = run.outcome.site; files = run.files }) (run.runs.0.whole whole).2.runs
 
 -- Such runs write the same text, and leave the same site.
 abbrev pub RunsHaveOneOutput : Type 0
 RunsHaveOneOutput =
-    (number : ℕ) (given : Given) (end other : SiteValue) (run : IsRun number end) (again : IsRun number other) (written rewritten : List ℕ)
-    → IsWhole run given written → IsWhole again given rewritten → (written ≡ rewritten) × (end ≡ other)
+    (number : ℕ) (given : Given) (end other : SiteValue) (run : IsScriptRun number end) (again : IsScriptRun number other) (written rewritten : List ℕ)
+    → IsWholeRun run given written → IsWholeRun again given rewritten → (written ≡ rewritten) × (end ≡ other)

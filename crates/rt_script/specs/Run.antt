@@ -5,7 +5,7 @@ use Rattle.rt_stamps.specs.declared.limits.Bounds.{Bounds}
 use Rattle.rt_stamps.specs.declared.limits.TheConstants.{PIECE_BYTES}
 use Rattle.rt_stamps.specs.declared.fault.Fault.{Fault}
 use Rattle.rt_stamps.specs.declared.fault.Fault.TheVariants.{NoMemory, BadQuoting, ReadFault, WriteFault}
-use Rattle.rt_script.specs.Lines.{is_readable, answered, complete_of, lines_of}
+use Rattle.rt_script.specs.Lines.{is_readable, answered_lines, complete_of, lines_of}
 use Rattle.rt_stamps.specs.Streams.{Stream}
 use Rattle.rt_stamps.specs.Words.{Word}
 use Rattle.rt_words.specs.Spelling.{Spells, IsBadlyQuoted}
@@ -24,11 +24,11 @@ LineGives gives old line answer new =
     ⊎ ((is_readable line ≡ true) × (answer ≡ Refused NoMemory) × (new ≡ old))
 
 -- these answers come, one line after the other
-abbrev pub Runs : {S : Type 0} → (S → List Word → Answer → S → Type 0) → S → List (List ℕ) → List Answer → S → Type 0
-Runs {S} gives old [] [] new = new ≡ old
-Runs {S} gives old (line ∷ lines) (answer ∷ answers) new = (mid : S) × LineGives gives old line answer mid × Runs gives mid lines answers new
-Runs {S} gives old [] (answer ∷ answers) new = ⊥
-Runs {S} gives old (line ∷ lines) [] new = ⊥
+abbrev pub RunsLines : {S : Type 0} → (S → List Word → Answer → S → Type 0) → S → List (List ℕ) → List Answer → S → Type 0
+RunsLines {S} gives old [] [] new = new ≡ old
+RunsLines {S} gives old (line ∷ lines) (answer ∷ answers) new = (mid : S) × LineGives gives old line answer mid × RunsLines gives mid lines answers new
+RunsLines {S} gives old [] (answer ∷ answers) new = ⊥
+RunsLines {S} gives old (line ∷ lines) [] new = ⊥
 
 -- what stands before some lines, and after them: the state, and what the writer tells
 pub record Point (S : Type 0) : Type 0 where
@@ -42,7 +42,7 @@ point state out = record { state = state; out = out }
 -- these lines were run, and the line of each answer was written
 pub record Ran {S : Type 0} (gives : S → List Word → Answer → S → Type 0) (old new : Point S) (lines : List (List ℕ)) : Type 0 where
   pub answers : List Answer
-  pub runs : Runs gives old.state (answered lines) answers new.state
+  pub runs : RunsLines gives old.state (answered_lines lines) answers new.state
   pub wrote : Appends old.out.bytes new.out.bytes (flat_map reply_line answers)
 
 -- The lines before one of these were run, and the line of each answer was written.
@@ -82,7 +82,7 @@ pub record RanUnwritten {S : Type 0} (gives : S → List Word → Answer → S �
   pub split : lines ≡ run ++ more
   pub answers : List Answer
   pub last : Answer
-  pub runs : Runs gives old.state (answered run) (answers ++ last ∷ []) new.state
+  pub runs : RunsLines gives old.state (answered_lines run) (answers ++ last ∷ []) new.state
   pub here : Option (List ℕ)
   pub wrote : Appends old.out.bytes here (flat_map reply_line answers)
   pub part : AppendsPart here new.out.bytes (reply_line last)

@@ -15,9 +15,9 @@ use Rattle.rt_holding.specs.declared.receiving.Received.{Received}
 use Rattle.rt_script.specs.declared.site_run.ScriptRun.{ScriptRun}
 
 -- A site begins as a new one, which has room for all cells there may be; or with all that it receives of a log.
-abbrev pub BeginsWith : ℕ → Option (Bor (List ℕ)) → SiteValue → Type 0
-BeginsWith site None state = state ≡ new_site site MOST_CELLS
-BeginsWith site (Some log) state =
+abbrev pub BeginsFrom : ℕ → Option (Bor (List ℕ)) → SiteValue → Type 0
+BeginsFrom site None state = state ≡ new_site site MOST_CELLS
+BeginsFrom site (Some log) state =
     (received : Received) × SiteReceives log.now (new_site site MOST_CELLS) received state × (received.fault ≡ None)
 
 -- a new site refuses a log by this fault
@@ -29,7 +29,7 @@ RefusesLog site (Some log) found =
 -- A site begins, or its log is refused, or there is no memory for a site.
 abbrev pub Begins : ℕ → Option (Bor (List ℕ)) → Result SiteValue (Fault × ℕ) → Type 0
 Begins site log result = MatchResult result
-    (BeginsWith site log)
+    (BeginsFrom site log)
     (λ found. RefusesLog site log found ⊎ (found ≡ (NoMemory, 0)))
 
 -- the file of a site's log, or want of memory

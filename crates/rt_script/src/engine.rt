@@ -1,7 +1,7 @@
 // Runs of scripts.
-ghost use Rattle.std.specs.Prelude.{◌≡◌, ℕ, ◌+◌, ◌<◌, ◌≤◌, ◌&&◌, ◌∷◌, ◌++◌, [], true, false, List, length, Some, IfOk, IsOkUnless, OnOk, IfSome, MatchOption};
+ghost use Rattle.std.specs.Prelude.{◌≡◌, ℕ, ◌+◌, ◌<◌, ◌≤◌, ◌&&◌, ◌∷◌, ◌++◌, [], true, false, List, length, Some, codes, IfOk, IsOkUnless, OnOk, IfSome, MatchOption};
 ghost use Rattle.std.specs.List.{list_all, prefix_len};
-ghost use Rattle.rt_script.specs.Lines.{cut, without_return, is_readable, is_silent, complete_of, rest_of, last_of, lines_of};
+ghost use Rattle.rt_script.specs.Lines.{cut, without_return, is_readable, is_silent, complete_of, rest_of, rest_line, lines_of};
 ghost use Rattle.rt_words.specs.Spelling.{is_blank};
 ghost use Rattle.rt_stamps.specs.Source.{failures_of};
 ghost use Rattle.rt_stamps.specs.Written.{WritesText};
@@ -137,8 +137,8 @@ fn answer_text<C: Commands>(alloc: Global, spare: &mut Spare, site: &mut C, text
 }
 
 /// What a line is answered, given without the newline at its end and a return before that, unless it is a silent one: an
-/// empty line, one of spaces and tabs alone, or one that begins with `#`; then the state stays. `spare` is memory of words that lines may share. A line that is too long or no UTF-8
-/// is refused with `BadQuoting`.
+/// empty line, one of spaces and tabs alone, or one that begins with `#`; then the state stays. `spare` is memory of words
+/// that lines may share. A line that is too long or no UTF-8 is refused with `BadQuoting`.
 pub fn answer_line<C: Commands>(
     alloc: Global,
     spare: &mut Spare,
@@ -196,6 +196,17 @@ pub fn answer_bytes(alloc: Global, answer: &Answer) -> Result<Vec<u8>, Fault>
     }
 }
 
+// Whether an answer is a reply without words, whose line is `=`.
+#[inline(always)]
+fn has_no_words(answer: &Answer) -> bool
+    ensures { result ≡ true → reply_line answer.now ≡ codes "=\n" }
+{
+    match answer {
+        Answer::Replied(reply) => reply.words.is_empty(),
+        _ => false,
+    }
+}
+
 // Writes the line of an answer, in one write where there is memory for it.
 fn write_answer<W: Sink>(
     alloc: Global,
@@ -205,6 +216,9 @@ fn write_answer<W: Sink>(
 ) -> Result<(), Fault>
     ensures { WritesText (W.stream out.old) (W.stream out.new) result (reply_line answer.now) }
 {
+    if has_no_words(answer) {
+        return write_all(out, b"=\n");
+    }
     let empty = memory.answer(alloc);
     match rendered::<Brand, Brand>(empty, answer, Blank::new(1), Blank::new(1)) {
         Some(line) => {
@@ -318,7 +332,7 @@ fn finish<C: Commands, W: Sink>(
 ) -> Result<(), Fault>
     ensures ran { (rest : List ℕ) → pending.now ≡ kept rest
         → RanLines C.gives (point (C.state site.old) (W.stream out.old)) (point (C.state site.new) (W.stream out.new))
-        (last_of rest) (last_of rest) result }
+        (rest_line rest) (rest_line rest) result }
     ensures fault { IsOkUnless result Fault.WriteFault }
 {
     if pending.is_empty() {

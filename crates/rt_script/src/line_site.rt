@@ -1,14 +1,15 @@
 // A site that is asked by lines, one at a time, for whoever reads their replies and changes later.
-ghost use Rattle.std.specs.Prelude.{◌≡◌, ◌⊎◌, ◌≤◌, ℕ, [], IfErr, IfOk, IsOkUnless, List, MatchOption, MatchResult, None, Some};
+ghost use Rattle.std.specs.Prelude.{◌≡◌, ◌⊎◌, ◌≤◌, ℕ, [], IfErr, IfOk, IsOkUnless, List, MatchOption, MatchResult, None, Ok, Some};
 ghost use Rattle.std.specs.Prelude.{false, length, option_map, pos, slice_get, true};
 ghost use Rattle.rt_stamps.specs.declared.limits.TheConstants.{MOST_BYTES};
 ghost use Rattle.rt_stamps.specs.declared.fault.Fault.TheVariants.{NoMemory, Truncated};
+ghost use Rattle.rt_stamps.specs.Outcomes.{Refuses};
 ghost use Rattle.rt_files.specs.Ends.{SpellEnds, SpellNoEnds, ends_bytes};
 ghost use Rattle.rt_changes.specs.declared.change.ToldChange.{ToldChange};
 ghost use Rattle.rt_script.specs.Changes.{change_lines};
 ghost use Rattle.rt_script.specs.Replies.{reply_line};
 ghost use Rattle.rt_script.specs.LineSite.{AreEndsOf, ReceivesTelling, RunsLine, bytes_of, file_since, in_front, is_ready, known_changes};
-ghost use Rattle.rt_script.specs.LineSite.{saying, untold};
+ghost use Rattle.rt_script.specs.LineSite.{place_at_path, place_of_path, saying, stamp_of_path, untold};
 
 use crate::answer::Answer;
 use crate::changes::change_bytes;
@@ -17,10 +18,11 @@ use crate::engine::{answer_bytes, answer_line};
 use crate::telling::words_tell;
 use rt_files::{bytes_of_ends, ends_of_bytes};
 use rt_peers::{Received, ReceivedChanges, SiteState, ToldAnswer, ToldChange};
-use rt_stamps::Fault;
+use rt_stamps::{Fault, Stamp};
 use rt_words::Spare;
 use std::alloc::Global;
 use std::marker::Model;
+use std::str;
 
 /// What was said: bytes, or the line of an answer for which there was no memory yet.
 #[derive(Drop)]
@@ -99,6 +101,43 @@ impl LineSite {
         ensures { result.now ≡ self.now.site }
     {
         &self.site
+    }
+
+    /// The place of an index in what the widget of a path shows, as `SiteState::place_of_index` has it. The faults are those of that;
+    /// `BadQuoting` where the path or the index is no UTF-8.
+    pub fn place_of_index(&self, path: &[u8], index: &[u8]) -> Result<usize, Fault>
+        ensures ok { IfOk result (λ place. place_at_path path.now index.now self.now.site ≡ Ok place) }
+        ensures err { IfErr result (Refuses (place_at_path path.now index.now self.now.site)) }
+    {
+        match str::from_utf8(path) {
+            Ok(path) => match str::from_utf8(index) {
+                Ok(index) => self.site.place_of_index(path, index),
+                Err(_) => Err(Fault::BadQuoting),
+            },
+            Err(_) => Err(Fault::BadQuoting),
+        }
+    }
+
+    /// The stamp of the character at a place of what the widget of a path shows, as `SiteState::stamp_at` has it. None where
+    /// the path is no UTF-8. It takes no memory.
+    pub fn stamp_at(&self, path: &[u8], place: usize) -> Option<Stamp>
+        ensures { result ≡ stamp_of_path path.now place self.now.site }
+    {
+        match str::from_utf8(path) {
+            Ok(path) => self.site.stamp_at(path, place),
+            Err(_) => None,
+        }
+    }
+
+    /// The place of the character of a stamp in what the widget of a path shows, as `SiteState::place_of` has it. None where
+    /// the path is no UTF-8. It takes no memory.
+    pub fn place_of(&self, path: &[u8], stamp: Stamp) -> Option<usize>
+        ensures { result ≡ place_of_path path.now stamp self.now.site }
+    {
+        match str::from_utf8(path) {
+            Ok(path) => self.site.place_of(path, stamp),
+            Err(_) => None,
+        }
     }
 
     // Tells no more what was changed.

@@ -7,7 +7,7 @@ use Rattle.std.proofs.lemmas.List.{append-nil}
 use Rattle.std.proofs.lemmas.List.Elements.{All-append, All-nil, All-weaker, filter_passes}
 use Rattle.rt_tagcmd.specs.declared.stretch.Stretch.{Stretch}
 use Rattle.rt_tagcmd.specs.Dumping.{dumped, elements_between, stop_of}
-use Rattle.rt_tagcmd.specs.Elements.{Placed, answered, by_place, places_between, stands_at, text_values}
+use Rattle.rt_tagcmd.specs.Elements.{Placed, answered, by_place, places_between, is_at_place, text_values}
 use Rattle.rt_tagcmd.specs.Stretches.{AreGathered, IsSortOf, within}
 use Rattle.rt_tagcmd.proofs.Gathering.{IsInside, gathered, sorted, with_more}
 use Rattle.rt_tagcmd.proofs.Placing.{at_is}
@@ -52,8 +52,8 @@ texts_dumped n from to text others xs ys texts zs e o t p =
 low_in : (n k from : ℕ) (all : List Placed) → k ≤ n + 1 - from → All (λ e. e.place ≤ n) (by_place (range_with_len from k) all)
 low_in n zero from all h = All-nil (λ e. e.place ≤ n)
 low_in n (suc k) from all h =
-    All-append (λ e. e.place ≤ n) (filter (stands_at from) all) (by_place (range_with_len (from + 1) k) all)
-    (All-weaker (λ e. stands_at from e ≡ true) (λ e. e.place ≤ n) (λ e t. low e.place (at_is e.place from t)) (filter (stands_at from) all) (filter_passes (stands_at from) all))
+    All-append (λ e. e.place ≤ n) (filter (is_at_place from) all) (by_place (range_with_len (from + 1) k) all)
+    (All-weaker (λ e. is_at_place from e ≡ true) (λ e. e.place ≤ n) (λ e t. low e.place (at_is e.place from t)) (filter (is_at_place from) all) (filter_passes (is_at_place from) all))
     (low_in n k (from + 1) all (omega arith))
   where
     low : (p : ℕ) → p ≡ from → p ≤ n

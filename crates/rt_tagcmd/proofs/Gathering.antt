@@ -4,8 +4,8 @@ use Rattle.std.specs.List.{All, range_with_len}
 use Rattle.std.proofs.lemmas.List.Elements.{All-append, All-weaker, filter-append, filter_passes}
 use Rattle.std.proofs.lemmas.List.Sorted.{All-permutation}
 use Rattle.rt_tagcmd.specs.declared.stretch.Stretch.{Stretch}
-use Rattle.rt_tagcmd.specs.Elements.{Placed, by_place, stands_at}
-use Rattle.rt_tagcmd.specs.Stretches.{AreGathered, IsSortOf, is_in, within}
+use Rattle.rt_tagcmd.specs.Elements.{Placed, by_place, is_at_place}
+use Rattle.rt_tagcmd.specs.Stretches.{AreGathered, IsSortOf, is_in_stretch, within}
 use Rattle.rt_tagcmd.proofs.Bools.{between, is_between, split}
 use Rattle.rt_tagcmd.proofs.Placing.{at_is, elsewhere, same_places, spread}
 
@@ -14,26 +14,26 @@ IsInside s e = (s.from ≤ e.place) × (e.place < s.behind)
 
 -- WHAT STANDS AT A PLACE OF THE STRETCH
 
-kept : (s : Stretch) (e : Placed) (es : List Placed) → is_in s e.place ≡ true → within s (e ∷ es) ≡ e ∷ within s es
+kept : (s : Stretch) (e : Placed) (es : List Placed) → is_in_stretch s e.place ≡ true → within s (e ∷ es) ≡ e ∷ within s es
 kept s e es t = ap (λ b. cond b (e ∷ within s es) (within s es)) t
 
-left : (s : Stretch) (e : Placed) (es : List Placed) → is_in s e.place ≡ false → within s (e ∷ es) ≡ within s es
+left : (s : Stretch) (e : Placed) (es : List Placed) → is_in_stretch s e.place ≡ false → within s (e ∷ es) ≡ within s es
 left s e es f = ap (λ b. cond b (e ∷ within s es) (within s es)) f
 
 clash : (b : Bool) → b ≡ true → b ≡ false → ⊥
 clash true h k = cc
 clash false h k = cc
 
-same_within : (s : Stretch) (p : ℕ) (es : List Placed) → is_in s p ≡ true → filter (stands_at p) (within s es) ≡ filter (stands_at p) es
+same_within : (s : Stretch) (p : ℕ) (es : List Placed) → is_in_stretch s p ≡ true → filter (is_at_place p) (within s es) ≡ filter (is_at_place p) es
 same_within s p [] h = refl
 same_within s p (e ∷ es) h =
     let more = same_within s p es h in
-    split (is_in s e.place)
-    (λ t. ap (filter (stands_at p)) (kept s e es t)
-    ∙ ap (λ v. cond (stands_at p e) (e ∷ v) v) more)
-    (λ f. ap (filter (stands_at p)) (left s e es f) ∙ more
-    ∙ split (stands_at p e)
-    (λ t. absurd (clash (is_in s e.place) (ap (is_in s) (at_is e.place p t) ∙ h) f))
+    split (is_in_stretch s e.place)
+    (λ t. ap (filter (is_at_place p)) (kept s e es t)
+    ∙ ap (λ v. cond (is_at_place p e) (e ∷ v) v) more)
+    (λ f. ap (filter (is_at_place p)) (left s e es f) ∙ more
+    ∙ split (is_at_place p e)
+    (λ t. absurd (clash (is_in_stretch s e.place) (ap (is_in_stretch s) (at_is e.place p t) ∙ h) f))
     (λ g. sym (elsewhere p e es g)))
 
 -- GATHERED
@@ -41,9 +41,9 @@ same_within s p (e ∷ es) h =
 -- elements of the stretch, put in order
 pub sorted : (s : Stretch) (all xs ys : List Placed) → xs ≡ within s all → IsSortOf xs ys → AreGathered s all ys
 sorted s all xs ys e o = record {
-  inside = All-permutation (IsInside s) xs ys o.permuted (subst (All (IsInside s)) (sym e) (All-weaker (λ x. is_in s x.place ≡ true) (IsInside s) (λ x t. between s.from s.behind x.place t) (within s all) (filter_passes (λ x. is_in s x.place) all)));
+  inside = All-permutation (IsInside s) xs ys o.permuted (subst (All (IsInside s)) (sym e) (All-weaker (λ x. is_in_stretch s x.place ≡ true) (IsInside s) (λ x t. between s.from s.behind x.place t) (within s all) (filter_passes (λ x. is_in_stretch s x.place) all)));
   rise = o.rise;
-  same = λ place l h. o.same place ∙ ap (filter (stands_at place)) e ∙ same_within s place all (is_between s.from s.behind place l h);
+  same = λ place l h. o.same place ∙ ap (filter (is_at_place place)) e ∙ same_within s place all (is_between s.from s.behind place l h);
 }
 
 -- and more elements of the stretch, put in order with them
@@ -51,7 +51,7 @@ pub with_more : (s : Stretch) (all xs more ys : List Placed) → AreGathered s a
 with_more s all xs more ys g i o = record {
   inside = All-permutation (IsInside s) (xs ++ more) ys o.permuted (All-append (IsInside s) xs more g.inside i);
   rise = o.rise;
-  same = λ place l h. o.same place ∙ filter-append (stands_at place) xs more ∙ ap (λ v. v ++ filter (stands_at place) more) (g.same place l h) ∙ sym (filter-append (stands_at place) all more);
+  same = λ place l h. o.same place ∙ filter-append (is_at_place place) xs more ∙ ap (λ v. v ++ filter (is_at_place place) more) (g.same place l h) ∙ sym (filter-append (is_at_place place) all more);
 }
 
 -- they are the elements of the stretch place by place

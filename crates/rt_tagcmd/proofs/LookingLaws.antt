@@ -19,7 +19,7 @@ use Rattle.rt_stamps.specs.Outcomes.{unless, Refuses}
 use Rattle.rt_stamps.specs.Words.{Word}
 use Rattle.rt_text.specs.Widgets.{ViewValue, mark_of, marks_of, widget_of}
 use Rattle.rt_tagcmd.specs.Looking.{edge, mark_or, looked_from}
-use Rattle.rt_tagcmd.specs.MarkCommands.{name_of, names_mark, mark_next, mark_previous}
+use Rattle.rt_tagcmd.specs.MarkCommands.{found_name, names_mark, mark_next, mark_previous}
 
 -- FROM AN EDGE
 
@@ -115,21 +115,21 @@ first_test : (a b : Bool) → (a && b) ≡ true → a ≡ true
 first_test true b h = refl
 first_test false b h = h
 
-pub next_found : (view : ViewValue) (word : Word) → ((name : List ℕ) → named name (marks_of view) ≡ mark_of view name) → AllByRecursion (λ m. IsName m.name) (marks_of view) → mark_next view word ≡ found_from (λ m. name_of (find (comes_before m) (marks_of view))) (looked_from view word)
+pub next_found : (view : ViewValue) (word : Word) → ((name : List ℕ) → named name (marks_of view) ≡ mark_of view name) → AllByRecursion (λ m. IsName m.name) (marks_of view) → mark_next view word ≡ found_from (λ m. found_name (find (comes_before m) (marks_of view))) (looked_from view word)
 next_found view word among names =
     let marks = marks_of view in
-    either_way (names_mark view word) (mark_of view word) (index_of (widget_of view) word) (name_of (mark_after word marks)) (λ p. name_of (first_mark_at p marks)) (λ m. name_of (find (comes_before m) marks))
+    either_way (names_mark view word) (mark_of view word) (index_of (widget_of view) word) (found_name (mark_after word marks)) (λ p. found_name (first_mark_at p marks)) (λ m. found_name (find (comes_before m) marks))
     (λ t. first_test _ _ t)
-    (λ x e. ap (λ o. name_of (option_and_then (λ m. find (comes_before m) marks) o)) (among word ∙ e))
-    (λ p. ap name_of (first_from_edge p marks names))
+    (λ x e. ap (λ o. found_name (option_and_then (λ m. find (comes_before m) marks) o)) (among word ∙ e))
+    (λ p. ap found_name (first_from_edge p marks names))
 
-pub previous_found : (view : ViewValue) (word : Word) → ((name : List ℕ) → named name (marks_of view) ≡ mark_of view name) → AllByRecursion (λ m. IsName m.name) (marks_of view) → mark_previous view word ≡ found_from (λ m. name_of (find_last (λ x. comes_before x m) (marks_of view))) (looked_from view word)
+pub previous_found : (view : ViewValue) (word : Word) → ((name : List ℕ) → named name (marks_of view) ≡ mark_of view name) → AllByRecursion (λ m. IsName m.name) (marks_of view) → mark_previous view word ≡ found_from (λ m. found_name (find_last (λ x. comes_before x m) (marks_of view))) (looked_from view word)
 previous_found view word among names =
     let marks = marks_of view in
-    either_way (names_mark view word) (mark_of view word) (index_of (widget_of view) word) (name_of (mark_before word marks)) (λ p. name_of (last_mark_before p marks)) (λ m. name_of (find_last (λ x. comes_before x m) marks))
+    either_way (names_mark view word) (mark_of view word) (index_of (widget_of view) word) (found_name (mark_before word marks)) (λ p. found_name (last_mark_before p marks)) (λ m. found_name (find_last (λ x. comes_before x m) marks))
     (λ t. first_test _ _ t)
-    (λ x e. ap (λ o. name_of (option_and_then (λ m. find_last (λ x. comes_before x m) marks) o)) (among word ∙ e))
-    (λ p. ap name_of (last_from_edge p marks))
+    (λ x e. ap (λ o. found_name (option_and_then (λ m. find_last (λ x. comes_before x m) marks) o)) (among word ∙ e))
+    (λ p. ap found_name (last_from_edge p marks))
 
 -- a refusal of the look is the command's
 pub refused_from : (outcome : Result (Option Word) Fault) (looked : Result Mark Fault) (find_from : Mark → Option Word) (fault found : Fault) → outcome ≡ found_from find_from looked → Refuses looked found → fault ≡ found → Refuses outcome fault

@@ -8,7 +8,7 @@ use Rattle.std.proofs.lemmas.Bool.Decides.{nat_tests}
 use Rattle.std.proofs.lemmas.List.Elements.{All-head, All-tail, filter_agree}
 use Rattle.std.proofs.lemmas.List.Sorted.{IsNonDecreasingBy-drop}
 use Rattle.rt_tagcmd.specs.declared.element.Key.TheVariants.{Text}
-use Rattle.rt_tagcmd.specs.Elements.{Placed, by_place, placed, stands_at}
+use Rattle.rt_tagcmd.specs.Elements.{Placed, by_place, placed, is_at_place}
 use Rattle.rt_tagcmd.proofs.Bools.{split}
 
 -- AT ONE PLACE
@@ -26,13 +26,13 @@ pub at_isnt : (p q : ℕ) → (p == q) ≡ false → p ≡ q → ⊥
 at_isnt p q e = grind (arith, nat_tests)
 
 -- an element that stands elsewhere isn't among those of a place
-pub elsewhere : (p : ℕ) (e : Placed) (es : List Placed) → stands_at p e ≡ false → filter (stands_at p) (e ∷ es) ≡ filter (stands_at p) es
-elsewhere p e es f = ap (λ b. cond b (e ∷ filter (stands_at p) es) (filter (stands_at p) es)) f
+pub elsewhere : (p : ℕ) (e : Placed) (es : List Placed) → is_at_place p e ≡ false → filter (is_at_place p) (e ∷ es) ≡ filter (is_at_place p) es
+elsewhere p e es f = ap (λ b. cond b (e ∷ filter (is_at_place p) es) (filter (is_at_place p) es)) f
 
-pub here : (p : ℕ) (e : Placed) (es : List Placed) → stands_at p e ≡ true → filter (stands_at p) (e ∷ es) ≡ e ∷ filter (stands_at p) es
-here p e es t = ap (λ b. cond b (e ∷ filter (stands_at p) es) (filter (stands_at p) es)) t
+pub here : (p : ℕ) (e : Placed) (es : List Placed) → is_at_place p e ≡ true → filter (is_at_place p) (e ∷ es) ≡ e ∷ filter (is_at_place p) es
+here p e es t = ap (λ b. cond b (e ∷ filter (is_at_place p) es) (filter (is_at_place p) es)) t
 
-none_at : (p : ℕ) (es : List Placed) → All (λ e. p < e.place) es → filter (stands_at p) es ≡ []
+none_at : (p : ℕ) (es : List Placed) → All (λ e. p < e.place) es → filter (is_at_place p) es ≡ []
 none_at p [] h = refl
 none_at p (e ∷ es) h =
     let far : p < e.place = All-head (λ e. p < e.place) e es h in
@@ -41,10 +41,10 @@ none_at p (e ∷ es) h =
 -- OVER A RANGE OF PLACES
 
 -- lists that have the same at each place of a range
-pub same_places : (n a : ℕ) (xs ys : List Placed) → ((p : ℕ) → a ≤ p → p < a + n → filter (stands_at p) xs ≡ filter (stands_at p) ys) → by_place (range_with_len a n) xs ≡ by_place (range_with_len a n) ys
+pub same_places : (n a : ℕ) (xs ys : List Placed) → ((p : ℕ) → a ≤ p → p < a + n → filter (is_at_place p) xs ≡ filter (is_at_place p) ys) → by_place (range_with_len a n) xs ≡ by_place (range_with_len a n) ys
 same_places zero a xs ys h = refl
 same_places (suc n) a xs ys h =
-    let first : filter (stands_at a) xs ≡ filter (stands_at a) ys = h a (omega arith) (omega arith) in
+    let first : filter (is_at_place a) xs ≡ filter (is_at_place a) ys = h a (omega arith) (omega arith) in
     let rest = same_places n (a + 1) xs ys (λ p l k. h p (omega arith) (omega arith)) in
     λ i. first i ++ rest i
 
@@ -68,16 +68,16 @@ spread (suc n) from [] r l h = sym (nothing (range_with_len from (suc n)))
 spread (suc n) from (y ∷ ys) r l h =
     let low : from ≤ y.place = All-head (λ e. from ≤ e.place) y ys l in
     let rest = range_with_len (from + 1) n in
-    split (stands_at from y)
+    split (is_at_place from y)
     (λ t.
     let same : y.place ≡ from = at_is y.place from t in
-    let more : ys ≡ filter (stands_at from) ys ++ by_place rest ys =
+    let more : ys ≡ filter (is_at_place from) ys ++ by_place rest ys =
     spread (suc n) from ys (IsNonDecreasingBy-drop (λ e. e.place) 1 (y ∷ ys) r) (All-tail (λ e. from ≤ e.place) y ys l) (All-tail (λ e. e.place < from + suc n) y ys h) in
     let others : by_place rest (y ∷ ys) ≡ by_place rest ys = same_places n (from + 1) (y ∷ ys) ys (λ p a b. elsewhere p y ys (isnt_at y.place p (λ s. omega arith))) in
     ap (λ v. y ∷ v) more ∙ (λ i. sym (here from y ys t) i ++ sym others i))
     (λ f.
     let far : from < y.place = by_far (at_isnt y.place from f) low in
-    let none : filter (stands_at from) (y ∷ ys) ≡ [] = none_at from (y ∷ ys) (λ k d b. further far (head_least y ys r k d b)) in
+    let none : filter (is_at_place from) (y ∷ ys) ≡ [] = none_at from (y ∷ ys) (λ k d b. further far (head_least y ys r k d b)) in
     let more : y ∷ ys ≡ by_place rest (y ∷ ys) = spread n (from + 1) (y ∷ ys) r (λ k d b. next far (head_least y ys r k d b)) (λ k d b. within (h k d b)) in
     more ∙ ap (λ v. v ++ by_place rest (y ∷ ys)) (sym none))
   where
@@ -104,9 +104,9 @@ tie_is : (p q : ℕ) → (q == p) ≡ (not (nat_lt p q) && not (nat_lt q p))
 tie_is p q = grind (arith, nat_tests)
 
 -- it keeps what stands at each place
-pub same_at : (xs ys : List Placed) → IsStableByKey (λ e. e.place) nat_cmp xs ys → (p : ℕ) → filter (stands_at p) ys ≡ filter (stands_at p) xs
+pub same_at : (xs ys : List Placed) → IsStableByKey (λ e. e.place) nat_cmp xs ys → (p : ℕ) → filter (is_at_place p) ys ≡ filter (is_at_place p) xs
 same_at xs ys stable p =
     let test : Placed → Bool = λ e. ties (λ (x : Placed) (y : Placed). is_lt (nat_cmp x.place y.place)) (placed Text [] p) e in
-    let agree : (e : Placed) → stands_at p e ≡ test e =
+    let agree : (e : Placed) → is_at_place p e ≡ test e =
     λ e. tie_is p e.place ∙ (λ i. not (sym (lt_is (nat_lt p e.place) (p == e.place)) i) && not (sym (lt_is (nat_lt e.place p) (e.place == p)) i)) in
-    filter_agree (stands_at p) test agree ys ∙ stable (placed Text [] p) ∙ sym (filter_agree (stands_at p) test agree xs)
+    filter_agree (is_at_place p) test agree ys ∙ stable (placed Text [] p) ∙ sym (filter_agree (is_at_place p) test agree xs)

@@ -2,7 +2,7 @@
 use Rattle.std.proofs.Common.{◌≡◌, ℕ, List, [], ◌∷◌, ◌++◌, map, filter, flat_map, refl, sym, ap, ◌∙◌, Bool, cond}
 use Rattle.rt_tagcmd.specs.declared.stretch.Stretch.{Stretch}
 use Rattle.rt_tagcmd.specs.Elements.{Element, Placed, answered}
-use Rattle.rt_tagcmd.specs.Stretches.{is_in, within}
+use Rattle.rt_tagcmd.specs.Stretches.{is_in_stretch, within}
 use Rattle.rt_tagcmd.proofs.Bools.{split}
 use Rattle.rt_stamps.specs.declared.position.Position.{Position}
 use Rattle.rt_stamps.specs.Places.{position_at}
@@ -13,14 +13,14 @@ flat_over f g [] = refl
 flat_over f g (x ∷ xs) = ap (λ v. f (g x) ++ v) (flat_over f g xs)
 
 abbrev makes : (s : Stretch) {X : Type 0} (f : X → Placed) → X → Bool
-makes s f x = is_in s (f x).place
+makes s f x = is_in_stretch s (f x).place
 
 -- the elements of a stretch, made of what stands in it
-pub within_made : (s : Stretch) {X : Type 0} (f : X → Placed) (xs : List X) → map f (filter (λ x. is_in s (f x).place) xs) ≡ within s (map f xs)
+pub within_made : (s : Stretch) {X : Type 0} (f : X → Placed) (xs : List X) → map f (filter (λ x. is_in_stretch s (f x).place) xs) ≡ within s (map f xs)
 within_made s f [] = refl
 within_made s f (x ∷ xs) =
     let more = within_made s f xs in
-    split (is_in s (f x).place)
+    split (is_in_stretch s (f x).place)
     (λ t. ap (λ b. map f (cond b (x ∷ filter (makes s f) xs) (filter (makes s f) xs))) t ∙ ap (λ v. f x ∷ v) more ∙ sym (ap (λ b. cond b (f x ∷ within s (map f xs)) (within s (map f xs))) t))
     (λ t. ap (λ b. map f (cond b (x ∷ filter (makes s f) xs) (filter (makes s f) xs))) t ∙ more ∙ sym (ap (λ b. cond b (f x ∷ within s (map f xs)) (within s (map f xs))) t))
 

@@ -4,7 +4,7 @@ use Rattle.std.specs.Prelude.{◌==◌, Any, AllPairs, get_or}
 use Rattle.std.specs.List.{AllByRecursion}
 use Rattle.std.proofs.lemmas.Bool.{cases_eq, cases_lt, cases_order, eqb-true, eqb-false, le-leb, lt-leb, cond-true, cond-false}
 use Rattle.rt_plans.specs.declared.range.Range.{Range}
-use Rattle.rt_tagcmd.specs.TagRanges.{IsIn, with_place, ranges_from, first_range_from}
+use Rattle.rt_tagcmd.specs.TagRanges.{IsIn, with_place_before, ranges_from, first_range_from}
 use Rattle.rt_store.specs.Tagged.{Passes}
 
 -- a range is the first that a walk from a place meets
@@ -61,7 +61,7 @@ runs_joined P b r rs p h false e =
     let from = run.from in
     (one_place P b p (run.gap (b + 1) (omega arith) (omega arith)), (record { from = omega arith; gap = λ k l m q. run.gap k (omega arith) m q; not_empty = run.not_empty; all = run.all; behind = run.behind }, h.1))
 
-runs_with : (P : ℕ → Type 0) (b : ℕ) (rs : List Range) → P b → AreRuns P (b + 1) rs → AreRuns P b (with_place b rs)
+runs_with : (P : ℕ → Type 0) (b : ℕ) (rs : List Range) → P b → AreRuns P (b + 1) rs → AreRuns P b (with_place_before b rs)
 runs_with P b [] p h = (one_place P b p (h (b + 1) (omega arith)), λ k l q. h k (omega arith) q)
 runs_with P b (r ∷ rs) p h = runs_joined P b r rs p h (r.from == b + 1) refl
 
@@ -81,7 +81,7 @@ not_first test c cs e h = let bad : ⊥ = cc in bad
 reads_rest : {A : Type 0} (P : ℕ → Type 0) (b : ℕ) (test : A → Bool) (c : A) (cs : List A) → ReadsRuns P b test (c ∷ cs) → ReadsRuns P (b + 1) test cs
 reads_rest P b test c cs h = record { into = λ k j e p. h.into (suc k) j (omega arith) p; out = λ k j e p. h.out (suc k) j (omega arith) p }
 
-one_more : {A : Type 0} (P : ℕ → Type 0) (b : ℕ) (test : A → Bool) (c : A) (cs : List A) (rs : List Range) → ReadsRuns P b test (c ∷ cs) → AreRuns P (b + 1) rs → (t : Bool) → test c ≡ t → AreRuns P b (cond t (with_place b rs) rs)
+one_more : {A : Type 0} (P : ℕ → Type 0) (b : ℕ) (test : A → Bool) (c : A) (cs : List A) (rs : List Range) → ReadsRuns P b test (c ∷ cs) → AreRuns P (b + 1) rs → (t : Bool) → test c ≡ t → AreRuns P b (cond t (with_place_before b rs) rs)
 one_more P b test c cs rs h more true e = runs_with P b rs (h.out 0 b (omega arith) (ap (λ t. Some t) e)) more
 one_more P b test c cs rs h more false e = runs_clear P b rs (λ p. not_first test c cs e (h.into 0 b (omega arith) p)) more
 

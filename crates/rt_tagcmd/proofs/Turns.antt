@@ -5,9 +5,9 @@ use Rattle.std.proofs.lemmas.Bool.{cases_lt, eq-eqb, eqb-true, cond-true, cond-f
 use Rattle.std.proofs.lemmas.List.{append_assoc, drop-drop}
 use Rattle.rt_plans.specs.declared.range.Range.{Range}
 use Rattle.rt_store.specs.Tagged.{IsLeastFrom, Passes}
-use Rattle.rt_tagcmd.specs.TagRanges.{ranges_from, with_place}
+use Rattle.rt_tagcmd.specs.TagRanges.{ranges_from, with_place_before}
 use Rattle.rt_tagcmd.specs.declared.stretch.Stretch.{Stretch}
-use Rattle.rt_tagcmd.specs.Stretches.{RunsTo, is_in}
+use Rattle.rt_tagcmd.specs.Stretches.{RunsTo, is_in_stretch}
 use Rattle.rt_tagcmd.proofs.Bools.{between, split}
 
 -- a place before others, if it is one
@@ -44,7 +44,7 @@ Begins b [] = Unit {0}
 Begins b (r ∷ rs) = b ≤ r.from
 
 -- the first range with a place is from that place on
-first_with : (q : ℕ) (rs : List Range) → (to : ℕ) × (more : List Range) × (with_place q rs ≡ record { from = q; to = to } ∷ more)
+first_with : (q : ℕ) (rs : List Range) → (to : ℕ) × (more : List Range) × (with_place_before q rs ≡ record { from = q; to = to } ∷ more)
 first_with q [] = (q + 1, [], refl)
 first_with q (r ∷ rs) = by (r.from == q + 1)
   where
@@ -57,23 +57,23 @@ less : (b : ℕ) (rs : List Range) → Begins (b + 1) rs → Begins b rs
 less b [] h = tt
 less b (r ∷ rs) h = omega (arith, h)
 
-begin_with : (b : ℕ) (rs : List Range) → Begins b (with_place b rs)
+begin_with : (b : ℕ) (rs : List Range) → Begins b (with_place_before b rs)
 begin_with b rs = let f = first_with b rs in subst (Begins b) (sym f.2) (omega arith)
 
 begin_later : {A : Type 0} (test : A → Bool) (b : ℕ) (cs : List A) → Begins b (ranges_from test b cs)
 begin_later test b [] = tt
 begin_later test b (c ∷ cs) = by (test c) (begin_later test (b + 1) cs)
   where
-    by : (t : Bool) → Begins (b + 1) (ranges_from test (b + 1) cs) → Begins b (cond t (with_place b (ranges_from test (b + 1) cs)) (ranges_from test (b + 1) cs))
+    by : (t : Bool) → Begins (b + 1) (ranges_from test (b + 1) cs) → Begins b (cond t (with_place_before b (ranges_from test (b + 1) cs)) (ranges_from test (b + 1) cs))
     by true h = begin_with b (ranges_from test (b + 1) cs)
     by false h = less b (ranges_from test (b + 1) cs) h
 
 -- it joins the range right behind it
-joins : (p to : ℕ) (more : List Range) → with_place p (record { from = p + 1; to = to } ∷ more) ≡ record { from = p; to = to } ∷ more
+joins : (p to : ℕ) (more : List Range) → with_place_before p (record { from = p + 1; to = to } ∷ more) ≡ record { from = p; to = to } ∷ more
 joins p to more = cond-true (p + 1 == p + 1) (record { from = p; to = to } ∷ more) (record { from = p; to = p + 1 } ∷ record { from = p + 1; to = to } ∷ more) (eq-eqb (p + 1) (p + 1) refl)
 
 -- and is alone before others
-alone : (p : ℕ) (rs : List Range) → Begins (p + 1 + 1) rs → with_place p rs ≡ record { from = p; to = p + 1 } ∷ rs
+alone : (p : ℕ) (rs : List Range) → Begins (p + 1 + 1) rs → with_place_before p rs ≡ record { from = p; to = p + 1 } ∷ rs
 alone p [] h = refl
 alone p (r ∷ rs) h = split (r.from == p + 1)
     (λ t. let same = eqb-true r.from (p + 1) t in absurd (omega (arith, h)))
@@ -90,27 +90,27 @@ rest_of [] = []
 rest_of (x ∷ xs) = xs
 
 tos_with : {A : Type 0} (test : A → Bool) (p : ℕ) (cs : List A) → tos (ranges_from test (p + 1) cs) ≡ turns ended test false (p + 1) cs
-    → tos (with_place p (ranges_from test (p + 1) cs)) ≡ turns ended test true (p + 1) cs
+    → tos (with_place_before p (ranges_from test (p + 1) cs)) ≡ turns ended test true (p + 1) cs
 tos_with test p [] h = refl
 tos_with test p (d ∷ ds) h = by (test d) (ranges_from test (p + 1 + 1) ds) (begin_later test (p + 1 + 1) ds) h
   where
-    by : (t : Bool) (rs : List Range) → Begins (p + 1 + 1) rs → tos (cond t (with_place (p + 1) rs) rs) ≡ put (ended false t) (p + 1) (turns ended test t (p + 1 + 1) ds)
-        → tos (with_place p (cond t (with_place (p + 1) rs) rs)) ≡ put (ended true t) (p + 1) (turns ended test t (p + 1 + 1) ds)
+    by : (t : Bool) (rs : List Range) → Begins (p + 1 + 1) rs → tos (cond t (with_place_before (p + 1) rs) rs) ≡ put (ended false t) (p + 1) (turns ended test t (p + 1 + 1) ds)
+        → tos (with_place_before p (cond t (with_place_before (p + 1) rs) rs)) ≡ put (ended true t) (p + 1) (turns ended test t (p + 1 + 1) ds)
     by true rs b h =
         let f = first_with (p + 1) rs in
-        ap (λ v. tos (with_place p v)) f.2 ∙ ap tos (joins p f.0 f.1) ∙ ap tos (sym f.2) ∙ h
+        ap (λ v. tos (with_place_before p v)) f.2 ∙ ap tos (joins p f.0 f.1) ∙ ap tos (sym f.2) ∙ h
     by false rs b h = ap tos (alone p rs b) ∙ ap (λ v. (p + 1) ∷ v) h
 
 froms_with : {A : Type 0} (test : A → Bool) (p : ℕ) (cs : List A) → froms (ranges_from test (p + 1) cs) ≡ turns begun test false (p + 1) cs
-    → froms (with_place p (ranges_from test (p + 1) cs)) ≡ p ∷ turns begun test true (p + 1) cs
+    → froms (with_place_before p (ranges_from test (p + 1) cs)) ≡ p ∷ turns begun test true (p + 1) cs
 froms_with test p [] h = refl
 froms_with test p (d ∷ ds) h = by (test d) (ranges_from test (p + 1 + 1) ds) (begin_later test (p + 1 + 1) ds) h
   where
-    by : (t : Bool) (rs : List Range) → Begins (p + 1 + 1) rs → froms (cond t (with_place (p + 1) rs) rs) ≡ put (begun false t) (p + 1) (turns begun test t (p + 1 + 1) ds)
-        → froms (with_place p (cond t (with_place (p + 1) rs) rs)) ≡ p ∷ put (begun true t) (p + 1) (turns begun test t (p + 1 + 1) ds)
+    by : (t : Bool) (rs : List Range) → Begins (p + 1 + 1) rs → froms (cond t (with_place_before (p + 1) rs) rs) ≡ put (begun false t) (p + 1) (turns begun test t (p + 1 + 1) ds)
+        → froms (with_place_before p (cond t (with_place_before (p + 1) rs) rs)) ≡ p ∷ put (begun true t) (p + 1) (turns begun test t (p + 1 + 1) ds)
     by true rs b h =
         let f = first_with (p + 1) rs in
-        ap (λ v. froms (with_place p v)) f.2 ∙ ap froms (joins p f.0 f.1) ∙ ap (λ v. p ∷ rest_of v) (sym (ap froms f.2) ∙ h)
+        ap (λ v. froms (with_place_before p v)) f.2 ∙ ap froms (joins p f.0 f.1) ∙ ap (λ v. p ∷ rest_of v) (sym (ap froms f.2) ∙ h)
     by false rs b h = ap froms (alone p rs b) ∙ ap (λ v. p ∷ v) h
 
 -- ranges end where a test turns off
@@ -119,7 +119,7 @@ tos_are test p [] = refl
 tos_are test p (c ∷ cs) = by (test c) (tos_are test (p + 1) cs)
   where
     by : (t : Bool) → tos (ranges_from test (p + 1) cs) ≡ turns ended test false (p + 1) cs
-        → tos (cond t (with_place p (ranges_from test (p + 1) cs)) (ranges_from test (p + 1) cs)) ≡ put (ended false t) p (turns ended test t (p + 1) cs)
+        → tos (cond t (with_place_before p (ranges_from test (p + 1) cs)) (ranges_from test (p + 1) cs)) ≡ put (ended false t) p (turns ended test t (p + 1) cs)
     by true h = tos_with test p cs h
     by false h = h
 
@@ -129,7 +129,7 @@ froms_are test p [] = refl
 froms_are test p (c ∷ cs) = by (test c) (froms_are test (p + 1) cs)
   where
     by : (t : Bool) → froms (ranges_from test (p + 1) cs) ≡ turns begun test false (p + 1) cs
-        → froms (cond t (with_place p (ranges_from test (p + 1) cs)) (ranges_from test (p + 1) cs)) ≡ put (begun false t) p (turns begun test t (p + 1) cs)
+        → froms (cond t (with_place_before p (ranges_from test (p + 1) cs)) (ranges_from test (p + 1) cs)) ≡ put (begun false t) p (turns begun test t (p + 1) cs)
     by true h = froms_with test p cs h
     by false h = h
 
@@ -183,17 +183,17 @@ turned way test is was now p (c ∷ cs) e =
 -- THOSE OF A STRETCH
 
 abbrev pub kept : Stretch → List ℕ → List ℕ
-kept s ps = filter (is_in s) ps
+kept s ps = filter (is_in_stretch s) ps
 
-outside : (s : Stretch) (p : ℕ) → (s.from ≤ p → p < s.behind → ⊥) → is_in s p ≡ false
-outside s p n = split (is_in s p) (λ t. let h = between s.from s.behind p t in absurd (n h.0 h.1)) (λ f. f)
+outside : (s : Stretch) (p : ℕ) → (s.from ≤ p → p < s.behind → ⊥) → is_in_stretch s p ≡ false
+outside s p n = split (is_in_stretch s p) (λ t. let h = between s.from s.behind p t in absurd (n h.0 h.1)) (λ f. f)
 
-kept_out : (s : Stretch) (b : Bool) (p : ℕ) (rest : List ℕ) → is_in s p ≡ false → kept s (put b p rest) ≡ kept s rest
+kept_out : (s : Stretch) (b : Bool) (p : ℕ) (rest : List ℕ) → is_in_stretch s p ≡ false → kept s (put b p rest) ≡ kept s rest
 kept_out s true p rest f = ap (λ t. cond t (p ∷ kept s rest) (kept s rest)) f
 kept_out s false p rest f = refl
 
 kept_put : (s : Stretch) (b : Bool) (p : ℕ) (rest : List ℕ) → kept s (put b p rest) ≡ kept s (put b p []) ++ kept s rest
-kept_put s true p rest = by (is_in s p)
+kept_put s true p rest = by (is_in_stretch s p)
   where
     by : (t : Bool) → cond t (p ∷ kept s rest) (kept s rest) ≡ cond t (p ∷ []) [] ++ kept s rest
     by true = refl

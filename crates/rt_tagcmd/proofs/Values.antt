@@ -11,7 +11,7 @@ use Rattle.std.proofs.lemmas.Str.{encodes-append}
 use Rattle.std.proofs.lemmas.Map.Views.{any-filter_same}
 use Rattle.rt_tagcmd.specs.declared.element.Key.TheVariants.{Text}
 use Rattle.rt_tagcmd.specs.declared.stretch.Stretch.{Stretch}
-use Rattle.rt_tagcmd.specs.Elements.{Placed, ends_text, placed, stands_at, text_values, values_up_to}
+use Rattle.rt_tagcmd.specs.Elements.{Placed, ends_text, placed, is_at_place, text_values, values_up_to}
 use Rattle.rt_tagcmd.specs.Stretches.{AreGathered, EndsWhere}
 use Rattle.rt_tagcmd.proofs.Bools.{split}
 use Rattle.rt_tagcmd.proofs.Placing.{at_is, at_isnt, is_at, isnt_at}
@@ -74,7 +74,7 @@ values_step text others to start end b e =
 
     ends_there : (ends_text text others to end ≡ true) ⊎ (end ≡ to) → ends_text text others to end ≡ true
     ends_there (inl t) = t
-    ends_there (inr s) = ap (λ c. is_newline (get_or text (end - 1) 0) || list_any (stands_at end) others || c) (is_at end to s) ∙ or_true (is_newline (get_or text (end - 1) 0)) (list_any (stands_at end) others)
+    ends_there (inr s) = ap (λ c. is_newline (get_or text (end - 1) 0) || list_any (is_at_place end) others || c) (is_at end to s) ∙ or_true (is_newline (get_or text (end - 1) 0)) (list_any (is_at_place end) others)
 
 -- at the stretch's end none are left
 pub values_done : (text : List ℕ) (others : List Placed) (to start : ℕ) → to ≤ start → values_left text others to start ≡ []
@@ -85,8 +85,8 @@ values_done text others to start h =
 -- OTHER ELEMENTS
 
 -- what stands at a place decides whether one stands there
-any_at : (p : ℕ) (xs : List Placed) → list_any (stands_at p) (filter (stands_at p) xs) ≡ list_any (stands_at p) xs
-any_at p xs = any-filter_same (stands_at p) (stands_at p) true (λ k t. t) xs
+any_at : (p : ℕ) (xs : List Placed) → list_any (is_at_place p) (filter (is_at_place p) xs) ≡ list_any (is_at_place p) xs
+any_at p xs = any-filter_same (is_at_place p) (is_at_place p) true (λ k t. t) xs
 
 -- so the elements of the stretch cut its text as all do
 pub values_same : (s : Stretch) (text : List ℕ) (all others : List Placed) (from to : ℕ) → s.from ≤ from → to ≤ s.behind → AreGathered s all others → text_values text others from to ≡ text_values text all from to
@@ -105,13 +105,13 @@ values_same s text all others from to low high g =
 
     same : (k : ℕ) → from + 1 ≤ k → k < from + 1 + (to - from) → (b : Bool) → (k == to) ≡ b → ends_text text others to k ≡ ends_text text all to k
     same k l h true e =
-        ap (λ c. is_newline (get_or text (k - 1) 0) || list_any (stands_at k) others || c) e
-        ∙ either (is_newline (get_or text (k - 1) 0)) (list_any (stands_at k) others) (list_any (stands_at k) all)
-        ∙ sym (ap (λ c. is_newline (get_or text (k - 1) 0) || list_any (stands_at k) all || c) e)
+        ap (λ c. is_newline (get_or text (k - 1) 0) || list_any (is_at_place k) others || c) e
+        ∙ either (is_newline (get_or text (k - 1) 0)) (list_any (is_at_place k) others) (list_any (is_at_place k) all)
+        ∙ sym (ap (λ c. is_newline (get_or text (k - 1) 0) || list_any (is_at_place k) all || c) e)
     same k l h false e =
         let before : k < to = by_far (at_isnt k to e) l h in
-        let there : list_any (stands_at k) others ≡ list_any (stands_at k) all =
-        sym (any_at k others) ∙ ap (list_any (stands_at k)) (g.same k (omega arith) (omega arith)) ∙ any_at k all in
+        let there : list_any (is_at_place k) others ≡ list_any (is_at_place k) all =
+        sym (any_at k others) ∙ ap (list_any (is_at_place k)) (g.same k (omega arith) (omega arith)) ∙ any_at k all in
         ap (λ c. is_newline (get_or text (k - 1) 0) || c || k == to) there
 
 -- THEIR PLACES
@@ -167,10 +167,10 @@ char_of text from to k a b =
 
 -- ENDS
 
-none_stands : (p : ℕ) (es : List Placed) → All (λ e. e.place ≡ p → ⊥) es → list_any (stands_at p) es ≡ false
+none_stands : (p : ℕ) (es : List Placed) → All (λ e. e.place ≡ p → ⊥) es → list_any (is_at_place p) es ≡ false
 none_stands p [] h = refl
 none_stands p (e ∷ es) h =
-    ap (λ b. b || list_any (stands_at p) es) (isnt_at e.place p (All-head (λ e. e.place ≡ p → ⊥) e es h)) ∙ none_stands p es (All-tail (λ e. e.place ≡ p → ⊥) e es h)
+    ap (λ b. b || list_any (is_at_place p) es) (isnt_at e.place p (All-head (λ e. e.place ≡ p → ⊥) e es h)) ∙ none_stands p es (All-tail (λ e. e.place ≡ p → ⊥) e es h)
 
 -- the elements of a list part at an index: those before it stand up to a place, the others behind it
 abbrev pub Parts : ℕ → List Placed → ℕ → Type 0
@@ -183,7 +183,7 @@ get_or_any (x ∷ es) (suc i) d e l = get_or_any es i d e (omega arith)
 
 -- the next element is the first of the others
 pub next_stands : (place end i : ℕ) (other : Placed) (es : List Placed) → IsNonDecreasingBy (λ e. e.place) es → Parts place es i → i < length es → get_or es i other ≡ other → place < end
-    → EndsWhere (λ p. list_any (stands_at p) es) place (min other.place end) end
+    → EndsWhere (λ p. list_any (is_at_place p) es) place (min other.place end) end
 next_stands place end i other es rise parts l e b =
     let far : place < other.place = subst (λ (x : Placed). place < x.place) e (parts.1 i other (omega arith) l) in
     record {
@@ -193,11 +193,11 @@ next_stands place end i other es rise parts l e b =
       passes = ends (cases_lt end other.place);
     }
   where
-    stands : list_any (stands_at other.place) es ≡ true
-    stands = list_any_at (stands_at other.place) es i other l (ap (λ (x : Placed). x.place == other.place) e ∙ is_at other.place other.place refl)
+    stands : list_any (is_at_place other.place) es ≡ true
+    stands = list_any_at (is_at_place other.place) es i other l (ap (λ (x : Placed). x.place == other.place) e ∙ is_at other.place other.place refl)
 
-    ends : (end < other.place) ⊎ (other.place ≤ end) → (list_any (stands_at (min other.place end)) es ≡ true) ⊎ (min other.place end ≡ end)
-    ends (inr m) = let same : min other.place end ≡ other.place = omega arith in inl (ap (λ p. list_any (stands_at p) es) same ∙ stands)
+    ends : (end < other.place) ⊎ (other.place ≤ end) → (list_any (is_at_place (min other.place end)) es ≡ true) ⊎ (min other.place end ≡ end)
+    ends (inr m) = let same : min other.place end ≡ other.place = omega arith in inl (ap (λ p. list_any (is_at_place p) es) same ∙ stands)
     ends (inl m) = inr (omega arith)
 
     apart : (k j : ℕ) (d : Placed) → place < k → k < other.place → j < length es → (get_or es j d).place ≡ k → ⊥
@@ -211,7 +211,7 @@ next_stands place end i other es rise parts l e b =
             omega arith
 
 -- and there is none where no element stands behind the place
-pub no_next : (place end i : ℕ) (es : List Placed) → Parts place es i → length es ≤ i → place < end → EndsWhere (λ p. list_any (stands_at p) es) place end end
+pub no_next : (place end i : ℕ) (es : List Placed) → Parts place es i → length es ≤ i → place < end → EndsWhere (λ p. list_any (is_at_place p) es) place end end
 no_next place end i es parts l b = record {
   behind = b;
   within = omega arith;
@@ -224,7 +224,7 @@ no_next place end i es parts l b = record {
 
 -- a text value ends behind the next newline, or where the next element stands
 pub text_ends : (text chars : List ℕ) (es : List Placed) (from to start next len : ℕ) → text_between text from to ≡ chars → from ≤ start → start < to
-    → EndsWhere (λ p. list_any (stands_at p) es) start next to → EndsWhere (λ k. is_newline (get_or chars (k - 1) 0)) (start - from) len (next - from)
+    → EndsWhere (λ p. list_any (is_at_place p) es) start next to → EndsWhere (λ k. is_newline (get_or chars (k - 1) 0)) (start - from) len (next - from)
     → EndsWhere (ends_text text es to) start (from + len) to
 text_ends text chars es from to start next len e a b others line =
     let line_behind : start - from < len = line.behind in
@@ -241,7 +241,7 @@ text_ends text chars es from to start next len e a b others line =
     char_is : (k : ℕ) → from < k → k ≤ to → is_newline (get_or chars (k - from - 1) 0) ≡ is_newline (get_or text (k - 1) 0)
     char_is k m h = ap (λ c. is_newline (get_or c (k - from - 1) 0)) (sym e) ∙ ap is_newline (char_of text from to k m h)
 
-    none : (k : ℕ) → start < k → k < to → from < k → is_newline (get_or chars (k - from - 1) 0) ≡ false → list_any (stands_at k) es ≡ false → ends_text text es to k ≡ false
+    none : (k : ℕ) → start < k → k < to → from < k → is_newline (get_or chars (k - from - 1) 0) ≡ false → list_any (is_at_place k) es ≡ false → ends_text text es to k ≡ false
     none k m h l c o =
         let newline : is_newline (get_or text (k - 1) 0) ≡ false = sym (char_is k l (omega arith)) ∙ c in
         let last : (k == to) ≡ false = isnt_at k to (λ s. omega arith) in
@@ -254,7 +254,7 @@ text_ends text chars es from to start next len e a b others line =
     or_second true y = refl
     or_second false y = refl
 
-    at_next : (list_any (stands_at next) es ≡ true) ⊎ (next ≡ to) → from + len ≡ next → (ends_text text es to (from + len) ≡ true) ⊎ (from + len ≡ to)
+    at_next : (list_any (is_at_place next) es ≡ true) ⊎ (next ≡ to) → from + len ≡ next → (ends_text text es to (from + len) ≡ true) ⊎ (from + len ≡ to)
     at_next (inl t) s =
         inl (ap (λ p. ends_text text es to p) s ∙ ap (λ c. is_newline (get_or text (next - 1) 0) || c || next == to) t ∙ or_second (is_newline (get_or text (next - 1) 0)) (next == to))
     at_next (inr t) s = inr (s ∙ t)
@@ -266,7 +266,7 @@ text_ends text chars es from to start next len e a b others line =
     ends (inl t) m h =
         let newline : is_newline (get_or text (from + len - 1) 0) ≡ true =
         sym (char_is (from + len) m h) ∙ ap (λ k. is_newline (get_or chars (k - 1) 0)) back ∙ t in
-        inl (ap (λ c. c || list_any (stands_at (from + len)) es || from + len == to) newline)
+        inl (ap (λ c. c || list_any (is_at_place (from + len)) es || from + len == to) newline)
     ends (inr t) m h = at_next others.passes (next_is t others.behind)
 
 -- THEIR BYTES

@@ -34,15 +34,15 @@ key_word Mark = codes "mark"
 key_word Text = codes "text"
 
 -- an element stands at a place
-abbrev pub stands_at : ℕ → Placed → Bool
-stands_at place element = element.place == place
+abbrev pub is_at_place : ℕ → Placed → Bool
+is_at_place place element = element.place == place
 
 -- TEXT
 
 -- A text value ends just after a newline, before the next element of another kind that is asked for, or at the stretch's end,
 -- whichever comes first.
 abbrev pub ends_text : List ℕ → List Placed → ℕ → ℕ → Bool
-ends_text text others to place = is_newline (slice_index_or text (place - 1) 0) || list_any (stands_at place) others || place == to
+ends_text text others to place = is_newline (slice_index_or text (place - 1) 0) || list_any (is_at_place place) others || place == to
 
 -- the text values that end at some places: each begins where the one before it ends
 abbrev pub values_up_to : List ℕ → ℕ → List ℕ → List Placed
@@ -65,4 +65,4 @@ places_between end from to = range_with_len from ((if to == end then to + 1 else
 
 -- lists of elements, one behind the other, merged by place: at each place what stands there, in the lists' order
 abbrev pub by_place : List ℕ → List Placed → List Placed
-by_place places elements = flat_map (λ place. filter (stands_at place) elements) places
+by_place places elements = flat_map (λ place. filter (is_at_place place) elements) places

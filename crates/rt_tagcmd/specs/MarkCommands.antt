@@ -75,21 +75,21 @@ mark_names view = by_bytes (codes "insert" ∷ codes "current" ∷ map (λ m. m.
 abbrev pub names_mark : ViewValue → Word → Bool
 names_mark view word = is_some (mark_of view word) && not (is_some (fixed_of word))
 
-abbrev pub name_of : Option Mark → Option Word
-name_of m = option_map (λ m. m.name) m
+abbrev pub found_name : Option Mark → Option Word
+found_name m = option_map (λ m. m.name) m
 
 -- the name of the mark after the one that the word names, and else of the first one at or after the index
 abbrev pub mark_next : ViewValue → Word → Result (Option Word) Fault
 mark_next view word =
     let marks = marks_of view in
     let w = widget_of view in
-    if names_mark view word then Ok (name_of (mark_after word marks))
-    else unless (index_check w word) (name_of (first_mark_at (place_at_index w word) marks))
+    if names_mark view word then Ok (found_name (mark_after word marks))
+    else unless (index_check w word) (found_name (first_mark_at (place_at_index w word) marks))
 
 -- the name of the mark before the one that the word names, and else of the last one strictly before the index
 abbrev pub mark_previous : ViewValue → Word → Result (Option Word) Fault
 mark_previous view word =
     let marks = marks_of view in
     let w = widget_of view in
-    if names_mark view word then Ok (name_of (mark_before word marks))
-    else unless (index_check w word) (name_of (last_mark_before (place_at_index w word) marks))
+    if names_mark view word then Ok (found_name (mark_before word marks))
+    else unless (index_check w word) (found_name (last_mark_before (place_at_index w word) marks))

@@ -14,7 +14,7 @@ use Rattle.rt_stamps.specs.Names.{name_check}
 use Rattle.rt_text.specs.Commands.{clock_check, with_tag_in, with_tags_deleted}
 use Rattle.rt_text.specs.Index.{index_check, place_at_index}
 use Rattle.rt_text.specs.Ranges.{ranges_of}
-use Rattle.rt_text.specs.Widgets.{ViewValue, is_tagged, length_shown, shown_by, tags_on, text_shown, widget_of, with_tags}
+use Rattle.rt_text.specs.Widgets.{ViewValue, is_tagged, length_shown, cells_shown, tags_shown, text_shown, widget_of, with_tags}
 use Rattle.rt_tagcmd.specs.TagRanges.{passing_ranges, next_range, previous_range}
 
 -- CHECKS
@@ -72,13 +72,13 @@ tag_names view = view.doc.tags
 abbrev pub tag_names_at : ViewValue → Word → Result (List Word) Fault
 tag_names_at view index =
     let w = widget_of view in
-    unless (index_check w index) (option_map_or (tags_on view.own view.doc.tags) (slice_get (shown_by view) (place_at_index w index)) [])
+    unless (index_check w index) (option_map_or (tags_shown view.own view.doc.tags) (slice_get (cells_shown view) (place_at_index w index)) [])
 
 -- FINDING
 
 -- the ranges of characters that have a tag, in order
 abbrev pub tagged_ranges : ViewValue → Word → List Range
-tagged_ranges view name = passing_ranges (is_tagged view.own name) (shown_by view)
+tagged_ranges view name = passing_ranges (is_tagged view.own name) (cells_shown view)
 
 -- where ranges begin and end, in turn
 abbrev pub range_ends : ViewValue → List Range → List Position

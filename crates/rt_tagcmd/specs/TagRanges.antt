@@ -4,15 +4,15 @@ use Rattle.rt_store.specs.Tagged.{Passes}
 use Rattle.rt_plans.specs.declared.range.Range.{Range}
 
 -- one place before ranges that begin behind it: it joins the first where that begins right behind it, and is a range of its own elsewhere
-abbrev pub with_place : ℕ → List Range → List Range
-with_place place [] = record { from = place; to = place + 1 } ∷ []
-with_place place (range ∷ ranges) =
+abbrev pub with_place_before : ℕ → List Range → List Range
+with_place_before place [] = record { from = place; to = place + 1 } ∷ []
+with_place_before place (range ∷ ranges) =
     if range.from == place + 1 then record { from = place; to = range.to } ∷ ranges else record { from = place; to = place + 1 } ∷ range ∷ ranges
 
 -- the ranges of characters that pass a test, in order, where the first character stands at a place
 abbrev pub ranges_from : {A : Type 0} → (A → Bool) → ℕ → List A → List Range
 ranges_from test place [] = []
-ranges_from test place (c ∷ characters) = if test c then with_place place (ranges_from test (place + 1) characters) else ranges_from test (place + 1) characters
+ranges_from test place (c ∷ characters) = if test c then with_place_before place (ranges_from test (place + 1) characters) else ranges_from test (place + 1) characters
 
 -- the ranges of a text's characters that pass a test, in order
 abbrev pub passing_ranges : {A : Type 0} → (A → Bool) → List A → List Range

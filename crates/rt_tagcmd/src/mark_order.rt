@@ -3,7 +3,7 @@ ghost use Rattle.std.specs.Prelude.{◌≡◌, Ok, IfOk, IfErr, option_copied, o
 ghost use Rattle.rt_marks.specs.Seen.{spotted};
 ghost use Rattle.rt_stamps.specs.Outcomes.{Refuses};
 ghost use Rattle.rt_tagcmd.specs.Looking.{looked_from};
-ghost use Rattle.rt_tagcmd.specs.MarkCommands.{mark_next, mark_previous, name_of};
+ghost use Rattle.rt_tagcmd.specs.MarkCommands.{mark_next, mark_previous, found_name};
 ghost use Rattle.rt_text.specs.Widgets.{mark_of};
 
 use crate::nearest::{first_after, last_before};
@@ -45,7 +45,7 @@ fn look<'a, S: TextStore>(view: &ViewRef<'a, S>, word: &str) -> Result<Spot<'a>,
 
 /// The name of the mark at a spot, if there is one.
 fn name_of<'a>(mark: Option<Spot<'a>>) -> Option<&'a str>
-    ensures { option_copied result ≡ name_of (option_map spotted mark.entry) }
+    ensures { option_copied result ≡ found_name (option_map spotted mark.entry) }
 {
     Some(mark?.name)
 }

@@ -1,7 +1,7 @@
 // The stretch of a text that a dump shows.
 ghost use Rattle.std.specs.Prelude.{◌≡◌, ◌∷◌, [], ◌++◌, ◌↔◌, ◌≤◌, ◌<◌, IsOkUnless, IsTrue, OnOk, filter};
 ghost use Rattle.rt_tagcmd.specs.Elements.{placed};
-ghost use Rattle.rt_tagcmd.specs.Stretches.{is_in};
+ghost use Rattle.rt_tagcmd.specs.Stretches.{is_in_stretch};
 
 use crate::Key;
 use crate::placed::Placed;
@@ -18,7 +18,7 @@ pub(crate) struct Stretch {
 impl Stretch {
     /// Whether a place is in it.
     pub(crate) fn has(&self, place: usize) -> bool
-        ensures { result ≡ is_in self.now place }
+        ensures { result ≡ is_in_stretch self.now place }
     {
         self.from <= place && place < self.behind
     }
@@ -33,7 +33,7 @@ impl Stretch {
         place: usize,
     ) -> Result<(), Fault>
         ensures ok { OnOk result (elements.new.items
-            ≡ elements.old.items ++ filter (λ e. is_in self.now e.place) (placed key value.now place ∷ [])) }
+            ≡ elements.old.items ++ filter (λ e. is_in_stretch self.now e.place) (placed key value.now place ∷ [])) }
         ensures err { IsOkUnless result Fault.NoMemory }
     {
         if self.has(place) {

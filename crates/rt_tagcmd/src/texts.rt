@@ -2,7 +2,7 @@
 ghost use Rattle.std.specs.Prelude.{◌≡◌, ℕ, ◌+◌, ◌-◌, ◌<◌, ◌≤◌, List, IsOkUnless, IfOk, encode_utf8_all, false, length, slice_index_or, true};
 ghost use Rattle.std.specs.List.{list_any};
 ghost use Rattle.std.specs.List.Sorted.{IsNonDecreasingBy};
-ghost use Rattle.rt_tagcmd.specs.Elements.{ends_text, placed, stands_at, text_values};
+ghost use Rattle.rt_tagcmd.specs.Elements.{ends_text, placed, is_at_place, text_values};
 ghost use Rattle.rt_tagcmd.specs.Stretches.{EndsWhere};
 ghost use Rattle.rt_stamps.specs.Places.{is_newline};
 ghost use Rattle.rt_text.specs.Ranges.{text_between};
@@ -18,7 +18,7 @@ use std::alloc::Global;
 fn next_place(others: &[Placed], place: usize, end: usize) -> usize
     requires rise { IsNonDecreasingBy (λ e. e.place) others.now }
     requires before { place < end }
-    ensures { EndsWhere (λ p. list_any (stands_at p) others.now) place result end }
+    ensures { EndsWhere (λ p. list_any (is_at_place p) others.now) place result end }
 {
     let next = others.partition_point(|other| other.place() <= place);
     match others.get(next) {

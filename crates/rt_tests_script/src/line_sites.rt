@@ -51,3 +51,25 @@ fn sites_are_asked_by_lines(rt: HostRuntime) {
     runs(&rt, &mut other, b"# no line", 0, b"");
     same(&rt, other.file_since(b"x").err(), Some(Fault::Truncated));
 }
+
+// Paths and indices come as bytes. Those that are no text name no widget, and are no index.
+#[test]
+fn places_are_found_by_bytes(rt: HostRuntime) {
+    let alloc = rt.alloc();
+    let mut site = LineSite::new(alloc, new_site(&rt, alloc, 1, MOST_CELLS));
+    runs(&rt, &mut site, b".t insert 1.0 abc", 0, b"=\n");
+    same(&rt, site.place_of_index(b".t", b"end").ok(), Some(4));
+    let no_widget = site.place_of_index(b".x", b"end").err();
+    same(&rt, no_widget, Some(Fault::NoWidget));
+    let no_index = site.place_of_index(b".t", b"frob").err();
+    same(&rt, no_index, Some(Fault::BadIndex));
+    let no_path = site.place_of_index(b"\xFF", b"end").err();
+    same(&rt, no_path, Some(Fault::BadQuoting));
+    let no_text = site.place_of_index(b".t", b"\xFF").err();
+    same(&rt, no_text, Some(Fault::BadQuoting));
+    let stamp = site.stamp_at(b".t", 1).expect(&rt, "a stamp");
+    same(&rt, site.stamp_at(b"\xFF", 1), None);
+    runs(&rt, &mut site, b".t insert 1.0 xy", 0, b"=\n");
+    same(&rt, site.place_of(b".t", stamp), Some(3));
+    same(&rt, site.place_of(b"\xFF", stamp), None);
+}

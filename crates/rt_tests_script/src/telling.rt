@@ -5,7 +5,7 @@ use rt_samples::files::CUT;
 use rt_script::words::words;
 use rt_script::{SiteState, ToldChange};
 use rt_stamps::Fault;
-use rt_stamps::limits::{MOST_BYTES, MOST_CELLS};
+use rt_stamps::limits::{MOST_BYTES, MOST_CELLS, MOST_SPANS};
 use std::alloc::Global;
 use std::process::Abort;
 
@@ -218,16 +218,12 @@ fn tells_of_own(
     alloc: Global,
     sites: (&mut SiteState, &mut SiteState),
     row: &str,
-    is_known: bool,
 ) {
     let (site, other) = sites;
     let (line, wanted) = row.split_once(" -> ").expect(rt, row);
-    let own = told_by_itself(rt, alloc, site, line, None);
+    let own = told_by_itself(rt, alloc, site, line, None).expect(rt, line);
     let told = told_by_other(rt, alloc, site, other);
-    same(rt, own.is_some(), is_known);
-    if let Some(own) = own {
-        same(rt, own.as_str(), told.as_str());
-    }
+    same(rt, own.as_str(), told.as_str());
     if told.is_empty() {
         same(rt, "nothing", wanted);
     } else {
@@ -242,26 +238,71 @@ fn own_changes_are_told(rt: HostRuntime) {
     let mut second = new_site(&rt, alloc, 2, MOST_CELLS);
     for row in OWN.lines() {
         if !row.is_empty() {
-            tells_of_own(&rt, alloc, (&mut first, &mut second), row, true);
+            tells_of_own(&rt, alloc, (&mut first, &mut second), row);
         }
     }
 }
 
-// One tag more is a Tag of its own, which is told. Two parts of a text have two Tags of it: of these the site doesn't tell
-// what changes, the other one does.
+// A tag past those that an Insert lists is a Tag of its own: one for each part of a text, for each character that comes back,
+// and for the last newline that loses it.
 #[test]
 fn more_tags_than_an_insert_lists(rt: HostRuntime) {
     let alloc = rt.alloc();
     let mut first = new_site(&rt, alloc, 1, MOST_CELLS);
     let mut second = new_site(&rt, alloc, 2, MOST_CELLS);
+    let rows = format!(in alloc;
+        ".t configure -undo 1 -> nothing
+.t insert 1.0 x {{{LISTED} z}} -> put x {LISTED} at 0; on z 0 to 1;
+.t insert 1.0 v {{{LISTED} z}} w {{{LISTED} z zz}} -> put v {LISTED} at 0; on z 0 to 1; put w {LISTED} at 1; on z 1 to 2; on zz 1 to 2;
+.t delete 1.0 1.2 -> gone 0 to 2;
+.t edit undo -> put v {LISTED} at 0; on z 0 to 1; put w {LISTED} at 1; on z 1 to 2; on zz 1 to 2;
+.t tag add zz end-1c -> on zz 3 to 4;
+.t replace 1.1 end q {{{LISTED} zz}} -> gone 1 to 3; off zz 1 to 2; put q {LISTED} at 1; on zz 1 to 2;"
+    )
+    .expect(&rt, "memory");
+    for row in rows.lines() {
+        tells_of_own(&rt, alloc, (&mut first, &mut second), row);
+    }
+}
+
+// The newline at the end of what a widget shows is of another site, with a greater number: its Tag stands behind those of the
+// text that comes in.
+#[test]
+fn a_newline_of_another_site(rt: HostRuntime) {
+    let alloc = rt.alloc();
+    let mut first = new_site(&rt, alloc, 1, MOST_CELLS);
+    let mut second = new_site(&rt, alloc, 2, MOST_CELLS);
+    runs(&rt, alloc, &mut second, ".t insert 1.0 \"ab\\ncd\"");
+    runs(&rt, alloc, &mut second, ".t tag add z 1.0 end");
+    let _ = told_by_other(&rt, alloc, &second, &mut first);
+    runs(&rt, alloc, &mut first, ".t peer create .p -endline 2");
     let row = format!(in alloc;
-        ".t insert 1.0 x {{{LISTED} z}} -> put x {LISTED} at 0; on z 0 to 1;"
+        ".p replace 1.0 end q {{{LISTED} z}} r {{{LISTED} z}} -> gone 0 to 2; off z 0 to 1; put q {LISTED} at 0; on z 0 to 1; put r {LISTED} at 1; on z 1 to 2;"
     ).expect(&rt, "memory");
-    tells_of_own(&rt, alloc, (&mut first, &mut second), row.as_str(), true);
-    let row = format!(in alloc;
-        ".t insert 1.0 v {{{LISTED} z}} w {{{LISTED} z}} -> put v {LISTED} at 0; on z 0 to 1; put w {LISTED} at 1; on z 1 to 2;"
-    ).expect(&rt, "memory");
-    tells_of_own(&rt, alloc, (&mut first, &mut second), row.as_str(), false);
+    tells_of_own(&rt, alloc, (&mut first, &mut second), row.as_str());
+}
+
+// A line that a site runs, of which nothing is told.
+fn runs(rt: &impl Abort, alloc: Global, site: &mut SiteState, line: &str) {
+    let words = words(alloc, line).expect(rt, line);
+    let (path, rest) = words.split_first().expect(rt, line);
+    same(rt, site.command(path, rest).err(), None);
+}
+
+// A tag on more spans than one operation names is put on by two of them: of the last newline and all characters but one, and
+// of that one.
+#[test]
+fn more_spans_than_a_tag_names(rt: HostRuntime) {
+    let alloc = rt.alloc();
+    let mut first = new_site(&rt, alloc, 1, MOST_CELLS);
+    let mut second = new_site(&rt, alloc, 2, MOST_CELLS);
+    for _ in 0..MOST_SPANS {
+        runs(&rt, alloc, &mut first, ".t insert end xy");
+        runs(&rt, alloc, &mut first, ".t delete end-2c");
+    }
+    let _ = told_by_other(&rt, alloc, &first, &mut second);
+    let row = ".t tag add u 1.0 end -> on u 65536 to 65537; on u 0 to 65535; on u 65535 to 65536;";
+    tells_of_own(&rt, alloc, (&mut first, &mut second), row);
 }
 
 // Stops a test where a site tells something else of a line, which may be refused.

@@ -7,7 +7,7 @@ use Rattle.rt_stamps.specs.Words.{Word}
 use Rattle.rt_text.specs.Index.{index_check, place_at_index}
 use Rattle.rt_text.specs.Ranges.{ranges_of}
 use Rattle.rt_text.specs.Widgets.{ViewValue, widget_of}
-use Rattle.rt_text.specs.Commands.{clock_check, deleted, without_ranges}
+use Rattle.rt_text.specs.Commands.{clock_check, view_deleted, without_ranges}
 
 -- two facts of a result that is Ok
 pub both_ok : {T E A B C : Type 0} (r : Result T E) → (A → B → C) → OnOk r A → OnOk r B → OnOk r C
@@ -32,14 +32,14 @@ deletion view indices = without_ranges view (ranges_of (map (place_at_index (wid
 
 -- where the indices are some, the counts decide
 pub deleted_by : (view : ViewValue) (indices : List Word) → first_of (map (index_check (widget_of view)) indices) ≡ None
-    → deleted view indices ≡ unless (clock_check (deletion view indices).doc.count) (deletion view indices)
+    → view_deleted view indices ≡ unless (clock_check (deletion view indices).doc.count) (deletion view indices)
 deleted_by view indices h =
     let edited = deletion view indices in
     ap (λ f. unless f edited) (first_none (map (index_check (widget_of view)) indices) (clock_check edited.doc.count) h)
 
 -- a fault of the indices
 pub deleted_index : (view : ViewValue) (indices : List Word) (fault found : Fault)
-    → (found ≡ NoMemory) ⊎ (first_of (map (index_check (widget_of view)) indices) ≡ Some found) → fault ≡ found → Refuses (deleted view indices) fault
+    → (found ≡ NoMemory) ⊎ (first_of (map (index_check (widget_of view)) indices) ≡ Some found) → fault ≡ found → Refuses (view_deleted view indices) fault
 deleted_index view indices fault found (inl e) f = inl (f ∙ e)
 deleted_index view indices fault found (inr e) f =
     let edited = deletion view indices in

@@ -16,7 +16,7 @@ use Rattle.rt_plans.specs.InsertionDrafts.{insertion_drafts}
 use Rattle.rt_plans.specs.Insertions.{Piece, insertion_of, left_neighbour}
 use Rattle.rt_text.specs.Accepted.{own_with_new, view_with_new}
 use Rattle.rt_text.specs.Commands.{last_unselected, none_inserted, right_behind, with_pieces_at, with_range_replaced, without_ranges}
-use Rattle.rt_text.specs.Widgets.{WidgetValue, ViewValue, begin_of, in_text, length_shown, limits_of, own_inserted, own_left, reselected, shown_by, text_shown, with_selections}
+use Rattle.rt_text.specs.Widgets.{WidgetValue, ViewValue, begin_of, in_text, length_shown, limits_of, own_inserted, own_left, reselected, cells_shown, text_shown, with_selections}
 
 -- LOGS
 
@@ -65,7 +65,7 @@ selected_too (selection ∷ selections) (own ∷ widgets) = ap (λ l. own.limits
 pub put_grows : (view : ViewValue) (place : ℕ) (pieces : List Piece) (rest : Word) → GrowsTo view (with_pieces_at view place pieces rest)
 put_grows view place pieces rest =
     let at = in_text view place in
-    let left = left_neighbour (shown_by view) place in
+    let left = left_neighbour (cells_shown view) place in
     let right = right_behind view place pieces in
     let new = insertion_of view.doc.site left right pieces rest (none_inserted view) in
     let moves : WidgetValue → WidgetValue = own_inserted at (length new.cells) in

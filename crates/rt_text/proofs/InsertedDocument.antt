@@ -37,7 +37,7 @@ use Rattle.rt_plans.proofs.PremiseLaws.{may_begin, pieces_are}
 use Rattle.rt_text.specs.Commands.{cell_check, clock_check, names_in, none_inserted, right_behind, with_pieces_at}
 use Rattle.rt_text.specs.Kept.{IsDoc}
 use Rattle.rt_text.specs.Replacements.{drafts_at, insertion_at}
-use Rattle.rt_text.specs.Widgets.{AreSiteMarks, IsOwnOf, WidgetValue, ViewValue, in_text, own_inserted, selections_of, shown_by, with_selections}
+use Rattle.rt_text.specs.Widgets.{AreSiteMarks, IsOwnOf, WidgetValue, ViewValue, in_text, own_inserted, selections_of, cells_shown, with_selections}
 use Rattle.rt_text.proofs.InsertedSides.{IsFound, IsPlace, IsRight, at_text, drafts_any, left_there, near, near_within, right_any}
 use Rattle.rt_text.proofs.ListedText.{IsAmong, ListsAll, insertion_lists, insertion_tags, left_among, listed_put, names_of_all, text_among}
 use Rattle.rt_text.proofs.MadeDocument.{both_fit, refusal_is}
@@ -68,7 +68,7 @@ module _ (flat : DocValue) (own : WidgetValue) (others : List WidgetValue) (plac
   place_in = in_text view place
 
   abbrev left : Option TaggedCell
-  left = left_neighbour (shown_by view) place
+  left = left_neighbour (cells_shown view) place
 
   abbrev right : Option TaggedCell
   right = right_behind view place pieces
@@ -126,7 +126,7 @@ module _ (flat : DocValue) (own : WidgetValue) (others : List WidgetValue) (plac
   at = in_text seen place
 
   abbrev l : Option TaggedCell
-  l = left_neighbour (shown_by seen) place
+  l = left_neighbour (cells_shown seen) place
 
   abbrev r : Option TaggedCell
   r = right_behind seen place pieces

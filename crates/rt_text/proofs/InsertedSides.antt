@@ -37,8 +37,8 @@ use Rattle.rt_lines.proofs.Parts.{part_get}
 use Rattle.rt_lines.proofs.Shown.{place_shown}
 use Rattle.rt_lines.proofs.Whole.{stretch_within}
 use Rattle.rt_text.specs.Commands.{none_inserted, right_behind}
-use Rattle.rt_text.specs.Neighbours.{are_sides_shown, is_ahead, is_behind, limit_left, pieces_text}
-use Rattle.rt_text.specs.Widgets.{WidgetValue, ViewValue, in_text, length_shown, shown_by}
+use Rattle.rt_text.specs.Neighbours.{are_sides_shown, is_ahead, stands_behind, limit_left, pieces_text}
+use Rattle.rt_text.specs.Widgets.{WidgetValue, ViewValue, in_text, length_shown, cells_shown}
 use Rattle.rt_text.proofs.LimitedDeletions.{stretch_kept}
 use Rattle.rt_text.proofs.LimitedTags.{shown_length}
 use Rattle.rt_text.proofs.NewCells.{AreNew, pieces_are, pieces_new}
@@ -100,7 +100,7 @@ module _ (flat : DocValue) (own : WidgetValue) (others : List WidgetValue) (plac
   at_text = omega (arith, at_visible, length-map (visible_of flat.cells) (λ (cell : TaggedCell). cell.ch))
 
   -- the neighbours that are shown are those of the text
-  pub right_there : right_neighbour (shown_by view) place ≡ slice_get (visible_of flat.cells) (in_text view place)
+  pub right_there : right_neighbour (cells_shown view) place ≡ slice_get (visible_of flat.cells) (in_text view place)
   right_there = part_get stretch (visible_of flat.cells) place (omega (arith, size, is.within))
 
 -- the place in the text that has the left neighbour which is shown: its beginning where there is none
@@ -109,7 +109,7 @@ near _ zero = 0
 near view (suc place) = in_text view (suc place)
 
 pub left_there : (flat : DocValue) (own : WidgetValue) (others : List WidgetValue) (place : ℕ) → IsPlace flat own others place
-    → left_neighbour (shown_by (viewed flat own others)) place ≡ left_neighbour (visible_of flat.cells) (near (viewed flat own others) place)
+    → left_neighbour (cells_shown (viewed flat own others)) place ≡ left_neighbour (visible_of flat.cells) (near (viewed flat own others) place)
 left_there flat own others zero is = refl
 left_there flat own others (suc p) is =
     let view : ViewValue = viewed flat own others in
@@ -127,7 +127,7 @@ near_within flat own others (suc p) is = at_text flat own others (suc p) is
 -- what the code finds before the place, as shown
 pub left_found : (table : TagStates) (kept : List (Cell ℕ)) (flat : DocValue) (own : WidgetValue) (others : List WidgetValue) (place at : ℕ) (behind left : Option (Cell ℕ)) → map (shown table) kept ≡ flat.cells → IsPlace flat own others place
     → at ≡ in_text (viewed flat own others) place → behind ≡ left_neighbour (visible_of kept) at → left ≡ cond (nat_eq place 0) None behind
-    → option_map (shown table) left ≡ left_neighbour (shown_by (viewed flat own others)) place
+    → option_map (shown table) left ≡ left_neighbour (cells_shown (viewed flat own others)) place
 left_found table kept flat own others zero at before left e is a b l = ap (option_map (shown table)) l
 left_found table kept flat own others (suc p) at before left e is a b l =
     let later : nat_eq (suc p) 0 ≡ false = grind (arith, nat_tests) in
@@ -191,9 +191,9 @@ shown_kept table kept flat limits at place pieces e a =
 -- what the code finds at the place, as shown
 pub right_found : (table : TagStates) (kept : List (Cell ℕ)) (flat : DocValue) (own : WidgetValue) (others : List WidgetValue) (place at : ℕ) (pieces : List Piece) (b : Bool) (right : Option (Cell ℕ)) → map (shown table) kept ≡ flat.cells → IsPlace flat own others place
     → at ≡ in_text (viewed flat own others) place → b ≡ are_shown flat own.limits (in_text (viewed flat own others) place) pieces → right ≡ cond b (slice_get (visible_of kept) at) None
-    → option_map (shown table) right ≡ cond (are_shown flat own.limits (in_text (viewed flat own others) place) pieces) (right_neighbour (shown_by (viewed flat own others)) place) None
+    → option_map (shown table) right ≡ cond (are_shown flat own.limits (in_text (viewed flat own others) place) pieces) (right_neighbour (cells_shown (viewed flat own others)) place) None
 right_found table kept flat own others place at pieces b right e is a s r =
-    let there : option_map (shown table) (slice_get (visible_of kept) at) ≡ right_neighbour (shown_by (viewed flat own others)) place =
+    let there : option_map (shown table) (slice_get (visible_of kept) at) ≡ right_neighbour (cells_shown (viewed flat own others)) place =
     sym (visible_at_shown (state_at table) kept at) ∙ (λ i. slice_get (visible_of (e i)) (a i)) ∙ sym (right_there flat own others place is) in
     ap (option_map (shown table)) r ∙ inside b (slice_get (visible_of kept) at) ∙ (λ i. cond (s i) (there i) None)
   where
@@ -209,7 +209,7 @@ none_put cells left =
     ap (λ (l : List TaggedCell). l ++ drop n cells) (append-nil (take n cells)) ∙ take-append-drop n cells
 
 no_sides : (start end : Option ℕ) (at : ℕ) → are_sides_shown start end at [] ≡ true
-no_sides start end at = by (is_behind at start) (is_ahead at end)
+no_sides start end at = by (stands_behind at start) (is_ahead at end)
   where
     by : (b d : Bool) → (not (b && false) && not (d && false)) ≡ true
     by true true = refl
@@ -240,7 +240,7 @@ sides_of flat at new limits =
 sides_by : (flat : DocValue) (own : WidgetValue) (others : List WidgetValue) (place : ℕ) → IsPlace flat own others place → AreNewlines flat.cells own.limits → (new : List TaggedCell) (text : List ℕ) → text_of new ≡ text
     → AreNew flat.count flat.site new
     → let at = in_text (viewed flat own others) place in
-    ((left_neighbour (shown_by (viewed flat own others)) place ≡ None) × (new ≡ []))
+    ((left_neighbour (cells_shown (viewed flat own others)) place ≡ None) × (new ≡ []))
     ⊎ (are_sides_shown (option_and_then (place_of flat.cells) own.limits.start) (option_and_then (place_of flat.cells) own.limits.end) at text ≡ sides_of flat at new own.limits)
 sides_by flat own others zero is known [] text t fresh = inl (refl, refl)
 sides_by flat own others (suc p) is known [] text t fresh =
@@ -268,11 +268,11 @@ sides_by flat own others place is known (x ∷ xs) text t fresh =
 -- either it doesn't matter.
 abbrev pub IsRight : DocValue → WidgetValue → List WidgetValue → ℕ → List Piece → Option TaggedCell → Type 0
 IsRight flat own others place pieces right =
-    ((left_neighbour (shown_by (viewed flat own others)) place ≡ None) × ((with_pieces flat.site pieces (none_inserted (viewed flat own others))).cells ≡ []))
+    ((left_neighbour (cells_shown (viewed flat own others)) place ≡ None) × ((with_pieces flat.site pieces (none_inserted (viewed flat own others))).cells ≡ []))
     ⊎ (right ≡ right_behind (viewed flat own others) place pieces)
 
 pub right_is : (flat : DocValue) (own : WidgetValue) (others : List WidgetValue) (place : ℕ) (pieces : List Piece) → IsPlace flat own others place → AreNewlines flat.cells own.limits
-    → IsRight flat own others place pieces (cond (are_shown flat own.limits (in_text (viewed flat own others) place) pieces) (right_neighbour (shown_by (viewed flat own others)) place) None)
+    → IsRight flat own others place pieces (cond (are_shown flat own.limits (in_text (viewed flat own others) place) pieces) (right_neighbour (cells_shown (viewed flat own others)) place) None)
 right_is flat own others place pieces is known =
     let view : ViewValue = viewed flat own others in
     let new : List TaggedCell = (with_pieces flat.site pieces (none_inserted view)).cells in
@@ -280,17 +280,17 @@ right_is flat own others place pieces is known =
     let fresh : AreNew flat.count flat.site new = pieces_new flat.site flat.count pieces (none_inserted view) (omega arith) tt in
     by (sides_by flat own others place is known new (pieces_text pieces) text fresh)
   where
-    by : ((left_neighbour (shown_by (viewed flat own others)) place ≡ None) × ((with_pieces flat.site pieces (none_inserted (viewed flat own others))).cells ≡ []))
+    by : ((left_neighbour (cells_shown (viewed flat own others)) place ≡ None) × ((with_pieces flat.site pieces (none_inserted (viewed flat own others))).cells ≡ []))
         ⊎ (are_shown flat own.limits (in_text (viewed flat own others) place) pieces
         ≡ sides_of flat (in_text (viewed flat own others) place) (with_pieces flat.site pieces (none_inserted (viewed flat own others))).cells own.limits)
-        → IsRight flat own others place pieces (cond (are_shown flat own.limits (in_text (viewed flat own others) place) pieces) (right_neighbour (shown_by (viewed flat own others)) place) None)
+        → IsRight flat own others place pieces (cond (are_shown flat own.limits (in_text (viewed flat own others) place) pieces) (right_neighbour (cells_shown (viewed flat own others)) place) None)
     by (inl w) = inl w
-    by (inr e) = inr (ap (λ b. cond b (right_neighbour (shown_by (viewed flat own others)) place) None) e)
+    by (inr e) = inr (ap (λ b. cond b (right_neighbour (cells_shown (viewed flat own others)) place) None) e)
 
 -- what the code finds beside the place
 pub record IsFound (flat : DocValue) (own : WidgetValue) (others : List WidgetValue) (place : ℕ) (pieces : List Piece) (after : Stamp) (left right : Option TaggedCell) : Type 0 where
   pub element : after ≡ left_of flat.cells (in_text (viewed flat own others) place)
-  pub before : left ≡ left_neighbour (shown_by (viewed flat own others)) place
+  pub before : left ≡ left_neighbour (cells_shown (viewed flat own others)) place
   pub next : IsRight flat own others place pieces right
 
 pub found : (table : TagStates) (kept : List (Cell ℕ)) (flat : DocValue) (own : WidgetValue) (others : List WidgetValue) (place : ℕ) (pieces : List Piece) (limits : Limits) (stretch : Stretch) (before left right : Option (Cell ℕ)) (after : Stamp)

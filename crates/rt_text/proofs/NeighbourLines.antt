@@ -6,7 +6,7 @@ use Rattle.std.proofs.lemmas.List.{take_all}
 use Rattle.std.specs.Prelude.{IfSome, nat_le, nat_lt, option_map, slice_get, unwrap_or}
 use Rattle.rt_stamps.specs.Places.{EndsWithNewline, after_newlines, line_end, line_of, line_start, newlines}
 use Rattle.rt_lines.proofs.Lines.{end_is, line_within, lines_some}
-use Rattle.rt_text.specs.Neighbours.{are_sides_shown, ends_with_newline, is_ahead, is_behind}
+use Rattle.rt_text.specs.Neighbours.{are_sides_shown, ends_with_newline, is_ahead, stands_behind}
 use Rattle.rt_text.proofs.LineCounts.{behind_few, counts_more, counts_rise, few_behind, last_counted, some_counted, put_among, put_before, put_behind, put_in, put_length}
 
 -- LINES BY PLACES
@@ -125,7 +125,7 @@ start_by t new at p gone l n = by (cases_lt p at) gone n
         gone_or a nu c d false e f k = record { most = omega arith; which = inl (k, omega arith) }
 
 start_moves : (t new : List ℕ) (at : ℕ) (p : Option ℕ) (gone : Bool) → at ≤ length t → IfSome p (λ n. gone ≡ false → slice_get t n ≡ Some 10)
-    → IsStart (newlines (take at t)) (newlines new) (start_at t p gone) (start_at (put_in at new t) (option_map (moved_by at (length new)) p) gone) (is_behind at p)
+    → IsStart (newlines (take at t)) (newlines new) (start_at t p gone) (start_at (put_in at new t) (option_map (moved_by at (length new)) p) gone) (stands_behind at p)
 start_moves t new at None gone l n = record { most = omega arith; which = inr (refl, omega arith) }
 start_moves t new at (Some p) gone l n = start_by t new at p gone l n
 
@@ -242,8 +242,8 @@ both_sides t (c ∷ cs) at p q gone ends l some n w low high =
     ap (nat_lt (line_start text (min start end))) next ∙ before_test (min start end - 1) (at + length cs) text (omega (arith, size, l)) ∙ ap (nat_le (min start end - 1)) before in
     let stop : nat_lt (at + k) (line_end text end + 1) ≡ nat_lt (a + nu) end =
     ap (nat_lt (at + k)) (end_is end text within'.0 within'.1) ∙ behind_test end (at + k) text (omega (arith, size, l)) ∙ ap (λ x. nat_lt x end) here in
-    (λ i. begin i && stop i) ∙ decide a m nu first last start end e (is_behind at p) (is_ahead at q) (last_counted c cs) few starts moves
-    ∙ ap (λ b. not (is_behind at p && e) && not (is_ahead at q && b)) (some_counted new)
+    (λ i. begin i && stop i) ∙ decide a m nu first last start end e (stands_behind at p) (is_ahead at q) (last_counted c cs) few starts moves
+    ∙ ap (λ b. not (stands_behind at p && e) && not (is_ahead at q && b)) (some_counted new)
   where
     moved_some : (q : Option ℕ) → IfSome q (λ n. n < length t) → length (put_in at (c ∷ cs) t) ≡ length t + length (c ∷ cs)
         → IfSome (option_map (moved_by at (length (c ∷ cs))) q) (λ n. n < length (put_in at (c ∷ cs) t))

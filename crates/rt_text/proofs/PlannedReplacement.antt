@@ -36,7 +36,7 @@ use Rattle.rt_lines.specs.Stretches.{part, stretch_of}
 use Rattle.rt_text.specs.Commands.{none_inserted, right_behind, with_range_replaced}
 use Rattle.rt_text.specs.Neighbours.{are_sides_shown, limit_left, pieces_text}
 use Rattle.rt_text.specs.Replacements.{drafts_at, insertion_at, left_by, loss_at}
-use Rattle.rt_text.specs.Widgets.{WidgetValue, ViewValue, length_shown, selections_of, shown_by}
+use Rattle.rt_text.specs.Widgets.{WidgetValue, ViewValue, length_shown, selections_of, cells_shown}
 use Rattle.rt_text.proofs.InsertedSides.{place_kept_of}
 use Rattle.rt_text.proofs.LeftDocument.{begin_low, end_stays, place_is, within}
 use Rattle.rt_text.proofs.LeftDocument as leaving
@@ -56,7 +56,7 @@ pub counts_grow : (view : ViewValue) (range : Range) (pieces : List Piece) (rest
 counts_grow view range pieces rest =
     let left = left_by view range in
     let place = min range.from (length_shown left - 1) in
-    insertion_grows left.doc.site (left_neighbour (shown_by left) place) (right_behind left place pieces) pieces rest (none_inserted left)
+    insertion_grows left.doc.site (left_neighbour (cells_shown left) place) (right_behind left place pieces) pieces rest (none_inserted left)
 
 -- NEIGHBOURS, SHOWN
 

@@ -13,7 +13,7 @@ use Rattle.rt_store.specs.declared.cell.Cell.{Cell}
 use Rattle.rt_store.specs.Cells.{after_element, map_state, visible_of}
 use Rattle.rt_tags.specs.States.{TagStates, state_at}
 use Rattle.rt_stamps.specs.Names.{name_check}
-use Rattle.rt_text.specs.Commands.{cell_check, clock_check, inserted, names_in, with_pieces_at}
+use Rattle.rt_text.specs.Commands.{cell_check, clock_check, view_inserted, names_in, with_pieces_at}
 use Rattle.rt_plans.specs.DocValue.{DocValue, put_after}
 use Rattle.rt_store.specs.Shown.{TaggedCell, shown}
 use Rattle.rt_plans.specs.Insertions.{Piece}
@@ -35,13 +35,13 @@ by_index view pieces rest r =
     unless (first_of (map name_check (names_in pieces) ++ result_err r ∷ late_checks view.doc (at_index view pieces rest r))) (at_index view pieces rest r)
 
 pub refused_name : (view : ViewValue) (index : Word) (pieces : List Piece) (rest : Word) (fault : Fault) → first_of (map name_check (names_in pieces)) ≡ Some fault
-    → inserted view index pieces rest ≡ Err fault
+    → view_inserted view index pieces rest ≡ Err fault
 refused_name view index pieces rest fault h =
     let r = index_of (widget_of view) index in
     ap (λ o. unless o (at_index view pieces rest r)) (first_some (map name_check (names_in pieces)) (result_err r ∷ late_checks view.doc (at_index view pieces rest r)) fault h)
 
 pub refused_index : (view : ViewValue) (index : Word) (pieces : List Piece) (rest : Word) (fault : Fault) → first_of (map name_check (names_in pieces)) ≡ None
-    → index_of (widget_of view) index ≡ Err fault → inserted view index pieces rest ≡ Err fault
+    → index_of (widget_of view) index ≡ Err fault → view_inserted view index pieces rest ≡ Err fault
 refused_index view index pieces rest fault h e =
     ap (by_index view pieces rest) e
     ∙ ap (λ o. unless o (at_index view pieces rest (Err fault))) (first_none (map name_check (names_in pieces)) (Some fault ∷ late_checks view.doc (at_index view pieces rest (Err fault))) h)
@@ -49,7 +49,7 @@ refused_index view index pieces rest fault h e =
 -- where the names and the index are fine, the counts and the cells decide
 pub by_late_checks : (view : ViewValue) (index : Word) (pieces : List Piece) (rest : Word) (found place : ℕ) → first_of (map name_check (names_in pieces)) ≡ None
     → index_of (widget_of view) index ≡ Ok found → place ≡ min found (length_shown view - 1)
-    → inserted view index pieces rest
+    → view_inserted view index pieces rest
     ≡ unless (first_of (late_checks view.doc (with_pieces_at view place pieces rest))) (with_pieces_at view place pieces rest)
 by_late_checks view index pieces rest found place h e p =
     ap (by_index view pieces rest) e
@@ -70,7 +70,7 @@ put_length cells left new =
 
 pub done_by : (view : ViewValue) (index : Word) (pieces : List Piece) (rest : Word) (found place : ℕ) (edited : ViewValue) → first_of (map name_check (names_in pieces)) ≡ None
     → index_of (widget_of view) index ≡ Ok found → place ≡ min found (length_shown view - 1)
-    → edited ≡ with_pieces_at view place pieces rest → first_of (late_checks view.doc edited) ≡ None → inserted view index pieces rest ≡ Ok edited
+    → edited ≡ with_pieces_at view place pieces rest → first_of (late_checks view.doc edited) ≡ None → view_inserted view index pieces rest ≡ Ok edited
 done_by view index pieces rest found place edited h e p made checked =
     by_late_checks view index pieces rest found place h e p
     ∙ ap (λ x. unless (first_of (late_checks view.doc x)) x) (sym made)
@@ -78,7 +78,7 @@ done_by view index pieces rest found place edited h e p made checked =
 
 pub late_refused : (view : ViewValue) (index : Word) (pieces : List Piece) (rest : Word) (found place : ℕ) (fault : Fault) → first_of (map name_check (names_in pieces)) ≡ None
     → index_of (widget_of view) index ≡ Ok found → place ≡ min found (length_shown view - 1)
-    → first_of (late_checks view.doc (with_pieces_at view place pieces rest)) ≡ Some fault → inserted view index pieces rest ≡ Err fault
+    → first_of (late_checks view.doc (with_pieces_at view place pieces rest)) ≡ Some fault → view_inserted view index pieces rest ≡ Err fault
 late_refused view index pieces rest found place fault h e p k =
     by_late_checks view index pieces rest found place h e p ∙ ap (λ o. unless o (with_pieces_at view place pieces rest)) k
 
@@ -92,6 +92,6 @@ both_done (Err fault) f a b = tt
 
 pub all_refused : (view : ViewValue) (index : Word) (pieces : List Piece) (rest : Word) (found place : ℕ) (r : Result (Unit {0}) Fault) → first_of (map name_check (names_in pieces)) ≡ None
     → index_of (widget_of view) index ≡ Ok found → place ≡ min found (length_shown view - 1)
-    → IfErr r (λ fault. (fault ≡ NoMemory) ⊎ (first_of (late_checks view.doc (with_pieces_at view place pieces rest)) ≡ Some fault)) → IfErr r (Refuses (inserted view index pieces rest))
+    → IfErr r (λ fault. (fault ≡ NoMemory) ⊎ (first_of (late_checks view.doc (with_pieces_at view place pieces rest)) ≡ Some fault)) → IfErr r (Refuses (view_inserted view index pieces rest))
 all_refused view index pieces rest found place (Ok x) h e p k = tt
 all_refused view index pieces rest found place (Err fault) h e p k = either (late_refused view index pieces rest found place fault h e p) k

@@ -11,7 +11,7 @@ use Rattle.rt_stamps.specs.Words.{Word}
 use Rattle.rt_plans.specs.declared.range.Range.{Range}
 use Rattle.rt_plans.specs.DocValue.{DocValue}
 use Rattle.rt_plans.specs.Insertions.{Piece}
-use Rattle.rt_text.specs.Commands.{backwards_check, cell_check, clock_check, names_in, replaced, with_range_replaced}
+use Rattle.rt_text.specs.Commands.{backwards_check, cell_check, clock_check, names_in, view_replaced, with_range_replaced}
 use Rattle.rt_text.specs.Index.{index_check, place_at_index}
 use Rattle.rt_text.specs.Widgets.{ViewValue, widget_of}
 use Rattle.rt_text.proofs.PutLaws.{late_checks}
@@ -68,24 +68,24 @@ module _ (view : ViewValue) (pieces : List Piece) (rest : Word) where
       outcome (map name_check (names_in pieces)) view.doc edited (index_check (widget_of view) from) (index_check (widget_of view) to)
       (record { from = place_at_index (widget_of view) from; to = place_at_index (widget_of view) to })
 
-  replaced_by : (from to : Word) → replaced view from to pieces rest ≡ by_checks from to
+  replaced_by : (from to : Word) → view_replaced view from to pieces rest ≡ by_checks from to
   replaced_by from to = refl
 
-  pub bad_name : (from to : Word) (fault : Fault) → first_of (map name_check (names_in pieces)) ≡ Some fault → replaced view from to pieces rest ≡ Err fault
+  pub bad_name : (from to : Word) (fault : Fault) → first_of (map name_check (names_in pieces)) ≡ Some fault → view_replaced view from to pieces rest ≡ Err fault
   bad_name from to fault h =
       replaced_by from to
       ∙ at_name (map name_check (names_in pieces)) view.doc edited (index_check (widget_of view) from) (index_check (widget_of view) to)
       (record { from = place_at_index (widget_of view) from; to = place_at_index (widget_of view) to }) fault h
 
   module _ (from to : Word) (h : first_of (map name_check (names_in pieces)) ≡ None) where
-    pub bad_from : (fault : Fault) → index_of (widget_of view) from ≡ Err fault → replaced view from to pieces rest ≡ Err fault
+    pub bad_from : (fault : Fault) → index_of (widget_of view) from ≡ Err fault → view_replaced view from to pieces rest ≡ Err fault
     bad_from fault e =
         let i : index_check (widget_of view) from ≡ Some fault = ap (λ (r : Result ℕ Fault). result_err r) e in
         replaced_by from to
         ∙ at_from (map name_check (names_in pieces)) view.doc edited h (index_check (widget_of view) from) (index_check (widget_of view) to)
         (record { from = place_at_index (widget_of view) from; to = place_at_index (widget_of view) to }) fault i
 
-    pub bad_to : (begin : ℕ) (fault : Fault) → index_of (widget_of view) from ≡ Ok begin → index_of (widget_of view) to ≡ Err fault → replaced view from to pieces rest ≡ Err fault
+    pub bad_to : (begin : ℕ) (fault : Fault) → index_of (widget_of view) from ≡ Ok begin → index_of (widget_of view) to ≡ Err fault → view_replaced view from to pieces rest ≡ Err fault
     bad_to begin fault e f =
         let i : index_check (widget_of view) from ≡ None = ap (λ (r : Result ℕ Fault). result_err r) e in
         let j : index_check (widget_of view) to ≡ Some fault = ap (λ (r : Result ℕ Fault). result_err r) f in
@@ -109,29 +109,29 @@ module _ (view : ViewValue) (pieces : List Piece) (rest : Word) where
       to_at : place_at_index (widget_of view) to ≡ end
       to_at = ap (λ (r : Result ℕ Fault). result_unwrap_or r 0) f
 
-      pub backwards : (fault : Fault) → backwards_check range ≡ Some fault → replaced view from to pieces rest ≡ Err fault
+      pub backwards : (fault : Fault) → backwards_check range ≡ Some fault → view_replaced view from to pieces rest ≡ Err fault
       backwards fault b =
           replaced_by from to
           ∙ at_range (map name_check (names_in pieces)) view.doc edited h (index_check (widget_of view) from) (index_check (widget_of view) to)
           (place_at_index (widget_of view) from) (place_at_index (widget_of view) to) begin end from_fine to_fine from_at to_at fault b
 
-      pub done_as : (new : ViewValue) → backwards_check range ≡ None → new ≡ edited range → first_of (late_checks view.doc new) ≡ None → replaced view from to pieces rest ≡ Ok new
+      pub done_as : (new : ViewValue) → backwards_check range ≡ None → new ≡ edited range → first_of (late_checks view.doc new) ≡ None → view_replaced view from to pieces rest ≡ Ok new
       done_as new b made checked =
           replaced_by from to
           ∙ at_end (map name_check (names_in pieces)) view.doc edited h (index_check (widget_of view) from) (index_check (widget_of view) to)
           (place_at_index (widget_of view) from) (place_at_index (widget_of view) to) begin end from_fine to_fine from_at to_at new b made checked
 
-      too_late : (fault : Fault) → backwards_check range ≡ None → first_of (late_checks view.doc (edited range)) ≡ Some fault → replaced view from to pieces rest ≡ Err fault
+      too_late : (fault : Fault) → backwards_check range ≡ None → first_of (late_checks view.doc (edited range)) ≡ Some fault → view_replaced view from to pieces rest ≡ Err fault
       too_late fault b c =
           replaced_by from to
           ∙ at_late (map name_check (names_in pieces)) view.doc edited h (index_check (widget_of view) from) (index_check (widget_of view) to)
           (place_at_index (widget_of view) from) (place_at_index (widget_of view) to) begin end from_fine to_fine from_at to_at (Some fault) b c
 
-      refused_by : (fault : Fault) → backwards_check range ≡ None → (fault ≡ NoMemory) ⊎ (first_of (late_checks view.doc (edited range)) ≡ Some fault) → Refuses (replaced view from to pieces rest) fault
+      refused_by : (fault : Fault) → backwards_check range ≡ None → (fault ≡ NoMemory) ⊎ (first_of (late_checks view.doc (edited range)) ≡ Some fault) → Refuses (view_replaced view from to pieces rest) fault
       refused_by fault b (inl m) = inl m
       refused_by fault b (inr c) = inr (too_late fault b c)
 
       pub refused_late : (r : Result (Unit {0}) Fault) → backwards_check range ≡ None → IfErr r (λ fault. (fault ≡ NoMemory) ⊎ (first_of (late_checks view.doc (edited range)) ≡ Some fault))
-          → IfErr r (Refuses (replaced view from to pieces rest))
+          → IfErr r (Refuses (view_replaced view from to pieces rest))
       refused_late (Ok x) b k = tt
       refused_late (Err fault) b k = refused_by fault b k

@@ -46,7 +46,7 @@ use Rattle.rt_lines.specs.Stretches.{part}
 use Rattle.rt_text.specs.Commands.{none_inserted, right_behind, stretch_with}
 use Rattle.rt_text.specs.Neighbours.{are_sides_shown, pieces_text}
 use Rattle.rt_text.specs.Replacements.{drafts_at, insertion_at}
-use Rattle.rt_text.specs.Widgets.{WidgetValue, ViewValue, in_text, last_newline, selections_of, shown_by}
+use Rattle.rt_text.specs.Widgets.{WidgetValue, ViewValue, in_text, last_newline, selections_of, cells_shown}
 use Rattle.rt_text.proofs.BareNewline.{IsBare, all_bare, bare_drafts, bare_insertion}
 use Rattle.rt_text.proofs.InsertedDocument.{drafts_are, new_is}
 use Rattle.rt_text.proofs.InsertedSides.{IsFound, IsPlace, IsRight, are_shown, document_below, left_there, right_is, right_there}
@@ -141,7 +141,7 @@ element_left cells (suc p) = refl
 
 -- the left neighbour that is shown, by that of the text
 left_side : (flat : DocValue) (own : WidgetValue) (others : List WidgetValue) (place : ℕ) (before : Option TaggedCell) → IsPlace flat own others place → before ≡ left_neighbour (visible_of flat.cells) (in_text (viewed flat own others) place)
-    → cond (nat_eq place 0) None before ≡ left_neighbour (shown_by (viewed flat own others)) place
+    → cond (nat_eq place 0) None before ≡ left_neighbour (cells_shown (viewed flat own others)) place
 left_side flat own others zero before is e = refl
 left_side flat own others (suc p) before is e =
     let later : nat_eq (suc p) 0 ≡ false = grind (arith, nat_tests) in
@@ -266,7 +266,7 @@ module _ (flat : DocValue) (own : WidgetValue) (others : List WidgetValue) (rang
     between_plain before after l r e a b c d =
         let same : gone.cells ≡ after_all.doc.cells = ap (λ (f : DocValue). f.cells) (sym (left_plain e)) in
         let near : before ≡ left_neighbour (visible_of after_all.doc.cells) (in_text after_all place) = a ∙ (λ i. left_neighbour (visible_of (same i)) (sym in_left i)) in
-        let next : r ≡ cond (are_shown after_all.doc after_all.own.limits (in_text after_all place) pieces) (right_neighbour (shown_by after_all) place) None =
+        let next : r ≡ cond (are_shown after_all.doc after_all.own.limits (in_text after_all place) pieces) (right_neighbour (cells_shown after_all) place) None =
         d ∙ (λ i. cond (shown_in (same i) own.limits (sym in_left i) pieces) (slice_get (visible_of (same i)) (sym in_left i)) None)
         ∙ ap (λ o. cond (are_shown after_all.doc after_all.own.limits (in_text after_all place) pieces) o None) (sym (right_there after_all.doc after_all.own after_all.others place is)) in
         let found : IsFound after_all.doc after_all.own after_all.others place pieces after l r = record {
@@ -356,10 +356,10 @@ module _ (flat : DocValue) (own : WidgetValue) (others : List WidgetValue) (rang
         let near : before ≡ left_neighbour (visible_of after_all.doc.cells) (in_text after_all place) =
         a ∙ ap (λ v. left_neighbour v at) was ∙ left_front (visible_of first) (cell ∷ visible_of later) at few
         ∙ sym (ap (λ v. left_neighbour v at) seen ∙ left_front (visible_of first) (new ∷ visible_of later) at few) ∙ ap (left_neighbour (visible_of after_all.doc.cells)) (sym in_left) in
-        let left_is : l ≡ left_neighbour (shown_by after_all) place = b ∙ left_side after_all.doc after_all.own after_all.others place before is near in
+        let left_is : l ≡ left_neighbour (cells_shown after_all) place = b ∙ left_side after_all.doc after_all.own after_all.others place before is near in
         let element : after ≡ left_of after_all.doc.cells (in_text after_all place) =
         c ∙ ap (λ o. unwrap_or (option_map (λ (x : TaggedCell). x.stamp) o) ROOT) near ∙ sym (element_left after_all.doc.cells (in_text after_all place)) in
-        let right_new : right_neighbour (shown_by after_all) place ≡ Some new =
+        let right_new : right_neighbour (cells_shown after_all) place ≡ Some new =
         right_there after_all.doc after_all.own after_all.others place is ∙ ap (slice_get (visible_of after_all.doc.cells)) in_left ∙ ap (λ v. slice_get v at) seen
         ∙ ap (slice_get (visible_of first ++ new ∷ visible_of later)) (sym count) ∙ slice_seam (visible_of first) new (visible_of later) in
         let stamp_is : new.stamp ≡ newest = bare.1.stamp ∙ sym newest_is in

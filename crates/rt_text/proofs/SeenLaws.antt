@@ -19,7 +19,7 @@ use Rattle.rt_tags.specs.Tags.{is_listed}
 use Rattle.rt_store.specs.Shown.{TaggedCell, shown}
 use Rattle.rt_text.specs.Proper.{ends_by, tag_by, ends_in}
 use Rattle.rt_text.specs.Grounds.{widget_over}
-use Rattle.rt_text.specs.Widgets.{WidgetValue, ViewValue, is_tagged, is_tagged_in, length_shown, mark_among, mark_seen, marks_shown, own_mark_of, own_or, own_seen, own_shown, shown_by, stretch_by, tag_ends, tags_on, text_shown, widget_of}
+use Rattle.rt_text.specs.Widgets.{WidgetValue, ViewValue, is_tagged, is_tagged_in, length_shown, mark_among, mark_seen, marks_shown, own_mark_of, own_or, own_seen, own_shown, cells_shown, stretch_by, tag_ends, tags_shown, text_shown, widget_of}
 use Rattle.rt_lines.specs.declared.stretch.Stretch.{Stretch}
 use Rattle.rt_lines.specs.Stretches.{part, seen_place, stretch_of}
 use Rattle.rt_lines.specs.declared.limits.Limits.{Limits}
@@ -53,10 +53,10 @@ visible_given table kept place cell h e =
 pub tags_found : (table : TagStates) (kept : List (Cell ℕ)) (cells : List TaggedCell) (stamps : List Stamp) (own : WidgetValue) (tags names found : List Word) (place : ℕ) (cell : Cell ℕ)
     → map (shown table) kept ≡ cells → stamps ≡ own.sel → slice_get (visible_of kept) place ≡ Some cell → names ≡ tags
     → found ≡ filter (λ name. is_tagged_in stamps name (shown table cell)) names
-    → option_map (tags_on own tags) (slice_get (visible_of cells) place) ≡ Some found
+    → option_map (tags_shown own tags) (slice_get (visible_of cells) place) ≡ Some found
 tags_found table kept cells stamps own tags names found place cell e s h n k =
-    ap (λ l. option_map (tags_on own tags) (slice_get (visible_of l) place)) (sym e)
-    ∙ ap (option_map (tags_on own tags)) (visible_at_shown (state_at table) kept place ∙ ap (option_map (map_state (state_at table))) h)
+    ap (λ l. option_map (tags_shown own tags) (slice_get (visible_of l) place)) (sym e)
+    ∙ ap (option_map (tags_shown own tags)) (visible_at_shown (state_at table) kept place ∙ ap (option_map (map_state (state_at table))) h)
     ∙ (λ i. Some (filter (λ name. is_tagged_in (sym s i) name (shown table cell)) (sym n i)))
     ∙ ap (λ l. Some l) (sym k)
 
@@ -180,5 +180,5 @@ ground_shown view stretch cells marks tags own s c m t o names =
         λ i. record {
           text = text i;
           marks = λ name. option_map (λ (m : Mark). m.place) (own_or (own_mark_of name) (own_shown view) (mark name i));
-          tags = tag_ends view.own (shown_by view) view.doc.tags;
+          tags = tag_ends view.own (cells_shown view) view.doc.tags;
         }

@@ -33,7 +33,7 @@ use Rattle.rt_plans.specs.TagDrafts.{deletion_drafts, tag_drafts_at}
 use Rattle.rt_plans.specs.TagWrites.{listed_if, with_tag_at, without_tags}
 use Rattle.rt_lines.specs.declared.stretch.Stretch.{Stretch}
 use Rattle.rt_lines.specs.Stretches.{stretch_of}
-use Rattle.rt_text.specs.Widgets.{ViewValue, begin_of, each_widget, in_text, last_newline, length_shown, own_inserted, own_left, places_in_text, reselected, selections_of, shown_by, text_shown, widget_of, with_selections}
+use Rattle.rt_text.specs.Widgets.{ViewValue, begin_of, each_widget, in_text, last_newline, length_shown, own_inserted, own_left, places_in_text, reselected, selections_of, cells_shown, text_shown, widget_of, with_selections}
 
 -- CHECKS
 
@@ -66,7 +66,7 @@ abbrev pub right_behind : ViewValue → ℕ → List Piece → Option TaggedCell
 right_behind view place pieces =
     let stretch = stretch_with view place pieces in
     let behind = in_text view place + length (with_pieces view.doc.site pieces (none_inserted view)).cells in
-    if nat_lt stretch.begin behind && nat_lt behind stretch.end then right_neighbour (shown_by view) place else None
+    if nat_lt stretch.begin behind && nat_lt behind stretch.end then right_neighbour (cells_shown view) place else None
 
 -- pieces of text, and then characters without a list, before the character at a place: their cells stand directly after that of
 -- the visible left neighbour, and all marks move for them, those of each widget too
@@ -74,7 +74,7 @@ abbrev pub with_pieces_at : ViewValue → ℕ → List Piece → Word → ViewVa
 with_pieces_at view place pieces rest =
     let flat = view.doc in
     let at = in_text view place in
-    let left = left_neighbour (shown_by view) place in
+    let left = left_neighbour (cells_shown view) place in
     let right = right_behind view place pieces in
     let after = left_of flat.cells at in
     let start = none_inserted view in
@@ -135,23 +135,23 @@ abbrev pub names_in : List Piece → List Word
 names_in pieces = flat_map (λ piece. piece.tags) pieces
 
 -- insert INDEX ?CHARS TAGLIST ...? ?CHARS?: pieces with lists, and then characters without one, perhaps none
-abbrev pub inserted : ViewValue → Word → List Piece → Word → Result ViewValue Fault
-inserted view index pieces rest =
+abbrev pub view_inserted : ViewValue → Word → List Piece → Word → Result ViewValue Fault
+view_inserted view index pieces rest =
     let w = widget_of view in
     let edited = with_pieces_at view (insertion_place w index) pieces rest in
     let checks = index_check w index ∷ clock_check edited.doc.count ∷ cell_check view.doc.limit (length edited.doc.cells) ∷ [] in
     unless (first_of (map name_check (names_in pieces) ++ checks)) edited
 
 -- delete INDEX ?INDEX ...?: the document without the characters in the ranges that the indices name in pairs
-abbrev pub deleted : ViewValue → List Word → Result ViewValue Fault
-deleted view indices =
+abbrev pub view_deleted : ViewValue → List Word → Result ViewValue Fault
+view_deleted view indices =
     let w = widget_of view in
     let edited = without_ranges view (ranges_of (map (place_at_index w) indices)) in
     unless (first_of (map (index_check w) indices ++ clock_check edited.doc.count ∷ [])) edited
 
 -- replace INDEX INDEX ?CHARS TAGLIST ...? ?CHARS?: the delete followed by the insert, which are made or refused as a whole
-abbrev pub replaced : ViewValue → Word → Word → List Piece → Word → Result ViewValue Fault
-replaced view from to pieces rest =
+abbrev pub view_replaced : ViewValue → Word → Word → List Piece → Word → Result ViewValue Fault
+view_replaced view from to pieces rest =
     let w = widget_of view in
     let range : Range = record { from = place_at_index w from; to = place_at_index w to } in
     let edited = with_range_replaced view range pieces rest in

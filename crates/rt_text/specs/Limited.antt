@@ -14,8 +14,8 @@ with_limits view (Ok limits) = Ok (record view { own = record view.own { limits 
 with_limits view (Err fault) = Err fault
 
 -- it shows the lines that are asked for
-abbrev pub limited : ViewValue → Choice → Choice → Result ViewValue Fault
-limited view start end = with_limits view (limits_chosen view.doc.cells start end view.own.limits)
+abbrev pub view_limited : ViewValue → Choice → Choice → Result ViewValue Fault
+view_limited view start end = with_limits view (limits_chosen view.doc.cells start end view.own.limits)
 
 -- a new widget of a document, with limits
 abbrev pub new_peer : DocValue → Limits → WidgetValue

@@ -30,9 +30,9 @@ abbrev pub ends_with_newline : List ℕ → Bool
 ends_with_newline text = ends_behind false text
 
 -- a newline stands at a place or behind it, and before it
-abbrev pub is_behind : ℕ → Option ℕ → Bool
-is_behind at None = false
-is_behind at (Some place) = nat_le at place
+abbrev pub stands_behind : ℕ → Option ℕ → Bool
+stands_behind at None = false
+stands_behind at (Some place) = nat_le at place
 
 abbrev pub is_ahead : ℕ → Option ℕ → Bool
 is_ahead at None = false
@@ -41,4 +41,4 @@ is_ahead at (Some place) = nat_lt place at
 -- Both sides of the end of new characters at a place are shown, but where these end with a newline and that of the limit at the start
 -- stands behind them, and where they have a newline and that of the limit at the end stands before them.
 abbrev pub are_sides_shown : Option ℕ → Option ℕ → ℕ → List ℕ → Bool
-are_sides_shown start end at new = not (is_behind at start && ends_with_newline new) && not (is_ahead at end && list_any is_newline new)
+are_sides_shown start end at new = not (stands_behind at start && ends_with_newline new) && not (is_ahead at end && list_any is_newline new)

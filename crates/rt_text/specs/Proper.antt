@@ -23,26 +23,26 @@ use Rattle.rt_lines.specs.Stretches.{part, seen_cursor, seen_place}
 
 -- MARKS
 
-abbrev place_in : Option Mark → Option ℕ
-place_in o = option_map (λ (m : Mark). m.place) o
+abbrev place_if : Option Mark → Option ℕ
+place_if o = option_map (λ (m : Mark). m.place) o
 
 abbrev mark_by : Bool → Bool → WidgetValue → Option Mark → Option Mark
 mark_by insert current own site = own_or (cond insert (Some Insert) (cond current (Some Current) None)) own site
 
 place_within : (n : ℕ) (a b : Bool) (own : WidgetValue) (site : Option Mark) → own.insert.place ≤ n → own.current.place ≤ n
-    → ((place : ℕ) → place_in site ≡ Some place → place ≤ n)
-    → (place : ℕ) → place_in (mark_by a b own site) ≡ Some place → place ≤ n
+    → ((place : ℕ) → place_if site ≡ Some place → place ≤ n)
+    → (place : ℕ) → place_if (mark_by a b own site) ≡ Some place → place ≤ n
 place_within n true b own site h k s place e = let q : own.insert.place ≡ place = cc in omega arith
 place_within n false true own site h k s place e = let q : own.current.place ≡ place = cc in omega arith
 place_within n false false own site h k s place e = s place e
 
-some_mark : (o : Option Mark) → IsSome (place_in o) → IsSome o
+some_mark : (o : Option Mark) → IsSome (place_if o) → IsSome o
 some_mark None h = h
 some_mark (Some m) h = h
 
 mark_named : (name : List ℕ) (a b : Bool) (own : WidgetValue) (site : Option Mark) → bytes_eq name (codes "insert") ≡ a
     → bytes_eq name (codes "current") ≡ b → (IsSome site → IsName name)
-    → IsSome (place_in (mark_by a b own site)) → IsName name
+    → IsSome (place_if (mark_by a b own site)) → IsName name
 mark_named name true b own site e f s h = named_as name (codes "insert") (omega arith, omega arith) e
 mark_named name false true own site e f s h = named_as name (codes "current") (omega arith, omega arith) f
 mark_named name false false own site e f s h = s (some_mark site h)
@@ -119,14 +119,14 @@ seen_within stretch place h = omega arith
 cursor_within : (stretch : Stretch) (place : ℕ) → seen_cursor stretch place ≤ stretch.end - stretch.begin
 cursor_within stretch place = omega arith
 
-one_seen : (n : ℕ) (b : Bool) (m : Mark) (o : Option Mark) → m.place ≤ n → ((place : ℕ) → place_in o ≡ Some place → place ≤ n)
-    → (place : ℕ) → place_in (cond b (Some m) o) ≡ Some place → place ≤ n
+one_seen : (n : ℕ) (b : Bool) (m : Mark) (o : Option Mark) → m.place ≤ n → ((place : ℕ) → place_if o ≡ Some place → place ≤ n)
+    → (place : ℕ) → place_if (cond b (Some m) o) ≡ Some place → place ≤ n
 one_seen n true m o h k place e = let q : m.place ≡ place = cc in omega arith
 one_seen n false m o h k place e = k place e
 
 -- each is seen in the stretch
 all_seen : (stretch : Stretch) (name : List ℕ) (marks : List Mark) → stretch.begin ≤ stretch.end → (place : ℕ)
-    → place_in (named name (map (mark_seen stretch) marks)) ≡ Some place → place ≤ stretch.end - stretch.begin
+    → place_if (named name (map (mark_seen stretch) marks)) ≡ Some place → place ≤ stretch.end - stretch.begin
 all_seen stretch name [] h place e = let bad : ⊥ = cc in absurd bad
 all_seen stretch name (m ∷ marks) h place e =
     one_seen (stretch.end - stretch.begin) (is_named name m) (mark_seen stretch m) (named name (map (mark_seen stretch) marks))

@@ -12,7 +12,7 @@ use Rattle.rt_plans.specs.InsertionPlans.{Plans}
 use Rattle.rt_plans.specs.Insertions.{Insertion, Piece, insertion_of, left_neighbour}
 use Rattle.rt_text.specs.declared.doc.replacing.Replacement.{Replacement}
 use Rattle.rt_text.specs.Commands.{none_inserted, right_behind, without_ranges}
-use Rattle.rt_text.specs.Widgets.{ViewValue, begin_of, in_text, length_shown, selections_of, shown_by, text_shown}
+use Rattle.rt_text.specs.Widgets.{ViewValue, begin_of, in_text, length_shown, selections_of, cells_shown, text_shown}
 
 -- what the deletion of a range takes
 abbrev pub loss_at : ViewValue → Range → Loss
@@ -21,11 +21,11 @@ loss_at view range = loss_in (text_shown view) (begin_of view) (range ∷ [])
 -- an insertion before the character at a place, and its operations
 abbrev pub insertion_at : ViewValue → ℕ → List Piece → Word → Insertion
 insertion_at view place pieces rest =
-    insertion_of view.doc.site (left_neighbour (shown_by view) place) (right_behind view place pieces) pieces rest (none_inserted view)
+    insertion_of view.doc.site (left_neighbour (cells_shown view) place) (right_behind view place pieces) pieces rest (none_inserted view)
 
 abbrev pub drafts_at : ViewValue → ℕ → List Piece → Word → List Body
 drafts_at view place pieces rest =
-    insertion_drafts MOST_CHARACTERS view.doc.site (left_of view.doc.cells (in_text view place)) (left_neighbour (shown_by view) place)
+    insertion_drafts MOST_CHARACTERS view.doc.site (left_of view.doc.cells (in_text view place)) (left_neighbour (cells_shown view) place)
     (right_behind view place pieces) pieces rest (none_inserted view)
 
 -- what the deletion of a range leaves

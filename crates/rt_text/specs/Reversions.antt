@@ -1,14 +1,13 @@
 -- Groups of actions that are reverted in a document as a widget shows it (Tk text manual, "The undo mechanism").
-use Rattle.std.specs.Prelude.{List, [], ◌∷◌, length, Option, slice_get, unwrap_or}
+use Rattle.std.specs.Prelude.{List, [], ◌∷◌, Option, slice_get, unwrap_or}
 use Rattle.rt_marks.specs.Marks.{Mark}
 use Rattle.rt_stamps.specs.declared.fault.Fault.{Fault}
-use Rattle.rt_stamps.specs.Outcomes.{first_of}
 use Rattle.rt_stamps.specs.Words.{Word}
 use Rattle.rt_plans.specs.DocValue.{DocValue}
 use Rattle.rt_undo.specs.Actions.{Action}
 use Rattle.rt_revert.specs.Reverting.{reversion, reverted}
 use Rattle.rt_text.specs.Changes.{limits_after}
-use Rattle.rt_text.specs.Commands.{cell_check, clock_check}
+use Rattle.rt_text.specs.Editing.{edit_check}
 use Rattle.rt_text.specs.Widgets.{WidgetValue, ViewValue, each_widget}
 
 -- where a mark comes to stand when a group is reverted: where it would as the only mark of the document
@@ -29,6 +28,4 @@ view_reverted view group = each_widget (own_reverted view.doc group) (record vie
 
 -- why a group can't be reverted: its counts don't fit, or the cells of the document that it leaves
 abbrev pub reversion_check : DocValue → List (Action (List Word)) → Option Fault
-reversion_check flat group =
-    let left = reverted flat group in
-    first_of (clock_check left.count ∷ cell_check flat.limit (length left.cells) ∷ [])
+reversion_check flat group = edit_check flat (reverted flat group)

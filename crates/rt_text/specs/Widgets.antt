@@ -177,8 +177,8 @@ abbrev pub stretch_by : ViewValue → Stretch
 stretch_by view = stretch_of view.doc.cells view.own.limits
 
 -- the characters that stand there, a newline last
-abbrev pub shown_by : ViewValue → List TaggedCell
-shown_by view = part (stretch_by view) (visible_of view.doc.cells)
+abbrev pub cells_shown : ViewValue → List TaggedCell
+cells_shown view = part (stretch_by view) (visible_of view.doc.cells)
 
 -- the place in the whole text where they begin
 abbrev pub begin_of : ViewValue → ℕ
@@ -190,7 +190,7 @@ last_newline view = unwrap_or (option_map (λ cell. cell.stamp) (slice_get (visi
 
 -- their code points, and how many they are
 abbrev pub text_shown : ViewValue → List ℕ
-text_shown view = map (λ cell. cell.ch) (shown_by view)
+text_shown view = map (λ cell. cell.ch) (cells_shown view)
 
 abbrev pub length_shown : ViewValue → ℕ
 length_shown view = length (text_shown view)
@@ -243,8 +243,8 @@ abbrev pub is_tagged : WidgetValue → Word → TaggedCell → Bool
 is_tagged own name cell = is_tagged_in own.sel name cell
 
 -- the listed tags on a character, lowest priority first
-abbrev pub tags_on : WidgetValue → List Word → TaggedCell → List Word
-tags_on own tags cell = filter (λ name. is_tagged own name cell) tags
+abbrev pub tags_shown : WidgetValue → List Word → TaggedCell → List Word
+tags_shown own tags cell = filter (λ name. is_tagged own name cell) tags
 
 -- where characters that pass a test begin and end, if there are any
 abbrev pub ends_of : (TaggedCell → Bool) → List TaggedCell → Option TagEnds
@@ -261,5 +261,5 @@ abbrev pub widget_of : ViewValue → IndexedWidget
 widget_of view = record {
   text = text_shown view;
   marks = λ name. option_map (λ m. m.place) (mark_of view name);
-  tags = tag_ends view.own (shown_by view) view.doc.tags;
+  tags = tag_ends view.own (cells_shown view) view.doc.tags;
 }

@@ -11,7 +11,7 @@ ghost use Rattle.rt_store.specs.Tagged.{AreStates};
 ghost use Rattle.rt_tags.specs.States.{IsState, TagStates};
 ghost use Rattle.rt_plans.specs.Insertions.{left_neighbour, right_neighbour};
 ghost use Rattle.rt_plans.specs.Removals.{AreInOrder, gone_at, is_covered};
-ghost use Rattle.rt_text.specs.Neighbours.{are_sides_shown, ends_behind, ends_with_newline, is_ahead, is_behind, limit_left, pieces_text};
+ghost use Rattle.rt_text.specs.Neighbours.{are_sides_shown, ends_behind, ends_with_newline, is_ahead, stands_behind, limit_left, pieces_text};
 
 use crate::staying::{place_after, right_after};
 use rt_lines::Limits;
@@ -55,7 +55,7 @@ fn limit_left<S: TextStore>(store: &S, removed: &[Range], limit: Option<Stamp>) 
 
 // A newline stands at a place or behind it.
 fn is_behind(at: usize, place: Option<usize>) -> bool
-    ensures { result ≡ is_behind at place }
+    ensures { result ≡ stands_behind at place }
 {
     match place {
         Some(place) => at <= place,

@@ -8,7 +8,7 @@ ghost use Rattle.rt_store.specs.Cells.{text_of};
 ghost use Rattle.rt_text.specs.Index.{index_check, place_at_index};
 ghost use Rattle.rt_text.specs.Ranges.{text_between, ranges_of, texts_of};
 
-use rt_index::{Ground, place_of};
+use rt_index::{Ground, place_of_index};
 use rt_lines::Stretch;
 use rt_plans::Range;
 use rt_stamps::Fault;
@@ -28,7 +28,7 @@ fn places_of<G: Ground>(alloc: Global, ground: &G, indices: &[String]) -> Result
 {
     let mut places = Vec::new(alloc);
     for index in indices {
-        places.push(place_of(alloc, ground, index)?)?;
+        places.push(place_of_index(alloc, ground, index)?)?;
     }
     Ok(places)
 }

@@ -4,7 +4,7 @@ ghost use Rattle.rt_stamps.specs.Outcomes.{Answers};
 ghost use Rattle.rt_marks.specs.Marks.{gravity_word};
 ghost use Rattle.rt_requests.specs.Parts.{all_of};
 ghost use Rattle.rt_tagcmd.specs.MarkCommands.{mark_set, mark_unset, mark_gravity, mark_gravity_set, mark_names, mark_next, mark_previous};
-ghost use Rattle.rt_peers.specs.ViewStep.{changed_step, mark_step, one_word, told_step, words_of};
+ghost use Rattle.rt_peers.specs.ViewStep.{changed_step, mark_step, one_word, told_step, word_or_none};
 
 use crate::replies::{changed, no_words, one_word};
 use crate::reply::Reply;
@@ -20,7 +20,7 @@ use std::alloc::Global;
 
 // A reply of a name, where there is one.
 fn name_reply(alloc: Global, name: Option<&str>) -> Result<Reply, Fault>
-    ensures ok { IfOk result (λ reply. reply ≡ words_of (option_copied name.entry)) }
+    ensures ok { IfOk result (λ reply. reply ≡ word_or_none (option_copied name.entry)) }
     ensures err { IsOkUnless result Fault.NoMemory }
 {
     match name {
@@ -81,7 +81,7 @@ fn all_marks(alloc: Global, view: &ViewRef<'_, TreeStore>) -> Result<Reply, Faul
 
 // The mark after another, or after an index.
 fn next_mark(alloc: Global, view: &ViewRef<'_, TreeStore>, word: &Word<'_>) -> Result<Reply, Fault>
-    ensures { Answers (told_step words_of view.now (mark_next view.now word.now)) view.now result view.now }
+    ensures { Answers (told_step word_or_none view.now (mark_next view.now word.now)) view.now result view.now }
 {
     let name = mark_next(view, word.text())?;
     name_reply(alloc, name)
@@ -93,7 +93,7 @@ fn previous_mark(
     view: &ViewRef<'_, TreeStore>,
     word: &Word<'_>,
 ) -> Result<Reply, Fault>
-    ensures { Answers (told_step words_of view.now (mark_previous view.now word.now)) view.now result view.now }
+    ensures { Answers (told_step word_or_none view.now (mark_previous view.now word.now)) view.now result view.now }
 {
     let name = mark_previous(view, word.text())?;
     name_reply(alloc, name)

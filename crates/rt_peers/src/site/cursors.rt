@@ -1,7 +1,7 @@
 // What a widget of a site shows, by values; places by stamps, and stamps by places.
 ghost use Rattle.std.specs.Prelude.{◌≡◌, IfErr, IfOk, Ok};
 ghost use Rattle.rt_stamps.specs.Outcomes.{Refuses};
-ghost use Rattle.rt_peers.specs.Cursors.{index_by, place_by, stamp_by, widget_by};
+ghost use Rattle.rt_peers.specs.Cursors.{index_by, stamp_place_by, stamp_by, widget_by};
 
 use super::SiteState;
 use crate::paths::number_of;
@@ -25,7 +25,7 @@ impl SiteState {
     /// The place of an index (Tk text manual, "Indices") in what the widget of a path shows, counted from where that begins,
     /// from 0 to how many characters it shows. Refused by the first of `NoWidget` and the faults of an index, `BadIndex` and
     /// `NoneTagged`, or for want of memory.
-    pub fn place_at(&self, path: &str, index: &str) -> Result<usize, Fault>
+    pub fn place_of_index(&self, path: &str, index: &str) -> Result<usize, Fault>
         ensures ok { IfOk result (λ place. index_by path.now index.now self.now ≡ Ok place) }
         ensures err { IfErr result (Refuses (index_by path.now index.now self.now)) }
     {
@@ -49,7 +49,7 @@ impl SiteState {
     /// found after any edits. What stands outside is brought to the nearer end. None where the site has no character of the
     /// stamp, or where there is no such widget. It takes no memory.
     pub fn place_of(&self, path: &str, stamp: Stamp) -> Option<usize>
-        ensures { result ≡ place_by path.now stamp self.now }
+        ensures { result ≡ stamp_place_by path.now stamp self.now }
     {
         self.widget(path)?.place_of_stamp(stamp)
     }

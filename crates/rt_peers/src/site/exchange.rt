@@ -13,7 +13,7 @@ ghost use Rattle.rt_oplog.specs.Logs.{known_end};
 ghost use Rattle.rt_text.specs.Widgets.{limits_of};
 ghost use Rattle.rt_lines.specs.Ordered.{AreInOrder};
 ghost use Rattle.rt_peers.specs.Exchange.{IsFileOf};
-ghost use Rattle.rt_peers.specs.Lacking.{known_in, since};
+ghost use Rattle.rt_peers.specs.Lacking.{known_in, past_known};
 ghost use Rattle.rt_peers.specs.SiteStep.{SiteReceives, log_of};
 ghost use Rattle.rt_peers.specs.Telling.{AreToldBetween};
 
@@ -103,9 +103,9 @@ impl SiteState {
     /// `ends` told, or an earlier answer of it. A site that isn't named there is one of which nothing is known. Want of
     /// memory.
     pub fn export_since(&self, ends: &BTreeMap<u16, u64>) -> Result<Vec<u8>, Fault>
-        ensures ok { IfOk result (λ bytes. bytes.items ≡ spelling (reverse (since (known_in ends.now) self.now.text.view.doc.log))) }
-        ensures read_back { OnOk result (IsFileOf (spelling (reverse (since (known_in ends.now) self.now.text.view.doc.log)))
-            (since (known_in ends.now) self.now.text.view.doc.log)) }
+        ensures ok { IfOk result (λ bytes. bytes.items ≡ spelling (reverse (past_known (known_in ends.now) self.now.text.view.doc.log))) }
+        ensures read_back { OnOk result (IsFileOf (spelling (reverse (past_known (known_in ends.now) self.now.text.view.doc.log)))
+            (past_known (known_in ends.now) self.now.text.view.doc.log)) }
         ensures err { IsOkUnless result Fault.NoMemory }
     {
         let lacking = lacking(self.alloc, self.log(), ends)?;

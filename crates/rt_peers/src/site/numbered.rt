@@ -67,8 +67,9 @@ impl SiteState {
     }
 
     /// Undoes the last group of edits (Tk text manual, "edit undo"), and tells what changed in the visible text, as
-    /// `answer_telling` does. The number is of the widget that is asked; all widgets share what is undone. Refused by the
-    /// first of `NoWidget` and the faults of `edit undo` (docs/WIDGET.md), or for want of memory; then nothing changed.
+    /// `answer_telling` does. The number is of the widget that is asked; all widgets share what is undone. Where
+    /// `-undo` is off nothing is done. Refused by the first of `NoWidget`, `NothingToUndo`, `ClockSpent` and `TextFull`, or for
+    /// want of memory; then nothing changed.
     pub fn undo(&mut self, number: usize) -> ToldAnswer
         ensures answers { AnswersInTurn (step_by number self.old (Edit Undo)) self.old result.reply self.new }
         ensures told { IfSome result.changes (λ changes. AreToldOf self.old.text self.new.text changes.items) }
@@ -78,8 +79,8 @@ impl SiteState {
     }
 
     /// Does the group of edits again that was undone last (Tk text manual, "edit redo"), and tells what changed in the
-    /// visible text, as `undo` does. Refused by the first of `NoWidget` and the faults of `edit redo`, or for want of memory;
-    /// then nothing changed.
+    /// visible text, as `undo` does. Where `-undo` is off nothing is done. Refused by the first of `NoWidget`, `NothingToRedo`,
+    /// `ClockSpent` and `TextFull`, or for want of memory; then nothing changed.
     pub fn redo(&mut self, number: usize) -> ToldAnswer
         ensures answers { AnswersInTurn (step_by number self.old (Edit Redo)) self.old result.reply self.new }
         ensures told { IfSome result.changes (λ changes. AreToldOf self.old.text self.new.text changes.items) }

@@ -60,9 +60,8 @@ impl SiteState {
     /// the operations changed that the site made for it, and each held one that was taken, in an order in which they could be.
     /// Each change is of the text that those before it left, so all of them, done one after the other to what was
     /// shown, with its tags, give what is shown now. Only what changes is told. `None` only where operations
-    /// were accepted and it isn't known what they changed: for want of memory to tell, or where two of those that were made
-    /// at once are Tags of one tag. The faults are those of `answer`: the first of
-    /// `NoWidget` and the request's own, or `NoMemory`; then nothing changed.
+    /// were accepted and it isn't known what they changed, for want of memory to tell. The faults are those of `answer`: the
+    /// first of `NoWidget` and the request's own, or `NoMemory`; then nothing changed.
     pub fn answer_telling(&mut self, path: &str, request: &Request<'_>) -> ToldAnswer
         ensures answers { AnswersInTurn (step_at path.now self.old request.now) self.old result.reply self.new }
         ensures none { number_of path.now self.old.paths ≡ None → result.reply ≡ Err Fault.NoWidget }

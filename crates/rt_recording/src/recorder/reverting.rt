@@ -12,7 +12,7 @@ ghost use Rattle.rt_text.specs.Reversions.{reversion_check, view_reverted};
 ghost use Rattle.rt_recording.specs.Naming.{AreGiven, named_group};
 ghost use Rattle.rt_recording.specs.Recordings.{HaveStayed, came_back};
 ghost use Rattle.rt_recording.specs.Returns.{AreReturns, IsOther, back_after, stamp_after};
-ghost use Rattle.rt_recording.specs.Reversals.{redone, undone};
+ghost use Rattle.rt_recording.specs.Reversals.{group_redone, group_undone};
 ghost use Rattle.rt_recording.specs.Settled.{AreGoneOnce, IsSettled, is_gone, taken_by};
 
 use super::Recorder;
@@ -86,8 +86,8 @@ impl Recorder {
     ) -> Result<(), Fault>
         requires empty { C.list copy ≡ final_cell ∷ [] }
         requires settled { IsSettled view.old self.old }
-        ensures ok { OnOk result (undone view.old self.old.history ≡ Ok (view.new, self.new.history)) }
-        ensures err { IfErr result (Refuses (undone view.old self.old.history)) }
+        ensures ok { OnOk result (group_undone view.old self.old.history ≡ Ok (view.new, self.new.history)) }
+        ensures err { IfErr result (Refuses (group_undone view.old self.old.history)) }
         ensures unchanged { OnErr result ((view.new ≡ view.old) × (self.new.history ≡ self.old.history)) }
         ensures prepared { OnErr result (self.new.pending ≡ self.old.pending) }
         ensures stayed { OnErr result ((stamp : Stamp) → came_back self.new stamp ≡ came_back self.old stamp) }
@@ -115,8 +115,8 @@ impl Recorder {
     ) -> Result<(), Fault>
         requires empty { C.list copy ≡ final_cell ∷ [] }
         requires settled { IsSettled view.old self.old }
-        ensures ok { OnOk result (redone view.old self.old.history ≡ Ok (view.new, self.new.history)) }
-        ensures err { IfErr result (Refuses (redone view.old self.old.history)) }
+        ensures ok { OnOk result (group_redone view.old self.old.history ≡ Ok (view.new, self.new.history)) }
+        ensures err { IfErr result (Refuses (group_redone view.old self.old.history)) }
         ensures unchanged { OnErr result ((view.new ≡ view.old) × (self.new.history ≡ self.old.history)) }
         ensures prepared { OnErr result (self.new.pending ≡ self.old.pending) }
         ensures stayed { OnErr result ((stamp : Stamp) → came_back self.new stamp ≡ came_back self.old stamp) }

@@ -7,7 +7,7 @@ ghost use Rattle.rt_stamps.specs.Words.{as_words};
 ghost use Rattle.rt_store.specs.Cells.{AreDistinct, text_of, visible_of};
 ghost use Rattle.rt_plans.specs.Removals.{is_covered, AreInOrder};
 ghost use Rattle.rt_text.specs.Owned.{own_of};
-ghost use Rattle.rt_text.specs.Widgets.{is_tagged, is_tagged_in, tags_on};
+ghost use Rattle.rt_text.specs.Widgets.{is_tagged, is_tagged_in, tags_shown};
 ghost use Rattle.rt_store.specs.Tagged.{next_place, previous_place};
 ghost use Rattle.rt_tags.specs.States.{IsState};
 ghost use Rattle.rt_tags.specs.Tags.{is_listed, is_place, lowered, raised, sel};
@@ -106,7 +106,7 @@ impl<S: TextStore> Doc<S> {
     pub(crate) fn tags_at(&self, widget: &Widget, place: usize) -> Result<Vec<String>, Fault>
         requires { place < length (shown_part self.now.cells widget.now.limits) }
         ensures ok { IfOk result (λ names.
-            option_map (tags_on (own_of widget.now) self.now.tags) (slice_get (shown_part self.now.cells widget.now.limits) place)
+            option_map (tags_shown (own_of widget.now) self.now.tags) (slice_get (shown_part self.now.cells widget.now.limits) place)
             ≡ Some (as_words names.items)) }
         ensures err { IsOkUnless result Fault.NoMemory }
     {

@@ -2,7 +2,7 @@
 ghost use Rattle.std.specs.Prelude.{◌≡◌, Ok, IfErr, OnOk, OnErr};
 ghost use Rattle.rt_stamps.specs.Outcomes.{Refuses};
 ghost use Rattle.rt_stamps.specs.Words.{as_words};
-ghost use Rattle.rt_text.specs.Commands.{inserted, deleted};
+ghost use Rattle.rt_text.specs.Commands.{view_inserted, view_deleted};
 
 use super::View;
 use crate::new_text::NewText;
@@ -22,8 +22,8 @@ impl<S: TextStore> View<S> {
     /// list, above 64.
     #[inline(always)]
     pub fn insert(&mut self, index: &str, pieces: &[Piece], rest: &str) -> Result<(), Fault>
-        ensures ok { OnOk result (inserted self.old index.now pieces.now rest.now ≡ Ok self.new) }
-        ensures err { IfErr result (Refuses (inserted self.old index.now pieces.now rest.now)) }
+        ensures ok { OnOk result (view_inserted self.old index.now pieces.now rest.now ≡ Ok self.new) }
+        ensures err { IfErr result (Refuses (view_inserted self.old index.now pieces.now rest.now)) }
         ensures unchanged { OnErr result (self.new ≡ self.old) }
     {
         check_names(pieces)?;
@@ -54,8 +54,8 @@ impl<S: TextStore> View<S> {
     /// none where nothing is removed, and, where a range holds the last newline, one for each of its tags but
     /// `sel`.
     pub fn delete(&mut self, indices: &[String]) -> Result<(), Fault>
-        ensures ok { OnOk result (deleted self.old (as_words indices.now) ≡ Ok self.new) }
-        ensures err { IfErr result (Refuses (deleted self.old (as_words indices.now))) }
+        ensures ok { OnOk result (view_deleted self.old (as_words indices.now) ≡ Ok self.new) }
+        ensures err { IfErr result (Refuses (view_deleted self.old (as_words indices.now))) }
         ensures unchanged { OnErr result (self.new ≡ self.old) }
     {
         let ranges = self.ranges(indices)?;

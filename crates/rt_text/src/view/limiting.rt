@@ -1,7 +1,7 @@
 // The limits of what a widget shows.
 ghost use Rattle.std.specs.Prelude.{◌≡◌, Ok, Err, IfErr, OnErr, OnOk};
 ghost use Rattle.rt_stamps.specs.Outcomes.{Refuses};
-ghost use Rattle.rt_text.specs.Limited.{limited, with_peer};
+ghost use Rattle.rt_text.specs.Limited.{view_limited, with_peer};
 
 use super::View;
 use crate::Widget;
@@ -15,8 +15,8 @@ impl<S: TextStore> View<S> {
     /// that isn't named keeps its newline. `BadView` where there are no such lines, and then nothing changes. It
     /// takes no memory.
     pub fn set_lines(&mut self, start: Choice, end: Choice) -> Result<(), Fault>
-        ensures ok { OnOk result (limited self.old start end ≡ Ok self.new) }
-        ensures err { IfErr result (λ fault. limited self.old start end ≡ Err fault) }
+        ensures ok { OnOk result (view_limited self.old start end ≡ Ok self.new) }
+        ensures err { IfErr result (λ fault. view_limited self.old start end ≡ Err fault) }
         ensures unchanged { OnErr result (self.new ≡ self.old) }
     {
         // For its clauses alone.

@@ -1,7 +1,7 @@
 // Replacements.
 ghost use Rattle.std.specs.Prelude.{◌≡◌, None, Ok, Some, IfErr, IfOk, OnOk, OnErr};
 ghost use Rattle.rt_stamps.specs.Outcomes.{Refuses};
-ghost use Rattle.rt_text.specs.Commands.{backwards_check, replaced};
+ghost use Rattle.rt_text.specs.Commands.{backwards_check, view_replaced};
 
 use super::View;
 use crate::preparing::check_names;
@@ -37,8 +37,8 @@ impl<S: TextStore> View<S> {
         pieces: &[Piece],
         rest: &str,
     ) -> Result<(), Fault>
-        ensures ok { OnOk result (replaced self.old from.now to.now pieces.now rest.now ≡ Ok self.new) }
-        ensures err { IfErr result (Refuses (replaced self.old from.now to.now pieces.now rest.now)) }
+        ensures ok { OnOk result (view_replaced self.old from.now to.now pieces.now rest.now ≡ Ok self.new) }
+        ensures err { IfErr result (Refuses (view_replaced self.old from.now to.now pieces.now rest.now)) }
         ensures unchanged { OnErr result (self.new ≡ self.old) }
     {
         check_names(pieces)?;

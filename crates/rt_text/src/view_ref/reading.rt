@@ -15,7 +15,7 @@ use super::ViewRef;
 use crate::comparison::holds;
 use crate::distance::distances_of;
 use crate::range::{ranges_at, shown_between, texts_of};
-use rt_index::{Comparison, Measure, place_of};
+use rt_index::{Comparison, Measure, place_of_index};
 use rt_lines::Stretch;
 use rt_plans::Range;
 use rt_stamps::{Fault, Position};
@@ -29,7 +29,7 @@ impl<'a, S: TextStore> ViewRef<'a, S> {
         ensures within { IfOk result (λ place. place ≤ length_shown self.now) }
         ensures err { IfErr result (Refuses (index_of (widget_of self.now) index.now)) }
     {
-        place_of(self.alloc, &self.doc.ground(self.widget), index)
+        place_of_index(self.alloc, &self.doc.ground(self.widget), index)
     }
 
     // The place of an index, and the places of the text that the widget shows. The faults of `place`.
@@ -42,7 +42,7 @@ impl<'a, S: TextStore> ViewRef<'a, S> {
         ensures err { IfErr result (Refuses (index_of (widget_of self.now) index.now)) }
     {
         let ground = self.doc.ground(self.widget);
-        let place = place_of(self.alloc, &ground, index)?;
+        let place = place_of_index(self.alloc, &ground, index)?;
         Ok((place, ground.stretch))
     }
 

@@ -3,7 +3,7 @@ use Rattle.rt_stamps.specs.Words.{Word}
 use Rattle.rt_plans.specs.declared.range.Range.{Range}
 use Rattle.rt_revert.specs.Reverting.{as_removed}
 use Rattle.rt_recording.specs.Recordings.{HasStayed, came_back, made}
-use Rattle.rt_text.specs.Commands.{replaced}
+use Rattle.rt_text.specs.Commands.{view_replaced}
 use Rattle.rt_text.specs.Index.{place_at_index}
 use Rattle.rt_text.specs.Widgets.{widget_of}
 use Rattle.rt_undo.specs.declared.action.Kind.TheVariants.{Replace}
@@ -52,7 +52,7 @@ returns-clause-ok g c =
     edit_done Replace (lost_from view from to) view new c.args.recorder.now c.prepare_replacement.new.recorder c.note.new.recorder before.cells before.visible before.count before.site.number
     c.of-before.ensures.cells c.of-before.ensures.visible c.of-before.ensures.count c.of-before.ensures.site keeps
     (c.note.ensures.history (map as_removed (lost_from view from to)) (λ on. c.in_ok-prepare_replacement.ensures.pending (sym keeps.undo ∙ on) indices.0 indices.1)) c.note.ensures.settings
-    (replaced view from to c.args.pieces.now c.args.rest.now) c.in_ok-replace.ensures.ok
+    (view_replaced view from to c.args.pieces.now c.args.rest.now) c.in_ok-replace.ensures.ok
 
 pub returns-clause-settled : goal.returns-clause-settled
 returns-clause-settled g c =

@@ -11,7 +11,7 @@ use Rattle.rt_rga.specs.Batches.{after_tags, all_put, put_by}
 use Rattle.rt_rga.specs.Cells.{cells_of}
 use Rattle.rt_rga.specs.Drafts.{ContinueInTurn}
 use Rattle.rt_rga.specs.Making.{AreNewest, CanAllBePut, cuts_of, fresh_cells, kept_after}
-use Rattle.rt_rga.specs.Noted.{AreApart, AreNotedOf}
+use Rattle.rt_rga.specs.Noted.{AreDisjoint, AreNotedOf}
 use Rattle.rt_rga.specs.Requests.{characters_in}
 use Rattle.rt_rga.specs.declared.taken.Change.{Change}
 use Rattle.rt_rga.proofs.Batching.{batch_placed}
@@ -125,7 +125,7 @@ loop-op-preserved g c =
     let history = c.requires.replica.history in
     let turn = subst (ContinueInTurn log) whole c.requires.continues in
     let newest = subst (AreNewest log) whole c.requires.newest in
-    let alike = found_alike log done rest op known history turn newest (subst AreApart whole c.requires.apart) before.cells in
+    let alike = found_alike log done rest op known history turn newest (subst AreDisjoint whole c.requires.disjoint) before.cells in
     let true_cells = ap (map (after_tags done)) before.cells ∙ done_cells log done (op ∷ rest) history turn newest in
     record {
       list = (λ j. kept_after rest (c.put-left.ensures.left j) (c.put-left.ensures.list j)) ∙ ap (λ (l : List Operation). kept_after l new kept) (sym left) ∙ before.list;

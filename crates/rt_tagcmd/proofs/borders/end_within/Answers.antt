@@ -5,7 +5,7 @@ use Rattle.rt_store.specs.Tagged.{Passes}
 use Rattle.rt_tagcmd.specs.TagRanges.{PassUpTo}
 use Rattle.rt_tagcmd.proofs.FirstRange.{passing_end}
 use Rattle.rt_tagcmd.proofs.TagRangeLaws.{passing_within}
-use Rattle.rt_text.specs.Widgets.{is_tagged, shown_by}
+use Rattle.rt_text.specs.Widgets.{is_tagged, cells_shown}
 use Rattle.rt_tagcmd.specs.Stretches.{RunsTo}
 use Rattle.rt_tagcmd.proofs.borders.end_within.Goals as goal
 
@@ -21,7 +21,7 @@ cut test cs begin end found behind h p l e = record {
 pub returns : goal.returns
 returns g c =
     let test = is_tagged c.args.view.now.own c.args.name.now in
-    let cs = shown_by c.args.view.now in
+    let cs = cells_shown c.args.view.now in
     let within = passing_within test cs c.args.begin c.requires.tagged in
     cut test cs c.args.begin c.unwrap_or.result c.min.result c.args.behind
     (passing_end test cs c.args.begin c.next_untagged.result c.visible-end.result c.unwrap_or.result (omega (arith, within)) c.next_untagged.ensures (c.visible-end.ensures ∙ length-map cs (λ cell. cell.ch)) c.unwrap_or.ensures)

@@ -3,7 +3,7 @@ use Rattle.std.proofs.lemmas.Result.{err_from_is_err_and}
 use Rattle.rt_marks.specs.Marks.{comes_before}
 use Rattle.rt_text.specs.Widgets.{marks_of}
 use Rattle.rt_tagcmd.specs.Looking.{looked_from}
-use Rattle.rt_tagcmd.specs.MarkCommands.{mark_next, name_of}
+use Rattle.rt_tagcmd.specs.MarkCommands.{mark_next, found_name}
 use Rattle.rt_tagcmd.proofs.LookingLaws.{found_from, next_found, refused_from}
 use Rattle.rt_tagcmd.proofs.mark_order.mark_next.Goals as goal
 
@@ -13,12 +13,12 @@ returns-in_err-here-clause-err g c =
     let word = c.args.word.now in
     let law = next_found view word c.order.ensures.named c.order.ensures.names in
     let p = err_from_is_err_and c.from_residual.result c.from_residual.ensures.1 in
-    rw p.1 (refused_from (mark_next view word) (looked_from view word) (λ m. name_of (find (comes_before m) (marks_of view))) p.0 c.in_err-here.field-0.0 law c.in_err-here.ensures.err p.2)
+    rw p.1 (refused_from (mark_next view word) (looked_from view word) (λ m. found_name (find (comes_before m) (marks_of view))) p.0 c.in_err-here.field-0.0 law c.in_err-here.ensures.err p.2)
 
 pub returns-clause-ok : goal.returns-clause-ok
 returns-clause-ok g c =
     let view = c.args.view.now in
     let word = c.args.word.now in
     let law = next_found view word c.order.ensures.named c.order.ensures.names in
-    law ∙ ap (found_from (λ m. name_of (find (comes_before m) (marks_of view)))) c.in_ok-here.ensures.ok
-    ∙ sym (ap (λ v. Ok v) (c.name_of.ensures ∙ ap name_of c.first_after.ensures))
+    law ∙ ap (found_from (λ m. found_name (find (comes_before m) (marks_of view)))) c.in_ok-here.ensures.ok
+    ∙ sym (ap (λ v. Ok v) (c.name_of.ensures ∙ ap found_name c.first_after.ensures))

@@ -6,7 +6,7 @@ use Rattle.rt_stamps.specs.Words.{Word}
 use Rattle.rt_undo.specs.Undo.{History, no_history}
 use Rattle.rt_revert.specs.ReversionLaws.{AreSound}
 use Rattle.rt_recording.specs.Recordings.{Recording, came_back}
-use Rattle.rt_recording.specs.Settled.{AreGoneOnce, all_taken}
+use Rattle.rt_recording.specs.Settled.{AreGoneOnce, removed_in_history}
 use Rattle.rt_tests_script.proofs.refused.recorded.Goals as goal
 
 -- a new recorder names no character
@@ -20,7 +20,7 @@ invariant_of-result g c =
     ∙ subst (λ r. IfOk r (λ (recorder : Recording). (stamp : Stamp) → came_back recorder stamp ≡ false)) c.expect-recorder.ensures c.new.ensures.came_back s in
     record {
       gone = λ s back. let stayed = never s in absurd (cc (stayed, back));
-      taken = subst (λ (h : History (List Word)). AreGoneOnce c.args.view.doc.cells (all_taken h)) (sym none) (λ s. omega arith);
+      taken = subst (λ (h : History (List Word)). AreGoneOnce c.args.view.doc.cells (removed_in_history h)) (sym none) (λ s. omega arith);
       closed = subst (λ (h : History (List Word)). AllByRecursion AreSound h.closed) (sym none) tt;
       current = subst (λ (h : History (List Word)). AreSound h.current) (sym none) tt;
       undone = subst (λ (h : History (List Word)). AllByRecursion AreSound h.undone) (sym none) tt;

@@ -4,7 +4,7 @@ use Rattle.rt_peers.specs.SiteValue.{SiteValue, holding_of}
 use Rattle.rt_store.specs.Shown.{TaggedCell}
 use Rattle.rt_ops.specs.Operations.{Operation}
 use Rattle.rt_holding.specs.Grown.{AreTriedAt, AreTriedBefore}
-use Rattle.rt_peers.specs.SiteStep.{AnswersInTurn, MakesAndTries, Tries, by_widget, limit_of, log_of, site_of, text_limit, text_log}
+use Rattle.rt_peers.specs.SiteStep.{AnswersInTurn, MakesAndTries, Tries, by_widget, cell_limit, log_of, site_of, text_limit, text_log}
 use Rattle.rt_peers.specs.Step.{step}
 use Rattle.rt_peers.proofs.InTurn.{asked_steps, made, made_none}
 use Rattle.rt_peers.proofs.Making.{gains_grow_by, site_keeps, site_makes}
@@ -33,7 +33,7 @@ invariant_of-self-else-before-len c =
     record {
       paths = record { each = omega (arith, steps.number, c.self.invariant.paths.each); differ = c.self.invariant.paths.differ };
       tried = subst (λ n. AreTriedAt n (log_of mid) c.self.inside.held) (sym kept.limit)
-          (subst (λ (log : List Operation). AreTriedAt (limit_of state) log c.self.inside.held) (sym kept.log) c.self.invariant.tried);
+          (subst (λ (log : List Operation). AreTriedAt (cell_limit state) log c.self.inside.held) (sym kept.log) c.self.invariant.tried);
     }
 
 -- held ones were last tried before the site made operations
@@ -59,7 +59,7 @@ returns-then-before-len c =
     let new : SiteValue = record { paths = state.paths; text = c.settle.new.site; held = c.settle.new.self.held } in
     let answers = leading_site number state (λ text. step text request) result mid.text c.ask-reply.ensures in
     let steps = asked_steps number request state.text mid.text result c.ask-reply.ensures in
-    let few = subst (λ (cells : List TaggedCell). length cells ≤ limit_of mid) c.log-2.ensures.cells c.log-2.ensures.few in
+    let few = subst (λ (cells : List TaggedCell). length cells ≤ cell_limit mid) c.log-2.ensures.cells c.log-2.ensures.few in
     let more : length (log_of state) < length (log_of mid) =
     omega (arith, c.if-before-len.true, c.len-before.ensures, c.len.ensures, ap length c.log.ensures.operations, ap length c.log-2.ensures.operations) in
     let tries : Tries mid new = record { count = c.settle.result; tried = c.settle.ensures.tried; widgets = refl } in

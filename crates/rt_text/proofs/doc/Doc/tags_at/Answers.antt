@@ -6,7 +6,7 @@ use Rattle.rt_plans.specs.DocValue.{DocValue}
 use Rattle.rt_plans.specs.Selected.{selected_stamps}
 use Rattle.rt_plans.proofs.PlaceLaws.{length_text, text_within}
 use Rattle.rt_text.specs.Owned.{own_of}
-use Rattle.rt_text.specs.Widgets.{tags_on}
+use Rattle.rt_text.specs.Widgets.{tags_shown}
 use Rattle.rt_text.proofs.LimitedTags.{place_kept}
 use Rattle.rt_text.proofs.SeenLaws.{tags_found, visible_given}
 use Rattle.rt_text.proofs.doc.Doc.tags_at.Goals as goal
@@ -39,7 +39,7 @@ returns-clause-ok g c =
     let own = own_of c.args.widget.now in
     let tags = c.args.self.now.tags in
     let at = place_kept table kept c.args.self.now.cells c.limits.result c.stretch.result own c.args.place c.kept.ensures.cells c.stretch.ensures.value c.limits.ensures c.stretch.ensures.within c.requires in
-    ap (option_map (tags_on own tags)) at.1
+    ap (option_map (tags_shown own tags)) at.1
     ∙ tags_found table kept c.args.self.now.cells (selected_stamps c.args.widget.now.selection) own tags
     (as_words c.in_ok-names.names.items) (as_words c.keep_tags_on.new.names.items) (c.stretch.result.begin + c.args.place) c.cell_at-cell.result
     c.kept.ensures.cells refl c.cell_at-cell.ensures

@@ -13,7 +13,7 @@ use Rattle.rt_plans.specs.DocValue.{DocValue}
 use Rattle.rt_text.specs.Owned.{own_of}
 use Rattle.rt_text.specs.Commands.{with_pieces_at}
 use Rattle.rt_store.specs.Shown.{TaggedCell}
-use Rattle.rt_text.specs.Widgets.{IsOwnOf, ViewValue, length_shown, shown_by, stretch_by}
+use Rattle.rt_text.specs.Widgets.{IsOwnOf, ViewValue, length_shown, cells_shown, stretch_by}
 use Rattle.rt_lines.specs.Ordered.{AreInOrder}
 use Rattle.rt_text.proofs.LimitedTags.{shown_size}
 use Rattle.rt_text.proofs.PutLaws.{all_refused, both_done, done_by, either, late_checks, refused_index, refused_name}
@@ -46,8 +46,8 @@ insert_at-done-requires-clause-place g c =
     let stretch = c.in_ok-place.stretch in
     let size = shown_size view stretch c.in_ok-place.ensures.stretch c.in_ok-place.ensures.within in
     let there = ap (λ (d : DocValue). viewed d (own_of c.self.inside.widget) (map own_of c.self.inside.others.items)) c.focus.ensures ∙ c.self.view_is in
-    subst (λ (v : ViewValue). c.min-place.result < length (shown_by v)) (sym there)
-    (omega (arith, size, length-map (shown_by view) (λ (cell : TaggedCell). cell.ch), c.min-place.ensures, c.in_ok-place.ensures.some))
+    subst (λ (v : ViewValue). c.min-place.result < length (cells_shown v)) (sym there)
+    (omega (arith, size, length-map (cells_shown view) (λ (cell : TaggedCell). cell.ch), c.min-place.ensures, c.in_ok-place.ensures.some))
 
 pub insert_at-done-requires-clause-others : goal.insert_at-done-requires-clause-others
 insert_at-done-requires-clause-others g c =

@@ -11,7 +11,7 @@ use Rattle.rt_index.specs.Widget.{IndexedWidget, IsProper}
 use Rattle.rt_index.proofs.Hope.{fixed_same}
 use Rattle.rt_index.proofs.Kept.{fixed_kept}
 use Rattle.rt_index.proofs.Modifiers.{map_none, map_some}
-use Rattle.rt_index.proofs.place.place_of.Goals as goal
+use Rattle.rt_index.proofs.place.place_of_index.Goals as goal
 
 -- a position or `end`, and what the modifiers behind it make of its place
 by_fixed : (w : IndexedWidget) (word front rest : List ℕ) (token place : ℕ) (fixed : Fixed) → IsProper w → token ≡ token_length word → front ≡ take token word → rest ≡ drop token word
