@@ -144,8 +144,8 @@ int32_t pt_receive(pt_site *site, const uint8_t *bytes, size_t len, pt_received 
 /* Tells how many operations were made or accepted by the last pt_command or pt_receive: those that the line made, or
    that the file had, and held ones that these let in. A line that changes no text and no tags has none. pt_change says
    what each of them changed.
-   PT_DONE; else PT_NO_SITE, or PT_NOT_KNOWN: the line was run, but what it changed isn't known, for want of memory. Then
-   read the text anew. */
+   PT_DONE; else PT_NO_SITE, or PT_NOT_KNOWN: the line was run, but what it changed isn't known, for want of memory.
+   Then read the text anew. */
 int32_t pt_changes(pt_site *site, size_t *count);
 
 /* Says what an operation changed in the visible text, of those that pt_changes counts, in an order in which they could
@@ -181,8 +181,8 @@ int32_t pt_export_since(pt_site *site, const uint8_t *ends, size_t len);
    PT_DONE; else PT_NO_SITE, or PT_NOT_THERE: no such widget, or no character at the place. */
 int32_t pt_stamp_at(pt_site *site, const uint8_t *path, size_t len, size_t place, pt_stamp *stamp);
 
-/* Tells the place of an index, as "2.3", "end" or "insert - 1 chars", in what the widget of a path shows, counted from 0
-   up to how many characters it shows.
+/* Tells the place of an index, as "2.3", "end" or "insert - 1 chars", in what the widget of a path shows, counted from
+   0 up to how many characters it shows.
    PT_DONE; the number of the fault by which it is refused: PT_FAULT_NO_WIDGET, PT_FAULT_BAD_INDEX,
    PT_FAULT_NONE_TAGGED, PT_FAULT_BAD_QUOTING where the path or the index is no UTF-8, or PT_FAULT_NO_MEMORY; else
    PT_NO_SITE. */

@@ -1,6 +1,6 @@
 // Replies of no word, one word, numbers and positions.
-ghost use Rattle.std.specs.Prelude.{◌≡◌, ◌∷◌, [], Ok, Err, map, string_bytes, IfOk, IsOkUnless, MatchResult};
-ghost use Rattle.std.specs.Fmt.{signed_decimal};
+ghost use Rattle.std.specs.Prelude.{◌≡◌, ◌∷◌, ◌++◌, [], Ok, Err, map, string_bytes, IfOk, IsOkUnless, MatchResult, OnOk};
+ghost use Rattle.std.specs.Fmt.{decimal, signed_decimal};
 ghost use Rattle.rt_stamps.specs.Places.{text_of_position};
 ghost use Rattle.rt_peers.specs.Options.{number_word};
 ghost use Rattle.rt_peers.specs.ViewStep.{one_word, text_of_bool};
@@ -8,7 +8,7 @@ ghost use Rattle.rt_peers.specs.ViewStep.{one_word, text_of_bool};
 use crate::reply::Reply;
 use itoa::Buffer;
 use rt_stamps::{Fault, Position};
-use std::alloc::Global;
+use std::alloc::{AllocError, Global};
 
 // How many bytes the text of a position takes in a text of ordinary length. A longer one takes more memory.
 const POSITION_BYTES: usize = 24;
@@ -77,6 +77,18 @@ pub(crate) fn numbers(alloc: Global, values: &[i64]) -> Result<Reply, Fault>
     Ok(Reply { words })
 }
 
+// Adds a number. One of a single digit, as those of the first lines are, is a character.
+#[inline(always)]
+fn push_number(text: &mut String, digits: &mut Buffer, number: usize) -> Result<(), AllocError>
+    ensures { OnOk result (string_bytes text.new ≡ string_bytes text.old ++ decimal number) }
+{
+    if number < 10 {
+        text.push(char::from(b'0' + number as u8))
+    } else {
+        text.push_str(digits.format(number))
+    }
+}
+
 // The text of a position.
 pub(crate) fn position_text(alloc: Global, position: Position) -> Result<String, Fault>
     ensures ok { IfOk result (λ text. string_bytes text ≡ text_of_position position) }
@@ -84,9 +96,9 @@ pub(crate) fn position_text(alloc: Global, position: Position) -> Result<String,
 {
     let mut digits = Buffer::new();
     let mut text = String::with_capacity(alloc, POSITION_BYTES)?;
-    text.push_str(digits.format(position.line))?;
+    push_number(&mut text, &mut digits, position.line)?;
     text.push('.')?;
-    text.push_str(digits.format(position.character))?;
+    push_number(&mut text, &mut digits, position.character)?;
     Ok(text)
 }
 

@@ -137,10 +137,9 @@ impl SiteState {
         let Some(number) = number_of(&self.paths, path) else {
             return Err(Fault::NoWidget);
         };
-        // The request is looked at where it was made: moving it costs some thirty instructions.
-        match &Request::of(self.alloc, words) {
-            Ok(request) => self.request(path, number, request),
-            Err(fault) => Err(*fault),
+        match Request::of(self.alloc, words) {
+            Ok(request) => self.request(path, number, &request),
+            Err(fault) => Err(fault),
         }
     }
 }

@@ -16,7 +16,7 @@ returns-in-Ok c =
     asked_at c.args.path.now c.in-Some.number (as_words c.args.words.now) c.args.self.now c.request.new.self c.of.result c.in-Ok.request c.request.result
     (found ∙ c.in-Some.is) c.of.ensures c.in-Ok.is c.request.ensures
 
-pub returns : goal.returns
-returns c =
+pub returns-in-Err : goal.returns-in-Err
+returns-in-Err c =
     let found : number_of c.args.path.now c.args.self.now.paths ≡ c.number_of.result = place_in c.args.path.now c.deref.result.now c.self.inside.paths.items c.args.self.now.paths c.number_of.result c.number_of.ensures c.deref.ensures.value (ap (λ s. s.paths) c.self.view_is) in
     refused_at c.args.path.now c.in-Some.number (as_words c.args.words.now) c.args.self.now c.of.result c.in-Err.fault (found ∙ c.in-Some.is) c.of.ensures c.in-Err.is
