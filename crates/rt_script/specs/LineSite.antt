@@ -88,16 +88,15 @@ pub record ReceivesTelling (bytes : List ℕ) (old : LineSiteValue) (received : 
 abbrev pub AreEndsOf : SiteValue → List (ℕ × ℕ) → Type 0
 AreEndsOf state ends = AreBySite ends × ((site : ℕ) → known_by ends site ≡ known_end (log_of state) site)
 
--- The place of an index in what the widget of a path shows, or why it is refused, if both are texts; else it is refused as a line
--- that is none.
+-- the place of an index in what the widget of a path shows, or why it is refused, if both are texts; else it is refused by `BadQuoting`
 abbrev pub place_at_path : Word → Word → SiteValue → Result ℕ Fault
 place_at_path path index site = if is_utf8 path && is_utf8 index then index_by path index site else Err BadQuoting
 
--- the stamp at a place by a path, which is that of a widget if it is a text
+-- the stamp of the character at a place of what the widget of a path shows; none where the path is no text
 abbrev pub stamp_of_path : Word → ℕ → SiteValue → Option Stamp
 stamp_of_path path place site = if is_utf8 path then stamp_by path place site else None
 
--- the place of a stamp by a path
+-- the place of a stamp in what the widget of a path shows; none where the path is no text
 abbrev pub place_of_path : Word → Stamp → SiteValue → Option ℕ
 place_of_path path stamp site = if is_utf8 path then stamp_place_by path stamp site else None
 

@@ -103,7 +103,7 @@ impl LineSite {
         &self.site
     }
 
-    /// The place of an index in what the widget of a path shows, as `SiteState::place_of_index` has it. The faults are those of that;
+    /// The place of an index in what the widget of a path shows, as `SiteState::place_of_index` has it. Refused as there, and with
     /// `BadQuoting` where the path or the index is no UTF-8.
     pub fn place_of_index(&self, path: &[u8], index: &[u8]) -> Result<usize, Fault>
         ensures ok { IfOk result (λ place. place_at_path path.now index.now self.now.site ≡ Ok place) }

@@ -265,8 +265,8 @@ fn more_tags_than_an_insert_lists(rt: HostRuntime) {
     }
 }
 
-// The newline at the end of what a widget shows is of another site, with a greater number: its Tag stands behind those of the
-// text that comes in.
+// The newline at the end of what a widget shows is of another site, with a greater number. So its stamp lies behind those of
+// the text that comes in, though its Tag comes first.
 #[test]
 fn a_newline_of_another_site(rt: HostRuntime) {
     let alloc = rt.alloc();
@@ -289,8 +289,8 @@ fn runs(rt: &impl Abort, alloc: Global, site: &mut SiteState, line: &str) {
     same(rt, site.command(path, rest).err(), None);
 }
 
-// A tag on more spans than one operation names is put on by two of them: of the last newline and all characters but one, and
-// of that one.
+// A tag on more spans than one operation names is put on by two. One names the last newline and all characters but the last;
+// the other names that character.
 #[test]
 fn more_spans_than_a_tag_names(rt: HostRuntime) {
     let alloc = rt.alloc();
