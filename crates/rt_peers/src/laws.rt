@@ -64,7 +64,8 @@ pub fn places(site: &SiteState)
 
 /// The stamp of a character that a widget shows finds the place at which it stands there.
 pub fn cursors(site: &SiteState)
-    ensures { (path : Word) (place : ℕ) (stamp : Stamp) → stamp_by path place site.now ≡ Some stamp → stamp_place_by path stamp site.now ≡ Some place }
+    ensures { (path : Word) (place : ℕ) (stamp : Stamp) → stamp_by path place site.now ≡ Some stamp
+        → stamp_place_by path stamp site.now ≡ Some place }
 {
     // For its clauses alone.
     let _ = site.log();
