@@ -43,8 +43,8 @@ enum {
     PT_NO_SITE = -1,    /* the handle holds no site */
     PT_NO_MEMORY = -2,  /* memory was wanting; the call may be made again when there is more */
     PT_IS_HELD = -3,    /* the handle holds a site already */
-    PT_BAD_NUMBER = -4, /* no site has the number: it is 0, or above 65535 */
-    PT_BAD_BYTES = -5,  /* more than PT_MOST_BYTES bytes, or counts that aren't 10 bytes each */
+    PT_BAD_NUMBER = -4, /* no site has the number 0 */
+    PT_BAD_BYTES = -5,  /* more than PT_MOST_BYTES bytes, or counts that aren't 12 bytes each */
     PT_NOT_THERE = -6,  /* there is no such change, widget, character or place */
     PT_NOT_KNOWN = -7   /* what the last line changed isn't known */
 };
@@ -106,10 +106,10 @@ typedef struct {
    0; {0, 0} is no character's. */
 typedef struct {
     uint64_t count;
-    uint16_t site;
+    uint32_t site;
 } pt_stamp;
 
-/* Makes a new site of a number from 1 to 65535, which no other site of the text ever has. It is new: to go on with a
+/* Makes a new site of a number from 1 to 4294967295, which no other site of the text ever has. It is new: to go on with a
    text that it had before, it receives what it exported then, before any line (docs/LIBRARY.md, "To keep a site").
    PT_DONE; else PT_IS_HELD, PT_BAD_NUMBER or PT_NO_MEMORY. */
 int32_t pt_site_new(pt_site *site, uint32_t number);
@@ -165,7 +165,7 @@ int32_t pt_change(pt_site *site, size_t number);
    PT_DONE; else PT_NO_SITE or PT_NO_MEMORY. */
 int32_t pt_export(pt_site *site);
 
-/* Says its ends, the last count that the site knows of each site: 10 bytes for each, the number of that site (2) and
+/* Says its ends, the last count that the site knows of each site: 12 bytes for each, the number of that site (4) and
    the count (8), highest byte first. The numbers rise.
    PT_DONE; else PT_NO_SITE or PT_NO_MEMORY. */
 int32_t pt_ends(pt_site *site);

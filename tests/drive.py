@@ -17,6 +17,7 @@ from driving.program import CHECKED, PROGRAM, called, check, run
 from driving.runs import early_logs, exchanges, faults_before_the_script, logs_of_runs, outs_after_faults, outs_of_runs, received
 from driving.samples import with_files
 from driving.streams import closed_pipes, full_outputs, readers_that_fail_late
+from driving.versions import damaged, joins_of_versions, many_tags, receives_of_versions, shows_of_versions, sites
 
 
 def answered(script):
@@ -88,7 +89,7 @@ def asks_and_waits():
 
 
 def statuses():
-    for words in [(), ("frob",), ("run",), ("run", "--site"), ("run", "--site", "0"), ("run", "--site", "65536"), ("run", "--site", "x"),
+    for words in [(), ("frob",), ("run",), ("run", "--site"), ("run", "--site", "0"), ("run", "--site", "4294967296"), ("run", "--site", "18446744073709551616"), ("run", "--site", "-1"), ("run", "--site", ""), ("run", "--site", "x"),
                   ("run", "--site", "1", "--site", "2"), ("run", "--site", "1", "--frob"), ("run", "--log", "a", "b"), ("run", "--site", "1", "--log"), ("run", "--site", "1", "--out"),
                   ("run", "--site", "1", "--log", "a", "--log", "a"), ("run", "--site", "1", "--out=a", "b", "--out", "a"), ("run", "--site", "1", "-f"), ("join", "--out", "a", "b", "c"), ("join",), ("join", "a", "b"), ("join", "a", "b", "c", "d"), ("show",), ("show", "a", "b"), ("show", "--frob")]:
         done = subprocess.run([PROGRAM, *words], input=b"", capture_output=True, timeout=120)
@@ -119,7 +120,7 @@ def many_marks():
 
 PARTS = (whole_scripts, bounds_on_undo, hostile_bytes, asks_and_waits, statuses, failing_allocations, many_marks, long_lists)
 IN_FILES = (joins, outs_that_fail, outs_with_modes, shows, many_operations, outs_of_runs, logs_of_runs, early_logs, received,
-            exchanges, faults_before_the_script, outs_after_faults, readers_that_fail_late, closed_pipes, full_outputs, failing_allocations_of_files, failing_allocations_of_receive, failing_allocations_of_held,
+            joins_of_versions, shows_of_versions, sites, many_tags, receives_of_versions, damaged, exchanges, faults_before_the_script, outs_after_faults, readers_that_fail_late, closed_pipes, full_outputs, failing_allocations_of_files, failing_allocations_of_receive, failing_allocations_of_held,
             failing_allocations_of_undo)
 
 for part in PARTS:

@@ -40,7 +40,7 @@ class Site:
 
     def __init__(self, library, number):
         # ctypes would cut what has more than 32 bits
-        if not 1 <= number <= 65535:
+        if not 1 <= number <= 4294967295:
             raise ValueError(f"no site has the number {number}")
         self.library, self.handle = library, Handle()
         self.call("pt_site_new", number)

@@ -1,6 +1,6 @@
 #!/usr/bin/env wish8.6
 # A note in a window: notes.tcl FOLDER NUMBER. Whoever has the folder, or a copy that something keeps alike, opens it
-# under a number of their own, from 1 to 65535. README.md tells how to build the package that this needs.
+# under a number of their own, from 1 to 4294967295. README.md tells how to build the package that this needs.
 
 package require Tk 8.6
 set here [file dirname [file normalize [info script]]]

@@ -329,10 +329,10 @@ static int tell_place(Tcl_Interp *interp, pt_site *site, Tcl_Obj *path, Tcl_Obj 
         Tcl_GetWideIntFromObj(interp, words[1], &number) != TCL_OK) {
         return TCL_ERROR;
     }
-    if (number < 0 || number > UINT16_MAX) {
+    if (number < 0 || number > UINT32_MAX) {
         return refuse_code(interp, PT_NOT_THERE);
     }
-    pt_stamp stamp = {(uint64_t)count, (uint16_t)number};
+    pt_stamp stamp = {(uint64_t)count, (uint32_t)number};
     utf8_of(path, &bytes);
     int code = pt_place_of(site, (const uint8_t *)Tcl_DStringValue(&bytes), (size_t)Tcl_DStringLength(&bytes), &stamp,
                            &place);
@@ -413,7 +413,7 @@ static int make_site(ClientData data, Tcl_Interp *interp, int count, Tcl_Obj *co
     }
     Site *it = (Site *)ckalloc(sizeof *it);
     memset(it, 0, sizeof *it);
-    int code = number < 1 || number > UINT16_MAX ? PT_BAD_NUMBER : pt_site_new(&it->site, (uint32_t)number);
+    int code = number < 1 || number > UINT32_MAX ? PT_BAD_NUMBER : pt_site_new(&it->site, (uint32_t)number);
     if (code != PT_DONE) {
         ckfree((char *)it);
         return refuse_code(interp, code);

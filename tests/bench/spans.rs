@@ -12,15 +12,15 @@ fn scramble(i: u64) -> u64 {
 
 // The site and first count of each span, with its last count and value. Spans never overlap.
 #[derive(Default)]
-struct Tree(BTreeMap<(u16, u64), (u64, u32)>);
+struct Tree(BTreeMap<(u32, u64), (u64, u32)>);
 
 impl Tree {
-    fn get(&self, count: u64, site: u16) -> Option<u32> {
+    fn get(&self, count: u64, site: u32) -> Option<u32> {
         let (key, (last, value)) = self.0.range(..=(site, count)).next_back()?;
         (key.0 == site && count <= *last).then_some(*value)
     }
 
-    fn set(&mut self, site: u16, first: u64, last: u64, value: u32) {
+    fn set(&mut self, site: u32, first: u64, last: u64, value: u32) {
         if let Some((key, old)) = self.0.range_mut(..(site, first)).next_back() {
             if key.0 == site && old.0 >= first {
                 let (end, value) = *old;

@@ -8,7 +8,8 @@ import tempfile
 
 from driving.program import BUILT, ROOT, SITE, check
 from driving.samples import AB, AB_LINE, FILES, HEAD, OLD, TAKE_B, Y, contents, put
-from modelled.sites import Insert, Site, spelling
+from modelled.files import Insert, spelling
+from modelled.sites import Site
 from modelled.words import words_of
 
 # how often each command was seen to be refused; `run` where a run ended

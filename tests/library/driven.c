@@ -121,7 +121,7 @@ static void write_digits(void) {
 static void write_stamp(size_t place) {
     pt_stamp stamp = {0};
     int32_t code = pt_stamp_at(used, (const uint8_t *)".t", 2, place, &stamp);
-    printf("stamp %" PRId32 " %" PRIu64 ".%u\n", code, stamp.count, (unsigned)stamp.site);
+    printf("stamp %" PRId32 " %" PRIu64 ".%" PRIu32 "\n", code, stamp.count, stamp.site);
 }
 
 static void write_place(const char *word) {
@@ -129,7 +129,7 @@ static void write_place(const char *word) {
     pt_stamp stamp = {0};
     size_t place = 0;
     stamp.count = strtoull(word, &dot, 10);
-    stamp.site = (uint16_t)strtoul(dot + 1, NULL, 10);
+    stamp.site = (uint32_t)strtoul(dot + 1, NULL, 10);
     int32_t code = pt_place_of(used, (const uint8_t *)".t", 2, &stamp, &place);
     printf("place %" PRId32 " %zu\n", code, place);
 }

@@ -9,11 +9,11 @@ SOURCES = ROOT / "crates/peertext_c/src"
 IN_C = {
     "Global": (), "u32": ("uint32_t",), "usize": ("size_t",), "&mut usize": ("size_t *",),
     "&[u8]": ("const uint8_t *", "size_t"), "&mut [u8]": ("uint8_t *", "size_t"),
-    "&mut Handle": ("pt_site *",), "&mut Told": ("pt_received *",), "&StampNumbers": ("const pt_stamp *",), "&mut StampNumbers": ("pt_stamp *",),
+    "&mut Handle": ("pt_site *",), "&mut ReceivedNumbers": ("pt_received *",), "&StampNumbers": ("const pt_stamp *",), "&mut StampNumbers": ("pt_stamp *",),
     "i32": ("int32_t",), "isize": ("ptrdiff_t",), "": ("void",),
 }
-STRUCTS = {"Told": "pt_received", "StampNumbers": "pt_stamp"}
-FIELDS = {"u64": "uint64_t", "u16": "uint16_t", "u8": "uint8_t"}
+STRUCTS = {"ReceivedNumbers": "pt_received", "StampNumbers": "pt_stamp"}
+FIELDS = {"u64": "uint64_t", "u32": "uint32_t", "u8": "uint8_t"}
 # what the archive may ask of the program that it is linked with
 ASKED = {"malloc", "realloc", "free", "memcpy", "memmove", "memset", "memcmp", "_GLOBAL_OFFSET_TABLE_"}
 

@@ -30,7 +30,7 @@ static void rounds(long count) {
     char *file = file_of(&site, &len);
     CHECK(file != NULL && pt_ends(&site) == PT_DONE);
     char *ends = said(&site, &ends_len);
-    CHECK(ends_len == 10);
+    CHECK(ends_len == 12);
     CHECK(round_of(&site, file, len, ends, ends_len));
     long blocks_then = blocks;
     size_t bytes_then = bytes_in_blocks;

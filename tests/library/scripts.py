@@ -8,15 +8,19 @@ import tempfile
 
 from driving.program import check
 from driving.samples import FILES
+from modelled.files import read, spelling
 from modelled.words import spelled, words_of
 from refusing.tables import tables
 
 NEW = b"\x01site 0 1\n"
 TEXT = ".t dump -text -tag 1.0 end"
 # stamps at places, and the places of stamps, some of characters that are gone, or of none
-ASKED = [f"\x01stamp {place}" for place in (0, 1, 7)] + [f"\x01place {stamp}" for stamp in ("1.0", "1.1", "2.1", "3.2", "9.1", "12.2", "20.3", "99999.1")]
-# more tags than one Insert lists
-MANY = " ".join(f"t{at}" for at in range(67))
+STAMPS = ("1.0", "1.1", "2.1", "3.2", "9.1", "12.2", "20.3", "1.7", "2.65536", "99999.1")
+ASKED = [f"\x01stamp {place}" for place in (0, 1, 7)] + [f"\x01place {stamp}" for stamp in STAMPS]
+# more tags than one Insert lists in a file of version 1, and than one lists in any
+MANY, MORE = (" ".join(f"t{at}" for at in range(count)) for count in (67, 257))
+# the numbers of sites, some of which only files of version 2 have room for
+NUMBERS = (1, 2, 3, 4), (7, 65535, 65536, 4294967295)
 FAULTS = ("NoMemory BadIndex NoneTagged BadCommand NoWidget WidgetExists NoTag NoMark BadOption BackwardsRange EmptyPattern NothingToUndo "
           "NothingToRedo BadName BadView LastWidget ClockSpent TextFull BadQuoting NoFile").split()
 FAULTS = {**dict(enumerate(FAULTS, 1)), **dict(enumerate("BadMagic BadVersion Truncated BadRecord BadStamp Conflict NotYet BadTarget WaitingFull".split(), 30))}
@@ -180,9 +184,9 @@ def edited(chance, more):
 
 def group(chance, count):
     """Lines of sites that edit and exchange, and in the end all have the same."""
-    lines = [line for site in range(count) for line in (f"\x01site {site} {site + 1}", ".t configure -undo 1")]
-    # more tags than one Insert lists, for which several Tags of one tag are made
-    more = (".t edit undo", ".t edit redo", ".t insert {at} {text} {{" + MANY + "}}")
+    lines = [line for site, number in zip(range(count), chance.choice(NUMBERS)) for line in (f"\x01site {site} {number}", ".t configure -undo 1")]
+    # where an Insert doesn't list all of its tags, several Tags of one tag are made
+    more = (".t edit undo", ".t edit redo", f".t insert {{at}} {{text}} {{{{{chance.choice((MANY, MORE))}}}}}")
     for _ in range(chance.randrange(10, 40)):
         one, other = chance.sample(range(count), 2)
         lines += [f"\x01use {one}"] + [line for _ in range(chance.randrange(4)) for line in edited(chance, more)] + [TEXT, f"\x01{chance.choice(('give', 'lack'))} {other}", TEXT]
@@ -212,5 +216,6 @@ def groups(run, way, count):
         told = 3 + len(ASKED)
         ends = [(text, shown(dump), rest) for text, dump, *rest in (lines[-told * (site + 1):][:told] for site in range(sites))]
         check(f"group {number}, {way}: all agree", all(it == ends[0] for it in ends), True)
-        check(f"group {number}, {way}: a file", ends[0][2][-1].startswith("exported 0 5247415445585431"), True)
+        file = bytes.fromhex(ends[0][2][-1].removeprefix("exported 0 "))
+        check(f"group {number}, {way}: a file", spelling([op for _, op in read(file).records]), file)
     print(f"{count} groups of sites, {way}", flush=True)

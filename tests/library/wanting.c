@@ -129,8 +129,8 @@ static void sites(void) {
 }
 
 static int32_t export_some(pt_site *site) {
-    static const uint8_t ends[20] = {0, 1, 0, 0, 0, 0, 0, 0, 0, 2, 0, 9};
-    return pt_export_since(site, ends, 20);
+    static const uint8_t ends[24] = {0, 0, 0, 1, 0, 0, 0, 0, 0, 0, 0, 2, 0, 0, 0, 9};
+    return pt_export_since(site, ends, 24);
 }
 
 static int32_t change(pt_site *site) {
@@ -196,7 +196,7 @@ static size_t file_said(pt_site *site, int32_t code, char *into) {
 
 /* The file of another site, that of its first operation alone, and that of an operation which a third site made upon this. */
 static void make_files(void) {
-    static const uint8_t end_of_first[10] = {0, 3, 0, 0, 0, 0, 0, 0, 0, 255};
+    static const uint8_t end_of_first[12] = {0, 0, 0, 3, 0, 0, 0, 0, 0, 0, 0, 255};
     pt_site site = PT_NONE, third = PT_NONE;
     pt_received told;
     CHECK(pt_site_new(&site, 3) == PT_DONE && run(&site, ".t insert 1.0 \"cheese, \" red") == 0);
@@ -205,7 +205,7 @@ static void make_files(void) {
     file_len = file_said(&site, pt_export(&site), file);
     CHECK(pt_site_new(&third, 2) == PT_DONE && pt_receive(&third, (const uint8_t *)first, first_len, &told) == PT_DONE && told.fresh == 1);
     CHECK(run(&third, ".t insert 1.2 \"text that is copied where it is told\" {red {not red} fine big new}") == 0);
-    behind_len = file_said(&third, pt_export_since(&third, end_of_first, 10), behind);
+    behind_len = file_said(&third, pt_export_since(&third, end_of_first, 12), behind);
     pt_site_free(&site);
     pt_site_free(&third);
 }

@@ -30,17 +30,14 @@ static void empty_handles(void) {
 }
 
 static void numbers(void) {
-    static const uint32_t none[] = {0, 65536, 65537, 131071, UINT32_MAX};
     pt_site site = PT_NONE;
-    for (size_t at = 0; at < sizeof none / sizeof *none; at++) {
-        CHECK(pt_site_new(&site, none[at]) == PT_BAD_NUMBER);
-        CHECK(!site.held && site.slot.at == NULL);
-    }
-    CHECK(pt_site_new(&site, 65535) == PT_DONE);
+    CHECK(pt_site_new(&site, 0) == PT_BAD_NUMBER);
+    CHECK(!site.held && site.slot.at == NULL);
+    CHECK(pt_site_new(&site, UINT32_MAX) == PT_DONE);
     CHECK(site.held && site.slot.at != NULL);
     CHECK(answers(&site, ".t insert 1.0 ab", 0, "=\n"));
     CHECK(pt_site_new(&site, 2) == PT_IS_HELD);
-    CHECK(pt_site_new(&site, 0) == PT_IS_HELD && pt_site_new(&site, 65536) == PT_IS_HELD);
+    CHECK(pt_site_new(&site, 0) == PT_IS_HELD && pt_site_new(&site, UINT32_MAX) == PT_IS_HELD);
     CHECK(answers(&site, ".t get 1.0 end", 0, "= \"ab\\n\"\n"));
     pt_site_free(&site);
     CHECK(!site.held && site.slot.at == NULL);
@@ -120,8 +117,8 @@ static void zero_bytes(void) {
 
 /* The ends of several sites come by rising numbers. */
 static void ends_rise(void) {
-    static const uint32_t numbers[] = {300, 7, 65535, 256, 2};
-    static const uint8_t rising[] = {0, 2, 0, 7, 1, 0, 1, 44, 255, 255};
+    static const uint32_t numbers[] = {70000, 7, UINT32_MAX, 256, 2};
+    static const uint8_t rising[] = {0, 0, 0, 2, 0, 0, 0, 7, 0, 0, 1, 0, 0, 1, 17, 112, 255, 255, 255, 255};
     pt_site to = PT_NONE;
     uint8_t ends[64] = {0};
     CHECK(pt_site_new(&to, 1) == PT_DONE);
@@ -135,9 +132,9 @@ static void ends_rise(void) {
         free(file);
         pt_site_free(&from);
     }
-    CHECK(pt_ends(&to) == PT_DONE && pt_said(&to, ends, sizeof ends) == 50);
+    CHECK(pt_ends(&to) == PT_DONE && pt_said(&to, ends, sizeof ends) == 60);
     for (size_t at = 0; at < 5; at++) {
-        CHECK(memcmp(ends + 10 * at, rising + 2 * at, 2) == 0);
+        CHECK(memcmp(ends + 12 * at, rising + 4 * at, 4) == 0);
     }
     pt_site_free(&to);
 }
@@ -177,12 +174,15 @@ static void files(pt_site *site) {
     static const char unsound[] = "RGATEXT1\0\0\0\x1f\1\0\0\0\0\0\0\0\3\0\2\0\0\0\0\0\0\0\3\0\0\0\0\0\0\0\0\0\0\0Y";
     CHECK(refused(site, "", 0, PT_FAULT_TRUNCATED, 0));
     CHECK(refused(site, "RGATEXT", 7, PT_FAULT_TRUNCATED, 0));
-    CHECK(refused(site, "RGATEXT2", 8, PT_FAULT_BAD_VERSION, 0));
+    CHECK(refused(site, "RGATEXT3", 8, PT_FAULT_BAD_VERSION, 0));
     CHECK(refused(site, "no file", 7, PT_FAULT_BAD_MAGIC, 0));
     CHECK(refused(site, "RGATEXT1\0\0\0", 11, PT_FAULT_TRUNCATED, 8));
     CHECK(refused(site, "RGATEXT1\0\0\0\1a", 13, PT_FAULT_BAD_RECORD, 8));
     CHECK(refused(site, unsound, sizeof unsound - 1, PT_FAULT_BAD_STAMP, 8));
     CHECK(refused(site, "RGATEXT1", 8, 0, 0));
+    CHECK(refused(site, "RGATEXT2", 8, 0, 0));
+    CHECK(refused(site, "RGATEXT2\0\0\0\x14", 12, PT_FAULT_BAD_RECORD, 8));
+    CHECK(refused(site, "RGATEXT2\0\0\0\x15", 12, PT_FAULT_TRUNCATED, 8));
 }
 
 static void too_many_bytes(pt_site *site) {
@@ -198,19 +198,19 @@ static void too_many_bytes(pt_site *site) {
 }
 
 static void counts(pt_site *site) {
-    static const uint8_t ends[31] = {0, 1, 0, 0, 0, 0, 0, 0, 0, 2};
-    static const uint8_t first_holds[20] = {0, 1, 0, 0, 0, 0, 0, 0, 0, 2, 0, 1};
-    static const uint8_t within[10] = {0, 1, 0, 0, 0, 0, 0, 0, 0, 1};
-    static const uint8_t others[20] = {0, 0, 0, 0, 0, 0, 0, 0, 0, 2, 255, 255, 255, 255, 255, 255, 255, 255, 255, 255};
-    uint8_t own[10];
-    CHECK(pt_ends(site) == PT_DONE && pt_said(site, own, 10) == 10 && memcmp(own, ends, 10) == 0);
+    static const uint8_t ends[37] = {0, 0, 0, 1, 0, 0, 0, 0, 0, 0, 0, 2};
+    static const uint8_t first_holds[24] = {0, 0, 0, 1, 0, 0, 0, 0, 0, 0, 0, 2, 0, 0, 0, 1};
+    static const uint8_t within[12] = {0, 0, 0, 1, 0, 0, 0, 0, 0, 0, 0, 1};
+    static const uint8_t others[24] = {0, 0, 0, 0, 0, 0, 0, 0, 0, 0, 0, 2, 255, 255, 255, 255, 255, 255, 255, 255, 255, 255, 255, 255};
+    uint8_t own[12];
+    CHECK(pt_ends(site) == PT_DONE && pt_said(site, own, 12) == 12 && memcmp(own, ends, 12) == 0);
     for (size_t len = 0; len <= sizeof ends; len++) {
-        CHECK(pt_export_since(site, ends, len) == (len % 10 == 0 ? PT_DONE : PT_BAD_BYTES));
+        CHECK(pt_export_since(site, ends, len) == (len % 12 == 0 ? PT_DONE : PT_BAD_BYTES));
     }
-    CHECK(pt_export_since(site, ends, 10) == PT_DONE && says(site, "RGATEXT1"));
-    CHECK(pt_export_since(site, first_holds, 20) == PT_DONE && says(site, "RGATEXT1"));
-    CHECK(pt_export_since(site, within, 10) == PT_DONE && pt_said(site, own, 0) == 44);
-    CHECK(pt_export_since(site, others, 20) == PT_DONE && pt_said(site, own, 0) == 44);
+    CHECK(pt_export_since(site, ends, 12) == PT_DONE && says(site, "RGATEXT1"));
+    CHECK(pt_export_since(site, first_holds, 24) == PT_DONE && says(site, "RGATEXT1"));
+    CHECK(pt_export_since(site, within, 12) == PT_DONE && pt_said(site, own, 0) == 44);
+    CHECK(pt_export_since(site, others, 24) == PT_DONE && pt_said(site, own, 0) == 44);
     CHECK(pt_export_since(site, ends, 0) == PT_DONE && pt_said(site, own, 0) == 44);
     CHECK(pt_export_since(site, ends, 9) == PT_BAD_BYTES && pt_said(site, own, 0) == 44);
 }
@@ -239,7 +239,7 @@ static void cursors(pt_site *site) {
     CHECK(stamp.count == 7 && stamp.site == 8);
     CHECK(pt_place_of(site, path, 2, &stamp, &place) == PT_NOT_THERE);
     CHECK(pt_place_of(site, (const uint8_t *)".none", 5, &(pt_stamp){1, 1}, &place) == PT_NOT_THERE);
-    CHECK(pt_place_of(site, path, 2, &(pt_stamp){UINT64_MAX, 65535}, &place) == PT_NOT_THERE);
+    CHECK(pt_place_of(site, path, 2, &(pt_stamp){UINT64_MAX, UINT32_MAX}, &place) == PT_NOT_THERE);
     CHECK(place == 9);
     CHECK(pt_stamp_at(site, path, 2, 1, &stamp) == PT_DONE && stamp.count == 2 && stamp.site == 1);
     CHECK(pt_place_of(site, path, 2, &stamp, &place) == PT_DONE && place == 1);

@@ -24,7 +24,13 @@ class Chance(random.Random):
     def list(self):
         if self.random() < .03:
             return self.choice(['"t', "{t", '"t"u', "{t}u", '"\\q"', "{t}}"])
-        return self.choice(["", " ", "\n"]) + self.choice([" ", "\n", "\t", "  "]).join(spelled(self.tag()) for _ in range(self.randrange(4)))
+        # now and then more than an Insert lists in a file of version 1, or in any file
+        names = self.many() if self.random() < .06 else [self.tag() for _ in range(self.randrange(4))]
+        return self.choice(["", " ", "\n"]) + self.choice([" ", "\n", "\t", "  "]).join(map(spelled, names))
+
+    def many(self):
+        count = self.choice([64, 65, 70, 255, 256, 260])
+        return self.sample([f"t{number}" for number in range(count)], count)
 
     def word(self):
         base = self.choice([f"{self.randrange(5)}.{self.randrange(9)}", f"{self.randrange(1, 5)}.end", "end", self.name(), self.tag() + self.choice([".first", ".last"]) if self.random() < .4 else "1.0", "x" if self.random() < .2 else "insert"])

@@ -2,27 +2,33 @@
 import os
 import subprocess
 
+from modelled.files import TWO, Insert, last_count, read, spelling, stamp
 from modelled.peers import Peers
-from modelled.sites import Insert, Site, last_count, spelling, stamp
+from modelled.sites import Site
 from modelled.words import BAD_COMMAND, NO_FILE, spelled
 
 
+# the numbers of sites, some of which only files of version 2 have room for
+NUMBERS = ([1, 2, 3, 4], [7, 65535, 65536, 4294967295])
+
+
 class Group:
-    """Sites with their files, in a folder. A file is a list of operations in stamp order, and how many bytes there are of it."""
+    """Sites with their files, in a folder."""
 
     def __init__(self, program, chance, folder, count, has_peers):
         self.program, self.chance, self.folder, self.has_peers = program, chance, folder, has_peers
         # whether operations are forged, so that sites need not agree in the end
         self.is_forging = chance.random() < .25
-        self.logs = {site: [] for site in chance.sample([1, 2, 3, 7, 65535], count)}
+        self.logs = {site: [] for site in chance.sample(chance.choice(NUMBERS), count)}
         self.files = {}
 
-    def write(self, name, ops, size=None):
-        data = spelling(ops)
-        size = len(data) if size is None else min(size, len(data))
+    def write(self, name, ops, is_cut=False):
+        """A file in the version that is written, or in version 2, which has room for all operations; or a front of it."""
+        data = spelling(ops, TWO if self.chance.random() < .3 else None)
+        data = data[:self.chance.randrange(len(data))] if is_cut else data
         with open(os.path.join(self.folder, name), "wb") as file:
-            file.write(data[:size])
-        self.files[name] = (sorted(ops, key=stamp), size)
+            file.write(data)
+        self.files[name] = read(data)
 
     def snapshot(self, site, turn):
         """A site's log as a file for others: the whole of it, its later operations alone, some of them, one, or a front of its bytes."""
@@ -35,7 +41,7 @@ class Group:
         if ops and self.chance.random() < .3:
             self.write(f"{site}.{turn}.one", [self.chance.choice(ops)])
         if self.chance.random() < .2:
-            self.write(f"{site}.{turn}.cut", ops, self.chance.randrange(len(spelling(ops))))
+            self.write(f"{site}.{turn}.cut", ops, is_cut=True)
         if ops and self.is_forging:
             self.write(f"{site}.{turn}.forged", self.forged(ops))
 
@@ -66,7 +72,7 @@ class Group:
         """Whether the program answers a script of a site as the model does, and leaves the same log."""
         model, wants = Peers(site), []
         if self.logs[site]:
-            model.receive((sorted(self.logs[site], key=stamp), len(spelling(self.logs[site]))))
+            model.receive(read(spelling(self.logs[site])))
         for words in script:
             if words[0] != "receive":
                 wants.append(model.reply_to(words))

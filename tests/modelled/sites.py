@@ -1,71 +1,18 @@
 """The plain model of a site: a widget over the operations that it has accepted, which are all read again after each
-(docs/REPLICATION.md), and the bytes of operations (docs/FILES.md)."""
+(docs/REPLICATION.md)."""
 import collections
 import re
 
+from modelled.files import TWO, Delete, Insert, Tag, last_count, made, named, spans_of, stamp, stamps_of
 from modelled.undo import Action, Undo
 from modelled.widget import Widget, shared
-from modelled.words import BAD_COMMAND, BAD_OPTION, NOTHING_TO_REDO, NOTHING_TO_UNDO, TRUNCATED, Refused
+from modelled.words import BAD_COMMAND, BAD_OPTION, NOTHING_TO_REDO, NOTHING_TO_UNDO, Refused
 
-# an operation: its count, site and prev; for an Insert the stamp that it goes after, the text and its tags; for a Delete the
-# stamps; for a Tag whether it is on, its name and the stamps
-Insert = collections.namedtuple("Insert", "count site prev after text tags")
-Delete = collections.namedtuple("Delete", "count site prev stamps")
-Tag = collections.namedtuple("Tag", "count site prev stamps on name")
 ROOT_STAMP, FINAL_STAMP = (0, 0), (1, 0)
-# of an Insert
-MOST_TAGS = 64
 # what is answered to an operation that is offered
 NEW, REPEAT, EARLY, CONFLICT, BAD_TARGET = "new", "repeat", "early", "! 35 Conflict", "! 37 BadTarget"
 TRUTHS = {"1": True, "true": True, "yes": True, "on": True, "0": False, "false": False, "no": False, "off": False}
 MOST_GROUPS = 2**63 - 1
-
-
-def stamp(op):
-    return op.count, op.site
-
-
-def last_count(op):
-    return op.count + len(op.text) - 1 if isinstance(op, Insert) else op.count
-
-
-def made(op):
-    """The stamps of the characters of an Insert."""
-    return [(op.count + i, op.site) for i in range(len(op.text))] if isinstance(op, Insert) else []
-
-
-def named(op):
-    return [op.after] if isinstance(op, Insert) else op.stamps
-
-
-def number(n, size):
-    return n.to_bytes(size, "big")
-
-
-def spans(stamps):
-    found = []
-    for count, site in sorted(stamps, key=lambda s: (s[1], s[0])):
-        if found and found[-1][0] == site and found[-1][2] == count - 1:
-            found[-1][2] = count
-        else:
-            found.append([site, count, count])
-    return number(len(found), 4) + b"".join(number(site, 2) + number(first, 8) + number(last, 8) for site, first, last in found)
-
-
-def record(op):
-    if isinstance(op, Insert):
-        tags = sorted(tag.encode() for tag in op.tags)
-        kind, body = 1, number(op.after[0], 8) + number(op.after[1], 2) + number(len(tags), 1) + b"".join(number(len(t), 1) + t for t in tags) + op.text.encode()
-    elif isinstance(op, Delete):
-        kind, body = 2, spans(op.stamps)
-    else:
-        kind, body = 3, number(op.on, 1) + number(len(op.name.encode()), 1) + op.name.encode() + spans(op.stamps)
-    content = number(kind, 1) + number(op.count, 8) + number(op.site, 2) + number(op.prev, 8) + body
-    return number(len(content), 4) + content
-
-
-def spelling(ops):
-    return b"RGATEXT1" + b"".join(record(op) for op in sorted(ops, key=stamp))
 
 
 def cells(ops):
@@ -83,10 +30,10 @@ def cells(ops):
                 for tag in op.tags:
                     said[here].setdefault(tag, True)
         elif isinstance(op, Delete):
-            gone |= set(op.stamps)
+            gone |= set(stamps_of(op))
         else:
             # by rising stamp, so the last is the greatest; each is greater than the Inserts of what it names
-            for here in op.stamps:
+            for here in stamps_of(op):
                 said[here][op.name] = op.on
     order, rest = [], [ROOT_STAMP]
     while rest:
@@ -99,7 +46,7 @@ def cells(ops):
 def listed_tags(tags):
     """The shared tags that an Insert takes along, and those for which a Tag follows."""
     names = sorted(shared(tags), key=str.encode)
-    return frozenset(names[:MOST_TAGS]), names[MOST_TAGS:]
+    return frozenset(names[:TWO.most_tags]), names[TWO.most_tags:]
 
 
 def reading(ops):
@@ -156,7 +103,7 @@ class Site(Widget):
         self.stamps[p:p] = made(op)
         self.put_in += made(op)
         for name in rest:
-            self.make(Tag, made(op), True, name)
+            self.make(Tag, spans_of(made(op)), True, name)
 
     def shown_at(self, places):
         """What is visible at places: stamps, characters and shared tags."""
@@ -165,15 +112,15 @@ class Site(Widget):
     def is_removing(self, gone, cleared):
         self.taken_away += self.shown_at(gone)
         if gone:
-            self.make(Delete, [self.stamps[p] for p in gone])
+            self.make(Delete, spans_of(self.stamps[p] for p in gone))
         for p in cleared:
             for tag in sorted(shared(self.tags[p]), key=str.encode):
-                self.make(Tag, [self.stamps[p]], False, tag)
+                self.make(Tag, spans_of([self.stamps[p]]), False, tag)
         self.stamps = [here for p, here in enumerate(self.stamps) if p not in set(gone)]
 
     def is_tagging(self, name, places, on):
         if places and name != "sel":
-            self.make(Tag, [self.stamps[p] for p in places], on, name)
+            self.make(Tag, spans_of(self.stamps[p] for p in places), on, name)
 
     # undo
 
@@ -182,14 +129,14 @@ class Site(Widget):
         gone = [p for p, here in enumerate(self.stamps) if here in action.put]
         taken, order = self.shown_at(gone), [here for here, *_ in cells(self.ops)]
         if gone:
-            self.take(self.own(Delete, [here for here, *_ in taken]))
+            self.take(self.own(Delete, spans_of(here for here, *_ in taken)))
         renamed = []
         for old, char, tags in sorted(action.taken, key=lambda t: order.index(t[0])):
             first, rest = listed_tags(tags)
             op = self.own(Insert, old, char, first)
             self.take(op)
             for name in rest:
-                self.take(self.own(Tag, made(op), True, name))
+                self.take(self.own(Tag, spans_of(made(op)), True, name))
             renamed.append((old, stamp(op)))
         return Action(action.number, action.kind, [new for _, new in renamed], taken), renamed
 
@@ -322,23 +269,19 @@ class Site(Widget):
         return 0, answer if answer in (CONFLICT, BAD_TARGET) else None
 
     def receive(self, file):
-        """The reply to a file: a list of operations, and how many of its bytes there are."""
-        ops, size = file
+        """The reply to a file that was read."""
         new = repeats = 0
-        at, fault = 8, None
-        for op in ops:
-            if at + len(record(op)) > size:
-                break
+        fault, at = file.fault, file.end
+        for offset, op in file.records:
             again = op in self.ops or op in self.held and self.answer_to(op) == EARLY
-            more, fault = self.accept(op)
-            if fault:
+            more, refusal = self.accept(op)
+            if refusal:
+                fault, at = refusal, offset
                 break
-            repeats, new, at = repeats + again, new + more, at + len(record(op))
-        if not fault and (size < 8 or at < size):
-            fault = TRUNCATED
+            repeats, new = repeats + again, new + more
         held = len(self.held)
         if fault:
-            return f"{fault} at {at if size >= 8 else 0} new {new} repeat {repeats}" + (f" held {held}" if held else "")
+            return f"{fault} at {at} new {new} repeat {repeats}" + (f" held {held}" if held else "")
         return f"= {new} {repeats}" + (f" {held}" if held else "")
 
     def is_sound(self):

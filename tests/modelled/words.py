@@ -6,9 +6,8 @@ class Refused(Exception):
     pass
 
 
-BAD_INDEX, NONE_TAGGED, BAD_COMMAND, NO_TAG, NO_MARK, BAD_OPTION, BAD_NAME, BAD_QUOTING, NO_FILE, TRUNCATED = (
-    "! 2 BadIndex", "! 3 NoneTagged", "! 4 BadCommand", "! 7 NoTag", "! 8 NoMark", "! 9 BadOption", "! 14 BadName", "! 19 BadQuoting", "! 20 NoFile",
-    "! 32 Truncated")
+BAD_INDEX, NONE_TAGGED, BAD_COMMAND, NO_TAG, NO_MARK, BAD_OPTION, BAD_NAME, BAD_QUOTING, NO_FILE = (
+    "! 2 BadIndex", "! 3 NoneTagged", "! 4 BadCommand", "! 7 NoTag", "! 8 NoMark", "! 9 BadOption", "! 14 BadName", "! 19 BadQuoting", "! 20 NoFile")
 BACKWARDS_RANGE, EMPTY_PATTERN = "! 10 BackwardsRange", "! 11 EmptyPattern"
 NOTHING_TO_UNDO, NOTHING_TO_REDO = "! 12 NothingToUndo", "! 13 NothingToRedo"
 

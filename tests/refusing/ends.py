@@ -1,7 +1,7 @@
 """The program's begin and end, its joins and shows, and the words of its command line, with each allocation refused in turn."""
 from driving.program import check
 from driving.samples import OLD
-from modelled.sites import spelling
+from modelled.files import spelling
 from refusing.rows import probes
 from refusing.runs import ENDED, NO_MEMORY, each_refusal, script_of
 from refusing.scripts import BYTES, KNOWN, LOGS
@@ -67,6 +67,7 @@ def last_lines(library, table):
 
 def joins(library, table):
     for first, second, ops, error in (("deleted", "y", LOGS["deleted"] + LOGS["y"], ""), ("theirs", "late", LOGS["theirs"], ""), ("none", "several", LOGS["several"], ""),
+                                      ("deleted2", "far", LOGS["deleted"] + LOGS["far"][1:], ""),
                                       ("ab", "clashing", None, "peertext: 35 Conflict\n"), ("all", "cut", None, "peertext: cut: 32 Truncated at 44\n"),
                                       ("unsound", "ab", None, "peertext: unsound: 34 BadStamp at 8\n")):
         whole = ([], error, int(bool(error)), OLD if ops is None else spelling(ops))
@@ -75,7 +76,7 @@ def joins(library, table):
 
 
 SHOWN = {
-    "deleted": ["insert 1.1 prev 0 after 0.0 text ab tags", "delete 3.1 prev 2 spans 1:2-2"],
+    **dict.fromkeys(("deleted", "deleted2"), ["insert 1.1 prev 0 after 0.0 text ab tags", "delete 3.1 prev 2 spans 1:2-2"]),
     "theirs": [r'insert 1.3 prev 0 after 0.0 text "hello\nworld" tags t', 'insert 12.2 prev 0 after 2.3 text XY tags "a b" u', "delete 14.2 prev 13 spans 2:12-12 3:4-4",
                "tag 15.2 prev 14 on v spans 0:1-1 3:1-1 3:8-8", "tag 16.2 prev 15 off t spans 3:1-2", r'insert 17.2 prev 16 after 6.3 text "new\nline" tags'],
     "cut": ["insert 1.1 prev 0 after 0.0 text ab tags"],

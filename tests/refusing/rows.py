@@ -4,7 +4,7 @@ import copy
 import os
 
 from driving.program import check
-from modelled.sites import spelling
+from modelled.files import spelling
 from modelled.words import Refused, spelled, words_of
 from refusing.runs import ENDED, NO_MEMORY, each_refusal, script_of
 from refusing.scripts import KNOWN

@@ -3,19 +3,19 @@ texts, words or lists are long. A row is a line with its reply, an empty one whe
 comes before others."""
 import random
 
-from modelled.sites import Delete, Insert, Tag, spelling
+from modelled.files import TWO, Delete, Insert, Tag, read, spelling
 from refusing.tables import scripts_of
-from refusing.wanting import File, size_of
 
-ROOT, FINAL, NONE = (0, 0), (1, 0), frozenset()
+# the stamp of the root, the span of the last newline, and no tags
+ROOT, FINAL, NONE = (0, 0), (0, 1, 1), frozenset()
 AB = Insert(1, 1, 0, ROOT, "ab", NONE)
-TAKE_B = Delete(3, 1, 2, [(2, 1)])
+TAKE_B = Delete(3, 1, 2, [(1, 2, 2)])
 Y = Insert(3, 2, 0, (1, 1), "Y", NONE)
 MANY_TAGS = frozenset(f"tag {number}" for number in range(60))
 # what site 2 did upon `hello`, a newline and `world` of site 3
 HELLO = Insert(1, 3, 0, ROOT, "hello\nworld", frozenset({"t"}))
-THEIRS = [Insert(12, 2, 0, (2, 3), "XY", frozenset({"u", "a b"})), Delete(14, 2, 13, [(4, 3), (12, 2)]), Tag(15, 2, 14, [(1, 3), (8, 3), FINAL], True, "v"),
-          Tag(16, 2, 15, [(1, 3), (2, 3)], False, "t"), Insert(17, 2, 16, (6, 3), "new\nline", NONE)]
+THEIRS = [Insert(12, 2, 0, (2, 3), "XY", frozenset({"u", "a b"})), Delete(14, 2, 13, [(2, 12, 12), (3, 4, 4)]),
+          Tag(15, 2, 14, [FINAL, (3, 1, 1), (3, 8, 8)], True, "v"), Tag(16, 2, 15, [(3, 1, 2)], False, "t"), Insert(17, 2, 16, (6, 3), "new\nline", NONE)]
 LOGS = {
     "none": [],
     "ab": [AB],
@@ -26,32 +26,27 @@ LOGS = {
     "z": [Insert(4, 2, 3, (3, 2), "Z", frozenset({"z"}))],
     "x": [Insert(4, 2, 0, (1, 1), "X", NONE)],
     "q": [Insert(10, 2, 0, (4, 1), "Q", MANY_TAGS)],
-    "tagged": [AB, Tag(3, 1, 2, [(1, 1), FINAL], True, "t")],
+    "tagged": [AB, Tag(3, 1, 2, [FINAL, (1, 1, 1)], True, "t")],
     "theirs": [HELLO, *THEIRS],
     "late": THEIRS[2:],
-    "all": [AB, TAKE_B, Y, Tag(4, 1, 3, [(1, 1), (3, 2)], True, "t")],
+    "all": [AB, TAKE_B, Y, Tag(4, 1, 3, [(1, 1, 1), (2, 3, 3)], True, "t")],
+    # of a site that files of version 1 have no room for, as they have none for the tags
+    "far": [AB, Insert(3, 70000, 0, (2, 1), "c", frozenset(f"far {number}" for number in range(65))), Delete(4, 70000, 3, [(1, 2, 2), (70000, 3, 3)])],
     "clashing": [AB._replace(text="cd")],
     "unsound": [AB._replace(after=(1, 1))],
     "of_nothing": [AB, Insert(5, 2, 0, (4, 2), "q", NONE)],
     "several": [Insert(number, 4, number - 1, (number - 1, 4) if number > 1 else ROOT, "s", frozenset({f"s{number}"})) for number in range(1, 9)],
 }
-# files with a fault: the operations, as many bytes as there are of them, and the fault
-FAULTY = {
-    "cut": ([AB, TAKE_B], 80, None),
-    "empty": ([], 0, None),
-    "magic": ([], 8, "! 30 BadMagic at 0"),
-    "version": ([], 8, "! 31 BadVersion at 0"),
-    "bad": ([AB], 44, "! 33 BadRecord at 44"),
-}
 BYTES = {
     **{name: spelling(ops) for name, ops in LOGS.items()},
+    "deleted2": spelling(LOGS["deleted"], TWO),
     "cut": spelling(LOGS["deleted"])[:80],
     "empty": b"",
     "magic": b"XGATEXT1",
     "version": b"RGATEXT9",
     "bad": spelling([AB]) + b"\0\0\0\x12" + bytes(18),
 }
-KNOWN = {**{name: File(sorted(ops), size_of(ops)) for name, ops in LOGS.items()}, **{name: File(*entry) for name, entry in FAULTY.items()}}
+KNOWN = {name: read(data) for name, data in BYTES.items()}
 
 # by the number of the site
 RECEIVED = {
@@ -85,6 +80,12 @@ receive "a -> ! 19 BadQuoting
 
 receive several -> = 8 0
 .t tag names -> = sel s1 s2 s3 s4 s5 s6 s7 s8
+
+receive ab -> = 1 0
+receive deleted2 -> = 1 1
+receive far -> = 2 1
+receive far -> = 0 3
+.t get 1.0 end -> = "a\n"
 """,
     3: r"""
 receive y -> = 0 0 1

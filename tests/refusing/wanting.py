@@ -1,14 +1,11 @@
 """The plain model of a site that finds no memory once, and the ways that a line may go for it."""
-import collections
 import copy
 
+from modelled.files import BAD_RECORD, Insert, stamp
 from modelled.peers import Peers
-from modelled.sites import EARLY, NEW, Insert, record, stamp
+from modelled.sites import EARLY, NEW
 from modelled.words import BAD_COMMAND, NO_FILE, Refused, words_of
 from refusing.runs import NO_MEMORY
-
-# a file of operations, of which so many bytes are there, and its fault, if it has one behind them
-File = collections.namedtuple("File", "ops size fault", defaults=(None,))
 
 
 class Wanting(Peers):
@@ -46,14 +43,9 @@ class Wanting(Peers):
         return count
 
     def receive(self, file):
-        line = super().receive((file.ops, file.size))
-        if not file.fault or line[0] != "=":
-            return line
-        new, repeats, *held = line.split()[1:]
-        *broken, offset = file.fault.split()
+        line, broken = super().receive(file), f"{BAD_RECORD} at {file.end} "
         # a broken record may take memory before it is found to be one
-        lacks = "BadRecord" in broken and self.offers + 1 == self.refused_offer
-        return " ".join([f"{NO_MEMORY} at {offset}" if lacks else file.fault, f"new {new} repeat {repeats}", *(f"held {number}" for number in held)])
+        return NO_MEMORY + line[len(BAD_RECORD):] if line.startswith(broken) and self.offers + 1 == self.refused_offer else line
 
     def answered(self, line):
         """The reply line to a line of a script."""
@@ -87,9 +79,5 @@ def ways(site, line):
     found = [(reply, after), (NO_MEMORY, copy.deepcopy(site))]
     file = site.files.get(line.split()[1]) if line.startswith("receive ") else None
     if file:
-        found += [wants(site, line, offer=number)[:2] for number in range(1, len(file.ops) + 2)]
+        found += [wants(site, line, offer=number)[:2] for number in range(1, len(file.records) + 2)]
     return found + [wants(site, line, held=number, stays=stays)[:2] for number in range(1, tried + 1) for stays in (True, False)]
-
-
-def size_of(ops):
-    return 8 + sum(len(record(op)) for op in ops)

@@ -121,7 +121,7 @@ proc refusals {} {
     refused {PEERTEXT -3 IsHeld} peertext::site a 3
     refused {PEERTEXT -3 IsHeld} peertext::site set 3
     refused {PEERTEXT -4 BadNumber} peertext::site c 0
-    refused {PEERTEXT -4 BadNumber} peertext::site c 65536
+    refused {PEERTEXT -4 BadNumber} peertext::site c 4294967296
     refused {PEERTEXT -4 BadNumber} peertext::site c 4294967297
     refused {TCL VALUE NUMBER} peertext::site c x
     refused {TCL WRONGARGS} peertext::site c

@@ -13,7 +13,7 @@ use Rattle.rt_holding.specs.declared.receiving.Received.{Received}
 use Rattle.rt_peers.specs.SiteStep.{log_of}
 use Rattle.rt_script.specs.Changes.{change_lines}
 use Rattle.rt_script.specs.LineSite.{AreEndsOf, LineSiteValue, ReceivesTelling, RunsLine, file_since, in_front, known_changes, new_line_site, place_at_path, saying}
-use Rattle.peertext_c.specs.declared.numbers.Told.{Told}
+use Rattle.peertext_c.specs.declared.numbers.ReceivedNumbers.{ReceivedNumbers}
 use Rattle.peertext_c.specs.declared.numbers.StampNumbers.{StampNumbers}
 use Rattle.peertext_c.specs.Codes.{BAD_BYTES, BAD_NUMBER, DONE, IS_HELD, NOT_KNOWN, NOT_THERE, NO_MEMORY, NO_SITE}
 
@@ -25,19 +25,16 @@ IsNoSite old result new = (result ≡ NO_SITE) × (old ≡ None) × (new ≡ Non
 abbrev pub AnswersCode : ℤ → Option LineSiteValue → ℤ → Option LineSiteValue → Type 0
 AnswersCode code old result new = (result ≡ code) × ((held : LineSiteValue) × (old ≡ Some held)) × (new ≡ old)
 
--- the numbers that sites have, and those that none has
+-- the numbers that sites have: of those of 32 bits 0 alone is none
 abbrev pub IsSiteNumber : ℕ → Type 0
 IsSiteNumber number = (0 < number) × (number ≤ GREATEST_SITE)
-
-abbrev pub IsNoSiteNumber : ℕ → Type 0
-IsNoSiteNumber number = (number ≡ 0) ⊎ (GREATEST_SITE < number)
 
 -- A site is made where there is none and its number is that of a site.
 abbrev pub MakesSite : ℕ → Option LineSiteValue → ℤ → Option LineSiteValue → Type 0
 MakesSite number old result new =
     ((result ≡ DONE) × IsSiteNumber number × (old ≡ None) × (new ≡ Some (new_line_site number MOST_CELLS)))
     ⊎ AnswersCode IS_HELD old result new
-    ⊎ ((result ≡ BAD_NUMBER) × IsNoSiteNumber number × (old ≡ None) × (new ≡ None))
+    ⊎ ((result ≡ BAD_NUMBER) × (number ≡ 0) × (old ≡ None) × (new ≡ None))
     ⊎ ((result ≡ NO_MEMORY) × IsSiteNumber number × (old ≡ None) × (new ≡ None))
 
 -- A line is run, and the number of its fault is answered, or 0.
@@ -90,7 +87,7 @@ fault_numbers None = (0, 0)
 fault_numbers (Some (fault, offset)) = (number_of fault, offset)
 
 -- what became of a file, as numbers
-abbrev pub received_numbers : Received → Told
+abbrev pub received_numbers : Received → ReceivedNumbers
 received_numbers received = record {
   fresh = received.new;
   repeats = received.repeats;
@@ -100,7 +97,7 @@ received_numbers received = record {
 }
 
 -- A file of no more bytes than one may have is received, and what became of it is told.
-abbrev pub IsReceived : List ℕ → Option LineSiteValue → Told → ℤ → Option LineSiteValue → Told → Type 0
+abbrev pub IsReceived : List ℕ → Option LineSiteValue → ReceivedNumbers → ℤ → Option LineSiteValue → ReceivedNumbers → Type 0
 IsReceived bytes old room result new told =
     (IsNoSite old result new × (told ≡ room))
     ⊎ ((MOST_BYTES < length bytes) × AnswersCode BAD_BYTES old result new × (told ≡ room))

@@ -6,7 +6,7 @@
 #![tactic(auto)]
 
 ghost use Rattle.std.specs.Prelude.{◌≡◌, MatchOption, None};
-ghost use Rattle.peertext_c.specs.Calls.{CountsChanges, IsCommanded, IsFound, MakesSite, FindsPlace, IsNoSiteNumber, IsReceived, TellsSaid, IsSiteNumber, Says};
+ghost use Rattle.peertext_c.specs.Calls.{CountsChanges, IsCommanded, IsFound, MakesSite, FindsPlace, IsReceived, TellsSaid, IsSiteNumber, Says};
 ghost use Rattle.peertext_c.specs.Calls.{SaysChange, SaysEnds, SaysSince, file_of, stamp_numbers, stamp_of_numbers};
 ghost use Rattle.peertext_c.specs.Codes.{NOT_THERE};
 ghost use Rattle.rt_script.specs.LineSite.{place_of_path, stamp_of_path};
@@ -16,9 +16,9 @@ mod numbers;
 mod parts;
 
 use handle::Handle;
-use numbers::{StampNumbers, Told};
+use numbers::{ReceivedNumbers, StampNumbers};
 use rt_script::{LineSite, SiteState};
-use rt_stamps::limits::{GREATEST_SITE, MOST_BYTES, MOST_CELLS};
+use rt_stamps::limits::{MOST_BYTES, MOST_CELLS};
 use rt_stamps::{Fault, Site, Stamp};
 use std::alloc::Global;
 
@@ -39,17 +39,14 @@ const NOT_THERE: i32 = -6;
 
 const NOT_KNOWN: i32 = -7;
 
-// The site of a number from 1 to 65,535.
+// The site of a number from 1 to 4,294,967,295.
 fn site_of(number: u32) -> Option<Site>
-    ensures { MatchOption result (IsNoSiteNumber number) (λ site. IsSiteNumber number × (site.number ≡ number)) }
+    ensures { MatchOption result (number ≡ 0) (λ site. IsSiteNumber number × (site.number ≡ number)) }
 {
-    if number > u32::from(GREATEST_SITE) {
-        return None;
-    }
-    Site::new(number as u16)
+    Site::new(number)
 }
 
-/// Makes a new site of a number from 1 to 65,535 in a handle that holds none. 0, or -3 where it holds one, -4 for a
+/// Makes a new site of a number from 1 to 4,294,967,295 in a handle that holds none. 0, or -3 where it holds one, -4 for a
 /// number that no site has, or -2 for want of memory.
 #[unsafe(no_mangle)]
 pub extern "C" fn pt_site_new(alloc: Global, handle: &mut Handle, number: u32) -> i32
@@ -122,7 +119,7 @@ pub extern "C" fn pt_receive(
     alloc: Global,
     handle: &mut Handle,
     bytes: &[u8],
-    told: &mut Told,
+    told: &mut ReceivedNumbers,
 ) -> i32
     ensures { IsReceived bytes.now handle.old.slot.value told.old result handle.new.slot.value told.new }
 {
@@ -133,7 +130,7 @@ pub extern "C" fn pt_receive(
         handle.put(kept);
         return BAD_BYTES;
     }
-    *told = Told::of(kept.receive(bytes));
+    *told = ReceivedNumbers::of(kept.receive(bytes));
     handle.put(kept);
     DONE
 }
@@ -175,8 +172,8 @@ pub extern "C" fn pt_change(alloc: Global, handle: &mut Handle, number: usize) -
     handle.say(kept, made)
 }
 
-/// Says the file of all operations that the site accepted or made. Those that it holds (`held` of `Told`) are not in
-/// it, and are to be received again after a restart. 0; or -1 where there is no site, or -2 for want of memory.
+/// Says the file of all operations that the site accepted or made. Those that it holds (`held` of `ReceivedNumbers`) are
+/// not in it, and are to be received again after a restart. 0; or -1 where there is no site, or -2 for want of memory.
 #[unsafe(no_mangle)]
 pub extern "C" fn pt_export(alloc: Global, handle: &mut Handle) -> i32
     ensures { Says file_of handle.old.slot.value result handle.new.slot.value }
@@ -188,7 +185,7 @@ pub extern "C" fn pt_export(alloc: Global, handle: &mut Handle) -> i32
     handle.say(kept, made)
 }
 
-/// Says the last count that the site knows of each site, by rising numbers of these, each in 10 bytes, the number (2)
+/// Says the last count that the site knows of each site, by rising numbers of these, each in 12 bytes, the number (4)
 /// and the count (8), the highest byte first. 0; or -1 where there is no site, or -2 for want of memory.
 #[unsafe(no_mangle)]
 pub extern "C" fn pt_ends(alloc: Global, handle: &mut Handle) -> i32

@@ -7,7 +7,7 @@ use rt_script::Received;
 /// What became of a file that was received.
 #[repr(C)]
 #[derive(Clone, Copy)]
-pub struct Told {
+pub struct ReceivedNumbers {
     /// How many operations were accepted, of the file and of those that had been held: as many as `pt_changes` counts then.
     pub fresh: u64,
     /// How many of the file's operations the site had or held already.
@@ -27,15 +27,15 @@ pub struct Told {
 #[derive(Clone, Copy)]
 pub struct StampNumbers {
     pub count: u64,
-    pub site: u16,
+    pub site: u32,
 }
 
-impl Told {
+impl ReceivedNumbers {
     /// Of a file.
-    pub(crate) fn of(received: Received) -> Told
+    pub(crate) fn of(received: Received) -> ReceivedNumbers
         ensures { result ≡ received_numbers received }
     {
-        let told = Told {
+        let told = ReceivedNumbers {
             fresh: received.new,
             repeats: received.repeats,
             held: received.held,
@@ -43,7 +43,7 @@ impl Told {
             fault: 0,
         };
         match received.fault {
-            Some((fault, offset)) => Told {
+            Some((fault, offset)) => ReceivedNumbers {
                 offset,
                 fault: fault.number(),
                 ..told

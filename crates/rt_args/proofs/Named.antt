@@ -75,7 +75,7 @@ line_found name found rows is (Err e) h = tt
 
 -- ---- values
 
-module _ {E : Type 0} (G : List ℕ → Result ℕ E → Type 0) (parses : (u : List ℕ) (x : Result ℕ E) → G u x → ParsesUnsigned 16 10 u x)
+module _ {E : Type 0} (G : List ℕ → Result ℕ E → Type 0) (parses : (u : List ℕ) (x : Result ℕ E) → G u x → ParsesUnsigned 32 10 u x)
     (run : ArgMatches) (r : Option ℕ) (has : HasSite (rows_of (found_of run)))
     (reads : (t : List ℕ) → one_text (found_of run) (codes "site") ≡ Some t → ReadsOne G t r) where
   number : (r ≡ Some (digits_value 10 (without_leading_plus has.0))) × (0 < digits_value 10 (without_leading_plus has.0))

@@ -274,14 +274,14 @@ taken_words words e =
 
 -- a text that `--site` takes reads as a number of a site
 pub number_read : {E : Type 0} (G : List ℕ → Result ℕ E → Type 0) (text : List ℕ) (r : Option ℕ) → ReadsOne G text r
-    → ((u : List ℕ) (x : Result ℕ E) → G u x → ParsesUnsigned 16 10 u x) → is_unsigned_in 1 GREATEST_SITE text ≡ true
+    → ((u : List ℕ) (x : Result ℕ E) → G u x → ParsesUnsigned 32 10 u x) → is_unsigned_in 1 GREATEST_SITE text ≡ true
     → (r ≡ Some (digits_value 10 (without_leading_plus text))) × (0 < digits_value 10 (without_leading_plus text))
 number_read G text (Some n) reads parses is_in =
     let passed = accepts-Accepts false (Unsigned 1 GREATEST_SITE) text is_in in
     (ap Some (parses text (Ok n) reads).1, omega arith)
 number_read G text None reads parses is_in =
     let passed = accepts-Accepts false (Unsigned 1 GREATEST_SITE) text is_in in
-    let small : digits_value 10 (without_leading_plus text) < 2 ^ 16 = omega arith in
+    let small : digits_value 10 (without_leading_plus text) < 2 ^ 32 = omega arith in
     absurd (parses text (Err reads.0) reads.1 (passed.0, small))
 
 -- ---- refusals

@@ -20,7 +20,7 @@ fn site_option<'a>(alloc: Global) -> Arg<'a>
         .long("site")
         .value_name("N")
         .required(true)
-        .help("The number of the site, from 1 to 65535")
+        .help("The number of the site, from 1 to 4294967295")
         .value_parser(ValueParser::unsigned(1, GREATEST_SITE as u64))
 }
 
@@ -141,7 +141,7 @@ fn command<'a>(alloc: Global) -> Result<Command<'a>, AllocError>
     with_command(program, show_command(alloc))
 }
 
-fn site_of(number: u16) -> Site
+fn site_of(number: u32) -> Site
     requires { 0 < number }
     ensures { result.number ≡ number }
 {
@@ -153,7 +153,7 @@ fn site_in(run: &ArgMatches<'_>) -> Site
     requires { HasSite (rows_of (found_of run.now)) }
     ensures { site_given (rows_of (found_of run.now)) ≡ Some result.number }
 {
-    site_of(run.get_one::<u16>("site").unwrap())
+    site_of(run.get_one::<u32>("site").unwrap())
 }
 
 // A name of a file that a subcommand was given.

@@ -10,6 +10,7 @@ use Rattle.std.proofs.lemmas.Cmp.{nat_list_cmp_total}
 use Rattle.std.proofs.lemmas.List.{append-nil}
 use Rattle.std.proofs.lemmas.Map.Text.{is_eq-slice_cmp}
 use Rattle.rt_stamps.specs.declared.stamp.Stamp.{Stamp}
+use Rattle.rt_stamps.specs.declared.limits.TheConstants.{MOST_TAGS}
 use Rattle.rt_stamps.specs.Names.{name_order}
 use Rattle.rt_stamps.specs.Spans.{each_next}
 use Rattle.rt_ops.specs.Operations.{Insert, Name}
@@ -87,7 +88,7 @@ listed_on writer (a ∷ names) = ap (λ l. a ∷ l) (listed_on writer names)
 rules_rise : (after : Stamp) (tags : List Name) (text : List ℕ) → keeps_rules (Insert after tags text) ≡ true → each_next is_lesser_name tags ≡ true
 rules_rise after tags text h =
     let all = and_parts (are_tags tags) (is_text text) h in
-    let more = and_parts (is_within 0 64 (length tags)) (list_all is_name tags && each_next is_lesser_name tags) all.0 in
+    let more = and_parts (is_within 0 MOST_TAGS (length tags)) (list_all is_name tags && each_next is_lesser_name tags) all.0 in
     (and_parts (list_all is_name tags) (each_next is_lesser_name tags) more.1).1
 
 -- the tags of new characters

@@ -48,7 +48,7 @@ TagsRetag =
     → tagged_text (cells_of (with_operation op set))
     ≡ changed_at (retags (stamp_of op) op.body (cells_of set)) (tagged_with on name) 0 (tagged_text (cells_of set))
 
--- The same of the characters alone.
+-- What an Insert, a Delete and a Tag do to the characters, without their tags.
 abbrev pub InsertsPutTextIn : Type 0
 InsertsPutTextIn =
     (set : List Operation) (op : Operation) (after : Stamp) (tags : List Name) (text : List ℕ) → op.body ≡ Insert after tags text
@@ -65,7 +65,7 @@ TagsLeaveText =
     (set : List Operation) (op : Operation) (on : Bool) (name : Name) (spans : List Span) → op.body ≡ Tag on name spans
     → IsHistory set → Continues set op → text_of (cells_of (with_operation op set)) ≡ text_of (cells_of set)
 
--- The same of the stamps, which tell one character from another.
+-- What an Insert, a Delete and a Tag do to the stamps of the characters, which tell one character from another.
 abbrev pub InsertsPutStampsIn : Type 0
 InsertsPutStampsIn =
     (set : List Operation) (op : Operation) (after : Stamp) (tags : List Name) (text : List ℕ) → op.body ≡ Insert after tags text

@@ -30,7 +30,7 @@ known_first m n e ends u h q = elim (cases_eq e.0 q) [
   | inr apart ↦ ap (λ o. unwrap_or o 0) (u.2 q (at_apart e.0 q apart)) ∙ h q ∙ sym (past e ends q apart)
 ]
 
-ends_length : (ends : List (ℕ × ℕ)) → length (ends_bytes ends) ≡ length ends * 10
+ends_length : (ends : List (ℕ × ℕ)) → length (ends_bytes ends) ≡ length ends * 12
 ends_length [] = refl
 ends_length (e ∷ ends) = let more = ends_length ends in omega (arith, more)
 
@@ -38,7 +38,7 @@ positive : (n : ℕ) → (n == 0) ≡ false → 0 < n
 positive n e = grind (arith, nat_tests)
 
 -- bytes of which too few for one more count are left over
-pub left_over : (bytes left : List ℕ) (ends : List (ℕ × ℕ)) → bytes ≡ left ++ ends_bytes ends → length left < 10 → (length left == 0) ≡ false → SpellNoEnds bytes
+pub left_over : (bytes left : List ℕ) (ends : List (ℕ × ℕ)) → bytes ≡ left ++ ends_bytes ends → length left < 12 → (length left == 0) ≡ false → SpellNoEnds bytes
 left_over bytes left ends is few some = λ n e.
     let whole = ap length is in let both = length-append left (ends_bytes ends) in let each = ends_length ends in let more = positive (length left) some in
     omega (arith, whole, both, each, more, few, e)

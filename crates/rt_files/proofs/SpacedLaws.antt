@@ -26,7 +26,7 @@ words_then f a b c x r words xs one more =
     subst (λ v. WritesText a c r v) (sym (flat_map-append (λ word. 32 ∷ word) words (map f xs) ∙ ap (λ v. spaced words ++ v) (flat_map-map (λ word. 32 ∷ word) f xs)))
     (writes_then a b c x r _ _ one more)
 
--- the same of names, as texts and as bytes
+-- some words were written, and then names, as texts and as bytes
 pub names_then : {T U : Type 0} (a b c : Stream) (x : T) (r : Result U Fault) (words : List Word) (names : List (String Global))
     → WritesText {T = T} a b (Ok x) (spaced words) → WritesText b c r (flat_map (λ name. 32 ∷ text_of_word (string_bytes name)) names)
     → WritesText a c r (spaced (words ++ map text_of_word (as_words names)))

@@ -1,4 +1,4 @@
-// The last counts that are known of sites, as bytes: 10 of each, the number of its site (2) and the count (8), the
+// The last counts that are known of sites, as bytes: 12 of each, the number of its site (4) and the count (8), the
 // highest byte first.
 ghost use Rattle.std.specs.Prelude.{◌≡◌, ◌⊎◌, ◌<◌, ◌^◌, ℕ, IfErr, IfOk, IsOkUnless, List, length, unwrap_or};
 ghost use Rattle.std.specs.BTreeMap.{get};
@@ -11,10 +11,10 @@ use std::alloc::Global;
 use std::collections::BTreeMap;
 
 // The bytes of each.
-const END_BYTES: usize = 10;
+const END_BYTES: usize = 12;
 
 /// Of these counts, by the numbers of their sites. Want of memory.
-pub fn bytes_of_ends(alloc: Global, ends: &BTreeMap<u16, u64>) -> Result<Vec<u8>, Fault>
+pub fn bytes_of_ends(alloc: Global, ends: &BTreeMap<u32, u64>) -> Result<Vec<u8>, Fault>
     ensures ok { IfOk result (λ bytes. bytes.items ≡ ends_bytes ends.now.entries) }
     ensures order { AreBySite ends.now.entries }
     ensures err { IsOkUnless result NoMemory }
@@ -27,22 +27,22 @@ pub fn bytes_of_ends(alloc: Global, ends: &BTreeMap<u16, u64>) -> Result<Vec<u8>
     Ok(bytes)
 }
 
-// The number and the count that ten bytes spell.
-fn end_of(bytes: &[u8]) -> (u16, u64)
-    requires { length bytes.now ≡ 10 }
+// The number and the count that twelve bytes spell.
+fn end_of(bytes: &[u8]) -> (u32, u64)
+    requires { length bytes.now ≡ 12 }
     ensures spelled { bytes.now ≡ end_bytes result }
-    ensures fit { (result.0 < 2 ^ 16) × (result.1 < 2 ^ 64) }
+    ensures fit { (result.0 < 2 ^ 32) × (result.1 < 2 ^ 64) }
 {
-    let site = u16::from_be_bytes([bytes[0], bytes[1]]);
+    let site = u32::from_be_bytes([bytes[0], bytes[1], bytes[2], bytes[3]]);
     let count = u64::from_be_bytes([
-        bytes[2], bytes[3], bytes[4], bytes[5], bytes[6], bytes[7], bytes[8], bytes[9],
+        bytes[4], bytes[5], bytes[6], bytes[7], bytes[8], bytes[9], bytes[10], bytes[11],
     ]);
     (site, count)
 }
 
-/// The counts that bytes spell: of one site the first counts. `Truncated` where they aren't 10 bytes each, or want of
+/// The counts that bytes spell: of one site the first counts. `Truncated` where they aren't 12 bytes each, or want of
 /// memory.
-pub fn ends_of_bytes(alloc: Global, bytes: &[u8]) -> Result<BTreeMap<u16, u64>, Fault>
+pub fn ends_of_bytes(alloc: Global, bytes: &[u8]) -> Result<BTreeMap<u32, u64>, Fault>
     ensures ok { IfOk result (λ map. (ends : List (ℕ × ℕ)) × SpellEnds bytes.now ends
         × ((site : ℕ) → unwrap_or (get nat_cmp map site) 0 ≡ known_by ends site)) }
     ensures err { IfErr result (λ fault. (fault ≡ NoMemory) ⊎ ((fault ≡ Truncated) × SpellNoEnds bytes.now)) }

@@ -1,11 +1,12 @@
 -- Offers and files for which no memory is wanting are there.
 use Rattle.std.proofs.Common.{◌≡◌, ◌≢◌, ◌∙◌, ℕ, Bool, true, false, List, [], ◌∷◌, length, take, Option, None, Ok, Some, cond, arith, ap, inl, inr, refl, subst, sym}
-use Rattle.std.specs.Prelude.{◌+◌, ◌⊎◌}
+use Rattle.std.specs.Prelude.{◌+◌, ◌⊎◌, Result, Err}
 use Rattle.rt_stamps.specs.declared.fault.Fault.{Fault}
 use Rattle.rt_stamps.specs.declared.fault.Fault.TheVariants.{BadStamp, BadTarget, Conflict, NoMemory, NotYet}
 use Rattle.rt_ops.specs.File.{record_of}
+use Rattle.rt_ops.specs.declared.version.Version.{Version}
 use Rattle.rt_ops.specs.Operations.{Operation}
-use Rattle.rt_ops.specs.Reading.{Reads, ReadsAs, head_fault, offsets_from}
+use Rattle.rt_ops.specs.Reading.{Reads, ReadsAs, head_of, offsets_from}
 use Rattle.rt_rga.specs.Answers.{Answer, New, Refused, Repeat, answer_to, answer_within, refused_if_full}
 use Rattle.rt_rga.specs.Drafts.{with_operations}
 use Rattle.rt_holding.specs.declared.held.Offered.{Offered}
@@ -77,17 +78,17 @@ never_memory limit op s fault e n =
 
 -- EACH RECORD HAS AN OFFSET
 
-offsets_length : (at : ℕ) (ops : List Operation) → length (offsets_from at ops) ≡ length ops
-offsets_length at [] = refl
-offsets_length at (op ∷ ops) = omega (arith, offsets_length (at + length (record_of op)) ops)
+offsets_length : (ver : Version) (at : ℕ) (ops : List Operation) → length (offsets_from ver at ops) ≡ length ops
+offsets_length ver at [] = refl
+offsets_length ver at (op ∷ ops) = omega (arith, offsets_length ver (at + length (record_of ver op)) ops)
 
 reads_length : (bytes : List ℕ) (ops : List Operation) (offsets : List ℕ) (ending : Option (Fault × ℕ)) → Reads bytes ops offsets ending
     → length offsets ≡ length ops
-reads_length bytes ops offsets ending h = by (head_fault (take 8 bytes)) h
+reads_length bytes ops offsets ending h = by (head_of (take 8 bytes)) h
   where
-    by : (found : Option Fault) → ReadsAs found bytes ops offsets ending → length offsets ≡ length ops
-    by (Some found) r = ap length r.1 ∙ sym (ap length r.0)
-    by None r = ap length r.3 ∙ offsets_length 8 ops
+    by : (found : Result Version Fault) → ReadsAs found bytes ops offsets ending → length offsets ≡ length ops
+    by (Err found) r = ap length r.1 ∙ sym (ap length r.0)
+    by (Ok ver) r = ap length r.3 ∙ offsets_length ver 8 ops
 
 module _ {Site : Type 0} (log : Site → List Operation) (limit : Site → ℕ) (after : Operation → Site → Site) where
   -- what is taken one after the other comes to the log

@@ -112,7 +112,7 @@ pub record IsKept (came : Operation → Type 0) (s : Holding) : Type 0 where
   pub held : (x : Operation) → Has s.held x → came x
   pub each : (x : Operation) → came x → IsPlaced s x
 
--- the same but for one
+-- so is each of the operations that came but one
 pub record IsKeptBut (op : Operation) (came : Operation → Type 0) (s : Holding) : Type 0 where
   pub history : IsHistory s.log
   pub rules : (x : Operation) → came x → keeps_rules x.body ≡ true

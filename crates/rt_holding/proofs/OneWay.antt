@@ -2,6 +2,7 @@
 use Rattle.std.proofs.Common.{◌≡◌, ◌≢◌, ◌∙◌, ◌+◌, ◌++◌, ℕ, List, [], ◌∷◌, length, Ok, Some, ap, inl, inr, refl, subst, sym}
 use Rattle.rt_stamps.specs.declared.fault.Fault.{Fault}
 use Rattle.rt_stamps.specs.declared.fault.Fault.TheVariants.{NoMemory}
+use Rattle.rt_ops.specs.declared.version.Version.{Version}
 use Rattle.rt_ops.specs.Operations.{Operation}
 use Rattle.rt_ops.specs.File.{record_of}
 use Rattle.rt_ops.specs.Reading.{offsets_from}
@@ -14,7 +15,7 @@ use Rattle.rt_holding.specs.Receiving.{Behind, AtEnd, Offers, State, Unread, Wan
 use Rattle.rt_holding.specs.Replies.{Reply}
 use Rattle.rt_holding.specs.Replies as replies
 use Rattle.rt_holding.specs.Taken.{AreTried, IsOffered, IsRefused, all_after, holding, replied}
-use Rattle.rt_holding.proofs.Fronts.{Agree, GoesNoFurther, offsets_are, one_or_other}
+use Rattle.rt_holding.proofs.Fronts.{Agree, GoesNoFurther, offsets_are, one_or_other, version_in}
 use Rattle.rt_holding.proofs.Settling.{ample_settled}
 
 -- what was refused, though not for want of memory, was refused by its reply
@@ -77,52 +78,52 @@ module _ {Site : Type 0} (log : Site → List Operation) (limit : Site → ℕ) 
   one_offer op offered.Held offered.Held old next mid e h k f g = (refl, same_state next mid (h.0 ∙ sym k.0) (h.1 ∙ sym k.1))
 
   -- operations one after the other, of which so many were read in one case, and perhaps more in the other
-  one_run : (ops more : List Operation) (at : ℕ) (behind beyond : Behind) (old : State Site) (received other : Received) (new left : State Site) → Agree behind more beyond
-      → (h : Offers log limit after ops (offsets_from at ops) behind old received new)
-      → (k : Offers log limit after (ops ++ more) (offsets_from at (ops ++ more)) beyond old other left)
-      → OffersFoundMemory log limit after ops (offsets_from at ops) behind old received new h
-      → OffersFoundMemory log limit after (ops ++ more) (offsets_from at (ops ++ more)) beyond old other left k
+  one_run : (ver : Version) (ops more : List Operation) (at : ℕ) (behind beyond : Behind) (old : State Site) (received other : Received) (new left : State Site) → Agree behind more beyond
+      → (h : Offers log limit after ops (offsets_from ver at ops) behind old received new)
+      → (k : Offers log limit after (ops ++ more) (offsets_from ver at (ops ++ more)) beyond old other left)
+      → OffersFoundMemory log limit after ops (offsets_from ver at ops) behind old received new h
+      → OffersFoundMemory log limit after (ops ++ more) (offsets_from ver at (ops ++ more)) beyond old other left k
       → (received ≡ other) × (new ≡ left)
-  one_run [] more at (Wanting m) beyond old received other new left a h k f g = absurd f
-  one_run [] more at Unread beyond old received other new left a h k f g = absurd h.ends
-  one_run [] more at (AtEnd x) (Wanting n) old received other new left a h k f g = absurd a
-  one_run [] more at (AtEnd x) Unread old received other new left a h k f g = absurd a
-  one_run [] (op ∷ more) at (AtEnd x) (AtEnd y) old received other new left a h k f g = absurd (let e = a.0 in cc e)
-  one_run [] [] at (AtEnd x) (AtEnd y) old received other new left a h k f g =
+  one_run ver [] more at (Wanting m) beyond old received other new left a h k f g = absurd f
+  one_run ver [] more at Unread beyond old received other new left a h k f g = absurd h.ends
+  one_run ver [] more at (AtEnd x) (Wanting n) old received other new left a h k f g = absurd a
+  one_run ver [] more at (AtEnd x) Unread old received other new left a h k f g = absurd a
+  one_run ver [] (op ∷ more) at (AtEnd x) (AtEnd y) old received other new left a h k f g = absurd (let e = a.0 in cc e)
+  one_run ver [] [] at (AtEnd x) (AtEnd y) old received other new left a h k f g =
       let same : h.told ≡ k.told = h.ends ∙ a.1 ∙ sym k.ends in
       (h.counted ∙ ap (λ told. none_accepted told old.held) same ∙ sym k.counted, h.same ∙ sym k.same)
-  one_run (op ∷ ops) more at behind beyond old received other new left a (inl h) (inl k) f g =
+  one_run ver (op ∷ ops) more at behind beyond old received other new left a (inl h) (inl k) f g =
       let same = one_fault (reply_at log limit after op old) h.fault k.fault (refused_by (reply_at log limit after op old) h.fault h.refused f) (refused_by (reply_at log limit after op old) k.fault k.refused g) in
       (h.counted ∙ ap (λ fault. none_accepted (Some (fault, at)) old.held) same ∙ sym k.counted, h.same ∙ sym k.same)
-  one_run (op ∷ ops) more at behind beyond old received other new left a (inl h) (inr k) f g =
+  one_run ver (op ∷ ops) more at behind beyond old received other new left a (inl h) (inr k) f g =
       absurd (not_refused k.offered h.fault (reply_at log limit after op old) k.reply (refused_by (reply_at log limit after op old) h.fault h.refused f))
-  one_run (op ∷ ops) more at behind beyond old received other new left a (inr h) (inl k) f g =
+  one_run ver (op ∷ ops) more at behind beyond old received other new left a (inr h) (inl k) f g =
       absurd (not_refused h.offered k.fault (reply_at log limit after op old) h.reply (refused_by (reply_at log limit after op old) k.fault k.refused g))
-  one_run (op ∷ ops) more at behind beyond old received other new left a (inr h) (inr k) f g =
-      let next = at + length (record_of op) in
+  one_run ver (op ∷ ops) more at behind beyond old received other new left a (inr h) (inr k) f g =
+      let next = at + length (record_of ver op) in
       let all = ops ++ more in
       let here = one_offer op h.offered k.offered old h.next k.next (sym h.reply ∙ k.reply) h.is_offered k.is_offered f.0 g.0 in
-      let later : (h.rest ≡ k.rest) × (new ≡ left) = subst (λ (s : State Site). (l : Offers log limit after all (offsets_from next all) beyond s k.rest left)
-      → OffersFoundMemory log limit after all (offsets_from next all) beyond s k.rest left l → (h.rest ≡ k.rest) × (new ≡ left)) here.1
-      (λ l e. one_run ops more next behind beyond h.next h.rest k.rest new left a h.others l f.1 e) k.others g.1 in
+      let later : (h.rest ≡ k.rest) × (new ≡ left) = subst (λ (s : State Site). (l : Offers log limit after all (offsets_from ver next all) beyond s k.rest left)
+      → OffersFoundMemory log limit after all (offsets_from ver next all) beyond s k.rest left l → (h.rest ≡ k.rest) × (new ≡ left)) here.1
+      (λ l e. one_run ver ops more next behind beyond h.next h.rest k.rest new left a h.others l f.1 e) k.others g.1 in
       (h.counted ∙ (λ i. one_more (here.0 i) (later.0 i)) ∙ sym k.counted, later.1)
 
   -- a file in which a front was read, and in which all
-  one_read : (ops other : List Operation) (offsets places : List ℕ) (behind beyond : Behind) (old : State Site) (received again : Received) (new left : State Site)
-      → GoesNoFurther ops other behind beyond → offsets ≡ offsets_from 8 ops → places ≡ offsets_from 8 other
+  one_read : (ver : Version) (ops other : List Operation) (offsets places : List ℕ) (behind beyond : Behind) (old : State Site) (received again : Received) (new left : State Site)
+      → GoesNoFurther ops other behind beyond → offsets ≡ offsets_from ver 8 ops → places ≡ offsets_from ver 8 other
       → (h : Offers log limit after ops offsets behind old received new) (k : Offers log limit after other places beyond old again left)
       → OffersFoundMemory log limit after ops offsets behind old received new h → OffersFoundMemory log limit after other places beyond old again left k
       → (received ≡ again) × (new ≡ left)
-  one_read ops other offsets places behind beyond old received again new left front d e =
+  one_read ver ops other offsets places behind beyond old received again new left front d e =
       subst (λ (offsets : List ℕ). (h : Offers log limit after ops offsets behind old received new) (k : Offers log limit after other places beyond old again left)
       → OffersFoundMemory log limit after ops offsets behind old received new h → OffersFoundMemory log limit after other places beyond old again left k
       → (received ≡ again) × (new ≡ left)) (sym d)
-      (subst (λ (p : List Operation × List ℕ). (h : Offers log limit after ops (offsets_from 8 ops) behind old received new) (k : Offers log limit after p.0 p.1 beyond old again left)
-      → OffersFoundMemory log limit after ops (offsets_from 8 ops) behind old received new h → OffersFoundMemory log limit after p.0 p.1 beyond old again left k
-      → (received ≡ again) × (new ≡ left)) (sym same) (one_run ops front.more 8 behind beyond old received again new left front.agree))
+      (subst (λ (p : List Operation × List ℕ). (h : Offers log limit after ops (offsets_from ver 8 ops) behind old received new) (k : Offers log limit after p.0 p.1 beyond old again left)
+      → OffersFoundMemory log limit after ops (offsets_from ver 8 ops) behind old received new h → OffersFoundMemory log limit after p.0 p.1 beyond old again left k
+      → (received ≡ again) × (new ≡ left)) (sym same) (one_run ver ops front.more 8 behind beyond old received again new left front.agree))
     where
-      same : ◌≡◌ {A = List Operation × List ℕ} (other, places) (ops ++ front.more, offsets_from 8 (ops ++ front.more))
-      same = λ i. (front.is i, (e ∙ ap (offsets_from 8) front.is) i)
+      same : ◌≡◌ {A = List Operation × List ℕ} (other, places) (ops ++ front.more, offsets_from ver 8 (ops ++ front.more))
+      same = λ i. (front.is i, (e ∙ ap (offsets_from ver 8) front.is) i)
 
   -- a file, however far it is read
   pub files_go : FilesGoOneWay log limit after
@@ -130,6 +131,6 @@ module _ {Site : Type 0} (log : Site → List Operation) (limit : Site → ℕ) 
       let one = offsets_are bytes h.ops h.offsets h.behind h.read in
       let two = offsets_are bytes k.ops k.offsets k.behind k.read in
       elim (one_or_other bytes h.ops k.ops h.offsets k.offsets h.behind k.behind h.read k.read) [
-        | inl front ↦ one_read h.ops k.ops h.offsets k.offsets h.behind k.behind old received other new left front one two h.offers k.offers f g
-        | inr front ↦ (let same = one_read k.ops h.ops k.offsets h.offsets k.behind h.behind old other received left new front two one k.offers h.offers g f in (sym same.0, sym same.1))
+        | inl front ↦ one_read (version_in bytes) h.ops k.ops h.offsets k.offsets h.behind k.behind old received other new left front one two h.offers k.offers f g
+        | inr front ↦ (let same = one_read (version_in bytes) k.ops h.ops k.offsets h.offsets k.behind h.behind old other received left new front two one k.offers h.offers g f in (sym same.0, sym same.1))
       ]

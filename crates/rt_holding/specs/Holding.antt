@@ -134,8 +134,8 @@ settled limit s = tried limit (length s.held) s
 abbrev pub taken_then : ℕ → Holding → List Operation
 taken_then limit s = all_tried limit (length s.held) s
 
--- The same where a try may find no memory: such a one stays held, and isn't tried again in the same call. From a state, and
--- those that found no memory, to the state after it and those that are taken, in order.
+-- Held ones are tried as `settled` has it, and a try may find no memory: such a one stays held, and isn't tried again in the
+-- same call. From a state, and those that found no memory, to the state after it and those that are taken, in order.
 pub data Settles (limit : ℕ) : List Operation → Holding → Holding → List Operation → Type 0 where
   rest : {wanting : List Operation} {s : Holding} → next_held limit wanting s ≡ None → Settles limit wanting s s []
   takes : {wanting more : List Operation} {s t : Holding} {op : Operation}

@@ -2,9 +2,10 @@
 use Rattle.std.specs.Prelude.{◌≡◌, ◌⊎◌, ℕ, ◌+◌, List, [], ◌∷◌, length, Option, Some, Ok}
 use Rattle.rt_stamps.specs.declared.fault.Fault.{Fault}
 use Rattle.rt_stamps.specs.declared.fault.Fault.TheVariants.{NoMemory}
-use Rattle.rt_ops.specs.File.{spelling}
+use Rattle.rt_ops.specs.declared.version.Version.{Version}
+use Rattle.rt_ops.specs.File.{file_of}
 use Rattle.rt_ops.specs.Operations.{Operation}
-use Rattle.rt_ops.specs.Reading.{IsBegun, Reads, StandsWhole, offsets_from}
+use Rattle.rt_ops.specs.Reading.{IsBegunIn, Reads, StandsWhole, offsets_from}
 use Rattle.rt_holding.specs.declared.held.Offered.{Offered}
 use Rattle.rt_holding.specs.declared.held.Offered.TheVariants as offered
 use Rattle.rt_holding.specs.declared.receiving.Received.{Received}
@@ -25,8 +26,9 @@ pub data Behind : Type 0 where
 abbrev pub ReadsUpTo : List ℕ → List Operation → List ℕ → Behind → Type 0
 ReadsUpTo bytes ops offsets (AtEnd ending) = Reads bytes ops offsets ending
 ReadsUpTo bytes ops offsets (Wanting offset) =
-    (begun : IsBegun bytes ops) × StandsWhole begun.0 × (offsets ≡ offsets_from 8 ops) × (offset ≡ length (spelling ops))
-ReadsUpTo bytes ops offsets Unread = IsBegun bytes ops × (offsets ≡ offsets_from 8 ops)
+    (version : Version) × (begun : IsBegunIn version bytes ops) × StandsWhole version begun.0 × (offsets ≡ offsets_from version 8 ops)
+    × (offset ≡ length (file_of version ops))
+ReadsUpTo bytes ops offsets Unread = (version : Version) × IsBegunIn version bytes ops × (offsets ≡ offsets_from version 8 ops)
 
 -- What is told where none of the operations was refused. It doesn't come to that where what is behind them stays unread.
 abbrev pub EndsWith : Behind → Option (Fault × ℕ) → Type 0

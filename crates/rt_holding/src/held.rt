@@ -145,7 +145,7 @@ impl Held {
 
     /// The log has grown by operations of a site: tries held ones, the least stamp first, until none is left that can be
     /// taken. One that is refused for good is dropped; any may find no memory, and stays. Answers how many were taken.
-    pub fn settle<T: Taking>(&mut self, site: &mut T, made_by: u16) -> usize
+    pub fn settle<T: Taking>(&mut self, site: &mut T, made_by: u32) -> usize
         requires { AreTriedBefore (T.limit site.old) made_by self.old (T.log site.old) }
         ensures tried { AreTried T.log T.after (T.limit site.old) (holding T.log site.old self.old.held) site.old
             site.new self.new.held result }

@@ -25,7 +25,7 @@ pub trait Taking {
         ensures history { IsHistory (log self.now) };
 
     /// The greatest last count of a site's operations in the log, 0 if it has none.
-    fn known(&self, site: u16) -> u64
+    fn known(&self, site: u32) -> u64
         ensures known { result ≡ known_end (log self.now) site }
         ensures history { IsHistory (log self.now) };
 

@@ -147,7 +147,7 @@ pub(crate) fn take_at<T: Taking>(
     site: &mut T,
     ops: &mut Ops,
     place: Standing,
-) -> Result<u16, AllocError>
+) -> Result<u32, AllocError>
     requires { IsNewAt (T.limit site.old) (T.log site.old) ops.old.entries place }
     ensures site { OnOk result ((op : Operation) → IsAt place op ops.old.entries → site.new ≡ T.after op site.old) }
     ensures log { OnOk result ((op : Operation) → IsAt place op ops.old.entries → T.log site.new ≡ with_operation op (T.log site.old)) }

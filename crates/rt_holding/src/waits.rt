@@ -21,7 +21,7 @@ use std::collections::{BTreeMap, BTreeSet, BinaryHeap};
 /// The known end of a site is to come to a count, and what for: where a held operation stands.
 #[derive(Clone, Copy, PartialEq, Eq, PartialOrd, Ord)]
 pub(crate) struct Key {
-    pub(crate) site: u16,
+    pub(crate) site: u32,
     pub(crate) count: u64,
     pub(crate) place: Standing,
 }
@@ -29,7 +29,7 @@ pub(crate) struct Key {
 pub(crate) type KeySet = BTreeSet<Key>;
 
 /// Of a site up to where it was looked through.
-pub(crate) type Ends = BTreeMap<u16, u64>;
+pub(crate) type Ends = BTreeMap<u32, u64>;
 
 /// The keys of held operations.
 #[derive(Drop)]
@@ -139,7 +139,7 @@ pub(crate) fn keep(waits: &mut Waits, place: Standing)
 
 impl Key {
     /// All of a site stand behind it, or at it.
-    fn least(site: u16) -> Key
+    fn least(site: u32) -> Key
         ensures { result ≡ least_key site }
     {
         Key {
@@ -151,7 +151,7 @@ impl Key {
 }
 
 /// The first key of a site.
-pub(crate) fn first_key(keys: &KeySet, site: u16) -> Option<Key>
+pub(crate) fn first_key(keys: &KeySet, site: u32) -> Option<Key>
     ensures some { IfSome result (IsFirstOf keys.now site) }
     ensures none { IfNone result (HasNoneOf keys.now site) }
 {
@@ -164,7 +164,7 @@ pub(crate) fn first_key(keys: &KeySet, site: u16) -> Option<Key>
 }
 
 /// The first key of a site to which its known end has come.
-pub(crate) fn first_passed(keys: &KeySet, site: u16, known: u64) -> Option<Key>
+pub(crate) fn first_passed(keys: &KeySet, site: u32, known: u64) -> Option<Key>
     ensures some { IfSome result (IsPassedIn keys.now site known) }
     ensures none { IfNone result (LeavesNone keys.now site known) }
 {
@@ -250,7 +250,7 @@ fn put_key(waits: &mut Waits, stamp: Stamp, place: Standing) -> Result<(), Alloc
 }
 
 /// What comes of a site behind a known end is to be looked through.
-fn note_end(ends: &mut Ends, site: u16, known: u64) -> Result<(), AllocError>
+fn note_end(ends: &mut Ends, site: u32, known: u64) -> Result<(), AllocError>
     ensures noted { OnOk result (is_noted ends.new site known ≡ true) }
     ensures more { IsNotedMore ends.old ends.new }
 {

@@ -202,7 +202,7 @@ fn end_at<T: Taking>(site: &T, ops: &Ops, waits: &mut Waits, key: Key)
 }
 
 /// All are due of which a span of a site has begun.
-fn wake_begun(waits: &mut Waits, made_by: u16)
+fn wake_begun(waits: &mut Waits, made_by: u32)
     requires { IsReady 0 waits.old }
     ensures ready { IsReady 0 waits.new }
     ensures due { (p : Standing) → is_due p waits.old.due ≡ true → is_due p waits.new.due ≡ true }
@@ -219,7 +219,7 @@ fn wake_begun(waits: &mut Waits, made_by: u16)
 
 /// What came of a site is looked through, once for all of which a span of it has begun. With a gap, all of them are due: each
 /// names a stamp that can never be known.
-fn look_through<T: Taking>(site: &T, waits: &mut Waits, made_by: u16)
+fn look_through<T: Taking>(site: &T, waits: &mut Waits, made_by: u32)
     requires { IsReady 0 waits.old }
     ensures ready { IsReady 0 waits.new }
     ensures looked { IsLookedThrough made_by (T.log site.now) waits.old waits.new }
@@ -244,7 +244,7 @@ fn look_through<T: Taking>(site: &T, waits: &mut Waits, made_by: u16)
 }
 
 /// Of a site's spans that had begun, those that have come to their end are seen to.
-fn pass_ends<T: Taking>(site: &T, ops: &Ops, waits: &mut Waits, made_by: u16)
+fn pass_ends<T: Taking>(site: &T, ops: &Ops, waits: &mut Waits, made_by: u32)
     requires { IsReady 0 waits.old }
     ensures ready { IsReady 0 waits.new }
     ensures passed { AreEndsPassed made_by (T.log site.now) ops.now waits.old waits.new }
@@ -257,7 +257,7 @@ fn pass_ends<T: Taking>(site: &T, ops: &Ops, waits: &mut Waits, made_by: u16)
 }
 
 /// The log has grown by operations of a site: all are due that may be tried since then, or are looked at again.
-pub(crate) fn wake<T: Taking>(site: &T, ops: &Ops, waits: &mut Waits, made_by: u16)
+pub(crate) fn wake<T: Taking>(site: &T, ops: &Ops, waits: &mut Waits, made_by: u32)
     requires { IsReady 0 waits.old }
     ensures ready { IsReady 0 waits.new }
     ensures woken { IsWoken made_by (T.log site.now) ops.now waits.old waits.new }

@@ -14,7 +14,7 @@ use Rattle.rt_stamps.specs.Places.{newlines, line_of, position_at, place_at}
 use Rattle.rt_index.specs.declared.parts.Fixed.{Fixed}
 use Rattle.rt_index.specs.declared.parts.Fixed.TheVariants.{Character, LineEndOf, End}
 use Rattle.rt_index.specs.Grammar.{IsNumber, IsFixed}
-use Rattle.rt_index.specs.Reading.{is_separator, token_length, fixed_of, position_of, after_line, column_of, modifiers_of}
+use Rattle.rt_index.specs.Reading.{is_separator, token_length, fixed_of, fixed_position_of, after_line, column_of, modifiers_of}
 use Rattle.rt_index.specs.Index.{moved_from, index_of, fixed_place}
 use Rattle.rt_stamps.specs.declared.position.Position.{Position}
 use Rattle.rt_stamps.specs.Places.{text_of_position}
@@ -75,7 +75,7 @@ position_complete : (l rest : List ℕ) → IsNumber l → fixed_of (l ++ 46 ∷
 position_complete l rest h =
     let t = l ++ 46 ∷ rest in
     let n : prefix_len is_ascii_digit t ≡ length l = prefix_of is_ascii_digit l (46 ∷ rest) (digits_all l h.1) refl in
-    let P : Bool → Type 0 = λ b. cond b (Some End) (position_of t) ≡ column_of (digits_value 10 l) rest in
+    let P : Bool → Type 0 = λ b. cond b (Some End) (fixed_position_of t) ≡ column_of (digits_value 10 l) rest in
     let Q : ℕ → Type 0 = λ k. cond (k == 0) None (after_line (digits_value 10 (take k t)) (drop k t)) ≡ column_of (digits_value 10 l) rest in
     let R : Bool → Type 0 = λ b. cond b None (after_line (digits_value 10 (take (length l) t)) (drop (length l) t)) ≡ column_of (digits_value 10 l) rest in
     let last : after_line (digits_value 10 (take (length l) t)) (drop (length l) t) ≡ column_of (digits_value 10 l) rest =

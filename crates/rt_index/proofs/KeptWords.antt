@@ -66,7 +66,7 @@ end_before p text place j within short h =
     let rest : prefix_len p (drop j (drop (place - j) text)) ≡ prefix_len p (drop place text) = ap (prefix_len p) (drop-drop j (place - j) text) ∙ ap (λ n. prefix_len p (drop n text)) there in
     omega (arith, run, rest, there)
 
--- the same of the run that ends at a place
+-- where the run that ends at a place starts, seen from a place within it
 start_before : {X : Type 0} (p : X → Bool) (text : List X) (place j : ℕ) → place ≤ length text → j ≤ place → j ≤ prefix_len p (reverse (take place text))
     → place + prefix_len p (reverse (take (place - j) text)) ≡ (place - j) + prefix_len p (reverse (take place text))
 start_before p text place j within short h =

@@ -9,7 +9,7 @@ use Rattle.rt_index.specs.declared.parts.Sign.{Sign}
 use Rattle.rt_index.specs.declared.parts.Sign.TheVariants.{Plus, Minus}
 use Rattle.rt_index.specs.declared.parts.Modifier.{Modifier}
 use Rattle.rt_index.specs.declared.parts.Modifier.TheVariants.{To}
-use Rattle.rt_index.specs.Grammar.{counted, turned}
+use Rattle.rt_index.specs.Grammar.{counted_modifier, turned}
 use Rattle.rt_index.specs.Expression.{kept_modifier, kept_found}
 use Rattle.rt_index.specs.Reading.{is_space, after_spaces, after_any, unit_of, keyword_of, with_unit, with_keyword, with_number, with_second_sign, modifier_at, first_modifier, modifiers_within, modifiers_of}
 use Rattle.rt_index.proofs.Places.{split}
@@ -48,7 +48,7 @@ after_any_short t =
 unit_short : (s : Sign) (k : ℕ) (t : List ℕ) → IsShort (length t) (with_unit s k t)
 unit_short s k t =
     let n = prefix_len is_ascii_alphabetic t in
-    elim (unit_of (take n t)) as (λ o. IsShort (length t) (option_map (λ step. (counted s k step, drop n t)) o))
+    elim (unit_of (take n t)) as (λ o. IsShort (length t) (option_map (λ step. (counted_modifier s k step, drop n t)) o))
     [ Some step ↦ drop_short n t | None ↦ tt ]
 
 keyword_short : (t : List ℕ) → IsShort (length t) (with_keyword t)

@@ -46,7 +46,7 @@ pub read_of : {X : Type 0} (buffer text : List X) (n place read : ℕ) → read 
 read_of buffer text n place read count same =
     same ∙ ap (λ k. take k (drop place text)) (count ∙ ap (min n) (sym (length-drop place text))) ∙ take_min n (drop place text)
 
--- the same, of the last n elements before a place or as many as there are, from back to front
+-- what was read of a list, in a buffer, of the last n elements before a place or as many as there are, from back to front
 few_back : {X : Type 0} (n from place : ℕ) (xs : List X) → from ≡ place - n → length xs ≡ place → take (place - from) xs ≡ take n xs
 few_back n from place xs f e = let m : place - from ≡ min n (length xs) = omega (arith, e, f) in ap (λ i. take i xs) m ∙ take_min n xs
 
@@ -81,7 +81,7 @@ goes_after p text n from place found so_far e h =
     let next : prefix_len p (drop n (drop from text)) ≡ prefix_len p (drop (from + found) text) = ap (prefix_len p) (drop-drop n from text) ∙ ap (λ k. prefix_len p (drop k text)) size in
     omega (arith, so_far, e, h, whole, next)
 
--- The same from a place back.
+-- A run that is counted from a place back, down to the next place: it ends in the stretch behind that, or goes on before it.
 pub ends_before : (p : ℕ → Bool) (text : List ℕ) (n to place found : ℕ) → place + prefix_len p (reverse (take to text)) ≡ to + prefix_len p (reverse (take place text))
     → found ≡ prefix_len p (take n (reverse (take to text))) → found < n → found ≤ to → (to - found) + prefix_len p (reverse (take place text)) ≡ place
 ends_before p text n to place found so_far e h within =

@@ -17,7 +17,7 @@ use Rattle.rt_index.specs.declared.parts.Keyword.{Keyword}
 use Rattle.rt_index.specs.declared.parts.Keyword.TheVariants.{LineStart, LineEnd, WordStart, WordEnd}
 use Rattle.rt_index.specs.declared.parts.Modifier.{Modifier}
 use Rattle.rt_index.specs.declared.parts.Modifier.TheVariants.{To}
-use Rattle.rt_index.specs.Grammar.{spaces, IsNumber, sign_text, second_text, turned, direction, counted, IsAny, IsFront, IsUnit, IsKeyword, IsMove, IsGoing, IsModifier, AreModifiers}
+use Rattle.rt_index.specs.Grammar.{spaces, IsNumber, sign_text, second_text, turned, direction, counted_modifier, IsAny, IsFront, IsUnit, IsKeyword, IsMove, IsGoing, IsModifier, AreModifiers}
 use Rattle.rt_index.specs.Reading.{is_space, after_spaces, after_any, unit_of, keyword_of, with_unit, with_keyword, with_number, with_second_sign, modifier_at, first_modifier, modifiers_within, modifiers_of}
 use Rattle.rt_index.proofs.Places.{split}
 use Rattle.rt_index.proofs.Digits.{digits_front}
@@ -116,7 +116,7 @@ record UnitAt (sign : Sign) (k : ℕ) (t : List ℕ) (m : Modifier) (rest : List
   unit : IsUnit name step
   letters : 0 < prefix_len is_ascii_alphabetic t
   spelled : t ≡ name ++ rest
-  means : m ≡ counted sign k step
+  means : m ≡ counted_modifier sign k step
 
 unit_positive : (run : List ℕ) (step : Step) → IsUnit run step → 0 < length run
 unit_positive run Characters h = h.0
@@ -125,7 +125,7 @@ unit_positive run Lines h = h.0
 unit_at : (sign : Sign) (k : ℕ) (t : List ℕ) (m : Modifier) (rest : List ℕ) → with_unit sign k t ≡ Some (m, rest) → UnitAt sign k t m rest
 unit_at sign k t m rest h =
     let n = prefix_len is_ascii_alphabetic t in
-    let f : Step → Modifier × List ℕ = λ step. (counted sign k step, drop n t) in
+    let f : Step → Modifier × List ℕ = λ step. (counted_modifier sign k step, drop n t) in
     let got = map_some f (unit_of (take n t)) (m, rest) h in
     let u = unit_sound (take n t) got.0 got.1 in
     record {
@@ -147,7 +147,7 @@ record NumberAt (sign : Sign) (t : List ℕ) (m : Modifier) (rest : List ℕ) : 
   passed_over : IsAny any
   unit : IsUnit name step
   spelled : t ≡ digits ++ (spaces after ++ (any ++ (name ++ rest)))
-  means : m ≡ counted sign (digits_value 10 digits) step
+  means : m ≡ counted_modifier sign (digits_value 10 digits) step
 
 number_at : (sign : Sign) (t : List ℕ) (m : Modifier) (rest : List ℕ) → with_number sign t ≡ Some (m, rest) → NumberAt sign t m rest
 number_at sign t m rest h = by (prefix_len is_ascii_digit t == 0) refl h

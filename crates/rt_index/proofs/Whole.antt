@@ -19,8 +19,8 @@ use Rattle.rt_index.specs.declared.parts.Modifier.{Modifier}
 use Rattle.rt_index.specs.declared.parts.Modifier.TheVariants.{To}
 use Rattle.rt_index.specs.declared.parts.Fixed.{Fixed}
 use Rattle.rt_index.specs.declared.parts.Fixed.TheVariants.{Character, LineEndOf, End}
-use Rattle.rt_index.specs.Grammar.{spaces, IsNumber, IsFixed, sign_text, second_text, turned, direction, counted, IsAny, IsFront, IsUnit, IsKeyword, IsMove, IsGoing, IsModifier, AreModifiers}
-use Rattle.rt_index.specs.Reading.{is_space, after_spaces, after_any, unit_of, keyword_of, with_unit, with_keyword, with_number, with_second_sign, modifier_at, first_modifier, modifiers_of, fixed_of, position_of, after_line, column_of}
+use Rattle.rt_index.specs.Grammar.{spaces, IsNumber, IsFixed, sign_text, second_text, turned, direction, counted_modifier, IsAny, IsFront, IsUnit, IsKeyword, IsMove, IsGoing, IsModifier, AreModifiers}
+use Rattle.rt_index.specs.Reading.{is_space, after_spaces, after_any, unit_of, keyword_of, with_unit, with_keyword, with_number, with_second_sign, modifier_at, first_modifier, modifiers_of, fixed_of, fixed_position_of, after_line, column_of}
 use Rattle.rt_index.proofs.Places.{split}
 use Rattle.rt_index.proofs.Modifiers.{next, no_more}
 use Rattle.rt_index.proofs.Digits.{digits_front, digits_whole}
@@ -213,14 +213,14 @@ keyword_not_any name keyword h = by (bytes_eq name (codes "any")) refl
     by true e = let k : keyword_of (codes "any") ≡ Some keyword = ap keyword_of (sym (bytes_true name (codes "any") e)) ∙ h in let f : None ≡ Some keyword = k in cc
 
 unit_then : (sign : Sign) (k : ℕ) (name rest : List ℕ) (step : Step) → IsUnit name step → prefix_len is_ascii_alphabetic rest ≡ 0
-    → with_unit sign k (name ++ rest) ≡ Some (counted sign k step, rest)
+    → with_unit sign k (name ++ rest) ≡ Some (counted_modifier sign k step, rest)
 unit_then sign k name rest step u stop =
     let t = name ++ rest in
     let n : prefix_len is_ascii_alphabetic t ≡ length name = prefix_of is_ascii_alphabetic name rest (unit_letters name step u) stop in
-    ap (λ i. option_map (λ step. (counted sign k step, drop i t)) (unit_of (take i t))) n
-    ∙ ap (λ x. option_map (λ step. (counted sign k step, drop (length name) t)) (unit_of x)) (take-append_seam name rest)
-    ∙ ap (option_map (λ step. (counted sign k step, drop (length name) t))) (unit_complete name step u)
-    ∙ ap (λ r. Some (counted sign k step, r)) (drop-append_seam name rest)
+    ap (λ i. option_map (λ step. (counted_modifier sign k step, drop i t)) (unit_of (take i t))) n
+    ∙ ap (λ x. option_map (λ step. (counted_modifier sign k step, drop (length name) t)) (unit_of x)) (take-append_seam name rest)
+    ∙ ap (option_map (λ step. (counted_modifier sign k step, drop (length name) t))) (unit_complete name step u)
+    ∙ ap (λ r. Some (counted_modifier sign k step, r)) (drop-append_seam name rest)
 
 keyword_then : (name rest : List ℕ) (keyword : Keyword) → IsKeyword name keyword → prefix_len is_ascii_alphabetic rest ≡ 0
     → with_keyword (name ++ rest) ≡ Some (To keyword, rest)
@@ -239,7 +239,7 @@ any_head any name rest (inl e) some letters = ap (λ x. is_ascii_alphabetic (hea
 any_head any name rest (inr (n, e)) some letters = ap (λ x. is_ascii_alphabetic (head (x ++ (name ++ rest)))) e
 
 number_then : (sign : Sign) (digits any name rest : List ℕ) (after : ℕ) (step : Step) → IsNumber digits → IsAny any → IsUnit name step → prefix_len is_ascii_alphabetic rest ≡ 0
-    → with_number sign (digits ++ (spaces after ++ (any ++ (name ++ rest)))) ≡ Some (counted sign (digits_value 10 digits) step, rest)
+    → with_number sign (digits ++ (spaces after ++ (any ++ (name ++ rest)))) ≡ Some (counted_modifier sign (digits_value 10 digits) step, rest)
 number_then sign digits any name rest after step number passed unit stop =
     let letters = unit_letters name step unit in
     let some = unit_some name step unit in
@@ -427,7 +427,7 @@ column_sound t l r line fixed number value spelled h =
           refl,
         )
 
-position_sound : (t : List ℕ) (fixed : Fixed) → position_of t ≡ Some fixed → IsFixed t fixed
+position_sound : (t : List ℕ) (fixed : Fixed) → fixed_position_of t ≡ Some fixed → IsFixed t fixed
 position_sound t fixed h = by (prefix_len is_ascii_digit t == 0) (drop (prefix_len is_ascii_digit t) t) refl refl h
   where
     by : (b : Bool) (u : List ℕ) → (prefix_len is_ascii_digit t == 0) ≡ b → drop (prefix_len is_ascii_digit t) t ≡ u
@@ -446,6 +446,6 @@ position_sound t fixed h = by (prefix_len is_ascii_digit t == 0) (drop (prefix_l
 pub fixed_sound : (t : List ℕ) (fixed : Fixed) → fixed_of t ≡ Some fixed → IsFixed t fixed
 fixed_sound t fixed h = by (bytes_eq t (codes "end")) refl h
   where
-    by : (b : Bool) → bytes_eq t (codes "end") ≡ b → cond b (Some End) (position_of t) ≡ Some fixed → IsFixed t fixed
+    by : (b : Bool) → bytes_eq t (codes "end") ≡ b → cond b (Some End) (fixed_position_of t) ≡ Some fixed → IsFixed t fixed
     by true e h = let q : End ≡ fixed = cc in subst (IsFixed t) q (bytes_true t (codes "end") e)
     by false e h = position_sound t fixed h

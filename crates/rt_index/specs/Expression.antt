@@ -34,7 +34,7 @@ kept_modifier (Forward k step) = Forward (kept k) step
 kept_modifier (Back k step) = Back (kept k) step
 kept_modifier (To keyword) = To keyword
 
--- the same of a modifier with the text after it
+-- a modifier with the text after it, its number kept so
 abbrev pub kept_found : Modifier × List ℕ → Modifier × List ℕ
 kept_found found = (kept_modifier found.0, found.1)
 

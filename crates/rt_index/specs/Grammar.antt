@@ -52,9 +52,9 @@ direction sign None = sign
 direction sign (Some Plus) = sign
 direction sign (Some Minus) = turned sign
 
-abbrev pub counted : Sign → ℕ → Step → Modifier
-counted Plus k step = Forward k step
-counted Minus k step = Back k step
+abbrev pub counted_modifier : Sign → ℕ → Step → Modifier
+counted_modifier Plus k step = Forward k step
+counted_modifier Minus k step = Back k step
 
 -- ("any" spaces)?
 abbrev pub IsAny : List ℕ → Type 0
@@ -91,7 +91,7 @@ pub record IsMove (text : List ℕ) (modifier : Modifier) : Type 0 where
   pub passed_over : IsAny any
   pub unit : IsUnit name step
   pub spelled : text ≡ spaces before ++ (sign_text sign ++ (spaces between ++ (second_text second ++ (digits ++ (spaces after ++ (any ++ name))))))
-  pub means : modifier ≡ counted (direction sign second) (digits_value 10 digits) step
+  pub means : modifier ≡ counted_modifier (direction sign second) (digits_value 10 digits) step
 
 -- spaces ("any" spaces)? keyword
 pub record IsGoing (text : List ℕ) (modifier : Modifier) : Type 0 where

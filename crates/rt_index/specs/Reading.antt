@@ -14,7 +14,7 @@ use Rattle.rt_index.specs.declared.parts.Keyword.{Keyword}
 use Rattle.rt_index.specs.declared.parts.Keyword.TheVariants.{LineStart, LineEnd, WordStart, WordEnd}
 use Rattle.rt_index.specs.declared.parts.Modifier.{Modifier}
 use Rattle.rt_index.specs.declared.parts.Modifier.TheVariants.{To}
-use Rattle.rt_index.specs.Grammar.{counted, turned}
+use Rattle.rt_index.specs.Grammar.{counted_modifier, turned}
 
 abbrev pub is_space : ℕ → Bool
 is_space c = c == 32
@@ -44,14 +44,14 @@ after_line line [] = None
 after_line line (c ∷ text) = if c == 46 then column_of line text else None
 
 -- a position
-abbrev pub position_of : List ℕ → Option Fixed
-position_of text =
+abbrev pub fixed_position_of : List ℕ → Option Fixed
+fixed_position_of text =
     let n = prefix_len is_ascii_digit text in
     if n == 0 then None else after_line (digits_value 10 (take n text)) (drop n text)
 
 -- a position or `end`
 abbrev pub fixed_of : List ℕ → Option Fixed
-fixed_of text = if bytes_eq text (codes "end") then Some End else position_of text
+fixed_of text = if bytes_eq text (codes "end") then Some End else fixed_position_of text
 
 abbrev pub unit_of : List ℕ → Option Step
 unit_of run =
@@ -79,7 +79,7 @@ after_any text =
 abbrev pub with_unit : Sign → ℕ → List ℕ → Option (Modifier × List ℕ)
 with_unit sign k text =
     let n = prefix_len is_ascii_alphabetic text in
-    option_map (λ step. (counted sign k step, drop n text)) (unit_of (take n text))
+    option_map (λ step. (counted_modifier sign k step, drop n text)) (unit_of (take n text))
 
 -- a keyword at the front, and what follows it
 abbrev pub with_keyword : List ℕ → Option (Modifier × List ℕ)

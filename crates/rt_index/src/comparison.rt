@@ -1,6 +1,6 @@
 // Comparisons of two places.
 ghost use Rattle.std.specs.Prelude.{◌≡◌};
-ghost use Rattle.rt_index.specs.Comparisons.{comparison_of, operator_of};
+ghost use Rattle.rt_index.specs.Comparisons.{comparison_of};
 
 /// A comparison of two places (Tk text manual, "compare").
 #[derive(Clone, Copy, Debug, PartialEq, Eq)]
@@ -32,20 +32,6 @@ impl Comparison {
             ">" => Some(Comparison::Greater),
             "!=" => Some(Comparison::NotEqual),
             _ => None,
-        }
-    }
-
-    /// The operator that names it.
-    pub fn operator(self) -> &'static str
-        ensures { result.now ≡ operator_of self }
-    {
-        match self {
-            Comparison::Less => "<",
-            Comparison::LessOrEqual => "<=",
-            Comparison::Equal => "==",
-            Comparison::GreaterOrEqual => ">=",
-            Comparison::Greater => ">",
-            Comparison::NotEqual => "!=",
         }
     }
 }

@@ -1,6 +1,6 @@
 // What is counted between two places.
 ghost use Rattle.std.specs.Prelude.{◌≡◌};
-ghost use Rattle.rt_index.specs.Measures.{measure_of, switch_of};
+ghost use Rattle.rt_index.specs.Measures.{measure_of};
 
 /// What is counted between two places (Tk text manual, "count").
 #[derive(Clone, Copy, Debug, PartialEq, Eq)]
@@ -23,17 +23,6 @@ impl Measure {
             "-indices" => Some(Measure::Indices),
             "-lines" => Some(Measure::Lines),
             _ => None,
-        }
-    }
-
-    /// The switch that asks for it.
-    pub fn switch(self) -> &'static str
-        ensures { result.now ≡ switch_of self }
-    {
-        match self {
-            Measure::Chars => "-chars",
-            Measure::Indices => "-indices",
-            Measure::Lines => "-lines",
         }
     }
 }

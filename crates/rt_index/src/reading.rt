@@ -2,10 +2,10 @@
 ghost use Rattle.std.specs.Prelude.{◌≡◌, ℕ, ◌+◌, ◌*◌, ◌^◌, ◌==◌, if◌then◌else◌, ◌<◌, ◌≤◌, ◌⊎◌, Some, None, length, map, take, drop, IfSome, IfOk, IfErr, option_map};
 ghost use Rattle.std.specs.List.{prefix_len};
 ghost use Rattle.std.specs.Char.{is_ascii_alphabetic};
-ghost use Rattle.rt_index.specs.Grammar.{counted, turned};
+ghost use Rattle.rt_index.specs.Grammar.{counted_modifier, turned};
 ghost use Rattle.rt_index.specs.Index.{may_end, side_text, tag_of};
 ghost use Rattle.rt_index.specs.Expression.{kept, kept_modifier, kept_found, kept_fixed, kept_number_at, tag_after, longest_named};
-ghost use Rattle.rt_index.specs.Reading.{is_space, token_length, after_spaces, after_any, column_of, position_of, fixed_of, unit_of, keyword_of, with_unit, with_keyword, with_number, with_second_sign, first_modifier, modifiers_of};
+ghost use Rattle.rt_index.specs.Reading.{is_space, token_length, after_spaces, after_any, column_of, fixed_position_of, fixed_of, unit_of, keyword_of, with_unit, with_keyword, with_number, with_second_sign, first_modifier, modifiers_of};
 
 use crate::parts::{Fixed, Keyword, Modifier, Side, Sign, Step, Tag};
 use rt_stamps::Fault;
@@ -122,8 +122,8 @@ fn column_of(line: usize, text: &[u8]) -> Option<Fixed>
 }
 
 #[inline(always)]
-fn position_of(text: &[u8]) -> Option<Fixed>
-    ensures { result ≡ option_map kept_fixed (position_of text.now) }
+fn fixed_position_of(text: &[u8]) -> Option<Fixed>
+    ensures { result ≡ option_map kept_fixed (fixed_position_of text.now) }
 {
     let (line, rest) = number_at(text)?;
     match rest.split_first() {
@@ -139,7 +139,7 @@ pub(crate) fn fixed_of(text: &[u8]) -> Option<Fixed>
 {
     match text {
         [b'e', b'n', b'd'] => Some(Fixed::End),
-        _ => position_of(text),
+        _ => fixed_position_of(text),
     }
 }
 
@@ -193,8 +193,8 @@ impl Sign {
     }
 
     #[inline(always)]
-    fn counted(self, count: usize, step: Step) -> Modifier
-        ensures { result ≡ counted self count step }
+    fn counted_modifier(self, count: usize, step: Step) -> Modifier
+        ensures { result ≡ counted_modifier self count step }
     {
         match self {
             Sign::Plus => Modifier::Forward(count, step),
@@ -211,11 +211,11 @@ fn with_unit(sign: Sign, count: usize, text: &[u8]) -> Option<(Modifier, &[u8])>
 {
     // As most expressions end: no letters are counted.
     if let [b'c', b'h', b'a', b'r', b's'] = text {
-        return Some((sign.counted(count, Step::Characters), &[]));
+        return Some((sign.counted_modifier(count, Step::Characters), &[]));
     }
     let (run, rest) = text.split_at(letters(text));
     let step = unit_of(run)?;
-    Some((sign.counted(count, step), rest))
+    Some((sign.counted_modifier(count, step), rest))
 }
 
 /// A keyword at the front of a text, and what follows it.

@@ -27,7 +27,7 @@ module _ {M : Type 1} {𝓤 : Ura M} {𝓛 : Logic 𝓤} {K : Type 0} {Γ : List
       → ((v : Val) → Seq K 𝓛 (D.got v ∷ Γ) (lands C Λ E d v rest q)) → Seq K 𝓛 (D.handed ∷ Γ) (runs C Λ E (seq (call f xs d) rest) q)
   deals t fm D os k = use1 𝓛 (raw (D.contract.pre D.at)) D.asks $ calls_at t fm D.contract D.meets D.at os (λ v. use1 𝓛 (later (D.got v)) (D.leaves v) $ await t tt $ k v)
 
-  -- the same of a call that ends its part
+  -- a call that ends its part, by a deal
   pub deals_last : K → FmC 𝓤 𝓛.H 𝓛.laws C → (D : Deal 𝓛 C f) → Opds K 𝓛 (raw (D.contract.pre D.at) ∷ Γ) E xs (D.contract.args D.at)
       → ((v : Val) → Seq K 𝓛 (D.got v ∷ Γ) (settles E d v q)) → Seq K 𝓛 (D.handed ∷ Γ) (runs C Λ E (call f xs d) q)
   deals_last t fm D os k = use1 𝓛 (raw (D.contract.pre D.at)) D.asks $ calls_at_last t fm D.contract D.meets D.at os (λ v. use1 𝓛 (later (D.got v)) (D.leaves v) $ await t tt $ k v)

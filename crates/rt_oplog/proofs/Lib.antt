@@ -1,4 +1,5 @@
 pub mod Filling
+pub mod Fitting
 pub mod InBlocks
 pub mod Joins
 pub mod Kept

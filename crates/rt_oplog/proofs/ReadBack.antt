@@ -1,6 +1,6 @@
 -- What is written of a log is read back as the log's operations, and they have that log.
 use Rattle.std.proofs.Common.{◌≡◌, ◌↔◌, ℕ, zero, suc, Bool, true, inl, inr, refl, sym, subst, arith, List, [], ◌∷◌, ◌++◌, take, reverse, Some, None}
-use Rattle.std.specs.Prelude.{slice_get}
+use Rattle.std.specs.Prelude.{slice_get, OnOk, Result, Ok, Err}
 use Rattle.std.specs.List.{AllByRecursion}
 use Rattle.std.proofs.lemmas.Bool.Decides.{nat_tests}
 use Rattle.std.proofs.lemmas.List.{reverse-append}
@@ -9,8 +9,8 @@ use Rattle.rt_stamps.specs.declared.fault.Fault.{Fault}
 use Rattle.rt_stamps.specs.Stamps.{is_before}
 use Rattle.rt_ops.specs.Operations.{Operation, stamp_of}
 use Rattle.rt_ops.specs.Rules.{each_next}
-use Rattle.rt_ops.specs.File.{spelling, HasRecord}
-use Rattle.rt_ops.specs.Reading.{offsets_from, Reads}
+use Rattle.rt_ops.specs.File.{spelling, version_of, HasRecord}
+use Rattle.rt_ops.specs.Reading.{offsets_of, Reads}
 use Rattle.rt_oplog.specs.Logs.{Has, holds, clash, IsFalling, IsLog}
 use Rattle.rt_oplog.specs.Outcomes.{IsLogOf, IsFirstRefused}
 use Rattle.rt_oplog.proofs.Sets.{split, none_from, same_set, member_before}
@@ -49,8 +49,12 @@ rising_reversed (op ∷ older) f =
 
 -- ---- the file of a log
 
-pub written_is_read : (log : List Operation) → IsLog log → AllByRecursion HasRecord (reverse log) → Reads (spelling (reverse log)) (reverse log) (offsets_from 8 (reverse log)) None
+pub written_is_read : (log : List Operation) → IsLog log → AllByRecursion (HasRecord (version_of (reverse log))) (reverse log) → Reads (spelling (reverse log)) (reverse log) (offsets_of (reverse log)) None
 written_is_read log is all = spelled_is_read (reverse log) (record { records = all; rising = rising_reversed log is.falling })
+
+pub on_ok : {X E A B : Type 0} (result : Result X E) → (A → B) → OnOk result A → OnOk result B
+on_ok (Ok x) f h = f h
+on_ok (Err e) f h = tt
 
 -- ---- the log of the operations of a log
 

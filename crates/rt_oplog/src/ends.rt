@@ -8,7 +8,7 @@ use std::alloc::{AllocError, Global};
 /// A site and its known end.
 #[derive(Clone, Copy)]
 pub(crate) struct SiteEnd {
-    pub site: u16,
+    pub site: u32,
     pub last: u64,
 }
 
@@ -21,7 +21,7 @@ pub(crate) struct Ends {
 
 /// How many sites are lesser.
 #[inline(always)]
-fn sites_below(ends: &[SiteEnd], site: u16) -> usize
+fn sites_below(ends: &[SiteEnd], site: u32) -> usize
     requires { are_rising ends.now ≡ true }
     ensures place { result ≡ leading (is_lower site) ends.now }
     ensures within { result ≤ length ends.now }
@@ -52,7 +52,7 @@ impl Ends {
     }
 
     /// The known end of a site, 0 if it has none.
-    pub(crate) fn get(&self, site: u16) -> u64
+    pub(crate) fn get(&self, site: u32) -> u64
         ensures { result ≡ end_in self.now.ends.items site }
     {
         let place = sites_below(&self.ends, site);
@@ -65,7 +65,7 @@ impl Ends {
 
     /// A last count of a site, and what its known end was. There is room for one more site.
     #[inline(always)]
-    pub(crate) fn raise(&mut self, site: u16, last: u64) -> u64
+    pub(crate) fn raise(&mut self, site: u32, last: u64) -> u64
         requires { vec_len self.old.ends < vec_capacity self.old.ends }
         ensures known { result ≡ end_in self.old.ends.items site }
         ensures ends { (s : ℕ) → end_in self.new.ends.items s

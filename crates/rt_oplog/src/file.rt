@@ -1,55 +1,106 @@
 // The operation file of a log.
-ghost use Rattle.std.specs.Prelude.{◌<◌, length, map, reverse, None, OnOk};
-ghost use Rattle.std.specs.List.{AllByRecursion, flat_map};
+ghost use Rattle.std.specs.Prelude.{◌≡◌, ◌<◌, true, length, map, reverse, None, OnOk};
+ghost use Rattle.std.specs.List.{AllByRecursion, flat_map, list_all};
 ghost use Rattle.rt_stamps.specs.Written.{WritesBuffered, WritesText};
-ghost use Rattle.rt_ops.specs.File.{spelling, magic, record_of, HasRecord};
-ghost use Rattle.rt_ops.specs.Reading.{offsets_from, Reads};
+ghost use Rattle.rt_ops.specs.declared.version.Version.TheVariants.{One};
+ghost use Rattle.rt_ops.specs.File.{spelling, magic, record_of, file_of, fits, version_of, HasRecord};
+ghost use Rattle.rt_ops.specs.Reading.{offsets_of, Reads};
 ghost use Rattle.rt_oplog.specs.Kept.{op_at};
+ghost use Rattle.rt_oplog.specs.Logs.{IsLog};
 
 use crate::{Op, OpLog};
 use rt_ops::spell::spell;
+use rt_ops::{Version, fits, magic};
 use rt_stamps::{Fault, Sink, write_all};
 use std::alloc::Global;
 
-#[tactic(auto, unfolding(rt_ops::specs::File::magic))]
-fn write_magic<W: Sink>(out: &mut W) -> Result<(), Fault>
-    ensures { WritesText (W.stream out.old) (W.stream out.new) result magic }
+/// Whether the first version has room for the operations of these places.
+fn places_fit(ops: &[Op], places: &[usize]) -> bool
+    requires { AllByRecursion (λ place. place < length ops.now) places.now }
+    ensures { result ≡ list_all (fits One) (map (op_at ops.now) places.now) }
 {
-    write_all(out, b"RGATEXT1")
+    for place in places {
+        if !fits(Version::One, &ops[*place]) {
+            return false;
+        }
+    }
+    true
+}
+
+/// Whether the first version has room for each operation of a log.
+fn all_fit(log: &OpLog) -> bool
+    ensures { result ≡ list_all (fits One) (reverse log.now.operations) }
+{
+    let (ops, blocks) = log.blocks();
+    for block in blocks {
+        if !places_fit(ops, &block.places) {
+            return false;
+        }
+    }
+    true
+}
+
+/// The version in which the file of a log is written: the first where it has room for each operation.
+fn version_of(log: &OpLog) -> Version
+    ensures { result ≡ version_of (reverse log.now.operations) }
+{
+    if all_fit(log) {
+        Version::One
+    } else {
+        Version::Two
+    }
+}
+
+fn write_magic<W: Sink>(version: Version, out: &mut W) -> Result<(), Fault>
+    ensures { WritesText (W.stream out.old) (W.stream out.new) result (magic version) }
+{
+    write_all(out, magic(version).as_slice())
 }
 
 /// Writes the records of the operations of these places, each through the buffer.
 fn write_records<W: Sink>(
     record: &mut Vec<u8>,
+    version: Version,
     ops: &[Op],
     places: &[usize],
     out: &mut W,
 ) -> Result<(), Fault>
-    requires { AllByRecursion (λ place. place < length ops.now) places.now }
-    ensures writes { WritesBuffered (W.stream out.old) (W.stream out.new) result (flat_map record_of (map (op_at ops.now) places.now)) }
-    ensures records { OnOk result (AllByRecursion HasRecord (map (op_at ops.now) places.now)) }
+    requires within { AllByRecursion (λ place. place < length ops.now) places.now }
+    requires room { version ≡ One → list_all (fits One) (map (op_at ops.now) places.now) ≡ true }
+    ensures writes { WritesBuffered (W.stream out.old) (W.stream out.new) result (flat_map (record_of version) (map (op_at ops.now) places.now)) }
+    ensures records { OnOk result (AllByRecursion (HasRecord version) (map (op_at ops.now) places.now)) }
 {
     for place in places {
-        spell(record, &ops[*place])?;
+        spell(record, version, &ops[*place])?;
         write_all(out, record)?;
     }
     Ok(())
 }
 
-/// Writes the file of a log's operations by rising stamp, one record after the other, through a
-/// buffer of a record. What was written reads as these operations (`read_file` takes files of at most
-/// `MOST_BYTES`). `NoMemory` where the buffer could not grow, `WriteFault` where a write failed; a front
-/// of the file was then written.
-pub fn write_file<W: Sink>(alloc: Global, log: &OpLog, out: &mut W) -> Result<(), Fault>
-    ensures writes { WritesBuffered (W.stream out.old) (W.stream out.new) result (spelling (reverse log.now.operations)) }
-    ensures read_back { OnOk result
-        (Reads (spelling (reverse log.now.operations)) (reverse log.now.operations) (offsets_from 8 (reverse log.now.operations)) None) }
+/// Writes the file of a log's operations in a version that has room for them.
+fn write_in<W: Sink>(alloc: Global, version: Version, log: &OpLog, out: &mut W) -> Result<(), Fault>
+    requires { version ≡ One → list_all (fits One) (reverse log.now.operations) ≡ true }
+    ensures writes { WritesBuffered (W.stream out.old) (W.stream out.new) result (file_of version (reverse log.now.operations)) }
+    ensures records { OnOk result (IsLog log.now.operations × AllByRecursion (HasRecord version) (reverse log.now.operations)) }
 {
-    write_magic(out)?;
+    write_magic(version, out)?;
     let (ops, blocks) = log.blocks();
     let mut record = Vec::new(alloc);
     for block in blocks {
-        write_records(&mut record, ops, &block.places, out)?;
+        write_records(&mut record, version, ops, &block.places, out)?;
     }
     Ok(())
+}
+
+/// Writes the file of a log's operations by rising stamp, one record after the other, through a
+/// buffer of a record. It is of the first version where that has room for each operation: sites, also named
+/// ones, up to 65,535, and at most 64 tags of an Insert; else of the second. What was written reads as these
+/// operations (`read_file` takes files of at most `MOST_BYTES`). `NoMemory` where the buffer could not grow,
+/// `WriteFault` where a write failed; a front of the file was then written.
+pub fn write_file<W: Sink>(alloc: Global, log: &OpLog, out: &mut W) -> Result<(), Fault>
+    ensures writes { WritesBuffered (W.stream out.old) (W.stream out.new) result (spelling (reverse log.now.operations)) }
+    ensures read_back { OnOk result
+        (Reads (spelling (reverse log.now.operations)) (reverse log.now.operations) (offsets_of (reverse log.now.operations)) None) }
+{
+    write_in(alloc, version_of(log), log, out)
 }

@@ -264,7 +264,7 @@ impl OpLog {
     }
 
     /// The greatest last count of a site's operations, 0 if it has none.
-    pub fn known(&self, site: u16) -> u64
+    pub fn known(&self, site: u32) -> u64
         ensures { result ≡ known_end self.now.operations site }
     {
         self.ends.get(site)

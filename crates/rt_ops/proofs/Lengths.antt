@@ -2,7 +2,7 @@
 use Rattle.std.proofs.Common.{◌≡◌, ℕ, ◌+◌, ◌-◌, ◌*◌, ◌^◌, ◌<◌, ◌≤◌, Bool, true, false, String, Global, string_bytes, List, [], ◌∷◌, ◌++◌, length, take, drop, refl, sym, ap, ◌∙◌, arith}
 use Rattle.std.specs.Prelude.{encode_utf8_all}
 use Rattle.std.specs.List.{flat_map, list_all, AllByRecursion}
-use Rattle.std.specs.Int.{w16, w32, w64, from_be_bytes}
+use Rattle.std.specs.Int.{w16, w32, w64, byte_len, from_be_bytes}
 use Rattle.std.proofs.lemmas.List.{take_at, drop_at, take_all, drop_all, append-nil, length-append}
 use Rattle.std.proofs.Math.Utf8.{encode}
 use Rattle.std.proofs.lemmas.Nat.{from_be_bytes-to_be_bytes_2, from_be_bytes-to_be_bytes_4, from_be_bytes-to_be_bytes_8}
@@ -12,6 +12,9 @@ use Rattle.rt_stamps.specs.declared.stamp.Span.{Span}
 use Rattle.rt_stamps.specs.declared.stamp.Stamp.{Stamp}
 use Rattle.rt_stamps.specs.declared.limits.TheConstants.{MOST_NAME_BYTES, MOST_TAGS, MOST_CHARACTERS, MOST_SPANS, MOST_RECORD_BYTES}
 use Rattle.rt_stamps.specs.Words.{as_words}
+use Rattle.rt_ops.specs.declared.version.Version.{Version}
+use Rattle.rt_ops.specs.declared.version.Version.TheVariants.{One, Two}
+use Rattle.rt_ops.specs.Versions.{layout, sites}
 use Rattle.rt_ops.specs.Operations.{Name, Body, Insert, Delete, Tag, Operation, stamp_of}
 use Rattle.rt_ops.specs.Rules.{is_name, are_spans, keeps_rules}
 use Rattle.rt_ops.specs.File.{number, stamp_bytes, span_bytes, spans_bytes, name_bytes, tags_bytes, body_bytes, content_of}
@@ -42,6 +45,26 @@ pub same_8 : (m n : ℕ) → m < 2 ^ 64 → n < 2 ^ 64 → number w64 m ≡ numb
 unfolding number
 same_8 m n hm hn e = sym (from_be_bytes-to_be_bytes_8 m hm) ∙ ap (from_be_bytes w64) e ∙ from_be_bytes-to_be_bytes_8 n hn
 
+-- the number of a site
+
+pub length_site : (ver : Version) (n : ℕ) → length (number (layout ver).site n) ≡ byte_len (layout ver).site
+length_site One n = length_2 n
+length_site Two n = length_4 n
+
+pub same_site : (ver : Version) (m n : ℕ) → m < sites ver → n < sites ver → number (layout ver).site m ≡ number (layout ver).site n → m ≡ n
+same_site One m n hm hn e = same_2 m n hm hn e
+same_site Two m n hm hn e = same_4 m n hm hn e
+
+-- a site has two bytes at least, and four at most
+site_bytes : (ver : Version) → (2 ≤ byte_len (layout ver).site) × (byte_len (layout ver).site ≤ 4)
+site_bytes One = (omega arith, omega arith)
+site_bytes Two = (omega arith, omega arith)
+
+-- the fewest bytes of a record are those before its body
+pub fewest_bytes : (ver : Version) → (layout ver).fewest ≡ 17 + byte_len (layout ver).site
+fewest_bytes One = refl
+fewest_bytes Two = refl
+
 -- two fronts of one length
 pub same_front : (a b x y : List ℕ) → length a ≡ length b → a ++ x ≡ b ++ y → (a ≡ b) × (x ≡ y)
 same_front a b x y len e = (
@@ -51,21 +74,27 @@ same_front a b x y len e = (
 
 -- ---- lengths
 
-pub stamp_length : (stamp : Stamp) → length (stamp_bytes stamp) ≡ 10
+pub stamp_length : (ver : Version) (stamp : Stamp) → length (stamp_bytes ver stamp) ≡ 8 + byte_len (layout ver).site
 unfolding stamp_bytes
-stamp_length stamp = omega (arith, length-append (number w64 stamp.count) (number w16 stamp.site), length_8 stamp.count, length_2 stamp.site)
+stamp_length ver stamp = omega (arith, length-append (number w64 stamp.count) (number (layout ver).site stamp.site), length_8 stamp.count, length_site ver stamp.site)
 
-pub span_length : (span : Span) → length (span_bytes span) ≡ 18
+pub span_length : (ver : Version) (span : Span) → length (span_bytes ver span) ≡ 16 + byte_len (layout ver).site
 unfolding span_bytes
-span_length span = omega (arith, length-append (number w16 span.site) (number w64 span.first ++ number w64 span.last), length-append (number w64 span.first) (number w64 span.last), length_8 span.first, length_8 span.last, length_2 span.site)
+span_length ver span = omega (arith, length-append (number (layout ver).site span.site) (number w64 span.first ++ number w64 span.last), length-append (number w64 span.first) (number w64 span.last), length_8 span.first, length_8 span.last, length_site ver span.site)
 
-pub spans_flat : (spans : List Span) → length (flat_map span_bytes spans) ≡ 18 * length spans
-spans_flat [] = refl
-spans_flat (span ∷ spans) = omega (arith, length-append (span_bytes span) (flat_map span_bytes spans), span_length span, spans_flat spans)
+pub spans_flat : (ver : Version) (spans : List Span) → length (flat_map (span_bytes ver) spans) ≡ (16 + byte_len (layout ver).site) * length spans
+spans_flat One [] = refl
+spans_flat One (span ∷ spans) = omega (arith, length-append (span_bytes One span) (flat_map (span_bytes One) spans), span_length One span, spans_flat One spans)
+spans_flat Two [] = refl
+spans_flat Two (span ∷ spans) = omega (arith, length-append (span_bytes Two span) (flat_map (span_bytes Two) spans), span_length Two span, spans_flat Two spans)
 
-pub spans_length : (spans : List Span) → length (spans_bytes spans) ≡ 4 + 18 * length spans
+pub spans_length : (ver : Version) (spans : List Span) → length (spans_bytes ver spans) ≡ 4 + (16 + byte_len (layout ver).site) * length spans
 unfolding spans_bytes
-spans_length spans = omega (arith, length-append (number w32 (length spans)) (flat_map span_bytes spans), length_4 (length spans), spans_flat spans)
+spans_length ver spans = omega (arith, length-append (number w32 (length spans)) (flat_map (span_bytes ver) spans), length_4 (length spans), spans_flat ver spans)
+
+spans_short : (ver : Version) (spans : List Span) → length (spans_bytes ver spans) ≤ 4 + 20 * length spans
+spans_short One spans = omega (arith, spans_length One spans)
+spans_short Two spans = omega (arith, spans_length Two spans)
 
 pub names_flat : (tags : List Name) → list_all is_name tags ≡ true → length (flat_map name_bytes tags) ≤ 256 * length tags
 names_flat [] h = omega arith
@@ -102,22 +131,22 @@ names_fit_all (tag ∷ tags) h =
 pub names_fit : (after : Stamp) (tags : List (String Global)) (text : List ℕ) → keeps_rules (Insert after (as_words tags) text) ≡ true → AllByRecursion (λ (tag : String Global). length (string_bytes tag) < 2 ^ 8) tags
 names_fit after tags text h = names_fit_all tags (tags_are after (as_words tags) text h).1
 
-pub body_short : (body : Body) → keeps_rules body ≡ true → length (body_bytes body) ≤ MOST_RECORD_BYTES - 19
+pub body_short : (ver : Version) (body : Body) → keeps_rules body ≡ true → length (body_bytes ver body) ≤ MOST_RECORD_BYTES - 21
 unfolding tags_bytes
-body_short (Insert after tags text) h =
+body_short ver (Insert after tags text) h =
     let rules = tags_are after tags text h in
-    omega (arith, rules.0, rules.2, names_flat tags rules.1, text_length text, stamp_length after, length-append (stamp_bytes after) (tags_bytes tags ++ encode_utf8_all text), length-append (flat_map name_bytes tags) (encode_utf8_all text))
-body_short (Delete spans) h = omega (arith, spans_length spans, spans_are spans h)
-body_short (Tag on name spans) h =
+    omega (arith, rules.0, rules.2, names_flat tags rules.1, text_length text, stamp_length ver after, (site_bytes ver).1, length-append (stamp_bytes ver after) (tags_bytes tags ++ encode_utf8_all text), length-append (flat_map name_bytes tags) (encode_utf8_all text))
+body_short ver (Delete spans) h = omega (arith, spans_short ver spans, spans_are spans h)
+body_short ver (Tag on name spans) h =
     let rules = tag_is on name spans h in
-    omega (arith, rules.0, rules.1, spans_length spans, length-append name (spans_bytes spans))
+    omega (arith, rules.0, rules.1, spans_short ver spans, length-append name (spans_bytes ver spans))
 
-pub content_length : (op : Operation) → length (content_of op) ≡ 19 + length (body_bytes op.body)
-content_length op = omega (arith, length-append (stamp_bytes (stamp_of op)) (number w64 op.prev ++ body_bytes op.body), length-append (number w64 op.prev) (body_bytes op.body), stamp_length (stamp_of op), length_8 op.prev)
+pub content_length : (ver : Version) (op : Operation) → length (content_of ver op) ≡ (layout ver).fewest + length (body_bytes ver op.body)
+content_length ver op = omega (arith, length-append (stamp_bytes ver (stamp_of op)) (number w64 op.prev ++ body_bytes ver op.body), length-append (number w64 op.prev) (body_bytes ver op.body), stamp_length ver (stamp_of op), length_8 op.prev, fewest_bytes ver)
 
 -- a record always keeps to the most bytes
-pub content_short : (op : Operation) → keeps_rules op.body ≡ true → length (content_of op) ≤ MOST_RECORD_BYTES
-content_short op h = omega (arith, content_length op, body_short op.body h)
+pub content_short : (ver : Version) (op : Operation) → keeps_rules op.body ≡ true → length (content_of ver op) ≤ MOST_RECORD_BYTES
+content_short ver op h = omega (arith, content_length ver op, fewest_bytes ver, (site_bytes ver).1, body_short ver op.body h)
 
 -- a length that is written in the place of four bytes
 pub patched : (old new zeros content : List ℕ) (size n : ℕ) → size ≡ length old → old ≡ zeros ++ content → length zeros ≡ 4 → n ≡ length content → new ≡ number w32 n ++ drop 4 old

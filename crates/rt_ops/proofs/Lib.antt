@@ -6,6 +6,7 @@ pub mod Offsets
 pub mod OneForm
 pub mod Parts
 pub mod Readings
+pub mod Rooms
 pub mod Spans
 pub mod Spelled
 pub mod Spells

@@ -26,7 +26,7 @@ rest_clear a (z ∷ spans) h = ((and_parts (is_span a) (list_all is_span (z ∷ 
 first_span : (a : Span) (spans : List Span) → AreClear (a ∷ spans) → is_span a ≡ true
 first_span a spans h = (and_parts (is_span a) (list_all is_span spans) h.0).0
 
--- ---- the stamps behind a span, with at least one count between
+-- ---- the stamps behind _ a span, with at least one count between
 
 abbrev is_past : Span → Stamp → Bool
 is_past a s = nat_lt a.site s.site || ((a.site == s.site) && nat_lt (a.last + 1) s.count)
@@ -80,7 +80,7 @@ has_first a spans h = or_left (is_in_span a (first_stamp a)) (has spans (first_s
 both_first : (a b : Span) → is_from a (first_stamp b) ≡ true → is_from b (first_stamp a) ≡ true → (a.site ≡ b.site) × (a.first ≡ b.first)
 both_first a b h k = (grind (arith, nat_tests), grind (arith, nat_tests))
 
--- the stamp behind a span's last one
+-- the stamp behind _ a span's last one
 abbrev next_of : Span → Stamp
 next_of a = record { count = a.last + 1; site = a.site }
 

@@ -1,9 +1,9 @@
 -- What is decoded from the parts of a record.
-use Rattle.std.proofs.Common.{◌≡◌, ℕ, ◌*◌, ◌^◌, ◌<◌, ◌≤◌, Bool, true, false, List, [], ◌∷◌, ◌++◌, length, take, drop, Result, Ok, Err, IfOk, refl, sym, ap, subst, ◌∙◌, append-nil, arith, inl, inr}
+use Rattle.std.proofs.Common.{◌≡◌, ℕ, ◌+◌, ◌*◌, ◌^◌, ◌<◌, ◌≤◌, Bool, true, false, List, [], ◌∷◌, ◌++◌, length, take, drop, Result, Ok, Err, IfOk, refl, sym, ap, subst, ◌∙◌, append-nil, arith, inl, inr}
 use Rattle.std.specs.Result.{IsOkUnless}
 use Rattle.std.specs.Prelude.{encode_utf8_all}
 use Rattle.std.specs.List.{flat_map, AllByRecursion}
-use Rattle.std.specs.Int.{w32, w64}
+use Rattle.std.specs.Int.{w32, w64, byte_len}
 use Rattle.std.specs.Str.{IsUtf8, chars}
 use Rattle.std.proofs.lemmas.Bool.{false≢true}
 use Rattle.std.proofs.lemmas.Bool.Decides.{nat_tests}
@@ -13,6 +13,8 @@ use Rattle.rt_stamps.specs.declared.stamp.Span.{Span}
 use Rattle.rt_stamps.specs.declared.stamp.Stamp.{Stamp}
 use Rattle.rt_stamps.specs.declared.fault.Fault.{Fault}
 use Rattle.rt_stamps.specs.declared.fault.Fault.TheVariants.{NoMemory}
+use Rattle.rt_ops.specs.declared.version.Version.{Version}
+use Rattle.rt_ops.specs.Versions.{layout}
 use Rattle.rt_ops.specs.Operations.{Name, Body, Insert, Delete, Tag, Operation}
 use Rattle.rt_ops.specs.Rules.{keeps_rules, within_rules}
 use Rattle.rt_ops.specs.File.{number, stamp_bytes, span_bytes, spans_bytes, name_bytes, tags_bytes, flag, kind_of, body_bytes, content_of, StampFits, SpanFits, BodyFits, HasRecord}
@@ -26,21 +28,21 @@ refused_as fault f (inr bad) = inr (bad.0, f bad.1)
 
 -- ---- spans
 
-pub no_spans : (bytes : List ℕ) (spans : List Span) → length bytes < 4 → bytes ≡ spans_bytes spans → ⊥
-no_spans bytes spans few e = omega (arith, ap length e, spans_length spans)
+pub no_spans : (ver : Version) (bytes : List ℕ) (spans : List Span) → length bytes < 4 → bytes ≡ spans_bytes ver spans → ⊥
+no_spans ver bytes spans few e = omega (arith, ap length e, spans_length ver spans)
 
-pub other_size : (bytes rest : List ℕ) (count : ℕ) (spans : List Span) → count < 2 ^ 32 → SpansFit spans → bytes ≡ number w32 count ++ rest → (length rest ≡ 18 * count → ⊥) → bytes ≡ spans_bytes spans → ⊥
-other_size bytes rest count spans few fits parts other e =
-    let p = spans_parts count rest spans [] few fits.few (sym parts ∙ e ∙ sym (append-nil (spans_bytes spans))) in
-    other (omega (arith, p.0, ap length (p.1 ∙ append-nil (flat_map span_bytes spans)), spans_flat spans))
+pub other_size : {ver : Version} (bytes rest : List ℕ) (count : ℕ) (spans : List Span) → count < 2 ^ 32 → SpansFit ver spans → bytes ≡ number w32 count ++ rest → (length rest ≡ (16 + byte_len (layout ver).site) * count → ⊥) → bytes ≡ spans_bytes ver spans → ⊥
+other_size {ver} bytes rest count spans few fits parts other e =
+    let p = spans_parts ver count rest spans [] few fits.few (sym parts ∙ e ∙ sym (append-nil (spans_bytes ver spans))) in
+    other (ap length (p.1 ∙ append-nil (flat_map (span_bytes ver) spans)) ∙ spans_flat ver spans ∙ ap (λ n. (16 + byte_len (layout ver).site) * n) (sym p.0))
 
-pub spans_read : {X : Type 0} (result : Result X Fault) (view : X → List Span) (bytes rest : List ℕ) (count : ℕ) → count < 2 ^ 32 → bytes ≡ number w32 count ++ rest
-    → IfOk result (λ x. AllByRecursion SpanFits (view x)) → IfOk result (λ x. length (view x) ≡ count) → IfOk result (λ x. rest ≡ flat_map span_bytes (view x)) → IsOkUnless result NoMemory
-    → Decodes spans_bytes SpansFit view bytes result
+pub spans_read : (ver : Version) {X : Type 0} (result : Result X Fault) (view : X → List Span) (bytes rest : List ℕ) (count : ℕ) → count < 2 ^ 32 → bytes ≡ number w32 count ++ rest
+    → IfOk result (λ x. AllByRecursion (SpanFits ver) (view x)) → IfOk result (λ x. length (view x) ≡ count) → IfOk result (λ x. rest ≡ flat_map (span_bytes ver) (view x)) → IsOkUnless result NoMemory
+    → Decodes (spans_bytes ver) (SpansFit ver) view bytes result
 unfolding spans_bytes
-spans_read (Ok x) view bytes rest count few parts fits size is memory =
+spans_read ver (Ok x) view bytes rest count few parts fits size is memory =
     (record { each = fits; few = omega (arith, size) }, parts ∙ ap (λ n. number w32 n ++ rest) (sym size) ∙ ap (λ v. number w32 (length (view x)) ++ v) is)
-spans_read (Err fault) view bytes rest count few parts fits size is memory = inl memory
+spans_read ver (Err fault) view bytes rest count few parts fits size is memory = inl memory
 
 -- ---- names
 
@@ -99,62 +101,72 @@ text_read (Err fault) view bytes text utf8 is memory = inl memory
 -- ---- bodies
 
 -- an operation is made of a body that was read, unless a rule is broken
-pub decided : (kind : ℕ) (stamp : Stamp) (prev : ℕ) (body : Body) (bytes : List ℕ) → kind_of body ≡ kind → BodyFits body → IsSpelled body → bytes ≡ body_bytes body
-    → DecodesBody kind stamp prev bytes (within_rules (record { count = stamp.count; site = stamp.site; prev = prev; body = body }))
-decided kind stamp prev body bytes k fits spelled e = by (keeps_rules body) refl
+pub decided : (ver : Version) (kind : ℕ) (stamp : Stamp) (prev : ℕ) (body : Body) (bytes : List ℕ) → kind_of body ≡ kind → BodyFits ver body → IsSpelled ver body → bytes ≡ body_bytes ver body
+    → DecodesBody ver kind stamp prev bytes (within_rules (record { count = stamp.count; site = stamp.site; prev = prev; body = body }))
+decided ver kind stamp prev body bytes k fits spelled e = by (keeps_rules body) refl
   where
-    by : (b : Bool) → keeps_rules body ≡ b → DecodesBody kind stamp prev bytes (within_rules (record { count = stamp.count; site = stamp.site; prev = prev; body = body }))
+    by : (b : Bool) → keeps_rules body ≡ b → DecodesBody ver kind stamp prev bytes (within_rules (record { count = stamp.count; site = stamp.site; prev = prev; body = body }))
     by true rules = rw rules (fits, rules, k, refl, refl, e)
     by false rules = rw rules (inr (
       refl,
       λ other k' fits' rules' e'.
-          let same : other ≡ body = same_body other body (k' ∙ sym k) (is_spelled other fits' rules') spelled (sym e' ∙ e) in
+          let same : other ≡ body = same_body ver other body (k' ∙ sym k) (is_spelled ver other fits' rules') spelled (sym e' ∙ e) in
           false≢true (sym rules ∙ ap keeps_rules (sym same) ∙ rules'),
     ))
 
-pub no_insert : (bytes : List ℕ) → length bytes < 10 → (body : Body) → kind_of body ≡ 1 → BodyFits body → keeps_rules body ≡ true → bytes ≡ body_bytes body → ⊥
-no_insert bytes few (Insert after tags text) k fits rules e = omega (arith, ap length e, length-append (stamp_bytes after) (tags_bytes tags ++ encode_utf8_all text), stamp_length after)
-no_insert bytes few (Delete spans) k fits rules e = omega arith
-no_insert bytes few (Tag on name spans) k fits rules e = omega arith
+pub no_insert : (ver : Version) (bytes : List ℕ) → length bytes < 8 + byte_len (layout ver).site → (body : Body) → kind_of body ≡ 1 → BodyFits ver body → keeps_rules body ≡ true → bytes ≡ body_bytes ver body → ⊥
+no_insert ver bytes few (Insert after tags text) k fits rules e = omega (arith, ap length e, length-append (stamp_bytes ver after) (tags_bytes tags ++ encode_utf8_all text), stamp_length ver after)
+no_insert ver bytes few (Delete spans) k fits rules e = omega arith
+no_insert ver bytes few (Tag on name spans) k fits rules e = omega arith
 
-pub no_tags_of : (bytes rest : List ℕ) (after : Stamp) → StampFits after → bytes ≡ stamp_bytes after ++ rest → ((tags : List Name) (more : List ℕ) → TagsFit tags → rest ≡ tags_bytes tags ++ more → ⊥)
-    → (body : Body) → kind_of body ≡ 1 → BodyFits body → keeps_rules body ≡ true → bytes ≡ body_bytes body → ⊥
-no_tags_of bytes rest after fits parts none (Insert other tags text) k fits' rules e =
-    let p = same_stamp after other rest (tags_bytes tags ++ encode_utf8_all text) fits fits' (sym parts ∙ e) in
-    none tags (encode_utf8_all text) (is_spelled (Insert other tags text) fits' rules).1 p.1
-no_tags_of bytes rest after fits parts none (Delete spans) k fits' rules e = absurd (omega arith)
-no_tags_of bytes rest after fits parts none (Tag on name spans) k fits' rules e = absurd (omega arith)
+pub no_tags_of : {ver : Version} (bytes rest : List ℕ) (after : Stamp) → StampFits ver after → bytes ≡ stamp_bytes ver after ++ rest → ((tags : List Name) (more : List ℕ) → TagsFit tags → rest ≡ tags_bytes tags ++ more → ⊥)
+    → (body : Body) → kind_of body ≡ 1 → BodyFits ver body → keeps_rules body ≡ true → bytes ≡ body_bytes ver body → ⊥
+no_tags_of {ver} bytes rest after fits parts none (Insert other tags text) k fits' rules e =
+    let p = same_stamp after other rest (tags_bytes tags ++ encode_utf8_all text) fits fits'.0 (sym parts ∙ e) in
+    none tags (encode_utf8_all text) (is_spelled ver (Insert other tags text) fits' rules).1 p.1
+no_tags_of {ver} bytes rest after fits parts none (Delete spans) k fits' rules e = absurd (omega arith)
+no_tags_of {ver} bytes rest after fits parts none (Tag on name spans) k fits' rules e = absurd (omega arith)
 
-pub no_text_of : (bytes rest left : List ℕ) (after : Stamp) (tags : List Name) → StampFits after → bytes ≡ stamp_bytes after ++ rest → rest ≡ tags_bytes tags ++ left → ((text : List ℕ) → AreScalars text → left ≡ encode_utf8_all text → ⊥)
-    → (body : Body) → kind_of body ≡ 1 → BodyFits body → keeps_rules body ≡ true → bytes ≡ body_bytes body → ⊥
-no_text_of bytes rest left after tags fits parts more none (Insert other others text) k fits' rules e =
-    let p = same_stamp after other rest (tags_bytes others ++ encode_utf8_all text) fits fits' (sym parts ∙ e) in
+-- more tags than the version lists
+pub too_many_tags : {ver : Version} (bytes rest left : List ℕ) (after : Stamp) (tags : List Name) → StampFits ver after → bytes ≡ stamp_bytes ver after ++ rest → rest ≡ tags_bytes tags ++ left → (layout ver).most_tags < length tags
+    → (body : Body) → kind_of body ≡ 1 → BodyFits ver body → keeps_rules body ≡ true → bytes ≡ body_bytes ver body → ⊥
+too_many_tags {ver} bytes rest left after tags fits parts more many (Insert other others text) k fits' rules e =
+    let p = same_stamp after other rest (tags_bytes others ++ encode_utf8_all text) fits fits'.0 (sym parts ∙ e) in
+    let q = same_tags tags others left (encode_utf8_all text) (sym more ∙ p.1) in
+    omega (arith, ap length q.0, fits'.1, many)
+too_many_tags {ver} bytes rest left after tags fits parts more many (Delete spans) k fits' rules e = absurd (omega arith)
+too_many_tags {ver} bytes rest left after tags fits parts more many (Tag on name spans) k fits' rules e = absurd (omega arith)
+
+pub no_text_of : {ver : Version} (bytes rest left : List ℕ) (after : Stamp) (tags : List Name) → StampFits ver after → bytes ≡ stamp_bytes ver after ++ rest → rest ≡ tags_bytes tags ++ left → ((text : List ℕ) → AreScalars text → left ≡ encode_utf8_all text → ⊥)
+    → (body : Body) → kind_of body ≡ 1 → BodyFits ver body → keeps_rules body ≡ true → bytes ≡ body_bytes ver body → ⊥
+no_text_of {ver} bytes rest left after tags fits parts more none (Insert other others text) k fits' rules e =
+    let p = same_stamp after other rest (tags_bytes others ++ encode_utf8_all text) fits fits'.0 (sym parts ∙ e) in
     let q = same_tags tags others left (encode_utf8_all text) (sym more ∙ p.1) in
     none text (grind (arith, nat_tests)) q.1
-no_text_of bytes rest left after tags fits parts more none (Delete spans) k fits' rules e = absurd (omega arith)
-no_text_of bytes rest left after tags fits parts more none (Tag on name spans) k fits' rules e = absurd (omega arith)
+no_text_of {ver} bytes rest left after tags fits parts more none (Delete spans) k fits' rules e = absurd (omega arith)
+no_text_of {ver} bytes rest left after tags fits parts more none (Tag on name spans) k fits' rules e = absurd (omega arith)
 
-pub no_spans_of : (bytes rest left : List ℕ) (on : Bool) (name : Name) → bytes ≡ flag on ∷ rest → rest ≡ name_bytes name ++ left → ((spans : List Span) → SpansFit spans → left ≡ spans_bytes spans → ⊥)
-    → (body : Body) → kind_of body ≡ 3 → BodyFits body → keeps_rules body ≡ true → bytes ≡ body_bytes body → ⊥
-no_spans_of bytes rest left on name parts more none (Tag other label spans) k fits rules e =
-    let p = heads (flag on) (flag other) rest (name_bytes label ++ spans_bytes spans) (sym parts ∙ e) in
-    let q = same_name name label left (spans_bytes spans) (sym more ∙ p.1) in
-    none spans (is_spelled (Tag other label spans) fits rules).1 q.1
-no_spans_of bytes rest left on name parts more none (Delete spans) k fits rules e = absurd (omega arith)
-no_spans_of bytes rest left on name parts more none (Insert after tags text) k fits rules e = absurd (omega arith)
+pub no_spans_of : {ver : Version} (bytes rest left : List ℕ) (on : Bool) (name : Name) → bytes ≡ flag on ∷ rest → rest ≡ name_bytes name ++ left → ((spans : List Span) → SpansFit ver spans → left ≡ spans_bytes ver spans → ⊥)
+    → (body : Body) → kind_of body ≡ 3 → BodyFits ver body → keeps_rules body ≡ true → bytes ≡ body_bytes ver body → ⊥
+no_spans_of {ver} bytes rest left on name parts more none (Tag other label spans) k fits rules e =
+    let p = heads (flag on) (flag other) rest (name_bytes label ++ spans_bytes ver spans) (sym parts ∙ e) in
+    let q = same_name name label left (spans_bytes ver spans) (sym more ∙ p.1) in
+    none spans (is_spelled ver (Tag other label spans) fits rules).1 q.1
+no_spans_of {ver} bytes rest left on name parts more none (Delete spans) k fits rules e = absurd (omega arith)
+no_spans_of {ver} bytes rest left on name parts more none (Insert after tags text) k fits rules e = absurd (omega arith)
 
 -- ---- operations
 
-pub no_content : (bytes : List ℕ) → length bytes < 19 → (op : Operation) → HasRecord op → bytes ≡ content_of op → ⊥
-no_content bytes few op has e = omega (arith, ap length e, content_length op)
+pub no_content : {ver : Version} (bytes : List ℕ) → length bytes < (layout ver).fewest → (op : Operation) → HasRecord ver op → bytes ≡ content_of ver op → ⊥
+no_content {ver} bytes few op has e = omega (arith, ap length e, content_length ver op)
 
-pub decoded : (kind : ℕ) (stamp : Stamp) (prev : ℕ) (bytes rest : List ℕ) (result : Result Operation Fault) → StampFits stamp → prev < 2 ^ 64 → bytes ≡ kind ∷ (stamp_bytes stamp ++ (number w64 prev ++ rest))
-    → DecodesBody kind stamp prev rest result → Decodes content_of HasRecord (λ op. op) bytes result
-decoded kind stamp prev bytes rest (Ok op) fits small parts h = (
-  record { stamp = subst StampFits (sym h.3) fits; prev = omega (arith, h.4); body = h.0; rules = h.1 },
-  parts ∙ (λ i. sym h.2 i ∷ (stamp_bytes (sym h.3 i) ++ (number w64 (sym h.4 i) ++ h.5 i))),
+pub decoded : {ver : Version} (kind : ℕ) (stamp : Stamp) (prev : ℕ) (bytes rest : List ℕ) (result : Result Operation Fault) → StampFits ver stamp → prev < 2 ^ 64 → bytes ≡ kind ∷ (stamp_bytes ver stamp ++ (number w64 prev ++ rest))
+    → DecodesBody ver kind stamp prev rest result → Decodes (content_of ver) (HasRecord ver) (λ op. op) bytes result
+decoded {ver} kind stamp prev bytes rest (Ok op) fits small parts h = (
+  record { stamp = subst (StampFits ver) (sym h.3) fits; prev = omega (arith, h.4); body = h.0; rules = h.1 },
+  parts ∙ (λ i. sym h.2 i ∷ (stamp_bytes ver (sym h.3 i) ++ (number w64 (sym h.4 i) ++ h.5 i))),
 )
-decoded kind stamp prev bytes rest (Err fault) fits small parts h =
+decoded {ver} kind stamp prev bytes rest (Err fault) fits small parts h =
     refused_as fault (λ none op has e.
     let p = same_head kind stamp prev rest op fits small has (sym parts ∙ e) in
     none op.body (sym p.0) has.body has.rules p.3) h

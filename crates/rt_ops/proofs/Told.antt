@@ -1,32 +1,38 @@
 -- What is told of a reader's bytes.
-use Rattle.std.proofs.Common.{◌≡◌, ℕ, ◌+◌, ◌<◌, ◌≤◌, List, [], ◌∷◌, ◌++◌, length, take, Option, Some, None, arith, sym, ap, subst, ◌∙◌, append-nil, inl, inr}
+use Rattle.std.proofs.Common.{◌≡◌, ℕ, ◌+◌, ◌<◌, ◌≤◌, List, [], ◌∷◌, ◌++◌, length, take, Option, Some, None, Result, Ok, Err, arith, refl, sym, ap, subst, ◌∙◌, append-nil, inl, inr}
 use Rattle.std.specs.Prelude.{◌⊎◌}
 use Rattle.std.proofs.lemmas.List.{length-append}
 use Rattle.std.specs.Io.KnownBytes.{Consumes}
 use Rattle.rt_stamps.specs.declared.limits.Bounds.{Bounds}
 use Rattle.rt_stamps.specs.declared.fault.Fault.{Fault}
 use Rattle.rt_stamps.specs.declared.fault.Fault.TheVariants.{ReadFault}
+use Rattle.rt_ops.specs.declared.version.Version.{Version}
+use Rattle.rt_ops.specs.declared.version.Version.TheVariants.{One, Two}
 use Rattle.rt_ops.specs.Operations.{Operation}
-use Rattle.rt_ops.specs.File.{AreInFile}
-use Rattle.rt_ops.specs.Reading.{head_fault, offsets_from, ReadsAs, Reads}
+use Rattle.rt_ops.specs.File.{AreInFile, file_of}
+use Rattle.rt_ops.specs.Reading.{head_of, offsets_from, ReadsAs, Reads}
 use Rattle.rt_stamps.specs.Streams.{Stream}
 use Rattle.rt_ops.specs.Intake.{FailsAfter, IsStopped, IsTold, PassesBytes, ReadsFile}
 use Rattle.rt_ops.proofs.Readings.{in_file_none}
 use Rattle.rt_ops.proofs.Unique.{none_some, read_is_spelled}
 
-no_operations : (ops : List Operation) (offsets : List ℕ) → ops ≡ [] → offsets ≡ [] → AreInFile ops × (offsets ≡ offsets_from 8 ops)
-no_operations ops offsets none nowhere = (subst AreInFile (sym none) in_file_none, nowhere ∙ ap (offsets_from 8) (sym none))
+-- what is told of some operations: they are in a file of some version, at these offsets
+abbrev AreTold : List Operation → List ℕ → Type 0
+AreTold ops offsets = (ver : Version) × AreInFile ver ops × (offsets ≡ offsets_from ver 8 ops)
 
-read_in_file : (bytes : List ℕ) (ops : List Operation) (offsets : List ℕ) (fault : Option (Fault × ℕ)) → Reads bytes ops offsets fault → AreInFile ops × (offsets ≡ offsets_from 8 ops)
-read_in_file bytes ops offsets fault h = by (head_fault (take 8 bytes)) h
+no_operations : (ops : List Operation) (offsets : List ℕ) → ops ≡ [] → offsets ≡ [] → AreTold ops offsets
+no_operations ops offsets none nowhere = (One, subst (AreInFile One) (sym none) in_file_none, nowhere ∙ ap (offsets_from One 8) (sym none))
+
+read_in_file : (bytes : List ℕ) (ops : List Operation) (offsets : List ℕ) (fault : Option (Fault × ℕ)) → Reads bytes ops offsets fault → AreTold ops offsets
+read_in_file bytes ops offsets fault h = by (head_of (take 8 bytes)) h
   where
-    by : (found : Option Fault) → ReadsAs found bytes ops offsets fault → AreInFile ops × (offsets ≡ offsets_from 8 ops)
-    by (Some found) r = no_operations ops offsets r.0 r.1
-    by None r = (r.2, r.3)
+    by : (found : Result Version Fault) → ReadsAs found bytes ops offsets fault → AreTold ops offsets
+    by (Err found) r = no_operations ops offsets r.0 r.1
+    by (Ok ver) r = (ver, r.2, r.3)
 
-pub told_in_file : (bounds : Bounds) (old new : Stream) (ops : List Operation) (offsets : List ℕ) (fault : Option (Fault × ℕ)) → ReadsFile bounds old new ops offsets fault → AreInFile ops × (offsets ≡ offsets_from 8 ops)
+pub told_in_file : (bounds : Bounds) (old new : Stream) (ops : List Operation) (offsets : List ℕ) (fault : Option (Fault × ℕ)) → ReadsFile bounds old new ops offsets fault → AreTold ops offsets
 told_in_file bounds old new ops offsets fault (inl h) = elim h.2 [ inl t ↦ read_in_file h.0 ops offsets fault t.1 | inr f ↦ read_in_file (h.0 ++ []) ops offsets fault (f []) ]
-told_in_file bounds old new ops offsets fault (inr h) = elim h.3 [ inl s ↦ no_operations ops offsets s.1 s.2 | inr s ↦ (s.2, s.3) ]
+told_in_file bounds old new ops offsets fault (inr h) = elim h.3 [ inl s ↦ no_operations ops offsets s.1 s.2 | inr s ↦ (s.0, s.3, s.4) ]
 
 known_as : (left more : Option (List ℕ)) (bytes front : List ℕ) (ops : List Operation) (offsets : List ℕ) (fault : Option (Fault × ℕ)) → left ≡ Some bytes → Consumes left more front → IsTold more front ops offsets fault → Reads bytes ops offsets fault
 known_as None more bytes front ops offsets fault e eaten told = absurd cc
@@ -73,6 +79,18 @@ pub whole_is_read : (bounds : Bounds) (old new : Stream) (bytes : List ℕ) (ops
 whole_is_read bounds old new bytes ops offsets fault e short few same (inl h) = known_as old.bytes new.bytes bytes h.0 ops offsets fault e h.1.consumed h.2
 whole_is_read bounds old new bytes ops offsets fault e short few same (inr h) = absurd (not_stopped bounds old new bytes h.1 e short few same h.4)
 
+-- of three versions two are the same
+two_of_three : (a b c : Version) → (a ≡ b) ⊎ ((a ≡ c) ⊎ (b ≡ c))
+two_of_three One One c = inl refl
+two_of_three One Two One = inr (inl refl)
+two_of_three One Two Two = inr (inr refl)
+two_of_three Two One One = inr (inr refl)
+two_of_three Two One Two = inr (inl refl)
+two_of_three Two Two c = inl refl
+
+as_long : {a b : Version} (ops : List Operation) (front x y : List ℕ) → front ++ x ≡ file_of a ops → front ++ y ≡ file_of b ops → a ≡ b → length x ≡ length y
+as_long {a} {b} ops front x y h k same = omega (arith, length-append front x, length-append front y, ap length h, ap length k, ap (λ v. length (file_of v ops)) same)
+
 -- what is read without a fault is read to its end
 spelled_to_end : (left more : Option (List ℕ)) (bytes front : List ℕ) (ops : List Operation) (offsets : List ℕ) → left ≡ Some bytes → Consumes left more front → IsTold more front ops offsets None → length bytes ≤ length front
 spelled_to_end None more bytes front ops offsets e eaten told = absurd cc
@@ -81,9 +99,14 @@ spelled_to_end (Some all) (Some rest) bytes front ops offsets e eaten (inl t) =
     let same : all ≡ bytes = cc e in
     omega (arith, ap length same, ap length eaten, length-append front rest, ap length t.0)
 spelled_to_end (Some all) (Some rest) bytes front ops offsets e eaten (inr f) =
-    let none = (read_is_spelled (front ++ []) ops offsets (f [])).1 in
-    let one = (read_is_spelled (front ++ 0 ∷ []) ops offsets (f (0 ∷ []))).1 in
-    absurd (omega (arith, ap length none, ap length one, length-append front [], length-append front (0 ∷ [])))
+    let none = read_is_spelled (front ++ []) ops offsets (f []) in
+    let one = read_is_spelled (front ++ 0 ∷ []) ops offsets (f (0 ∷ [])) in
+    let two = read_is_spelled (front ++ 0 ∷ (0 ∷ [])) ops offsets (f (0 ∷ (0 ∷ []))) in
+    elim (two_of_three none.0 one.0 two.0) [
+      | inl same ↦ absurd (omega (arith, as_long ops front [] (0 ∷ []) none.2 one.2 same))
+      | inr (inl same) ↦ absurd (omega (arith, as_long ops front [] (0 ∷ (0 ∷ [])) none.2 two.2 same))
+      | inr (inr same) ↦ absurd (omega (arith, as_long ops front (0 ∷ []) (0 ∷ (0 ∷ [])) one.2 two.2 same))
+    ]
 
 pub read_within : (bounds : Bounds) (old new : Stream) (bytes : List ℕ) (ops : List Operation) (offsets : List ℕ) → old.bytes ≡ Some bytes → ReadsFile bounds old new ops offsets None → length bytes ≤ bounds.bytes
 read_within bounds old new bytes ops offsets e (inl h) = omega (arith, h.1.within, spelled_to_end old.bytes new.bytes bytes h.0 ops offsets e h.1.consumed h.2)

@@ -6,6 +6,7 @@ use Rattle.rt_stamps.specs.declared.stamp.Span.{Span}
 use Rattle.rt_stamps.specs.declared.stamp.Stamp.{Stamp}
 use Rattle.rt_stamps.specs.declared.fault.Fault.{Fault}
 use Rattle.rt_stamps.specs.declared.fault.Fault.TheVariants.{NoMemory, BadRecord}
+use Rattle.rt_ops.specs.declared.version.Version.{Version}
 use Rattle.rt_ops.specs.Operations.{Name, Body, Operation, stamp_of}
 use Rattle.rt_ops.specs.Rules.{keeps_rules}
 use Rattle.rt_ops.specs.File.{SpanFits, BodyFits, kind_of, body_bytes}
@@ -35,8 +36,8 @@ pub record TagsFit (tags : List Name) : Type 0 where
   pub each : AllByRecursion NameFits tags
   pub few : length tags < 2 ^ 8
 
-pub record SpansFit (spans : List Span) : Type 0 where
-  pub each : AllByRecursion SpanFits spans
+pub record SpansFit (version : Version) (spans : List Span) : Type 0 where
+  pub each : AllByRecursion (SpanFits version) spans
   pub few : length spans < 2 ^ 32
 
 abbrev pub AreScalars : List ℕ → Type 0
@@ -44,10 +45,12 @@ AreScalars text = all_scalars text ≡ true
 
 -- All of the bytes spell the body of an operation of this kind, stamp and `prev`. They are refused only where they spell
 -- no body of the kind.
-abbrev pub DecodesBody : ℕ → Stamp → ℕ → List ℕ → Result Operation Fault → Type 0
-DecodesBody kind stamp prev bytes result = MatchResult result
-    (λ op. BodyFits op.body × (keeps_rules op.body ≡ true) × (kind_of op.body ≡ kind) × (stamp_of op ≡ stamp) × (op.prev ≡ prev) × (bytes ≡ body_bytes op.body))
-    (λ fault. RefusesBytes fault ((body : Body) → kind_of body ≡ kind → BodyFits body → keeps_rules body ≡ true → bytes ≡ body_bytes body → ⊥))
+abbrev pub DecodesBody : Version → ℕ → Stamp → ℕ → List ℕ → Result Operation Fault → Type 0
+DecodesBody version kind stamp prev bytes result = MatchResult result
+    (λ op. BodyFits version op.body × (keeps_rules op.body ≡ true) × (kind_of op.body ≡ kind) × (stamp_of op ≡ stamp) × (op.prev ≡ prev)
+    × (bytes ≡ body_bytes version op.body))
+    (λ fault. RefusesBytes fault
+    ((body : Body) → kind_of body ≡ kind → BodyFits version body → keeps_rules body ≡ true → bytes ≡ body_bytes version body → ⊥))
 
 -- a name of so many bytes
 pub record IsNameOf (n : ℕ) (name : Name) : Type 0 where

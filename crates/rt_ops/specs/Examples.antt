@@ -28,6 +28,10 @@ takes_b = record { count = 3; site = 1; prev = 2; body = Delete (span 1 2 2 ∷ 
 abbrev pub tags_a : Operation
 tags_a = record { count = 3; site = 1; prev = 2; body = Tag true (codes "t") (span 1 1 1 ∷ []) }
 
+-- site 65,536 puts `c` in behind `b`
+abbrev pub puts_c : Operation
+puts_c = record { count = 3; site = 65536; prev = 0; body = Insert (record { count = 2; site = 1 }) [] (codes "c") }
+
 -- an operation of this stamp and `prev`
 abbrev pub made : ℕ → ℕ → ℕ → Body → Operation
 made count site prev body = record { count = count; site = site; prev = prev; body = body }

@@ -1,32 +1,35 @@
 -- The operation file: the bytes that spell operations.
-use Rattle.std.specs.Prelude.{◌≡◌, ℕ, ◌<◌, ◌^◌, Bool, true, false, List, ◌∷◌, ◌++◌, length, codes, encode_utf8_all}
-use Rattle.std.specs.List.{flat_map, AllByRecursion}
-use Rattle.std.specs.Int.{Width, w16, w32, w64, to_be_bytes}
+use Rattle.std.specs.Prelude.{◌≡◌, ℕ, ◌<◌, ◌≤◌, ◌^◌, Bool, true, false, ◌&&◌, nat_lt, nat_le, List, ◌∷◌, ◌++◌, length, encode_utf8_all, if◌then◌else◌}
+use Rattle.std.specs.List.{flat_map, list_all, AllByRecursion}
+use Rattle.std.specs.Int.{Width, w32, w64, to_be_bytes}
 use Rattle.rt_stamps.specs.declared.stamp.Span.{Span}
 use Rattle.rt_stamps.specs.declared.stamp.Stamp.{Stamp}
 use Rattle.rt_stamps.specs.Stamps.{is_before}
+use Rattle.rt_ops.specs.declared.version.Version.{Version}
+use Rattle.rt_ops.specs.declared.version.Version.TheVariants.{One, Two}
 use Rattle.rt_ops.specs.Operations.{Name, Body, Insert, Delete, Tag, Operation, stamp_of}
 use Rattle.rt_ops.specs.Rules.{each_next, keeps_rules}
+use Rattle.rt_ops.specs.Versions.{layout, sites}
 
--- the eight bytes with which a file begins: its name and its version
-unfoldable pub magic : List ℕ
-magic = codes "RGATEXT1"
+-- the eight bytes with which a file begins
+unfoldable pub magic : Version → List ℕ
+magic version = (layout version).magic
 
 -- a number, the highest byte first
 unfoldable pub number : Width → ℕ → List ℕ
 number w n = to_be_bytes w n
 
 -- count and site
-unfoldable pub stamp_bytes : Stamp → List ℕ
-stamp_bytes stamp = number w64 stamp.count ++ number w16 stamp.site
+unfoldable pub stamp_bytes : Version → Stamp → List ℕ
+stamp_bytes version stamp = number w64 stamp.count ++ number (layout version).site stamp.site
 
 -- site, first and last count
-unfoldable pub span_bytes : Span → List ℕ
-span_bytes span = number w16 span.site ++ (number w64 span.first ++ number w64 span.last)
+unfoldable pub span_bytes : Version → Span → List ℕ
+span_bytes version span = number (layout version).site span.site ++ (number w64 span.first ++ number w64 span.last)
 
 -- how many there are, and each of them
-unfoldable pub spans_bytes : List Span → List ℕ
-spans_bytes spans = number w32 (length spans) ++ flat_map span_bytes spans
+unfoldable pub spans_bytes : Version → List Span → List ℕ
+spans_bytes version spans = number w32 (length spans) ++ flat_map (span_bytes version) spans
 
 -- the length in one byte, and as many bytes
 abbrev pub name_bytes : Name → List ℕ
@@ -47,46 +50,68 @@ kind_of (Delete spans) = 2
 kind_of (Tag on name spans) = 3
 
 -- the text is in UTF-8
-abbrev pub body_bytes : Body → List ℕ
-body_bytes (Insert after tags text) = stamp_bytes after ++ (tags_bytes tags ++ encode_utf8_all text)
-body_bytes (Delete spans) = spans_bytes spans
-body_bytes (Tag on name spans) = flag on ∷ (name_bytes name ++ spans_bytes spans)
+abbrev pub body_bytes : Version → Body → List ℕ
+body_bytes version (Insert after tags text) = stamp_bytes version after ++ (tags_bytes tags ++ encode_utf8_all text)
+body_bytes version (Delete spans) = spans_bytes version spans
+body_bytes version (Tag on name spans) = flag on ∷ (name_bytes name ++ spans_bytes version spans)
 
 -- kind, count, site, `prev` and body
-abbrev pub content_of : Operation → List ℕ
-content_of op = kind_of op.body ∷ (stamp_bytes (stamp_of op) ++ (number w64 op.prev ++ body_bytes op.body))
+abbrev pub content_of : Version → Operation → List ℕ
+content_of version op = kind_of op.body ∷ (stamp_bytes version (stamp_of op) ++ (number w64 op.prev ++ body_bytes version op.body))
 
 -- the length of what follows, and that
-abbrev pub record_of : Operation → List ℕ
-record_of op = number w32 (length (content_of op)) ++ content_of op
+abbrev pub record_of : Version → Operation → List ℕ
+record_of version op = number w32 (length (content_of version op)) ++ content_of version op
 
 -- a file of these operations, a record each
-abbrev pub spelling : List Operation → List ℕ
-spelling ops = magic ++ flat_map record_of ops
+abbrev pub file_of : Version → List Operation → List ℕ
+file_of version ops = magic version ++ flat_map (record_of version) ops
 
--- What has a record: the numbers fit their fields, and the body keeps the rules.
+-- What has a record: the numbers fit their fields, the tags are no more than the version lists, and the body keeps the rules.
 
-pub record StampFits (stamp : Stamp) : Type 0 where
+pub record StampFits (version : Version) (stamp : Stamp) : Type 0 where
   pub count : stamp.count < 2 ^ 64
-  pub site : stamp.site < 2 ^ 16
+  pub site : stamp.site < sites version
 
-pub record SpanFits (span : Span) : Type 0 where
-  pub site : span.site < 2 ^ 16
+pub record SpanFits (version : Version) (span : Span) : Type 0 where
+  pub site : span.site < sites version
   pub first : span.first < 2 ^ 64
   pub last : span.last < 2 ^ 64
 
-abbrev pub BodyFits : Body → Type 0
-BodyFits (Insert after tags text) = StampFits after
-BodyFits (Delete spans) = AllByRecursion SpanFits spans
-BodyFits (Tag on name spans) = AllByRecursion SpanFits spans
+abbrev pub BodyFits : Version → Body → Type 0
+BodyFits version (Insert after tags text) = StampFits version after × (length tags ≤ (layout version).most_tags)
+BodyFits version (Delete spans) = AllByRecursion (SpanFits version) spans
+BodyFits version (Tag on name spans) = AllByRecursion (SpanFits version) spans
 
-pub record HasRecord (op : Operation) : Type 0 where
-  pub stamp : StampFits (stamp_of op)
+pub record HasRecord (version : Version) (op : Operation) : Type 0 where
+  pub stamp : StampFits version (stamp_of op)
   pub prev : op.prev < 2 ^ 64
-  pub body : BodyFits op.body
+  pub body : BodyFits version op.body
   pub rules : keeps_rules op.body ≡ true
 
 -- the operations of a file: each has a record, and their stamps rise strictly
-pub record AreInFile (ops : List Operation) : Type 0 where
-  pub records : AllByRecursion HasRecord ops
+pub record AreInFile (version : Version) (ops : List Operation) : Type 0 where
+  pub records : AllByRecursion (HasRecord version) ops
   pub rising : each_next (λ a b. is_before (stamp_of a) (stamp_of b)) ops ≡ true
+
+-- Which version operations are written in: the first where each has room in it, else the second.
+
+-- the version has room for the sites of spans
+abbrev pub have_room : Version → List Span → Bool
+have_room version spans = list_all (λ span. nat_lt span.site (sites version)) spans
+
+-- the version has room for the sites that a body names, and for its tags
+abbrev pub has_room : Version → Body → Bool
+has_room version (Insert after tags text) = nat_lt after.site (sites version) && nat_le (length tags) (layout version).most_tags
+has_room version (Delete spans) = have_room version spans
+has_room version (Tag on name spans) = have_room version spans
+
+abbrev pub fits : Version → Operation → Bool
+fits version op = nat_lt op.site (sites version) && has_room version op.body
+
+abbrev pub version_of : List Operation → Version
+version_of ops = if list_all (fits One) ops then One else Two
+
+-- the one file that is written of these operations
+abbrev pub spelling : List Operation → List ℕ
+spelling ops = file_of (version_of ops) ops

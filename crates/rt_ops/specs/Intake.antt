@@ -1,16 +1,18 @@
 -- Bytes taken from a reader, within bounds.
-use Rattle.std.specs.Prelude.{◌≡◌, ◌≢◌, ◌⊎◌, ℕ, ◌+◌, ◌<◌, ◌≤◌, List, [], ◌∷◌, ◌++◌, length, take, Option, Some, Result, MatchResult, MatchOption, Vec}
+use Rattle.std.specs.Prelude.{◌≡◌, ◌≢◌, ◌⊎◌, ℕ, ◌+◌, ◌<◌, ◌≤◌, List, [], ◌∷◌, ◌++◌, length, take, Option, Some, Result, Err, MatchResult, MatchOption, Vec}
 use Rattle.std.specs.declared.alloc.Global.{Global}
 use Rattle.std.specs.Int.{w32}
 use Rattle.std.specs.Io.KnownBytes.{Consumes, IsAtEnd}
 use Rattle.rt_stamps.specs.declared.limits.Bounds.{Bounds}
-use Rattle.rt_stamps.specs.declared.limits.TheConstants.{FEWEST_RECORD_BYTES, MOST_RECORD_BYTES}
+use Rattle.rt_stamps.specs.declared.limits.TheConstants.{MOST_RECORD_BYTES}
 use Rattle.rt_stamps.specs.declared.fault.Fault.{Fault}
 use Rattle.rt_stamps.specs.declared.fault.Fault.TheVariants.{NoMemory, Truncated, BadRecord, ReadFault}
 use Rattle.rt_stamps.specs.Streams.{Stream}
+use Rattle.rt_ops.specs.declared.version.Version.{Version}
 use Rattle.rt_ops.specs.Operations.{Operation}
 use Rattle.rt_ops.specs.File.{magic, number, record_of, HasRecord}
-use Rattle.rt_ops.specs.Reading.{head_fault, EndsEarly, HasNoRecord, Reads, Stops}
+use Rattle.rt_ops.specs.Versions.{layout}
+use Rattle.rt_ops.specs.Reading.{head_of, EndsEarly, HasNoRecord, Reads, Stops}
 
 -- These bytes were taken in no more reads than there are bytes, and none failed. `had` and `has` are what the bounds allowed
 -- before and allow now.
@@ -88,32 +90,32 @@ Gathers old new had has wanted result bytes = MatchResult result
     ⊎ ((fault ≡ ReadFault) × (taken : List ℕ) × (length taken < wanted) × IsStopped old new had taken))
 
 -- why a record isn't read, with the bytes of it that were taken
-abbrev pub Fails : Stream → Stream → Bounds → Bounds → Fault → Type 0
-Fails old new had has fault = (bytes : List ℕ) × (
+abbrev pub Fails : Version → Stream → Stream → Bounds → Bounds → Fault → Type 0
+Fails version old new had has fault = (bytes : List ℕ) × (
     ((fault ≡ NoMemory) × Takes old new had has bytes)
-    ⊎ (((fault ≡ Truncated) × Finishes old new had has bytes × (0 < length bytes) × EndsEarly bytes)
-    ⊎ (((fault ≡ BadRecord) × Takes old new had has bytes × HasNoRecord bytes)
-    ⊎ ((fault ≡ ReadFault) × IsStopped old new had bytes × EndsEarly bytes))))
+    ⊎ (((fault ≡ Truncated) × Finishes old new had has bytes × (0 < length bytes) × EndsEarly version bytes)
+    ⊎ (((fault ≡ BadRecord) × Takes old new had has bytes × HasNoRecord version bytes)
+    ⊎ ((fault ≡ ReadFault) × IsStopped old new had bytes × EndsEarly version bytes))))
 
 -- a record's length field, or none at the end
-abbrev pub GetsLength : Stream → Stream → Bounds → Bounds → Result (Option ℕ) Fault → Type 0
-GetsLength old new had has result = MatchResult result
-    (λ found. MatchOption found (Finishes old new had has []) (λ n. Takes old new had has (number w32 n) × (FEWEST_RECORD_BYTES ≤ n) × (n ≤ MOST_RECORD_BYTES)))
-    (Fails old new had has)
+abbrev pub GetsLength : Version → Stream → Stream → Bounds → Bounds → Result (Option ℕ) Fault → Type 0
+GetsLength version old new had has result = MatchResult result
+    (λ found. MatchOption found (Finishes old new had has []) (λ n. Takes old new had has (number w32 n) × ((layout version).fewest ≤ n) × (n ≤ MOST_RECORD_BYTES)))
+    (Fails version old new had has)
 
 -- a record, or none at the end
-abbrev pub GetsRecord : Stream → Stream → Bounds → Bounds → Result (Option Operation) Fault → Type 0
-GetsRecord old new had has result = MatchResult result
-    (λ found. MatchOption found (Finishes old new had has []) (λ op. Takes old new had has (record_of op) × HasRecord op))
-    (Fails old new had has)
+abbrev pub GetsRecord : Version → Stream → Stream → Bounds → Bounds → Result (Option Operation) Fault → Type 0
+GetsRecord version old new had has result = MatchResult result
+    (λ found. MatchOption found (Finishes old new had has []) (λ op. Takes old new had has (record_of version op) × HasRecord version op))
+    (Fails version old new had has)
 
--- the first eight bytes of a file, or why they aren't read
-abbrev pub GetsHead : Stream → Stream → Bounds → Bounds → Result (Unit {0}) Fault → Type 0
+-- the first eight bytes of a file, which tell its version, or why they aren't read
+abbrev pub GetsHead : Stream → Stream → Bounds → Bounds → Result Version Fault → Type 0
 GetsHead old new had has result = MatchResult result
-    (λ _. Takes old new had has magic)
+    (λ version. Takes old new had has (magic version))
     (λ fault. (bytes : List ℕ) × (
     ((fault ≡ NoMemory) × Takes old new had has bytes)
-    ⊎ (((head_fault bytes ≡ Some fault) × (length bytes ≤ 8) × (8 ≤ length bytes → Takes old new had has bytes)
+    ⊎ (((head_of bytes ≡ Err fault) × (length bytes ≤ 8) × (8 ≤ length bytes → Takes old new had has bytes)
     × (length bytes < 8 → Finishes old new had has bytes))
     ⊎ ((fault ≡ ReadFault) × IsStopped old new had bytes × (length bytes < 8)))))
 

@@ -8,3 +8,4 @@ pub mod Reading
 pub mod Records
 pub mod Rules
 pub mod Texts
+pub mod Versions

@@ -1,11 +1,12 @@
 // Operations, read from the bytes of a record.
 ghost use Rattle.std.specs.Prelude.{◌≡◌, ℕ, ◌∷◌, ◌++◌, ◌<◌, ◌^◌, Bool, List, length, IfNone, IfSome};
 ghost use Rattle.std.specs.Int.{w64};
+ghost use Rattle.rt_ops.specs.Versions.{layout};
 ghost use Rattle.rt_ops.specs.File.{number, stamp_bytes, flag, StampFits, HasRecord, content_of};
 ghost use Rattle.rt_ops.specs.Decoding.{Decodes, DecodesBody};
 
-use crate::Op;
 use crate::fields::{byte_at, name_at, spans_of, stamp_at, tags_at, text_of, u64_at};
+use crate::{Op, Version};
 use rt_stamps::{Fault, Stamp};
 use std::alloc::Global;
 
@@ -17,33 +18,48 @@ struct Head {
     prev: u64,
 }
 
-fn head_at(bytes: &[u8]) -> Option<(Head, &[u8])>
-    ensures none { IfNone result (length bytes.now < 19) }
-    ensures fits { IfSome result (λ found. StampFits found.0.stamp × (found.0.prev < 2 ^ 64)) }
-    ensures bytes { IfSome result (λ found. bytes.now ≡ found.0.kind ∷ (stamp_bytes found.0.stamp ++ (number w64 found.0.prev ++ found.1.now))) }
+fn head_at(version: Version, bytes: &[u8]) -> Option<(Head, &[u8])>
+    ensures none { IfNone result (length bytes.now < (layout version).fewest) }
+    ensures fits { IfSome result (λ found. StampFits version found.0.stamp × (found.0.prev < 2 ^ 64)) }
+    ensures bytes { IfSome result (λ found. bytes.now ≡ found.0.kind ∷ (stamp_bytes version found.0.stamp ++ (number w64 found.0.prev ++ found.1.now))) }
 {
     let (kind, rest) = byte_at(bytes)?;
-    let (stamp, rest) = stamp_at(rest)?;
+    let (stamp, rest) = stamp_at(version, rest)?;
     let (prev, rest) = u64_at(rest)?;
     Some((Head { kind, stamp, prev }, rest))
 }
 
-fn insert_of(alloc: Global, stamp: Stamp, prev: u64, bytes: &[u8]) -> Result<Op, Fault>
-    ensures { DecodesBody 1 stamp prev bytes.now result }
+fn insert_of(
+    alloc: Global,
+    version: Version,
+    stamp: Stamp,
+    prev: u64,
+    bytes: &[u8],
+) -> Result<Op, Fault>
+    ensures { DecodesBody version 1 stamp prev bytes.now result }
 {
-    let (after, rest) = match stamp_at(bytes) {
+    let (after, rest) = match stamp_at(version, bytes) {
         Some(found) => found,
         None => return Err(Fault::BadRecord),
     };
     let (tags, rest) = tags_at(alloc, rest)?;
+    if tags.len() > version.most_tags() {
+        return Err(Fault::BadRecord);
+    }
     let text = text_of(alloc, rest)?;
     Op::insert(stamp, prev, after, tags, text)
 }
 
-fn delete_of(alloc: Global, stamp: Stamp, prev: u64, bytes: &[u8]) -> Result<Op, Fault>
-    ensures { DecodesBody 2 stamp prev bytes.now result }
+fn delete_of(
+    alloc: Global,
+    version: Version,
+    stamp: Stamp,
+    prev: u64,
+    bytes: &[u8],
+) -> Result<Op, Fault>
+    ensures { DecodesBody version 2 stamp prev bytes.now result }
 {
-    let spans = spans_of(alloc, bytes)?;
+    let spans = spans_of(alloc, version, bytes)?;
     Op::delete(stamp, prev, spans)
 }
 
@@ -58,31 +74,37 @@ fn flag_at(bytes: &[u8]) -> Option<(bool, &[u8])>
     }
 }
 
-fn tag_of(alloc: Global, stamp: Stamp, prev: u64, bytes: &[u8]) -> Result<Op, Fault>
-    ensures { DecodesBody 3 stamp prev bytes.now result }
+fn tag_of(
+    alloc: Global,
+    version: Version,
+    stamp: Stamp,
+    prev: u64,
+    bytes: &[u8],
+) -> Result<Op, Fault>
+    ensures { DecodesBody version 3 stamp prev bytes.now result }
 {
     let (on, rest) = match flag_at(bytes) {
         Some(found) => found,
         None => return Err(Fault::BadRecord),
     };
     let (name, rest) = name_at(alloc, rest)?;
-    let spans = spans_of(alloc, rest)?;
+    let spans = spans_of(alloc, version, rest)?;
     Op::tag(stamp, prev, on, name, spans)
 }
 
-/// The operation that all of the bytes spell, which stand behind a record's length field.
+/// The operation that all of the bytes spell in a version, which stand behind a record's length field.
 /// `BadRecord` exactly where they spell none.
-pub fn decode(alloc: Global, bytes: &[u8]) -> Result<Op, Fault>
-    ensures { Decodes content_of HasRecord (λ op. op) bytes.now result }
+pub fn decode(alloc: Global, version: Version, bytes: &[u8]) -> Result<Op, Fault>
+    ensures { Decodes (content_of version) (HasRecord version) (λ op. op) bytes.now result }
 {
-    let (head, rest) = match head_at(bytes) {
+    let (head, rest) = match head_at(version, bytes) {
         Some(found) => found,
         None => return Err(Fault::BadRecord),
     };
     match head.kind {
-        1 => insert_of(alloc, head.stamp, head.prev, rest),
-        2 => delete_of(alloc, head.stamp, head.prev, rest),
-        3 => tag_of(alloc, head.stamp, head.prev, rest),
+        1 => insert_of(alloc, version, head.stamp, head.prev, rest),
+        2 => delete_of(alloc, version, head.stamp, head.prev, rest),
+        3 => tag_of(alloc, version, head.stamp, head.prev, rest),
         _ => Err(Fault::BadRecord),
     }
 }

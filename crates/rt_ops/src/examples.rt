@@ -1,11 +1,12 @@
 // Worked examples of the rules and of the file, each a clause that computes.
-ghost use Rattle.std.specs.Prelude.{◌≡◌, ◌-◌, ◌^◌, true, false, [], ◌∷◌, codes, Some, None};
+ghost use Rattle.std.specs.Prelude.{◌≡◌, ◌-◌, ◌^◌, true, false, [], ◌∷◌, codes, Ok, Err};
 ghost use Rattle.rt_stamps.specs.declared.fault.Fault.TheVariants.{BadMagic, BadVersion, Truncated};
+ghost use Rattle.rt_ops.specs.declared.version.Version.TheVariants.{One, Two};
 ghost use Rattle.rt_stamps.specs.declared.stamp.TheConstants.{ROOT};
-ghost use Rattle.rt_ops.specs.Examples.{hex, made, may_be_deleted, may_be_listed, may_be_tagged, puts_ab, span, tags_a, takes_b};
-ghost use Rattle.rt_ops.specs.File.{record_of};
+ghost use Rattle.rt_ops.specs.Examples.{hex, made, may_be_deleted, may_be_listed, may_be_tagged, puts_ab, puts_c, span, tags_a, takes_b};
+ghost use Rattle.rt_ops.specs.File.{record_of, version_of};
 ghost use Rattle.rt_ops.specs.Operations.{Delete, Insert, has_bad_stamp};
-ghost use Rattle.rt_ops.specs.Reading.{head_fault, last_stamp, may_follow};
+ghost use Rattle.rt_ops.specs.Reading.{head_of, last_stamp, may_follow};
 
 /// The spans of an operation stand by site, and at one site by count, with at least one count between two.
 pub fn spans()
@@ -33,22 +34,36 @@ pub fn tags()
     ensures sel { may_be_listed (codes "sel" ∷ []) ≡ false }
 {}
 
-/// The fault of a file's first eight bytes, or of all where there are fewer.
+/// The version that a file's first eight bytes tell, or their fault; of all bytes where there are fewer.
 #[tactic(auto, unfolding(crate::specs::Reading::file_name, crate::specs::File::magic))]
 pub fn heads()
-    ensures version_one { head_fault (codes "RGATEXT1") ≡ None }
-    ensures version_two { head_fault (codes "RGATEXT2") ≡ Some BadVersion }
-    ensures empty { head_fault [] ≡ Some Truncated }
-    ensures no_version { head_fault (codes "RGATEXT") ≡ Some Truncated }
-    ensures other_name { head_fault (codes "RGATEX11") ≡ Some BadMagic }
-    ensures front_of_other { head_fault (codes "RB") ≡ Some BadMagic }
+    ensures version_one { head_of (codes "RGATEXT1") ≡ Ok One }
+    ensures version_two { head_of (codes "RGATEXT2") ≡ Ok Two }
+    ensures version_three { head_of (codes "RGATEXT3") ≡ Err BadVersion }
+    ensures empty { head_of [] ≡ Err Truncated }
+    ensures no_version { head_of (codes "RGATEXT") ≡ Err Truncated }
+    ensures other_name { head_of (codes "RGATEX11") ≡ Err BadMagic }
+    ensures front_of_other { head_of (codes "RB") ≡ Err BadMagic }
 {}
 
-/// The bytes of a record: its length, then kind, count, site, `prev` and body.
+/// The bytes of a record: its length, then kind, count, site, `prev` and body. In the second version each site has four.
 pub fn records()
-    ensures insert { record_of puts_ab ≡ hex (codes "000000200100000000000000010001000000000000000000000000000000000000006162") }
-    ensures delete { record_of takes_b ≡ hex (codes "000000290200000000000000030001000000000000000200000001000100000000000000020000000000000002") }
-    ensures tag { record_of tags_a ≡ hex (codes "0000002c0300000000000000030001000000000000000201017400000001000100000000000000010000000000000001") }
+    ensures insert { record_of One puts_ab ≡ hex (codes "000000200100000000000000010001000000000000000000000000000000000000006162") }
+    ensures delete { record_of One takes_b ≡ hex (codes "000000290200000000000000030001000000000000000200000001000100000000000000020000000000000002") }
+    ensures tag { record_of One tags_a ≡ hex (codes "0000002c0300000000000000030001000000000000000201017400000001000100000000000000010000000000000001") }
+    ensures insert_of_two { record_of Two puts_ab ≡ hex (codes "00000024010000000000000001000000010000000000000000000000000000000000000000006162") }
+    ensures wide_site { record_of Two puts_c ≡ hex (codes "000000230100000000000000030001000000000000000000000000000000000002000000010063") }
+{}
+
+/// Which version operations are written in: the first, but for a site above 65,535, also a named one.
+pub fn versions()
+    ensures none { version_of [] ≡ One }
+    ensures first { version_of (puts_ab ∷ takes_b ∷ []) ≡ One }
+    ensures wide { version_of (puts_ab ∷ puts_c ∷ []) ≡ Two }
+    ensures greatest_of_one { version_of (made 1 65535 0 (Insert ROOT [] (codes "a")) ∷ []) ≡ One }
+    ensures least_of_two { version_of (made 1 65536 0 (Insert ROOT [] (codes "a")) ∷ []) ≡ Two }
+    ensures named { version_of (made 3 1 2 (Delete (span 1 2 2 ∷ span 65536 1 1 ∷ [])) ∷ []) ≡ Two }
+    ensures after { version_of (made 3 1 2 (Insert (record { count = 1; site = 65536 }) [] (codes "a")) ∷ []) ≡ Two }
 {}
 
 /// Stamps of a file's operations rise: by count, and at one count by site.

@@ -1,22 +1,21 @@
 // Fields, read from bytes.
 ghost use Rattle.std.specs.Prelude.{◌≡◌, ◌+◌, ◌*◌, [], ◌∷◌, ◌++◌, ◌<◌, ◌^◌, length, string_bytes, encode_utf8_all, IfNone, IfSome, IfOk, IsOkUnless};
 ghost use Rattle.std.specs.List.{flat_map, AllByRecursion};
-ghost use Rattle.std.specs.Int.{w16, w32, w64};
+ghost use Rattle.std.specs.Int.{w16, w32, w64, byte_len};
 ghost use Rattle.std.specs.Str.{chars};
 ghost use Rattle.rt_stamps.specs.declared.fault.Fault.TheVariants.{NoMemory};
 ghost use Rattle.rt_stamps.specs.Words.{as_words};
+ghost use Rattle.rt_ops.specs.Versions.{layout, sites};
 ghost use Rattle.rt_ops.specs.File.{number, stamp_bytes, span_bytes, spans_bytes, name_bytes, tags_bytes, StampFits, SpanFits};
 ghost use Rattle.rt_ops.specs.Decoding.{Decodes, DecodesFront, NameFits, IsNameOf, AreNames, TagsFit, SpansFit, AreScalars};
 
+use crate::Version;
 use rt_stamps::{Fault, Span, Stamp};
 use std::alloc::Global;
 use std::str;
 
 /// The bytes of a record's length field.
 pub const LENGTH_BYTES: usize = 4;
-
-/// The bytes of a span.
-const SPAN_BYTES: u64 = 18;
 
 /// A byte, and what follows it. None of no byte.
 pub fn byte_at(bytes: &[u8]) -> Option<(u8, &[u8])>
@@ -64,45 +63,61 @@ pub fn u64_at(bytes: &[u8]) -> Option<(u64, &[u8])>
     Some((u64::from_be_bytes(*front), rest))
 }
 
+/// The number of a site, and what follows it. None of fewer bytes than it takes.
+fn site_at(version: Version, bytes: &[u8]) -> Option<(u32, &[u8])>
+    ensures none { IfNone result (length bytes.now < byte_len (layout version).site) }
+    ensures fits { IfSome result (λ found. found.0 < sites version) }
+    ensures bytes { IfSome result (λ found. bytes.now ≡ number (layout version).site found.0 ++ found.1.now) }
+    ensures left { IfSome result (λ found. length bytes.now ≡ byte_len (layout version).site + length found.1.now) }
+{
+    match version {
+        Version::One => {
+            let (site, rest) = u16_at(bytes)?;
+            Some((u32::from(site), rest))
+        }
+        Version::Two => u32_at(bytes),
+    }
+}
+
 /// A stamp, and what follows it. None of fewer bytes than it takes.
 #[tactic(auto, unfolding(crate::specs::File::stamp_bytes))]
-pub fn stamp_at(bytes: &[u8]) -> Option<(Stamp, &[u8])>
-    ensures none { IfNone result (length bytes.now < 10) }
-    ensures fits { IfSome result (λ found. StampFits found.0) }
-    ensures bytes { IfSome result (λ found. bytes.now ≡ stamp_bytes found.0 ++ found.1.now) }
-    ensures left { IfSome result (λ found. length bytes.now ≡ 10 + length found.1.now) }
+pub fn stamp_at(version: Version, bytes: &[u8]) -> Option<(Stamp, &[u8])>
+    ensures none { IfNone result (length bytes.now < 8 + byte_len (layout version).site) }
+    ensures fits { IfSome result (λ found. StampFits version found.0) }
+    ensures bytes { IfSome result (λ found. bytes.now ≡ stamp_bytes version found.0 ++ found.1.now) }
+    ensures left { IfSome result (λ found. length bytes.now ≡ 8 + byte_len (layout version).site + length found.1.now) }
 {
     let (count, rest) = u64_at(bytes)?;
-    let (site, rest) = u16_at(rest)?;
+    let (site, rest) = site_at(version, rest)?;
     Some((Stamp { count, site }, rest))
 }
 
 /// A span, and what follows it. None of fewer bytes than it takes.
 #[tactic(auto, unfolding(crate::specs::File::span_bytes))]
-fn span_at(bytes: &[u8]) -> Option<(Span, &[u8])>
-    ensures none { IfNone result (length bytes.now < 18) }
-    ensures fits { IfSome result (λ found. SpanFits found.0) }
-    ensures bytes { IfSome result (λ found. bytes.now ≡ span_bytes found.0 ++ found.1.now) }
-    ensures left { IfSome result (λ found. length bytes.now ≡ 18 + length found.1.now) }
+fn span_at(version: Version, bytes: &[u8]) -> Option<(Span, &[u8])>
+    ensures none { IfNone result (length bytes.now < 16 + byte_len (layout version).site) }
+    ensures fits { IfSome result (λ found. SpanFits version found.0) }
+    ensures bytes { IfSome result (λ found. bytes.now ≡ span_bytes version found.0 ++ found.1.now) }
+    ensures left { IfSome result (λ found. length bytes.now ≡ 16 + byte_len (layout version).site + length found.1.now) }
 {
-    let (site, rest) = u16_at(bytes)?;
+    let (site, rest) = site_at(version, bytes)?;
     let (first, rest) = u64_at(rest)?;
     let (last, rest) = u64_at(rest)?;
     Some((Span { site, first, last }, rest))
 }
 
 /// So many spans, which take all of the bytes.
-fn spans_in(alloc: Global, count: u32, bytes: &[u8]) -> Result<Vec<Span>, Fault>
-    requires { length bytes.now ≡ 18 * count }
-    ensures fits { IfOk result (λ spans. AllByRecursion SpanFits spans.items) }
+fn spans_in(alloc: Global, version: Version, count: u32, bytes: &[u8]) -> Result<Vec<Span>, Fault>
+    requires { length bytes.now ≡ (16 + byte_len (layout version).site) * count }
+    ensures fits { IfOk result (λ spans. AllByRecursion (SpanFits version) spans.items) }
     ensures count { IfOk result (λ spans. length spans.items ≡ count) }
-    ensures bytes { IfOk result (λ spans. bytes.now ≡ flat_map span_bytes spans.items) }
+    ensures bytes { IfOk result (λ spans. bytes.now ≡ flat_map (span_bytes version) spans.items) }
     ensures fault { IsOkUnless result NoMemory }
 {
     let mut spans = Vec::new(alloc);
     let mut left = bytes;
     for _ in 0..count {
-        let (span, rest) = match span_at(left) {
+        let (span, rest) = match span_at(version, left) {
             Some(found) => found,
             None => return Err(Fault::BadRecord),
         };
@@ -113,17 +128,17 @@ fn spans_in(alloc: Global, count: u32, bytes: &[u8]) -> Result<Vec<Span>, Fault>
 }
 
 /// The spans that all of the bytes spell.
-pub fn spans_of(alloc: Global, bytes: &[u8]) -> Result<Vec<Span>, Fault>
-    ensures { Decodes spans_bytes SpansFit (λ spans. spans.items) bytes.now result }
+pub fn spans_of(alloc: Global, version: Version, bytes: &[u8]) -> Result<Vec<Span>, Fault>
+    ensures { Decodes (spans_bytes version) (SpansFit version) (λ spans. spans.items) bytes.now result }
 {
     let (count, rest) = match u32_at(bytes) {
         Some(found) => found,
         None => return Err(Fault::BadRecord),
     };
-    if rest.len() as u64 != SPAN_BYTES * u64::from(count) {
+    if rest.len() as u64 != version.span_bytes() * u64::from(count) {
         return Err(Fault::BadRecord);
     }
-    spans_in(alloc, count, rest)
+    spans_in(alloc, version, count, rest)
 }
 
 /// A name of so many bytes at the front, and what follows it.

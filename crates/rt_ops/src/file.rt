@@ -4,10 +4,10 @@ ghost use Rattle.rt_stamps.specs.declared.fault.Fault.TheVariants.{NoMemory};
 ghost use Rattle.rt_stamps.specs.Streams.{FILE_BOUNDS};
 ghost use Rattle.rt_ops.specs.Intake.{GetsHead, GaveSome, StopsUnseen, ReadsFile, ReadsWhole, LacksMemory};
 
-use crate::Op;
-use crate::head::{HEAD_BYTES, head_fault};
+use crate::head::{HEAD_BYTES, head_of};
 use crate::intake::{gather, next_op};
 use crate::record::may_follow;
+use crate::{Op, Version};
 use rt_stamps::limits::{MOST_BYTES, MOST_READS};
 use rt_stamps::{Bounds, Fault, Source};
 use std::alloc::Global;
@@ -24,21 +24,18 @@ pub struct Reading {
     pub fault: Option<(Fault, u64)>,
 }
 
-/// Reads the first eight bytes of a file.
+/// Reads the first eight bytes of a file, which tell its version.
 fn read_head<R: Source>(
     reader: &mut R,
     bounds: &mut Bounds,
     buffer: &mut Vec<u8>,
-) -> Result<(), Fault>
+) -> Result<Version, Fault>
     ensures gets { GetsHead (R.stream reader.old) (R.stream reader.new) bounds.old bounds.new result }
     ensures gave { IfOk result (λ _. GaveSome R.stream reader.old reader.new) }
     ensures unseen { IfErr result (StopsUnseen R.stream bounds.old reader.old reader.new) }
 {
     gather(reader, bounds, buffer, HEAD_BYTES)?;
-    match head_fault(buffer) {
-        Some(fault) => Err(fault),
-        None => Ok(()),
-    }
+    head_of(buffer)
 }
 
 /// What was read before a fault. Want of memory is no such fault: it is the error.
@@ -92,13 +89,13 @@ pub fn read_file_bounded<R: Source>(
         bytes: max_bytes,
         reads: max_reads,
     };
-    match read_head(reader, &mut bounds, &mut buffer) {
-        Ok(()) => {}
+    let version = match read_head(reader, &mut bounds, &mut buffer) {
+        Ok(version) => version,
         Err(fault) => return ended(ops, offsets, fault, 0),
-    }
+    };
     'records: loop {
         let offset = (max_bytes - bounds.bytes) as u64;
-        let op = match next_op(alloc, reader, &mut bounds, &mut buffer) {
+        let op = match next_op(alloc, version, reader, &mut bounds, &mut buffer) {
             Ok(Some(op)) => op,
             Ok(None) => break 'records,
             Err(fault) => return ended(ops, offsets, fault, offset),

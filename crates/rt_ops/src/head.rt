@@ -2,8 +2,9 @@
 ghost use Rattle.std.specs.Prelude.{◌≡◌, ◌≤◌, length, take};
 ghost use Rattle.std.specs.Str.{bytes_eq};
 ghost use Rattle.rt_ops.specs.File.{magic};
-ghost use Rattle.rt_ops.specs.Reading.{file_name, head_fault};
+ghost use Rattle.rt_ops.specs.Reading.{file_name, head_of};
 
+use crate::Version;
 use rt_stamps::Fault;
 
 /// The bytes of a file before its records.
@@ -25,25 +26,38 @@ fn is_named(front: &[u8]) -> bool
     begins_name(&front[..named])
 }
 
+/// The eight bytes with which a file of a version begins.
 #[tactic(auto, unfolding(crate::specs::File::magic))]
-fn is_magic(front: &[u8]) -> bool
-    ensures { result ≡ bytes_eq front.now magic }
+pub fn magic(version: Version) -> [u8; HEAD_BYTES]
+    ensures { result ≡ magic version }
 {
-    front == b"RGATEXT1".as_slice()
+    match version {
+        Version::One => *b"RGATEXT1",
+        Version::Two => *b"RGATEXT2",
+    }
 }
 
-/// The fault of the first eight bytes of a file, or of all where there are fewer.
-pub fn head_fault(front: &[u8]) -> Option<Fault>
-    ensures { result ≡ head_fault front.now }
+fn is_magic(version: Version, front: &[u8]) -> bool
+    ensures { result ≡ bytes_eq front.now (magic version) }
+{
+    front == magic(version).as_slice()
+}
+
+/// The version that the first eight bytes of a file tell, or their fault; of all bytes where there are fewer.
+pub fn head_of(front: &[u8]) -> Result<Version, Fault>
+    ensures { result ≡ head_of front.now }
 {
     if !is_named(front) {
-        return Some(Fault::BadMagic);
+        return Err(Fault::BadMagic);
     }
     if front.len() < HEAD_BYTES {
-        return Some(Fault::Truncated);
+        return Err(Fault::Truncated);
     }
-    if is_magic(front) {
-        return None;
+    if is_magic(Version::One, front) {
+        return Ok(Version::One);
     }
-    Some(Fault::BadVersion)
+    if is_magic(Version::Two, front) {
+        return Ok(Version::Two);
+    }
+    Err(Fault::BadVersion)
 }

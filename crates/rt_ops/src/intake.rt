@@ -2,10 +2,10 @@
 ghost use Rattle.std.specs.Prelude.{◌≡◌, ◌+◌, ◌<◌, ◌≤◌, length, max, IfOk, IfErr, IfSome};
 ghost use Rattle.rt_ops.specs.Intake.{GetsSome, Gathers, GetsLength, GetsRecord, GaveSome, StopsUnseen};
 
-use crate::Op;
 use crate::decode::decode;
 use crate::fields::LENGTH_BYTES;
 use crate::record::length_at;
+use crate::{Op, Version};
 use rt_stamps::limits::PIECE_BYTES;
 use rt_stamps::{Bounds, Fault, Source, read_piece};
 use std::alloc::Global;
@@ -66,11 +66,12 @@ pub fn gather<R: Source>(
 /// The length of the next record; none at the end. The faults of `gather`, `Truncated` where the end comes within it, and
 /// `BadRecord` where no record has it.
 fn next_length<R: Source>(
+    version: Version,
     reader: &mut R,
     bounds: &mut Bounds,
     buffer: &mut Vec<u8>,
 ) -> Result<Option<usize>, Fault>
-    ensures gets { GetsLength (R.stream reader.old) (R.stream reader.new) bounds.old bounds.new result }
+    ensures gets { GetsLength version (R.stream reader.old) (R.stream reader.new) bounds.old bounds.new result }
     ensures gave { IfOk result (λ found. IfSome found (λ _. GaveSome R.stream reader.old reader.new)) }
     ensures unseen { IfErr result (StopsUnseen R.stream bounds.old reader.old reader.new) }
 {
@@ -78,7 +79,7 @@ fn next_length<R: Source>(
     if buffer.is_empty() {
         return Ok(None);
     }
-    let (length, _) = length_at(buffer)?;
+    let (length, _) = length_at(version, buffer)?;
     Ok(Some(length))
 }
 
@@ -87,15 +88,16 @@ fn next_length<R: Source>(
 /// `BadRecord` where it has another.
 pub fn next_op<R: Source>(
     alloc: Global,
+    version: Version,
     reader: &mut R,
     bounds: &mut Bounds,
     buffer: &mut Vec<u8>,
 ) -> Result<Option<Op>, Fault>
-    ensures gets { GetsRecord (R.stream reader.old) (R.stream reader.new) bounds.old bounds.new result }
+    ensures gets { GetsRecord version (R.stream reader.old) (R.stream reader.new) bounds.old bounds.new result }
     ensures gave { IfOk result (λ found. IfSome found (λ _. GaveSome R.stream reader.old reader.new)) }
     ensures unseen { IfErr result (StopsUnseen R.stream bounds.old reader.old reader.new) }
 {
-    let length = match next_length(reader, bounds, buffer)? {
+    let length = match next_length(version, reader, bounds, buffer)? {
         Some(length) => length,
         None => return Ok(None),
     };
@@ -103,6 +105,6 @@ pub fn next_op<R: Source>(
     if buffer.len() < length {
         return Err(Fault::Truncated);
     }
-    let op = decode(alloc, buffer)?;
+    let op = decode(alloc, version, buffer)?;
     Ok(Some(op))
 }

@@ -1,5 +1,5 @@
 // Laws of operations and of their files, each the contract of a function that does nothing.
-ghost use Rattle.std.specs.Prelude.{◌≡◌, ◌⊎◌, ℕ, ◌+◌, ◌<◌, ◌≤◌, List, length, take, true, Option, Some, None, slice_get};
+ghost use Rattle.std.specs.Prelude.{◌≡◌, ◌⊎◌, ℕ, ◌+◌, ◌<◌, ◌≤◌, List, length, take, true, Option, Some, None, Ok, slice_get};
 ghost use Rattle.std.specs.List.{AllByRecursion, list_any};
 ghost use Rattle.rt_stamps.specs.declared.fault.Fault.{Fault};
 ghost use Rattle.rt_stamps.specs.declared.fault.Fault.TheVariants.{ReadFault};
@@ -8,31 +8,45 @@ ghost use Rattle.rt_stamps.specs.declared.stamp.Span.{Span};
 ghost use Rattle.rt_stamps.specs.declared.stamp.Stamp.{Stamp};
 ghost use Rattle.rt_stamps.specs.Spans.{is_in_span};
 ghost use Rattle.rt_stamps.specs.Streams.{Stream};
+ghost use Rattle.rt_ops.specs.declared.version.Version.{Version};
+ghost use Rattle.rt_ops.specs.declared.version.Version.TheVariants.{One, Two};
 ghost use Rattle.rt_ops.specs.Operations.{Operation};
-ghost use Rattle.rt_ops.specs.File.{HasRecord, AreInFile, spelling};
+ghost use Rattle.rt_ops.specs.File.{HasRecord, AreInFile, file_of, fits, spelling, version_of};
 ghost use Rattle.rt_ops.specs.Intake.{FailsAfter, IsStopped, PassesBytes, ReadsFile};
-ghost use Rattle.rt_ops.specs.Reading.{IsBegun, IsEnd, IsFrontOf, Reads, head_fault, offsets_from};
+ghost use Rattle.rt_ops.specs.Reading.{IsBegun, IsEnd, IsFrontOf, Reads, head_of, offsets_from, offsets_of};
 ghost use Rattle.rt_ops.specs.Records.{HasTaken, Left};
 ghost use Rattle.rt_ops.specs.Rules.{are_spans};
 
-/// A list of operations has one spelling, and bytes spell at most one list. What is spelled is read,
-/// and what is read without a fault is spelled. Bytes are read in one way.
+/// A list of operations has one file in each version, and bytes are a file of at most one list, in one version. A file is
+/// read as what it is a file of, and what is read without a fault is one. Bytes are read in one way.
 pub fn files()
-    ensures one { (one other : List Operation) → AllByRecursion HasRecord one → AllByRecursion HasRecord other → spelling one ≡ spelling other
-        → one ≡ other }
-    ensures spelled { (ops : List Operation) → AreInFile ops → Reads (spelling ops) ops (offsets_from 8 ops) None }
-    ensures read { (bytes : List ℕ) (ops : List Operation) (offsets : List ℕ) → Reads bytes ops offsets None → AreInFile ops
-        × (bytes ≡ spelling ops) }
+    ensures one { (version another : Version) (one other : List Operation) → AllByRecursion (HasRecord version) one
+        → AllByRecursion (HasRecord another) other → file_of version one ≡ file_of another other → (version ≡ another) × (one ≡ other) }
+    ensures written { (version : Version) (ops : List Operation) → AreInFile version ops
+        → Reads (file_of version ops) ops (offsets_from version 8 ops) None }
+    ensures read { (bytes : List ℕ) (ops : List Operation) (offsets : List ℕ) → Reads bytes ops offsets None
+        → (version : Version) × AreInFile version ops × (bytes ≡ file_of version ops) }
     ensures once { (bytes : List ℕ) (one other : List Operation) (offsets places : List ℕ) (a b : Option (Fault × ℕ))
         → Reads bytes one offsets a → Reads bytes other places b → (one ≡ other) × (offsets ≡ places) × (a ≡ b) }
+{}
+
+/// The second version has room for what the first has room for. What has a record in the second has one in the version in
+/// which it is written; so the spelling of operations is read as these. It is a file of the first version just where that has
+/// room for each of them.
+pub fn versions()
+    ensures more { (op : Operation) → HasRecord One op → HasRecord Two op }
+    ensures first { (op : Operation) → HasRecord Two op → fits One op ≡ true → HasRecord One op }
+    ensures only { (op : Operation) → HasRecord One op → fits One op ≡ true }
+    ensures chosen { (ops : List Operation) → AreInFile Two ops → AreInFile (version_of ops) ops }
+    ensures spelled { (ops : List Operation) → AreInFile Two ops → Reads (spelling ops) ops (offsets_of ops) None }
 {}
 
 /// Each operation has one offset, which is where its record begins: as many bytes as the file of the
 /// operations before it has.
 pub fn offsets()
-    ensures begins { (ops : List Operation) (place : ℕ) → place < length ops
-        → slice_get (offsets_from 8 ops) place ≡ Some (length (spelling (take place ops))) }
-    ensures count { (ops : List Operation) → length (offsets_from 8 ops) ≡ length ops }
+    ensures begins { (version : Version) (ops : List Operation) (place : ℕ) → place < length ops
+        → slice_get (offsets_from version 8 ops) place ≡ Some (length (file_of version (take place ops))) }
+    ensures count { (version : Version) (ops : List Operation) → length (offsets_from version 8 ops) ≡ length ops }
 {}
 
 /// What a file begins with is a front of what it is read as, and of two such lists one is a front of the other. What is
@@ -42,8 +56,8 @@ pub fn fronts()
         → Reads bytes all offsets fault → IsFrontOf ops all }
     ensures two { (bytes : List ℕ) (one other : List Operation) → IsBegun bytes one → IsBegun bytes other
         → IsFrontOf one other ⊎ IsFrontOf other one }
-    ensures begun { (bytes : List ℕ) (all : List Operation) (offsets : List ℕ) (fault : Option (Fault × ℕ)) → head_fault (take 8 bytes) ≡ None
-        → Reads bytes all offsets fault → IsBegun bytes all }
+    ensures begun { (bytes : List ℕ) (all : List Operation) (offsets : List ℕ) (fault : Option (Fault × ℕ)) (version : Version)
+        → head_of (take 8 bytes) ≡ Ok version → Reads bytes all offsets fault → IsBegun bytes all }
 {}
 
 /// Records that are taken one after another are what the file begins with. They are all that is read just where the end, or
@@ -51,10 +65,10 @@ pub fn fronts()
 pub fn records()
     ensures begun { (left : Left) (ops : List Operation) → HasTaken left ops → IsBegun left.bytes ops }
     ensures one { (left : Left) (one other : List Operation) → HasTaken left one → HasTaken left other → one ≡ other }
-    ensures ended { (left : Left) (ops : List Operation) (fault : Option (Fault × ℕ)) → HasTaken left ops → IsEnd ops left.rest fault
-        → Reads left.bytes ops (offsets_from 8 ops) fault }
+    ensures ended { (left : Left) (ops : List Operation) (fault : Option (Fault × ℕ)) → HasTaken left ops → IsEnd left.version ops left.rest fault
+        → Reads left.bytes ops (offsets_from left.version 8 ops) fault }
     ensures all { (left : Left) (ops : List Operation) (offsets : List ℕ) (fault : Option (Fault × ℕ)) → HasTaken left ops
-        → Reads left.bytes ops offsets fault → IsEnd ops left.rest fault }
+        → Reads left.bytes ops offsets fault → IsEnd left.version ops left.rest fault }
 {}
 
 /// What is told of a reader, whose bytes may be known or not, are operations that a file can have, each
@@ -62,7 +76,7 @@ pub fn records()
 /// than are allowed.
 pub fn readings()
     ensures told { (bounds : Bounds) (old new : Stream) (ops : List Operation) (offsets : List ℕ) (fault : Option (Fault × ℕ))
-        → ReadsFile bounds old new ops offsets fault → AreInFile ops × (offsets ≡ offsets_from 8 ops) }
+        → ReadsFile bounds old new ops offsets fault → (version : Version) × AreInFile version ops × (offsets ≡ offsets_from version 8 ops) }
     ensures known { (bounds : Bounds) (old new : Stream) (bytes : List ℕ) (ops : List Operation) (offsets : List ℕ) (fault : Option (Fault × ℕ))
         → old.bytes ≡ Some bytes → ((at : ℕ) → fault ≡ Some (ReadFault, at) → ⊥) → ReadsFile bounds old new ops offsets fault
         → Reads bytes ops offsets fault }

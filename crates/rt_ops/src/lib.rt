@@ -12,12 +12,17 @@ pub mod laws;
 pub mod op;
 mod record;
 pub mod records;
+mod room;
 mod rules;
 pub mod spell;
 pub mod text;
+mod version;
 
 pub use bytes::read_bytes;
 pub use file::{Reading, read_file, read_file_bounded, read_whole};
+pub use head::{HEAD_BYTES, magic};
 pub use op::{Edit, Op};
 pub use records::Records;
+pub use room::fits;
 pub use text::Text;
+pub use version::Version;

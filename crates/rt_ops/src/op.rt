@@ -39,7 +39,7 @@ pub enum Edit {
 pub struct Op {
     count: u64,
     prev: u64,
-    site: u16,
+    site: u32,
     edit: Edit,
 }
 
@@ -172,7 +172,7 @@ impl Op {
     }
 
     /// The number of the site that made it.
-    pub fn site(&self) -> u16
+    pub fn site(&self) -> u32
         ensures { result ≡ self.now.site }
     {
         self.site

@@ -1,31 +1,32 @@
 // What every reading of records goes by: their lengths, and the order of their stamps.
 ghost use Rattle.std.specs.Prelude.{◌≡◌};
+ghost use Rattle.rt_ops.specs.Versions.{layout};
 ghost use Rattle.rt_ops.specs.Rules.{is_within};
 ghost use Rattle.rt_ops.specs.Reading.{may_follow};
 ghost use Rattle.rt_ops.specs.Records.{TellsLength};
 
-use crate::Op;
 use crate::fields::u32_at;
-use rt_stamps::limits::{FEWEST_RECORD_BYTES, MOST_RECORD_BYTES};
+use crate::{Op, Version};
+use rt_stamps::limits::MOST_RECORD_BYTES;
 use rt_stamps::{Fault, Stamp};
 
 /// Whether a record may have this length.
-fn is_length(length: usize) -> bool
-    ensures { result ≡ is_within FEWEST_RECORD_BYTES MOST_RECORD_BYTES length }
+fn is_length(version: Version, length: usize) -> bool
+    ensures { result ≡ is_within (layout version).fewest MOST_RECORD_BYTES length }
 {
-    FEWEST_RECORD_BYTES <= length && length <= MOST_RECORD_BYTES
+    version.fewest_record_bytes() <= length && length <= MOST_RECORD_BYTES
 }
 
 /// The length that the field at the front tells, and what follows the field.
-pub fn length_at(bytes: &[u8]) -> Result<(usize, &[u8]), Fault>
-    ensures { TellsLength (λ found. found.0) (λ found. found.1.now) bytes.now result }
+pub fn length_at(version: Version, bytes: &[u8]) -> Result<(usize, &[u8]), Fault>
+    ensures { TellsLength version (λ found. found.0) (λ found. found.1.now) bytes.now result }
 {
     let (length, rest) = match u32_at(bytes) {
         Some(found) => found,
         None => return Err(Fault::Truncated),
     };
     let length = length as usize;
-    if !is_length(length) {
+    if !is_length(version, length) {
         return Err(Fault::BadRecord);
     }
     Ok((length, rest))

@@ -1,14 +1,14 @@
 // The records of a file in memory, taken one after another.
 ghost use Rattle.std.specs.Prelude.{◌≡◌, List, [], length, IfOk, IfErr, MatchOption};
-ghost use Rattle.rt_ops.specs.File.{spelling};
+ghost use Rattle.rt_ops.specs.File.{file_of};
 ghost use Rattle.rt_ops.specs.Operations.{Operation};
 ghost use Rattle.rt_ops.specs.Records.{BeginsRecords, FindsContent, HasTaken, TakesRecord, RefusesRecord};
 
-use crate::Op;
 use crate::decode::decode;
 use crate::fields::LENGTH_BYTES;
-use crate::head::{HEAD_BYTES, head_fault};
+use crate::head::{HEAD_BYTES, head_of};
 use crate::record::{length_at, may_follow};
+use crate::{Op, Version};
 use rt_stamps::{Fault, Stamp};
 use std::alloc::Global;
 use std::marker::Model;
@@ -17,6 +17,7 @@ use std::marker::Model;
 /// one operation at a time.
 #[derive(Drop)]
 pub struct Records<'a> {
+    version: Version,
     bytes: &'a [u8],
     offset: usize,
     last: Option<Stamp>,
@@ -29,16 +30,16 @@ impl<'a> Model for Records<'a> {
 
     ghost Value = { Left };
 
-    ghost view = { λ r. record { bytes = r.bytes.now; rest = drop r.offset r.bytes.now } };
+    ghost view = { λ r. record { version = r.version; bytes = r.bytes.now; rest = drop r.offset r.bytes.now } };
 
-    ghost invariant = { λ r. (ops : List Operation) × IsAt r.bytes.now r.offset r.last ops };
+    ghost invariant = { λ r. (ops : List Operation) × IsAt r.version r.bytes.now r.offset r.last ops };
 }
 
 /// The content of the record at the front.
-fn content_at(bytes: &[u8]) -> Result<&[u8], Fault>
-    ensures { FindsContent (λ content. content.now) bytes.now result }
+fn content_at(version: Version, bytes: &[u8]) -> Result<&[u8], Fault>
+    ensures { FindsContent version (λ content. content.now) bytes.now result }
 {
-    let (length, rest) = length_at(bytes)?;
+    let (length, rest) = length_at(version, bytes)?;
     if rest.len() < length {
         return Err(Fault::Truncated);
     }
@@ -52,9 +53,10 @@ impl<'a> Records<'a> {
         ensures { BeginsRecords bytes.now result }
     {
         let front = bytes.len().min(HEAD_BYTES);
-        match head_fault(&bytes[..front]) {
-            Some(fault) => Err(fault),
-            None => Ok(Records {
+        match head_of(&bytes[..front]) {
+            Err(fault) => Err(fault),
+            Ok(version) => Ok(Records {
+                version,
                 bytes,
                 offset: HEAD_BYTES,
                 last: None,
@@ -64,7 +66,7 @@ impl<'a> Records<'a> {
 
     /// Where the next record begins, in bytes from the file's first: behind the records of the operations that were taken.
     pub fn offset(&self) -> u64
-        ensures offset { (ops : List Operation) → HasTaken self.now ops → result ≡ length (spelling ops) }
+        ensures offset { (ops : List Operation) → HasTaken self.now ops → result ≡ length (file_of self.now.version ops) }
         ensures taken { (ops : List Operation) × HasTaken self.now ops }
     {
         self.offset as u64
@@ -81,8 +83,8 @@ impl<'a> Records<'a> {
         if rest.is_empty() {
             return Ok(None);
         }
-        let content = content_at(rest)?;
-        let op = decode(alloc, content)?;
+        let content = content_at(self.version, rest)?;
+        let op = decode(alloc, self.version, content)?;
         if !may_follow(self.last, &op) {
             return Err(Fault::BadRecord);
         }

@@ -6,11 +6,13 @@ ghost use Rattle.rt_stamps.specs.declared.fault.Fault.TheVariants.{NoMemory};
 ghost use Rattle.rt_stamps.specs.declared.limits.TheConstants.{MOST_RECORD_BYTES};
 ghost use Rattle.rt_stamps.specs.Words.{as_words};
 ghost use Rattle.rt_ops.specs.Edits.{body_of};
-ghost use Rattle.rt_ops.specs.File.{number, stamp_bytes, span_bytes, spans_bytes, name_bytes, tags_bytes, body_bytes, kind_of, content_of, record_of, StampFits, SpanFits, BodyFits, HasRecord};
+ghost use Rattle.rt_ops.specs.declared.version.Version.TheVariants.{One};
+ghost use Rattle.rt_ops.specs.File.{number, stamp_bytes, span_bytes, spans_bytes, name_bytes, tags_bytes, body_bytes, kind_of, content_of, record_of, StampFits, SpanFits, BodyFits, HasRecord, have_room, has_room, fits};
+ghost use Rattle.rt_ops.specs.Versions.{layout, sites};
 ghost use Rattle.rt_ops.specs.Rules.{keeps_rules};
 
 use crate::fields::LENGTH_BYTES;
-use crate::{Edit, Op};
+use crate::{Edit, Op, Version};
 use byteorder::{BigEndian, ByteOrder};
 use rt_stamps::{Fault, Span, Stamp};
 
@@ -47,39 +49,55 @@ fn push_u64(out: &mut Vec<u8>, n: u64) -> Result<(), Fault>
     Ok(())
 }
 
+/// The number of a site, in as many bytes as the version has for it.
+fn push_site(out: &mut Vec<u8>, version: Version, site: u32) -> Result<(), Fault>
+    requires { version ≡ One → site < sites One }
+    ensures ok { OnOk result (out.new.items ≡ out.old.items ++ number (layout version).site site) }
+    ensures fits { site < sites version }
+    ensures fault { IsOkUnless result NoMemory }
+{
+    match version {
+        Version::One => push_u16(out, site as u16),
+        Version::Two => push_u32(out, site),
+    }
+}
+
 #[tactic(auto, unfolding(crate::specs::File::stamp_bytes))]
-fn push_stamp(out: &mut Vec<u8>, stamp: Stamp) -> Result<(), Fault>
-    ensures ok { OnOk result (out.new.items ≡ out.old.items ++ stamp_bytes stamp) }
-    ensures fits { StampFits stamp }
+fn push_stamp(out: &mut Vec<u8>, version: Version, stamp: Stamp) -> Result<(), Fault>
+    requires { version ≡ One → stamp.site < sites One }
+    ensures ok { OnOk result (out.new.items ≡ out.old.items ++ stamp_bytes version stamp) }
+    ensures fits { StampFits version stamp }
     ensures fault { IsOkUnless result NoMemory }
 {
     push_u64(out, stamp.count)?;
-    push_u16(out, stamp.site)?;
+    push_site(out, version, stamp.site)?;
     Ok(())
 }
 
 #[tactic(auto, unfolding(crate::specs::File::span_bytes))]
-fn push_span(out: &mut Vec<u8>, span: Span) -> Result<(), Fault>
-    ensures ok { OnOk result (out.new.items ≡ out.old.items ++ span_bytes span) }
-    ensures fits { SpanFits span }
+fn push_span(out: &mut Vec<u8>, version: Version, span: Span) -> Result<(), Fault>
+    requires { version ≡ One → span.site < sites One }
+    ensures ok { OnOk result (out.new.items ≡ out.old.items ++ span_bytes version span) }
+    ensures fits { SpanFits version span }
     ensures fault { IsOkUnless result NoMemory }
 {
-    push_u16(out, span.site)?;
+    push_site(out, version, span.site)?;
     push_u64(out, span.first)?;
     push_u64(out, span.last)?;
     Ok(())
 }
 
 #[tactic(auto, unfolding(crate::specs::File::spans_bytes))]
-fn push_spans(out: &mut Vec<u8>, spans: &[Span]) -> Result<(), Fault>
-    requires { length spans.now < 2 ^ 32 }
-    ensures ok { OnOk result (out.new.items ≡ out.old.items ++ spans_bytes spans.now) }
-    ensures fits { OnOk result (AllByRecursion SpanFits spans.now) }
+fn push_spans(out: &mut Vec<u8>, version: Version, spans: &[Span]) -> Result<(), Fault>
+    requires count { length spans.now < 2 ^ 32 }
+    requires room { version ≡ One → have_room One spans.now ≡ true }
+    ensures ok { OnOk result (out.new.items ≡ out.old.items ++ spans_bytes version spans.now) }
+    ensures fits { OnOk result (AllByRecursion (SpanFits version) spans.now) }
     ensures fault { IsOkUnless result NoMemory }
 {
     push_u32(out, spans.len() as u32)?;
     for span in spans {
-        push_span(out, *span)?;
+        push_span(out, version, *span)?;
     }
     Ok(())
 }
@@ -119,23 +137,24 @@ fn push_text(out: &mut Vec<u8>, text: &[char]) -> Result<(), Fault>
     Ok(())
 }
 
-fn push_body(out: &mut Vec<u8>, edit: &Edit) -> Result<(), Fault>
-    requires { keeps_rules (body_of edit.now) ≡ true }
-    ensures ok { OnOk result (out.new.items ≡ out.old.items ++ body_bytes (body_of edit.now)) }
-    ensures fits { OnOk result (BodyFits (body_of edit.now)) }
+fn push_body(out: &mut Vec<u8>, version: Version, edit: &Edit) -> Result<(), Fault>
+    requires rules { keeps_rules (body_of edit.now) ≡ true }
+    requires room { version ≡ One → has_room One (body_of edit.now) ≡ true }
+    ensures ok { OnOk result (out.new.items ≡ out.old.items ++ body_bytes version (body_of edit.now)) }
+    ensures fits { OnOk result (BodyFits version (body_of edit.now)) }
     ensures fault { IsOkUnless result NoMemory }
 {
     match edit {
         Edit::Insert { after, tags, text } => {
-            push_stamp(out, *after)?;
+            push_stamp(out, version, *after)?;
             push_tags(out, tags)?;
             push_text(out, text.characters())
         }
-        Edit::Delete { spans } => push_spans(out, spans),
+        Edit::Delete { spans } => push_spans(out, version, spans),
         Edit::Tag { on, name, spans } => {
             out.push(u8::from(*on))?;
             push_name(out, name)?;
-            push_spans(out, spans)
+            push_spans(out, version, spans)
         }
     }
 }
@@ -160,16 +179,17 @@ fn kind(edit: &Edit) -> u8
 
 /// What stands behind a record's length field.
 #[tactic(auto, using(crate::proofs::Lengths::content_short))]
-fn push_content(out: &mut Vec<u8>, op: &Op) -> Result<(), Fault>
-    ensures ok { OnOk result (out.new.items ≡ out.old.items ++ content_of op.now) }
-    ensures record { OnOk result (HasRecord op.now) }
-    ensures short { length (content_of op.now) ≤ MOST_RECORD_BYTES }
+fn push_content(out: &mut Vec<u8>, version: Version, op: &Op) -> Result<(), Fault>
+    requires { version ≡ One → fits One op.now ≡ true }
+    ensures ok { OnOk result (out.new.items ≡ out.old.items ++ content_of version op.now) }
+    ensures record { OnOk result (HasRecord version op.now) }
+    ensures short { length (content_of version op.now) ≤ MOST_RECORD_BYTES }
     ensures fault { IsOkUnless result NoMemory }
 {
     out.push(kind(op.edit()))?;
-    push_stamp(out, op.stamp())?;
+    push_stamp(out, version, op.stamp())?;
     push_u64(out, op.prev())?;
-    push_body(out, op.edit())
+    push_body(out, version, op.edit())
 }
 
 /// Writes a record's length into the front of a buffer.
@@ -182,25 +202,28 @@ fn write_length(buffer: &mut [u8], n: u32)
 }
 
 // Adds a length field that isn't written yet, and what stands behind it.
-fn push_record(buffer: &mut Vec<u8>, op: &Op) -> Result<(), Fault>
-    ensures ok { OnOk result (buffer.new.items ≡ buffer.old.items ++ ((0 ∷ 0 ∷ 0 ∷ 0 ∷ []) ++ content_of op.now)) }
-    ensures short { OnOk result (length (content_of op.now) ≤ MOST_RECORD_BYTES) }
-    ensures record { OnOk result (HasRecord op.now) }
+fn push_record(buffer: &mut Vec<u8>, version: Version, op: &Op) -> Result<(), Fault>
+    requires { version ≡ One → fits One op.now ≡ true }
+    ensures ok { OnOk result (buffer.new.items ≡ buffer.old.items ++ ((0 ∷ 0 ∷ 0 ∷ 0 ∷ []) ++ content_of version op.now)) }
+    ensures short { OnOk result (length (content_of version op.now) ≤ MOST_RECORD_BYTES) }
+    ensures record { OnOk result (HasRecord version op.now) }
     ensures fault { IsOkUnless result NoMemory }
 {
     buffer.extend_from_slice(&[0; LENGTH_BYTES])?;
-    push_content(buffer, op)
+    push_content(buffer, version, op)
 }
 
-/// Makes a buffer the record of an operation. After want of memory it is empty.
-pub fn spell(buffer: &mut Vec<u8>, op: &Op) -> Result<(), Fault>
-    ensures ok { OnOk result (buffer.new.items ≡ record_of op.now) }
-    ensures record { OnOk result (HasRecord op.now) }
+/// Makes a buffer the record of an operation in a version that has room for it, as the second always has. After want of
+/// memory it is empty.
+pub fn spell(buffer: &mut Vec<u8>, version: Version, op: &Op) -> Result<(), Fault>
+    requires { version ≡ One → fits One op.now ≡ true }
+    ensures ok { OnOk result (buffer.new.items ≡ record_of version op.now) }
+    ensures record { OnOk result (HasRecord version op.now) }
     ensures empty { OnErr result (buffer.new.items ≡ []) }
     ensures fault { IsOkUnless result NoMemory }
 {
     buffer.clear();
-    if let Err(fault) = push_record(buffer, op) {
+    if let Err(fault) = push_record(buffer, version, op) {
         buffer.clear();
         return Err(fault);
     }

@@ -17,7 +17,7 @@ use Rattle.rt_plans.specs.DocValue.{DocValue, logged}
 use Rattle.rt_plans.specs.Insertions.{Piece}
 use Rattle.rt_plans.specs.Removals.{is_covered, stamps_at}
 use Rattle.rt_plans.specs.Selections.{selection_with}
-use Rattle.rt_plans.specs.TagDrafts.{deletion_drafts, tag_drafts_at}
+use Rattle.rt_plans.specs.TagDrafts.{tag_deletion_drafts, tag_drafts_at}
 use Rattle.rt_plans.specs.TagWrites.{bared, listed_if, with_tag, with_tag_at, without_tag, without_tags}
 use Rattle.rt_undo.specs.Actions.{Action, Removed}
 use Rattle.rt_revert.specs.Reverting.{Reversion, as_it_is, gone_cell_of, reversion, stamp_after, with_character, with_each_reverted, with_gone, with_return, with_returns, with_reverted}
@@ -125,7 +125,7 @@ group_gains view group =
 pub deleted_gain : (view : ViewValue) (names : List Word) → Gains view.doc (with_tags_deleted view names).doc
 deleted_gain view names =
     let same = tags_same view.doc names in
-    record { drafts = deletion_drafts MOST_SPANS view.doc names; log = refl; same = record { site = same.site; limit = same.limit } }
+    record { drafts = tag_deletion_drafts MOST_SPANS view.doc names; log = refl; same = record { site = same.site; limit = same.limit } }
 
 -- a tag written on the characters at some places
 abbrev tag_by : ViewValue → Bool → Word → (ℕ → Bool) → Bool → ViewValue

@@ -94,7 +94,7 @@ own_runs old mid new before h r =
       some = r.some;
     }
 
--- the same under the names that the number and the limit had
+-- what goes from run to run goes so under the names that the number and the limit had
 as_named : (site limit : ℕ) (old new : SiteValue) (before came : List Operation) → IsOf site limit old.text
     → (HasRun (site_of old) (cell_limit old) old before → HasRun (site_of old) (cell_limit old) new came) → HasRun site limit old before → HasRun site limit new came
 as_named site limit old new before came of goes r =

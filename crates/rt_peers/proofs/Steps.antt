@@ -113,7 +113,7 @@ pub told_to : (state : EditedValue) (view : ViewValue) (recording : Recording) �
 told_to state view recording e outcome result h =
     subst (λ (s : EditedValue). Answers (on_view s (outcome s.view)) s result s) e (lifted (edited view recording) (outcome view) result view h)
 
--- the same of what is shown, by a view that is borrowed
+-- what a request does to what is shown, asked of a view that is borrowed
 pub as_shown : {S : Type 0} (shown view : S) → shown ≡ view → (outcome : S → Outcome S) (result : Result (List Word) Fault) → Answers (outcome shown) shown result shown
     → Answers (outcome view) view result view
 as_shown {S} shown view same outcome result h = subst (λ (v : S). Answers (outcome v) v result v) same h

@@ -64,7 +64,7 @@ EventsFoundMemory events old told new h = Unit {0}
 
 -- ONE WAY
 
--- The same events from the same state on, where they found memory, tell the same and leave the same state.
+-- What the same events do twice from one state on, where they found memory, is told alike and leaves one state.
 abbrev pub EventsGoOneWay : Type 0
 EventsGoOneWay =
     (events : List Event) (one two : List EventAnswer) (old new left : SiteValue)

@@ -25,7 +25,7 @@ ComesToJoin one log received new =
     (received.fault ≡ None → (joined (log_of one) log ≡ Ok (log_of new)) × (new.held ≡ []))
     × IfSome received.fault (λ found. (found.0 ≡ NoMemory) ⊎ (found.0 ≡ TextFull))
 
--- A site that holds nothing receives the whole log of another, from which it is apart.
+-- A site that holds nothing receives the whole log of another, with which it has no clash.
 abbrev pub ReceivesWhole : SiteValue → List Operation → Type 0
 ReceivesWhole one log =
     (bytes : List ℕ) (received : Received) (new : SiteValue) → IsFileOf bytes log → HaveNoClash (log_of one) log → one.held ≡ []
@@ -82,7 +82,8 @@ AgreeOnceExchanged shown one other left_one left_other =
     (file_one file_other : List ℕ) → IsFileOf file_one (log_of one) → IsFileOf file_other (log_of other)
     → ReceivesAll file_other one left_one → ReceivesAll file_one other left_other → shown left_one ≡ shown left_other
 
--- so do two that are apart and receive of each other's log what is past counts up to which they know the operations of each site
+-- so do two that have no clash and receive of each other's log what is past counts up to which they know the operations of
+-- each site
 abbrev pub AgreeOnceCaughtUp : {Shown : Type 0} → (SiteValue → Shown) → SiteValue → SiteValue → SiteValue → SiteValue → Type 0
 AgreeOnceCaughtUp shown one other left_one left_other =
     (known_one known_other : ℕ → ℕ) (file_one file_other : List ℕ) → CoversKnown (log_of one) known_one → CoversKnown (log_of other) known_other

@@ -9,7 +9,8 @@ ghost use Rattle.rt_peers.specs.SiteValue.{number_of};
 use rt_stamps::Fault;
 use std::alloc::Global;
 
-// Where the first of some strings stands that is a text. The first one is looked at without a call: most sites have one widget.
+// Where the first of some strings stands that equals a text. The first one is looked at without a call: most sites have one
+// widget.
 #[inline(always)]
 fn position_of(strings: &[String], text: &str) -> Option<usize>
     ensures { result ≡ position (λ w. bytes_eq (string_bytes w) text.now) strings.now }

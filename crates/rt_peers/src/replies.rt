@@ -77,7 +77,7 @@ pub(crate) fn numbers(alloc: Global, values: &[i64]) -> Result<Reply, Fault>
     Ok(Reply { words })
 }
 
-// Adds a number. One of a single digit, as those of the first lines are, is a character.
+// Adds a number in decimal. One of a single digit, as those of the first lines are, is a character.
 #[inline(always)]
 fn push_number(text: &mut String, digits: &mut Buffer, number: usize) -> Result<(), AllocError>
     ensures { OnOk result (string_bytes text.new ≡ string_bytes text.old ++ decimal number) }

@@ -13,7 +13,7 @@ use std::alloc::Global;
 use std::collections::BTreeMap;
 
 /// The last count that is known of each site that has operations in a log.
-pub(crate) fn ends_of(alloc: Global, log: &OpLog) -> Result<BTreeMap<u16, u64>, Fault>
+pub(crate) fn ends_of(alloc: Global, log: &OpLog) -> Result<BTreeMap<u32, u64>, Fault>
     ensures ok { IfOk result (λ ends. (site : ℕ) → known_in ends site ≡ known_end log.now.operations site) }
     ensures fault { IsOkUnless result NoMemory }
 {
@@ -27,7 +27,7 @@ pub(crate) fn ends_of(alloc: Global, log: &OpLog) -> Result<BTreeMap<u16, u64>, 
 }
 
 /// Whether an operation is past what is known of its site.
-fn is_past(op: &Op, ends: &BTreeMap<u16, u64>) -> bool
+fn is_past(op: &Op, ends: &BTreeMap<u32, u64>) -> bool
     requires { last_count op.now ≤ GREATEST_COUNT }
     ensures { result ≡ is_past (known_in ends.now) op.now }
 {
@@ -36,7 +36,7 @@ fn is_past(op: &Op, ends: &BTreeMap<u16, u64>) -> bool
 }
 
 /// The operations of a log that are past what is known of their sites.
-pub(crate) fn lacking(alloc: Global, log: &OpLog, ends: &BTreeMap<u16, u64>) -> Result<OpLog, Fault>
+pub(crate) fn lacking(alloc: Global, log: &OpLog, ends: &BTreeMap<u32, u64>) -> Result<OpLog, Fault>
     requires { IsHistory log.now.operations }
     ensures ok { IfOk result (λ lacking. lacking.operations ≡ past_known (known_in ends.now) log.now.operations) }
     ensures fault { IsOkUnless result NoMemory }

@@ -23,7 +23,7 @@ use Rattle.rt_plans.specs.Insertions.{Insertion, Piece, cells_of_inserts, furthe
 use Rattle.rt_plans.specs.NamedSpans.{first_parts, parts_of, spans_in}
 use Rattle.rt_plans.specs.RemovalDrafts.{removal_drafts}
 use Rattle.rt_plans.specs.Removals.{cells_at, stamps_at}
-use Rattle.rt_plans.specs.TagDrafts.{deletion_drafts, newline_drafts, tag_drafts_at, tags_drafts_at}
+use Rattle.rt_plans.specs.TagDrafts.{tag_deletion_drafts, newline_drafts, tag_drafts_at, tags_drafts_at}
 use Rattle.rt_plans.specs.TagWrites.{changed_stamps, with_tag_at, without_tag}
 use Rattle.rt_plans.proofs.NamedSpanLaws.{IsCut, cut, cut_more}
 use Rattle.rt_plans.proofs.PieceDraftLaws.{IsMore, listed_more, unlisted_more}
@@ -58,11 +58,11 @@ tags_insert_none (name ∷ names) flat places on =
     both_none (tag_drafts_at MOST_SPANS places on name flat.cells) (tags_drafts_at MOST_SPANS (with_tag_at flat places on name) places on names) (at_none places on name flat.cells)
     (tags_insert_none names (with_tag_at flat places on name) places on)
 
-pub deletions_insert_none : (names : List Word) (flat : DocValue) → characters_in_all (deletion_drafts MOST_SPANS flat names) ≡ 0
+pub deletions_insert_none : (names : List Word) (flat : DocValue) → characters_in_all (tag_deletion_drafts MOST_SPANS flat names) ≡ 0
 deletions_insert_none [] flat = refl
 deletions_insert_none (name ∷ names) flat =
     let off = tag_drafts_at MOST_SPANS (λ _. true) false name flat.cells in
-    both_none (cond (bytes_eq name sel) [] off) (deletion_drafts MOST_SPANS (without_tag flat name) names)
+    both_none (cond (bytes_eq name sel) [] off) (tag_deletion_drafts MOST_SPANS (without_tag flat name) names)
     (elim (bytes_eq name sel) as (λ b. characters_in_all (cond b [] off) ≡ 0) [ true ↦ refl | false ↦ at_none (λ _. true) false name flat.cells ])
     (deletions_insert_none names (without_tag flat name))
 

@@ -21,7 +21,7 @@ use Rattle.rt_rga.proofs.Corollaries.{cells_distinct}
 use Rattle.rt_plans.specs.DraftLaws.{IsDocument}
 use Rattle.rt_plans.specs.DocValue.{DocValue}
 use Rattle.rt_plans.specs.Removals.{cells_at}
-use Rattle.rt_plans.specs.TagDrafts.{deletion_drafts, tag_drafts, tag_drafts_at}
+use Rattle.rt_plans.specs.TagDrafts.{tag_deletion_drafts, tag_drafts, tag_drafts_at}
 use Rattle.rt_plans.specs.TagWrites.{changed_stamps, is_changed, tagged, with_tag, with_tag_at, without_tags}
 use Rattle.rt_plans.proofs.DraftSteps.{AreKnownCells, known_cells, known_later}
 use Rattle.rt_plans.proofs.TagDocuments.{known_tagged, one_made, one_may_be_made, tag_stamps}
@@ -96,33 +96,33 @@ one_off site log flat name p h doc l =
 
 -- SEVERAL
 
-all_may : (names : List Word) (site : ℕ) (log : List Operation) (flat : DocValue) → AreDistinct flat.cells → AreKnownCells log flat.cells → CellsNamed flat.cells → MayBeMade site log (deletion_drafts MOST_SPANS flat names)
+all_may : (names : List Word) (site : ℕ) (log : List Operation) (flat : DocValue) → AreDistinct flat.cells → AreKnownCells log flat.cells → CellsNamed flat.cells → MayBeMade site log (tag_deletion_drafts MOST_SPANS flat names)
 all_may [] site log flat d f h = tt
 all_may (name ∷ names) site log flat d f h =
     let one = tag_drafts_at MOST_SPANS everywhere false name flat.cells in
     let off = with_tag_at flat everywhere false name in
     let next : DocValue = record off { tags = without name off.tags } in
-    let at : Bool → Type 0 = λ b. MayBeMade site log (cond b [] one ++ deletion_drafts MOST_SPANS (cond b flat next) names) in
+    let at : Bool → Type 0 = λ b. MayBeMade site log (cond b [] one ++ tag_deletion_drafts MOST_SPANS (cond b flat next) names) in
     split (bytes_eq name sel)
     (λ e. subst at (sym e) (all_may names site log flat d f h))
     (λ e. subst at (sym e)
-    (may_append site one (deletion_drafts MOST_SPANS next names) log (one_may site log name flat.cells d f h)
+    (may_append site one (tag_deletion_drafts MOST_SPANS next names) log (one_may site log name flat.cells d f h)
     (all_may names site (with_drafts site one log) next (subst (IsDistinct is_same) (sym (tag_stamps flat everywhere false name)) d)
     (known_later site one log next.cells (known_tagged log flat everywhere false name f)) (off_named flat name h))))
 
-pub deletions_may : (site : ℕ) (log : List Operation) (flat : DocValue) (names : List Word) → IsHistory log → IsDocument site log flat → MayBeMade site log (deletion_drafts MOST_SPANS flat names)
+pub deletions_may : (site : ℕ) (log : List Operation) (flat : DocValue) (names : List Word) → IsHistory log → IsDocument site log flat → MayBeMade site log (tag_deletion_drafts MOST_SPANS flat names)
 deletions_may site log flat names h doc =
     all_may names site log flat (subst AreDistinct (sym doc.cells) (cells_distinct log h)) (known_cells log flat.cells h doc.cells) (subst CellsNamed (sym doc.cells) (every_named log h))
 
 all_made : (names : List Word) (site : ℕ) (log : List Operation) (flat : DocValue) → 0 < site → IsHistory log → IsDocument site log flat → (without_tags flat names).count ≤ GREATEST_COUNT
-    → IsDocument site (with_drafts site (deletion_drafts MOST_SPANS flat names) log) (without_tags flat names)
+    → IsDocument site (with_drafts site (tag_deletion_drafts MOST_SPANS flat names) log) (without_tags flat names)
 all_made [] site log flat p h doc l = doc
 all_made (name ∷ names) site log flat p h doc l =
     let drafts = tag_drafts_at MOST_SPANS everywhere false name flat.cells in
     let off = with_tag_at flat everywhere false name in
     let next : DocValue = record off { tags = without name off.tags } in
     let at : Bool → Type 0 = λ b. (without_tags (cond b flat next) names).count ≤ GREATEST_COUNT
-    → IsDocument site (with_drafts site (cond b [] drafts ++ deletion_drafts MOST_SPANS (cond b flat next) names) log) (without_tags (cond b flat next) names) in
+    → IsDocument site (with_drafts site (cond b [] drafts ++ tag_deletion_drafts MOST_SPANS (cond b flat next) names) log) (without_tags (cond b flat next) names) in
     split (bytes_eq name sel)
     (λ e. subst at (sym e) (λ k. all_made names site log flat p h doc k) l)
     (λ e. subst at (sym e)
@@ -130,10 +130,10 @@ all_made (name ∷ names) site log flat p h doc l =
     let first : off.count ≤ GREATEST_COUNT = omega (arith, k, all_without_grows names next) in
     let one = one_off site log flat name p h doc first in
     let after : IsDocument site (with_drafts site drafts log) next = record { cells = one.1.cells; site = one.1.site; count = one.1.count } in
-    subst (λ log. IsDocument site log (without_tags next names)) (sym (drafts_append site drafts (deletion_drafts MOST_SPANS next names) log))
+    subst (λ log. IsDocument site log (without_tags next names)) (sym (drafts_append site drafts (tag_deletion_drafts MOST_SPANS next names) log))
     (all_made names site (with_drafts site drafts log) next p one.0 after k))
     l)
 
 pub deletions_made : (site : ℕ) (log : List Operation) (flat : DocValue) (names : List Word) → 0 < site → IsHistory log → IsDocument site log flat → (without_tags flat names).count ≤ GREATEST_COUNT
-    → IsDocument site (with_drafts site (deletion_drafts MOST_SPANS flat names) log) (without_tags flat names)
+    → IsDocument site (with_drafts site (tag_deletion_drafts MOST_SPANS flat names) log) (without_tags flat names)
 deletions_made site log flat names p h doc l = all_made names site log flat p h doc l

@@ -17,7 +17,7 @@ use Rattle.rt_store.specs.Written.{AreWritten}
 use Rattle.rt_plans.specs.DocValue.{DocValue}
 use Rattle.rt_plans.specs.Listed.{AreListed, IsShared}
 use Rattle.rt_plans.specs.Removals.{cells_at}
-use Rattle.rt_plans.specs.TagDrafts.{deletion_drafts, tag_drafts}
+use Rattle.rt_plans.specs.TagDrafts.{tag_deletion_drafts, tag_drafts}
 use Rattle.rt_plans.specs.TagWrites.{changed_stamps, is_changed, tagged, with_tag_at, without_tag}
 use Rattle.rt_plans.proofs.ListedWrites.{every_cell, everywhere, nowhere_on}
 use Rattle.rt_plans.proofs.Putting.{cells_at_changed, tagged_state}
@@ -90,21 +90,21 @@ turn_off flat doc seen name k h =
 
 -- its operations
 pub drafts_off : (most : ℕ) (doc : DocValue) (name : Word) (names : List Word) → tag_drafts most false name [] ≡ [] → IsOff name doc.cells
-    → deletion_drafts most doc (name ∷ names) ≡ deletion_drafts most (without_tag doc name) names
+    → tag_deletion_drafts most doc (name ∷ names) ≡ tag_deletion_drafts most (without_tag doc name) names
 drafts_off most doc name names n k =
     let drafts = tag_drafts most false name (changed_stamps name false (cells_at everywhere 0 doc.cells)) in
     let none : drafts ≡ [] = ap (tag_drafts most false name) (none_named doc.cells name k) ∙ n in
-    let rest = deletion_drafts most (without_tag doc name) names in
+    let rest = tag_deletion_drafts most (without_tag doc name) names in
     split (bytes_eq name sel)
     (λ t. ap (λ l. l ++ rest) (cond-true (bytes_eq name sel) [] drafts t))
     (λ f. ap (λ l. l ++ rest) (cond-false (bytes_eq name sel) [] drafts f ∙ none))
 
 -- the operations of one that isn't off yet
 pub drafts_more : (most : ℕ) (flat doc : DocValue) (seen : List Word) (name : Word) (names : List Word) → bytes_eq name sel ≡ false → is_listed name seen ≡ false → Turn flat doc seen
-    → deletion_drafts most doc (name ∷ names) ≡ tag_drafts most false name (changed_stamps name false (cells_at everywhere 0 flat.cells)) ++ deletion_drafts most (without_tag doc name) names
+    → tag_deletion_drafts most doc (name ∷ names) ≡ tag_drafts most false name (changed_stamps name false (cells_at everywhere 0 flat.cells)) ++ tag_deletion_drafts most (without_tag doc name) names
 drafts_more most flat doc seen name names f new h =
     let drafts = tag_drafts most false name (changed_stamps name false (cells_at everywhere 0 doc.cells)) in
-    let rest = deletion_drafts most (without_tag doc name) names in
+    let rest = tag_deletion_drafts most (without_tag doc name) names in
     ap (λ l. l ++ rest) (cond-false (bytes_eq name sel) [] drafts f ∙ ap (tag_drafts most false name) (h.same name new))
 
 -- AS NAMES ARE SEEN
@@ -149,7 +149,7 @@ pub record Stands (most : ℕ) (flat : DocValue) (seen : List Word) (done : List
   pub doc : DocValue
   pub turn : Turn flat doc seen
   pub shared : is_listed sel seen ≡ true
-  pub drafts : done ++ deletion_drafts most doc left ≡ deletion_drafts most flat names
+  pub drafts : done ++ tag_deletion_drafts most doc left ≡ tag_deletion_drafts most flat names
 
 pub stands_first : (most : ℕ) (flat : DocValue) (tags names : List Word) → AreWritten flat.count flat.cells → AreListed tags flat.cells → Stands most flat (sel ∷ []) [] names names
 stands_first most flat tags names h listed = record { doc = flat; turn = sel_seen flat h (sel_off flat.cells listed.shared); shared = refl; drafts = refl }
@@ -165,7 +165,7 @@ stands_more most flat seen done name left names new h =
       turn = seen_last flat (without_tag h.doc name) seen name new (turn_more flat h.doc seen name other h.turn);
       shared = subst (λ l. is_listed sel l ≡ true) (sym (cond-false (is_listed name seen) seen last new))
           (list_any-append (bytes_eq sel) seen (name ∷ []) ∙ ap (λ b. b || is_listed sel (name ∷ [])) h.shared);
-      drafts = append_assoc done more (deletion_drafts most (without_tag h.doc name) left) ∙ ap (λ l. done ++ l) (sym (drafts_more most flat h.doc seen name left other new h.turn)) ∙ h.drafts;
+      drafts = append_assoc done more (tag_deletion_drafts most (without_tag h.doc name) left) ∙ ap (λ l. done ++ l) (sym (drafts_more most flat h.doc seen name left other new h.turn)) ∙ h.drafts;
     }
 
 unlisted : (b d : Bool) → (b && not d) ≡ false → d ≡ false → b ≡ false

@@ -24,7 +24,7 @@ use Rattle.rt_rga.proofs.Requests.{all_count_on, drafts_for}
 use Rattle.rt_plans.specs.DraftLaws.{IsDocument}
 use Rattle.rt_plans.specs.DocValue.{DocValue}
 use Rattle.rt_plans.specs.Removals.{cells_at, operations_for, span_count}
-use Rattle.rt_plans.specs.TagDrafts.{deletion_drafts, tag_drafts, tag_drafts_at, tags_drafts_at}
+use Rattle.rt_plans.specs.TagDrafts.{tag_deletion_drafts, tag_drafts, tag_drafts_at, tags_drafts_at}
 use Rattle.rt_plans.specs.TagWrites.{changed_stamps, is_changed, tagged, with_tag, with_tag_at, with_tags_at, without_tags}
 use Rattle.rt_plans.proofs.DistinctLaws.{stamps_within}
 use Rattle.rt_plans.proofs.DraftSteps.{AreKnownCells, known_cells, known_later}
@@ -176,19 +176,19 @@ pub all_tags_counted : (site : ℕ) (log : List Operation) (flat : DocValue) (pl
 all_tags_counted site log flat places on names h doc = tags_count names site log flat places on (subst AreDistinct (sym doc.cells) (cells_distinct log h)) doc.count
 
 deletions_count : (names : List Word) (site : ℕ) (log : List Operation) (flat : DocValue) → AreDistinct flat.cells → flat.count ≡ greatest_last_count log
-    → greatest_last_count (with_drafts site (deletion_drafts MOST_SPANS flat names) log) ≡ (without_tags flat names).count
+    → greatest_last_count (with_drafts site (tag_deletion_drafts MOST_SPANS flat names) log) ≡ (without_tags flat names).count
 deletions_count [] site log flat d e = sym e
 deletions_count (name ∷ names) site log flat d e =
     let drafts = tag_drafts_at MOST_SPANS (λ _. true) false name flat.cells in
     let off = with_tag_at flat (λ _. true) false name in
     let next : DocValue = record off { tags = without name off.tags } in
-    let at : Bool → Type 0 = λ b. greatest_last_count (with_drafts site (cond b [] drafts ++ deletion_drafts MOST_SPANS (cond b flat next) names) log) ≡ (without_tags (cond b flat next) names).count in
+    let at : Bool → Type 0 = λ b. greatest_last_count (with_drafts site (cond b [] drafts ++ tag_deletion_drafts MOST_SPANS (cond b flat next) names) log) ≡ (without_tags (cond b flat next) names).count in
     split (bytes_eq name sel)
     (λ f. subst at (sym f) (deletions_count names site log flat d e))
     (λ f. subst at (sym f)
-    (ap greatest_last_count (drafts_append site drafts (deletion_drafts MOST_SPANS next names) log)
+    (ap greatest_last_count (drafts_append site drafts (tag_deletion_drafts MOST_SPANS next names) log)
     ∙ deletions_count names site (with_drafts site drafts log) next (subst (IsDistinct is_same) (sym (tag_stamps flat (λ _. true) false name)) d) (one_counted site log flat (λ _. true) false name d e)))
 
 pub all_deletions_counted : (site : ℕ) (log : List Operation) (flat : DocValue) (names : List Word) → IsHistory log → IsDocument site log flat
-    → greatest_last_count (with_drafts site (deletion_drafts MOST_SPANS flat names) log) ≡ (without_tags flat names).count
+    → greatest_last_count (with_drafts site (tag_deletion_drafts MOST_SPANS flat names) log) ≡ (without_tags flat names).count
 all_deletions_counted site log flat names h doc = deletions_count names site log flat (subst AreDistinct (sym doc.cells) (cells_distinct log h)) doc.count

@@ -80,7 +80,7 @@ ReplacementIsMade =
 abbrev pub LeftIsElement : Type 0
 LeftIsElement = (log : List Operation) (place : ℕ) → IsHistory log → place < length (text_of (cells_of log)) → IsElement log (left_of (cells_of log) place)
 
--- The same in what a deletion leaves, also where its counts don't fit.
+-- The visible left neighbour of a place below the end of what a deletion leaves, also where its counts don't fit.
 abbrev pub LeftStaysElement : Type 0
 LeftStaysElement =
     (site : ℕ) (log : List Operation) (flat : DocValue) (loss : Loss) (place : ℕ) → IsHistory log → IsDocument site log flat
@@ -113,7 +113,7 @@ pub record IsPiece (piece : Piece) : Type 0 where
 abbrev pub PiecesAreTexts : Type 0
 PiecesAreTexts = (pieces : List Piece) → All IsPiece pieces → AreTexts pieces
 
--- Before each place below the text's end.
+-- Before each place below the text's end an insertion may begin.
 abbrev pub InsertionsMayBegin : Type 0
 InsertionsMayBegin =
     (site : ℕ) (log : List Operation) (flat : DocValue) (place : ℕ) (right : Option TaggedCell) (pieces : List Piece) (rest : Word) (start : Insertion)
@@ -121,7 +121,7 @@ InsertionsMayBegin =
     → start.cells ≡ [] → start.count ≡ flat.count
     → IsInsertion site log (left_of flat.cells place) (left_neighbour (visible_of flat.cells) place) right pieces rest start
 
--- The same in what a deletion leaves, also where its counts don't fit.
+-- So it may before each place below the end of what a deletion leaves, also where its counts don't fit.
 abbrev pub ReplacementsMayBegin : Type 0
 ReplacementsMayBegin =
     (site : ℕ) (log : List Operation) (flat : DocValue) (loss : Loss) (place : ℕ) (right : Option TaggedCell) (pieces : List Piece)

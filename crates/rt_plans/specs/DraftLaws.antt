@@ -23,7 +23,7 @@ use Rattle.rt_plans.specs.InsertionDrafts.{insertion_drafts, text_drafts}
 use Rattle.rt_plans.specs.Insertions.{Insertion, Piece, counts_for, insertion_of, last_of, left_neighbour, shared_names, tagged_cells, tags_between, with_pieces}
 use Rattle.rt_plans.specs.RemovalDrafts.{removal_drafts}
 use Rattle.rt_plans.specs.Removals.{gone_at, operations_for, span_count, stamps_at}
-use Rattle.rt_plans.specs.TagDrafts.{deletion_drafts, newline_drafts, tag_drafts, tags_drafts_at}
+use Rattle.rt_plans.specs.TagDrafts.{tag_deletion_drafts, newline_drafts, tag_drafts, tags_drafts_at}
 use Rattle.rt_plans.specs.TagWrites.{bared, tagged, with_tags_at, without_tags}
 
 -- a document has the cells of its site's history, and its greatest count
@@ -91,13 +91,13 @@ TagsAreMade =
 abbrev pub DeletionsMayBeMade : Type 0
 DeletionsMayBeMade =
     (site : ℕ) (log : List Operation) (flat : DocValue) (names : List Word)
-    → IsHistory log → IsDocument site log flat → MayBeMade site log (deletion_drafts MOST_SPANS flat names)
+    → IsHistory log → IsDocument site log flat → MayBeMade site log (tag_deletion_drafts MOST_SPANS flat names)
 
 abbrev pub DeletionsAreMade : Type 0
 DeletionsAreMade =
     (site : ℕ) (log : List Operation) (flat : DocValue) (names : List Word)
     → 0 < site → IsHistory log → IsDocument site log flat → (without_tags flat names).count ≤ GREATEST_COUNT
-    → IsDocument site (with_drafts site (deletion_drafts MOST_SPANS flat names) log) (without_tags flat names)
+    → IsDocument site (with_drafts site (tag_deletion_drafts MOST_SPANS flat names) log) (without_tags flat names)
 
 -- A newline that stays, or any other visible character, loses all its tags by one Tag for each: just those that take them off at
 -- its place.
@@ -210,7 +210,7 @@ AllTagsAreCounted =
 abbrev pub DeletionsAreCounted : Type 0
 DeletionsAreCounted =
     (site : ℕ) (log : List Operation) (flat : DocValue) (names : List Word) → IsHistory log → IsDocument site log flat
-    → greatest_last_count (with_drafts site (deletion_drafts MOST_SPANS flat names) log) ≡ (without_tags flat names).count
+    → greatest_last_count (with_drafts site (tag_deletion_drafts MOST_SPANS flat names) log) ≡ (without_tags flat names).count
 
 abbrev pub InsertionIsCounted : Type 0
 InsertionIsCounted =
@@ -225,7 +225,7 @@ TagsInsertNone =
     (flat : DocValue) (places : ℕ → Bool) (on : Bool) (names : List Word) → characters_in_all (tags_drafts_at MOST_SPANS flat places on names) ≡ 0
 
 abbrev pub DeletionsInsertNone : Type 0
-DeletionsInsertNone = (flat : DocValue) (names : List Word) → characters_in_all (deletion_drafts MOST_SPANS flat names) ≡ 0
+DeletionsInsertNone = (flat : DocValue) (names : List Word) → characters_in_all (tag_deletion_drafts MOST_SPANS flat names) ≡ 0
 
 abbrev pub InsertionHasNewCells : Type 0
 InsertionHasNewCells =

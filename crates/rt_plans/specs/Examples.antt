@@ -2,7 +2,7 @@
 use Rattle.std.specs.Prelude.{ℕ, zero, suc, ◌+◌, false, List, [], ◌∷◌, ◌++◌, map, codes, Option, Some}
 use Rattle.rt_store.specs.Cells.{cells_from, visible_of}
 use Rattle.rt_store.specs.Shown.{TaggedCell}
-use Rattle.rt_stamps.specs.declared.limits.TheConstants.{GREATEST_COUNT, MOST_TAGS}
+use Rattle.rt_stamps.specs.declared.limits.TheConstants.{GREATEST_COUNT}
 use Rattle.rt_stamps.specs.declared.stamp.TheConstants.{FINAL, ROOT}
 use Rattle.rt_stamps.specs.Words.{Word}
 use Rattle.rt_ops.specs.Operations.{Operation, Insert}
@@ -17,14 +17,14 @@ use Rattle.rt_plans.specs.Insertions.{Insertion, Piece}
 abbrev pub cells_of_yab : List TaggedCell
 cells_of_yab = cells_from 3 2 [] (codes "Y") ++ cells_from 1 1 [] (codes "ab")
 
--- the same where `a` has the tag t, and a document of site 3 with these cells
+-- these cells where `a` has the tag t, and a document of site 3 with them
 abbrev pub cells_with_t : List TaggedCell
 cells_with_t = cells_from 3 2 [] (codes "Y") ++ cells_from 1 1 (state_after [] (listed_by ROOT only_t)) (codes "a") ++ cells_from 2 1 [] (codes "b")
 
 abbrev pub flat_with_t : DocValue
 flat_with_t = record (new_doc 3 9) { cells = cells_with_t; count = 3 }
 
--- the same with the last newline, which has the tag t too
+-- that document with the last newline, which has the tag t too
 abbrev pub flat_with_newline : DocValue
 flat_with_newline = record flat_with_t {
   cells = cells_with_t ++ record { stamp = FINAL; ch = 10; gone = false; state = state_after [] (listed_by ROOT only_t) } ∷ [];
@@ -41,14 +41,14 @@ flat_of_lines = record (new_doc 3 9) {
 abbrev pub tags_of_each : List TaggedCell → List (List Word)
 tags_of_each cells = map (λ cell. names_on cell.state) (visible_of cells)
 
--- so many names of one byte each, from one on
-abbrev pub names_from : ℕ → ℕ → List Word
-names_from zero byte = []
-names_from (suc n) byte = (byte ∷ []) ∷ names_from n (byte + 1)
+-- so many names of two bytes each: a first one, and a second one from one on
+abbrev pub names_from : ℕ → ℕ → ℕ → List Word
+names_from zero first second = []
+names_from (suc n) first second = (first ∷ second ∷ []) ∷ names_from n first (second + 1)
 
--- as many tags as an Insert lists, from `0` to `o`, and one more
+-- as many tags as an Insert lists, `a0` to `a~`, those of `b` and `c`, and `d0` to `dA`, and one more
 abbrev pub listed_tags : List Word
-listed_tags = names_from MOST_TAGS 48
+listed_tags = names_from 79 97 48 ++ (names_from 79 98 48 ++ (names_from 79 99 48 ++ names_from 18 100 48))
 
 abbrev pub all_tags : List Word
 all_tags = listed_tags ++ codes "u" ∷ []
@@ -57,7 +57,7 @@ all_tags = listed_tags ++ codes "u" ∷ []
 abbrev pub two_pieces : List Piece
 two_pieces = record { text = codes "ab"; tags = only_t } ∷ record { text = codes "c"; tags = [] } ∷ []
 
--- the same with an empty piece between them
+-- these two pieces with an empty one between them
 abbrev pub three_pieces : List Piece
 three_pieces =
     record { text = codes "ab"; tags = only_t } ∷ record { text = []; tags = codes "u" ∷ [] } ∷ record { text = codes "c"; tags = [] } ∷ []

@@ -28,10 +28,10 @@ tags_drafts_at most flat places on (name ∷ names) =
     tag_drafts_at most places on name flat.cells ++ tags_drafts_at most (with_tag_at flat places on name) places on names
 
 -- tags that are deleted are taken off the whole text; `sel` makes no operation
-abbrev pub deletion_drafts : ℕ → DocValue → List Word → List Body
-deletion_drafts most flat [] = []
-deletion_drafts most flat (name ∷ names) =
-    (if bytes_eq name sel then [] else tag_drafts_at most (λ _. true) false name flat.cells) ++ deletion_drafts most (without_tag flat name) names
+abbrev pub tag_deletion_drafts : ℕ → DocValue → List Word → List Body
+tag_deletion_drafts most flat [] = []
+tag_deletion_drafts most flat (name ∷ names) =
+    (if bytes_eq name sel then [] else tag_drafts_at most (λ _. true) false name flat.cells) ++ tag_deletion_drafts most (without_tag flat name) names
 
 -- a newline loses tags: one Tag for each of them, by their bytes where the names are
 abbrev pub newline_drafts : Stamp → List Word → List Body

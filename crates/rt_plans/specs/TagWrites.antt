@@ -52,7 +52,7 @@ with_tag flat name on stamps = record flat {
   count = flat.count + operations_for (span_count stamps);
 }
 
--- the same of the characters at some places: only those are named that the operation changes
+-- a document after a tag was put on the characters at some places, or taken off: only those are named that the operation changes
 abbrev pub with_tag_at : DocValue → (ℕ → Bool) → Bool → Word → DocValue
 with_tag_at flat places on name = with_tag flat name on (changed_stamps name on (cells_at places 0 flat.cells))
 

@@ -15,7 +15,7 @@ ghost use Rattle.rt_plans.specs.DocValue.{DocValue};
 ghost use Rattle.rt_plans.specs.Listed.{AreListed};
 ghost use Rattle.rt_plans.specs.Removals.{AreInOrder, is_covered};
 ghost use Rattle.rt_plans.specs.RemovalDrafts.{removal_drafts};
-ghost use Rattle.rt_plans.specs.TagDrafts.{deletion_drafts, newline_drafts, tag_drafts_at};
+ghost use Rattle.rt_plans.specs.TagDrafts.{tag_deletion_drafts, newline_drafts, tag_drafts_at};
 
 use crate::Range;
 use crate::changes::push_changes;
@@ -174,7 +174,7 @@ pub fn planned_tag_deletion<S: TextStore>(
     requires listed { AreListed tags.now.names (map (shown states.now) (S.list store.now)) }
     ensures ok { IfOk result (λ drafts. (flat : DocValue) → AreWritten flat.count flat.cells
         → flat.cells ≡ map (shown states.now) (S.list store.now)
-        → map body_of drafts.items ≡ deletion_drafts MOST_SPANS flat (as_words names.now)) }
+        → map body_of drafts.items ≡ tag_deletion_drafts MOST_SPANS flat (as_words names.now)) }
     ensures err { IsOkUnless result Fault.NoMemory }
 {
     let all = [Range {

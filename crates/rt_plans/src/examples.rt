@@ -11,7 +11,7 @@ ghost use Rattle.rt_plans.specs.Deletions.{delete_drafts, loss_in, without_text}
 ghost use Rattle.rt_plans.specs.Examples.{all_tags, cells_of_yab, cells_with_t, flat_of_lines, flat_with_newline, flat_with_t, listed_tags, log_at_end, nothing_yet, piece_with_sel, tags_of_each, three_pieces, two_pieces, with_u};
 ghost use Rattle.rt_plans.specs.InsertionDrafts.{insertion_drafts, text_drafts};
 ghost use Rattle.rt_plans.specs.RemovalDrafts.{removal_drafts};
-ghost use Rattle.rt_plans.specs.TagDrafts.{deletion_drafts, newline_drafts, tag_drafts_at, tags_drafts_at};
+ghost use Rattle.rt_plans.specs.TagDrafts.{tag_deletion_drafts, newline_drafts, tag_drafts_at, tags_drafts_at};
 ghost use Rattle.rt_tags.specs.Tags.{sel};
 
 /// `Yab` is removed by one Delete: the spans stand by site, not in the text's order, and the
@@ -39,8 +39,8 @@ pub fn tags()
         ≡ Tag true (codes "t") (span 1 2 2 ∷ span 2 3 3 ∷ []) ∷ Tag true (codes "u") (span 1 1 2 ∷ span 2 3 3 ∷ []) ∷ [] }
     ensures twice { tags_drafts_at MOST_SPANS flat_with_t (λ _. true) true (codes "u" ∷ codes "u" ∷ [])
         ≡ Tag true (codes "u") (span 1 1 2 ∷ span 2 3 3 ∷ []) ∷ [] }
-    ensures deleted { deletion_drafts MOST_SPANS flat_with_t (sel ∷ codes "t" ∷ codes "t" ∷ []) ≡ Tag false (codes "t") (span 1 1 1 ∷ []) ∷ [] }
-    ensures deleted_at_end { deletion_drafts MOST_SPANS flat_with_newline (codes "t" ∷ [])
+    ensures deleted { tag_deletion_drafts MOST_SPANS flat_with_t (sel ∷ codes "t" ∷ codes "t" ∷ []) ≡ Tag false (codes "t") (span 1 1 1 ∷ []) ∷ [] }
+    ensures deleted_at_end { tag_deletion_drafts MOST_SPANS flat_with_newline (codes "t" ∷ [])
         ≡ Tag false (codes "t") (span 0 1 1 ∷ span 1 1 1 ∷ []) ∷ [] }
     ensures newline { newline_drafts FINAL (codes "t" ∷ codes "u" ∷ [])
         ≡ Tag false (codes "t") (span 0 1 1 ∷ []) ∷ Tag false (codes "u") (span 0 1 1 ∷ []) ∷ [] }

@@ -1,7 +1,7 @@
 // The file of a site's log.
 ghost use Rattle.std.specs.Prelude.{◌≡◌, ◌<◌, IfOk, IsOkUnless, None, OnOk, reverse};
 ghost use Rattle.rt_ops.specs.File.{spelling};
-ghost use Rattle.rt_ops.specs.Reading.{Reads, offsets_from};
+ghost use Rattle.rt_ops.specs.Reading.{Reads, offsets_of};
 
 use rt_oplog::{OpLog, write_file};
 use rt_stamps::Fault;
@@ -21,7 +21,7 @@ fn spelled<A: Ledger, B: Ledger>(
     requires failures { (failures.name ≡ B.name) × (failures.parts ≡ B.parts) × (0 < B.parts) }
     ensures ok { IfOk result (λ bytes. bytes.items ≡ spelling (reverse log.now.operations)) }
     ensures read_back { OnOk result
-        (Reads (spelling (reverse log.now.operations)) (reverse log.now.operations) (offsets_from 8 (reverse log.now.operations)) None) }
+        (Reads (spelling (reverse log.now.operations)) (reverse log.now.operations) (offsets_of (reverse log.now.operations)) None) }
     ensures err { IsOkUnless result Fault.NoMemory }
 {
     let mut bytes = Writer::new(
@@ -40,7 +40,7 @@ fn spelled<A: Ledger, B: Ledger>(
 pub fn export(alloc: Global, log: &OpLog) -> Result<Vec<u8>, Fault>
     ensures ok { IfOk result (λ bytes. bytes.items ≡ spelling (reverse log.now.operations)) }
     ensures read_back { OnOk result
-        (Reads (spelling (reverse log.now.operations)) (reverse log.now.operations) (offsets_from 8 (reverse log.now.operations)) None) }
+        (Reads (spelling (reverse log.now.operations)) (reverse log.now.operations) (offsets_of (reverse log.now.operations)) None) }
     ensures err { IsOkUnless result Fault.NoMemory }
 {
     spelled::<Brand, Brand>(alloc, log, Blank::new(1), Blank::new(1))

@@ -14,7 +14,7 @@ use Rattle.rt_rga.proofs.Within.{continues_new}
 use Rattle.rt_changes.specs.Replays.{Deleted, Inserted, Tagged, VisibleChange, changes_in_turn, changes_of, replayed, told_by, with_change}
 use Rattle.rt_changes.proofs.Texts.{changes_replay}
 use Rattle.rt_holding.specs.Runs.{AreTakenInTurn}
-use Rattle.rt_replica.specs.Told.{Told, as_told, visible_changes, told_in_turn, told_of}
+use Rattle.rt_replica.specs.Told.{ChangeValue, as_told, visible_changes, told_in_turn, told_of}
 
 -- CHANGES OF OPERATIONS IN TURN
 
@@ -35,12 +35,12 @@ turn_replays limit (op ∷ ops) log h rules turn =
 -- CHANGES THAT ARE TOLD
 
 -- by what is told of it
-abbrev told_as : Body → Told → List VisibleChange
+abbrev told_as : Body → ChangeValue → List VisibleChange
 told_as (Insert after tags text) told = Inserted told.place text tags ∷ []
 told_as (Delete spans) told = map (λ (run : PlaceRun). Deleted run.from run.to) told.removed
 told_as (Tag on name spans) told = map (λ (run : PlaceRun). Tagged on name run.from run.to) told.retagged
 
-abbrev all_as : List Operation → List Told → List VisibleChange
+abbrev all_as : List Operation → List ChangeValue → List VisibleChange
 all_as [] all = []
 all_as (op ∷ ops) [] = []
 all_as (op ∷ ops) (told ∷ all) = told_as op.body told ++ all_as ops all

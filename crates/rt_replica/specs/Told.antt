@@ -12,15 +12,15 @@ use Rattle.rt_rga.specs.declared.taken.Change.{Change}
 use Rattle.rt_rga.specs.declared.taken.PlaceRun.{PlaceRun}
 use Rattle.rt_changes.specs.Replays.{VisibleChange, runs_of, told_by}
 
--- what the code tells, with its runs and names as lists
-pub record Told : Type 0 where
+-- what the code tells, a `Change` with its runs and names as lists
+pub record ChangeValue : Type 0 where
   pub place : ℕ
   pub inserted : ℕ
   pub removed : List PlaceRun
   pub retagged : List PlaceRun
   pub lists : List Name
 
-abbrev pub as_told : Change → Told
+abbrev pub as_told : Change → ChangeValue
 as_told change = record {
   place = change.place;
   inserted = change.inserted;
@@ -31,7 +31,7 @@ as_told change = record {
 
 -- What is to be told of an operation that changes cells: the place and the number of the characters that it inserts; the longest runs
 -- of the places that it takes away, and of those whose tag it changes, the last in the text first; the tags that it lists.
-abbrev pub told_of : Operation → List TaggedCell → Told
+abbrev pub told_of : Operation → List TaggedCell → ChangeValue
 told_of op cells = record {
   place = place_in op cells;
   inserted = length (inserted op);
@@ -41,7 +41,7 @@ told_of op cells = record {
 }
 
 -- of operations that are taken one after the other, each on the cells that those before it left
-abbrev pub told_in_turn : List Operation → List Operation → List Told
+abbrev pub told_in_turn : List Operation → List Operation → List ChangeValue
 told_in_turn [] log = []
 told_in_turn (op ∷ ops) log = told_of op (cells_of log) ∷ told_in_turn ops (with_operation op log)
 
@@ -59,7 +59,7 @@ pub record TellingValue : Type 0 where
   pub cells : List TaggedCell
   pub site : ℕ
   pub limit : ℕ
-  pub changes : List Told
+  pub changes : List ChangeValue
 
 -- an operation is taken, and is to be told
 abbrev pub after_taken : Operation → TellingValue → TellingValue

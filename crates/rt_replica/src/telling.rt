@@ -63,7 +63,7 @@ impl<S: TextStore> Taking for Telling<S> {
         self.replica.answer(op)
     }
 
-    fn known(&self, site: u16) -> u64 {
+    fn known(&self, site: u32) -> u64 {
         self.replica.log().known(site)
     }
 

@@ -7,10 +7,10 @@ use Rattle.rt_requests.specs.declared.limits.Limit.{Limit}
 use Rattle.rt_requests.specs.declared.limits.Limit.TheVariants.{Absent, Line, PastEveryLine}
 
 -- the line of a number, where the number is one that is kept; no text has so many lines that one has a greater number
-abbrev pub line_of : ℕ → Limit
-line_of number = if nat_lt number (2 ^ 64) then Line number else PastEveryLine
+abbrev pub limit_at_line : ℕ → Limit
+limit_at_line number = if nat_lt number (2 ^ 64) then Line number else PastEveryLine
 
 -- the empty word says that there is no limit, and digits alone a line by its number; another word says nothing
 abbrev pub limit_of : Word → Option Limit
 limit_of [] = Some Absent
-limit_of (c ∷ word) = if all_ascii_digits (c ∷ word) then Some (line_of (digits_value 10 (c ∷ word))) else None
+limit_of (c ∷ word) = if all_ascii_digits (c ∷ word) then Some (limit_at_line (digits_value 10 (c ∷ word))) else None

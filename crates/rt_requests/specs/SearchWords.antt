@@ -34,15 +34,15 @@ without_dashes (word ∷ words) = if bytes_eq word (codes "--") then words else 
 -- WHAT SWITCHES ASK FOR
 
 -- the way that a switch names, and else the way that it was
-abbrev pub turned : Direction → Word → Direction
-turned direction switch =
+abbrev pub redirected : Direction → Word → Direction
+redirected direction switch =
     if bytes_eq switch (codes "-forwards") then Forwards
     else if bytes_eq switch (codes "-backwards") then Backwards
     else direction
 
 -- a search goes forwards, unless it is told; of several switches the last one counts
 abbrev pub direction_of : List Word → Direction
-direction_of switches = fold turned Forwards switches
+direction_of switches = fold redirected Forwards switches
 
 abbrev pub case_of : List Word → Case
 case_of switches = if has switches (codes "-nocase") then Ignored else Exact

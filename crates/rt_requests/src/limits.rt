@@ -2,7 +2,7 @@
 ghost use Rattle.std.specs.Prelude.{◌≡◌, ◌<◌, true, length};
 ghost use Rattle.std.specs.Str.{all_ascii_digits};
 ghost use Rattle.std.specs.Str.Parse.{digits_value};
-ghost use Rattle.rt_requests.specs.LimitWords.{limit_of, line_of};
+ghost use Rattle.rt_requests.specs.LimitWords.{limit_at_line, limit_of};
 
 use crate::digits::are_digits;
 
@@ -29,15 +29,15 @@ impl Limit {
         if !are_digits(word.as_bytes()) {
             return None;
         }
-        Some(line_of(word))
+        Some(limit_at_line(word))
     }
 }
 
 // The line of the number that digits write.
-fn line_of(digits: &str) -> Limit
+fn limit_at_line(digits: &str) -> Limit
     requires digits { all_ascii_digits digits.now ≡ true }
     requires some { 0 < length digits.now }
-    ensures { result ≡ line_of (digits_value 10 digits.now) }
+    ensures { result ≡ limit_at_line (digits_value 10 digits.now) }
 {
     match digits.parse::<usize>() {
         Ok(number) => Limit::Line(number),

@@ -1,7 +1,7 @@
 // The switches of a search.
 ghost use Rattle.std.specs.Prelude.{◌≡◌, string_bytes};
 ghost use Rattle.std.specs.List.{list_all};
-ghost use Rattle.rt_requests.specs.SearchWords.{case_of, direction_of, is_known, strictness_of, overlap_fits, overlaps_of, search_of, switch_check, turned, wanted_of};
+ghost use Rattle.rt_requests.specs.SearchWords.{case_of, direction_of, is_known, strictness_of, overlap_fits, overlaps_of, search_of, switch_check, redirected, wanted_of};
 ghost use Rattle.rt_stamps.specs.Outcomes.{unless};
 ghost use Rattle.rt_stamps.specs.Words.{as_words};
 
@@ -21,8 +21,8 @@ fn is_known(switch: &str) -> bool
 }
 
 // The way that a switch names, and else the way that it was.
-fn turned(direction: Direction, switch: &str) -> Direction
-    ensures { result ≡ turned direction switch.now }
+fn redirected(direction: Direction, switch: &str) -> Direction
+    ensures { result ≡ redirected direction switch.now }
 {
     match switch {
         "-forwards" => Direction::Forwards,
@@ -37,7 +37,7 @@ fn direction_of(switches: &[String]) -> Direction
 {
     switches.iter().fold(
         Direction::Forwards,
-        |direction, switch| turned(direction, switch),
+        |direction, switch| redirected(direction, switch),
     )
 }
 

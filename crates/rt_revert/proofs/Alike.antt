@@ -17,7 +17,7 @@ use Rattle.rt_plans.specs.RemovalDrafts.{removal_drafts}
 use Rattle.rt_plans.specs.Removals.{cells_at, gone_at, stamps_at}
 use Rattle.rt_plans.proofs.Shown.{cells_at_shown, stamps_at_shown}
 use Rattle.rt_undo.specs.Actions.{Removed}
-use Rattle.rt_revert.specs.Portions.{place_in}
+use Rattle.rt_revert.specs.Portions.{visible_before_stamp}
 use Rattle.rt_revert.specs.Progress.{LookAlike, with_names}
 use Rattle.rt_revert.specs.Reverting.{are_at, as_removed, gone_cell_of, still_visible}
 use Rattle.rt_revert.proofs.TakenBack.{still_is}
@@ -109,13 +109,13 @@ pub alike_place : (xs ys : List TaggedCell) (left : Stamp) → LookAlike xs ys �
 alike_place xs ys left h =
     sym (place_shown names_on xs left) ∙ ap (λ (l : List (Cell (List Word))). visible_before l (after_element l left)) h.names ∙ place_shown names_on ys left
 
-pub place_in_shown : {S T : Type 0} (f : S → T) (cells : List (Cell S)) (s : Stamp) → place_in (map (map_state f) cells) s ≡ place_in cells s
+pub place_in_shown : {S T : Type 0} (f : S → T) (cells : List (Cell S)) (s : Stamp) → visible_before_stamp (map (map_state f) cells) s ≡ visible_before_stamp cells s
 place_in_shown f cells s =
     ap (λ o. unwrap_or (option_map (visible_before (map (map_state f) cells)) o) 0) (position_shown f cells s)
     ∙ ap (λ (v : ℕ → ℕ). unwrap_or (option_map v (position_of cells s)) 0) (λ i n. before_shown f cells n i)
 
-pub alike_place_in : (xs ys : List TaggedCell) (s : Stamp) → LookAlike xs ys → place_in xs s ≡ place_in ys s
-alike_place_in xs ys s h = sym (place_in_shown names_on xs s) ∙ ap (λ (l : List (Cell (List Word))). place_in l s) h.names ∙ place_in_shown names_on ys s
+pub alike_place_in : (xs ys : List TaggedCell) (s : Stamp) → LookAlike xs ys → visible_before_stamp xs s ≡ visible_before_stamp ys s
+alike_place_in xs ys s h = sym (place_in_shown names_on xs s) ∙ ap (λ (l : List (Cell (List Word))). visible_before_stamp l s) h.names ∙ place_in_shown names_on ys s
 
 pub alike_stamps : (xs ys : List TaggedCell) → LookAlike xs ys → stamps_of xs ≡ stamps_of ys
 alike_stamps xs ys h = sym (stamps_shown names_on xs) ∙ ap (λ (l : List (Cell (List Word))). stamps_of l) h.names ∙ stamps_shown names_on ys

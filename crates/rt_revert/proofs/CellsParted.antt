@@ -11,7 +11,7 @@ use Rattle.rt_store.specs.Spans.{is_among}
 use Rattle.rt_store.proofs.Distinct.{distinct_more, first_apart, others_distinct, split}
 use Rattle.rt_store.proofs.Nearest.{position_cons}
 use Rattle.rt_plans.specs.DocValue.{put_after}
-use Rattle.rt_revert.specs.Portions.{place_in}
+use Rattle.rt_revert.specs.Portions.{visible_before_stamp}
 
 -- the cells in front of the first one with a stamp, and those behind it
 pub record IsParted {T : Type 0} (cells : List (Cell T)) (s : Stamp) (front : List (Cell T)) (x : Cell T) (rest : List (Cell T)) : Type 0 where
@@ -50,11 +50,11 @@ among_both (x ∷ xs) ys s = ap (λ b. is_same x.stamp s || b) (among_both xs ys
     or_assoc false b d = refl
 
 -- how many visible cells stand before a cell, with one more in front
-pub place_first : {T : Type 0} (c : Cell T) (cs : List (Cell T)) (s : Stamp) → is_same c.stamp s ≡ true → place_in (c ∷ cs) s ≡ 0
+pub place_first : {T : Type 0} (c : Cell T) (cs : List (Cell T)) (s : Stamp) → is_same c.stamp s ≡ true → visible_before_stamp (c ∷ cs) s ≡ 0
 place_first {T} c cs s e =
     ap (λ o. unwrap_or (option_map (visible_before (c ∷ cs)) o) 0) (position_cons (λ (cell : Cell T). is_same cell.stamp s) c cs ∙ ap (λ b. cond b (Some 0) (option_map suc (position_of cs s))) e)
 
-pub place_next : {T : Type 0} (c : Cell T) (cs : List (Cell T)) (s : Stamp) → is_same c.stamp s ≡ false → is_among (stamps_of cs) s ≡ true → place_in (c ∷ cs) s ≡ cond c.gone 0 1 + place_in cs s
+pub place_next : {T : Type 0} (c : Cell T) (cs : List (Cell T)) (s : Stamp) → is_same c.stamp s ≡ false → is_among (stamps_of cs) s ≡ true → visible_before_stamp (c ∷ cs) s ≡ cond c.gone 0 1 + visible_before_stamp cs s
 place_next {T} c cs s e a =
     let q = parted cs s a in
     let w = q.3 in

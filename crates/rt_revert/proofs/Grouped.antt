@@ -33,7 +33,7 @@ use Rattle.rt_rga.specs.OneOrMany.{items_in}
 use Rattle.rt_revert.specs.declared.progress.Progress.{Progress}
 use Rattle.rt_revert.specs.Named.{is_named, named_by, named_in}
 use Rattle.rt_revert.specs.Plans.{AreGiven, AreUpTo, IsChange, IsOf, IsUpTo, RemovedAreGiven, marks_after, named_group, named_removed}
-use Rattle.rt_revert.specs.Portions.{AreSmall, Has, HasGroup, HasRemoved, Portion, offset_of, only, place_in}
+use Rattle.rt_revert.specs.Portions.{AreSmall, Has, HasGroup, HasRemoved, Portion, offset_of, only, visible_before_stamp}
 use Rattle.rt_revert.specs.Progress.{IsCopy, IsGoing, IsOther, IsSoFar, LookAlike}
 use Rattle.rt_revert.specs.Reverting.{Reversion, as_it_is, stamp_after}
 use Rattle.rt_revert.specs.ReversionLaws.{AreSound}
@@ -135,7 +135,7 @@ pub record IsBegun (kept states : TagStates) (copy store : List (Cell ℕ)) (cou
   pub older : AreUpTo count store
   pub bounded : count ≤ GREATEST_COUNT
   pub small : AreSmall offsets
-  pub at : (s : Stamp) → is_among (stamps_of copy) s ≡ true → offset_of offsets s ≡ place_in store s - place_in copy s
+  pub at : (s : Stamp) → is_among (stamps_of copy) s ≡ true → offset_of offsets s ≡ visible_before_stamp store s - visible_before_stamp copy s
 
 -- what the working copy begins with
 pub ready_cells : (kept states : TagStates) (store : List (Cell ℕ)) (group : List (Action ℕ)) (cells : List (Cell ℕ)) → EndsFinal store
@@ -220,8 +220,8 @@ module _ (kept states : TagStates) (copy store : List (Cell ℕ)) (number count 
           offsets = λ s h a.
               let there : is_among (stamps_of copy) s ≡ true =
               ap (λ l. is_among l s) (sym (stamps_shown (state_at kept) copy) ∙ alike_stamps (map (shown kept) copy) (only has flat.cells) like) ∙ only_among has flat.cells s h ∙ a in
-              let whole : place_in flat.cells s ≡ place_in store s = ap (λ (l : List TaggedCell). place_in l s) of.cells ∙ place_in_shown (state_at states) store s in
-              let part : place_in copy s ≡ place_in (only has flat.cells) s = sym (place_in_shown (state_at kept) copy s) ∙ alike_place_in (map (shown kept) copy) (only has flat.cells) s like in
+              let whole : visible_before_stamp flat.cells s ≡ visible_before_stamp store s = ap (λ (l : List TaggedCell). visible_before_stamp l s) of.cells ∙ place_in_shown (state_at states) store s in
+              let part : visible_before_stamp copy s ≡ visible_before_stamp (only has flat.cells) s = sym (place_in_shown (state_at kept) copy s) ∙ alike_place_in (map (shown kept) copy) (only has flat.cells) s like in
               omega (arith, ap (λ m. offset_of m s) n.offsets, b.at s there, whole, part, place_law has flat.cells s h a);
           distinct = subst (IsDistinct is_same) (sym stamps) b.distinct;
           older = subst (λ (m : ℕ). AreUpTo m flat.cells) (sym n.greatest) (up_to_stamps count flat.cells store stamps b.older);

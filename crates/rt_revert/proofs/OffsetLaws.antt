@@ -16,7 +16,7 @@ use Rattle.rt_store.proofs.Distinct.{split}
 use Rattle.rt_spans.specs.Shown.{Shown, is_in_span, value_of}
 use Rattle.rt_plans.specs.Removals.{cells_at, stamps_at}
 use Rattle.rt_revert.specs.Plans.{AreUpTo, IsUpTo}
-use Rattle.rt_revert.specs.Portions.{AreSmall, offset_behind, offset_of, place_in}
+use Rattle.rt_revert.specs.Portions.{AreSmall, offset_behind, offset_of, visible_before_stamp}
 use Rattle.rt_revert.proofs.CellsParted.{among_both}
 use Rattle.rt_revert.proofs.Copied.{taken}
 use Rattle.rt_revert.proofs.WorkCells.{place_within}
@@ -58,7 +58,7 @@ behind_small offsets left h = by (is_same left ROOT)
     by false = h left
 
 -- a place is one of the cells
-pub place_small : {T : Type 0} (cells : List (Cell T)) (s : Stamp) → place_in cells s ≤ length cells
+pub place_small : {T : Type 0} (cells : List (Cell T)) (s : Stamp) → visible_before_stamp cells s ≤ length cells
 place_small {T} cells s = by (option_map (visible_before cells) (position_of cells s)) (place_within cells s)
   where
     by : (o : Option ℕ) → IfSome o (λ place. place < length cells) → unwrap_or o 0 ≤ length cells
@@ -86,16 +86,16 @@ among_next {T} cells p c s e =
     or_nothing false = refl
 
 pub offsets_next : {S T : Type 0} (whole : List (Cell S)) (cells : List (Cell T)) (p : ℕ) (c : Cell T) (old new : Shown ℕ) → slice_get cells p ≡ Some c
-    → ((s : Stamp) → offset_of new s ≡ cond (is_same s c.stamp) (place_in whole c.stamp - place_in cells c.stamp) (offset_of old s))
-    → ((s : Stamp) → is_among (stamps_of (take p cells)) s ≡ true → offset_of old s ≡ place_in whole s - place_in cells s)
-    → (s : Stamp) → is_among (stamps_of (take (p + 1) cells)) s ≡ true → offset_of new s ≡ place_in whole s - place_in cells s
+    → ((s : Stamp) → offset_of new s ≡ cond (is_same s c.stamp) (visible_before_stamp whole c.stamp - visible_before_stamp cells c.stamp) (offset_of old s))
+    → ((s : Stamp) → is_among (stamps_of (take p cells)) s ≡ true → offset_of old s ≡ visible_before_stamp whole s - visible_before_stamp cells s)
+    → (s : Stamp) → is_among (stamps_of (take (p + 1) cells)) s ≡ true → offset_of new s ≡ visible_before_stamp whole s - visible_before_stamp cells s
 offsets_next whole cells p c old new e h k s a = split (is_same s c.stamp)
     (λ f.
     let same : s ≡ c.stamp = same_from_true s c.stamp f in
-    h s ∙ ap (λ b. cond b (place_in whole c.stamp - place_in cells c.stamp) (offset_of old s)) f ∙ (λ i. place_in whole (sym same i) - place_in cells (sym same i)))
+    h s ∙ ap (λ b. cond b (visible_before_stamp whole c.stamp - visible_before_stamp cells c.stamp) (offset_of old s)) f ∙ (λ i. visible_before_stamp whole (sym same i) - visible_before_stamp cells (sym same i)))
     (λ f.
     let apart : is_same c.stamp s ≡ false = same_sym c.stamp s ∙ f in
-    h s ∙ ap (λ b. cond b (place_in whole c.stamp - place_in cells c.stamp) (offset_of old s)) f
+    h s ∙ ap (λ b. cond b (visible_before_stamp whole c.stamp - visible_before_stamp cells c.stamp) (offset_of old s)) f
     ∙ k s (sym (or_nothing (is_among (stamps_of (take p cells)) s)) ∙ ap (λ b. is_among (stamps_of (take p cells)) s || b) (sym apart) ∙ sym (among_next cells p c s e) ∙ a))
   where
     or_nothing : (b : Bool) → (b || false) ≡ b
@@ -110,8 +110,8 @@ take_past (suc n) (x ∷ xs) le = ap (λ l. x ∷ l) (take_past n xs (omega (ari
 
 -- all of them are known
 pub offsets_all : {S T : Type 0} (whole : List (Cell S)) (cells : List (Cell T)) (p : ℕ) (offsets : Shown ℕ) → length cells ≤ p
-    → ((s : Stamp) → is_among (stamps_of (take p cells)) s ≡ true → offset_of offsets s ≡ place_in whole s - place_in cells s)
-    → (s : Stamp) → is_among (stamps_of cells) s ≡ true → offset_of offsets s ≡ place_in whole s - place_in cells s
+    → ((s : Stamp) → is_among (stamps_of (take p cells)) s ≡ true → offset_of offsets s ≡ visible_before_stamp whole s - visible_before_stamp cells s)
+    → (s : Stamp) → is_among (stamps_of cells) s ≡ true → offset_of offsets s ≡ visible_before_stamp whole s - visible_before_stamp cells s
 offsets_all {S} {T} whole cells p offsets le h s a = h s (ap (λ (l : List (Cell T)). is_among (stamps_of l) s) (take_past p cells le) ∙ a)
 
 -- what stands at one of many positions

@@ -14,7 +14,7 @@ use Rattle.rt_store.proofs.Distinct.{split}
 use Rattle.rt_store.proofs.Finding.{place_found}
 use Rattle.rt_rga.proofs.RemovedPlaces.{found_visible}
 use Rattle.rt_plans.specs.Removals.{is_covered, is_in}
-use Rattle.rt_revert.specs.Planning.{range_at, ranges_of, visible_place}
+use Rattle.rt_revert.specs.Planning.{range_at, ranges_of_visible, visible_place}
 use Rattle.rt_revert.specs.Reverting.{are_at}
 
 -- what is found by a stamp has it
@@ -80,14 +80,14 @@ one_covered {T} cells s place v d h = split (is_same s v.stamp) here there
     there e = ap (λ o. is_covered (range_at o) place) refl ∙ by (visible_place cells s) refl e
 
 all_covered : {T : Type 0} (cells : List (Cell T)) (stamps : List Stamp) (place : ℕ) (v : Cell T) → AreDistinct cells → slice_get (visible_of cells) place ≡ Some v
-    → is_covered (ranges_of cells stamps) place ≡ is_among stamps v.stamp
+    → is_covered (ranges_of_visible cells stamps) place ≡ is_among stamps v.stamp
 all_covered cells [] place v d h = refl
 all_covered cells (s ∷ stamps) place v d h =
-    list_any-append (λ range. is_in range place) (range_at (visible_place cells s)) (ranges_of cells stamps)
+    list_any-append (λ range. is_in range place) (range_at (visible_place cells s)) (ranges_of_visible cells stamps)
     ∙ (λ i. one_covered cells s place v d h i || all_covered cells stamps place v d h i)
 
 pub covered : {T : Type 0} (cells : List (Cell T)) (stamps : List Stamp) (place : ℕ) → AreDistinct cells
-    → (nat_lt place (length (visible_of cells)) && is_covered (ranges_of cells stamps) place) ≡ are_at stamps cells place
+    → (nat_lt place (length (visible_of cells)) && is_covered (ranges_of_visible cells stamps) place) ≡ are_at stamps cells place
 covered {T} cells stamps place d = by (slice_get_cases (visible_of cells) place).1
   where
     tests : Option (Cell T) → Bool
@@ -95,10 +95,10 @@ covered {T} cells stamps place d = by (slice_get_cases (visible_of cells) place)
 
     by : ((x : Cell T) × (place < length (visible_of cells)) × (slice_get (visible_of cells) place ≡ Some x) × (get_or (visible_of cells) place x ≡ x))
         ⊎ ((length (visible_of cells) ≤ place) × (slice_get (visible_of cells) place ≡ None))
-        → (nat_lt place (length (visible_of cells)) && is_covered (ranges_of cells stamps) place) ≡ are_at stamps cells place
+        → (nat_lt place (length (visible_of cells)) && is_covered (ranges_of_visible cells stamps) place) ≡ are_at stamps cells place
     by (inl x) =
         let less : nat_lt place (length (visible_of cells)) ≡ true = grind (arith, nat_tests, x.1) in
-        ap (λ b. b && is_covered (ranges_of cells stamps) place) less ∙ all_covered cells stamps place x.0 d x.2 ∙ sym (ap tests x.2)
+        ap (λ b. b && is_covered (ranges_of_visible cells stamps) place) less ∙ all_covered cells stamps place x.0 d x.2 ∙ sym (ap tests x.2)
     by (inr x) =
         let past : nat_lt place (length (visible_of cells)) ≡ false = grind (arith, nat_tests, x.0) in
-        ap (λ b. b && is_covered (ranges_of cells stamps) place) past ∙ sym (ap tests x.1)
+        ap (λ b. b && is_covered (ranges_of_visible cells stamps) place) past ∙ sym (ap tests x.1)

@@ -15,7 +15,7 @@ use Rattle.rt_store.specs.Spans.{is_among}
 use Rattle.rt_store.proofs.Distinct.{differs, first_apart, others_distinct, split}
 use Rattle.rt_plans.specs.declared.range.Range.{Range}
 use Rattle.rt_plans.specs.Removals.{AreInOrder, gone_at, is_covered, is_in, stamps_at}
-use Rattle.rt_revert.specs.Portions.{only, others_before, place_in}
+use Rattle.rt_revert.specs.Portions.{only, others_before, visible_before_stamp}
 use Rattle.rt_revert.specs.Reverting.{are_at, as_removed, still_visible}
 use Rattle.rt_revert.proofs.CellsParted.{place_first, place_next}
 use Rattle.rt_revert.proofs.PortionLaws.{before_cons, is_other, only_has, only_not}
@@ -240,7 +240,7 @@ at_named {T} places p (c ∷ cs) s h =
         (λ f. or_left (is_same c.stamp s) _ f)
         (λ f. or_right (is_same c.stamp s) _ (next (sym (ap (λ d. d || is_among (stamps_at places (p + 1) cs) s) f) ∙ k)))
 
-placed_from : {T : Type 0} (places : ℕ → Bool) (p : ℕ) (cells : List (Cell T)) → AreDistinct cells → map (λ s. one (place_in cells s + p)) (stamps_at places p cells) ≡ singles places p cells
+placed_from : {T : Type 0} (places : ℕ → Bool) (p : ℕ) (cells : List (Cell T)) → AreDistinct cells → map (λ s. one (visible_before_stamp cells s + p)) (stamps_at places p cells) ≡ singles places p cells
 placed_from places p [] d = refl
 placed_from {T} places p (c ∷ cs) d =
     by (rest p (placed_from places p cs (others_distinct c.stamp (stamps_of cs) d))) (rest (p + 1) (placed_from places (p + 1) cs (others_distinct c.stamp (stamps_of cs) d)))
@@ -249,27 +249,27 @@ placed_from {T} places p (c ∷ cs) d =
     apart : (s : Stamp) → is_among (stamps_of cs) s ≡ true → is_same c.stamp s ≡ false
     apart s a = differs c.stamp s (stamps_of cs) (first_apart c.stamp (stamps_of cs) d) a
 
-    rest : (q : ℕ) → map (λ s. one (place_in cs s + q)) (stamps_at places q cs) ≡ singles places q cs
-        → (n : ℕ) → p + n ≡ q → cond c.gone 0 1 ≡ n → map (λ s. one (place_in (c ∷ cs) s + p)) (stamps_at places q cs) ≡ singles places q cs
+    rest : (q : ℕ) → map (λ s. one (visible_before_stamp cs s + q)) (stamps_at places q cs) ≡ singles places q cs
+        → (n : ℕ) → p + n ≡ q → cond c.gone 0 1 ≡ n → map (λ s. one (visible_before_stamp (c ∷ cs) s + p)) (stamps_at places q cs) ≡ singles places q cs
     rest q h n e g =
-        map_same (λ s. one (place_in (c ∷ cs) s + p)) (λ s. one (place_in cs s + q)) (stamps_at places q cs)
-        (λ s k. let a = at_named places q cs s k in let at : place_in (c ∷ cs) s + p ≡ place_in cs s + q = omega (arith, place_next c cs s (apart s a) a, e, g) in ap one at)
+        map_same (λ s. one (visible_before_stamp (c ∷ cs) s + p)) (λ s. one (visible_before_stamp cs s + q)) (stamps_at places q cs)
+        (λ s k. let a = at_named places q cs s k in let at : visible_before_stamp (c ∷ cs) s + p ≡ visible_before_stamp cs s + q = omega (arith, place_next c cs s (apart s a) a, e, g) in ap one at)
         ∙ h
 
-    by : ((n : ℕ) → p + n ≡ p → cond c.gone 0 1 ≡ n → map (λ s. one (place_in (c ∷ cs) s + p)) (stamps_at places p cs) ≡ singles places p cs)
-        → ((n : ℕ) → p + n ≡ p + 1 → cond c.gone 0 1 ≡ n → map (λ s. one (place_in (c ∷ cs) s + p)) (stamps_at places (p + 1) cs) ≡ singles places (p + 1) cs)
+    by : ((n : ℕ) → p + n ≡ p → cond c.gone 0 1 ≡ n → map (λ s. one (visible_before_stamp (c ∷ cs) s + p)) (stamps_at places p cs) ≡ singles places p cs)
+        → ((n : ℕ) → p + n ≡ p + 1 → cond c.gone 0 1 ≡ n → map (λ s. one (visible_before_stamp (c ∷ cs) s + p)) (stamps_at places (p + 1) cs) ≡ singles places (p + 1) cs)
         → (g b : Bool) → c.gone ≡ g
-        → map (λ s. one (place_in (c ∷ cs) s + p)) (cond g (stamps_at places p cs) (cond b (c.stamp ∷ stamps_at places (p + 1) cs) (stamps_at places (p + 1) cs)))
+        → map (λ s. one (visible_before_stamp (c ∷ cs) s + p)) (cond g (stamps_at places p cs) (cond b (c.stamp ∷ stamps_at places (p + 1) cs) (stamps_at places (p + 1) cs)))
         ≡ cond g (singles places p cs) (cond b (one p ∷ singles places (p + 1) cs) (singles places (p + 1) cs))
     by here next true b g = here 0 (omega arith) (ap (λ d. cond d 0 1) g)
     by here next false false g = next 1 refl (ap (λ d. cond d 0 1) g)
     by here next false true g =
-        let first : place_in (c ∷ cs) c.stamp + p ≡ p = omega (arith, place_first c cs c.stamp (same_refl c.stamp)) in
+        let first : visible_before_stamp (c ∷ cs) c.stamp + p ≡ p = omega (arith, place_first c cs c.stamp (same_refl c.stamp)) in
         λ i. one (first i) ∷ next 1 refl (ap (λ d. cond d 0 1) g) i
 
-pub placed_all : {T : Type 0} (places : ℕ → Bool) (cells : List (Cell T)) → AreDistinct cells → map (λ s. one (place_in cells s)) (stamps_at places 0 cells) ≡ singles places 0 cells
+pub placed_all : {T : Type 0} (places : ℕ → Bool) (cells : List (Cell T)) → AreDistinct cells → map (λ s. one (visible_before_stamp cells s)) (stamps_at places 0 cells) ≡ singles places 0 cells
 placed_all places cells d =
-    ap (λ (f : Stamp → Range). map f (stamps_at places 0 cells)) (λ i s. one (sym (add-zero (place_in cells s)) i)) ∙ placed_from places 0 cells d
+    ap (λ (f : Stamp → Range). map f (stamps_at places 0 cells)) (λ i s. one (sym (add-zero (visible_before_stamp cells s)) i)) ∙ placed_from places 0 cells d
 
 -- they are in order, and cover what is meant
 pub singles_order : {T : Type 0} (places : ℕ → Bool) (p q : ℕ) (cells : List (Cell T)) → q ≤ p → AreInOrder q (singles places p cells)

@@ -15,7 +15,7 @@ use Rattle.rt_store.specs.Spans.{is_among}
 use Rattle.rt_store.proofs.Distinct.{split}
 use Rattle.rt_plans.specs.DocValue.{put_after}
 use Rattle.rt_plans.proofs.InsertDraftLaws.{put_behind}
-use Rattle.rt_revert.specs.Portions.{only, others_before, place_in}
+use Rattle.rt_revert.specs.Portions.{only, others_before, visible_before_stamp}
 use Rattle.rt_revert.specs.Reverting.{gone_cell_of}
 use Rattle.rt_revert.proofs.CellsParted.{among_both, found_behind, parted, take_front}
 
@@ -122,7 +122,7 @@ visible_parts {T} has (c ∷ cs) =
 
 -- WHERE A CELL STANDS
 
-place_behind : {T : Type 0} (front : List (Cell T)) (x : Cell T) (rest : List (Cell T)) → is_among (stamps_of front) x.stamp ≡ false → place_in (front ++ x ∷ rest) x.stamp ≡ length (visible_of front)
+place_behind : {T : Type 0} (front : List (Cell T)) (x : Cell T) (rest : List (Cell T)) → is_among (stamps_of front) x.stamp ≡ false → visible_before_stamp (front ++ x ∷ rest) x.stamp ≡ length (visible_of front)
 place_behind {T} front x rest n =
     ap (λ o. unwrap_or (option_map (visible_before (front ++ x ∷ rest)) o) 0) (found_behind front rest x n)
     ∙ ap (λ (l : List (Cell T)). length (visible_of l)) (take_front front (x ∷ rest))
@@ -132,7 +132,7 @@ only_parted : {T : Type 0} (has : Stamp → Bool) (front : List (Cell T)) (x : C
 only_parted has front x rest e = only_append has front (x ∷ rest) ∙ ap (λ l. only has front ++ l) (only_has has x rest e)
 
 pub place_law : {T : Type 0} (has : Stamp → Bool) (cells : List (Cell T)) (s : Stamp) → has s ≡ true → is_among (stamps_of cells) s ≡ true
-    → place_in cells s ≡ place_in (only has cells) s + others_before has cells s
+    → visible_before_stamp cells s ≡ visible_before_stamp (only has cells) s + others_before has cells s
 place_law {T} has cells s h a =
     let q = parted cells s a in
     let front = q.0 in
@@ -142,11 +142,11 @@ place_law {T} has cells s h a =
     let hx : has x.stamp ≡ true = ap has w.stamp ∙ h in
     let n : is_among (stamps_of front) x.stamp ≡ false = ap (is_among (stamps_of front)) w.stamp ∙ w.apart in
     let none : is_among (stamps_of (only has front)) x.stamp ≡ false = only_none has front x.stamp n in
-    let ours : place_in (only has (front ++ x ∷ rest)) x.stamp ≡ length (visible_of (only has front)) =
-    ap (λ (l : List (Cell T)). place_in l x.stamp) (only_parted has front x rest hx) ∙ place_behind (only has front) x (only has rest) none in
-    let all : place_in (front ++ x ∷ rest) x.stamp ≡ place_in (only has (front ++ x ∷ rest)) x.stamp + others_before has (front ++ x ∷ rest) x.stamp =
+    let ours : visible_before_stamp (only has (front ++ x ∷ rest)) x.stamp ≡ length (visible_of (only has front)) =
+    ap (λ (l : List (Cell T)). visible_before_stamp l x.stamp) (only_parted has front x rest hx) ∙ place_behind (only has front) x (only has rest) none in
+    let all : visible_before_stamp (front ++ x ∷ rest) x.stamp ≡ visible_before_stamp (only has (front ++ x ∷ rest)) x.stamp + others_before has (front ++ x ∷ rest) x.stamp =
     omega (arith, place_behind front x rest n, ours, others_parted has front x rest n, visible_parts has front) in
-    (λ i. place_in (w.is i) (sym w.stamp i)) ∙ all ∙ (λ i. place_in (only has (sym w.is i)) (w.stamp i) + others_before has (sym w.is i) (w.stamp i))
+    (λ i. visible_before_stamp (w.is i) (sym w.stamp i)) ∙ all ∙ (λ i. visible_before_stamp (only has (sym w.is i)) (w.stamp i) + others_before has (sym w.is i) (w.stamp i))
 
 -- A CELL MORE
 

@@ -21,7 +21,7 @@ use Rattle.rt_store.proofs.Distinct.{first_apart, others_distinct, split}
 use Rattle.rt_store.proofs.Nearest.{position_cons}
 use Rattle.rt_store.proofs.Places.{final_last}
 use Rattle.rt_plans.proofs.CellLaws.{skip_from_newest}
-use Rattle.rt_revert.specs.Named.{AreAt, holds, stands_at}
+use Rattle.rt_revert.specs.Named.{AreAt, has_position, stands_at}
 use Rattle.rt_revert.specs.Portions.{only}
 use Rattle.rt_revert.proofs.CellsParted.{among_both, found_behind, parted}
 
@@ -142,16 +142,16 @@ pub rising : (ps : List ℕ) → IsStrictlyIncreasing ps → Rise 0 ps
 rising [] h = tt
 rising (p ∷ ps) h = (omega arith, rise_from ps p h)
 
-below : (low : ℕ) (ps : List ℕ) (at : ℕ) → Rise low ps → at < low → holds ps at ≡ false
+below : (low : ℕ) (ps : List ℕ) (at : ℕ) → Rise low ps → at < low → has_position ps at ≡ false
 below low [] at h lt = refl
 below low (p ∷ ps) at h lt =
     let apart : (p == at) ≡ false = grind (arith, nat_tests, h.0, lt) in
     or_from (p == at) _ apart (below (p + 1) ps at h.1 (omega (arith, h.0, lt)))
 
-is_first : (p : ℕ) (ps : List ℕ) → holds (p ∷ ps) p ≡ true
+is_first : (p : ℕ) (ps : List ℕ) → has_position (p ∷ ps) p ≡ true
 is_first p ps = or_left (p == p) _ (grind (arith, nat_tests))
 
-pub same_rising : (m n : ℕ) (ps qs : List ℕ) → Rise m ps → Rise n qs → ((at : ℕ) → holds ps at ≡ holds qs at) → ps ≡ qs
+pub same_rising : (m n : ℕ) (ps qs : List ℕ) → Rise m ps → Rise n qs → ((at : ℕ) → has_position ps at ≡ has_position qs at) → ps ≡ qs
 same_rising m n [] [] h k e = refl
 same_rising m n [] (q ∷ qs) h k e = absurd (let x : false ≡ true = e q ∙ is_first q qs in cc x)
 same_rising m n (p ∷ ps) [] h k e = absurd (let x : false ≡ true = sym (e p) ∙ is_first p ps in cc x)
@@ -161,28 +161,28 @@ same_rising m n (p ∷ ps) (q ∷ qs) h k e =
     let not_more : q < p → ⊥ = λ lt. let apart : (p == q) ≡ false = grind (arith, nat_tests, lt) in
     let x : false ≡ true = sym (or_from (p == q) _ apart (below (p + 1) ps q h.1 (omega (arith, lt)))) ∙ e q ∙ is_first q qs in cc x in
     let same : p ≡ q = omega (arith, not_less, not_more) in
-    let rest : (at : ℕ) → holds ps at ≡ holds qs at = λ at. split (p == at)
+    let rest : (at : ℕ) → has_position ps at ≡ has_position qs at = λ at. split (p == at)
     (λ f.
     let one : p ≡ at = grind (arith, nat_tests, f) in
     below (p + 1) ps at h.1 (omega (arith, one)) ∙ sym (below (q + 1) qs at k.1 (omega (arith, one, same))))
-    (λ f. ap (λ b. b || holds ps at) (sym f) ∙ e at ∙ ap (λ b. b || holds qs at) (ap (λ x. x == at) (sym same) ∙ f)) in
+    (λ f. ap (λ b. b || has_position ps at) (sym f) ∙ e at ∙ ap (λ b. b || has_position qs at) (ap (λ x. x == at) (sym same) ∙ f)) in
     λ i. same i ∷ same_rising (p + 1) (q + 1) ps qs h.1 k.1 rest i
 
 -- each once
-kept_from : (k : ℕ) (ps : List ℕ) (at : ℕ) → holds (dedup_from (λ x y. x == y) k ps) at ≡ holds (k ∷ ps) at
+kept_from : (k : ℕ) (ps : List ℕ) (at : ℕ) → has_position (dedup_from (λ x y. x == y) k ps) at ≡ has_position (k ∷ ps) at
 kept_from k [] at = refl
 kept_from k (p ∷ ps) at = split (p == k)
     (λ e.
     let same : p ≡ k = grind (arith, nat_tests, e) in
-    ap (λ b. holds (cond b (dedup_from (λ x y. x == y) k ps) (k ∷ dedup_from (λ x y. x == y) p ps)) at) e ∙ kept_from k ps at
-    ∙ twice (k == at) (holds ps at) ∙ ap (λ x. (k == at) || ((x == at) || holds ps at)) (sym same))
-    (λ e. ap (λ b. holds (cond b (dedup_from (λ x y. x == y) k ps) (k ∷ dedup_from (λ x y. x == y) p ps)) at) e ∙ ap (λ b. (k == at) || b) (kept_from p ps at))
+    ap (λ b. has_position (cond b (dedup_from (λ x y. x == y) k ps) (k ∷ dedup_from (λ x y. x == y) p ps)) at) e ∙ kept_from k ps at
+    ∙ twice (k == at) (has_position ps at) ∙ ap (λ x. (k == at) || ((x == at) || has_position ps at)) (sym same))
+    (λ e. ap (λ b. has_position (cond b (dedup_from (λ x y. x == y) k ps) (k ∷ dedup_from (λ x y. x == y) p ps)) at) e ∙ ap (λ b. (k == at) || b) (kept_from p ps at))
   where
     twice : (a b : Bool) → (a || b) ≡ (a || (a || b))
     twice true b = refl
     twice false b = refl
 
-pub kept_once : (ps : List ℕ) (at : ℕ) → holds (dedup (λ x y. x == y) ps) at ≡ holds ps at
+pub kept_once : (ps : List ℕ) (at : ℕ) → has_position (dedup (λ x y. x == y) ps) at ≡ has_position ps at
 kept_once [] at = refl
 kept_once (p ∷ ps) at = kept_from p ps at
 
@@ -200,21 +200,21 @@ where_rise {T} has k low (c ∷ cs) le = by (has c.stamp) (where_rise has (k + 1
     by true h n = (le, h)
     by false h n = n
 
-where_holds : {T : Type 0} (has : Stamp → Bool) (k : ℕ) (cells : List (Cell T)) (at : ℕ) → holds (positions_where has k cells) (k + at) ≡ at_cell has cells at
+where_holds : {T : Type 0} (has : Stamp → Bool) (k : ℕ) (cells : List (Cell T)) (at : ℕ) → has_position (positions_where has k cells) (k + at) ≡ at_cell has cells at
 where_holds has k [] at = refl
 where_holds {T} has k (c ∷ cs) zero =
     by (has c.stamp)
   where
-    apart : holds (positions_where has (k + 1) cs) (k + 0) ≡ false
+    apart : has_position (positions_where has (k + 1) cs) (k + 0) ≡ false
     apart = below (k + 1) (positions_where has (k + 1) cs) (k + 0) (where_rise has (k + 1) (k + 1) cs (omega arith)) (omega arith)
 
     here : (k == (k + 0)) ≡ true
     here = grind (arith, nat_tests)
 
-    by : (b : Bool) → holds (cond b (k ∷ positions_where has (k + 1) cs) (positions_where has (k + 1) cs)) (k + 0) ≡ b
+    by : (b : Bool) → has_position (cond b (k ∷ positions_where has (k + 1) cs) (positions_where has (k + 1) cs)) (k + 0) ≡ b
     by true = or_left (k == (k + 0)) _ here
     by false = apart
-where_holds {T} has k (c ∷ cs) (suc at) = by (has c.stamp) ∙ ap (holds (positions_where has (k + 1) cs)) next ∙ where_holds has (k + 1) cs at
+where_holds {T} has k (c ∷ cs) (suc at) = by (has c.stamp) ∙ ap (has_position (positions_where has (k + 1) cs)) next ∙ where_holds has (k + 1) cs at
   where
     next : k + suc at ≡ k + 1 + at
     next = omega arith
@@ -222,8 +222,8 @@ where_holds {T} has k (c ∷ cs) (suc at) = by (has c.stamp) ∙ ap (holds (posi
     apart : (k == (k + suc at)) ≡ false
     apart = grind (arith, nat_tests)
 
-    by : (b : Bool) → holds (cond b (k ∷ positions_where has (k + 1) cs) (positions_where has (k + 1) cs)) (k + suc at) ≡ holds (positions_where has (k + 1) cs) (k + suc at)
-    by true = ap (λ d. d || holds (positions_where has (k + 1) cs) (k + suc at)) apart
+    by : (b : Bool) → has_position (cond b (k ∷ positions_where has (k + 1) cs) (positions_where has (k + 1) cs)) (k + suc at) ≡ has_position (positions_where has (k + 1) cs) (k + suc at)
+    by true = ap (λ d. d || has_position (positions_where has (k + 1) cs) (k + suc at)) apart
     by false = refl
 
 where_stand : {X : Type 0} (has : Stamp → Bool) (k : ℕ) (all cells : List (Cell X)) → ((j : ℕ) → slice_get all (k + j) ≡ slice_get cells j) → AreAt all (positions_where has k cells) (only has cells)
@@ -238,42 +238,42 @@ where_stand {X} has k all (c ∷ cs) h = by (has c.stamp) (where_stand has (k + 
     by false r = r
 
 -- positions in order that are those of some stamps
-pub named_stand : {T : Type 0} (stamps : List Stamp) (cells : List (Cell T)) (ps : List ℕ) → IsStrictlyIncreasing ps → ((at : ℕ) → holds ps at ≡ stands_at stamps cells at)
+pub named_stand : {T : Type 0} (stamps : List Stamp) (cells : List (Cell T)) (ps : List ℕ) → IsStrictlyIncreasing ps → ((at : ℕ) → has_position ps at ≡ stands_at stamps cells at)
     → AreAt cells ps (only (is_among stamps) cells)
 named_stand stamps cells ps r h =
     let same : ps ≡ positions_where (is_among stamps) 0 cells =
     same_rising 0 0 ps (positions_where (is_among stamps) 0 cells) (rising ps r) (where_rise (is_among stamps) 0 0 cells (omega arith))
-    (λ at. h at ∙ sym (where_holds (is_among stamps) 0 cells at) ∙ ap (holds (positions_where (is_among stamps) 0 cells)) (omega arith)) in
+    (λ at. h at ∙ sym (where_holds (is_among stamps) 0 cells at) ∙ ap (has_position (positions_where (is_among stamps) 0 cells)) (omega arith)) in
     subst (λ (l : List ℕ). AreAt cells l (only (is_among stamps) cells)) (sym same) (where_stand (is_among stamps) 0 cells cells (λ j. ap (slice_get cells) (omega arith)))
 
 -- POSITIONS THAT ARE ADDED
 
-held_more : (ps qs : List ℕ) (at : ℕ) → holds (ps ++ qs) at ≡ (holds ps at || holds qs at)
+held_more : (ps qs : List ℕ) (at : ℕ) → has_position (ps ++ qs) at ≡ (has_position ps at || has_position qs at)
 held_more ps qs at = list_any-append (λ p. p == at) ps qs
 
 or_three : (a b d : Bool) → ((a || b) || d) ≡ (a || (b || d))
 or_three true b d = refl
 or_three false b d = refl
 
-pub held_step : {T : Type 0} (old new : List ℕ) (here rest : List Stamp) (cells : List (Cell T)) (at : ℕ) → holds new at ≡ (holds old at || stands_at here cells at)
-    → (holds new at || stands_at rest cells at) ≡ (holds old at || stands_at (here ++ rest) cells at)
+pub held_step : {T : Type 0} (old new : List ℕ) (here rest : List Stamp) (cells : List (Cell T)) (at : ℕ) → has_position new at ≡ (has_position old at || stands_at here cells at)
+    → (has_position new at || stands_at rest cells at) ≡ (has_position old at || stands_at (here ++ rest) cells at)
 held_step old new here rest cells at h =
-    ap (λ b. b || stands_at rest cells at) h ∙ or_three (holds old at) (stands_at here cells at) (stands_at rest cells at)
-    ∙ ap (λ b. holds old at || b) (sym (stands_more here rest cells at))
+    ap (λ b. b || stands_at rest cells at) h ∙ or_three (has_position old at) (stands_at here cells at) (stands_at rest cells at)
+    ∙ ap (λ b. has_position old at || b) (sym (stands_more here rest cells at))
 
-pub held_last : {T : Type 0} (ps : List ℕ) (cells : List (Cell T)) (at : ℕ) → holds ps at ≡ (holds ps at || stands_at [] cells at)
-held_last ps cells at = sym (ap (λ b. holds ps at || b) (stands_none cells at) ∙ or_nothing (holds ps at))
+pub held_last : {T : Type 0} (ps : List ℕ) (cells : List (Cell T)) (at : ℕ) → has_position ps at ≡ (has_position ps at || stands_at [] cells at)
+held_last ps cells at = sym (ap (λ b. has_position ps at || b) (stands_none cells at) ∙ or_nothing (has_position ps at))
 
 -- one position
-pub held_one : {T : Type 0} (cells : List (Cell T)) (p : ℕ) (s : Stamp) (at : ℕ) → AreDistinct cells → position_of cells s ≡ Some p → holds (p ∷ []) at ≡ stands_at (s ∷ []) cells at
+pub held_one : {T : Type 0} (cells : List (Cell T)) (p : ℕ) (s : Stamp) (at : ℕ) → AreDistinct cells → position_of cells s ≡ Some p → has_position (p ∷ []) at ≡ stands_at (s ∷ []) cells at
 held_one cells p s at d h = or_nothing (p == at) ∙ stands_alone cells s p at d h
 
 pub held_found : {T : Type 0} (cells : List (Cell T)) (ps qs : List ℕ) (p : ℕ) (s : Stamp) (at : ℕ) → AreDistinct cells → position_of cells s ≡ Some p → qs ≡ ps ++ p ∷ []
-    → holds qs at ≡ (holds ps at || stands_at (s ∷ []) cells at)
-held_found cells ps qs p s at d h e = ap (λ l. holds l at) e ∙ held_more ps (p ∷ []) at ∙ ap (λ b. holds ps at || b) (held_one cells p s at d h)
+    → has_position qs at ≡ (has_position ps at || stands_at (s ∷ []) cells at)
+held_found cells ps qs p s at d h e = ap (λ l. has_position l at) e ∙ held_more ps (p ∷ []) at ∙ ap (λ b. has_position ps at || b) (held_one cells p s at d h)
 
-pub held_none : {T : Type 0} (cells : List (Cell T)) (ps : List ℕ) (s : Stamp) (at : ℕ) → position_of cells s ≡ None → holds ps at ≡ (holds ps at || stands_at (s ∷ []) cells at)
-held_none cells ps s at h = sym (ap (λ b. holds ps at || b) (nowhere s cells at (no_position cells s h)) ∙ or_nothing (holds ps at))
+pub held_none : {T : Type 0} (cells : List (Cell T)) (ps : List ℕ) (s : Stamp) (at : ℕ) → position_of cells s ≡ None → has_position ps at ≡ (has_position ps at || stands_at (s ∷ []) cells at)
+held_none cells ps s at h = sym (ap (λ b. has_position ps at || b) (nowhere s cells at (no_position cells s h)) ∙ or_nothing (has_position ps at))
 
 -- a cell is none of those in front of it
 distinct_front : {T : Type 0} (front : List (Cell T)) (x : Cell T) (rest : List (Cell T)) → AreDistinct (front ++ x ∷ rest) → is_among (stamps_of front) x.stamp ≡ false

@@ -9,7 +9,7 @@ use Rattle.rt_ops.specs.Operations.{stamps_from, stamps_in, stamps_of_span}
 use Rattle.rt_store.specs.declared.cell.Cell.{Cell}
 use Rattle.rt_plans.specs.declared.range.Range.{Range}
 use Rattle.rt_plans.specs.Removals.{AreInOrder, is_covered, is_in}
-use Rattle.rt_revert.specs.Planning.{is_behind, range_at, ranges_of, visible_place}
+use Rattle.rt_revert.specs.Planning.{is_behind, range_at, ranges_of_visible, visible_place}
 
 or_left_assoc : (a b d : Bool) → ((a || b) || d) ≡ (a || (b || d))
 or_left_assoc true b d = refl
@@ -32,11 +32,11 @@ covered_step old new here rest at h =
 pub covered_all : (xs : List Range) (at : ℕ) → (is_covered xs at || is_covered [] at) ≡ is_covered xs at
 covered_all xs at = or_nothing (is_covered xs at)
 
-pub ranges_append : {T : Type 0} (cells : List (Cell T)) (xs ys : List Stamp) → ranges_of cells (xs ++ ys) ≡ ranges_of cells xs ++ ranges_of cells ys
+pub ranges_append : {T : Type 0} (cells : List (Cell T)) (xs ys : List Stamp) → ranges_of_visible cells (xs ++ ys) ≡ ranges_of_visible cells xs ++ ranges_of_visible cells ys
 ranges_append cells [] ys = refl
 ranges_append cells (x ∷ xs) ys =
     ap (λ l. range_at (visible_place cells x) ++ l) (ranges_append cells xs ys)
-    ∙ sym (append_assoc (range_at (visible_place cells x)) (ranges_of cells xs) (ranges_of cells ys))
+    ∙ sym (append_assoc (range_at (visible_place cells x)) (ranges_of_visible cells xs) (ranges_of_visible cells ys))
 
 -- the characters of a span from a count on
 pub from_more : (site first last : ℕ) → first < last + 1 → stamps_from site first (last + 1 - first) ≡ record { count = first; site = site } ∷ stamps_from site (first + 1) (last + 1 - (first + 1))

@@ -48,7 +48,7 @@ use Rattle.rt_revert.specs.declared.plan.TextChange.{TextChange}
 use Rattle.rt_revert.specs.declared.plan.TextChange.TheVariants.{Removed as Gone}
 use Rattle.rt_revert.specs.declared.progress.Progress.{Progress}
 use Rattle.rt_revert.specs.Plans.{AreGiven, AreUpTo, IsChange, IsUpTo, marks_after, marks_changed, most_places, named_group, named_removed}
-use Rattle.rt_revert.specs.Portions.{AreSmall, Has, Portion, offset_of, only, place_in, whole_ranges}
+use Rattle.rt_revert.specs.Portions.{AreSmall, Has, Portion, offset_of, only, visible_before_stamp, whole_ranges}
 use Rattle.rt_revert.specs.Progress.{IsCopy, IsGoing, IsOther, IsSoFar, LookAlike, spans_of}
 use Rattle.rt_revert.specs.Reverting.{Reversion, are_at, as_removed, stamp_after, still_visible, with_gone}
 use Rattle.rt_revert.proofs.Alike.{alike_at, alike_gone, alike_place_in, alike_stamps_at, alike_still, gone_at_shown, place_in_shown, same_drafts}
@@ -238,11 +238,11 @@ module _ (table : TagStates) (stamps : List Stamp) (old new : List (Cell ℕ)) (
       let chosen : stamps_at (is_covered losses.places.items) 0 old ≡ stamps_at theirs 0 cells =
       ap (λ (p : ℕ → Bool). stamps_at p 0 old) (λ i place. h.places place i) ∙ sym (named part r had s.cells) in
       ap (whole_ranges before.offsets old) chosen
-      ∙ map_same (λ t. one (place_in old t + offset_of before.offsets t)) (λ t. one (place_in cells t)) (stamps_at theirs 0 cells) (λ t k.
+      ∙ map_same (λ t. one (visible_before_stamp old t + offset_of before.offsets t)) (λ t. one (visible_before_stamp cells t)) (stamps_at theirs 0 cells) (λ t k.
       let n = lost_named stamps cells t (ap (λ l. is_among l t) (sym (lost_stamps stamps cells)) ∙ k) in
       let has : part.has t ≡ true = had t n.0 in
-      let ours : place_in old t ≡ place_in (only part.has cells) t = sym (place_in_shown (state_at table) old t) ∙ alike_place_in all (only part.has cells) t s.cells in
-      let at : place_in old t + offset_of before.offsets t ≡ place_in cells t = omega (arith, ours, s.within.offsets t has n.1, place_law part.has cells t has n.1) in
+      let ours : visible_before_stamp old t ≡ visible_before_stamp (only part.has cells) t = sym (place_in_shown (state_at table) old t) ∙ alike_place_in all (only part.has cells) t s.cells in
+      let at : visible_before_stamp old t + offset_of before.offsets t ≡ visible_before_stamp cells t = omega (arith, ours, s.within.offsets t has n.1, place_law part.has cells t has n.1) in
       ap one at)
       ∙ placed_all theirs cells s.within.distinct
 

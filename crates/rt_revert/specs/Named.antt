@@ -21,8 +21,8 @@ is_named group s = is_among (FINAL ∷ named_in group) s
 -- POSITIONS
 
 -- a position is one of some
-abbrev pub holds : List ℕ → ℕ → Bool
-holds positions position = list_any (λ p. p == position) positions
+abbrev pub has_position : List ℕ → ℕ → Bool
+has_position positions position = list_any (λ p. p == position) positions
 
 -- the cell at a position has one of some stamps
 abbrev pub stands_at : {T : Type 0} → List Stamp → List (Cell T) → ℕ → Bool

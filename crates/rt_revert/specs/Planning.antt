@@ -17,9 +17,9 @@ range_at None = []
 range_at (Some place) = record { from = place; to = place + 1 } ∷ []
 
 -- the places of those of some characters that are visible
-abbrev pub ranges_of : {T : Type 0} → List (Cell T) → List Stamp → List Range
-ranges_of cells [] = []
-ranges_of cells (stamp ∷ stamps) = range_at (visible_place cells stamp) ++ ranges_of cells stamps
+abbrev pub ranges_of_visible : {T : Type 0} → List (Cell T) → List Stamp → List Range
+ranges_of_visible cells [] = []
+ranges_of_visible cells (stamp ∷ stamps) = range_at (visible_place cells stamp) ++ ranges_of_visible cells stamps
 
 -- the place behind a range
 abbrev pub is_behind : Range → ℕ → Bool

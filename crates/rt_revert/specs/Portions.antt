@@ -38,8 +38,8 @@ only has cells = filter (λ cell. has cell.stamp) cells
 -- PLACES
 
 -- how many visible cells stand before a stamp's cell, and how many of these the copy hasn't
-abbrev pub place_in : {T : Type 0} → List (Cell T) → Stamp → ℕ
-place_in cells stamp = unwrap_or (option_map (visible_before cells) (position_of cells stamp)) 0
+abbrev pub visible_before_stamp : {T : Type 0} → List (Cell T) → Stamp → ℕ
+visible_before_stamp cells stamp = unwrap_or (option_map (visible_before cells) (position_of cells stamp)) 0
 
 abbrev pub others_before : {T : Type 0} → (Stamp → Bool) → List (Cell T) → Stamp → ℕ
 others_before has cells stamp =
@@ -63,4 +63,4 @@ AreSmall offsets = (s : Stamp) → offset_of offsets s ≤ MOST_CELLS
 -- the places in the whole text of characters of a copy, each as a range
 abbrev pub whole_ranges : {T : Type 0} → Shown ℕ → List (Cell T) → List Stamp → List Range
 whole_ranges offsets copy stamps =
-    map (λ s. record { from = place_in copy s + offset_of offsets s; to = place_in copy s + offset_of offsets s + 1 }) stamps
+    map (λ s. record { from = visible_before_stamp copy s + offset_of offsets s; to = visible_before_stamp copy s + offset_of offsets s + 1 }) stamps

@@ -8,7 +8,7 @@ ghost use Rattle.rt_ops.specs.Operations.{stamps_in, stamps_of_span};
 ghost use Rattle.rt_store.specs.Cells.{AreDistinct, position_of};
 ghost use Rattle.rt_store.specs.Written.{AreBelowNext};
 ghost use Rattle.rt_undo.specs.Actions.{action_of, group_of};
-ghost use Rattle.rt_revert.specs.Named.{AreAt, holds, is_named, named_by, named_in, stands_at};
+ghost use Rattle.rt_revert.specs.Named.{AreAt, has_position, is_named, named_by, named_in, stands_at};
 ghost use Rattle.rt_revert.specs.Plans.{AreUpTo};
 ghost use Rattle.rt_revert.specs.Portions.{only};
 
@@ -83,8 +83,8 @@ fn push_position<S: TextStore>(
     requires distinct { AreDistinct (S.list store.now) }
     requires older { AreBelowNext (newest.count - 1) (S.list store.now) }
     requires newest { (0 < newest.count) × (is_before FINAL newest ≡ true) }
-    ensures ok { OnOk result ((at : ℕ) → holds positions.new.items at
-        ≡ (holds positions.old.items at || stands_at (stamp ∷ []) (S.list store.now) at)) }
+    ensures ok { OnOk result ((at : ℕ) → has_position positions.new.items at
+        ≡ (has_position positions.old.items at || stands_at (stamp ∷ []) (S.list store.now) at)) }
     ensures err { IsOkUnless result Fault.NoMemory }
 {
     match position_of(store, newest, stamp) {
@@ -103,8 +103,8 @@ fn push_positions<S: TextStore>(
     requires distinct { AreDistinct (S.list store.now) }
     requires older { AreBelowNext (newest.count - 1) (S.list store.now) }
     requires newest { (0 < newest.count) × (is_before FINAL newest ≡ true) }
-    ensures ok { OnOk result ((at : ℕ) → holds positions.new.items at
-        ≡ (holds positions.old.items at || stands_at (stamps_of_span span) (S.list store.now) at)) }
+    ensures ok { OnOk result ((at : ℕ) → has_position positions.new.items at
+        ≡ (has_position positions.old.items at || stands_at (stamps_of_span span) (S.list store.now) at)) }
     ensures err { IsOkUnless result Fault.NoMemory }
 {
     for count in span.first..=span.last {
@@ -127,7 +127,7 @@ fn positions_of<S: TextStore>(
     requires distinct { AreDistinct (S.list store.now) }
     requires older { AreBelowNext (newest.count - 1) (S.list store.now) }
     requires newest { (0 < newest.count) × (is_before FINAL newest ≡ true) }
-    ensures ok { IfOk result (λ positions. (at : ℕ) → holds positions.items at
+    ensures ok { IfOk result (λ positions. (at : ℕ) → has_position positions.items at
         ≡ stands_at (FINAL ∷ stamps_in spans.now) (S.list store.now) at) }
     ensures err { IsOkUnless result Fault.NoMemory }
 {
@@ -142,7 +142,7 @@ fn positions_of<S: TextStore>(
 // Puts positions in order, each once.
 fn put_in_order(positions: &mut Vec<usize>)
     ensures rising { IsStrictlyIncreasing positions.new.items }
-    ensures same { (at : ℕ) → holds positions.new.items at ≡ holds positions.old.items at }
+    ensures same { (at : ℕ) → has_position positions.new.items at ≡ has_position positions.old.items at }
 {
     positions.sort_unstable();
     positions.dedup();

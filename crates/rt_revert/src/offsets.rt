@@ -6,7 +6,7 @@ ghost use Rattle.rt_store.specs.Cells.{stamps_of, visible_of};
 ghost use Rattle.rt_store.specs.Spans.{is_among};
 ghost use Rattle.rt_plans.specs.Removals.{AreInOrder, is_covered, stamps_at};
 ghost use Rattle.rt_revert.specs.Plans.{AreUpTo};
-ghost use Rattle.rt_revert.specs.Portions.{AreSmall, offset_behind, offset_of, place_in, whole_ranges};
+ghost use Rattle.rt_revert.specs.Portions.{AreSmall, offset_behind, offset_of, visible_before_stamp, whole_ranges};
 
 use crate::work::push_place;
 use rt_plans::Range;
@@ -18,7 +18,7 @@ use std::alloc::Global;
 
 // How many more visible characters stand before a stamp's cell in a text than in a copy.
 fn offset_in<S: TextStore, C: TextStore>(store: &S, copy: &C, stamp: Stamp) -> usize
-    ensures { result ≡ place_in (S.list store.now) stamp - place_in (C.list copy.now) stamp }
+    ensures { result ≡ visible_before_stamp (S.list store.now) stamp - visible_before_stamp (C.list copy.now) stamp }
 {
     let whole = store.place_of(stamp).unwrap_or(0);
     whole.saturating_sub(copy.place_of(stamp).unwrap_or(0))
@@ -34,7 +34,7 @@ pub(crate) fn offsets_of<S: TextStore, C: TextStore>(
     requires few { length (C.list copy.now) ≤ MOST_CELLS }
     requires older { AreUpTo GREATEST_COUNT (C.list copy.now) }
     ensures offsets { IfOk result (λ offsets. (s : Stamp) → is_among (stamps_of (C.list copy.now)) s ≡ true
-        → offset_of offsets s ≡ place_in (S.list store.now) s - place_in (C.list copy.now) s) }
+        → offset_of offsets s ≡ visible_before_stamp (S.list store.now) s - visible_before_stamp (C.list copy.now) s) }
     ensures small { IfOk result AreSmall }
     ensures err { IsOkUnless result Fault.NoMemory }
 {
@@ -61,7 +61,7 @@ pub(crate) fn offset_behind(offsets: &SpanMap<usize>, left: Stamp) -> usize
 fn whole_place<S: TextStore>(copy: &S, offsets: &SpanMap<usize>, stamp: Stamp) -> usize
     requires few { length (S.list copy.now) ≤ MOST_CELLS }
     requires small { AreSmall offsets.now }
-    ensures place { result ≡ place_in (S.list copy.now) stamp + offset_of offsets.now stamp }
+    ensures place { result ≡ visible_before_stamp (S.list copy.now) stamp + offset_of offsets.now stamp }
     ensures small { result ≤ 2 * MOST_CELLS }
 {
     let place = copy.place_of(stamp).unwrap_or(0);

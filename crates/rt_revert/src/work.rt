@@ -5,7 +5,7 @@ ghost use Rattle.rt_ops.specs.Operations.{stamps_in, stamps_of_span};
 ghost use Rattle.rt_store.specs.Cells.{AreDistinct, visible_of};
 ghost use Rattle.rt_plans.specs.declared.range.Range.{Range};
 ghost use Rattle.rt_plans.specs.Removals.{AreInOrder, is_covered};
-ghost use Rattle.rt_revert.specs.Planning.{is_behind, range_at, ranges_of, visible_place};
+ghost use Rattle.rt_revert.specs.Planning.{is_behind, range_at, ranges_of_visible, visible_place};
 ghost use Rattle.rt_revert.specs.Reverting.{are_at};
 
 use rt_plans::Range;
@@ -73,7 +73,7 @@ fn push_visible<S: TextStore>(store: &S, stamp: Stamp, ranges: &mut Vec<Range>) 
 fn push_places<S: TextStore>(store: &S, span: Span, ranges: &mut Vec<Range>) -> Result<(), Fault>
     requires few { length (S.list store.now) ≤ MOST_CELLS }
     ensures ok { OnOk result ((at : ℕ) → is_covered ranges.new.items at
-        ≡ (is_covered ranges.old.items at || is_covered (ranges_of (S.list store.now) (stamps_of_span span)) at)) }
+        ≡ (is_covered ranges.old.items at || is_covered (ranges_of_visible (S.list store.now) (stamps_of_span span)) at)) }
     ensures err { IsOkUnless result Fault.NoMemory }
 {
     for count in span.first..=span.last {
@@ -89,7 +89,7 @@ fn push_places<S: TextStore>(store: &S, span: Span, ranges: &mut Vec<Range>) -> 
 // The places of those of some characters that are visible, in the order of their stamps.
 fn places_of<S: TextStore>(alloc: Global, store: &S, spans: &[Span]) -> Result<Vec<Range>, Fault>
     requires few { length (S.list store.now) ≤ MOST_CELLS }
-    ensures ok { IfOk result (λ ranges. (at : ℕ) → is_covered ranges.items at ≡ is_covered (ranges_of (S.list store.now) (stamps_in spans.now)) at) }
+    ensures ok { IfOk result (λ ranges. (at : ℕ) → is_covered ranges.items at ≡ is_covered (ranges_of_visible (S.list store.now) (stamps_in spans.now)) at) }
     ensures err { IsOkUnless result Fault.NoMemory }
 {
     let mut ranges = Vec::new(alloc);

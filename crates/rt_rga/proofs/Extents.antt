@@ -15,7 +15,7 @@ use Rattle.rt_ops.specs.Operations.{Name}
 use Rattle.rt_ops.specs.Rules.{are_spans, is_within}
 use Rattle.rt_store.specs.Spans.{is_in_spans, last_stamp, precedes}
 use Rattle.rt_rga.specs.declared.extent.Extent.{Extent}
-use Rattle.rt_rga.specs.Extents.{IsAdded, covers, covers_under, extent_of, is_clear, joined, joined_clear, last_span, may_cover}
+use Rattle.rt_rga.specs.Extents.{IsAdded, covers, covers_under, extent_of, is_apart_from, joined_extents, joined_if_apart, last_span, may_cover}
 use Rattle.rt_rga.proofs.Skipping.{split}
 use Rattle.rt_tags.proofs.Places.{name_itself, same_name}
 
@@ -125,7 +125,7 @@ neither : (a b : Bool) → (not a && not b) ≡ true → (a ≡ false) × (b ≡
 neither a b h = (grind (arith, h), grind (arith, h))
 
 -- so two that are joined cover what one of them does
-in_both : (a b : Extent) (s : Stamp) → (covers a s || covers b s) ≡ true → covers (joined a b) s ≡ true
+in_both : (a b : Extent) (s : Stamp) → (covers a s || covers b s) ≡ true → covers (joined_extents a b) s ≡ true
 in_both a b s h = split (covers a s)
     (λ t. let out = neither (precedes s a.first) (precedes a.last s) t in
     λ i. not (not_before_one a.first b.first s (precedes b.first a.first) refl out.0 i) && not (not_after_one a.last b.last s (precedes a.last b.last) refl out.1 i))
@@ -146,31 +146,31 @@ not_both true q false false false false h f g = absurd (cc (f refl refl))
 not_both false true false false false false h f g = absurd (cc (g refl refl))
 not_both false false false false false false h f g = absurd (cc h)
 
--- no stamp is covered by two that are clear of each other
-disjoint : (a b : Extent) (s : Stamp) → is_clear a b ≡ true → (covers a s && covers b s) ≡ false
+-- no stamp is covered by two that are apart
+disjoint : (a b : Extent) (s : Stamp) → is_apart_from a b ≡ true → (covers a s && covers b s) ≡ false
 disjoint a b s h = not_both (precedes a.last b.first) (precedes b.last a.first) (precedes s a.first) (precedes a.last s) (precedes s b.first) (precedes b.last s) h
     (λ e k. passed a.last b.first s e k)
     (λ e k. passed b.last a.first s e k)
 
--- what is joined with another one that it is clear of, or stands alone
-pub both_clear : (a : Extent) (other : Option Extent) (both : Extent) → joined_clear a other ≡ Some both
+-- what is joined with another one that it is apart from, or stands alone
+pub both_clear : (a : Extent) (other : Option Extent) (both : Extent) → joined_if_apart a other ≡ Some both
     → ((s : Stamp) → (covers a s && may_cover other s) ≡ false) × ((s : Stamp) → (covers a s || may_cover other s) ≡ true → covers both s ≡ true)
 both_clear a None both e =
     (λ s. none (covers a s), λ s h. subst (λ (o : Option Extent). may_cover o s ≡ true) e (only (covers a s) h))
   where
     none : (b : Bool) → (b && false) ≡ false
     none b = grind arith
-both_clear a (Some b) both e = split (is_clear a b)
-    (λ t. let is : Some (joined a b) ≡ Some both = ap (λ c. if c then Some (joined a b) else None) (sym t) ∙ e in
+both_clear a (Some b) both e = split (is_apart_from a b)
+    (λ t. let is : Some (joined_extents a b) ≡ Some both = ap (λ c. if c then Some (joined_extents a b) else None) (sym t) ∙ e in
     (λ s. disjoint a b s t, λ s h. subst (λ (o : Option Extent). may_cover o s ≡ true) is (in_both a b s h)))
-    (λ f. absurd (cc (ap (λ c. if c then Some (joined a b) else None) (sym f) ∙ e)))
+    (λ f. absurd (cc (ap (λ c. if c then Some (joined_extents a b) else None) (sym f) ∙ e)))
 
 -- UNDER A NAME
 
 -- spans that an extent covers are added where that is put, with the one that was there, under their name
 pub put_there : {S : Type 0} (spans : List Span) (name : Name) (old new : IndexMap (Bor (List ℕ)) Extent S) (extent both : Extent)
     → ((s : Stamp) → is_in_spans spans s ≡ true → covers extent s ≡ true)
-    → joined_clear extent (get_by (λ key. bytes_eq name key.now) old) ≡ Some both
+    → joined_if_apart extent (get_by (λ key. bytes_eq name key.now) old) ≡ Some both
     → ((other : Name) → get_by (λ k. bytes_eq other k.now) new ≡ update bytes_eq (λ n. get_by (λ k. bytes_eq n k.now) old) name (Some both) other)
     → IsAdded spans name old new
 put_there spans name old new extent both within clear updates = record {

@@ -45,7 +45,7 @@ turn_back : (set xs ys : List Operation) → ContinueInTurn set (xs ++ ys) → C
 turn_back set [] ys h = h
 turn_back set (x ∷ xs) ys h = turn_back (with_operation x set) xs ys h.1
 
--- the same of operations that are the newest
+-- the first of some operations are the newest of a set, and so are the others after them
 newest_front : (set xs ys : List Operation) → AreNewest set (xs ++ ys) → AreNewest set xs
 newest_front set [] ys h = tt
 newest_front set (x ∷ xs) ys h = (h.0, newest_front (with_operation x set) xs ys h.1)

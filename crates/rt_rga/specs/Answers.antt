@@ -45,7 +45,7 @@ answer_to op set =
     else if not (list_all (is_known set op.body) (named op.body)) then Refused NotYet
     else New
 
--- The same of a site that keeps at most so many cells: TextFull where the cells of what is new would be more.
+-- The answer of a site that keeps at most so many cells: TextFull where the cells of what is new would be more.
 abbrev pub refused_if_full : Bool → Answer → Answer
 refused_if_full full New = if full then Refused TextFull else New
 refused_if_full full Repeat = Repeat

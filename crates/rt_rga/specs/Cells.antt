@@ -38,7 +38,7 @@ abbrev pub writes_on : List Operation → Stamp → List Write
 writes_on [] character = []
 writes_on (op ∷ older) character = writes_on older character ++ writes_by (stamp_of op) op.body character
 
--- the same with an Insert's tags under its own stamp
+-- what an operation writes on a character, with an Insert's tags under its own stamp
 abbrev pub stamped_writes_by : Stamp → Body → Stamp → List Write
 stamped_writes_by stamp body character = writes_under stamp stamp body character
 

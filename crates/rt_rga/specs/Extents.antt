@@ -23,29 +23,29 @@ extent_of (span ∷ spans) = Some (record { first = record { count = span.first;
 abbrev pub covers : Extent → Stamp → Bool
 covers extent stamp = not (precedes stamp extent.first) && not (precedes extent.last stamp)
 
--- so of an extent, if there is one
+-- there is an extent, and it covers the stamp
 abbrev pub may_cover : Option Extent → Stamp → Bool
 may_cover extent stamp = unwrap_or (option_map (λ extent. covers extent stamp) extent) false
 
--- so of what is kept under a name
+-- an extent is kept under the name, and it covers the stamp
 abbrev pub covers_under : {S : Type 0} → IndexMap (Bor (List ℕ)) Extent S → Name → Stamp → Bool
 covers_under extents name stamp = may_cover (get_by (λ key. bytes_eq name key.now) extents) stamp
 
 -- all of one comes before all of the other
-abbrev pub is_clear : Extent → Extent → Bool
-is_clear a b = precedes a.last b.first || precedes b.last a.first
+abbrev pub is_apart_from : Extent → Extent → Bool
+is_apart_from a b = precedes a.last b.first || precedes b.last a.first
 
 -- both, with what lies between
-abbrev pub joined : Extent → Extent → Extent
-joined a b = record {
+abbrev pub joined_extents : Extent → Extent → Extent
+joined_extents a b = record {
   first = if precedes b.first a.first then b.first else a.first;
   last = if precedes a.last b.last then b.last else a.last;
 }
 
--- joined with another one that it is clear of, if there is one
-abbrev pub joined_clear : Extent → Option Extent → Option Extent
-joined_clear a None = Some a
-joined_clear a (Some b) = if is_clear a b then Some (joined a b) else None
+-- the first alone, where there is no other; both joined, where they are apart; else none
+abbrev pub joined_if_apart : Extent → Option Extent → Option Extent
+joined_if_apart a None = Some a
+joined_if_apart a (Some b) = if is_apart_from a b then Some (joined_extents a b) else None
 
 -- The spans of a Tag are added to what is kept under its name, which covered none of their stamps; what was covered stays so.
 pub record IsAdded {S : Type 0} (spans : List Span) (name : Name) (old new : IndexMap (Bor (List ℕ)) Extent S) : Type 0 where

@@ -107,7 +107,7 @@ InTimeIsTaken =
     → ((op : Operation) → Has set op ↔ (Has first op ⊎ Has ops op)) → ComeInTime set first ops
     → all_taken ops first ≡ set
 
--- The same at a site that keeps at most so many cells, if the history has no more.
+-- So they do at a site that keeps at most so many cells, if the history has no more.
 abbrev pub InTimeIsTakenWithin : Type 0
 InTimeIsTakenWithin =
     (site limit : ℕ) (set first ops : List Operation) → IsHistory set → IsHistory first

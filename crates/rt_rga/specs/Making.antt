@@ -66,7 +66,7 @@ CanBePut stamp (Insert after tags text) new kept = IsPlaced kept after stamp × 
 CanBePut stamp (Delete spans) new kept = is_in_spans spans FINAL ≡ false
 CanBePut stamp (Tag on name spans) new kept = Unit {0}
 
--- the same of several, each after those before it
+-- a store may be asked for several operations, each after those before it
 abbrev pub CanAllBePut : List Operation → List (Cell ℕ) → List (Cell ℕ) → Type 0
 CanAllBePut [] new kept = Unit {0}
 CanAllBePut (op ∷ ops) new kept =

@@ -31,7 +31,7 @@ forest (suc depth) characters siblings = flat_map (λ c. c ∷ forest depth char
 abbrev pub reading : List Character → List Character
 reading characters = forest (length characters) characters (children characters ROOT)
 
--- The same as a relation: the reading of siblings is each, followed by the reading of its children.
+-- The reading as a relation: that of siblings is each, followed by the reading of its children.
 pub data ReadsSiblings (characters : List Character) : List Character → List Character → Type 0 where
   none : ReadsSiblings characters [] []
   next : {c : Character} {inner siblings rest : List Character} → ReadsSiblings characters (children characters c.stamp) inner
@@ -40,7 +40,7 @@ pub data ReadsSiblings (characters : List Character) : List Character → List C
 abbrev pub IsReading : List Character → List Character → Type 0
 IsReading characters list = ReadsSiblings characters (children characters ROOT) list
 
--- The same in one pass by rising stamp, as a child is greater than its left element: what stands below an element.
+-- The reading in one pass by rising stamp, as a child is greater than its left element: what stands below an element.
 abbrev pub descendants : List Character → Stamp → List Character
 descendants [] parent = []
 descendants (c ∷ greater) parent =

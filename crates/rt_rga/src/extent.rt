@@ -1,8 +1,8 @@
-// How far the spans of Tags go, to tell Tags of one tag that name one stamp from others.
+// From which stamp to which the spans of Tags go: so it is seen that no two Tags of one tag name one stamp.
 ghost use Rattle.std.specs.Prelude.{◌≡◌, if◌then◌else◌, true};
 ghost use Rattle.rt_ops.specs.Rules.{are_spans};
 ghost use Rattle.rt_store.specs.Spans.{precedes};
-ghost use Rattle.rt_rga.specs.Extents.{IsAdded, extent_of, is_clear, joined, joined_clear};
+ghost use Rattle.rt_rga.specs.Extents.{IsAdded, extent_of, is_apart_from, joined_extents, joined_if_apart};
 
 use indexmap::IndexMap;
 use rt_stamps::{Span, Stamp};
@@ -55,15 +55,15 @@ impl Extent {
     }
 
     // Whether all of it comes before all of another, or behind.
-    fn is_clear_of(self, other: Extent) -> bool
-        ensures { result ≡ is_clear self other }
+    fn is_apart_from(self, other: Extent) -> bool
+        ensures { result ≡ is_apart_from self other }
     {
         precedes(self.last, other.first) || precedes(other.last, self.first)
     }
 
     // With another, and with what lies between.
     fn with(self, other: Extent) -> Extent
-        ensures { result ≡ joined self other }
+        ensures { result ≡ joined_extents self other }
     {
         Extent {
             first: earlier(self.first, other.first),
@@ -71,22 +71,22 @@ impl Extent {
         }
     }
 
-    // Joined with another one, if there is one, that it is clear of; else none.
+    // Itself where there is no other one. Joined with another that it is apart from; none where it isn't.
     fn beside(self, other: Option<Extent>) -> Option<Extent>
-        ensures { result ≡ joined_clear self other }
+        ensures { result ≡ joined_if_apart self other }
     {
         let Some(other) = other else {
             return Some(self);
         };
-        if self.is_clear_of(other) {
+        if self.is_apart_from(other) {
             return Some(self.with(other));
         }
         None
     }
 }
 
-/// Adds the spans of a Tag to those of others of its name, and answers whether it did: not where they go in between those,
-/// nor for want of memory.
+/// Adds the spans of a Tag to those of others of its name, and answers whether it did. It doesn't where they lie neither
+/// before nor behind all of these, or for want of memory.
 pub(crate) fn add<'a>(
     extents: &mut IndexMap<&'a str, Extent>,
     name: &'a str,

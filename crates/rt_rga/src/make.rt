@@ -91,7 +91,7 @@ fn check_limits(last: u64, cells: usize, limit: usize, drafts: &[Draft]) -> Resu
 #[tactic(auto, using(crate::proofs::Requests::not_less))]
 fn all_stamped(
     alloc: Global,
-    site: u16,
+    site: u32,
     last: u64,
     prev: u64,
     drafts: Vec<Draft>,
@@ -120,7 +120,7 @@ fn all_stamped(
 #[tactic(auto, using(crate::proofs::Requests::not_less))]
 fn stamped_list(
     alloc: Global,
-    site: u16,
+    site: u32,
     last: u64,
     prev: u64,
     drafts: Vec<Draft>,
@@ -150,7 +150,7 @@ fn stamped_list(
 #[inline(always)]
 pub(crate) fn stamped(
     alloc: Global,
-    site: u16,
+    site: u32,
     last: u64,
     prev: u64,
     drafts: OneOrMany<Draft>,
@@ -423,7 +423,7 @@ pub(crate) fn push_few(log: &mut OpLog, clock: &mut Clock, ops: OneOrMany<Op>)
 #[inline(always)]
 pub(crate) fn prepared(
     alloc: Global,
-    site: u16,
+    site: u32,
     last: u64,
     prev: u64,
     cells: usize,

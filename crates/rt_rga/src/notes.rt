@@ -29,7 +29,8 @@ pub(crate) enum Notes {
     Off,
     /// What each of the newest operations changed, in the order in which they were made.
     Kept(Vec<Change>),
-    /// What was to be noted isn't known: memory was wanting, or an operation came that the replica didn't make.
+    /// What was to be noted isn't known. Memory was wanting, an operation came that the replica didn't make, or of several
+    /// that were made at once a Tag lay neither before nor behind all Tags of its tag that came after it.
     Lost,
 }
 

@@ -92,8 +92,9 @@ fn put_all_noting<S: TextStore>(
 }
 
 // Whether no two of some operations are Tags of one tag that name one stamp. It may say no for want of memory, and where
-// spans of one lie between those of the Tags behind it: what edits make doesn't, as of their Tags of one tag the stamps
-// rise, but for one of the last newline, which is older than what comes in and stands before it.
+// a Tag lies neither before nor behind all Tags of its tag that come after it. Those of edits rise from Tag to Tag, but
+// for the one that takes a tag off the last newline: it comes first, and its stamp is older than what comes in, so it lies
+// before all of that, or behind where its site has a greater number.
 fn are_disjoint(alloc: Global, ops: &[Op]) -> bool
     ensures { result ≡ true → AreDisjoint ops.now }
 {

@@ -311,7 +311,7 @@ impl<S: TextStore> Replica<S> {
 
     // Makes operations of drafts, as `make` does.
     #[inline(always)]
-    fn commit_few(&mut self, drafts: OneOrMany<Draft>) -> Result<(), Fault>
+    fn commit_one_or_many(&mut self, drafts: OneOrMany<Draft>) -> Result<(), Fault>
         requires { MayBeMade self.old.site self.old.log (map body_of (items_in drafts)) }
         ensures { Makes (map body_of (items_in drafts)) self.old self.new result }
     {
@@ -331,8 +331,8 @@ impl<S: TextStore> Replica<S> {
         // What is done for a draft is compiled once for a single one, as typing makes it, without the steps of a list; and into
         // its callers, which know mostly whether it is one.
         match drafts {
-            OneOrMany::One(draft) => self.commit_few(OneOrMany::One(draft)),
-            OneOrMany::Many(drafts) => self.commit_few(OneOrMany::Many(drafts)),
+            OneOrMany::One(draft) => self.commit_one_or_many(OneOrMany::One(draft)),
+            OneOrMany::Many(drafts) => self.commit_one_or_many(OneOrMany::Many(drafts)),
         }
     }
 

@@ -4,6 +4,7 @@ pub mod EndsLaws
 pub mod FilesStay
 pub mod Indexed
 pub mod Items
+pub mod KnownCounts
 pub mod LinesLaws
 pub mod Living
 pub mod OneOutput

@@ -13,7 +13,7 @@ pub reply_words : {T : Type 0} (a b : Stream) (r : Result T Fault) (ws : List (S
     → WritesText a b r (61 ∷ flat_map (λ w. 32 ∷ text_of_word w) (as_words ws))
 reply_words a b r ws h = subst (λ v. WritesText a b r (61 ∷ v)) (sym (flat_map-map (λ w. 32 ∷ text_of_word w) (λ w. string_bytes w) ws)) h
 
--- the same of words that were put behind bytes
+-- the words of a reply that were put behind bytes, as texts and as bytes
 pub pushed_words : (old new : List ℕ) (r : Option (Unit {0})) (ws : List (String Global)) → IfSome r (λ _. new ≡ old ++ ((61 ∷ flat_map (λ w. 32 ∷ text_of_word (string_bytes w)) ws) ++ (10 ∷ [])))
     → IfSome r (λ _. new ≡ old ++ ((61 ∷ flat_map (λ w. 32 ∷ text_of_word w) (as_words ws)) ++ (10 ∷ [])))
 pushed_words old new r ws h =

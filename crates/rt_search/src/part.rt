@@ -38,14 +38,6 @@ impl<'a, S: TextStore> Part<'a, S> {
         Part { store, stretch }
     }
 
-    /// All of a text.
-    pub fn whole(store: &'a S) -> Part<'a, S>
-        ensures { result ≡ text_of (S.list store.now) }
-    {
-        let end = store.visible();
-        Part::of(store, Stretch { begin: 0, end })
-    }
-
     /// How many characters it has.
     pub fn len(&self) -> usize
         ensures { result ≡ length self.now }

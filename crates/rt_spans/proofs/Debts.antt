@@ -31,7 +31,7 @@ splits_at place blocks middle h = by (place + 1 == blocks) refl h where
   by true e k = record { low = omega (arith, k); high = omega (arith, k); where_it_is = inl (grind (arith, nat_tests)) }
   by false e k = record { low = omega (arith, k); high = omega (arith, k); where_it_is = inr k }
 
--- the same, seen from behind the first block
+-- where a block is split, seen from behind the first block
 behind_first : (i n m : ℕ) → SplitsAt (suc i) (suc (suc n)) m → SplitsAt i (suc n) m
 behind_first i n m s = record {
   low = s.low;

@@ -46,7 +46,7 @@ part_failed (Some xs) None c n text h k = absurd h
 part_failed (Some xs) (Some ys) None n text h k = k
 part_failed (Some xs) (Some ys) (Some zs) n text h k = (take n text, drop n text, sym (take-append-drop n text), k ∙ h)
 
--- the same, and a write that took nothing
+-- a front of a text, by its length, and a write that took nothing
 pub part_taken : (a b c : Option (List ℕ)) (n : ℕ) (text : List ℕ) → Appends a b (take n text) → Appends b c [] → AppendsPart a c text
 part_taken None b c n text h k = tt
 part_taken (Some xs) None c n text h k = absurd h

@@ -11,7 +11,7 @@ use Rattle.rt_stamps.specs.declared.limits.TheConstants.{MOST_NAME_BYTES}
 abbrev pub IsName : List ℕ → Type 0
 IsName name = (1 ≤ length name) × (length name ≤ MOST_NAME_BYTES)
 
--- the same, decided: a number of bytes that a name may have
+-- a number of bytes that a name may have
 abbrev pub is_name_length : ℕ → Bool
 is_name_length bytes = nat_le 1 bytes && nat_le bytes MOST_NAME_BYTES
 

@@ -6,7 +6,7 @@ ghost use Rattle.rt_stamps.specs.Streams.{FILE_BOUNDS};
 pub const GREATEST_COUNT: u64 = 0xffff_ffff_ffff;
 
 /// The greatest number of a site.
-pub const GREATEST_SITE: u16 = 0xffff;
+pub const GREATEST_SITE: u32 = 0xffff_ffff;
 
 /// The most cells of a site, the final newline and tombstones included, 2^31 - 1.
 pub const MOST_CELLS: usize = 0x7fff_ffff;
@@ -18,13 +18,10 @@ pub const MOST_NAME_BYTES: usize = 255;
 pub const MOST_CHARACTERS: usize = 65_535;
 
 /// The most tags that an Insert lists.
-pub const MOST_TAGS: usize = 64;
+pub const MOST_TAGS: usize = 255;
 
 /// The most spans of a Delete or a Tag.
 pub const MOST_SPANS: usize = 65_536;
-
-/// The fewest bytes of a record of a file, its length field not counted.
-pub const FEWEST_RECORD_BYTES: usize = 19;
 
 /// The most bytes of a record of a file, its length field not counted.
 pub const MOST_RECORD_BYTES: usize = 2_097_152;

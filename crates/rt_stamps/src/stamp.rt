@@ -5,13 +5,13 @@ ghost use Rattle.rt_stamps.specs.Spans.{span_of};
 /// A site, whose number is 1 or more.
 #[derive(Clone, Copy, Debug, PartialEq, Eq, PartialOrd, Ord)]
 pub struct Site {
-    number: u16,
+    number: u32,
     pub ghost positive: { 0 < number },
 }
 
 impl Site {
-    /// The site of a number from 1 to 65,535; none for 0.
-    pub fn new(number: u16) -> Option<Site>
+    /// The site of a number from 1 to 4,294,967,295; none for 0.
+    pub fn new(number: u32) -> Option<Site>
         ensures some { IsSome result ↔ (0 < number) }
         ensures value { IfSome result (λ site. site.number ≡ number) }
     {
@@ -23,7 +23,7 @@ impl Site {
     }
 
     /// The site's number.
-    pub fn number(self) -> u16
+    pub fn number(self) -> u32
         ensures value { result ≡ self.number }
         ensures positive { 0 < result }
     {
@@ -38,7 +38,7 @@ pub struct Stamp {
     /// From 1 to `GREATEST_COUNT`; 0 at `ROOT` alone.
     pub count: u64,
     /// From 1 up; 0 at `ROOT` and `FINAL` alone.
-    pub site: u16,
+    pub site: u32,
 }
 
 /// The left element of a character at the very beginning. It is no character.
@@ -50,7 +50,7 @@ pub const FINAL: Stamp = Stamp { count: 1, site: 0 };
 /// The stamps of one site from a first count to a last one, both included.
 #[derive(Clone, Copy, Debug, PartialEq, Eq)]
 pub struct Span {
-    pub site: u16,
+    pub site: u32,
     pub first: u64,
     pub last: u64,
 }

@@ -5,7 +5,7 @@ use Rattle.std.specs.List.{All, range_with_len}
 use Rattle.std.specs.Result.{result_err, result_unwrap_or}
 use Rattle.std.proofs.lemmas.List.{append-nil}
 use Rattle.std.proofs.lemmas.List.Elements.{All-append, All-nil, All-weaker, filter_passes}
-use Rattle.rt_tagcmd.specs.declared.stretch.Stretch.{Stretch}
+use Rattle.rt_tagcmd.specs.declared.stretch.DumpStretch.{DumpStretch}
 use Rattle.rt_tagcmd.specs.Dumping.{dumped, elements_between, stop_of}
 use Rattle.rt_tagcmd.specs.Elements.{Placed, answered, by_place, places_between, is_at_place, text_values}
 use Rattle.rt_tagcmd.specs.Stretches.{AreGathered, IsSortOf, within}
@@ -20,7 +20,7 @@ use Rattle.rt_text.specs.Index.{index_check}
 use Rattle.rt_text.specs.Widgets.{ViewValue, text_shown, widget_of}
 
 -- the stretch of a dump, in a text of n characters
-abbrev pub stretch_at : ℕ → ℕ → ℕ → Stretch
+abbrev pub stretch_at : ℕ → ℕ → ℕ → DumpStretch
 stretch_at n from to = record { from = from; behind = cond (to == n) (to + 1) to }
 
 goes_far : (b : Bool) (to : ℕ) → to ≤ cond b (to + 1) to

@@ -3,28 +3,28 @@ use Rattle.std.proofs.Common.{◌≡◌, ℕ, ◌+◌, ◌-◌, ◌<◌, ◌≤�
 use Rattle.std.specs.List.{All, range_with_len}
 use Rattle.std.proofs.lemmas.List.Elements.{All-append, All-weaker, filter-append, filter_passes}
 use Rattle.std.proofs.lemmas.List.Sorted.{All-permutation}
-use Rattle.rt_tagcmd.specs.declared.stretch.Stretch.{Stretch}
+use Rattle.rt_tagcmd.specs.declared.stretch.DumpStretch.{DumpStretch}
 use Rattle.rt_tagcmd.specs.Elements.{Placed, by_place, is_at_place}
 use Rattle.rt_tagcmd.specs.Stretches.{AreGathered, IsSortOf, is_in_stretch, within}
 use Rattle.rt_tagcmd.proofs.Bools.{between, is_between, split}
 use Rattle.rt_tagcmd.proofs.Placing.{at_is, elsewhere, same_places, spread}
 
-abbrev pub IsInside : Stretch → Placed → Type 0
+abbrev pub IsInside : DumpStretch → Placed → Type 0
 IsInside s e = (s.from ≤ e.place) × (e.place < s.behind)
 
 -- WHAT STANDS AT A PLACE OF THE STRETCH
 
-kept : (s : Stretch) (e : Placed) (es : List Placed) → is_in_stretch s e.place ≡ true → within s (e ∷ es) ≡ e ∷ within s es
+kept : (s : DumpStretch) (e : Placed) (es : List Placed) → is_in_stretch s e.place ≡ true → within s (e ∷ es) ≡ e ∷ within s es
 kept s e es t = ap (λ b. cond b (e ∷ within s es) (within s es)) t
 
-left : (s : Stretch) (e : Placed) (es : List Placed) → is_in_stretch s e.place ≡ false → within s (e ∷ es) ≡ within s es
+left : (s : DumpStretch) (e : Placed) (es : List Placed) → is_in_stretch s e.place ≡ false → within s (e ∷ es) ≡ within s es
 left s e es f = ap (λ b. cond b (e ∷ within s es) (within s es)) f
 
 clash : (b : Bool) → b ≡ true → b ≡ false → ⊥
 clash true h k = cc
 clash false h k = cc
 
-same_within : (s : Stretch) (p : ℕ) (es : List Placed) → is_in_stretch s p ≡ true → filter (is_at_place p) (within s es) ≡ filter (is_at_place p) es
+same_within : (s : DumpStretch) (p : ℕ) (es : List Placed) → is_in_stretch s p ≡ true → filter (is_at_place p) (within s es) ≡ filter (is_at_place p) es
 same_within s p [] h = refl
 same_within s p (e ∷ es) h =
     let more = same_within s p es h in
@@ -39,7 +39,7 @@ same_within s p (e ∷ es) h =
 -- GATHERED
 
 -- elements of the stretch, put in order
-pub sorted : (s : Stretch) (all xs ys : List Placed) → xs ≡ within s all → IsSortOf xs ys → AreGathered s all ys
+pub sorted : (s : DumpStretch) (all xs ys : List Placed) → xs ≡ within s all → IsSortOf xs ys → AreGathered s all ys
 sorted s all xs ys e o = record {
   inside = All-permutation (IsInside s) xs ys o.permuted (subst (All (IsInside s)) (sym e) (All-weaker (λ x. is_in_stretch s x.place ≡ true) (IsInside s) (λ x t. between s.from s.behind x.place t) (within s all) (filter_passes (λ x. is_in_stretch s x.place) all)));
   rise = o.rise;
@@ -47,7 +47,7 @@ sorted s all xs ys e o = record {
 }
 
 -- and more elements of the stretch, put in order with them
-pub with_more : (s : Stretch) (all xs more ys : List Placed) → AreGathered s all xs → All (IsInside s) more → IsSortOf (xs ++ more) ys → AreGathered s (all ++ more) ys
+pub with_more : (s : DumpStretch) (all xs more ys : List Placed) → AreGathered s all xs → All (IsInside s) more → IsSortOf (xs ++ more) ys → AreGathered s (all ++ more) ys
 with_more s all xs more ys g i o = record {
   inside = All-permutation (IsInside s) (xs ++ more) ys o.permuted (All-append (IsInside s) xs more g.inside i);
   rise = o.rise;
@@ -55,7 +55,7 @@ with_more s all xs more ys g i o = record {
 }
 
 -- they are the elements of the stretch place by place
-pub gathered : (s : Stretch) (all ys : List Placed) → AreGathered s all ys → ys ≡ by_place (range_with_len s.from (s.behind - s.from)) all
+pub gathered : (s : DumpStretch) (all ys : List Placed) → AreGathered s all ys → ys ≡ by_place (range_with_len s.from (s.behind - s.from)) all
 gathered s all ys g =
     let n = s.behind - s.from in
     spread n s.from ys g.rise (All-weaker (IsInside s) (λ e. s.from ≤ e.place) (λ e i. i.0) ys g.inside) (All-weaker (IsInside s) (λ e. e.place < s.from + n) (λ e i. high e i) ys g.inside)

@@ -1,6 +1,6 @@
 -- Elements of a stretch, one behind the other, and as they are answered.
 use Rattle.std.proofs.Common.{◌≡◌, ℕ, List, [], ◌∷◌, ◌++◌, map, filter, flat_map, refl, sym, ap, ◌∙◌, Bool, cond}
-use Rattle.rt_tagcmd.specs.declared.stretch.Stretch.{Stretch}
+use Rattle.rt_tagcmd.specs.declared.stretch.DumpStretch.{DumpStretch}
 use Rattle.rt_tagcmd.specs.Elements.{Element, Placed, answered}
 use Rattle.rt_tagcmd.specs.Stretches.{is_in_stretch, within}
 use Rattle.rt_tagcmd.proofs.Bools.{split}
@@ -12,11 +12,11 @@ pub flat_over : {X Y : Type 0} (f : Y → List Placed) (g : X → Y) (xs : List 
 flat_over f g [] = refl
 flat_over f g (x ∷ xs) = ap (λ v. f (g x) ++ v) (flat_over f g xs)
 
-abbrev makes : (s : Stretch) {X : Type 0} (f : X → Placed) → X → Bool
+abbrev makes : (s : DumpStretch) {X : Type 0} (f : X → Placed) → X → Bool
 makes s f x = is_in_stretch s (f x).place
 
 -- the elements of a stretch, made of what stands in it
-pub within_made : (s : Stretch) {X : Type 0} (f : X → Placed) (xs : List X) → map f (filter (λ x. is_in_stretch s (f x).place) xs) ≡ within s (map f xs)
+pub within_made : (s : DumpStretch) {X : Type 0} (f : X → Placed) (xs : List X) → map f (filter (λ x. is_in_stretch s (f x).place) xs) ≡ within s (map f xs)
 within_made s f [] = refl
 within_made s f (x ∷ xs) =
     let more = within_made s f xs in

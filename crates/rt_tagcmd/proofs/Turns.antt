@@ -6,7 +6,7 @@ use Rattle.std.proofs.lemmas.List.{append_assoc, drop-drop}
 use Rattle.rt_plans.specs.declared.range.Range.{Range}
 use Rattle.rt_store.specs.Tagged.{IsLeastFrom, Passes}
 use Rattle.rt_tagcmd.specs.TagRanges.{ranges_from, with_place_before}
-use Rattle.rt_tagcmd.specs.declared.stretch.Stretch.{Stretch}
+use Rattle.rt_tagcmd.specs.declared.stretch.DumpStretch.{DumpStretch}
 use Rattle.rt_tagcmd.specs.Stretches.{RunsTo, is_in_stretch}
 use Rattle.rt_tagcmd.proofs.Bools.{between, split}
 
@@ -182,17 +182,17 @@ turned way test is was now p (c ∷ cs) e =
 
 -- THOSE OF A STRETCH
 
-abbrev pub kept : Stretch → List ℕ → List ℕ
+abbrev pub kept : DumpStretch → List ℕ → List ℕ
 kept s ps = filter (is_in_stretch s) ps
 
-outside : (s : Stretch) (p : ℕ) → (s.from ≤ p → p < s.behind → ⊥) → is_in_stretch s p ≡ false
+outside : (s : DumpStretch) (p : ℕ) → (s.from ≤ p → p < s.behind → ⊥) → is_in_stretch s p ≡ false
 outside s p n = split (is_in_stretch s p) (λ t. let h = between s.from s.behind p t in absurd (n h.0 h.1)) (λ f. f)
 
-kept_out : (s : Stretch) (b : Bool) (p : ℕ) (rest : List ℕ) → is_in_stretch s p ≡ false → kept s (put b p rest) ≡ kept s rest
+kept_out : (s : DumpStretch) (b : Bool) (p : ℕ) (rest : List ℕ) → is_in_stretch s p ≡ false → kept s (put b p rest) ≡ kept s rest
 kept_out s true p rest f = ap (λ t. cond t (p ∷ kept s rest) (kept s rest)) f
 kept_out s false p rest f = refl
 
-kept_put : (s : Stretch) (b : Bool) (p : ℕ) (rest : List ℕ) → kept s (put b p rest) ≡ kept s (put b p []) ++ kept s rest
+kept_put : (s : DumpStretch) (b : Bool) (p : ℕ) (rest : List ℕ) → kept s (put b p rest) ≡ kept s (put b p []) ++ kept s rest
 kept_put s true p rest = by (is_in_stretch s p)
   where
     by : (t : Bool) → cond t (p ∷ kept s rest) (kept s rest) ≡ cond t (p ∷ []) [] ++ kept s rest
@@ -201,12 +201,12 @@ kept_put s true p rest = by (is_in_stretch s p)
 kept_put s false p rest = refl
 
 -- none is behind it
-late : {A : Type 0} (way : Bool → Bool → Bool) (test : A → Bool) (s : Stretch) (b : Bool) (p : ℕ) (cs : List A) → s.behind ≤ p → kept s (turns way test b p cs) ≡ []
+late : {A : Type 0} (way : Bool → Bool → Bool) (test : A → Bool) (s : DumpStretch) (b : Bool) (p : ℕ) (cs : List A) → s.behind ≤ p → kept s (turns way test b p cs) ≡ []
 late way test s b p [] l = kept_out s (way b false) p [] (outside s p (λ m n. omega arith))
 late way test s b p (c ∷ cs) l = kept_out s (way b (test c)) p (turns way test (test c) (p + 1) cs) (outside s p (λ m n. omega arith)) ∙ late way test s (test c) (p + 1) cs (omega arith)
 
 -- nor before it
-early : {A : Type 0} (way : Bool → Bool → Bool) (test : A → Bool) (s : Stretch) (a b : Bool) (n p q : ℕ) (cs : List A) → q ≡ p + n → q < s.from
+early : {A : Type 0} (way : Bool → Bool → Bool) (test : A → Bool) (s : DumpStretch) (a b : Bool) (n p q : ℕ) (cs : List A) → q ≡ p + n → q < s.from
     → kept s (turns way test a p cs) ≡ kept s (turns way test b q (drop n cs))
 early way test s a b zero p q [] e l = kept_out s (way a false) p [] (outside s p (λ m n. omega arith)) ∙ sym (kept_out s (way b false) q [] (outside s q (λ m n. omega arith)))
 early way test s a b zero p q (c ∷ cs) e l =
@@ -224,7 +224,7 @@ early way test s a b (suc n) p q (c ∷ cs) e l =
 abbrev pub from_place : {A : Type 0} → (Bool → Bool → Bool) → (A → Bool) → List A → ℕ → List ℕ
 from_place way test cs p = turns way test false p (drop p cs)
 
-pub first_kept : {A : Type 0} (way : Bool → Bool → Bool) (test : A → Bool) (s : Stretch) (p : ℕ) (cs : List A) → p ≡ s.from - 1 → kept s (turns way test false 0 cs) ≡ kept s (from_place way test cs p)
+pub first_kept : {A : Type 0} (way : Bool → Bool → Bool) (test : A → Bool) (s : DumpStretch) (p : ℕ) (cs : List A) → p ≡ s.from - 1 → kept s (turns way test false 0 cs) ≡ kept s (from_place way test cs p)
 first_kept way test s zero cs e = refl
 first_kept way test s (suc p) cs e = early way test s false false (suc p) 0 (suc p) cs (omega arith) (omega arith)
 
@@ -236,7 +236,7 @@ along way test is b p q cs l h =
     ∙ (let same : p + (q - p) ≡ q = omega arith in ap (λ n. turns way test b q (drop n cs)) same)
 
 -- nothing is left where no character passes up to the stretch's end
-pub none_left : {A : Type 0} (way : Bool → Bool → Bool) (test : A → Bool) (is : IsTurn way) (s : Stretch) (p : ℕ) (cs : List A)
+pub none_left : {A : Type 0} (way : Bool → Bool → Bool) (test : A → Bool) (is : IsTurn way) (s : DumpStretch) (p : ℕ) (cs : List A)
     → ((k : ℕ) → p ≤ k → k < s.behind → Passes test cs k → ⊥) → kept s (from_place way test cs p) ≡ []
 none_left way test is s p cs h = elim (cases_lt p s.behind) [
   | inl l ↦ ap (kept s) (along way test is false p s.behind cs (omega arith) (λ k m n. failing test cs k (h k m n))) ∙ late way test s false s.behind (drop s.behind cs) (omega arith)
@@ -244,7 +244,7 @@ none_left way test is s p cs h = elim (cases_lt p s.behind) [
 ]
 
 -- up to the next range, and past it as far as the stretch goes
-pub range_more : {A : Type 0} (way : Bool → Bool → Bool) (test : A → Bool) (is : IsTurn way) (s : Stretch) (p begin end : ℕ) (cs : List A)
+pub range_more : {A : Type 0} (way : Bool → Bool → Bool) (test : A → Bool) (is : IsTurn way) (s : DumpStretch) (p begin end : ℕ) (cs : List A)
     → IsLeastFrom test cs p begin → RunsTo test cs begin end s.behind
     → kept s (from_place way test cs p) ≡ (kept s (put (way false true) begin []) ++ kept s (put (way true false) end [])) ++ kept s (from_place way test cs end)
 range_more way test is s p begin end cs h r =

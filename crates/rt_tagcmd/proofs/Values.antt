@@ -10,7 +10,7 @@ use Rattle.std.proofs.lemmas.Bool.{cases_lt}
 use Rattle.std.proofs.lemmas.Str.{encodes-append}
 use Rattle.std.proofs.lemmas.Map.Views.{any-filter_same}
 use Rattle.rt_tagcmd.specs.declared.element.Key.TheVariants.{Text}
-use Rattle.rt_tagcmd.specs.declared.stretch.Stretch.{Stretch}
+use Rattle.rt_tagcmd.specs.declared.stretch.DumpStretch.{DumpStretch}
 use Rattle.rt_tagcmd.specs.Elements.{Placed, ends_text, placed, is_at_place, text_values, values_up_to}
 use Rattle.rt_tagcmd.specs.Stretches.{AreGathered, EndsWhere}
 use Rattle.rt_tagcmd.proofs.Bools.{split}
@@ -89,7 +89,7 @@ any_at : (p : ℕ) (xs : List Placed) → list_any (is_at_place p) (filter (is_a
 any_at p xs = any-filter_same (is_at_place p) (is_at_place p) true (λ k t. t) xs
 
 -- so the elements of the stretch cut its text as all do
-pub values_same : (s : Stretch) (text : List ℕ) (all others : List Placed) (from to : ℕ) → s.from ≤ from → to ≤ s.behind → AreGathered s all others → text_values text others from to ≡ text_values text all from to
+pub values_same : (s : DumpStretch) (text : List ℕ) (all others : List Placed) (from to : ℕ) → s.from ≤ from → to ≤ s.behind → AreGathered s all others → text_values text others from to ≡ text_values text all from to
 values_same s text all others from to low high g =
     ap (values_up_to text from) (filter_same (ends_text text others to) (ends_text text all to) (to - from) (from + 1) (λ k l h. same k l h (k == to) refl))
   where

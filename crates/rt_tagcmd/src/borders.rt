@@ -7,7 +7,7 @@ ghost use Rattle.rt_text.specs.Widgets.{is_tagged, cells_shown};
 
 use crate::Key;
 use crate::placed::Placed;
-use crate::stretch::Stretch;
+use crate::stretch::DumpStretch;
 use rt_stamps::Fault;
 use rt_store::TextStore;
 use rt_text::ViewRef;
@@ -44,7 +44,7 @@ fn end_within<S: TextStore>(view: &ViewRef<'_, S>, name: &str, begin: usize, beh
 fn push_tag<S: TextStore>(
     alloc: Global,
     view: &ViewRef<'_, S>,
-    stretch: Stretch,
+    stretch: DumpStretch,
     name: &str,
     ends: &mut Vec<Placed>,
     starts: &mut Vec<Placed>,
@@ -68,7 +68,7 @@ fn push_tag<S: TextStore>(
 pub(crate) fn borders<S: TextStore>(
     alloc: Global,
     view: &ViewRef<'_, S>,
-    stretch: Stretch,
+    stretch: DumpStretch,
 ) -> Result<Vec<Placed>, Fault>
     ensures ok { IfOk result (λ all. all.items ≡ within stretch (tagoffs view.now) ++ within stretch (tagons view.now)) }
     ensures err { IsOkUnless result Fault.NoMemory }

@@ -4,7 +4,7 @@ ghost use Rattle.rt_tagcmd.specs.Dumping.{marks_standing};
 ghost use Rattle.rt_tagcmd.specs.Stretches.{within};
 
 use crate::placed::Placed;
-use crate::stretch::Stretch;
+use crate::stretch::DumpStretch;
 use crate::{Key, marks_between};
 use rt_stamps::Fault;
 use rt_store::TextStore;
@@ -15,7 +15,7 @@ use std::alloc::Global;
 pub(crate) fn push_marks<S: TextStore>(
     alloc: Global,
     view: &ViewRef<'_, S>,
-    stretch: Stretch,
+    stretch: DumpStretch,
     elements: &mut Vec<Placed>,
 ) -> Result<(), Fault>
     ensures ok { OnOk result (elements.new.items ≡ elements.old.items ++ within stretch (marks_standing view.now)) }

@@ -11,7 +11,7 @@ use crate::borders::borders;
 use crate::dumped_marks::push_marks;
 use crate::element_order::sort;
 use crate::placed::Placed;
-use crate::stretch::Stretch;
+use crate::stretch::DumpStretch;
 use crate::texts::texts_in;
 use crate::{Element, shown};
 use rt_requests::Kinds;
@@ -40,14 +40,14 @@ fn stop_of<S: TextStore>(
 }
 
 /// The stretch from one place up to before another, with the text's end where the other is that.
-fn stretch_of<S: TextStore>(view: &ViewRef<'_, S>, from: usize, to: usize) -> Stretch
+fn stretch_of<S: TextStore>(view: &ViewRef<'_, S>, from: usize, to: usize) -> DumpStretch
     requires { to ≤ length_shown view.now }
     ensures { result ≡ record { from = from; behind = if to == length_shown view.now then to + 1 else to } }
 {
     // For its clauses alone.
     let _ = view.store();
     let behind = if to == view.visible() { to + 1 } else { to };
-    Stretch { from, behind }
+    DumpStretch { from, behind }
 }
 
 /// The elements of a stretch that are asked for and aren't text, of one kind after the other.
@@ -55,7 +55,7 @@ fn others_in<S: TextStore>(
     alloc: Global,
     view: &ViewRef<'_, S>,
     kinds: Kinds,
-    stretch: Stretch,
+    stretch: DumpStretch,
 ) -> Result<Vec<Placed>, Fault>
     ensures ok { IfOk result (λ others. others.items ≡ within stretch (others_asked view.now kinds)) }
     ensures err { IsOkUnless result Fault.NoMemory }

@@ -44,7 +44,7 @@ fn look<'a, S: TextStore>(view: &ViewRef<'a, S>, word: &str) -> Result<Spot<'a>,
 }
 
 /// The name of the mark at a spot, if there is one.
-fn name_of<'a>(mark: Option<Spot<'a>>) -> Option<&'a str>
+fn found_name<'a>(mark: Option<Spot<'a>>) -> Option<&'a str>
     ensures { option_copied result ≡ found_name (option_map spotted mark.entry) }
 {
     Some(mark?.name)
@@ -63,7 +63,7 @@ pub fn mark_next<'a, S: TextStore>(
 {
     order(view);
     let here = look(view, word)?;
-    Ok(name_of(first_after(view, &here)))
+    Ok(found_name(first_after(view, &here)))
 }
 
 /// `mark previous WORD` (Tk text manual): the name of the mark before the one that the word names, in
@@ -79,5 +79,5 @@ pub fn mark_previous<'a, S: TextStore>(
 {
     order(view);
     let here = look(view, word)?;
-    Ok(name_of(last_before(view, &here)))
+    Ok(found_name(last_before(view, &here)))
 }

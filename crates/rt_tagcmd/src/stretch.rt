@@ -10,12 +10,12 @@ use std::alloc::Global;
 
 /// The places from one up to before another.
 #[derive(Clone, Copy)]
-pub(crate) struct Stretch {
+pub(crate) struct DumpStretch {
     pub(crate) from: usize,
     pub(crate) behind: usize,
 }
 
-impl Stretch {
+impl DumpStretch {
     /// Whether a place is in it.
     pub(crate) fn has(&self, place: usize) -> bool
         ensures { result ≡ is_in_stretch self.now place }

@@ -8,7 +8,7 @@ use std::test::Fail;
 #[derive(Clone, Copy)]
 enum Asked {
     /// A run by a site, with the log and OUT where they are given, and the files.
-    Run(u16, Option<&'static str>, Option<&'static str>, &'static [&'static str]),
+    Run(u32, Option<&'static str>, Option<&'static str>, &'static [&'static str]),
     Join(&'static str, &'static str, &'static str),
     Show(&'static str),
     Refused(u8),
@@ -72,8 +72,8 @@ const LINES: &[Row] = &[
     ("peertext run --site 7", Asked::Run(7, None, None, &[])),
     ("peertext run --site 1", Asked::Run(1, None, None, &[])),
     (
-        "peertext run --site=65535",
-        Asked::Run(65535, None, None, &[]),
+        "peertext run --site=4294967295",
+        Asked::Run(4294967295, None, None, &[]),
     ),
     (
         "peertext run --site 7 --log a",
@@ -130,7 +130,7 @@ const LINES: &[Row] = &[
     ("peertext show a b", Asked::Refused(2)),
     ("peertext show --site 7", Asked::Refused(2)),
     ("peertext run --site 0", Asked::Refused(2)),
-    ("peertext run --site 65536", Asked::Refused(2)),
+    ("peertext run --site 4294967296", Asked::Refused(2)),
     ("peertext run --site x", Asked::Refused(2)),
     ("peertext run --site -7", Asked::Refused(2)),
     ("peertext run --site", Asked::Refused(2)),

@@ -11,6 +11,7 @@ use rt_stamps::limits::MOST_BYTES;
 use rt_stamps::std_ends::{Count, Reader, Writer};
 use std::alloc::Global;
 use std::marker::Brand;
+use std::process::Abort;
 use std::sync::ledger::{Blank, Ledger};
 use std::test::Fail;
 
@@ -87,6 +88,23 @@ fn reading_of(alloc: Global, bytes: &[u8]) -> Result<Reading, Fault> {
 fn log_of(alloc: Global, bytes: &[u8]) -> Result<OpLog, Fault> {
     let Reading { ops, .. } = reading_of(alloc, bytes)?;
     OpLog::from_ops(alloc, ops).map_err(|refused| refused.fault)
+}
+
+/// Stops a test where the file of a log begins otherwise, or isn't read as its operations.
+pub(crate) fn comes_back(
+    rt: &impl Abort,
+    alloc: Global,
+    log: &OpLog,
+    begin: &[u8],
+) -> Result<(), Fail> {
+    let (bytes, failed) = write_bytes(alloc, log, None);
+    same(rt, (failed, bytes.starts_with(begin)), (None, true));
+    let Reading { ops, fault, .. } = reading_of(alloc, &bytes)?;
+    same(rt, (ops.len(), fault), (log.len(), None));
+    for op in &ops {
+        same(rt, log.contains(op), true);
+    }
+    Ok(())
 }
 
 /// A file, the size of its pieces, which read fails, and the fault.

@@ -34,7 +34,7 @@ fn typed(alloc: Global, stamp: Stamp, prev: u64, after: Stamp, text: &[char]) ->
 }
 
 fn op(alloc: Global, one: One) -> Result<Op, Fault> {
-    let at = |count: u64, site: u16| Stamp { count, site };
+    let at = |count: u64, site: u32| Stamp { count, site };
     match one {
         One::Ab => typed(alloc, FIRST, 0, ROOT, &['a', 'b']),
         One::Y => typed(alloc, at(3, 2), 0, FIRST, &['Y']),

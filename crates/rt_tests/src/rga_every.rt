@@ -1,7 +1,7 @@
 // Operations of a few sites, offered in each order there is, each twice.
 use crate::checks::same;
 use crate::rga_orders::{
-    AB, B_GOES, Made, OFF, OFF_LAST, OFF_TOO, ON, Peer, Q, Said, TAGGED, XX, Y, Z,
+    AB, B_GOES, Does, Made, OFF, OFF_LAST, OFF_TOO, ON, Peer, Q, Said, TAGGED, XX, Y, Z,
 };
 use std::alloc::Global;
 use std::process::Abort;
@@ -10,6 +10,13 @@ use std::test::Fail;
 /// Operations, how many orders they have, and in how many of these none is held; then their cells, and their text with
 /// a star behind each tagged character.
 type Orders = (&'static [Made], usize, usize, &'static str, &'static str);
+
+// Of sites whose numbers take 16 bits, 17 and 32, at one place.
+const OF_16_BITS: Made = (3, 65_535, 0, Does::Inserts((1, 1), &['x']));
+
+const OF_17_BITS: Made = (3, 70_000, 0, Does::Inserts((1, 1), &['y']));
+
+const OF_32_BITS: Made = (3, 4_294_967_295, 0, Does::Inserts((1, 1), &['z']));
 
 const ORDERS: &[Orders] = &[
     (
@@ -35,6 +42,13 @@ const ORDERS: &[Orders] = &[
         "ab*q\n",
     ),
     (&[AB, Y], 2, 1, "1.1a 3.2Y 2.1b 1.0\n ", "aYb\n"),
+    (
+        &[AB, OF_16_BITS, OF_17_BITS, OF_32_BITS],
+        24,
+        6,
+        "1.1a 3.4294967295z 3.70000y 3.65535x 2.1b 1.0\n ",
+        "azyxb\n",
+    ),
 ];
 
 // The order of a number, of which there are as many as orders: each operation is put among those before it at a place
@@ -94,7 +108,7 @@ fn orders_come_out(rt: &impl Abort, alloc: Global, row: &Orders) -> Result<(), F
     Ok(())
 }
 
-// The same operations in each order there is, and two of which one is made upon the other.
+// The operations of each row come in each order there is.
 #[test]
 fn each_order_at_all(rt: HostRuntime) -> Result<(), Fail> {
     for row in ORDERS {

@@ -14,15 +14,15 @@ use std::test::Fail;
 /// last count.
 #[derive(Clone, Copy)]
 pub(crate) enum Does {
-    Inserts((u64, u16), &'static [char]),
-    InsertsTagged((u64, u16), &'static [char]),
-    Deletes((u16, u64, u64)),
-    DeletesBoth((u16, u64, u64), (u16, u64, u64)),
-    Tags(bool, (u16, u64, u64)),
+    Inserts((u64, u32), &'static [char]),
+    InsertsTagged((u64, u32), &'static [char]),
+    Deletes((u32, u64, u64)),
+    DeletesBoth((u32, u64, u64), (u32, u64, u64)),
+    Tags(bool, (u32, u64, u64)),
 }
 
 /// An operation of the examples: its count, site and `prev`, and what it does. Its tag is `t`.
-pub(crate) type Made = (u64, u16, u64, Does);
+pub(crate) type Made = (u64, u32, u64, Does);
 
 fn one<T>(alloc: Global, item: T) -> Result<Vec<T>, Fault>
 where
@@ -33,12 +33,12 @@ where
     Ok(items)
 }
 
-fn stamp(named: (u64, u16)) -> Stamp {
+fn stamp(named: (u64, u32)) -> Stamp {
     let (count, site) = named;
     Stamp { count, site }
 }
 
-fn span(named: (u16, u64, u64)) -> Span {
+fn span(named: (u32, u64, u64)) -> Span {
     let (site, first, last) = named;
     Span { site, first, last }
 }
@@ -47,7 +47,7 @@ fn insert(
     alloc: Global,
     at: Stamp,
     prev: u64,
-    after: (u64, u16),
+    after: (u64, u32),
     tags: Vec<String>,
     text: &[char],
 ) -> Result<Op, Fault> {

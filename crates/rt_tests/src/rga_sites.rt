@@ -1,5 +1,7 @@
-// Random histories of three sites, delivered in random orders, against a plain reading of them.
+// Random histories of three sites, delivered in random orders, against a plain reading of them; and the files of their
+// logs, in either version.
 use crate::checks::same;
+use crate::oplog_files::comes_back;
 use crate::rga_orders::{Does, Made, Peer};
 use rt_stamps::{FINAL, Stamp};
 use rt_store::TextStore;
@@ -24,11 +26,12 @@ impl Dice {
     }
 }
 
-/// The replicas of three sites.
+/// The replicas of three sites: 1, 2, and one of a number.
 struct Sites {
     one: Peer,
     two: Peer,
     three: Peer,
+    third: u32,
 }
 
 impl Drop for Sites {
@@ -37,16 +40,18 @@ impl Drop for Sites {
             one: _,
             two: _,
             three: _,
+            third: _,
         } = self;
     }
 }
 
 impl Sites {
-    fn new(alloc: Global) -> Result<Sites, Fail> {
+    fn new(alloc: Global, third: u32) -> Result<Sites, Fail> {
         Ok(Sites {
             one: Peer::new(alloc, 1_000)?,
             two: Peer::new(alloc, 1_000)?,
             three: Peer::new(alloc, 1_000)?,
+            third,
         })
     }
 
@@ -75,7 +80,7 @@ fn some_stamp(peer: &Peer, dice: &mut Dice) -> Stamp {
 }
 
 // The span of a stamp, and of the next one where that is a character's too.
-fn some_span(peer: &Peer, stamp: Stamp) -> (u16, u64, u64) {
+fn some_span(peer: &Peer, stamp: Stamp) -> (u32, u64, u64) {
     let count = stamp.count.saturating_add(1);
     let next = Stamp {
         count,
@@ -110,7 +115,7 @@ fn some_deed(peer: &Peer, dice: &mut Dice) -> Does {
 }
 
 // The next operation of a site.
-fn some_operation(peer: &Peer, site: u16, dice: &mut Dice) -> Made {
+fn some_operation(peer: &Peer, site: u32, dice: &mut Dice) -> Made {
     let count = peer.replica.replica().clock().seen().saturating_add(1);
     let prev = peer.replica.log().known(site);
     (count, site, prev, some_deed(peer, dice))
@@ -128,7 +133,7 @@ fn make(
     let (place, site) = match dice.below(3) {
         0 => (0, 1),
         1 => (1, 2),
-        _ => (2, 3),
+        _ => (2, sites.third),
     };
     let peer = sites.pick(place);
     let made = some_operation(peer, site, dice);
@@ -151,16 +156,16 @@ fn offer(rt: &impl Abort, sites: &mut Sites, all: &[Made], dice: &mut Dice) {
 /// A character: its stamp, a count and a site, and that of the element that it goes after.
 #[derive(Clone, Copy)]
 struct Character {
-    stamp: (u64, u16),
-    left: (u64, u16),
+    stamp: (u64, u32),
+    left: (u64, u32),
     ch: char,
 }
 
 // Adds the characters of a text, the first of which goes after an element.
 fn push_text(
     text: &[char],
-    first: (u64, u16),
-    after: (u64, u16),
+    first: (u64, u32),
+    after: (u64, u32),
     characters: &mut Vec<Character>,
 ) -> Result<(), Fail> {
     let mut stamp = first;
@@ -178,7 +183,7 @@ fn push_text(
 }
 
 // What an operation inserts, and the element that it goes after.
-fn inserted(does: Does) -> Option<((u64, u16), &'static [char])> {
+fn inserted(does: Does) -> Option<((u64, u32), &'static [char])> {
     match does {
         Does::Inserts(after, text) | Does::InsertsTagged(after, text) => Some((after, text)),
         _ => None,
@@ -201,7 +206,7 @@ fn characters(alloc: Global, all: &[Made]) -> Result<Vec<Character>, Fail> {
 // Adds the characters that go after an element, so that the greatest is the last.
 fn push_children(
     characters: &[Character],
-    element: (u64, u16),
+    element: (u64, u32),
     children: &mut Vec<Character>,
 ) -> Result<(), Fail> {
     for character in characters {
@@ -226,13 +231,13 @@ fn depth_first(alloc: Global, characters: &[Character]) -> Result<Vec<Character>
     Ok(read)
 }
 
-fn is_in(span: (u16, u64, u64), stamp: (u64, u16)) -> bool {
+fn is_in(span: (u32, u64, u64), stamp: (u64, u32)) -> bool {
     let (site, first, last) = span;
     stamp.1 == site && first <= stamp.0 && stamp.0 <= last
 }
 
 // A Delete of some operations takes a character away.
-fn is_gone(all: &[Made], stamp: (u64, u16)) -> bool {
+fn is_gone(all: &[Made], stamp: (u64, u32)) -> bool {
     for (_, _, _, does) in all {
         if let Does::Deletes(span) = *does {
             if is_in(span, stamp) {
@@ -244,7 +249,7 @@ fn is_gone(all: &[Made], stamp: (u64, u16)) -> bool {
 }
 
 // What an operation says of the tag on a character, if it says anything.
-fn says(made: Made, stamp: (u64, u16)) -> Option<bool> {
+fn says(made: Made, stamp: (u64, u32)) -> Option<bool> {
     let (count, site, _, does) = made;
     match does {
         Does::InsertsTagged(_, text) => {
@@ -261,7 +266,7 @@ fn says(made: Made, stamp: (u64, u16)) -> Option<bool> {
 }
 
 // The greatest operation that says anything of the tag on a character says on.
-fn is_tagged(all: &[Made], stamp: (u64, u16)) -> bool {
+fn is_tagged(all: &[Made], stamp: (u64, u32)) -> bool {
     let mut greatest = (0, 0);
     let mut tagged = false;
     for made in all {
@@ -319,21 +324,33 @@ fn agrees(rt: &impl Abort, peer: &mut Peer, all: &[Made], wanted: &str) -> Resul
     Ok(())
 }
 
-// A history of three sites, which agree in the end.
-fn all_agree(rt: &impl Abort, alloc: Global, seed: u64) -> Result<(), Fail> {
-    let mut sites = Sites::new(alloc)?;
+/// The seed of a history, the number of its third site, and how the file of its log begins.
+type History = (u64, u32, &'static [u8]);
+
+// The least number that version 1 has no room for, and the greatest.
+const HISTORIES: &[History] = &[
+    (1, 3, b"RGATEXT1"),
+    (2, 65_536, b"RGATEXT2"),
+    (3, 4_294_967_295, b"RGATEXT2"),
+];
+
+// A history of three sites, which agree in the end, and whose logs come back from their files.
+fn all_agree(rt: &impl Abort, alloc: Global, history: &History) -> Result<(), Fail> {
+    let (seed, third, begin) = *history;
+    let mut sites = Sites::new(alloc, third)?;
     let all = played(rt, alloc, &mut sites, seed)?;
     let wanted = plain_reading(alloc, &all)?;
     for place in 0..3 {
         agrees(rt, sites.pick(place), &all, &wanted)?;
+        comes_back(rt, alloc, sites.pick(place).replica.log(), begin)?;
     }
     Ok(())
 }
 
 #[test]
 fn sites_agree_with_the_plain_reading(rt: HostRuntime) -> Result<(), Fail> {
-    for seed in 1..4 {
-        all_agree(&rt, rt.alloc(), seed)?;
+    for history in HISTORIES {
+        all_agree(&rt, rt.alloc(), history)?;
     }
     Ok(())
 }

@@ -127,7 +127,7 @@ impl Random {
         let first = self.below(4000);
         let more = if self.below(40) == 0 { 1500 } else { 4 };
         Span {
-            site: 1 + self.below(2) as u16,
+            site: 1 + self.below(2) as u32,
             first,
             last: first + self.below(more),
         }
@@ -150,7 +150,7 @@ fn set_some(
         for _ in 0..6 {
             let stamp = Stamp {
                 count: random.below(5600),
-                site: 1 + random.below(2) as u16,
+                site: 1 + random.below(2) as u32,
             };
             same(rt, map.get(stamp), last_set(sets, stamp));
         }

@@ -84,7 +84,7 @@ impl Text {
 
     // Puts the tag on the characters of some counts of a site.
     #[tactic(auto, using(rt_store::proofs::GivenStates::put_states))]
-    fn tag_counts(&mut self, site: u16, first: u64, last: u64) -> Result<(), Fault> {
+    fn tag_counts(&mut self, site: u32, first: u64, last: u64) -> Result<(), Fault> {
         if self.store.cells() > 100 {
             return Err(Fault::NoMemory);
         }
@@ -171,7 +171,7 @@ fn abc(alloc: Global) -> Result<Text, Fault> {
 }
 
 // The cell of a character without tags.
-fn cell(count: u64, site: u16, ch: char) -> Cell<StateId>
+fn cell(count: u64, site: u32, ch: char) -> Cell<StateId>
     ensures { result ≡ record { stamp = record { count = count; site = site }; ch = ch; gone = false; state = 0 } }
 {
     Cell {

@@ -133,7 +133,7 @@ fn same_tags<A: TextStore, B: TextStore>(a: &A, b: &B, states: &StateTable, tag:
 }
 
 // A cell in a state.
-fn cell(count: u64, site: u16, ch: char, state: StateId) -> Cell<StateId>
+fn cell(count: u64, site: u32, ch: char, state: StateId) -> Cell<StateId>
     ensures { result ≡ record { stamp = record { count = count; site = site }; ch = ch; gone = false; state = state } }
 {
     Cell {
@@ -207,7 +207,7 @@ impl Pair {
 
     // A new cell with the tag.
     #[tactic(auto, using(rt_store::proofs::GivenStates::one_state))]
-    fn one(&mut self, random: usize, count: u64, site: u16, ch: char) -> Result<(), Fault> {
+    fn one(&mut self, random: usize, count: u64, site: u32, ch: char) -> Result<(), Fault> {
         let new = cell(count, site, ch, self.tagged);
         self.put(random, &[new])
     }
@@ -218,7 +218,7 @@ impl Pair {
         &mut self,
         at: usize,
         count: u64,
-        site: u16,
+        site: u32,
         ch: char,
     ) -> Result<(), Fault> {
         let new = cell(count, site, ch, StateId::EMPTY);
@@ -230,7 +230,7 @@ impl Pair {
         &mut self,
         at: usize,
         count: u64,
-        site: u16,
+        site: u32,
         text: [char; 3],
     ) -> Result<(), Fault> {
         if count > 1_000_000 {
@@ -244,7 +244,7 @@ impl Pair {
     }
 
     // Some new cells, of counts that follow one another.
-    fn some(&mut self, random: usize, count: u64, site: u16) -> Result<(), Fault> {
+    fn some(&mut self, random: usize, count: u64, site: u32) -> Result<(), Fault> {
         if count > 1000 {
             return Err(Fault::NoMemory);
         }
@@ -257,7 +257,7 @@ impl Pair {
     }
 
     // Some new cells, two of which have one stamp.
-    fn twice(&mut self, random: usize, count: u64, site: u16) -> Result<(), Fault> {
+    fn twice(&mut self, random: usize, count: u64, site: u32) -> Result<(), Fault> {
         if count > 1000 {
             return Err(Fault::NoMemory);
         }
@@ -383,7 +383,7 @@ impl Pair {
 
     // One call that a number gives. Stamps are few, so that many stand twice.
     fn turn(&mut self, random: usize, more: usize) -> Result<(), Fault> {
-        let site = 1 + (more % 3) as u16;
+        let site = 1 + (more % 3) as u32;
         let first = 1 + (more / 3 % 90) as u64;
         let last = first + (more / 300 % 20) as u64;
         let span = Span { site, first, last };

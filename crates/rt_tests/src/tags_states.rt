@@ -40,9 +40,10 @@ impl Drop for Typing {
 enum Step {
     /// The tag is put on one more character, or taken off, by a count and a site: whether its state is the one before the
     /// write, and whether it is that of the last character.
-    Write(u64, u16, bool, (bool, bool)),
-    /// The same on 999 more characters: each has the state of the last one, and not the one before the write.
-    Again(u64, u16, bool),
+    Write(u64, u32, bool, (bool, bool)),
+    /// The tag is put on 999 more characters, or taken off, by a count and a site: each has the state of the last one, and
+    /// not the one before the write.
+    Again(u64, u32, bool),
     /// What is written from now on is written on characters of the last one's state.
     GoOn,
     /// Another tag is put on the last character, or taken off.
@@ -75,7 +76,7 @@ impl Typing {
 
     // Writes the tag on one more character. Whether its state is the one before the write, and whether
     // it is that of the last character.
-    fn write(&mut self, count: u64, site: u16, on: bool) -> Result<(bool, bool), Fault> {
+    fn write(&mut self, count: u64, site: u32, on: bool) -> Result<(bool, bool), Fault> {
         let old = self.after;
         let new = self
             .table
@@ -84,7 +85,7 @@ impl Typing {
         Ok((new == self.before, new == old))
     }
 
-    fn again(&mut self, count: u64, site: u16, on: bool) -> Result<bool, Fault> {
+    fn again(&mut self, count: u64, site: u32, on: bool) -> Result<bool, Fault> {
         for _ in 1..1000 {
             if self.write(count, site, on)? != (false, true) {
                 return Ok(false);

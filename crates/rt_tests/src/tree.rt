@@ -38,14 +38,14 @@ fn room(rt: HostRuntime) -> Result<(), Fail> {
 /// count) that become gone or get the tag.
 #[derive(Clone, Copy)]
 enum Step {
-    Put(usize, u64, u16, char),
-    Paste(usize, u64, u16, [char; 3]),
-    Remove(u16, u64, u64),
-    Tag(u16, u64, u64),
+    Put(usize, u64, u32, char),
+    Paste(usize, u64, u32, [char; 3]),
+    Remove(u32, u64, u64),
+    Tag(u32, u64, u64),
 }
 
 // The counts of a site from a first one to a last one.
-fn span(site: u16, first: u64, last: u64) -> Span {
+fn span(site: u32, first: u64, last: u64) -> Span {
     Span { site, first, last }
 }
 

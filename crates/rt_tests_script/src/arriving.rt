@@ -2,7 +2,7 @@
 use crate::sites::Script;
 
 /// What comes early: it isn't there before it is taken, and then it moves marks and lists its tags.
-pub(crate) const EARLY: &[(u16, Script)] = &[
+pub(crate) const EARLY: &[(u32, Script)] = &[
     (
         3,
         r#"
@@ -63,7 +63,7 @@ receive y_tagged -> = 0 1
 ];
 
 /// What marks do where text comes and goes beside them.
-pub(crate) const MOVED: &[(u16, Script)] = &[
+pub(crate) const MOVED: &[(u32, Script)] = &[
     (
         3,
         r#"

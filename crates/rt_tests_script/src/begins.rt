@@ -16,7 +16,7 @@ use std::process::Abort;
 fn begins(
     rt: &impl Abort,
     alloc: Global,
-    number: u16,
+    number: u32,
     log: &[u8],
 ) -> Result<SiteState, (Fault, u64)> {
     let site = Site::new(number).expect(rt, "a number of a site");
@@ -27,7 +27,7 @@ fn begins(
 /// A site's number and the log that it begins with; what its log is then; what it does, and what its log is at the end.
 #[derive(Clone, Copy)]
 struct Begin {
-    number: u16,
+    number: u32,
     log: &'static [u8],
     begun: &'static [u8],
     script: Script,

@@ -3,10 +3,10 @@ ghost use Rattle.std.specs.Prelude.{◌≡◌, ◌≤◌};
 
 use crate::calls::replies;
 use crate::checks::same;
-use crate::sites::new_site;
+use crate::sites::{new_site, receive};
 use rt_script::{Received, SiteState};
 use rt_stamps::Fault;
-use rt_stamps::limits::{MOST_BYTES, MOST_CELLS};
+use rt_stamps::limits::MOST_CELLS;
 use std::alloc::Global;
 use std::process::Abort;
 
@@ -33,12 +33,6 @@ fn typed(rt: &impl Abort, alloc: Global, site: u16, first: u64, last: u64) -> Ve
         add_typed(rt, &mut file, site, count);
     }
     file
-}
-
-// What becomes of a file that is received.
-fn receive(rt: &impl Abort, site: &mut SiteState, file: &[u8]) -> Received {
-    assert!(rt; file.len() <= MOST_BYTES);
-    site.receive(file)
 }
 
 // What is told of a file: how many operations were new, how many repeats, how many are held.

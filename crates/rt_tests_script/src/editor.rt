@@ -168,8 +168,8 @@ fn range(alloc: Global, from: &str, to: &str) -> Result<[String; 2], Fault> {
 }
 
 impl Editor {
-    // Of a new site of a number from 1 to 65535.
-    pub(crate) fn new(alloc: Global, number: u16) -> Result<Editor, Fault> {
+    // Of a new site of a number from 1 to 4,294,967,295.
+    pub(crate) fn new(alloc: Global, number: u32) -> Result<Editor, Fault> {
         let site = Site::new(number).ok_or(Fault::BadStamp)?;
         let site = SiteState::new(alloc, site, MOST_CELLS)?;
         let number = site.number_of(".t").ok_or(Fault::NoWidget)?;

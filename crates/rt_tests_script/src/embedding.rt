@@ -8,8 +8,8 @@ use rt_stamps::{Fault, Site};
 use std::alloc::Global;
 use std::process::Abort;
 
-// A new site of a number from 1 to 65535.
-fn new_site(alloc: Global, number: u16) -> Result<SiteState, Fault> {
+// A new site of a number from 1 to 4,294,967,295.
+fn new_site(alloc: Global, number: u32) -> Result<SiteState, Fault> {
     let site = Site::new(number).ok_or(Fault::BadStamp)?;
     SiteState::new(alloc, site, MOST_CELLS)
 }

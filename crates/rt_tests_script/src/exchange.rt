@@ -72,7 +72,7 @@ pub(crate) fn on_site(
 pub(crate) fn at_site(
     rt: &impl Abort,
     alloc: Global,
-    number: u16,
+    number: u32,
     limit: usize,
     files: Files,
     scripts: &[&str],
@@ -87,7 +87,7 @@ pub(crate) fn at_site(
 pub(crate) fn session(
     rt: &impl Abort,
     alloc: Global,
-    number: u16,
+    number: u32,
     files: Files,
     scripts: &[&str],
 ) -> Vec<u8> {
@@ -99,7 +99,7 @@ pub(crate) fn session(
 pub(crate) fn ends_with(
     rt: &impl Abort,
     alloc: Global,
-    number: u16,
+    number: u32,
     files: Files,
     scripts: &[&str],
     log: &[u8],
@@ -139,13 +139,13 @@ pub(crate) const SAMPLES: Files<'static> = &[
 ];
 
 /// Runs each script of a table on a new site of a number that may receive each of the samples.
-pub(crate) fn receive_all(rt: &impl Abort, alloc: Global, table: &[(u16, Script)]) {
+pub(crate) fn receive_all(rt: &impl Abort, alloc: Global, table: &[(u32, Script)]) {
     for (number, script) in table {
         let _log = session(rt, alloc, *number, SAMPLES, &[*script]);
     }
 }
 
-/// What two sites do that hold what site 1 did first, what either is answered to the file of the other,
+/// What two sites do that hold what the first of them did first, what either is answered to the file of the other,
 /// and what both say then.
 #[derive(Clone, Copy)]
 pub(crate) struct Case {
@@ -157,31 +157,38 @@ pub(crate) struct Case {
     pub(crate) after: Script,
 }
 
-/// Site 1's first file is received.
+/// The first file is received.
 pub(crate) const HOLDS_FIRST: Script = "receive first -> = 1 0";
 
-/// Sites 1 and 2 exchange their files, and a third one receives them in either order. Then all have the
-/// same log.
-pub(crate) fn exchange(rt: &impl Abort, alloc: Global, case: &Case) {
-    let first = session(rt, alloc, 1, &[], &[case.first]);
-    let one = session(rt, alloc, 1, &[], &[case.first, case.one]);
+/// The numbers of the two sites of a case, and of a third one.
+pub(crate) type Numbers = (u32, u32, u32);
+
+/// Sites 1, 2 and 3.
+pub(crate) const FIRST_THREE: Numbers = (1, 2, 3);
+
+/// Two sites exchange their files, and a third one receives them in either order. Then all have the same log.
+pub(crate) fn exchange(rt: &impl Abort, alloc: Global, numbers: Numbers, case: &Case) {
+    let (number, other_number, _) = numbers;
+    let first = session(rt, alloc, number, &[], &[case.first]);
+    let one = session(rt, alloc, number, &[], &[case.first, case.one]);
     let begun: Files = &[("first", &first)];
-    let other = session(rt, alloc, 2, begun, &[HOLDS_FIRST, case.other]);
+    let other = session(rt, alloc, other_number, begun, &[HOLDS_FIRST, case.other]);
     let files: Files = &[("first", &first), ("one", &one), ("other", &other)];
-    agree(rt, alloc, case, files);
+    agree(rt, alloc, numbers, case, files);
 }
 
 // The sites of a case have the same log once each has received the file of the other.
-fn agree(rt: &impl Abort, alloc: Global, case: &Case, files: Files) {
+fn agree(rt: &impl Abort, alloc: Global, numbers: Numbers, case: &Case, files: Files) {
+    let (number, other_number, third) = numbers;
     let (one, other) = (case.receives_one, case.receives_other);
     let at_one = [case.first, case.one, other, case.after];
-    let log = session(rt, alloc, 1, files, &at_one);
+    let log = session(rt, alloc, number, files, &at_one);
     let at_two = [HOLDS_FIRST, case.other, one, case.after];
-    ends_with(rt, alloc, 2, files, &at_two, &log);
+    ends_with(rt, alloc, other_number, files, &at_two, &log);
     let in_order = [HOLDS_FIRST, one, other, case.after];
-    ends_with(rt, alloc, 3, files, &in_order, &log);
+    ends_with(rt, alloc, third, files, &in_order, &log);
     let in_turn = [HOLDS_FIRST, other, one, case.after];
-    ends_with(rt, alloc, 3, files, &in_turn, &log);
+    ends_with(rt, alloc, third, files, &in_turn, &log);
 }
 
 const LATER_TEXT_GOES_BEFORE: Case = Case {
@@ -285,7 +292,8 @@ receive one -> = 0 5
 "#,
 };
 
-const EXCHANGED: &[Case] = &[
+/// Cases of each kind of operation.
+pub(crate) const EXCHANGED: &[Case] = &[
     EACH_KIND,
     LATER_TEXT_GOES_BEFORE,
     REMOVED_BESIDE_NEW,
@@ -293,7 +301,7 @@ const EXCHANGED: &[Case] = &[
     A_LATER_REMOVAL_OF_A_TAG,
 ];
 
-const RECEIVED: &[(u16, Script)] = &[
+const RECEIVED: &[(u32, Script)] = &[
     (
         2,
         r#"
@@ -366,7 +374,7 @@ receive second_gone -> = 0 2
     ),
 ];
 
-const REFUSED: &[(u16, Script)] = &[
+const REFUSED: &[(u32, Script)] = &[
     (
         1,
         r#"
@@ -421,7 +429,7 @@ fn files_are_received(rt: HostRuntime) {
 fn files_are_exchanged(rt: HostRuntime) {
     let alloc = rt.alloc();
     for case in EXCHANGED {
-        exchange(&rt, alloc, case);
+        exchange(&rt, alloc, FIRST_THREE, case);
     }
     for (scripts, log) in LOGS {
         ends_with(&rt, alloc, 1, &[], *scripts, *log);

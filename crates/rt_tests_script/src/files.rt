@@ -2,8 +2,9 @@
 ghost use Rattle.std.specs.Prelude.{◌≡◌, ◌<◌};
 
 use crate::samples::{
-    CLASHES, CLASHES_AND_CUT, DELETE_AND_INSERT, DELETE_AND_TAG, INSERT_ACCENTS, INSERT_BOTH,
-    INSERT_BY_ROOT, INSERT_KNOWN, INSERT_PAST_LAST, INSERT_QUOTED, NOT_BEHIND,
+    AB_AND_C, AB_OF_TWO, C_BY_WIDE, CLASHES, CLASHES_AND_CUT, DELETE_AND_INSERT, DELETE_AND_TAG,
+    INSERT_ACCENTS, INSERT_BOTH, INSERT_BY_ROOT, INSERT_KNOWN, INSERT_PAST_LAST, INSERT_QUOTED,
+    NOT_BEHIND, SIXTY_FIVE_IN_ONE, SIXTY_FIVE_TAGS, SIXTY_FOUR_TAGS, WIDE_DELETES, WIDE_TAGS,
 };
 use rt_samples::files::{
     AFTER_ITSELF, CUT, DELETE_FINAL, DELETE_SECOND, INSERT_AB, INSERT_B, INSERT_LAST, INSERT_Y,
@@ -169,6 +170,18 @@ const JOINED: &[Joined] = &[
     (INSERT_AB, INSERT_Y, Ok(INSERT_BOTH)),
     (INSERT_Y, INSERT_AB, Ok(INSERT_BOTH)),
     (INSERT_Y, DELETE_SECOND, Ok(DELETE_AND_INSERT)),
+    (b"RGATEXT2", b"RGATEXT2", Ok(b"RGATEXT1")),
+    (AB_OF_TWO, AB_OF_TWO, Ok(INSERT_AB)),
+    (AB_OF_TWO, INSERT_AB, Ok(INSERT_AB)),
+    (AB_OF_TWO, DELETE_SECOND, Ok(DELETE_SECOND)),
+    (INSERT_AB, C_BY_WIDE, Ok(AB_AND_C)),
+    (C_BY_WIDE, INSERT_AB, Ok(AB_AND_C)),
+    (AB_OF_TWO, C_BY_WIDE, Ok(AB_AND_C)),
+    (C_BY_WIDE, C_BY_WIDE, Ok(C_BY_WIDE)),
+    (WIDE_DELETES, b"RGATEXT1", Ok(WIDE_DELETES)),
+    (WIDE_TAGS, b"RGATEXT1", Ok(WIDE_TAGS)),
+    (SIXTY_FOUR_TAGS, b"RGATEXT2", Ok(SIXTY_FOUR_TAGS)),
+    (SIXTY_FIVE_TAGS, b"RGATEXT1", Ok(SIXTY_FIVE_TAGS)),
 ];
 
 const REFUSED: &[Joined] = &[
@@ -183,6 +196,10 @@ const REFUSED: &[Joined] = &[
     (SHORT_LENGTH, AFTER_ITSELF, Err((1, Fault::BadRecord, 8))),
     (AFTER_ITSELF, SHORT_LENGTH, Err((1, Fault::BadStamp, 8))),
     (INSERT_B, SHORT_LENGTH, Err((2, Fault::BadRecord, 8))),
+    (INSERT_B, AB_OF_TWO, Err((0, Fault::Conflict, 0))),
+    (WIDE_DELETES, WIDE_TAGS, Err((0, Fault::Conflict, 0))),
+    (SIXTY_FIVE_IN_ONE, AB_OF_TWO, Err((1, Fault::BadRecord, 8))),
+    (AB_OF_TWO, SIXTY_FIVE_IN_ONE, Err((2, Fault::BadRecord, 8))),
     (b"", INSERT_AB, Err((1, Fault::Truncated, 0))),
     (INSERT_AB, b"", Err((2, Fault::Truncated, 0))),
     (b"XGATEXT1", INSERT_AB, Err((1, Fault::BadMagic, 0))),
@@ -334,6 +351,14 @@ delete 3.1 prev 2 spans 1:2-2
 tag 9.1 prev 2 off "a b" spans 0:1-1 7:3-65536
 "#;
 
+const C: &str = "insert 3.65536 prev 0 after 2.1 text c tags\n";
+
+const UNDER_SIXTY_FOUR: &str =
+    "insert 1.1 prev 0 after 0.0 text z tags / 0 1 2 3 4 5 6 7 8 9 A B C D E F G H I J K L M N O P Q R S T U V W X Y Z _ a b c d e f g h i j k l m n o p q r s t u v w x y z\n";
+
+const UNDER_SIXTY_FIVE: &str =
+    "insert 1.1 prev 0 after 0.0 text z tags . / 0 1 2 3 4 5 6 7 8 9 A B C D E F G H I J K L M N O P Q R S T U V W X Y Z _ a b c d e f g h i j k l m n o p q r s t u v w x y z\n";
+
 // Files, and what is shown of them.
 const SHOWN: &[(&[u8], Shown)] = &[
     (b"RGATEXT1", ("", None)),
@@ -356,6 +381,20 @@ const SHOWN: &[(&[u8], Shown)] = &[
     (b"RGATEXX1", ("", Some((Fault::BadMagic, 0)))),
     (b"RGATEXT9", ("", Some((Fault::BadVersion, 0)))),
     (b"RGATEXT1\0\0\0\x13\x04", ("", Some((Fault::Truncated, 8)))),
+    (b"RGATEXT0", ("", Some((Fault::BadVersion, 0)))),
+    (b"RGATEXT3", ("", Some((Fault::BadVersion, 0)))),
+    (b"RGATEXT2", ("", None)),
+    (AB_OF_TWO, (AB, None)),
+    (C_BY_WIDE, (C, None)),
+    (SIXTY_FOUR_TAGS, (UNDER_SIXTY_FOUR, None)),
+    (SIXTY_FIVE_TAGS, (UNDER_SIXTY_FIVE, None)),
+    (SIXTY_FIVE_IN_ONE, ("", Some((Fault::BadRecord, 8)))),
+    (b"RGATEXT2\0\0\0\x14", ("", Some((Fault::BadRecord, 8)))),
+    (b"RGATEXT2\0\0\0\x15\x04", ("", Some((Fault::Truncated, 8)))),
+    (
+        b"RGATEXT2\x00\x20\x00\x01\x01",
+        ("", Some((Fault::BadRecord, 8))),
+    ),
     (
         b"RGATEXT1\x00\x20\x00\x01\x01",
         ("", Some((Fault::BadRecord, 8))),

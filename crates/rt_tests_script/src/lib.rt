@@ -84,4 +84,6 @@ mod undoing_sites;
 #[cfg(test)]
 mod values;
 #[cfg(test)]
+mod versions;
+#[cfg(test)]
 mod widgets;

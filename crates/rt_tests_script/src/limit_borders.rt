@@ -87,7 +87,7 @@ const LINES: Script = r#"
 const JOINED: Script = ".t delete 1.1 -> =";
 // It parts them again, by a newline with another stamp.
 const PARTED: Script = ".t edit undo -> =";
-// The same of the last line shown and the one behind.
+// It joins the last line shown and the one behind.
 const JOINED_BELOW: Script = ".t delete 3.1 -> =";
 
 const PARTED_BELOW: Script = ".t edit undo -> =";

@@ -191,7 +191,7 @@ impl EditedText {
 }
 
 // A text of a site, whose store refuses a growth.
-fn new_text(rt: &impl Abort, alloc: Global, site: u16, refused: usize) -> Text {
+fn new_text(rt: &impl Abort, alloc: Global, site: u32, refused: usize) -> Text {
     let site = Site::new(site).expect(rt, "a number of a site");
     let store = new_sparing(alloc, refused).expect(rt, "memory");
     View::new(alloc, store, site, MOST_CELLS).expect(rt, "memory")

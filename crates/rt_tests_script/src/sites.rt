@@ -20,9 +20,9 @@ use crate::texts::{DELETIONS, RANGES, TEXTS};
 use crate::undoing::{COMING_BACK, FLAGS, GROUPING, UNDOING, UNDOING_FULL};
 use crate::widgets::{MARKS_IN_ORDER, REMOVALS, SELECTIONS, TAGGED_UNDO};
 use rt_samples::Pieces;
-use rt_script::{Ended, SiteState, run};
+use rt_script::{Ended, Received, SiteState, run};
 use rt_stamps::Site;
-use rt_stamps::limits::MOST_CELLS;
+use rt_stamps::limits::{MOST_BYTES, MOST_CELLS};
 use rt_stamps::std_ends::{Count, Reader, Writer};
 use std::alloc::Global;
 use std::marker::Brand;
@@ -35,23 +35,34 @@ pub(crate) type Script = &'static str;
 /// Scripts, with an empty line between two.
 pub(crate) type Scripts = &'static str;
 
-// A run of a site over files, with its reply lines.
+// What is run: a script, on a site that may receive files.
+#[derive(Drop)]
+struct SiteScript<'a> {
+    state: SiteState,
+    files: &'a [(String, Vec<u8>)],
+    script: Pieces<'a>,
+}
+
+// The reply lines of a run, and how it ended.
 fn output<A: Ledger, B: Ledger, C: Ledger, D: Ledger>(
     alloc: Global,
-    state: SiteState,
-    files: &[(String, Vec<u8>)],
-    script: Pieces,
+    given: SiteScript<'_>,
     reads: Blank,
     failed_reads: Blank,
     writes: Blank,
     failed_writes: Blank,
 ) -> (Vec<u8>, Ended<SiteState>)
-    requires files { AreWithin files.now }
+    requires files { AreWithin given.files.now }
     requires reads { (reads.name ≡ A.name) × (reads.parts ≡ A.parts) × (0 < A.parts) }
     requires failed_reads { (failed_reads.name ≡ B.name) × (failed_reads.parts ≡ B.parts) × (0 < B.parts) }
     requires writes { (writes.name ≡ C.name) × (writes.parts ≡ C.parts) × (0 < C.parts) }
     requires failed_writes { (failed_writes.name ≡ D.name) × (failed_writes.parts ≡ D.parts) × (0 < D.parts) }
 {
+    let SiteScript {
+        state,
+        files,
+        script,
+    } = given;
     let mut script = Reader::new(
         script,
         Count::<A>::begin(reads),
@@ -66,19 +77,12 @@ fn output<A: Ledger, B: Ledger, C: Ledger, D: Ledger>(
     (out.into_inner(), ended)
 }
 
-fn run_of(
-    alloc: Global,
-    state: SiteState,
-    files: &[(String, Vec<u8>)],
-    script: Pieces,
-) -> (Vec<u8>, Ended<SiteState>)
-    requires { AreWithin files.now }
+fn run_of(alloc: Global, given: SiteScript<'_>) -> (Vec<u8>, Ended<SiteState>)
+    requires { AreWithin given.files.now }
 {
     output::<Brand, Brand, Brand, Brand>(
         alloc,
-        state,
-        files,
-        script,
+        given,
         Blank::new(1),
         Blank::new(1),
         Blank::new(1),
@@ -87,11 +91,17 @@ fn run_of(
 }
 
 /// A new site of a number, with at most so many cells.
-pub(crate) fn new_site(rt: &impl Abort, alloc: Global, number: u16, limit: usize) -> SiteState
+pub(crate) fn new_site(rt: &impl Abort, alloc: Global, number: u32, limit: usize) -> SiteState
     requires { (1 ≤ limit) × (limit ≤ MOST_CELLS) }
 {
     let site = Site::new(number).expect(rt, "a number of a site");
     SiteState::new(alloc, site, limit).expect(rt, "memory")
+}
+
+/// What becomes of a file that a site receives.
+pub(crate) fn receive(rt: &impl Abort, site: &mut SiteState, file: &[u8]) -> Received {
+    assert!(rt; file.len() <= MOST_BYTES);
+    site.receive(file)
 }
 
 // Adds a line and its end.
@@ -123,12 +133,17 @@ fn gives(
 ) -> SiteState
     requires { AreWithin files.now }
 {
-    let pieces = Pieces {
+    let script = Pieces {
         bytes: lines.as_bytes(),
         size,
         until_failure: None,
     };
-    let (text, ended) = run_of(alloc, state, files, pieces);
+    let given = SiteScript {
+        state,
+        files,
+        script,
+    };
+    let (text, ended) = run_of(alloc, given);
     assert_eq!(rt; text.as_slice(), replies.as_bytes(), "{lines}");
     same(rt, ended.fault, None);
     ended.site

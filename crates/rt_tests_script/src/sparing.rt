@@ -1,7 +1,7 @@
 // A store that refuses one of its growths.
 ghost use Rattle.std.specs.Prelude.{◌≡◌, ◌∷◌, [], IfOk};
 ghost use Rattle.rt_store.specs.Cells.{HasRoom, final_cell};
-ghost use Rattle.rt_tree.specs.Stores.{cells_of};
+ghost use Rattle.rt_tree.specs.Stores.{store_cells};
 
 use rt_stamps::{Fault, Span, Stamp};
 use rt_store::{Cell, CellRun, TextStore};
@@ -35,7 +35,7 @@ impl<S: TextStore> Drop for Sparing<S> {
 
 /// A tree of the final newline alone, which refuses the growth behind so many.
 pub(crate) fn new_sparing(alloc: Global, until_refusal: usize) -> Result<Sparing<TreeStore>, Fault>
-    ensures { IfOk result (λ sparing. cells_of sparing.store ≡ final_cell ∷ []) }
+    ensures { IfOk result (λ sparing. store_cells sparing.store ≡ final_cell ∷ []) }
 {
     let store = TreeStore::new(alloc)?;
     Ok(Sparing {

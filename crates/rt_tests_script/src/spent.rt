@@ -3,7 +3,7 @@ use crate::sites::Script;
 
 // Counts that run out: of deletions, and of the tags that the last newline loses, each of which takes one behind that of its
 // deletion. Where the clock can't go as far as the last of these, all is as it was.
-pub(crate) const SPENT: &[(u16, Script)] = &[
+pub(crate) const SPENT: &[(u32, Script)] = &[
     (
         1,
         r#"
@@ -90,7 +90,7 @@ receive leaves_six -> = 1 0
 ];
 
 // Stamps that no operation has: a count, a site or an end that is out of its range.
-pub(crate) const UNSOUND: &[(u16, Script)] = &[(
+pub(crate) const UNSOUND: &[(u32, Script)] = &[(
     1,
     r#"
 receive past_last -> ! 34 BadStamp at 8 new 0 repeat 0

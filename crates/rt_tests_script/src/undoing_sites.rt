@@ -1,5 +1,7 @@
 // Undo at sites that receive files, and exchange theirs.
-use crate::exchange::{Case, Files, HOLDS_FIRST, ends_with, exchange, receive_all, session};
+use crate::exchange::{
+    Case, FIRST_THREE, Files, HOLDS_FIRST, ends_with, exchange, receive_all, session,
+};
 use crate::sites::Script;
 use std::alloc::Global;
 use std::process::Abort;
@@ -129,7 +131,7 @@ const ONE_REMOVAL_UNDONE_AT_TWO_SITES: Case = Case {
 };
 
 // What is received is never recorded, and forces the flag where it changes which characters are visible.
-const RECEIVED: &[(u16, Script)] = &[
+const RECEIVED: &[(u32, Script)] = &[
     (
         3,
         "
@@ -195,6 +197,6 @@ fn undo_beside_received_files(rt: HostRuntime) {
     for case in UNDONE_BESIDE_FILES {
         undo_among(&rt, alloc, case);
     }
-    exchange(&rt, alloc, &ONE_REMOVAL_UNDONE_AT_TWO_SITES);
+    exchange(&rt, alloc, FIRST_THREE, &ONE_REMOVAL_UNDONE_AT_TWO_SITES);
     receive_all(&rt, alloc, RECEIVED);
 }

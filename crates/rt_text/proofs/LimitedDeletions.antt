@@ -155,7 +155,7 @@ module _ (flat : DocValue) (limits : Limits) (ranges : List Range) where
         (λ i. seen new (all i) (names i))
         ∙ seen_made flat edited drafts_of new log cells site limit (ap (λ (f : DocValue). f.limit) deletion_rest) (loss_made flat.site flat.log flat (loss_of flat limits ranges) positive h doc spared count)
 
-    -- the same of a widget's own, since the last newline stays
+    -- what a widget's own becomes fits the text that is left, since the last newline stays
     pub deletion_own : (own : WidgetValue) (removed : ℕ → Bool) → ((p : ℕ) → removed p ≡ removed_of p) → IsOwnOf (length (text_of flat.cells)) own
         → IsOwnOf (length (text_of left_of.cells)) (own_left removed own)
     deletion_own own removed places k =

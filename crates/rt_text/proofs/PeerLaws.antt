@@ -52,7 +52,7 @@ pub leave_then : (removed : ℕ → Bool) (f : List Stamp → List Stamp) (widge
 leave_then removed f [] = refl
 leave_then removed f (own ∷ widgets) = ap (λ l. reselected f (own_left removed own) ∷ l) (leave_then removed f widgets)
 
--- the same in the order of a replacement
+-- given selections and moved then, in the order of a replacement, they are as moved and given these
 pub leave_last : (removed : ℕ → Bool) (f : List Stamp → List Stamp) (between : Option Between) (widgets : List WidgetValue) → map (own_left removed) (map (selecting between) (map (reselected f) widgets))
     ≡ map (selecting between) (map (λ own. reselected f (own_left removed own)) widgets)
 leave_last removed f between [] = refl

@@ -80,7 +80,7 @@ stays {T} removed k (c ∷ cs) q m h e =
         let same : record c { gone = false } ≡ c = λ i. record c { gone = sym g i } in
         behind_kept removed k c (record c { gone = false }) (visible_of (gone_at removed (k + 1) cs)) (visible_of cs) r same ih q m h e
 
--- the same of all cells
+-- what stays of all cells
 pub stays_at : {T : Type 0} (removed : ℕ → Bool) (cells : List (Cell T)) (before place : ℕ) → removed before ≡ false → place_left removed before ≡ place
     → slice_get (visible_of (gone_at removed 0 cells)) place ≡ slice_get (visible_of cells) before
 stays_at removed cells before place h e =

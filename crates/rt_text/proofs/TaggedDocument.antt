@@ -25,7 +25,7 @@ use Rattle.rt_rga.proofs.Requests.{all_count_on}
 use Rattle.rt_plans.specs.DraftLaws.{IsDocument}
 use Rattle.rt_plans.specs.DocValue.{DocValue, logged}
 use Rattle.rt_plans.specs.Listed.{AreListed}
-use Rattle.rt_plans.specs.TagDrafts.{deletion_drafts, tag_drafts_at, tags_drafts_at}
+use Rattle.rt_plans.specs.TagDrafts.{tag_deletion_drafts, tag_drafts_at, tags_drafts_at}
 use Rattle.rt_plans.specs.TagWrites.{with_tag_at, without_tags}
 use Rattle.rt_plans.proofs.ForgottenNames.{forgotten_in_turn, in_turn}
 use Rattle.rt_plans.proofs.CharacterCounts.{deletions_insert_none, tags_insert_none}
@@ -80,9 +80,9 @@ tagged_makes flat places on name d n =
 
 -- DELETED TAGS
 
-pub deleted_makes : (flat : DocValue) (names : List Word) → IsOfSite flat → Makes flat (deletion_drafts MOST_SPANS flat names) (without_tags flat names)
+pub deleted_makes : (flat : DocValue) (names : List Word) → IsOfSite flat → Makes flat (tag_deletion_drafts MOST_SPANS flat names) (without_tags flat names)
 deleted_makes flat names d =
-    makes_by flat (without_tags flat names) (deletion_drafts MOST_SPANS flat names) d (deletions_may flat.site flat.log flat names d.history d.document) (deletions_insert_none names flat)
+    makes_by flat (without_tags flat names) (tag_deletion_drafts MOST_SPANS flat names) d (deletions_may flat.site flat.log flat names d.history d.document) (deletions_insert_none names flat)
     (all_deletions_counted flat.site flat.log flat names d.history d.document) (deletions_made flat.site flat.log flat names d.site d.history d.document)
 
 -- a document that has a limit, marks and a text as before, and other tags

@@ -29,7 +29,7 @@ use Rattle.rt_text.specs.Index.{index_check, place_at_index}
 use Rattle.rt_text.specs.Ranges.{text_between, texts_of, ranges_of}
 use Rattle.rt_plans.specs.Removals.{cells_at, is_covered, stamps_at}
 use Rattle.rt_plans.specs.Selections.{unselected, selection_with}
-use Rattle.rt_plans.specs.TagDrafts.{deletion_drafts, tag_drafts_at}
+use Rattle.rt_plans.specs.TagDrafts.{tag_deletion_drafts, tag_drafts_at}
 use Rattle.rt_plans.specs.TagWrites.{listed_if, with_tag_at, without_tags}
 use Rattle.rt_lines.specs.declared.stretch.Stretch.{Stretch}
 use Rattle.rt_lines.specs.Stretches.{stretch_of}
@@ -126,7 +126,7 @@ with_tag_in view on name ranges =
 
 -- tags taken off all characters of the whole text, and no longer listed; `sel` is passed over
 abbrev pub with_tags_deleted : ViewValue → List Word → ViewValue
-with_tags_deleted view names = record view { doc = logged view.doc (deletion_drafts MOST_SPANS view.doc names) (without_tags view.doc names) }
+with_tags_deleted view names = record view { doc = logged view.doc (tag_deletion_drafts MOST_SPANS view.doc names) (without_tags view.doc names) }
 
 -- COMMANDS on a widget, each what it gives or why it is refused
 

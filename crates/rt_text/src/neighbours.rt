@@ -54,7 +54,7 @@ fn limit_left<S: TextStore>(store: &S, removed: &[Range], limit: Option<Stamp>) 
 }
 
 // A newline stands at a place or behind it.
-fn is_behind(at: usize, place: Option<usize>) -> bool
+fn stands_behind(at: usize, place: Option<usize>) -> bool
     ensures { result ≡ stands_behind at place }
 {
     match place {
@@ -131,7 +131,7 @@ pub(crate) fn shows_both<S: TextStore>(
 {
     let start = limit_left(store, removed, limits.start);
     let end = limit_left(store, removed, limits.end);
-    let begins_there = is_behind(at, start) && end_with_newline(pieces);
+    let begins_there = stands_behind(at, start) && end_with_newline(pieces);
     let ends_there = is_ahead(at, end) && have_newline(pieces);
     !begins_there && !ends_there
 }

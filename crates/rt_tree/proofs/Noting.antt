@@ -125,7 +125,7 @@ module _ (m : Memory) (height root : ℕ) (t : IsShape m height root) where
           (λ k. either (was k) (first (shown_states (all_below m (suc j) (right k)))))
           ∙ sym (ap first behind_up ∙ first_of (shown_behind m j x i) (shown_states (all_below m (suc j) (right_of id es))))
 
-    -- the same of nodes that are those
+    -- a node above the leaf and its child, by numbers that are theirs
     module _ (j : ℕ) (le : suc j ≤ height) (p child : ℕ) (p_is : p ≡ above m (suc j) x) (child_is : child ≡ above m j x) where
       pub above_is : (p < length m.heads) × (level_of m p ≡ suc j)
       above_is = let n = at m height root t x xis low (suc j) le in subst (λ q. (q < length m.heads) × (level_of m q ≡ suc j)) (sym p_is) n

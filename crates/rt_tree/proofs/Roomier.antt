@@ -128,7 +128,7 @@ module _ (m : Memory) (n : ℕ) (root : ℕ) (text : List ℕ) (sums : List Summ
       ∙ ap (λ (l : List Run). record { cells = cells_of text l; came = came_of l; runs = length l; height = level_of m root + 1; room = room; stretches = stretches_of (with_room m n) sums (length m.heads); sure = sure }) (runs_room m n root)
       ∙ ap (λ (l : List Stretch). record { cells = cells_of text (tree_runs m root); came = came_of (tree_runs m root); runs = length (tree_runs m root); height = level_of m root + 1; room = room; stretches = l; sure = sure }) (stretches_room m n sums)
 
--- the same where summaries tell the same
+-- a tree is shown alike where summaries tell the same
 pub sums_shown : (m : Memory) (root : ℕ) (text : List ℕ) (sums sums' : List Summary) (room : Room) (sure : Bool) → length m.heads ≤ length sums → ((id : ℕ) → id < length sums → TellsAs (summary_of sums id) (summary_of sums' id)) → shown m root text sums' room sure ≡ shown m root text sums room sure
 sums_shown m root text sums sums' room sure many tells =
     ap (λ (l : List Stretch). record { cells = cells_of text (tree_runs m root); came = came_of (tree_runs m root); runs = length (tree_runs m root); height = level_of m root + 1; room = room; stretches = l; sure = sure })

@@ -96,7 +96,7 @@ module _ (table : TagStates) (m : Memory) (sums : List Summary) where
   pub summed_from : AreRight table (stretches_of m sums (length m.heads)) → AreSummed table m sums
   summed_from right id is = summed_to (length m.heads) (recursion_from_All (IsStretch table) (stretches_of m sums (length m.heads)) right) id is
 
--- the same, where nodes have the same runs and summaries tell the same
+-- stretches are the same where nodes have the same runs and summaries tell the same
 pub stretches_same : (m m' : Memory) (sums sums' : List Summary) (n : ℕ) → ((id : ℕ) → runs m' (level_of m' id) id ≡ runs m (level_of m id) id) → ((id : ℕ) → id < n → TellsAs (summary_of sums id) (summary_of sums' id)) → stretches_of m' sums' n ≡ stretches_of m sums n
 stretches_same m m' sums sums' zero same tells = refl
 stretches_same m m' sums sums' (suc n) same tells =

@@ -110,7 +110,7 @@ pub record IsSplit (s s' : Memory) (n q p : ℕ) (front back left right : List E
   pub is : entries s' p ≡ left ++ kid n ∷ kid q ∷ right
   pub others : (c : ℕ) → c < q → (c ≡ n → ⊥) → (c ≡ p → ⊥) → entries s' c ≡ entries s c
 
--- the same of nodes with totals: a node's entry in its parent has become two
+-- a node with totals is cut in two, as `IsSplit` has it: its entry in its parent has become two
 pub record IsCut (m m' : Memory) (n q p : ℕ) (front back left right : List Entry) (e : Entry) : Type 0 where
   pub new : q ≡ length m.heads
   pub longer : length m'.heads ≡ suc q

@@ -1,3 +1,4 @@
+pub mod NodeEntries
 pub mod Runs
 pub mod Sums
 pub mod Tallies

@@ -39,7 +39,7 @@ pub record IsBordered (leaves : Shown NodeId) (run : Run) : Type 0 where
 abbrev pub HasLeaf : Shown NodeId → ℕ → Run → Type 0
 HasLeaf leaves leaf run = (stamp : Stamp) → has run stamp ≡ true → value_of leaves stamp ≡ Some (record { index = leaf })
 
--- the same of all runs that stand in leaves before a node
+-- the stamps of all runs that stand in leaves before a node have their leaf in the map
 abbrev pub HaveLeavesBelow : ℕ → Memory → Shown NodeId → Type 0
 HaveLeavesBelow node m leaves = (leaf : ℕ) (run : Run) → Stands m leaf run → leaf < node → HasLeaf leaves leaf run
 

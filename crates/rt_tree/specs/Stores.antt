@@ -5,8 +5,8 @@ use Rattle.rt_tags.specs.States.{TagStates}
 use Rattle.rt_tree.specs.declared.store.TreeStore.{TreeStore}
 use Rattle.rt_tree.specs.Trees.{Agrees}
 
-abbrev pub cells_of : TreeStore → List (Cell ℕ)
-cells_of store = store.tree.cells
+abbrev pub store_cells : TreeStore → List (Cell ℕ)
+store_cells store = store.tree.cells
 
 -- the cells' states were given out by a table, and what is kept for nodes is right by it
 abbrev pub AgreesWith : TagStates → TreeStore → Type 0

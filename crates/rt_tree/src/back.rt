@@ -15,6 +15,7 @@ ghost use Rattle.rt_tree.specs.Sums.{AreFew, counts_of};
 
 use crate::find::sum_of;
 use crate::node::{Entry, Mem, Run};
+use crate::node_entry::read_entry;
 use crate::reach::Wanted;
 use crate::summary::{Summary, passes_nowhere, state_is};
 use crate::sums::entry_counts;
@@ -79,7 +80,7 @@ fn entry_back(
         → result ≡ reached_back (tagged_as search.now.states.now search.now.wanted.tag search.now.wanted.on) upto
         (below mem.now (level_of mem.now node.index) e) }
 {
-    match *mem.entry(node, i) {
+    match read_entry(mem, node, i) {
         Entry::Here(run) => run_back(search.states, &search.wanted, run, upto),
         Entry::Down(child, _) => {
             let summary = &search.sums[child.index as usize];

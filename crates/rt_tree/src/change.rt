@@ -7,8 +7,9 @@ ghost use Rattle.rt_tree.specs.Shape.{AreFilled, IsShape, ahead, all_below, behi
 ghost use Rattle.rt_tree.specs.Sums.{AreFew, counts_of};
 
 use crate::node::{Entry, Mem, Run};
-use crate::settle::{add_above, set_entry, settle_by};
-use crate::totals::{entry_totals, growth};
+use crate::node_entry::{insert_entry, set_entry};
+use crate::settle::{add_above, settle_by};
+use crate::totals::{entry_totals, growth, totals_of};
 use rt_nodes::NodeId;
 
 // Puts another run in place of one.
@@ -27,9 +28,10 @@ pub(crate) fn set_run(mem: &mut Mem, root: NodeId, height: u32, leaf: NodeId, i:
     ensures runs { runs (bare mem.new) height root.index ≡ ahead (bare mem.old) height leaf.index
         ++ (all_below (bare mem.old) 0 (links (slice_set (entries mem.old leaf.index) i (Here run))) ++ behind (bare mem.old) height leaf.index) }
 {
+    let seen = run;
     let new = Entry::Here(run);
     let before = entry_totals(mem.entry(leaf, i));
-    let after = entry_totals(&new);
+    let after = totals_of(seen);
     let grown = growth(before, after);
     set_entry(mem, leaf, i, new);
     settle_by(mem, root, height, leaf, grown);
@@ -54,8 +56,9 @@ pub(crate) fn put_run(mem: &mut Mem, root: NodeId, height: u32, leaf: NodeId, i:
         ++ (all_below (bare mem.old) 0 (links (insert (entries mem.old leaf.index) i (Here run))) ++ behind (bare mem.old) height leaf.index) }
     ensures room { (mem.new.room ≡ mem.old.room) × (length mem.new.heads ≡ length mem.old.heads) }
 {
+    let seen = run;
     let new = Entry::Here(run);
-    let more = entry_totals(&new);
-    mem.insert_at(leaf, i, new);
+    let more = totals_of(seen);
+    insert_entry(mem, leaf, i, new);
     add_above(mem, root, height, leaf, more);
 }

@@ -9,6 +9,7 @@ ghost use Rattle.rt_tree.specs.Shape.{all_below, level_of, runs};
 ghost use Rattle.rt_tree.specs.Summaries.{HasSummary, HaveMemory, IsSummary, shown_states, summary_of};
 
 use crate::node::{Entry, Mem, Run};
+use crate::node_entry::read_entry;
 use crate::summary::Summary;
 use crate::summed::Summaries;
 use rt_nodes::NodeId;
@@ -54,8 +55,8 @@ fn add_entry(
         summary.new }
     ensures capacity { summary.new.counts.capacity ≡ summary.old.counts.capacity }
 {
-    match mem.entry(node, i) {
-        Entry::Here(run) => add_run(summary, states, run),
+    match read_entry(mem, node, i) {
+        Entry::Here(run) => add_run(summary, states, &run),
         Entry::Down(child, _) => summary.join(states, &each[child.index as usize]),
     }
 }

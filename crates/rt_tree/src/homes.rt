@@ -19,6 +19,7 @@ ghost use Rattle.rt_tree.specs.Walks.{IsBehind};
 use crate::find::{cell_in, has, height};
 use crate::looks::Counted;
 use crate::node::{Counts, Entry, Mem, Run};
+use crate::node_entry::read_entry;
 use crate::settle::level_of;
 use crate::up::rise_from;
 use crate::walk::Found;
@@ -159,7 +160,7 @@ fn has_at(mem: &Mem, node: NodeId, i: usize, stamp: Stamp) -> bool
     requires { IsNode mem.now node.index × (i < length (entries mem.now node.index)) }
     ensures { result ≡ true → (run : Run) × (slice_get (entries mem.now node.index) i ≡ Some (Here run)) × (has run stamp ≡ true) }
 {
-    match *mem.entry(node, i) {
+    match read_entry(mem, node, i) {
         Entry::Here(run) => has(run, stamp),
         Entry::Down(..) => false,
     }
@@ -388,7 +389,7 @@ impl Homes {
         ensures left { self.new.left ≡ self.old.left }
     {
         for i in 0..mem.len(node) {
-            match *mem.entry(node, i) {
+            match read_entry(mem, node, i) {
                 Entry::Here(run) => self.retell(&run, node),
                 Entry::Down(..) => {}
             }
@@ -473,7 +474,7 @@ fn home_at(mem: &Mem, root: NodeId, leaf: NodeId, entry: usize) -> Option<Home>
     ensures home { IfSome result (λ home. IsBehind (tree_runs mem.now root.index) home.run home.before) }
     ensures run { IfSome result (λ home. slice_get (entries mem.now leaf.index) entry ≡ Some (Here home.run)) }
 {
-    match *mem.entry(leaf, entry) {
+    match read_entry(mem, leaf, entry) {
         Entry::Down(..) => None,
         Entry::Here(run) => {
             // For its clause alone: it bounds the levels, and so the looks.

@@ -12,6 +12,7 @@ mod homes;
 pub mod looks;
 mod near;
 pub mod node;
+pub mod node_entry;
 mod note;
 mod put;
 mod reach;
@@ -37,6 +38,7 @@ pub mod walk;
 
 pub use looks::{Counted, CountedTags, Looks, Sight};
 pub use node::{CountedBy, Counts, Entry, Head, Run, Totals};
+pub use node_entry::NodeEntry;
 pub use seeks::seek;
 pub use store::TreeStore;
 pub use tree::Tree;

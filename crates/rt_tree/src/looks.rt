@@ -8,15 +8,16 @@ ghost use Rattle.rt_tree.specs.Shape.{Memory, parent_of};
 ghost use Rattle.rt_tree.specs.Sights.{borders_in, first_in};
 
 use crate::node::{Entry, Mem, Run};
+use crate::node_entry::NodeEntry;
 use crate::summary::Summary;
 use rt_nodes::NodeId;
 use rt_tags::{StateId, TagId};
 
 /// What a look at an entry tells: the entry, and how a tag goes through its visible characters, if one
 /// was asked for.
-#[derive(Clone, Copy, Debug, PartialEq, Eq)]
+#[derive(Clone, Copy)]
 pub struct Sight {
-    pub entry: Entry,
+    pub entry: NodeEntry,
     /// How many borders the tag has between these characters; 0 where no tag was asked for.
     pub borders: u32,
     /// The state of the first of them; none where there is none, or no tag was asked for.
@@ -79,7 +80,7 @@ pub struct CountedTags<'a, 'b> {
 }
 
 // An entry of which nothing is told but itself.
-fn plain(entry: Entry) -> Sight
+fn plain(entry: NodeEntry) -> Sight
     ensures { result ≡ record { entry = entry; borders = 0; first = None } }
 {
     Sight {
@@ -97,14 +98,14 @@ fn told_of_run(run: Run) -> Sight
 {
     let first = if run.gone { None } else { Some(run.state) };
     Sight {
-        entry: Entry::Here(run),
+        entry: NodeEntry::new(Entry::Here(run)),
         borders: 0,
         first,
     }
 }
 
 // What is told of an entry, by what is kept for nodes of tags.
-fn told(entry: Entry, sums: &[Summary], tag: Option<TagId>) -> Sight
+fn told(entry: NodeEntry, sums: &[Summary], tag: Option<TagId>) -> Sight
     ensures entry { result.entry ≡ entry }
     ensures borders { result.borders ≡ borders_in sums.now tag entry }
     ensures first { result.first ≡ first_in sums.now tag entry }
@@ -113,7 +114,7 @@ fn told(entry: Entry, sums: &[Summary], tag: Option<TagId>) -> Sight
         Some(tag) => tag,
         None => return plain(entry),
     };
-    let child = match entry {
+    let child = match entry.get() {
         Entry::Down(child, _) => child,
         Entry::Here(run) => return told_of_run(run),
     };

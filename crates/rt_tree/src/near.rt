@@ -10,6 +10,7 @@ ghost use Rattle.rt_tree.specs.Walks.{IsSpot, StandsAt};
 use crate::find::height;
 use crate::looks::Counted;
 use crate::node::{CountedBy, Counts, Entry, Mem, Run};
+use crate::node_entry::read_entry;
 use crate::sums::{amount, counts_of_run, plus};
 use crate::up::rise_from;
 use crate::walk::{Found, Spot, descend_by};
@@ -77,7 +78,7 @@ fn behind(mem: &Mem, root: NodeId, found: &Found) -> Option<Found>
     if entry >= all {
         return None;
     }
-    match *mem.entry(leaf, entry) {
+    match read_entry(mem, leaf, entry) {
         Entry::Down(..) => None,
         Entry::Here(run) => {
             let before = plus(found.before, counts_of_run(found.run));

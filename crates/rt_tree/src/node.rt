@@ -1,4 +1,5 @@
 // What nodes keep.
+use crate::node_entry::NodeEntry;
 use rt_nodes::{NodeId, NodeMem};
 use rt_tags::StateId;
 
@@ -13,7 +14,7 @@ pub struct Run {
     pub at: u32,
     /// How many cells there are, 1 or more.
     pub len: u32,
-    pub site: u16,
+    pub site: u32,
     pub gone: bool,
     /// Whether the last character is a newline.
     pub newline: bool,
@@ -32,7 +33,7 @@ pub struct Counts {
 pub struct Totals {
     pub least_count: u64,
     pub counts: Counts,
-    pub least_site: u16,
+    pub least_site: u32,
 }
 
 /// An entry of a leaf is a run; one of a node above is a node one level down, with what the runs
@@ -61,4 +62,4 @@ pub enum CountedBy {
 }
 
 /// The nodes of a tree, with at most sixteen entries each.
-pub type Mem = NodeMem<Head, Entry, 16>;
+pub type Mem = NodeMem<Head, NodeEntry, 16>;

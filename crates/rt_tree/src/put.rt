@@ -22,6 +22,7 @@ ghost use Rattle.rt_tree.specs.Walks.{IsPutAt, IsReplacedAt, IsSpot, StandsAt};
 use crate::homes::Homes;
 use crate::looks::Counted;
 use crate::node::{CountedBy, Entry, Mem, Run};
+use crate::node_entry::read_entry;
 use crate::resum::{insert_run, replace_run};
 use crate::room::{Place, Top, make_room, top_room};
 use crate::settle::level_of;
@@ -133,7 +134,7 @@ fn next_entry(mem: &Mem, spot: Spot) -> Option<usize>
     if next >= all {
         return None;
     }
-    match *mem.entry(spot.leaf, next) {
+    match read_entry(mem, spot.leaf, next) {
         Entry::Down(..) => None,
         Entry::Here(run) => { if run.len > 0 { Some(next) } else { None } }
     }

@@ -126,7 +126,7 @@ fn entry_reached<L: Looks>(
     ensures lent { L.counter looks.new ≡ L.counter looks.old }
 {
     let seen = looks.look(node, i, Some(wanted.tag));
-    match seen.entry {
+    match seen.entry.get() {
         Entry::Here(run) => run_reached(states, wanted, run, from),
         Entry::Down(child, totals) => {
             let visible = totals.counts.visible as usize;

@@ -13,6 +13,7 @@ ghost use Rattle.rt_tree.specs.Sums.{AreFew, counts_of};
 
 use crate::change::{put_run, set_run};
 use crate::node::{Entry, Mem, Run};
+use crate::node_entry::read_entry;
 use crate::note::{Restated, note};
 use crate::room::{Place, Top};
 use crate::summaries::shown_state;
@@ -27,7 +28,7 @@ fn shown_at(mem: &Mem, leaf: NodeId, i: usize) -> Option<StateId>
     requires within { i < length (entries mem.now leaf.index) }
     ensures { (e : Entry) → e ≡ slice_index_or (entries mem.now leaf.index) i e → shown_states (below mem.now 0 e) ≡ one_or_none result }
 {
-    match *mem.entry(leaf, i) {
+    match read_entry(mem, leaf, i) {
         Entry::Here(run) => shown_state(&run),
         Entry::Down(_, _) => None,
     }

@@ -1,14 +1,15 @@
 // Totals put right from a node upwards.
 ghost use Rattle.std.specs.Prelude.{◌≡◌, ◌<◌, length, slice_index_or};
 ghost use Rattle.std.specs.Option.{ForSome};
-ghost use Rattle.rt_nodes.specs.Nodes.{IsNode, entries, with_entry};
+ghost use Rattle.rt_nodes.specs.Nodes.{IsNode, entries};
 ghost use Rattle.rt_tree.specs.declared.node.Entry.{Entry};
 ghost use Rattle.rt_tree.specs.declared.node.Entry.TheVariants.{Down};
-ghost use Rattle.rt_tree.specs.Changes.{AreExact, AreExactBut, Lacks, bare, blank, entry_totals, join, strip, with_more};
+ghost use Rattle.rt_tree.specs.Changes.{AreExact, AreExactBut, Lacks, bare, blank, join, strip};
 ghost use Rattle.rt_tree.specs.Shape.{IsShape, count_of, level_of, parent_of, runs};
 ghost use Rattle.rt_tree.specs.Sums.{AreFew, counts_of, plus};
 
 use crate::node::{Entry, Mem, Totals};
+use crate::node_entry::{add_to, set_entry};
 use crate::sums::plus;
 use crate::totals::{adds_up, join};
 use crate::up::is_node;
@@ -28,17 +29,9 @@ pub(crate) fn level_of(mem: &Mem, id: NodeId) -> u32
     mem.head(id).level
 }
 
-// Replaces an entry.
-pub(crate) fn set_entry(mem: &mut Mem, id: NodeId, i: usize, entry: Entry)
-    requires { IsNode mem.old id.index × (i < length (entries mem.old id.index)) }
-    ensures { mem.new ≡ with_entry mem.old id.index i entry }
-{
-    *mem.entry_mut(id, i) = entry;
-}
-
 // Joins more to totals: their counts alone change where the least count of more is greater.
 #[inline(always)]
-fn grow_by(totals: &mut Totals, more: Totals)
+pub(crate) fn grow_by(totals: &mut Totals, more: Totals)
     requires { AreFew (plus more.counts totals.old.counts) }
     ensures { totals.new ≡ join more totals.old }
 {
@@ -46,18 +39,6 @@ fn grow_by(totals: &mut Totals, more: Totals)
         *totals = join(more, *totals);
     } else {
         totals.counts = plus(more.counts, totals.counts);
-    }
-}
-
-// Joins more to the totals that an entry keeps, in place.
-#[inline(always)]
-fn add_to(mem: &mut Mem, id: NodeId, i: usize, more: Totals)
-    requires node { IsNode mem.old id.index × (i < length (entries mem.old id.index)) }
-    requires few { (e : Entry) → e ≡ slice_index_or (entries mem.old id.index) i e → AreFew (plus more.counts (entry_totals e).counts) }
-    ensures { (e : Entry) → e ≡ slice_index_or (entries mem.old id.index) i e → mem.new ≡ with_entry mem.old id.index i (with_more more e) }
-{
-    if let Entry::Down(_, totals) = mem.entry_mut(id, i) {
-        grow_by(totals, more);
     }
 }
 

@@ -9,6 +9,7 @@ ghost use Rattle.rt_tree.specs.Skips.{HasCells, are_passed, passed};
 ghost use Rattle.rt_tree.specs.Sums.{counts_of};
 
 use crate::node::{Entry, Mem, Run, Totals};
+use crate::node_entry::read_entry;
 use crate::sums::entry_counts;
 use crate::totals::least_of;
 use rt_nodes::NodeId;
@@ -54,7 +55,7 @@ fn entry_passed(mem: &Mem, root: NodeId, node: NodeId, i: usize, from: usize, ne
     ensures { (e : Entry) → e ≡ slice_index_or (entries mem.now node.index) i e
         → result ≡ passed from new (below mem.now (level_of mem.now node.index) e) }
 {
-    match *mem.entry(node, i) {
+    match read_entry(mem, node, i) {
         Entry::Here(run) => run_passed(run, from, new),
         Entry::Down(_, totals) if are_passed(totals, from, new) => totals.counts.cells as usize,
         Entry::Down(child, _) => passed(mem, root, child, from, new),

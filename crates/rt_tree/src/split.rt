@@ -8,7 +8,8 @@ ghost use Rattle.rt_tree.specs.Shape.{IsShape, count_of, level_of, parent_of, ru
 ghost use Rattle.rt_tree.specs.Sums.{AreFew, counts_of};
 
 use crate::node::{Entry, Head, Mem};
-use crate::settle::{level_of, set_entry};
+use crate::node_entry::{insert_entry, read_entry, set_entry};
+use crate::settle::level_of;
 use crate::totals::adds_up;
 use rt_nodes::NodeId;
 
@@ -27,7 +28,7 @@ fn adopt(mem: &mut Mem, id: NodeId)
     ensures { IsAdopted mem.old mem.new id.index (entries (bare mem.old) id.index) }
 {
     for i in 0..mem.len(id) {
-        match *mem.entry(id, i) {
+        match read_entry(mem, id, i) {
             Entry::Down(child, _) => set_parent(mem, child, id),
             Entry::Here(_) => {}
         }
@@ -86,7 +87,7 @@ pub(crate) fn split(
     let front = adds_up(mem, node);
     let back = adds_up(mem, new);
     set_entry(mem, parent, slot, Entry::Down(node, front));
-    mem.insert_at(parent, slot + 1, Entry::Down(new, back));
+    insert_entry(mem, parent, slot + 1, Entry::Down(new, back));
     new
 }
 
@@ -109,7 +110,7 @@ pub(crate) fn grow(mem: &mut Mem, root: NodeId, height: u32) -> NodeId
         parent: root,
         level,
     });
-    mem.insert_at(new, 0, Entry::Down(root, totals));
+    insert_entry(mem, new, 0, Entry::Down(root, totals));
     set_parent(mem, root, new);
     new
 }

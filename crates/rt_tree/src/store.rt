@@ -28,11 +28,11 @@ impl Drop for TreeStore {
 }
 
 impl TreeStore {
-    ghost use Rattle.rt_tree.specs.Stores.{AgreesWith, cells_of};
+    ghost use Rattle.rt_tree.specs.Stores.{AgreesWith, store_cells};
 
     /// A store of the final newline alone. `NoMemory` is its only fault.
     pub fn new(alloc: Global) -> Result<TreeStore, Fault>
-        ensures ok { IfOk result (λ store. cells_of store ≡ final_cell ∷ []) }
+        ensures ok { IfOk result (λ store. store_cells store ≡ final_cell ∷ []) }
         ensures agrees { IfOk result (λ store. (table : TagStates) → AreStates table (final_cell ∷ []) → AgreesWith table store) }
         ensures err { IsOkUnless result Fault.NoMemory }
     {
@@ -65,9 +65,9 @@ impl TreeStore {
 
     /// The visible cell at a place, as `cell_at` answers. It adds at least one look a level to the counter, and at most sixteen.
     pub fn find(&self, place: usize, looks: &mut u64) -> Cell<StateId>
-        requires within { place < length (visible_of (cells_of self.now)) }
+        requires within { place < length (visible_of (store_cells self.now)) }
         requires room { looks.old + 16 * self.now.tree.height < 2 ^ 64 }
-        ensures cell { slice_get (visible_of (cells_of self.now)) place ≡ Some result }
+        ensures cell { slice_get (visible_of (store_cells self.now)) place ≡ Some result }
         ensures counted { looks.old + self.now.tree.height ≤ looks.new }
         ensures cost { looks.new ≤ looks.old + 16 * self.now.tree.height }
     {
@@ -78,7 +78,7 @@ impl TreeStore {
     /// counter, and while the map of leaves is sure at least one a level where a cell has the stamp (`Tree::climb`).
     pub fn climb(&self, stamp: Stamp, looks: &mut u64) -> Option<usize>
         requires room { looks.old + 16 * self.now.tree.height < 2 ^ 64 }
-        ensures place { result ≡ option_map (visible_before (cells_of self.now)) (position_of (cells_of self.now) stamp) }
+        ensures place { result ≡ option_map (visible_before (store_cells self.now)) (position_of (store_cells self.now) stamp) }
         ensures counted { looks.old ≤ looks.new }
         ensures looked { self.now.tree.sure ≡ true → IfSome result (λ _. looks.old + self.now.tree.height ≤ looks.new) }
         ensures unsure { self.now.tree.sure ≡ false → looks.new ≡ looks.old }
@@ -99,7 +99,7 @@ impl TreeStore {
         requires tag { IsTag states.now tag }
         requires agrees { AgreesWith states.now self.now }
         requires room { looks.old + 32 * self.now.tree.height < 2 ^ 64 }
-        ensures place { result ≡ next_tagged states.now tag (cells_of self.now) place }
+        ensures place { result ≡ next_tagged states.now tag (store_cells self.now) place }
         ensures counted { looks.old ≤ looks.new }
         ensures looked { IfSome result (λ _. looks.old + self.now.tree.height ≤ looks.new) }
         ensures cost { looks.new ≤ looks.old + 32 * self.now.tree.height }

@@ -9,6 +9,7 @@ ghost use Rattle.rt_tree.specs.Shape.{all_below, below, level_of};
 ghost use Rattle.rt_tree.specs.Summaries.{HasEnds, IsSummary, WasAround, shown_states, summary_of};
 
 use crate::node::{Entry, Mem, Run};
+use crate::node_entry::read_entry;
 use crate::summary::{Around, StateChange, Summary, count_around};
 use rt_nodes::NodeId;
 use rt_tags::{StateId, StateTable, Toggles};
@@ -29,7 +30,7 @@ fn first_of(each: &[Summary], mem: &Mem, node: NodeId, i: usize) -> Option<State
     ensures { (e : Entry) → e ≡ slice_index_or (entries mem.now node.index) i e
         → result ≡ first (shown_states (below mem.now (level_of mem.now node.index) e)) }
 {
-    match *mem.entry(node, i) {
+    match read_entry(mem, node, i) {
         Entry::Here(run) => shown_state(&run),
         Entry::Down(child, _) => each[child.index as usize].first,
     }
@@ -43,7 +44,7 @@ fn last_of(each: &[Summary], mem: &Mem, node: NodeId, i: usize) -> Option<StateI
     ensures { (e : Entry) → e ≡ slice_index_or (entries mem.now node.index) i e
         → result ≡ last (shown_states (below mem.now (level_of mem.now node.index) e)) }
 {
-    match *mem.entry(node, i) {
+    match read_entry(mem, node, i) {
         Entry::Here(run) => shown_state(&run),
         Entry::Down(child, _) => each[child.index as usize].last,
     }

@@ -4,6 +4,7 @@ ghost use Rattle.rt_tree.specs.Shape.{entry_counts};
 ghost use Rattle.rt_tree.specs.Sums.{AreFew, amount, counts_of_run, no_counts, plus};
 
 use crate::node::{CountedBy, Counts, Entry, Run};
+use crate::node_entry::NodeEntry;
 
 // What no run counts.
 pub(crate) fn no_counts() -> Counts
@@ -52,11 +53,11 @@ pub(crate) fn counts_of_run(run: Run) -> Counts
 }
 
 // What the runs of an entry count.
-pub(crate) fn entry_counts(entry: &Entry) -> Counts
+pub(crate) fn entry_counts(entry: &NodeEntry) -> Counts
     ensures { result ≡ entry_counts entry.now }
 {
-    match entry {
+    match entry.get() {
         Entry::Down(_, totals) => totals.counts,
-        Entry::Here(run) => counts_of_run(*run),
+        Entry::Here(run) => counts_of_run(run),
     }
 }

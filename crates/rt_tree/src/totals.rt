@@ -5,6 +5,7 @@ ghost use Rattle.rt_tree.specs.Changes.{HasGrown, adds_up, entry_totals, join, l
 ghost use Rattle.rt_tree.specs.Sums.{AreFew, lesser, plus, totals_of};
 
 use crate::node::{Counts, Entry, Mem, Run, Totals};
+use crate::node_entry::NodeEntry;
 use crate::sums::{counts_of_run, no_counts, plus};
 use rt_nodes::NodeId;
 use rt_stamps::Stamp;
@@ -48,7 +49,7 @@ pub(crate) fn join(a: Totals, b: Totals) -> Totals
     }
 }
 
-fn totals_of(run: Run) -> Totals
+pub(crate) fn totals_of(run: Run) -> Totals
     ensures { result ≡ totals_of (run ∷ []) }
 {
     let first = Stamp {
@@ -63,12 +64,12 @@ fn totals_of(run: Run) -> Totals
     }
 }
 
-pub(crate) fn entry_totals(entry: &Entry) -> Totals
+pub(crate) fn entry_totals(entry: &NodeEntry) -> Totals
     ensures { result ≡ entry_totals entry.now }
 {
-    match entry {
-        Entry::Down(_, totals) => *totals,
-        Entry::Here(run) => totals_of(*run),
+    match entry.get() {
+        Entry::Down(_, totals) => totals,
+        Entry::Here(run) => totals_of(run),
     }
 }
 

@@ -19,6 +19,7 @@ use crate::homes::{Homes, Sought, is_leaf};
 use crate::looks::Counted;
 use crate::near::{found_near, is_in, run_near};
 use crate::node::{CountedBy, Counts, Entry, Head, Mem, Run};
+use crate::node_entry::insert_entry;
 use crate::skip::{is_low, passed};
 use crate::summed::Summaries;
 use crate::sums::counts_of_run;
@@ -128,7 +129,7 @@ impl Tree {
             parent: NodeId { index: 0 },
             level: 0,
         });
-        mem.insert_at(root, 0, Entry::Here(final_run()));
+        insert_entry(&mut mem, root, 0, Entry::Here(final_run()));
         let homes = Homes::new(alloc, root)?;
         let sums = Summaries::of_one(alloc, StateId::EMPTY)?;
         Ok(Tree {

@@ -11,6 +11,7 @@ ghost use Rattle.rt_tree.specs.Walks.{IsBehind, IsPlaceIn};
 use crate::find::has;
 use crate::looks::Looks;
 use crate::node::{Counts, Entry, Run};
+use crate::node_entry::NodeEntry;
 use crate::sums::{entry_counts, no_counts, plus};
 use rt_nodes::NodeId;
 use rt_stamps::Stamp;
@@ -128,11 +129,11 @@ struct Stood {
 
 // The run of an entry, if it has a stamp.
 #[inline(always)]
-fn run_with(entry: &Entry, stamp: Stamp) -> Option<Run>
+fn run_with(entry: &NodeEntry, stamp: Stamp) -> Option<Run>
     ensures some { IfSome result (λ run. (entry.now ≡ Here run) × (has run stamp ≡ true)) }
     ensures none { result ≡ None → (run : Run) → entry.now ≡ Here run → has run stamp ≡ false }
 {
-    match *entry {
+    match entry.get() {
         Entry::Here(run) => {
             let seen = run;
             if has(seen, stamp) { Some(run) } else { None }
@@ -211,10 +212,10 @@ pub fn ascend<L: Looks>(looks: &mut L, root: NodeId, leaf: NodeId, stamp: Stamp)
 }
 
 // Whether an entry is that of a node.
-pub(crate) fn is_node(entry: &Entry, node: NodeId) -> bool
+pub(crate) fn is_node(entry: &NodeEntry, node: NodeId) -> bool
     ensures { result ≡ is_of node.index entry.now }
 {
-    match entry {
+    match entry.get() {
         Entry::Down(child, _) => child.index == node.index,
         Entry::Here(_) => false,
     }

@@ -9,6 +9,7 @@ ghost use Rattle.rt_tree.specs.Walks.{IsSpot};
 
 use crate::looks::Looks;
 use crate::node::{CountedBy, Counts, Entry, Run};
+use crate::node_entry::NodeEntry;
 use crate::sums::{amount, counts_of_run, no_counts, plus};
 use rt_nodes::NodeId;
 
@@ -31,7 +32,7 @@ pub(crate) struct Found {
 // An entry of a node, so much into it, and what stands before it.
 #[derive(Clone, Copy)]
 struct Step {
-    entry: Entry,
+    entry: NodeEntry,
     index: usize,
     rest: usize,
     before: Counts,
@@ -64,15 +65,15 @@ fn past(by: CountedBy, rest: usize, before: Counts, counts: Counts) -> Option<Pa
 
 // Behind an entry, if the place isn't in it. Each kind of entry is gone past by itself, as it keeps its counts in another way.
 #[inline(always)]
-fn past_entry(by: CountedBy, rest: usize, before: Counts, entry: &Entry) -> Option<Passed>
+fn past_entry(by: CountedBy, rest: usize, before: Counts, entry: &NodeEntry) -> Option<Passed>
     requires { AreFew (plus before (entry_counts entry.now)) }
     ensures rest { IfSome result (λ past. past.rest + amount by (entry_counts entry.now) ≡ rest) }
     ensures before { IfSome result (λ past. past.before ≡ plus before (entry_counts entry.now)) }
     ensures none { IfNone result (rest < amount by (entry_counts entry.now)) }
 {
-    match entry {
+    match entry.get() {
         Entry::Down(_, totals) => past(by, rest, before, totals.counts),
-        Entry::Here(run) => past(by, rest, before, counts_of_run(*run)),
+        Entry::Here(run) => past(by, rest, before, counts_of_run(run)),
     }
 }
 
@@ -166,7 +167,7 @@ pub(crate) fn descend_by<L: Looks>(
             rest: inside,
             before: ahead,
         } = entry_at(looks, node, by, rest, before);
-        match entry {
+        match entry.get() {
             Entry::Down(child, _) => {
                 node = child;
                 rest = inside;

@@ -91,7 +91,7 @@ asks_separator kind h = is_replace kind || differs_from kind (last h.current)
 abbrev pub recorded : {T : Type 0} → Action T → History T → History T
 recorded action h = record h { current = h.current ++ action ∷ []; undone = [] }
 
--- the same, with automatic separators or without, and with at most as many groups as may be
+-- an action is recorded, with automatic separators or without, and with at most as many groups as may be
 abbrev pub added : {T : Type 0} → Bool → Action T → History T → History T
 added auto action h = limited (recorded action (if auto && asks_separator action.kind h then separated h else h))
 
@@ -155,6 +155,6 @@ renamed_by f h = record h {
 abbrev pub replaced_in : {T : Type 0} → Stamp → Stamp → History T → History T
 replaced_in old new h = renamed_by (replaced old new) h
 
--- the same for the characters of a span and stamps of consecutive counts
+-- the characters of a span came back under stamps of consecutive counts, which replace the former ones in every group
 abbrev pub renamed_span : {T : Type 0} → Span → Stamp → History T → History T
 renamed_span former newer h = renamed_by (renamed former newer) h

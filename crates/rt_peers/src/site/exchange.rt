@@ -3,7 +3,7 @@ ghost use Rattle.std.specs.Prelude.{◌≡◌, ℕ, ◌<◌, ◌≤◌, IfOk, Is
 ghost use Rattle.std.specs.List.{AllByRecursion};
 ghost use Rattle.rt_stamps.specs.declared.limits.TheConstants.{MOST_BYTES};
 ghost use Rattle.rt_ops.specs.File.{spelling};
-ghost use Rattle.rt_ops.specs.Reading.{Reads, offsets_from};
+ghost use Rattle.rt_ops.specs.Reading.{Reads, offsets_of};
 ghost use Rattle.rt_rga.specs.Cells.{cells_of};
 ghost use Rattle.rt_rga.specs.Histories.{IsHistory, greatest_last_count};
 ghost use Rattle.rt_rga.specs.Texts.{tagged_text};
@@ -84,7 +84,7 @@ impl SiteState {
     pub fn export(&self) -> Result<Vec<u8>, Fault>
         ensures ok { IfOk result (λ bytes. bytes.items ≡ spelling (reverse self.now.text.view.doc.log)) }
         ensures read_back { OnOk result (Reads (spelling (reverse self.now.text.view.doc.log)) (reverse self.now.text.view.doc.log)
-            (offsets_from 8 (reverse self.now.text.view.doc.log)) None) }
+            (offsets_of (reverse self.now.text.view.doc.log)) None) }
         ensures err { IsOkUnless result Fault.NoMemory }
     {
         export(self.alloc, self.log())
@@ -92,7 +92,7 @@ impl SiteState {
 
     /// The last count that the site knows of each site of which it has operations; it knows all of that site up to
     /// there. Want of memory.
-    pub fn ends(&self) -> Result<BTreeMap<u16, u64>, Fault>
+    pub fn ends(&self) -> Result<BTreeMap<u32, u64>, Fault>
         ensures ok { IfOk result (λ ends. (site : ℕ) → known_in ends site ≡ known_end self.now.text.view.doc.log site) }
         ensures err { IsOkUnless result Fault.NoMemory }
     {
@@ -102,7 +102,7 @@ impl SiteState {
     /// The file of those operations whose last count is past what another site knows of their site: what that site's
     /// `ends` told, or an earlier answer of it. A site that isn't named there is one of which nothing is known. Want of
     /// memory.
-    pub fn export_since(&self, ends: &BTreeMap<u16, u64>) -> Result<Vec<u8>, Fault>
+    pub fn export_since(&self, ends: &BTreeMap<u32, u64>) -> Result<Vec<u8>, Fault>
         ensures ok { IfOk result (λ bytes. bytes.items ≡ spelling (reverse (past_known (known_in ends.now) self.now.text.view.doc.log))) }
         ensures read_back { OnOk result (IsFileOf (spelling (reverse (past_known (known_in ends.now) self.now.text.view.doc.log)))
             (past_known (known_in ends.now) self.now.text.view.doc.log)) }

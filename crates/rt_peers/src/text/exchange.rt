@@ -29,7 +29,7 @@ impl Taking for EditedText {
         self.view.answer(op)
     }
 
-    fn known(&self, site: u16) -> u64 {
+    fn known(&self, site: u32) -> u64 {
         self.log().known(site)
     }
 

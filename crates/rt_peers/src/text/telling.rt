@@ -106,7 +106,7 @@ impl Taking for TellingText<'_, '_> {
         self.text.answer(op)
     }
 
-    fn known(&self, site: u16) -> u64 {
+    fn known(&self, site: u32) -> u64 {
         self.text.known(site)
     }
 
@@ -159,7 +159,7 @@ fn receive_told(
 }
 
 // A text that is lent tries held operations, and stays the one that was lent.
-fn settle_lent(telling: &mut TellingText<'_, '_>, held: &mut Held, made_by: u16) -> usize
+fn settle_lent(telling: &mut TellingText<'_, '_>, held: &mut Held, made_by: u32) -> usize
     requires { AreTriedBefore (text_limit telling.old.text.now) made_by held.old (text_log telling.old.text.now) }
     ensures tried { AreTried text_log text_with_new (text_limit telling.old.text.now) (holding text_log telling.old.text.now held.old.held)
         telling.old.text.now telling.new.text.now held.new.held result }
@@ -177,7 +177,7 @@ fn settle_told(
     text: &mut EditedText,
     told: &mut Told,
     held: &mut Held,
-    made_by: u16,
+    made_by: u32,
 ) -> usize
     requires { AreTriedBefore (text_limit text.old) made_by held.old (text_log text.old) }
     ensures tried { AreTried text_log text_with_new (text_limit text.old) (holding text_log text.old held.old.held) text.old text.new
@@ -218,7 +218,7 @@ impl EditedText {
     fn settle_behind(
         &mut self,
         held: &mut Held,
-        made_by: u16,
+        made_by: u32,
         changes: Vec<ToldChange>,
     ) -> Vec<ToldChange>
         requires { AreTriedBefore (text_limit self.old) made_by held.old (text_log self.old) }
@@ -242,7 +242,7 @@ impl EditedText {
     pub(crate) fn settle_telling(
         &mut self,
         held: &mut Held,
-        made_by: u16,
+        made_by: u32,
         changes: Option<Vec<ToldChange>>,
     ) -> Option<Vec<ToldChange>>
         requires { AreTriedBefore (text_limit self.old) made_by held.old (text_log self.old) }

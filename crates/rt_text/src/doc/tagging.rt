@@ -12,7 +12,7 @@ ghost use Rattle.rt_store.specs.Tagged.{next_place, previous_place};
 ghost use Rattle.rt_tags.specs.States.{IsState};
 ghost use Rattle.rt_tags.specs.Tags.{is_listed, is_place, lowered, raised, sel};
 ghost use Rattle.rt_plans.specs.DocValue.{logged};
-ghost use Rattle.rt_plans.specs.TagDrafts.{deletion_drafts, tag_drafts_at};
+ghost use Rattle.rt_plans.specs.TagDrafts.{tag_deletion_drafts, tag_drafts_at};
 ghost use Rattle.rt_plans.specs.TagWrites.{listed_if, with_tag_at, without_tags};
 ghost use Rattle.rt_text.specs.Commands.{clock_check};
 ghost use Rattle.rt_plans.specs.Listed.{AreListed};
@@ -145,7 +145,7 @@ impl<S: TextStore> Doc<S> {
 
     // Takes tags off all characters, and lists them no longer.
     pub(crate) fn delete_tags(&mut self, names: &[String]) -> Result<(), Fault>
-        ensures ok { OnOk result (self.new ≡ logged self.old (deletion_drafts MOST_SPANS self.old (as_words names.now))
+        ensures ok { OnOk result (self.new ≡ logged self.old (tag_deletion_drafts MOST_SPANS self.old (as_words names.now))
             (without_tags self.old (as_words names.now))) }
         ensures checked { OnOk result (clock_check self.new.count ≡ None) }
         ensures err { IfErr result (λ fault. (fault ≡ Fault.NoMemory)

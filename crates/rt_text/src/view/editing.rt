@@ -19,7 +19,7 @@ impl<S: TextStore> View<S> {
     /// have, and in each widget they are selected where both neighbours are. `BadName`, `BadIndex`,
     /// `NoneTagged`, `ClockSpent`, `TextFull`, or want of memory, and then nothing changes. It takes one
     /// count for each character and one for each tag that an Insert of at most 65,535 characters can't
-    /// list, above 64.
+    /// list, above 255.
     #[inline(always)]
     pub fn insert(&mut self, index: &str, pieces: &[Piece], rest: &str) -> Result<(), Fault>
         ensures ok { OnOk result (view_inserted self.old index.now pieces.now rest.now ≡ Ok self.new) }

@@ -16,8 +16,8 @@ impl<S: TextStore> View<S> {
 
     /// What the newest operations of the log changed, in the order in which they were made: all that were made since `note`,
     /// and nothing is noted from here on. None where `note` wasn't asked, an operation was taken since, two that were made
-    /// at once may be Tags of one tag that name one stamp (no edit makes such), or memory was wanting to note them, which
-    /// refuses no edit.
+    /// at once may be Tags of one tag that name one stamp, or memory was wanting to note them, which refuses no edit. No
+    /// edit makes such Tags.
     pub fn noted(&mut self) -> Option<Vec<Change>>
         ensures newest { IfSome result (λ changes. AreOfNewest (reverse changes.items) self.old.doc.log) }
         ensures same { self.new ≡ self.old }

@@ -23,7 +23,7 @@ impl<S: TextStore> View<S> {
     /// of `kept`, which gets those of the group for the other stack, also where the call is refused. `copy`
     /// is an empty store, for the cells that the group names and those that come back. `ClockSpent`, `TextFull`,
     /// or want of memory, as also where this store would have more than the most cells, and then nothing else
-    /// changes. It takes one count for each character that comes back and for each of its tags above 64, and for
+    /// changes. It takes one count for each character that comes back and for each of its tags above 255, and for
     /// each action one for each 65,536 spans of what goes.
     pub fn revert<C: TextStore>(
         &mut self,

@@ -12,7 +12,7 @@ decreases-loop-left l = length l.left
 abbrev pub invariant-loop-left : goal.invariant-loop-left
 invariant-loop-left l = record {
   ends : List (ℕ × ℕ);
-  fit : AllByRecursion (λ end. (end.0 < 2 ^ 16) × (end.1 < 2 ^ 64)) ends;
+  fit : AllByRecursion (λ end. (end.0 < 2 ^ 32) × (end.1 < 2 ^ 64)) ends;
   whole : l.fn.bytes ≡ l.left ++ ends_bytes ends;
   known : (site : ℕ) → unwrap_or (get nat_cmp l.ends site) 0 ≡ known_by ends site;
 }

@@ -1,43 +1,22 @@
-use Rattle.std.proofs.Common.{◌<◌, ◌+◌, inl, inr, ◌∙◌, ap, length, subst}
+use Rattle.std.proofs.Common.{◌∙◌, sym, subst, reverse}
+use Rattle.std.specs.Prelude.{OnOk}
 use Rattle.std.specs.List.{AllByRecursion}
-use Rattle.std.proofs.lemmas.List.{take_all}
-use Rattle.std.proofs.lemmas.Result.{err_from_is_err_and}
-use Rattle.rt_stamps.proofs.Writes.{part_longer}
-use Rattle.rt_ops.specs.File.{magic, HasRecord}
-use Rattle.rt_oplog.specs.Blocks.{in_blocks}
-use Rattle.rt_oplog.proofs.InBlocks.{all_block}
-use Rattle.rt_oplog.proofs.Merges.{ops_at}
-use Rattle.rt_oplog.proofs.ReadBack.{written_is_read}
-use Rattle.rt_oplog.proofs.Writing.{part_block}
+use Rattle.rt_stamps.specs.Written.{WritesBuffered}
+use Rattle.rt_ops.specs.File.{file_of, HasRecord}
+use Rattle.rt_oplog.specs.Logs.{IsLog}
+use Rattle.rt_oplog.proofs.Fitting.{first_fits}
+use Rattle.rt_oplog.proofs.ReadBack.{on_ok, written_is_read}
 use Rattle.rt_oplog.proofs.file.write_file.Goals as goal
 
-pub returns-in_err-write_magic-clause-writes : goal.returns-in_err-write_magic-clause-writes
-returns-in_err-write_magic-clause-writes g c =
-    let p = err_from_is_err_and c.from_residual.result c.from_residual.ensures.1 in
-    let written = c.in_err-write_magic.ensures in
-    rw (p.1, p.2) (record { wrote = part_longer _ _ magic _ written.wrote; failures = inr (written.fault, written.failures) })
+pub write_in-requires : goal.write_in-requires
+write_in-requires g c = λ one. first_fits (reverse c.args.log.now.operations) (sym c.version_of.ensures ∙ one)
 
-pub write_records-requires : goal.write_records-requires
-write_records-requires g c =
-    let ops = c.blocks-2.result.0.now in
-    rw c.deref.ensures.value
-    (all_block (λ place. place < length ops) c.blocks-2.result.1.now c.loop-block.block-index c.block-item.result c.loop-block-test.true c.block-item.is c.blocks-2.ensures.within)
-
-pub returns-in_err-write_records-clause-writes : goal.returns-in_err-write_records-clause-writes
-returns-in_err-write_records-clause-writes g c =
-    let p = err_from_is_err_and c.from_residual-in_err-write_records.result c.from_residual-in_err-write_records.ensures.1 in
-    let written = c.in_err-write_records.ensures.writes in
-    let before = c.loop-block.invariant.failures in
-    rw (p.1, p.2, ← c.blocks-2.ensures.operations) (record {
-      wrote = part_block _ _ _ c.blocks-2.result.0.now c.blocks-2.result.1.now c.loop-block.block-index c.block-item.result c.loop-block-test.true c.block-item.is c.loop-block.invariant.wrote
-          (rw c.deref.ensures.value at written.wrote);
-      failures = elim written.failures [
-        | inl memory ↦ inl (memory.0, memory.1 ∙ before)
-        | inr failed ↦ inr (failed.0, failed.1 ∙ ap (λ n. n + 1) before)
-      ];
-    })
+pub returns-clause-writes : goal.returns-clause-writes
+returns-clause-writes g c =
+    subst (λ v. WritesBuffered (g.W.Sink.stream c.args.out.now) (g.W.Sink.stream c.write_in.new.out) c.write_in.result (file_of v (reverse c.args.log.now.operations))) c.version_of.ensures c.write_in.ensures.writes
 
 pub returns-clause-read_back : goal.returns-clause-read_back
 returns-clause-read_back g c =
-    let seen = ap (λ bs. ops_at c.blocks-2.result.0.now (in_blocks bs)) (take_all c.loop-block.block-index c.blocks-2.result.1.now c.loop-block-test.false) ∙ c.blocks-2.ensures.operations in
-    written_is_read c.args.log.now.operations c.blocks-2.ensures.log (subst (AllByRecursion HasRecord) seen c.loop-block.invariant.records)
+    let log = c.args.log.now.operations in
+    on_ok c.write_in.result (λ written. written_is_read log written.0 written.1)
+    (subst (λ v. OnOk c.write_in.result (IsLog log × AllByRecursion (HasRecord v) (reverse log))) c.version_of.ensures c.write_in.ensures.records)

@@ -1,5 +1,5 @@
-use Rattle.std.proofs.Common.{◌∙◌}
-use Rattle.rt_ops.specs.Reading.{Reads}
+use Rattle.std.proofs.Common.{◌≡◌, ◌∙◌, ◌++◌, ◌∷◌, [], subst, sym}
+use Rattle.rt_ops.specs.Reading.{Reads, offsets_from}
 use Rattle.rt_ops.proofs.Readings.{each_has_place, ended_as, offsets_more, reads_length}
 use Rattle.rt_ops.proofs.InMemory.{reads_taken, refused_end}
 use Rattle.rt_ops.proofs.bytes.read_bytes.Goals as goal
@@ -23,7 +23,7 @@ records-preserved c =
     rw (c.in_ok-push.ensures.items, c.in_ok-push-2.ensures.items) (record {
       taken = takes.taken c.records.ops.items so_far.taken;
       bytes = takes.bytes ∙ so_far.bytes;
-      offsets = offsets_more c.records.ops.items c.records.offsets.items c.in-Ok-Some.op c.offset-offset.result so_far.offsets place;
+      offsets = subst (λ v. c.records.offsets.items ++ c.offset-offset.result ∷ [] ≡ offsets_from v 8 (c.records.ops.items ++ c.in-Ok-Some.op ∷ [])) (sym takes.version) (offsets_more c.records.records.version c.records.ops.items c.records.offsets.items c.in-Ok-Some.op c.offset-offset.result so_far.offsets place);
     })
 
 pub returns-clause-ok : goal.returns-clause-ok

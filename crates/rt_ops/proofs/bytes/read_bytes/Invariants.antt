@@ -7,7 +7,7 @@ abbrev pub invariant-records : goal.invariant-records
 invariant-records l = record {
   taken : HasTaken l.records l.ops.items;
   bytes : l.records.bytes ≡ l.fn.bytes;
-  offsets : l.offsets.items ≡ offsets_from 8 l.ops.items;
+  offsets : l.offsets.items ≡ offsets_from l.records.version 8 l.ops.items;
 }
 
 abbrev pub decreases-records : goal.decreases-records

@@ -16,5 +16,5 @@ returns c =
     let name = c.in_ok-name.ensures in
     let read = c.in_ok-spans.ensures in
     let bytes = string_bytes {Z = Global} c.in_ok-name.name in
-    rw c.tag.ensures (decided 3 c.args.stamp c.args.prev (Tag c.in-Some.found.0 bytes c.in_ok-spans.spans.items) c.args.bytes.now refl read.0.each (name.0, read.0)
+    rw c.tag.ensures (decided c.args.version 3 c.args.stamp c.args.prev (Tag c.in-Some.found.0 bytes c.in_ok-spans.spans.items) c.args.bytes.now refl read.0.each (name.0, read.0)
     (c.in-Some.ensures.bytes ∙ ap (λ v. flag c.in-Some.found.0 ∷ v) (name.1 ∙ ap (λ v. name_bytes bytes ++ v) read.1)))

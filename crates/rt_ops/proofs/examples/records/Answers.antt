@@ -14,3 +14,11 @@ returns-clause-delete c = refl
 pub returns-clause-tag : goal.returns-clause-tag
 unfolding number stamp_bytes span_bytes spans_bytes
 returns-clause-tag c = refl
+
+pub returns-clause-insert_of_two : goal.returns-clause-insert_of_two
+unfolding number stamp_bytes tags_bytes encode
+returns-clause-insert_of_two c = refl
+
+pub returns-clause-wide_site : goal.returns-clause-wide_site
+unfolding number stamp_bytes tags_bytes encode
+returns-clause-wide_site c = refl

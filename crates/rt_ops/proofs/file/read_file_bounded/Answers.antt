@@ -1,7 +1,7 @@
 use Rattle.std.proofs.Common.{◌≡◌, ◌-◌, true, false, length, Some, refl, sym, ap, ◌∙◌, arith}
 use Rattle.std.proofs.lemmas.Result.{err_from_is_err_and}
 use Rattle.rt_stamps.specs.declared.limits.Bounds.{Bounds}
-use Rattle.rt_ops.specs.File.{spelling}
+use Rattle.rt_ops.specs.File.{file_of}
 use Rattle.rt_ops.specs.Intake.{ReadsFile, StopsUnseen}
 use Rattle.rt_ops.proofs.Readings.{ended_as, ended_by, ends_head, ends_fault, ends_unrisen, ends_whole, records_more, last_push, follows, ended_memory, memory_first, memory_in, memory_after}
 use Rattle.rt_ops.proofs.Unseen.{gave_then, unseen_then}
@@ -16,7 +16,7 @@ pub returns-in-Err-next_op-clause-reads : goal.returns-in-Err-next_op-clause-rea
 returns-in-Err-next_op-clause-reads g c =
     let ops = c.records.ops.items in
     let offset = c.args.max_bytes - c.records.bounds.bytes in
-    let place : offset ≡ length (spelling ops) = omega (arith, c.records.invariant.takes.room) in
+    let place : offset ≡ length (file_of c.in-Ok.version ops) = omega (arith, c.records.invariant.takes.room) in
     let end = c.ended-in-Err-next_op in
     ended_as end.result _ _ _ (ReadsFile _ _ _) ops c.records.offsets.items c.in-Err-next_op.fault offset end.ensures.ops end.ensures.offsets end.ensures.fault
     (λ other. ends_fault _ _ _ _ _ _ ops c.records.offsets.items c.in-Err-next_op.fault offset c.records.invariant.takes c.records.invariant.are c.records.invariant.offsets c.in-Err-next_op.ensures.gets other place)
@@ -26,7 +26,7 @@ returns-then-not-may_follow-clause-reads g c =
     let ops = c.records.ops.items in
     let op = c.in-Ok-Some.op in
     let offset = c.args.max_bytes - c.records.bounds.bytes in
-    let place : offset ≡ length (spelling ops) = omega (arith, c.records.invariant.takes.room) in
+    let place : offset ≡ length (file_of c.in-Ok.version ops) = omega (arith, c.records.invariant.takes.room) in
     let gets = rw c.in-Ok-Some.field-0-is at c.in-Ok-Some.ensures.gets in
     let end = c.ended-then-not-may_follow in
     ended_as end.result _ _ _ (ReadsFile _ _ _) ops c.records.offsets.items _ offset end.ensures.ops end.ensures.offsets end.ensures.fault
@@ -38,10 +38,10 @@ records-preserved g c =
     let ops = c.records.ops.items in
     let op = c.in-Ok-Some.op in
     let offset = c.args.max_bytes - c.records.bounds.bytes in
-    let place : offset ≡ length (spelling ops) = omega (arith, c.records.invariant.takes.room) in
+    let place : offset ≡ length (file_of c.in-Ok.version ops) = omega (arith, c.records.invariant.takes.room) in
     let gets = rw c.in-Ok-Some.field-0-is at c.in-Ok-Some.ensures.gets in
     let one = rw c.in-Ok-Some.field-0-is at c.in-Ok-Some.ensures.gave in
-    let gave = gave_then g.R.Source.stream _ _ _ (spelling ops) c.records.invariant.takes.consumed one in
+    let gave = gave_then g.R.Source.stream _ _ _ (file_of c.in-Ok.version ops) c.records.invariant.takes.consumed one in
     let more = records_more _ _ _ _ _ _ ops c.records.offsets.items op offset c.records.invariant.takes c.records.invariant.are c.records.invariant.offsets gets.0 gets.1
     (follows ops c.records.last op true c.records.invariant.last c.if-not-may_follow.ensures) place in
     rw (c.in_ok-push.ensures.items, c.in_ok-push-2.ensures.items) (record { takes = more.0; gave = gave; are = more.1; offsets = more.2; last = ap Some c.stamp.ensures ∙ sym (last_push ops op) })
@@ -76,4 +76,4 @@ returns-in-Err-next_op-clause-unseen g c =
     let end = c.ended-in-Err-next_op in
     let bounds : Bounds = record { bytes = c.args.max_bytes; reads = c.args.max_reads } in
     ended_by end.result _ (StopsUnseen g.R.Source.stream bounds _ _) c.in-Err-next_op.fault offset end.ensures.fault
-    (λ is same. unseen_then g.R.Source.stream _ _ _ bounds c.records.bounds (spelling c.records.ops.items) taken.consumed c.records.invariant.gave (c.in-Err-next_op.ensures.unseen is (same ∙ sym taken.failures)))
+    (λ is same. unseen_then g.R.Source.stream _ _ _ bounds c.records.bounds (file_of c.in-Ok.version c.records.ops.items) taken.consumed c.records.invariant.gave (c.in-Err-next_op.ensures.unseen is (same ∙ sym taken.failures)))

@@ -10,7 +10,7 @@ use Rattle.rt_ops.proofs.intake.next_length.Goals as goal
 pub returns-in_err-gather-clause-gets : goal.returns-in_err-gather-clause-gets
 returns-in_err-gather-clause-gets g c =
     let p = err_from_is_err_and c.from_residual.result c.from_residual.ensures.1 in
-    rw (p.1, p.2) (not_gathered _ _ _ _ _ _ [] 4 c.in_err-gather.field-0.0 (takes_none _ _) short_field c.in_err-gather.ensures.gathers)
+    rw (p.1, p.2) (not_gathered _ _ _ _ _ _ [] 4 c.in_err-gather.field-0.0 (takes_none _ _) (short_field c.args.version) c.in_err-gather.ensures.gathers)
 
 pub returns-clause-gets : goal.returns-clause-gets
 returns-clause-gets g c =

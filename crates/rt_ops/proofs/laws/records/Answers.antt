@@ -3,7 +3,7 @@ use Rattle.rt_ops.proofs.InMemory.{same_taken}
 use Rattle.rt_ops.proofs.laws.records.Goals as goal
 
 pub returns-clause-begun : goal.returns-clause-begun
-returns-clause-begun c = λ left ops h. (left.rest, h.bytes, h.are)
+returns-clause-begun c = λ left ops h. (left.version, (left.rest, h.bytes, h.are))
 
 pub returns-clause-one : goal.returns-clause-one
 returns-clause-one c = same_taken

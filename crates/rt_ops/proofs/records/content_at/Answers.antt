@@ -12,4 +12,4 @@ pub returns : goal.returns
 returns c =
     let found = c.in_ok-length.ensures in
     let long : c.in_ok-length.length ≤ length c.in_ok-length.rest.now = omega (arith, c.if-rest-length.false) in
-    content_in c.args.bytes.now c.in_ok-length.rest.now _ c.in_ok-length.length found.0 found.1 found.2 long refl
+    content_in c.args.version c.args.bytes.now c.in_ok-length.rest.now _ c.in_ok-length.length found.0 found.1 found.2 long refl

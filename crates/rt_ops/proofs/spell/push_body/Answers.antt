@@ -4,7 +4,7 @@ use Rattle.rt_ops.proofs.Lengths.{names_fit}
 use Rattle.rt_ops.proofs.spell.push_body.Goals as goal
 
 pub push_tags-requires-clause-names : goal.push_tags-requires-clause-names
-push_tags-requires-clause-names c = rw c.deref.ensures.value (names_fit c.in-Insert.after c.in-Insert.tags.items c.in-Insert.text (rw c.in-Insert.is at c.requires))
+push_tags-requires-clause-names c = rw c.deref.ensures.value (names_fit c.in-Insert.after c.in-Insert.tags.items c.in-Insert.text (rw c.in-Insert.is at c.requires.rules))
 
 pub returns-in_err-push-in-Tag : goal.returns-in_err-push-in-Tag
 returns-in_err-push-in-Tag c =

@@ -6,6 +6,6 @@ use Rattle.rt_ops.proofs.spell.push_spans.Given as goal
 
 abbrev pub invariant-loop-span : goal.invariant-loop-span
 invariant-loop-span l = record {
-  wrote : l.out.items ≡ l.fn.out.items ++ (number w32 (length l.spans) ++ flat_map span_bytes (take l.span-index l.spans));
-  fit : AllByRecursion SpanFits (take l.span-index l.spans);
+  wrote : l.out.items ≡ l.fn.out.items ++ (number w32 (length l.spans) ++ flat_map (span_bytes l.version) (take l.span-index l.spans));
+  fit : AllByRecursion (SpanFits l.version) (take l.span-index l.spans);
 }

@@ -14,7 +14,7 @@ use Rattle.rt_tags.specs.Tags.{is_listed, sel, with_name}
 use Rattle.rt_plans.specs.declared.range.Range.{Range}
 use Rattle.rt_plans.specs.Listed.{AreListed, listed_name}
 use Rattle.rt_plans.specs.Removals.{cells_at, is_covered, is_in}
-use Rattle.rt_plans.specs.TagDrafts.{deletion_drafts, tag_drafts}
+use Rattle.rt_plans.specs.TagDrafts.{tag_deletion_drafts, tag_drafts}
 use Rattle.rt_plans.specs.TagWrites.{changed_stamps}
 use Rattle.rt_plans.proofs.DeletionsInTurn.{Stands, stands_first, stands_more, stands_past}
 use Rattle.rt_plans.proofs.ChangedPlaces.{visible_many}
@@ -98,4 +98,4 @@ pub returns-clause-ok : goal.returns-clause-ok
 returns-clause-ok g c = λ flat written shows.
     let done : List Body = map body_of c.loop-name.drafts.items in
     let s = c.loop-name.invariant flat written shows in
-    sym (append-nil done) ∙ ap (λ l. done ++ deletion_drafts MOST_SPANS s.doc (as_words l)) (sym (drop_all c.loop-name.name-index c.args.names.now (omega arith))) ∙ s.drafts
+    sym (append-nil done) ∙ ap (λ l. done ++ tag_deletion_drafts MOST_SPANS s.doc (as_words l)) (sym (drop_all c.loop-name.name-index c.args.names.now (omega arith))) ∙ s.drafts

@@ -3,7 +3,7 @@ use Rattle.std.specs.Prelude.{unwrap_or}
 use Rattle.rt_stamps.specs.declared.stamp.Stamp.{Stamp}
 use Rattle.rt_spans.specs.Shown.{is_in_span, value_of}
 use Rattle.rt_stamps.specs.declared.limits.TheConstants.{GREATEST_COUNT, MOST_CELLS}
-use Rattle.rt_revert.specs.Portions.{offset_of, place_in}
+use Rattle.rt_revert.specs.Portions.{offset_of, visible_before_stamp}
 use Rattle.rt_revert.proofs.OffsetLaws.{counted, offsets_all, offsets_next, place_small, set_offset, set_small}
 use Rattle.rt_revert.proofs.offsets.offsets_of.Goals as goal
 
@@ -37,13 +37,13 @@ loop-position-preserved g c =
     let stamp = cell.stamp in
     let old = c.loop-position.offsets in
     let new = c.set.new.self in
-    let put = set_offset old new stamp (place_in whole stamp - place_in cells stamp)
+    let put = set_offset old new stamp (visible_before_stamp whole stamp - visible_before_stamp cells stamp)
     (λ s. c.set.ensures.values s ∙ (λ i. cond (is_in_span (c.of.ensures i) s) (Some (c.offset_in.ensures i)) (value_of old s))) in
-    let small : place_in whole stamp - place_in cells stamp ≤ MOST_CELLS = omega (arith, place_small whole stamp, c.requires.whole) in
+    let small : visible_before_stamp whole stamp - visible_before_stamp cells stamp ≤ MOST_CELLS = omega (arith, place_small whole stamp, c.requires.whole) in
     record {
       within = omega arith;
       offsets = offsets_next whole cells p cell old new c.nth.ensures put c.loop-position.invariant.offsets;
-      small = set_small old new stamp (place_in whole stamp - place_in cells stamp) put small c.loop-position.invariant.small;
+      small = set_small old new stamp (visible_before_stamp whole stamp - visible_before_stamp cells stamp) put small c.loop-position.invariant.small;
       room = omega (arith, c.loop-position.invariant.room, c.set.ensures.room);
     }
 

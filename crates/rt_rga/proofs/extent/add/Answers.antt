@@ -2,7 +2,7 @@ use Rattle.std.proofs.Common.{◌≡◌, ◌∙◌, Result, Ok, Err, Some, ap, a
 use Rattle.std.specs.Prelude.{OnOk}
 use Rattle.std.specs.Result.{is_ok}
 use Rattle.std.proofs.lemmas.Map.Text.{hash_map_updates_str}
-use Rattle.rt_rga.specs.Extents.{joined_clear}
+use Rattle.rt_rga.specs.Extents.{joined_if_apart}
 use Rattle.rt_rga.proofs.Extents.{covered, put_there}
 use Rattle.rt_rga.proofs.extent.add.Goals as goal
 
@@ -19,5 +19,5 @@ returns-in-Some-beside c = λ ok.
     let found = c.copied.ensures ∙ c.get.ensures.value in
     put_there c.args.spans.now c.args.name.now c.args.extents.now c.insert.new.self extent both
     (λ stamp. covered c.args.spans.now extent stamp c.requires (sym c.in-Some.ensures))
-    (ap (joined_clear extent) (sym found) ∙ sym c.in-Some-beside.ensures)
+    (ap (joined_if_apart extent) (sym found) ∙ sym c.in-Some-beside.ensures)
     (hash_map_updates_str c.args.name.now c.args.extents.now c.insert.new.self (Some both) put)

@@ -21,4 +21,4 @@ returns-clause-ok g c =
     let word = c.args.word.now in
     let law = next_found view word c.order.ensures.named c.order.ensures.names in
     law ∙ ap (found_from (λ m. found_name (find (comes_before m) (marks_of view)))) c.in_ok-here.ensures.ok
-    ∙ sym (ap (λ v. Ok v) (c.name_of.ensures ∙ ap found_name c.first_after.ensures))
+    ∙ sym (ap (λ v. Ok v) (c.found_name.ensures ∙ ap found_name c.first_after.ensures))

@@ -21,4 +21,4 @@ returns-clause-ok g c =
     let word = c.args.word.now in
     let law = previous_found view word c.order.ensures.named c.order.ensures.names in
     law ∙ ap (found_from (λ m. found_name (find_last (λ x. comes_before x m) (marks_of view)))) c.in_ok-here.ensures.ok
-    ∙ sym (ap (λ v. Ok v) (c.name_of.ensures ∙ ap found_name c.last_before.ensures))
+    ∙ sym (ap (λ v. Ok v) (c.found_name.ensures ∙ ap found_name c.last_before.ensures))

@@ -19,13 +19,13 @@ use Rattle.rt_tree.proofs.back.+reached_back.Goals as goal
 pub entry_back-run_back-requires-clause-state : goal.entry_back-run_back-requires-clause-state
 entry_back-run_back-requires-clause-state t c shown =
     let a = c.args in
-    given-run a.mem.now a.root.index c.requires.tree a.node.index c.requires.node.0 a.i c.entry.result.now c.requires.within c.entry.ensures a.search.now.states.now c.requires.given c.in-Here.run' c.in-Here.is shown
+    given-run a.mem.now a.root.index c.requires.tree a.node.index c.requires.node.0 a.i c.read_entry.result c.requires.within c.read_entry.ensures a.search.now.states.now c.requires.given c.in-Here.run' c.in-Here.is shown
 
 pub entry_back-is_before-requires-clause-state : goal.entry_back-is_before-requires-clause-state
 entry_back-is_before-requires-clause-state t c =
     let a = c.args in
     let child = c.in-Down.child in
-    let d = near a.mem.now a.root.index c.requires.tree a.node.index c.requires.node.0 a.i c.entry.result.now c.requires.within c.entry.ensures a.search.now.states.now c.requires.given a.search.now.sums.now c.requires.sums child c.in-Down.field-1 c.in-Down.is in
+    let d = near a.mem.now a.root.index c.requires.tree a.node.index c.requires.node.0 a.i c.read_entry.result c.requires.within c.read_entry.ensures a.search.now.states.now c.requires.given a.search.now.sums.now c.requires.sums child c.in-Down.field-1 c.in-Down.is in
     let kept : get_or a.search.now.sums.now child.index c.index-search-child.result ≡ summary_of a.search.now.sums.now child.index = get-any a.search.now.sums.now child.index c.index-search-child.result no_summary (omega (arith, d.is, c.requires.many)) in
     subst (λ (s : Summary). IfSome s.first (IsState a.search.now.states.now)) (sym kept) d.first
 
@@ -34,21 +34,21 @@ entry_back-reached_back-requires t c =
     let a = c.args in
     let child = c.in-Down.child in
     let m = a.mem.now in
-    let d = near m a.root.index c.requires.tree a.node.index c.requires.node.0 a.i c.entry.result.now c.requires.within c.entry.ensures a.search.now.states.now c.requires.given a.search.now.sums.now c.requires.sums child c.in-Down.field-1 c.in-Down.is in
-    let few = subst (λ rs. AreFew (counts_of rs)) d.same (few-entry m a.root.index c.requires.tree a.node.index c.requires.node.0 a.i c.entry.result.now c.requires.within c.entry.ensures c.requires.few) in
+    let d = near m a.root.index c.requires.tree a.node.index c.requires.node.0 a.i c.read_entry.result c.requires.within c.read_entry.ensures a.search.now.states.now c.requires.given a.search.now.sums.now c.requires.sums child c.in-Down.field-1 c.in-Down.is in
+    let few = subst (λ rs. AreFew (counts_of rs)) d.same (few-entry m a.root.index c.requires.tree a.node.index c.requires.node.0 a.i c.read_entry.result c.requires.within c.read_entry.ensures c.requires.few) in
     (omega (arith, d.level, c.decreases), (c.requires.tree, (c.requires.sums, (c.requires.many, (c.requires.tag, ((d.is, subst (λ n. child.index < n) c.requires.tree.shape.same d.is), (d.states, few)))))))
 
 pub entry_back-returns-then-is_before : goal.entry_back-returns-then-is_before
 entry_back-returns-then-is_before t c e here =
     let a = c.args in
     let m = a.mem.now in
-    let own = c.entry.result.now in
+    let own = c.read_entry.result in
     let child = c.in-Down.child in
     let k = level_of m a.node.index in
     let test = tagged_as a.search.now.states.now a.search.now.wanted.tag a.search.now.wanted.on in
-    let d = near m a.root.index c.requires.tree a.node.index c.requires.node.0 a.i own c.requires.within c.entry.ensures a.search.now.states.now c.requires.given a.search.now.sums.now c.requires.sums child c.in-Down.field-1 c.in-Down.is in
+    let d = near m a.root.index c.requires.tree a.node.index c.requires.node.0 a.i own c.requires.within c.read_entry.ensures a.search.now.states.now c.requires.given a.search.now.sums.now c.requires.sums child c.in-Down.field-1 c.in-Down.is in
     let kept : get_or a.search.now.sums.now child.index c.index-search-child.result ≡ summary_of a.search.now.sums.now child.index = get-any a.search.now.sums.now child.index c.index-search-child.result no_summary (omega (arith, d.is, c.requires.many)) in
-    let to : e ≡ own = here ∙ get-any (entries m a.node.index) a.i e own c.requires.within ∙ sym c.entry.ensures in
+    let to : e ≡ own = here ∙ get-any (entries m a.node.index) a.i e own c.requires.within ∙ sym c.read_entry.ensures in
     let told = c.is_before.ensures (below m k own) (subst (IsSummary a.search.now.states.now (shown_states (below m k own))) (sym kept) d.summed) c.if-is_before.true in
     sym (ap (λ x. reached_back test a.upto (below m k x)) to ∙ told)
 

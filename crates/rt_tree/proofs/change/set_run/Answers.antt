@@ -57,7 +57,7 @@ settle_by-requires-clause-grown c more is =
     let m = c.args.mem.now in let x = c.args.leaf.index in
     let new : Entry = Here c.args.run in
     let e = c.entry.result.now in
-    let grows : join more c.entry_totals-before.result ≡ c.entry_totals-after.result = subst (λ o. IfSome o (λ t. join t c.entry_totals-before.result ≡ c.entry_totals-after.result)) is c.growth-grown.ensures in
-    let sum : entry_totals new ≡ join more (entry_totals e) = sym c.entry_totals-after.ensures ∙ sym grows ∙ ap (join more) c.entry_totals-before.ensures in
+    let grows : join more c.entry_totals-before.result ≡ c.totals_of-after.result = subst (λ o. IfSome o (λ t. join t c.entry_totals-before.result ≡ c.totals_of-after.result)) is c.growth-grown.ensures in
+    let sum : entry_totals new ≡ join more (entry_totals e) = sym c.totals_of-after.ensures ∙ sym grows ∙ ap (join more) c.entry_totals-before.ensures in
     leaf-lacks m c.set_entry.new.mem c.args.height c.args.root.index c.requires.tree c.requires.exact x more (set (entries m x) c.args.i new) c.requires.leaf.0 c.set_entry.ensures
     (adds-set (entries m x) c.args.i e new more c.requires.within c.entry.ensures sum)

@@ -12,7 +12,7 @@ add_run-requires-clause-last c =
     let m = a.mem.now in
     let k = level_of m a.node.index in
     let es = entries m a.node.index in
-    last_so_far a.states.now m k es a.i c.entry.result.now c.requires.within c.entry.ensures c.requires.given a.summary.now c.requires.before
+    last_so_far a.states.now m k es a.i c.read_entry.result c.requires.within c.read_entry.ensures c.requires.given a.summary.now c.requires.before
 
 pub add_run-requires-clause-state : goal.add_run-requires-clause-state
 add_run-requires-clause-state c =
@@ -20,7 +20,7 @@ add_run-requires-clause-state c =
     let m = a.mem.now in
     let k = level_of m a.node.index in
     let es = entries m a.node.index in
-    run_given a.states.now m k es a.i c.entry.result.now c.requires.within c.entry.ensures c.requires.given a.summary.now c.requires.before c.in-Here.run' c.in-Here.is
+    run_given a.states.now m k es a.i c.read_entry.result c.requires.within c.read_entry.ensures c.requires.given a.summary.now c.requires.before c.in-Here.run' c.in-Here.is
 
 pub add_run-requires-clause-room : goal.add_run-requires-clause-room
 add_run-requires-clause-room c =
@@ -28,7 +28,7 @@ add_run-requires-clause-room c =
     let m = a.mem.now in
     let k = level_of m a.node.index in
     let es = entries m a.node.index in
-    room_so_far a.states.now m k es a.i c.entry.result.now c.requires.within c.entry.ensures c.requires.given a.summary.now c.requires.before c.requires.room
+    room_so_far a.states.now m k es a.i c.read_entry.result c.requires.within c.read_entry.ensures c.requires.given a.summary.now c.requires.before c.requires.room
 
 pub add_run-requires-clause-few : goal.add_run-requires-clause-few
 add_run-requires-clause-few c =
@@ -36,7 +36,7 @@ add_run-requires-clause-few c =
     let m = a.mem.now in
     let k = level_of m a.node.index in
     let es = entries m a.node.index in
-    few_so_far a.states.now m k es a.i c.entry.result.now c.requires.within c.entry.ensures c.requires.given a.summary.now c.requires.before c.requires.few
+    few_so_far a.states.now m k es a.i c.read_entry.result c.requires.within c.read_entry.ensures c.requires.given a.summary.now c.requires.before c.requires.few
 
 pub returns-in-Here-clause-added : goal.returns-in-Here-clause-added
 returns-in-Here-clause-added c =
@@ -44,7 +44,7 @@ returns-in-Here-clause-added c =
     let m = a.mem.now in
     let k = level_of m a.node.index in
     let es = entries m a.node.index in
-    run_added a.states.now m k es a.i c.entry.result.now c.requires.within c.entry.ensures c.requires.given a.summary.now c.requires.before c.in-Here.run' c.in-Here.is c.add_run.new.summary c.add_run.ensures.added
+    run_added a.states.now m k es a.i c.read_entry.result c.requires.within c.read_entry.ensures c.requires.given a.summary.now c.requires.before c.in-Here.run' c.in-Here.is c.add_run.new.summary c.add_run.ensures.added
 
 pub join-requires-clause-last : goal.join-requires-clause-last
 join-requires-clause-last c =
@@ -52,7 +52,7 @@ join-requires-clause-last c =
     let m = a.mem.now in
     let k = level_of m a.node.index in
     let es = entries m a.node.index in
-    last_so_far a.states.now m k es a.i c.entry.result.now c.requires.within c.entry.ensures c.requires.given a.summary.now c.requires.before
+    last_so_far a.states.now m k es a.i c.read_entry.result c.requires.within c.read_entry.ensures c.requires.given a.summary.now c.requires.before
 
 pub join-requires-clause-first : goal.join-requires-clause-first
 join-requires-clause-first c =
@@ -60,9 +60,9 @@ join-requires-clause-first c =
     let m = a.mem.now in
     let k = level_of m a.node.index in
     let es = entries m a.node.index in
-    let low = node_is a.states.now m k es a.i c.entry.result.now c.requires.within c.entry.ensures c.requires.given a.summary.now c.requires.before a.each.now c.requires.kids c.in-Down.child c.in-Down.field-1 c.in-Down.is in
+    let low = node_is a.states.now m k es a.i c.read_entry.result c.requires.within c.read_entry.ensures c.requires.given a.summary.now c.requires.before a.each.now c.requires.kids c.in-Down.child c.in-Down.field-1 c.in-Down.is in
     let kept = c.index-each-child.is ∙ get-any a.each.now c.in-Down.child.index c.index-each-child.result no_summary low in
-    node_first a.states.now m k es a.i c.entry.result.now c.requires.within c.entry.ensures c.requires.given a.summary.now c.requires.before a.each.now c.requires.kids c.in-Down.child c.in-Down.field-1 c.in-Down.is c.index-each-child.result kept
+    node_first a.states.now m k es a.i c.read_entry.result c.requires.within c.read_entry.ensures c.requires.given a.summary.now c.requires.before a.each.now c.requires.kids c.in-Down.child c.in-Down.field-1 c.in-Down.is c.index-each-child.result kept
 
 pub join-requires-clause-room : goal.join-requires-clause-room
 join-requires-clause-room c =
@@ -70,7 +70,7 @@ join-requires-clause-room c =
     let m = a.mem.now in
     let k = level_of m a.node.index in
     let es = entries m a.node.index in
-    room_so_far a.states.now m k es a.i c.entry.result.now c.requires.within c.entry.ensures c.requires.given a.summary.now c.requires.before c.requires.room
+    room_so_far a.states.now m k es a.i c.read_entry.result c.requires.within c.read_entry.ensures c.requires.given a.summary.now c.requires.before c.requires.room
 
 pub join-requires-clause-others : goal.join-requires-clause-others
 join-requires-clause-others c =
@@ -78,9 +78,9 @@ join-requires-clause-others c =
     let m = a.mem.now in
     let k = level_of m a.node.index in
     let es = entries m a.node.index in
-    let low = node_is a.states.now m k es a.i c.entry.result.now c.requires.within c.entry.ensures c.requires.given a.summary.now c.requires.before a.each.now c.requires.kids c.in-Down.child c.in-Down.field-1 c.in-Down.is in
+    let low = node_is a.states.now m k es a.i c.read_entry.result c.requires.within c.read_entry.ensures c.requires.given a.summary.now c.requires.before a.each.now c.requires.kids c.in-Down.child c.in-Down.field-1 c.in-Down.is in
     let kept = c.index-each-child.is ∙ get-any a.each.now c.in-Down.child.index c.index-each-child.result no_summary low in
-    node_others a.states.now m k es a.i c.entry.result.now c.requires.within c.entry.ensures c.requires.given a.summary.now c.requires.before a.each.now c.requires.kids c.in-Down.child c.in-Down.field-1 c.in-Down.is c.index-each-child.result kept
+    node_others a.states.now m k es a.i c.read_entry.result c.requires.within c.read_entry.ensures c.requires.given a.summary.now c.requires.before a.each.now c.requires.kids c.in-Down.child c.in-Down.field-1 c.in-Down.is c.index-each-child.result kept
 
 pub join-requires-clause-few : goal.join-requires-clause-few
 join-requires-clause-few c =
@@ -88,9 +88,9 @@ join-requires-clause-few c =
     let m = a.mem.now in
     let k = level_of m a.node.index in
     let es = entries m a.node.index in
-    let low = node_is a.states.now m k es a.i c.entry.result.now c.requires.within c.entry.ensures c.requires.given a.summary.now c.requires.before a.each.now c.requires.kids c.in-Down.child c.in-Down.field-1 c.in-Down.is in
+    let low = node_is a.states.now m k es a.i c.read_entry.result c.requires.within c.read_entry.ensures c.requires.given a.summary.now c.requires.before a.each.now c.requires.kids c.in-Down.child c.in-Down.field-1 c.in-Down.is in
     let kept = c.index-each-child.is ∙ get-any a.each.now c.in-Down.child.index c.index-each-child.result no_summary low in
-    node_few a.states.now m k es a.i c.entry.result.now c.requires.within c.entry.ensures c.requires.given a.summary.now c.requires.before a.each.now c.requires.kids c.in-Down.child c.in-Down.field-1 c.in-Down.is c.index-each-child.result kept c.requires.few
+    node_few a.states.now m k es a.i c.read_entry.result c.requires.within c.read_entry.ensures c.requires.given a.summary.now c.requires.before a.each.now c.requires.kids c.in-Down.child c.in-Down.field-1 c.in-Down.is c.index-each-child.result kept c.requires.few
 
 pub returns-in-Down-clause-added : goal.returns-in-Down-clause-added
 returns-in-Down-clause-added c =
@@ -98,6 +98,6 @@ returns-in-Down-clause-added c =
     let m = a.mem.now in
     let k = level_of m a.node.index in
     let es = entries m a.node.index in
-    let low = node_is a.states.now m k es a.i c.entry.result.now c.requires.within c.entry.ensures c.requires.given a.summary.now c.requires.before a.each.now c.requires.kids c.in-Down.child c.in-Down.field-1 c.in-Down.is in
+    let low = node_is a.states.now m k es a.i c.read_entry.result c.requires.within c.read_entry.ensures c.requires.given a.summary.now c.requires.before a.each.now c.requires.kids c.in-Down.child c.in-Down.field-1 c.in-Down.is in
     let kept = c.index-each-child.is ∙ get-any a.each.now c.in-Down.child.index c.index-each-child.result no_summary low in
-    node_joined a.states.now m k es a.i c.entry.result.now c.requires.within c.entry.ensures c.requires.given a.summary.now c.requires.before a.each.now c.requires.kids c.in-Down.child c.in-Down.field-1 c.in-Down.is c.index-each-child.result kept c.join.new.self c.join.ensures.joined
+    node_joined a.states.now m k es a.i c.read_entry.result c.requires.within c.read_entry.ensures c.requires.given a.summary.now c.requires.before a.each.now c.requires.kids c.in-Down.child c.in-Down.field-1 c.in-Down.is c.index-each-child.result kept c.join.new.self c.join.ensures.joined

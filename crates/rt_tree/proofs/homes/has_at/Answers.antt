@@ -11,4 +11,4 @@ pub returns-in-Here : goal.returns-in-Here
 returns-in-Here c = λ h.
     let es = entries c.args.mem.now c.args.node.index in
     let some : Entry → Option Entry = λ x. Some x in
-    (c.in-Here.run', slice_get-get_or es c.args.i c.entry.result.now c.requires.1 ∙ ap some (sym c.entry.ensures ∙ c.in-Here.is), sym c.has.ensures ∙ h)
+    (c.in-Here.run', slice_get-get_or es c.args.i c.read_entry.result c.requires.1 ∙ ap some (sym c.read_entry.ensures ∙ c.in-Here.is), sym c.has.ensures ∙ h)

@@ -28,6 +28,6 @@ returns-in-Here c =
     let m = c.args.mem.now in let r = c.args.root.index in let f = c.args.found.now in let i = f.spot.entry + 1 in
     let next = c.in-Here.run' in
     let lt : i < length (entries m f.spot.leaf.index) = omega (arith, c.if-entry-all.false, c.len-all.ensures.value) in
-    let there = get-at (entries m f.spot.leaf.index) i (Here next) lt (sym c.in-Here.is ∙ c.entry.ensures ∙ ap (get_or (entries m f.spot.leaf.index) i) c.in-Here.is) in
+    let there = get-at (entries m f.spot.leaf.index) i (Here next) lt (sym c.in-Here.is ∙ c.read_entry.ensures ∙ ap (get_or (entries m f.spot.leaf.index) i) c.in-Here.is) in
     let stands = next_held m r f.spot.leaf.index f.spot.entry i f.run next f.before c.requires.held refl there in
     subst (λ (x : Counts). IsHeld m r f.spot.leaf.index i next x) (sym (c.plus-before.ensures ∙ ap (plus f.before) c.counts_of_run.ensures)) stands

@@ -9,4 +9,4 @@ returns-then-run-gt0-clause-run c =
     let es = entries c.args.mem.now c.args.spot.leaf.index in
     let some : Entry → Option Entry = λ x. Some x in
     let within = c.if-next-all.false in let long = c.len-all.ensures.value in
-    (c.in-Here.run', slice_get-get_or es (c.args.spot.entry + 1) c.entry.result.now (omega (arith, within, long)) ∙ ap some (sym c.entry.ensures ∙ c.in-Here.is), c.if-run-gt0.true)
+    (c.in-Here.run', slice_get-get_or es (c.args.spot.entry + 1) c.read_entry.result (omega (arith, within, long)) ∙ ap some (sym c.read_entry.ensures ∙ c.in-Here.is), c.if-run-gt0.true)

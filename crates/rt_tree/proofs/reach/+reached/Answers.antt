@@ -3,7 +3,6 @@ use Rattle.std.proofs.lemmas.Bool.{lt-ltb, true≢false}
 use Rattle.std.specs.List.{AllByRecursion}
 use Rattle.rt_nodes.specs.Nodes.{entries}
 use Rattle.rt_tags.specs.States.{IsState}
-use Rattle.rt_tree.specs.declared.node.Run.{Run}
 use Rattle.rt_tree.specs.Reaches.{reached}
 use Rattle.rt_tree.specs.Seeks.{IsReached, most_below, runs_at}
 use Rattle.rt_tree.specs.Shape.{IsTree, Memory, level_of, runs}
@@ -22,14 +21,13 @@ pub entry_reached-run_reached-requires-clause-state :
 entry_reached-run_reached-requires-clause-state g t c =
     let a = c.args in
     let s = c.look-seen in
-    let P : Run → Type 0 = λ r. r.gone ≡ false → IsState a.states.now r.state in
-    subst P (sym c.in-Here.run-is) (given-run (g.L.Looks.nodes a.looks.now) a.root.index c.requires.tree a.node.index c.requires.node.0 a.i s.result.entry c.requires.within s.ensures.tells a.states.now c.requires.given c.in-Here.run' c.in-Here.is)
+    given-run (g.L.Looks.nodes a.looks.now) a.root.index c.requires.tree a.node.index c.requires.node.0 a.i s.result.entry c.requires.within s.ensures.tells a.states.now c.requires.given c.in-Here.run' (sym c.get.ensures ∙ c.in-Here.is)
 
 pub entry_reached-is_past-requires-clause-state : goal.entry_reached-is_past-requires-clause-state
 entry_reached-is_past-requires-clause-state g t c =
     let a = c.args in
     let s = c.look-seen in
-    let d = sees (g.L.Looks.nodes a.looks.now) a.root.index c.requires.tree a.node.index c.requires.node.0 a.i s.result.entry c.requires.within s.ensures.tells a.states.now c.requires.given (g.L.Looks.summaries a.looks.now) c.requires.sums a.wanted.now.tag s.result.borders s.result.first s.ensures.borders s.ensures.first c.in-Down.child c.in-Down.totals c.in-Down.is in
+    let d = sees (g.L.Looks.nodes a.looks.now) a.root.index c.requires.tree a.node.index c.requires.node.0 a.i s.result.entry c.requires.within s.ensures.tells a.states.now c.requires.given (g.L.Looks.summaries a.looks.now) c.requires.sums a.wanted.now.tag s.result.borders s.result.first s.ensures.borders s.ensures.first c.in-Down.child c.in-Down.totals (sym c.get.ensures ∙ c.in-Down.is) in
     d.first
 
 pub entry_reached-returns-then-is_past-clause-place :
@@ -39,7 +37,7 @@ entry_reached-returns-then-is_past-clause-place g t c some =
     let s = c.look-seen in
     let m = g.L.Looks.nodes a.looks.now in
     let sums = g.L.Looks.summaries a.looks.now in
-    let d = sees m a.root.index c.requires.tree a.node.index c.requires.node.0 a.i s.result.entry c.requires.within s.ensures.tells a.states.now c.requires.given sums c.requires.sums a.wanted.now.tag s.result.borders s.result.first s.ensures.borders s.ensures.first c.in-Down.child c.in-Down.totals c.in-Down.is in
+    let d = sees m a.root.index c.requires.tree a.node.index c.requires.node.0 a.i s.result.entry c.requires.within s.ensures.tells a.states.now c.requires.given sums c.requires.sums a.wanted.now.tag s.result.borders s.result.first s.ensures.borders s.ensures.first c.in-Down.child c.in-Down.totals (sym c.get.ensures ∙ c.in-Down.is) in
     let rs = runs_at m a.node.index a.i in
     let test = tagged_as a.states.now a.wanted.now.tag a.wanted.now.on in
     let past = c.is_past.ensures.past rs (summary_of sums c.in-Down.child.index) d.summed d.tells d.counted c.if-is_past.true in
@@ -50,7 +48,7 @@ pub entry_reached-returns-then-is_past-clause-whole :
 entry_reached-returns-then-is_past-clause-whole g t c off =
     let a = c.args in
     let s = c.look-seen in
-    let d = sees (g.L.Looks.nodes a.looks.now) a.root.index c.requires.tree a.node.index c.requires.node.0 a.i s.result.entry c.requires.within s.ensures.tells a.states.now c.requires.given (g.L.Looks.summaries a.looks.now) c.requires.sums a.wanted.now.tag s.result.borders s.result.first s.ensures.borders s.ensures.first c.in-Down.child c.in-Down.totals c.in-Down.is in
+    let d = sees (g.L.Looks.nodes a.looks.now) a.root.index c.requires.tree a.node.index c.requires.node.0 a.i s.result.entry c.requires.within s.ensures.tells a.states.now c.requires.given (g.L.Looks.summaries a.looks.now) c.requires.sums a.wanted.now.tag s.result.borders s.result.first s.ensures.borders s.ensures.first c.in-Down.child c.in-Down.totals (sym c.get.ensures ∙ c.in-Down.is) in
     d.counted
 
 pub entry_reached-returns-then-is_past-clause-inside :
@@ -58,7 +56,7 @@ pub entry_reached-returns-then-is_past-clause-inside :
 entry_reached-returns-then-is_past-clause-inside g t c =
     let a = c.args in
     let s = c.look-seen in
-    let d = sees (g.L.Looks.nodes a.looks.now) a.root.index c.requires.tree a.node.index c.requires.node.0 a.i s.result.entry c.requires.within s.ensures.tells a.states.now c.requires.given (g.L.Looks.summaries a.looks.now) c.requires.sums a.wanted.now.tag s.result.borders s.result.first s.ensures.borders s.ensures.first c.in-Down.child c.in-Down.totals c.in-Down.is in
+    let d = sees (g.L.Looks.nodes a.looks.now) a.root.index c.requires.tree a.node.index c.requires.node.0 a.i s.result.entry c.requires.within s.ensures.tells a.states.now c.requires.given (g.L.Looks.summaries a.looks.now) c.requires.sums a.wanted.now.tag s.result.borders s.result.first s.ensures.borders s.ensures.first c.in-Down.child c.in-Down.totals (sym c.get.ensures ∙ c.in-Down.is) in
     omega (arith, d.counted)
 
 pub entry_reached-reached-below-requires : goal.entry_reached-reached-below-requires
@@ -69,7 +67,7 @@ entry_reached-reached-below-requires g t c κs within =
     let sums = g.L.Looks.summaries a.looks.now in
     let n = g.L.Looks.nodes s.new.self in
     let child = c.in-Down.child.index in
-    let d = sees m a.root.index c.requires.tree a.node.index c.requires.node.0 a.i s.result.entry c.requires.within s.ensures.tells a.states.now c.requires.given sums c.requires.sums a.wanted.now.tag s.result.borders s.result.first s.ensures.borders s.ensures.first c.in-Down.child c.in-Down.totals c.in-Down.is in
+    let d = sees m a.root.index c.requires.tree a.node.index c.requires.node.0 a.i s.result.entry c.requires.within s.ensures.tells a.states.now c.requires.given sums c.requires.sums a.wanted.now.tag s.result.borders s.result.first s.ensures.borders s.ensures.first c.in-Down.child c.in-Down.totals (sym c.get.ensures ∙ c.in-Down.is) in
     let back = sym s.ensures.same in
     let lvl : level_of n child ≡ level_of m child = ap (λ x. level_of x child) s.ensures.same in
     let room = most_down a.from (level_of n child) (level_of m a.node.index) (d.level ∙ ap suc (sym lvl)) in
@@ -107,7 +105,7 @@ entry_reached-returns-then-below-clause-place g t c some =
     let s = c.look-seen in
     let m = g.L.Looks.nodes a.looks.now in
     let child = c.in-Down.child.index in
-    let d = sees m a.root.index c.requires.tree a.node.index c.requires.node.0 a.i s.result.entry c.requires.within s.ensures.tells a.states.now c.requires.given (g.L.Looks.summaries a.looks.now) c.requires.sums a.wanted.now.tag s.result.borders s.result.first s.ensures.borders s.ensures.first c.in-Down.child c.in-Down.totals c.in-Down.is in
+    let d = sees m a.root.index c.requires.tree a.node.index c.requires.node.0 a.i s.result.entry c.requires.within s.ensures.tells a.states.now c.requires.given (g.L.Looks.summaries a.looks.now) c.requires.sums a.wanted.now.tag s.result.borders s.result.first s.ensures.borders s.ensures.first c.in-Down.child c.in-Down.totals (sym c.get.ensures ∙ c.in-Down.is) in
     let test = tagged_as a.states.now a.wanted.now.tag a.wanted.now.on in
     let same = d.same ∙ ap (λ x. runs x (level_of x child) child) (sym s.ensures.same) in
     subst (λ rs. IsReached test a.from rs c.reached-below.result) (sym same) (c.reached-below.ensures.place (subst (AllByRecursion HasCells) same some))
@@ -118,7 +116,7 @@ entry_reached-returns-then-below-clause-inside g t c =
     let a = c.args in
     let s = c.look-seen in
     let child = c.in-Down.child.index in
-    let d = sees (g.L.Looks.nodes a.looks.now) a.root.index c.requires.tree a.node.index c.requires.node.0 a.i s.result.entry c.requires.within s.ensures.tells a.states.now c.requires.given (g.L.Looks.summaries a.looks.now) c.requires.sums a.wanted.now.tag s.result.borders s.result.first s.ensures.borders s.ensures.first c.in-Down.child c.in-Down.totals c.in-Down.is in
+    let d = sees (g.L.Looks.nodes a.looks.now) a.root.index c.requires.tree a.node.index c.requires.node.0 a.i s.result.entry c.requires.within s.ensures.tells a.states.now c.requires.given (g.L.Looks.summaries a.looks.now) c.requires.sums a.wanted.now.tag s.result.borders s.result.first s.ensures.borders s.ensures.first c.in-Down.child c.in-Down.totals (sym c.get.ensures ∙ c.in-Down.is) in
     let same = ap visible (d.same ∙ ap (λ x. runs x (level_of x child) child) (sym s.ensures.same)) in
     omega (arith, same, c.reached-below.ensures.inside)
 
@@ -130,7 +128,7 @@ entry_reached-returns-then-below-clause-cost g t c =
     let m = g.L.Looks.nodes a.looks.now in
     let child = c.in-Down.child.index in
     let n = g.L.Looks.nodes s.new.self in
-    let d = sees m a.root.index c.requires.tree a.node.index c.requires.node.0 a.i s.result.entry c.requires.within s.ensures.tells a.states.now c.requires.given (g.L.Looks.summaries a.looks.now) c.requires.sums a.wanted.now.tag s.result.borders s.result.first s.ensures.borders s.ensures.first c.in-Down.child c.in-Down.totals c.in-Down.is in
+    let d = sees m a.root.index c.requires.tree a.node.index c.requires.node.0 a.i s.result.entry c.requires.within s.ensures.tells a.states.now c.requires.given (g.L.Looks.summaries a.looks.now) c.requires.sums a.wanted.now.tag s.result.borders s.result.first s.ensures.borders s.ensures.first c.in-Down.child c.in-Down.totals (sym c.get.ensures ∙ c.in-Down.is) in
     let room = most_down a.from (level_of n child) (level_of m a.node.index) (d.level ∙ ap (λ x. suc (level_of x child)) (sym s.ensures.same)) in
     omega (arith, room, s.ensures.counts, c.reached-below.ensures.cost)
 
@@ -138,7 +136,7 @@ pub entry_reached-returns-then-below-clause-far : goal.entry_reached-returns-the
 entry_reached-returns-then-below-clause-far g t c le =
     let a = c.args in
     let s = c.look-seen in
-    let d = sees (g.L.Looks.nodes a.looks.now) a.root.index c.requires.tree a.node.index c.requires.node.0 a.i s.result.entry c.requires.within s.ensures.tells a.states.now c.requires.given (g.L.Looks.summaries a.looks.now) c.requires.sums a.wanted.now.tag s.result.borders s.result.first s.ensures.borders s.ensures.first c.in-Down.child c.in-Down.totals c.in-Down.is in
+    let d = sees (g.L.Looks.nodes a.looks.now) a.root.index c.requires.tree a.node.index c.requires.node.0 a.i s.result.entry c.requires.within s.ensures.tells a.states.now c.requires.given (g.L.Looks.summaries a.looks.now) c.requires.sums a.wanted.now.tag s.result.borders s.result.first s.ensures.borders s.ensures.first c.in-Down.child c.in-Down.totals (sym c.get.ensures ∙ c.in-Down.is) in
     absurd (true≢false (sym (c.is_past.ensures.far (omega (arith, d.counted, le))) ∙ c.if-is_past.false))
 
 pub entry_reached-returns-else-below-clause-place :
@@ -149,7 +147,7 @@ entry_reached-returns-else-below-clause-place g t c some =
     let m = g.L.Looks.nodes a.looks.now in
     let sums = g.L.Looks.summaries a.looks.now in
     let child = c.in-Down.child.index in
-    let d = sees m a.root.index c.requires.tree a.node.index c.requires.node.0 a.i s.result.entry c.requires.within s.ensures.tells a.states.now c.requires.given sums c.requires.sums a.wanted.now.tag s.result.borders s.result.first s.ensures.borders s.ensures.first c.in-Down.child c.in-Down.totals c.in-Down.is in
+    let d = sees m a.root.index c.requires.tree a.node.index c.requires.node.0 a.i s.result.entry c.requires.within s.ensures.tells a.states.now c.requires.given sums c.requires.sums a.wanted.now.tag s.result.borders s.result.first s.ensures.borders s.ensures.first c.in-Down.child c.in-Down.totals (sym c.get.ensures ∙ c.in-Down.is) in
     let test = tagged_as a.states.now a.wanted.now.tag a.wanted.now.on in
     let rs = runs_at m a.node.index a.i in
     let same = d.same ∙ ap (λ x. runs x (level_of x child) child) (sym s.ensures.same) in
@@ -163,7 +161,7 @@ entry_reached-returns-else-below-clause-whole g t c off =
     let a = c.args in
     let s = c.look-seen in
     let child = c.in-Down.child.index in
-    let d = sees (g.L.Looks.nodes a.looks.now) a.root.index c.requires.tree a.node.index c.requires.node.0 a.i s.result.entry c.requires.within s.ensures.tells a.states.now c.requires.given (g.L.Looks.summaries a.looks.now) c.requires.sums a.wanted.now.tag s.result.borders s.result.first s.ensures.borders s.ensures.first c.in-Down.child c.in-Down.totals c.in-Down.is in
+    let d = sees (g.L.Looks.nodes a.looks.now) a.root.index c.requires.tree a.node.index c.requires.node.0 a.i s.result.entry c.requires.within s.ensures.tells a.states.now c.requires.given (g.L.Looks.summaries a.looks.now) c.requires.sums a.wanted.now.tag s.result.borders s.result.first s.ensures.borders s.ensures.first c.in-Down.child c.in-Down.totals (sym c.get.ensures ∙ c.in-Down.is) in
     let same = d.same ∙ ap (λ x. runs x (level_of x child) child) (sym s.ensures.same) in
     c.reached-below.ensures.whole c.if-below.false ∙ ap visible (sym same)
 
@@ -173,7 +171,7 @@ entry_reached-returns-else-below-clause-inside g t c =
     let a = c.args in
     let s = c.look-seen in
     let child = c.in-Down.child.index in
-    let d = sees (g.L.Looks.nodes a.looks.now) a.root.index c.requires.tree a.node.index c.requires.node.0 a.i s.result.entry c.requires.within s.ensures.tells a.states.now c.requires.given (g.L.Looks.summaries a.looks.now) c.requires.sums a.wanted.now.tag s.result.borders s.result.first s.ensures.borders s.ensures.first c.in-Down.child c.in-Down.totals c.in-Down.is in
+    let d = sees (g.L.Looks.nodes a.looks.now) a.root.index c.requires.tree a.node.index c.requires.node.0 a.i s.result.entry c.requires.within s.ensures.tells a.states.now c.requires.given (g.L.Looks.summaries a.looks.now) c.requires.sums a.wanted.now.tag s.result.borders s.result.first s.ensures.borders s.ensures.first c.in-Down.child c.in-Down.totals (sym c.get.ensures ∙ c.in-Down.is) in
     let same = ap visible (d.same ∙ ap (λ x. runs x (level_of x child) child) (sym s.ensures.same)) in
     omega (arith, same, c.reached-below.ensures.inside)
 
@@ -185,7 +183,7 @@ entry_reached-returns-else-below-clause-cost g t c =
     let m = g.L.Looks.nodes a.looks.now in
     let child = c.in-Down.child.index in
     let n = g.L.Looks.nodes s.new.self in
-    let d = sees m a.root.index c.requires.tree a.node.index c.requires.node.0 a.i s.result.entry c.requires.within s.ensures.tells a.states.now c.requires.given (g.L.Looks.summaries a.looks.now) c.requires.sums a.wanted.now.tag s.result.borders s.result.first s.ensures.borders s.ensures.first c.in-Down.child c.in-Down.totals c.in-Down.is in
+    let d = sees m a.root.index c.requires.tree a.node.index c.requires.node.0 a.i s.result.entry c.requires.within s.ensures.tells a.states.now c.requires.given (g.L.Looks.summaries a.looks.now) c.requires.sums a.wanted.now.tag s.result.borders s.result.first s.ensures.borders s.ensures.first c.in-Down.child c.in-Down.totals (sym c.get.ensures ∙ c.in-Down.is) in
     let room = most_down a.from (level_of n child) (level_of m a.node.index) (d.level ∙ ap (λ x. suc (level_of x child)) (sym s.ensures.same)) in
     omega (arith, room, s.ensures.counts, c.reached-below.ensures.cost)
 
@@ -195,7 +193,7 @@ entry_reached-returns-else-below-clause-none g t c off =
     let a = c.args in
     let s = c.look-seen in
     let child = c.in-Down.child.index in
-    let d = sees (g.L.Looks.nodes a.looks.now) a.root.index c.requires.tree a.node.index c.requires.node.0 a.i s.result.entry c.requires.within s.ensures.tells a.states.now c.requires.given (g.L.Looks.summaries a.looks.now) c.requires.sums a.wanted.now.tag s.result.borders s.result.first s.ensures.borders s.ensures.first c.in-Down.child c.in-Down.totals c.in-Down.is in
+    let d = sees (g.L.Looks.nodes a.looks.now) a.root.index c.requires.tree a.node.index c.requires.node.0 a.i s.result.entry c.requires.within s.ensures.tells a.states.now c.requires.given (g.L.Looks.summaries a.looks.now) c.requires.sums a.wanted.now.tag s.result.borders s.result.first s.ensures.borders s.ensures.first c.in-Down.child c.in-Down.totals (sym c.get.ensures ∙ c.in-Down.is) in
     let lvl = ap (λ x. level_of x child) s.ensures.same in
     omega (arith, lvl, d.level, s.ensures.counts, c.reached-below.ensures.none c.if-below.false)
 
@@ -203,7 +201,7 @@ pub entry_reached-returns-else-below-clause-far : goal.entry_reached-returns-els
 entry_reached-returns-else-below-clause-far g t c le =
     let a = c.args in
     let s = c.look-seen in
-    let d = sees (g.L.Looks.nodes a.looks.now) a.root.index c.requires.tree a.node.index c.requires.node.0 a.i s.result.entry c.requires.within s.ensures.tells a.states.now c.requires.given (g.L.Looks.summaries a.looks.now) c.requires.sums a.wanted.now.tag s.result.borders s.result.first s.ensures.borders s.ensures.first c.in-Down.child c.in-Down.totals c.in-Down.is in
+    let d = sees (g.L.Looks.nodes a.looks.now) a.root.index c.requires.tree a.node.index c.requires.node.0 a.i s.result.entry c.requires.within s.ensures.tells a.states.now c.requires.given (g.L.Looks.summaries a.looks.now) c.requires.sums a.wanted.now.tag s.result.borders s.result.first s.ensures.borders s.ensures.first c.in-Down.child c.in-Down.totals (sym c.get.ensures ∙ c.in-Down.is) in
     absurd (true≢false (sym (c.is_past.ensures.far (omega (arith, d.counted, le))) ∙ c.if-is_past.false))
 
 pub entry_reached-returns-in-Here-clause-looked : goal.entry_reached-returns-in-Here-clause-looked
@@ -211,7 +209,7 @@ entry_reached-returns-in-Here-clause-looked g t c some found =
     let a = c.args in
     let s = c.look-seen in
     let m = g.L.Looks.nodes a.looks.now in
-    let leaf = leaf-entry m a.root.index c.requires.tree a.node.index c.requires.node.0 a.i s.result.entry c.requires.within s.ensures.tells c.in-Here.run' c.in-Here.is in
+    let leaf = leaf-entry m a.root.index c.requires.tree a.node.index c.requires.node.0 a.i s.result.entry c.requires.within s.ensures.tells c.in-Here.run' (sym c.get.ensures ∙ c.in-Here.is) in
     omega (arith, leaf, s.ensures.counts)
 
 pub entry_reached-returns-then-below-clause-looked : goal.entry_reached-returns-then-below-clause-looked
@@ -220,7 +218,7 @@ entry_reached-returns-then-below-clause-looked g t c some found =
     let s = c.look-seen in
     let m = g.L.Looks.nodes a.looks.now in
     let child = c.in-Down.child.index in
-    let d = sees m a.root.index c.requires.tree a.node.index c.requires.node.0 a.i s.result.entry c.requires.within s.ensures.tells a.states.now c.requires.given (g.L.Looks.summaries a.looks.now) c.requires.sums a.wanted.now.tag s.result.borders s.result.first s.ensures.borders s.ensures.first c.in-Down.child c.in-Down.totals c.in-Down.is in
+    let d = sees m a.root.index c.requires.tree a.node.index c.requires.node.0 a.i s.result.entry c.requires.within s.ensures.tells a.states.now c.requires.given (g.L.Looks.summaries a.looks.now) c.requires.sums a.wanted.now.tag s.result.borders s.result.first s.ensures.borders s.ensures.first c.in-Down.child c.in-Down.totals (sym c.get.ensures ∙ c.in-Down.is) in
     let same = d.same ∙ ap (λ x. runs x (level_of x child) child) (sym s.ensures.same) in
     let lvl = ap (λ x. level_of x child) s.ensures.same in
     let below = c.reached-below.ensures.looked (subst (AllByRecursion HasCells) same some) c.if-below.true in
@@ -233,7 +231,7 @@ entry_reached-returns-else-below-clause-looked g t c some found =
     let m = g.L.Looks.nodes a.looks.now in
     let sums = g.L.Looks.summaries a.looks.now in
     let child = c.in-Down.child.index in
-    let d = sees m a.root.index c.requires.tree a.node.index c.requires.node.0 a.i s.result.entry c.requires.within s.ensures.tells a.states.now c.requires.given sums c.requires.sums a.wanted.now.tag s.result.borders s.result.first s.ensures.borders s.ensures.first c.in-Down.child c.in-Down.totals c.in-Down.is in
+    let d = sees m a.root.index c.requires.tree a.node.index c.requires.node.0 a.i s.result.entry c.requires.within s.ensures.tells a.states.now c.requires.given sums c.requires.sums a.wanted.now.tag s.result.borders s.result.first s.ensures.borders s.ensures.first c.in-Down.child c.in-Down.totals (sym c.get.ensures ∙ c.in-Down.is) in
     let test = tagged_as a.states.now a.wanted.now.tag a.wanted.now.on in
     let rs = runs_at m a.node.index a.i in
     let same = d.same ∙ ap (λ x. runs x (level_of x child) child) (sym s.ensures.same) in

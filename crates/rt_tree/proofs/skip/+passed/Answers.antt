@@ -9,14 +9,14 @@ use Rattle.rt_tree.proofs.skip.+passed.Goals as goal
 pub entry_passed-passed-requires : goal.entry_passed-passed-requires
 entry_passed-passed-requires t c =
     let a = c.args in
-    let d = child a.mem.now a.root.index c.requires.tree a.node.index c.requires.node.0 c.requires.some a.i c.entry.result.now c.requires.within c.entry.ensures c.in-Down-2.child c.in-Down-2.field-1 c.in-Down-2.is in
-    (omega (arith, d.level, c.decreases), (c.requires.tree, ((d.is, subst (λ n. c.in-Down-2.child.index < n) c.requires.tree.shape.same d.is), (d.has, omega (arith, d.few, c.requires.few)))))
+    let d = child a.mem.now a.root.index c.requires.tree a.node.index c.requires.node.0 c.requires.some a.i c.read_entry.result c.requires.within c.read_entry.ensures c.in-Down.field-0 c.in-Down.totals c.in-Down.is in
+    (omega (arith, d.level, c.decreases), (c.requires.tree, ((d.is, subst (λ n. c.in-Down.field-0.index < n) c.requires.tree.shape.same d.is), (d.has, omega (arith, d.few, c.requires.few)))))
 
 pub entry_passed-returns-in-Down : goal.entry_passed-returns-in-Down
 entry_passed-returns-in-Down t c e here =
     let a = c.args in
     let d = c.in-Down in
-    let to : e ≡ c.entry.result.now = here ∙ get-any (entries a.mem.now a.node.index) a.i e c.entry.result.now c.requires.within ∙ sym c.entry.ensures in
+    let to : e ≡ c.read_entry.result = here ∙ get-any (entries a.mem.now a.node.index) a.i e c.read_entry.result c.requires.within ∙ sym c.read_entry.ensures in
     whole a.mem.now a.root.index c.requires.tree a.node.index c.requires.node.0 c.requires.some a.i e c.requires.within here a.from a.new d.field-0 d.totals (to ∙ d.is) (sym c.are_passed.ensures ∙ c.if-are_passed.true)
 
 pub passed-overflow_add-done : goal.passed-overflow_add-done

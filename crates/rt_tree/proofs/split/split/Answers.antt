@@ -23,33 +23,33 @@ adds_up-back-requires-clause-few c =
 
 pub returns-clause-tree : goal.returns-clause-tree
 returns-clause-tree c =
-    let it = split_kept c.args.mem.now c.halve-new.new.mem c.set_entry.new.mem c.insert_at.new.self c.args.height c.args.root.index c.args.node c.halve-new.result c.args.parent (length (entries c.args.mem.now c.args.node.index) / 2) c.args.slot (c.args.slot + 1) c.adds_up-front.result c.adds_up-back.result c.requires.tree c.requires.exact c.requires.node c.requires.parent c.requires.within c.requires.slot c.halve-new.ensures (omega arith) c.adds_up-front.ensures c.adds_up-back.ensures c.set_entry.ensures c.insert_at.ensures in
+    let it = split_kept c.args.mem.now c.halve-new.new.mem c.set_entry.new.mem c.insert_entry.new.mem c.args.height c.args.root.index c.args.node c.halve-new.result c.args.parent (length (entries c.args.mem.now c.args.node.index) / 2) c.args.slot (c.args.slot + 1) c.adds_up-front.result c.adds_up-back.result c.requires.tree c.requires.exact c.requires.node c.requires.parent c.requires.within c.requires.slot c.halve-new.ensures (omega arith) c.adds_up-front.ensures c.adds_up-back.ensures c.set_entry.ensures c.insert_entry.ensures in
     it.tree
 
 pub returns-clause-exact : goal.returns-clause-exact
 returns-clause-exact c =
-    let it = split_kept c.args.mem.now c.halve-new.new.mem c.set_entry.new.mem c.insert_at.new.self c.args.height c.args.root.index c.args.node c.halve-new.result c.args.parent (length (entries c.args.mem.now c.args.node.index) / 2) c.args.slot (c.args.slot + 1) c.adds_up-front.result c.adds_up-back.result c.requires.tree c.requires.exact c.requires.node c.requires.parent c.requires.within c.requires.slot c.halve-new.ensures (omega arith) c.adds_up-front.ensures c.adds_up-back.ensures c.set_entry.ensures c.insert_at.ensures in
+    let it = split_kept c.args.mem.now c.halve-new.new.mem c.set_entry.new.mem c.insert_entry.new.mem c.args.height c.args.root.index c.args.node c.halve-new.result c.args.parent (length (entries c.args.mem.now c.args.node.index) / 2) c.args.slot (c.args.slot + 1) c.adds_up-front.result c.adds_up-back.result c.requires.tree c.requires.exact c.requires.node c.requires.parent c.requires.within c.requires.slot c.halve-new.ensures (omega arith) c.adds_up-front.ensures c.adds_up-back.ensures c.set_entry.ensures c.insert_entry.ensures in
     it.exact
 
 pub returns-clause-runs : goal.returns-clause-runs
 returns-clause-runs c =
-    let it = split_kept c.args.mem.now c.halve-new.new.mem c.set_entry.new.mem c.insert_at.new.self c.args.height c.args.root.index c.args.node c.halve-new.result c.args.parent (length (entries c.args.mem.now c.args.node.index) / 2) c.args.slot (c.args.slot + 1) c.adds_up-front.result c.adds_up-back.result c.requires.tree c.requires.exact c.requires.node c.requires.parent c.requires.within c.requires.slot c.halve-new.ensures (omega arith) c.adds_up-front.ensures c.adds_up-back.ensures c.set_entry.ensures c.insert_at.ensures in
+    let it = split_kept c.args.mem.now c.halve-new.new.mem c.set_entry.new.mem c.insert_entry.new.mem c.args.height c.args.root.index c.args.node c.halve-new.result c.args.parent (length (entries c.args.mem.now c.args.node.index) / 2) c.args.slot (c.args.slot + 1) c.adds_up-front.result c.adds_up-back.result c.requires.tree c.requires.exact c.requires.node c.requires.parent c.requires.within c.requires.slot c.halve-new.ensures (omega arith) c.adds_up-front.ensures c.adds_up-back.ensures c.set_entry.ensures c.insert_entry.ensures in
     it.runs_are
 
 pub returns-clause-halves : goal.returns-clause-halves
-returns-clause-halves c = split_halves c.args.mem.now c.halve-new.new.mem c.set_entry.new.mem c.insert_at.new.self c.args.height c.args.root.index c.args.node c.halve-new.result c.args.parent (length (entries c.args.mem.now c.args.node.index) / 2) c.args.slot (c.args.slot + 1) c.adds_up-front.result c.adds_up-back.result c.requires.tree c.requires.exact c.requires.node c.requires.parent c.requires.within c.requires.slot c.halve-new.ensures (omega arith) c.adds_up-front.ensures c.adds_up-back.ensures c.set_entry.ensures c.insert_at.ensures refl
+returns-clause-halves c = split_halves c.args.mem.now c.halve-new.new.mem c.set_entry.new.mem c.insert_entry.new.mem c.args.height c.args.root.index c.args.node c.halve-new.result c.args.parent (length (entries c.args.mem.now c.args.node.index) / 2) c.args.slot (c.args.slot + 1) c.adds_up-front.result c.adds_up-back.result c.requires.tree c.requires.exact c.requires.node c.requires.parent c.requires.within c.requires.slot c.halve-new.ensures (omega arith) c.adds_up-front.ensures c.adds_up-back.ensures c.set_entry.ensures c.insert_entry.ensures refl
 
 pub returns-clause-wider : goal.returns-clause-wider
-returns-clause-wider c = split_wider c.args.mem.now c.halve-new.new.mem c.set_entry.new.mem c.insert_at.new.self c.args.height c.args.root.index c.args.node c.halve-new.result c.args.parent (length (entries c.args.mem.now c.args.node.index) / 2) c.args.slot (c.args.slot + 1) c.adds_up-front.result c.adds_up-back.result c.requires.tree c.requires.exact c.requires.node c.requires.parent c.requires.within c.requires.slot c.halve-new.ensures (omega arith) c.adds_up-front.ensures c.adds_up-back.ensures c.set_entry.ensures c.insert_at.ensures
+returns-clause-wider c = split_wider c.args.mem.now c.halve-new.new.mem c.set_entry.new.mem c.insert_entry.new.mem c.args.height c.args.root.index c.args.node c.halve-new.result c.args.parent (length (entries c.args.mem.now c.args.node.index) / 2) c.args.slot (c.args.slot + 1) c.adds_up-front.result c.adds_up-back.result c.requires.tree c.requires.exact c.requires.node c.requires.parent c.requires.within c.requires.slot c.halve-new.ensures (omega arith) c.adds_up-front.ensures c.adds_up-back.ensures c.set_entry.ensures c.insert_entry.ensures
 
 pub returns-clause-still : goal.returns-clause-still
 returns-clause-still c =
-    let it = split_still c.args.mem.now c.halve-new.new.mem c.set_entry.new.mem c.insert_at.new.self c.args.height c.args.root.index c.args.node c.halve-new.result c.args.parent (length (entries c.args.mem.now c.args.node.index) / 2) c.args.slot (c.args.slot + 1) c.adds_up-front.result c.adds_up-back.result c.requires.tree c.requires.exact c.requires.node c.requires.parent c.requires.within c.requires.slot c.halve-new.ensures (omega arith) c.adds_up-front.ensures c.adds_up-back.ensures c.set_entry.ensures c.insert_at.ensures in
+    let it = split_still c.args.mem.now c.halve-new.new.mem c.set_entry.new.mem c.insert_entry.new.mem c.args.height c.args.root.index c.args.node c.halve-new.result c.args.parent (length (entries c.args.mem.now c.args.node.index) / 2) c.args.slot (c.args.slot + 1) c.adds_up-front.result c.adds_up-back.result c.requires.tree c.requires.exact c.requires.node c.requires.parent c.requires.within c.requires.slot c.halve-new.ensures (omega arith) c.adds_up-front.ensures c.adds_up-back.ensures c.set_entry.ensures c.insert_entry.ensures in
     it
 
 pub returns-clause-others : goal.returns-clause-others
 returns-clause-others c id is ne =
-    split_others c.args.mem.now c.halve-new.new.mem c.set_entry.new.mem c.insert_at.new.self c.args.height c.args.root.index c.args.node c.halve-new.result c.args.parent (length (entries c.args.mem.now c.args.node.index) / 2) c.args.slot (c.args.slot + 1) c.adds_up-front.result c.adds_up-back.result c.requires.tree c.requires.exact c.requires.node c.requires.parent c.requires.within c.requires.slot c.halve-new.ensures (omega arith) c.adds_up-front.ensures c.adds_up-back.ensures c.set_entry.ensures c.insert_at.ensures id
+    split_others c.args.mem.now c.halve-new.new.mem c.set_entry.new.mem c.insert_entry.new.mem c.args.height c.args.root.index c.args.node c.halve-new.result c.args.parent (length (entries c.args.mem.now c.args.node.index) / 2) c.args.slot (c.args.slot + 1) c.adds_up-front.result c.adds_up-back.result c.requires.tree c.requires.exact c.requires.node c.requires.parent c.requires.within c.requires.slot c.halve-new.ensures (omega arith) c.adds_up-front.ensures c.adds_up-back.ensures c.set_entry.ensures c.insert_entry.ensures id
     (omega (arith, is, c.halve-new.ensures.new)) ne
 
 pub adds_up-back-requires-clause-node : goal.adds_up-back-requires-clause-node
@@ -73,4 +73,4 @@ pub halve-new-requires-clause-same : goal.halve-new-requires-clause-same
 halve-new-requires-clause-same c = omega (arith, c.requires.tree.same, length-rows c.args.mem.now)
 
 pub returns-clause-room : goal.returns-clause-room
-returns-clause-room c = rw (c.insert_at.ensures, c.set_entry.ensures) c.halve-new.ensures.room
+returns-clause-room c = rw (c.insert_entry.ensures, c.set_entry.ensures) c.halve-new.ensures.room

@@ -32,7 +32,7 @@ loop-child-smaller g c =
     let s = e.ensures in
     let P : Memory → Type 0 = λ n. Into n c.args.by l.node.index l.rest l.before e.result.index e.result.entry e.result.rest e.result.before in
     let into = subst P l.invariant.same (record { lt = s.index; here = s.entry; before = s.before; at = s.at; inside_it = s.inside }) in
-    let low = lower m c.args.root.index c.requires.tree c.args.by c.args.place l.node.index l.rest l.before e.result.index e.result.entry e.result.rest e.result.before c.in-Down.child c.in-Down.field-1 l.invariant.going into c.in-Down.is in
+    let low = lower m c.args.root.index c.requires.tree c.args.by c.args.place l.node.index l.rest l.before e.result.index e.result.entry e.result.rest e.result.before c.in-Down.child c.in-Down.field-1 l.invariant.going into (sym c.get.ensures ∙ c.in-Down.is) in
     omega (arith, low)
 
 pub loop-child-preserved : goal.loop-child-preserved
@@ -43,9 +43,9 @@ loop-child-preserved g c =
     let s = e.ensures in
     let P : Memory → Type 0 = λ n. Into n c.args.by l.node.index l.rest l.before e.result.index e.result.entry e.result.rest e.result.before in
     let into = subst P l.invariant.same (record { lt = s.index; here = s.entry; before = s.before; at = s.at; inside_it = s.inside }) in
-    let low = lower m c.args.root.index c.requires.tree c.args.by c.args.place l.node.index l.rest l.before e.result.index e.result.entry e.result.rest e.result.before c.in-Down.child c.in-Down.field-1 l.invariant.going into c.in-Down.is in
+    let low = lower m c.args.root.index c.requires.tree c.args.by c.args.place l.node.index l.rest l.before e.result.index e.result.entry e.result.rest e.result.before c.in-Down.child c.in-Down.field-1 l.invariant.going into (sym c.get.ensures ∙ c.in-Down.is) in
     record {
-      going = goes_down m c.args.root.index c.requires.tree c.args.by c.args.place l.node.index l.rest l.before e.result.index e.result.entry e.result.rest e.result.before c.in-Down.child c.in-Down.field-1 l.invariant.going into c.in-Down.is;
+      going = goes_down m c.args.root.index c.requires.tree c.args.by c.args.place l.node.index l.rest l.before e.result.index e.result.entry e.result.rest e.result.before c.in-Down.child c.in-Down.field-1 l.invariant.going into (sym c.get.ensures ∙ c.in-Down.is);
       counted = omega (arith, low, l.invariant.counted, s.counted, l.invariant.going.low);
       cost = omega (arith, low, l.invariant.cost, s.cost, l.invariant.going.low);
       same = s.same ∙ l.invariant.same;
@@ -61,7 +61,7 @@ returns-in-Here-clause-spot g c =
     let s = e.ensures in
     let P : Memory → Type 0 = λ n. Into n c.args.by l.node.index l.rest l.before e.result.index e.result.entry e.result.rest e.result.before in
     let into = subst P l.invariant.same (record { lt = s.index; here = s.entry; before = s.before; at = s.at; inside_it = s.inside }) in
-    let spot = ends m c.args.root.index c.requires.tree c.args.by c.args.place l.node.index l.rest l.before e.result.index e.result.entry e.result.rest e.result.before c.in-Here.run' l.invariant.going into c.in-Here.is in
+    let spot = ends m c.args.root.index c.requires.tree c.args.by c.args.place l.node.index l.rest l.before e.result.index e.result.entry e.result.rest e.result.before c.in-Here.run' l.invariant.going into (sym c.get.ensures ∙ c.in-Here.is) in
     let Q : Spot → Type 0 = λ x. IsSpot m c.args.root.index c.args.by c.args.place x.leaf.index x.entry x.offset c.new.result.run in
     let R : Run → Type 0 = λ r. IsSpot m c.args.root.index c.args.by c.args.place l.node.index e.result.index e.result.rest r in
     subst Q (sym c.new.ensures.spot) (subst R (sym c.new.ensures.run) spot)
@@ -74,7 +74,7 @@ returns-in-Here-clause-before g c =
     let s = e.ensures in
     let P : Memory → Type 0 = λ n. Into n c.args.by l.node.index l.rest l.before e.result.index e.result.entry e.result.rest e.result.before in
     let into = subst P l.invariant.same (record { lt = s.index; here = s.entry; before = s.before; at = s.at; inside_it = s.inside }) in
-    let front = front_is m c.args.root.index c.requires.tree c.args.by c.args.place l.node.index l.rest l.before e.result.index e.result.entry e.result.rest e.result.before c.in-Here.run' l.invariant.going into c.in-Here.is in
+    let front = front_is m c.args.root.index c.requires.tree c.args.by c.args.place l.node.index l.rest l.before e.result.index e.result.entry e.result.rest e.result.before c.in-Here.run' l.invariant.going into (sym c.get.ensures ∙ c.in-Here.is) in
     c.new.ensures.before ∙ front ∙ ap (λ (x : Spot). counts_of (runs_before m c.args.root.index x.leaf.index x.entry)) (sym c.new.ensures.spot)
 
 pub returns-in-Here-clause-counted : goal.returns-in-Here-clause-counted
@@ -85,5 +85,5 @@ returns-in-Here-clause-counted g c =
     let s = e.ensures in
     let P : Memory → Type 0 = λ n. Into n c.args.by l.node.index l.rest l.before e.result.index e.result.entry e.result.rest e.result.before in
     let into = subst P l.invariant.same (record { lt = s.index; here = s.entry; before = s.before; at = s.at; inside_it = s.inside }) in
-    let spot = ends m c.args.root.index c.requires.tree c.args.by c.args.place l.node.index l.rest l.before e.result.index e.result.entry e.result.rest e.result.before c.in-Here.run' l.invariant.going into c.in-Here.is in
+    let spot = ends m c.args.root.index c.requires.tree c.args.by c.args.place l.node.index l.rest l.before e.result.index e.result.entry e.result.rest e.result.before c.in-Here.run' l.invariant.going into (sym c.get.ensures ∙ c.in-Here.is) in
     omega (arith, spot.low, l.invariant.counted, s.counted)

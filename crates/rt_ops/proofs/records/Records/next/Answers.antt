@@ -22,7 +22,7 @@ pub returns-then-not-may_follow-clause-err : goal.returns-then-not-may_follow-cl
 returns-then-not-may_follow-clause-err c =
     let op = c.in_ok-op.ensures in
     let found = rw (take_rest c.self.inside.bytes.now c.self.inside.offset) at c.in_ok-content.ensures in
-    let parts = record_at c.in_ok-content.content.now _ _ c.in_ok-op.op found.2 op.1 in
+    let parts = record_at c.self.inside.version c.in_ok-content.content.now _ _ c.in_ok-op.op found.2 op.1 in
     subst (λ v. RefusesRecord v _) c.self.view_is
     (refused_after c.self.inside.bytes.now _ c.self.inside.offset c.self.inside.last c.self.invariant.0 c.in_ok-op.op c.self.invariant.1 op.0 parts (sym c.may_follow.ensures ∙ c.if-not-may_follow.true))
 
@@ -31,10 +31,10 @@ invariant_of-self c =
     let op = c.in_ok-op.ensures in
     let found = rw (take_rest c.self.inside.bytes.now c.self.inside.offset) at c.in_ok-content.ensures in
     let content = c.in_ok-content.content.now in
-    let parts = record_at content _ _ c.in_ok-op.op found.2 op.1 in (
+    let parts = record_at c.self.inside.version content _ _ c.in_ok-op.op found.2 op.1 in (
       c.self.invariant.0 ++ c.in_ok-op.op ∷ [],
       rw c.stamp.ensures (at_next c.self.inside.bytes.now c.self.inside.offset _ (length content) c.self.inside.last c.self.invariant.0 c.in_ok-op.op c.self.invariant.1 op.0
-          (sym c.may_follow.ensures ∙ c.if-not-may_follow.false) parts refl (record_long content c.in_ok-op.op op.1)),
+          (sym c.may_follow.ensures ∙ c.if-not-may_follow.false) parts refl (record_long c.self.inside.version content c.in_ok-op.op op.1)),
     )
 
 pub returns-clause-ok : goal.returns-clause-ok
@@ -42,7 +42,7 @@ returns-clause-ok c =
     let op = c.in_ok-op.ensures in
     let found = rw (take_rest c.self.inside.bytes.now c.self.inside.offset) at c.in_ok-content.ensures in
     let content = c.in_ok-content.content.now in
-    let parts = record_at content _ _ c.in_ok-op.op found.2 op.1 in
+    let parts = record_at c.self.inside.version content _ _ c.in_ok-op.op found.2 op.1 in
     takes_from _ _ _ c.in_ok-op.op c.self.view_is
     (takes_next c.self.inside.bytes.now c.self.inside.offset _ (length content) c.self.inside.last c.self.invariant.0 c.in_ok-op.op c.self.invariant.1 op.0
     (sym c.may_follow.ensures ∙ c.if-not-may_follow.false) parts refl)

@@ -3,7 +3,7 @@ use Rattle.rt_rga.specs.Answers.{New, answer_within}
 use Rattle.rt_rga.specs.Cells.{cells_of}
 use Rattle.rt_rga.specs.declared.taken.Change.{Change}
 use Rattle.rt_rga.proofs.Within.{continues_new}
-use Rattle.rt_replica.specs.Told.{Told, TellingValue, after_taken, as_told, told_of}
+use Rattle.rt_replica.specs.Told.{ChangeValue, TellingValue, after_taken, as_told, told_of}
 use Rattle.rt_replica.proofs.Told.{map_append, told_is}
 use Rattle.rt_replica.proofs.telling.TellingTaking.take.Goals as goal
 
@@ -29,7 +29,7 @@ returns-in-Ok-clause-taken g c =
     let items = c.push_reserved.ensures.items ∙ ap (λ (l : List Change). l ++ change ∷ []) c.reserve.ensures.items in
     let told : as_told change ≡ told_of op (cells_of v.log) = told_is op v.cells change c.in-Ok.ensures.change ∙ ap (told_of op) c.store.ensures.cells in
     let changes : map as_told c.push_reserved.new.self.items ≡ map as_told before ++ told_of op (cells_of v.log) ∷ [] =
-    ap (map as_told) items ∙ map_append as_told before (change ∷ []) ∙ ap (λ (t : Told). map as_told before ++ t ∷ []) told in
+    ap (map as_told) items ∙ map_append as_told before (change ∷ []) ∙ ap (λ (t : ChangeValue). map as_told before ++ t ∷ []) told in
     let cells = c.store-in-Ok.ensures.cells ∙ ap cells_of c.in-Ok.ensures.log in
     let new : TellingValue = record { log = w.log; cells = w.cells; site = w.site; limit = w.limit; changes = map as_told c.push_reserved.new.self.items } in
     subst (λ (t : TellingValue). new ≡ after_taken op t) c.self.view_is

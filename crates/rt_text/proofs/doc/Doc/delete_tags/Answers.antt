@@ -16,7 +16,7 @@ use Rattle.rt_store.specs.Shown.{TaggedCell}
 use Rattle.rt_store.specs.Written.{AreWritten}
 use Rattle.rt_plans.specs.DocValue.{DocValue, logged}
 use Rattle.rt_plans.specs.Listed.{AreListed}
-use Rattle.rt_plans.specs.TagDrafts.{deletion_drafts}
+use Rattle.rt_plans.specs.TagDrafts.{tag_deletion_drafts}
 use Rattle.rt_plans.specs.TagWrites.{without_tags}
 use Rattle.rt_plans.proofs.ListedWrites.{StaysTagged, all_without_stays}
 use Rattle.rt_text.specs.Kept.{IsDoc}
@@ -37,7 +37,7 @@ pub commit-requires : goal.commit-requires
 commit-requires g c =
     let old = c.args.self.now in
     let names = as_words c.args.names.now in
-    let drafts = deletion_drafts MOST_SPANS old names in
+    let drafts = tag_deletion_drafts MOST_SPANS old names in
     let bodies : map body_of c.in_ok-drafts.drafts.items ≡ drafts = c.in_ok-drafts.ensures.ok old (document_written old c.kept.ensures.history c.kept.ensures.document) (sym c.kept.ensures.cells) in
     let of = of_site c.kept.result.1.now (g.S.TextStore.list c.kept.result.0.now) old c.kept.ensures.history c.kept.ensures.document c.kept.ensures.site c.kept.ensures.cells c.kept.ensures.few in
     let makes = deleted_makes old names of in
@@ -56,7 +56,7 @@ pub returns-in_err-commit : goal.returns-in_err-commit
 returns-in_err-commit g c =
     let old = c.args.self.now in
     let names = as_words c.args.names.now in
-    let drafts = deletion_drafts MOST_SPANS old names in
+    let drafts = tag_deletion_drafts MOST_SPANS old names in
     let bodies : map body_of c.in_ok-drafts.drafts.items ≡ drafts = c.in_ok-drafts.ensures.ok old (document_written old c.kept.ensures.history c.kept.ensures.document) (sym c.kept.ensures.cells) in
     let of = of_site c.kept.result.1.now (g.S.TextStore.list c.kept.result.0.now) old c.kept.ensures.history c.kept.ensures.document c.kept.ensures.site c.kept.ensures.cells c.kept.ensures.few in
     let edited = without_tags old names in
@@ -78,7 +78,7 @@ pub invariant_of-self-2 : goal.invariant_of-self-2
 invariant_of-self-2 g c =
     let old = c.args.self.now in
     let names = as_words c.args.names.now in
-    let drafts = deletion_drafts MOST_SPANS old names in
+    let drafts = tag_deletion_drafts MOST_SPANS old names in
     let bodies : map body_of c.in_ok-drafts.drafts.items ≡ drafts = c.in_ok-drafts.ensures.ok old (document_written old c.kept.ensures.history c.kept.ensures.document) (sym c.kept.ensures.cells) in
     let of = of_site c.kept.result.1.now (g.S.TextStore.list c.kept.result.0.now) old c.kept.ensures.history c.kept.ensures.document c.kept.ensures.site c.kept.ensures.cells c.kept.ensures.few in
     let edited = without_tags old names in
@@ -100,7 +100,7 @@ pub returns-clause-ok : goal.returns-clause-ok
 returns-clause-ok g c =
     let old = c.args.self.now in
     let names = as_words c.args.names.now in
-    let drafts = deletion_drafts MOST_SPANS old names in
+    let drafts = tag_deletion_drafts MOST_SPANS old names in
     let bodies : map body_of c.in_ok-drafts.drafts.items ≡ drafts = c.in_ok-drafts.ensures.ok old (document_written old c.kept.ensures.history c.kept.ensures.document) (sym c.kept.ensures.cells) in
     let of = of_site c.kept.result.1.now (g.S.TextStore.list c.kept.result.0.now) old c.kept.ensures.history c.kept.ensures.document c.kept.ensures.site c.kept.ensures.cells c.kept.ensures.few in
     let edited = without_tags old names in
@@ -118,7 +118,7 @@ pub returns-clause-checked : goal.returns-clause-checked
 returns-clause-checked g c =
     let old = c.args.self.now in
     let names = as_words c.args.names.now in
-    let drafts = deletion_drafts MOST_SPANS old names in
+    let drafts = tag_deletion_drafts MOST_SPANS old names in
     let bodies : map body_of c.in_ok-drafts.drafts.items ≡ drafts = c.in_ok-drafts.ensures.ok old (document_written old c.kept.ensures.history c.kept.ensures.document) (sym c.kept.ensures.cells) in
     let of = of_site c.kept.result.1.now (g.S.TextStore.list c.kept.result.0.now) old c.kept.ensures.history c.kept.ensures.document c.kept.ensures.site c.kept.ensures.cells c.kept.ensures.few in
     let edited = without_tags old names in
@@ -136,7 +136,7 @@ pub returns-clause-text : goal.returns-clause-text
 returns-clause-text g c =
     let old = c.args.self.now in
     let names = as_words c.args.names.now in
-    let drafts = deletion_drafts MOST_SPANS old names in
+    let drafts = tag_deletion_drafts MOST_SPANS old names in
     let bodies : map body_of c.in_ok-drafts.drafts.items ≡ drafts = c.in_ok-drafts.ensures.ok old (document_written old c.kept.ensures.history c.kept.ensures.document) (sym c.kept.ensures.cells) in
     let of = of_site c.kept.result.1.now (g.S.TextStore.list c.kept.result.0.now) old c.kept.ensures.history c.kept.ensures.document c.kept.ensures.site c.kept.ensures.cells c.kept.ensures.few in
     let edited = without_tags old names in

@@ -4,7 +4,7 @@ use Rattle.std.proofs.lemmas.Result.{on_err_weaker, on_ok_weaker}
 use Rattle.rt_stamps.specs.declared.limits.TheConstants.{MOST_SPANS}
 use Rattle.rt_stamps.specs.Words.{as_words}
 use Rattle.rt_plans.specs.DocValue.{DocValue, logged}
-use Rattle.rt_plans.specs.TagDrafts.{deletion_drafts}
+use Rattle.rt_plans.specs.TagDrafts.{tag_deletion_drafts}
 use Rattle.rt_plans.specs.TagWrites.{without_tags}
 use Rattle.rt_text.specs.Owned.{own_of}
 use Rattle.rt_text.specs.Widgets.{IsOwnOf}
@@ -18,7 +18,7 @@ invariant_of-self g c =
     let old = c.self.inside.doc in
     let others = map own_of c.self.inside.others.items in
     let names = as_words c.args.names.now in
-    let drafts = deletion_drafts MOST_SPANS old names in
+    let drafts = tag_deletion_drafts MOST_SPANS old names in
     let edited = without_tags old names in
     let view = viewed old (own_of c.self.inside.widget) others in
     let made = on_ok_weaker c.delete_tags-done.result (λ e. ap (λ (f : DocValue). viewed f (own_of c.self.inside.widget) others) e) c.delete_tags-done.ensures.ok in

@@ -16,8 +16,8 @@ loop-i-preserved c =
     let m = c.args.mem.now in let node = c.args.node.index in let i = c.loop-i.i in
     let es = entries m node in
     let some : Entry → Option Entry = λ x. Some x in
-    let here = slice_get-get_or es i c.entry.result.now (omega (arith, c.loop-i-test.true, c.len-i-end.ensures.value)) ∙ ap some (sym c.entry.ensures) in
-    elim c.match-entry.branch [
+    let here = slice_get-get_or es i c.read_entry.result (omega (arith, c.loop-i-test.true, c.len-i-end.ensures.value)) ∙ ap some (sym c.read_entry.ensures) in
+    elim c.match-read_entry.branch [
       | in-Here w ↦
           let e = w.retell.ensures in let same = w.self-is in
           record {

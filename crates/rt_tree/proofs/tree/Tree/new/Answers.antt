@@ -16,6 +16,6 @@ returns-clause-right c table =
     let made : c.make-root.new.self ≡ with_node (with_room no_nodes k) head = c.make-root.ensures.node ∙ ap (λ (x : Memory). with_node x head) had in
     let root : c.make-root.result.index ≡ 0 = c.make-root.ensures.id.0 ∙ ap (λ (x : Memory). length x.heads) had in
     let put = ap (λ (r : Run). with_entries c.make-root.new.self c.make-root.result.index (insert (entries c.make-root.new.self c.make-root.result.index) 0 (Here r))) c.final_run.ensures in
-    first_right table c.insert_at.new.self (record { index = 0 }) (k - 1) c.in_ok-sums.sums.each.items
-    (c.insert_at.ensures ∙ put ∙ (λ i. with_entries (made i) (root i) (insert (entries (made i) (root i)) 0 (Here final_run))))
+    first_right table c.insert_entry.new.mem (record { index = 0 }) (k - 1) c.in_ok-sums.sums.each.items
+    (c.insert_entry.ensures ∙ put ∙ (λ i. with_entries (made i) (root i) (insert (entries (made i) (root i)) 0 (Here final_run))))
     (c.in_ok-sums.ensures.is table)

@@ -2,7 +2,7 @@ use Rattle.std.proofs.Common.{Err}
 use Rattle.std.specs.Str.Parse.{digits_value}
 use Rattle.std.proofs.lemmas.Str.Parse.{parse_digits}
 use Rattle.rt_requests.proofs.Numbers.{numbers, too_great}
-use Rattle.rt_requests.proofs.limits.line_of.Goals as goal
+use Rattle.rt_requests.proofs.limits.limit_at_line.Goals as goal
 
 pub returns-in-Err : goal.returns-in-Err
 returns-in-Err c =

@@ -4,7 +4,7 @@ use Rattle.rt_stamps.specs.declared.fault.Fault.TheVariants.{NoMemory}
 use Rattle.rt_ops.specs.Operations.{Operation}
 use Rattle.rt_rga.specs.Drafts.{with_operations}
 use Rattle.rt_tags.proofs.Keeping.{keeps_itself}
-use Rattle.rt_rga.proofs.replica.Replica.commit_few.Goals as goal
+use Rattle.rt_rga.proofs.replica.Replica.commit_one_or_many.Goals as goal
 
 pub returns-in-Err : goal.returns-in-Err
 returns-in-Err g c = record {
