@@ -30,6 +30,10 @@ the processor, those without the time in which its files are read, and how many 
 or where a case takes more than two seconds without its files.
 tests/bench.py received [PROGRAM]: the greatest memory of a site that receives a file of as many Inserts as it may hold, above that of one
 which only has the file: once, once more, and where all come early; of one character each, and of a hundred.
+tests/bench.py peers [PROGRAM [PERCENT [WORD ..]]]: runs the program beside a plain RGA (tests/bench/beside/rga.rs, built by rustc), Tk's
+text widget and Yjs on the same work (tests/bench/works.py), and prints a table of their seconds of the processor; with PERCENT, so many
+hundredths of each n; with WORDs the works alone whose names have one of them. What isn't installed is left out. It is wrong where they
+answer differently.
 tests/bench.py instructions [PROGRAM [LINES]]: counts the instructions that a line takes, by valgrind's callgrind: those of 4,000
 lines less those of 2,000, if no number is given, which are the same each time.
 """
@@ -46,8 +50,9 @@ import time
 ROOT = os.path.dirname(os.path.dirname(os.path.abspath(__file__)))
 sys.path.insert(0, os.path.join(ROOT, "tests", "bench"))
 import growth as cases
+import peers
 import tagged
-MODES = ("early", "received", "lists", "spans", "nodes", "replica", "tree", "values", "instructions", "growth", "steps", "tags")
+MODES = ("early", "received", "lists", "spans", "nodes", "replica", "tree", "values", "instructions", "growth", "steps", "tags", "peers")
 MODE = sys.argv[1] if sys.argv[1:2] and sys.argv[1] in MODES else ""
 WORDS = sys.argv[2:] if MODE else sys.argv[1:]
 PROGRAM = WORDS[0] if WORDS else os.path.join(ROOT, "crates", "peertext", "out", "peertext")
@@ -418,7 +423,12 @@ def tags():
     return 1 if wrong else 0
 
 
+def beside():
+    """The works of tests/bench/works.py, at n and 2n, beside others that do them."""
+    return peers.main(PROGRAM, int(WORDS[1]) if len(WORDS) > 1 else 100, WORDS[2:])
+
+
 if __name__ == "__main__":
     parts = {"early": early, "received": received, "instructions": instructions, "lists": lists, "spans": spans, "nodes": nodes, "replica": replica, "tree": tree,
              "values": values}
-    sys.exit({**parts, "growth": grown, "steps": steps, "tags": tags, "": main}[MODE]())
+    sys.exit({**parts, "growth": grown, "steps": steps, "tags": tags, "peers": beside, "": main}[MODE]())

@@ -5,6 +5,8 @@ answers the lines, the words behind `run`, and the lines of what comes before th
 import random
 import struct
 
+from modelled import files
+
 
 def record(count, site, prev, after, text=b"x"):
     """An Insert after the element of a stamp, as docs/FILES.md has it."""
@@ -84,6 +86,14 @@ def prepends(n, _):
     return [f"receive {name}" for name in names], names, None
 
 
+def falling(n, _):
+    """A character of each of n sites, the greatest site first, received whole."""
+    with open("falling.ops", "wb") as file:
+        file.write(files.TWO.magic)
+        file.writelines(files.record(files.Insert(i, n + 1 - i, 0, (0, 0), "x", ()), files.TWO) for i in range(1, n + 1))
+    return ["receive falling.ops"], ["falling.ops"], None
+
+
 def two_sites(n, run):
     """A site of n random edits that receives the file of another one of n."""
     for site in (1, 2):
@@ -159,6 +169,7 @@ CASES = [
     ("random insertions and deletions", 100_000, plain(edits)),
     ("an editing session", 250_000, plain(session)),
     ("50 sites that prepend, received", 20_000, prepends),
+    ("n sites, the greatest first, received", 50_000, falling),
     ("a site of n edits receives n of another's", 50_000, two_sites),
     ("a log of n operations", 500_000, log),
     ("index in a text of 20 MB", 200_000, indices),

@@ -62,8 +62,8 @@ abbrev pub Says : (LineSiteValue → List ℕ) → Option LineSiteValue → ℤ 
 Says said old result new = IsNoSite old result new ⊎ ((held : LineSiteValue) × (old ≡ Some held) × SaysOf held (said held) result new)
 
 -- the file of all operations that a site accepted or made
-abbrev pub file_of : LineSiteValue → List ℕ
-file_of held = spelling (reverse (log_of held.site))
+abbrev pub whole_file : LineSiteValue → List ℕ
+whole_file held = spelling (reverse (log_of held.site))
 
 -- Bytes are said that spell the last counts that a site knows; or there is no memory for that.
 abbrev pub SaysEnds : Option LineSiteValue → ℤ → Option LineSiteValue → Type 0
@@ -113,7 +113,8 @@ SaysChange number old result new =
     ⊎ ((change : ToldChange) × (slice_get (known_changes held) number ≡ Some change) × SaysOf held (change_lines change) result new)))
 
 -- Something is found in what a handle holds, and told as it is; or it isn't found, which a code says, and nothing is told. All stays.
-abbrev pub IsFound : {Found Out : Type 0} → ℤ → (Found → Out) → (LineSiteValue → Option Found) → Option LineSiteValue → Out → ℤ → Option LineSiteValue → Out → Type 0
+abbrev pub IsFound : {Found Out : Type 0} → ℤ → (Found → Out) → (LineSiteValue → Option Found)
+    → Option LineSiteValue → Out → ℤ → Option LineSiteValue → Out → Type 0
 IsFound {Found} code told find old room result new out = (new ≡ old)
     × (((result ≡ NO_SITE) × (old ≡ None) × (out ≡ room))
     ⊎ ((held : LineSiteValue) × (old ≡ Some held)

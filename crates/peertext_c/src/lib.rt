@@ -7,7 +7,7 @@
 
 ghost use Rattle.std.specs.Prelude.{◌≡◌, MatchOption, None};
 ghost use Rattle.peertext_c.specs.Calls.{CountsChanges, IsCommanded, IsFound, MakesSite, FindsPlace, IsReceived, TellsSaid, IsSiteNumber, Says};
-ghost use Rattle.peertext_c.specs.Calls.{SaysChange, SaysEnds, SaysSince, file_of, stamp_numbers, stamp_of_numbers};
+ghost use Rattle.peertext_c.specs.Calls.{SaysChange, SaysEnds, SaysSince, stamp_numbers, stamp_of_numbers, whole_file};
 ghost use Rattle.peertext_c.specs.Codes.{NOT_THERE};
 ghost use Rattle.rt_script.specs.LineSite.{place_of_path, stamp_of_path};
 
@@ -176,7 +176,7 @@ pub extern "C" fn pt_change(alloc: Global, handle: &mut Handle, number: usize) -
 /// not in it, and are to be received again after a restart. 0; or -1 where there is no site, or -2 for want of memory.
 #[unsafe(no_mangle)]
 pub extern "C" fn pt_export(alloc: Global, handle: &mut Handle) -> i32
-    ensures { Says file_of handle.old.slot.value result handle.new.slot.value }
+    ensures { Says whole_file handle.old.slot.value result handle.new.slot.value }
 {
     let Some(kept) = handle.take(alloc) else {
         return NO_SITE;

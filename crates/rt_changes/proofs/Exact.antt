@@ -33,7 +33,7 @@ use Rattle.rt_rga.proofs.Histories.{history_with, inserted_new, inserted_range, 
 use Rattle.rt_rga.proofs.Merging.{cells_with}
 use Rattle.rt_rga.proofs.RetaggedPlaces.{changes_differ}
 use Rattle.rt_rga.proofs.Texts.{shared_on}
-use Rattle.rt_changes.specs.Exact.{IsExact, IsPutAt, IsRetaggedAt, IsTakenAt}
+use Rattle.rt_changes.specs.Exact.{EachChanges, IsPutAt, IsRetaggedAt, IsTakenAt}
 use Rattle.rt_changes.specs.Replays.{Deleted, Inserted, Tagged, changed_at, runs_of, body_changes, changes_of, tagged_with}
 use Rattle.rt_changes.proofs.Listed.{tags_listed}
 use Rattle.rt_changes.proofs.Runs.{in_first, runs_fall, runs_have}
@@ -183,17 +183,17 @@ module _ (stamp : Stamp) (on : Bool) (name : Name) (spans : List Span) where
 
 -- ALL CHANGES
 
-exact_by : (stamp : Stamp) (body : Body) (cells : List TaggedCell) → AreByName cells → AreNew stamp body cells → All (IsExact cells (changed_by stamp body cells)) (body_changes stamp body cells)
+exact_by : (stamp : Stamp) (body : Body) (cells : List TaggedCell) → AreByName cells → AreNew stamp body cells → All (EachChanges cells (changed_by stamp body cells)) (body_changes stamp body cells)
 exact_by stamp (Insert after tags text) cells s new =
     let place = visible_before cells (skip_from cells after stamp) in
-    All-cons (IsExact cells (changed_by stamp (Insert after tags text) cells)) (Inserted place text tags) []
+    All-cons (EachChanges cells (changed_by stamp (Insert after tags text) cells)) (Inserted place text tags) []
     (λ q l m. put_in_at stamp after tags text cells q new l m)
-    (All-nil (IsExact cells (changed_by stamp (Insert after tags text) cells)))
+    (All-nil (EachChanges cells (changed_by stamp (Insert after tags text) cells)))
 exact_by stamp (Delete spans) cells s new =
-    All-map (IsExact cells (changed_by stamp (Delete spans) cells)) (λ (run : PlaceRun). Deleted run.from run.to) (runs_of (takes_away (Delete spans) cells) (length (visible_of cells)))
+    All-map (EachChanges cells (changed_by stamp (Delete spans) cells)) (λ (run : PlaceRun). Deleted run.from run.to) (runs_of (takes_away (Delete spans) cells) (length (visible_of cells)))
     (runs_are (IsTakenAt cells (changed_by stamp (Delete spans) cells)) (takes_away (Delete spans) cells) (length (visible_of cells)) (λ q l e. deleted_at stamp spans cells q e))
 exact_by stamp (Tag on name spans) cells s new =
-    All-map (IsExact cells (changed_by stamp (Tag on name spans) cells)) (λ (run : PlaceRun). Tagged on name run.from run.to) (runs_of (retags stamp (Tag on name spans) cells) (length (visible_of cells)))
+    All-map (EachChanges cells (changed_by stamp (Tag on name spans) cells)) (λ (run : PlaceRun). Tagged on name run.from run.to) (runs_of (retags stamp (Tag on name spans) cells) (length (visible_of cells)))
     (runs_are (IsRetaggedAt on name cells (changed_by stamp (Tag on name spans) cells)) (retags stamp (Tag on name spans) cells) (length (visible_of cells)) (λ q l e. retagged_at stamp on name spans cells q s e))
 
 -- HISTORIES
@@ -203,9 +203,9 @@ are_new set op h k s m =
     cells_have set h s
     ∙ (λ i. inserted_new set op k s m i || not_final s (let r = inserted_range op s m in omega (arith, r.site, (sound_of k).site)) i)
 
-pub changes_exact : (set : List Operation) (op : Operation) → IsHistory set → Continues set op → All (IsExact (cells_of set) (cells_of (with_operation op set))) (changes_of op (cells_of set))
+pub changes_exact : (set : List Operation) (op : Operation) → IsHistory set → Continues set op → All (EachChanges (cells_of set) (cells_of (with_operation op set))) (changes_of op (cells_of set))
 changes_exact set op h k =
-    subst (λ new. All (IsExact (cells_of set) new) (changes_of op (cells_of set))) (sym (cells_with op set h k))
+    subst (λ new. All (EachChanges (cells_of set) new) (changes_of op (cells_of set))) (sym (cells_with op set h k))
     (exact_by (stamp_of op) op.body (cells_of set) (by_name set h) (are_new set op h k))
 
 pub taken_gone : (set : List Operation) (op : Operation) (place : ℕ) (stamp : Stamp) → IsHistory set → Continues set op → slice_get (stamps_of (visible_of (cells_of set))) place ≡ Some stamp

@@ -31,7 +31,7 @@ pub record IsRetaggedAt (on : Bool) (name : Name) (old new : List TaggedCell) (p
 
 -- Each place that a change names is one that changes. Places of what is deleted or tagged are those before the operation, as its
 -- runs come the last in the text first; places of what is inserted are those after it.
-abbrev pub IsExact : List TaggedCell → List TaggedCell → VisibleChange → Type 0
-IsExact old new (Deleted from to) = (place : ℕ) → from ≤ place → place < to → IsTakenAt old new place
-IsExact old new (Inserted at text tags) = (place : ℕ) → at ≤ place → place < at + length text → IsPutAt old new place
-IsExact old new (Tagged on name from to) = (place : ℕ) → from ≤ place → place < to → IsRetaggedAt on name old new place
+abbrev pub EachChanges : List TaggedCell → List TaggedCell → VisibleChange → Type 0
+EachChanges old new (Deleted from to) = (place : ℕ) → from ≤ place → place < to → IsTakenAt old new place
+EachChanges old new (Inserted at text tags) = (place : ℕ) → at ≤ place → place < at + length text → IsPutAt old new place
+EachChanges old new (Tagged on name from to) = (place : ℕ) → from ≤ place → place < to → IsRetaggedAt on name old new place

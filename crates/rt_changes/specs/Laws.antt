@@ -21,7 +21,7 @@ use Rattle.rt_rga.specs.Taken.{AreFallingRuns, IsChange, differ, is_in_runs, pla
 use Rattle.rt_rga.specs.Texts.{tagged_text}
 use Rattle.rt_rga.specs.declared.taken.Change.{Change}
 use Rattle.rt_rga.specs.declared.taken.PlaceRun.{PlaceRun}
-use Rattle.rt_changes.specs.Exact.{IsExact}
+use Rattle.rt_changes.specs.Exact.{EachChanges}
 use Rattle.rt_changes.specs.Replays.{AreInText, all_changes, all_under, changed_at, changes_by_requests, changes_in_turn, changes_of, left_at, replayed, runs_of, tagged_with, tags_with, told_by}
 use Rattle.rt_changes.specs.Telling.{AreExactInTurn}
 
@@ -185,4 +185,4 @@ RetaggedDiffer =
 abbrev pub ChangesAreExact : Type 0
 ChangesAreExact =
     (set : List Operation) (op : Operation) → IsHistory set → Continues set op
-    → All (IsExact (cells_of set) (cells_of (with_operation op set))) (changes_of op (cells_of set))
+    → All (EachChanges (cells_of set) (cells_of (with_operation op set))) (changes_of op (cells_of set))

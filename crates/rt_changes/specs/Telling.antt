@@ -12,7 +12,7 @@ use Rattle.rt_changes.specs.declared.change.ToldChange.{ToldChange}
 use Rattle.rt_changes.specs.declared.change.ToldChange.TheVariants as told
 use Rattle.rt_changes.specs.declared.change.ToTell.{ToTell}
 use Rattle.rt_changes.specs.declared.change.ToTell.TheVariants as to_tell
-use Rattle.rt_changes.specs.Exact.{IsExact}
+use Rattle.rt_changes.specs.Exact.{EachChanges}
 use Rattle.rt_changes.specs.Replays.{Deleted, Inserted, Tagged, VisibleChange, changes_in_turn, changes_of, told_by}
 
 -- what is told of one operation, run by run
@@ -41,7 +41,7 @@ IsToTell body t = (change : Change) → as_words change.lists.items ≡ lists_of
 abbrev pub AreExactInTurn : List Operation → List Operation → Type 0
 AreExactInTurn [] log = Unit {0}
 AreExactInTurn (op ∷ ops) log =
-    All (IsExact (cells_of log) (cells_of (with_operation op log))) (changes_of op (cells_of log)) × AreExactInTurn ops (with_operation op log)
+    All (EachChanges (cells_of log) (cells_of (with_operation op log))) (changes_of op (cells_of log)) × AreExactInTurn ops (with_operation op log)
 
 -- One log became another by operations each of which continued it in turn; these are their changes, in this order, and each is exact.
 pub record AreChangesBetween (old new : List Operation) (changes : List VisibleChange) : Type 0 where

@@ -35,8 +35,8 @@ ShowsFile old new before after result =
     ⊎ ((result ≡ Err (NoMemory, 0)) × LacksMemory FILE_BOUNDS old new × (after ≡ before))
 
 -- one of a file's operations is the first that is refused, and the fault has the offset of its record
-abbrev pub IsRefused : List Operation → List ℕ → Fault × ℕ → Type 0
-IsRefused ops offsets found = (place : ℕ) × IsFirstRefused ops place found.0 × (slice_get offsets place ≡ Some found.1)
+abbrev pub IsRefusedAt : List Operation → List ℕ → Fault × ℕ → Type 0
+IsRefusedAt ops offsets found = (place : ℕ) × IsFirstRefused ops place found.0 × (slice_get offsets place ≡ Some found.1)
 
 -- What a file gives: the log of its operations, where its reading has no fault. Or its first fault: of the first operation
 -- that is refused, else that of the reading, which comes after all of them.
@@ -45,7 +45,7 @@ FileGives old new result =
     (ops : List Operation) × (offsets : List ℕ) × (fault : Option (Fault × ℕ)) × ReadsFile FILE_BOUNDS old new ops offsets fault
     × MatchResult result
     (λ log. (fault ≡ None) × IsLogOf ops log)
-    (λ found. IsRefused ops offsets found ⊎ ((fault ≡ Some found) × ((log : List Operation) × IsLogOf ops log)))
+    (λ found. IsRefusedAt ops offsets found ⊎ ((fault ≡ Some found) × ((log : List Operation) × IsLogOf ops log)))
 
 -- a fault of the first or the second file
 abbrev pub in_file : ℕ → Fault × ℕ → JoinFault

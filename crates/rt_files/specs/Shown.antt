@@ -33,8 +33,8 @@ abbrev pub spaced : List Word → List ℕ
 spaced words = flat_map (λ word. 32 ∷ word) words
 
 -- the line of an operation: its kind, its stamp, the count before it, and what it does
-abbrev pub line_of : Operation → List ℕ
-line_of op = kind_of op.body ++ (spaced (text_of_stamp (stamp_of op) ∷ codes "prev" ∷ decimal op.prev ∷ words_of op.body) ++ (10 ∷ []))
+abbrev pub shown_line : Operation → List ℕ
+shown_line op = kind_of op.body ++ (spaced (text_of_stamp (stamp_of op) ∷ codes "prev" ∷ decimal op.prev ∷ words_of op.body) ++ (10 ∷ []))
 
 abbrev pub shown_lines : List Operation → List ℕ
-shown_lines ops = flat_map line_of ops
+shown_lines ops = flat_map shown_line ops

@@ -5,7 +5,7 @@ ghost use Rattle.rt_ops.specs.File.{spelling};
 ghost use Rattle.rt_oplog.specs.Logs.{joined};
 ghost use Rattle.rt_ops.specs.Operations.{Operation};
 ghost use Rattle.rt_oplog.specs.Outcomes.{IsLogOf};
-ghost use Rattle.rt_files.specs.Files.{IsRefused, FileGives, GivesNoLog, JoinsFiles, in_file, of_neither};
+ghost use Rattle.rt_files.specs.Files.{IsRefusedAt, FileGives, GivesNoLog, JoinsFiles, in_file, of_neither};
 
 use rt_oplog::{Op, OpLog, join, read_file, write_file};
 use rt_stamps::std_ends::{Count, Writer};
@@ -54,7 +54,7 @@ fn log_of(alloc: Global, file: u8, ops: Vec<Op>, offsets: &[u64]) -> Result<OpLo
     requires { length offsets.now ≡ length ops.items }
     ensures { MatchResult result
         (λ log. IsLogOf ops.items log.operations)
-        (λ why. ((found : Fault × ℕ) × (why ≡ in_file file found) × IsRefused ops.items offsets.now found)
+        (λ why. ((found : Fault × ℕ) × (why ≡ in_file file found) × IsRefusedAt ops.items offsets.now found)
         ⊎ ((why ≡ of_neither NoMemory) × (0 < length ops.items))) }
 {
     match OpLog::from_ops(alloc, ops) {

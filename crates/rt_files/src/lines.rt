@@ -5,7 +5,7 @@ ghost use Rattle.rt_stamps.specs.Written.{WritesText};
 ghost use Rattle.rt_stamps.specs.Words.{as_words};
 ghost use Rattle.rt_ops.specs.Edits.{body_of};
 ghost use Rattle.rt_ops.specs.Operations.{Insert, Delete, Tag, stamp_of};
-ghost use Rattle.rt_files.specs.Shown.{kind_of, line_of, shown_lines, spaced, text_of_stamp, words_of};
+ghost use Rattle.rt_files.specs.Shown.{kind_of, shown_line, shown_lines, spaced, text_of_stamp, words_of};
 
 use crate::parts::{Part, write_names, write_parts, write_spans};
 use rt_ops::{Edit, Op};
@@ -23,7 +23,7 @@ pub fn write_lines<W: Sink>(ops: &[Op], out: &mut W) -> Result<(), Fault>
 }
 
 fn write_line<W: Sink>(op: &Op, out: &mut W) -> Result<(), Fault>
-    ensures { WritesText (W.stream out.old) (W.stream out.new) result (line_of op.now) }
+    ensures { WritesText (W.stream out.old) (W.stream out.new) result (shown_line op.now) }
 {
     write_op(op, out)?;
     write_all(out, b"\n")

@@ -1,7 +1,7 @@
 -- What a site has accepted in the end.
 use Rattle.std.proofs.Common.{◌≡◌, ℕ, ◌<◌, Bool, true, false, inl, inr, refl, ap, ◌∙◌, List, [], ◌∷◌, ◌||◌}
 use Rattle.rt_ops.specs.Operations.{Operation}
-use Rattle.rt_oplog.specs.Logs.{AreOf, Has}
+use Rattle.rt_oplog.specs.Logs.{AreOf, HasOp}
 use Rattle.rt_rga.specs.Answers.{Answer, New, Repeat, Refused, answer_to, answer_within}
 use Rattle.rt_rga.specs.Cells.{cells_of}
 use Rattle.rt_rga.specs.Histories.{IsHistory}
@@ -23,7 +23,7 @@ not_new full New e f n = full_cases full e f
 not_new full Repeat e f n = cc n
 not_new full (Refused fault) e f n = cc n
 
-pub greatest_kept : (limit : ℕ) (ops : List Operation) (end : Holding) → Keeps limit (Has ops) end → AreFree ops → NoneCouldBeTaken limit end → IsGreatestHistoryWithin ops end.log
+pub greatest_kept : (limit : ℕ) (ops : List Operation) (end : Holding) → Keeps limit (HasOp ops) end → AreFree ops → NoneCouldBeTaken limit end → IsGreatestHistoryWithin ops end.log
 greatest_kept limit ops end k f n = is_greatest ops end.log k.kept.history k.kept.log f (λ x i. elim (k.kept.each x i) [
   | inl j ↦ inl j
   | inr q ↦ elim q [
@@ -56,7 +56,7 @@ repeat_late New e h = cc e
 repeat_late Repeat e h = cc h
 repeat_late (Refused fault) e h = cc e
 
-none_there : (held : List Operation) → ((x : Operation) → Has held x → ⊥) → held ≡ []
+none_there : (held : List Operation) → ((x : Operation) → HasOp held x → ⊥) → held ≡ []
 none_there [] f = refl
 none_there (q ∷ held) f = absurd (f q (inl refl))
 
@@ -68,7 +68,7 @@ histories_accepted site limit requests ops set end p r h f n =
     let e : end.log ≡ set = one_list end.log set g.history h (λ x. (λ i. (f x).0 (g.within x i), λ i. g.greatest set h (λ y j. (f y).1 j) x i)) in (
       e,
       none_there end.held (λ x i.
-          let m : Has end.log x = g.greatest set h (λ y j. (f y).1 j) x ((f x).0 (k.kept.held x i)) in
+          let m : HasOp end.log x = g.greatest set h (λ y j. (f y).1 j) x ((f x).0 (k.kept.held x i)) in
           let t = (repeat_is end.log x g.history).1 m in
           repeat_late (answer_within limit x end.log) (other_within _ (answer_to x end.log) (λ u. cc (t, u)) ∙ t) (k.late x i)),
     )

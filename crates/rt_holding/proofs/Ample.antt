@@ -1,7 +1,7 @@
 -- Runs in which each try finds memory.
 use Rattle.std.proofs.Common.{◌≡◌, ℕ, ◌<◌, Bool, true, false, inl, inr, refl, sym, subst, List, [], ◌∷◌, ◌&&◌, ◌||◌}
 use Rattle.rt_ops.specs.Operations.{Operation}
-use Rattle.rt_oplog.specs.Logs.{Has, holds}
+use Rattle.rt_oplog.specs.Logs.{HasOp, holds}
 use Rattle.rt_rga.specs.Answers.{Answer, answer_within}
 use Rattle.rt_rga.specs.Requests.{Make, Offer, Request}
 use Rattle.rt_rga.proofs.Skipping.{split}
@@ -70,7 +70,7 @@ stay_new Rattle.rt_rga.specs.Answers.Repeat e = refl
 stay_new (Rattle.rt_rga.specs.Answers.Refused fault) e = refl
 
 pub ample_greatest : (site limit : ℕ) (requests : List Request) → 0 < site → AllMayBeAsked site limit requests nothing → AreFree (brought site limit requests nothing)
-    → ((op : Operation) → Has (after_requests site limit requests nothing).held op → has_no_room (answer_within limit op (after_requests site limit requests nothing).log) ≡ false)
+    → ((op : Operation) → HasOp (after_requests site limit requests nothing).held op → has_no_room (answer_within limit op (after_requests site limit requests nothing).log) ≡ false)
     → IsGreatestHistoryWithin (brought site limit requests nothing) (after_requests site limit requests nothing).log
 ample_greatest site limit requests p m f r =
     let end = after_requests site limit requests nothing in

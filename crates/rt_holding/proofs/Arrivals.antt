@@ -8,7 +8,7 @@ use Rattle.rt_oplog.specs.Logs.{holds, same_operation}
 use Rattle.rt_rga.proofs.Skipping.{split}
 use Rattle.rt_holding.specs.Arrivals.{ComesToTheSame, by_stamp, earlier, next_arrived, put_first}
 use Rattle.rt_holding.specs.Holding.{is_left, next_of, put_held, without}
-use Rattle.rt_holding.specs.Runs.{AreRising}
+use Rattle.rt_holding.specs.Runs.{NoneFalls}
 
 -- BY RISING STAMP
 
@@ -24,15 +24,15 @@ later_too : (p q : Operation) (held : List Operation) → is_before (stamp_of q)
 later_too p q [] e a = tt
 later_too p q (r ∷ held) e a = let i = a.0 in (grind (arith, nat_tests), later_too p q held e a.1)
 
-first_order : (op : Operation) (held : List Operation) → AreRising held → AreRising (put_first op held)
+first_order : (op : Operation) (held : List Operation) → NoneFalls held → NoneFalls (put_first op held)
 first_order op [] o = (tt, tt)
 first_order op (q ∷ held) o =
-    (elim (is_before (stamp_of q) (stamp_of op)) as (λ t. is_before (stamp_of q) (stamp_of op) ≡ t → AreRising (cond t (q ∷ put_first op held) (op ∷ (q ∷ held)))) [
+    (elim (is_before (stamp_of q) (stamp_of op)) as (λ t. is_before (stamp_of q) (stamp_of op) ≡ t → NoneFalls (cond t (q ∷ put_first op held) (op ∷ (q ∷ held)))) [
       | true ↦ λ e. (first_all (λ later. is_before (stamp_of later) (stamp_of q) ≡ false) op held (grind (arith, nat_tests, e)) o.0, first_order op held o.1)
       | false ↦ λ e. ((e, later_too op q held e o.0), o)
     ]) refl
 
-pub stamp_order : (arrived : List Operation) → AreRising (by_stamp arrived)
+pub stamp_order : (arrived : List Operation) → NoneFalls (by_stamp arrived)
 stamp_order [] = tt
 stamp_order (op ∷ arrived) = first_order op (by_stamp arrived) (stamp_order arrived)
 
@@ -52,7 +52,7 @@ earlier_first : (op : Operation) (r : Option Operation) → ((x : Operation) →
 earlier_first op None f = refl
 earlier_first op (Some q) f = let e = f q refl in rw e refl
 
-next_first : (limit : ℕ) (wanting log : List Operation) (op : Operation) (held : List Operation) → AreRising held
+next_first : (limit : ℕ) (wanting log : List Operation) (op : Operation) (held : List Operation) → NoneFalls held
     → next_of limit wanting log (put_first op held) ≡ cond (is_left limit wanting log op) (next_of limit wanting log held) (earlier op (next_of limit wanting log held))
 next_first limit wanting log op [] o = refl
 next_first limit wanting log op (q ∷ held) o =
@@ -85,7 +85,7 @@ without_lower P op (q ∷ held) a = elim (not (same_operation q op)) as (λ t. A
   | false ↦ without_lower P op held a.1
 ]
 
-without_first : (op x : Operation) (held : List Operation) → AreRising held → without op (put_first x held) ≡ cond (not (same_operation x op)) (put_first x (without op held)) (without op held)
+without_first : (op x : Operation) (held : List Operation) → NoneFalls held → without op (put_first x held) ≡ cond (not (same_operation x op)) (put_first x (without op held)) (without op held)
 without_first op x [] o = elim (not (same_operation x op)) as (λ t. cond t (x ∷ []) [] ≡ cond t (x ∷ []) []) [ true ↦ refl | false ↦ refl ]
 without_first op x (q ∷ held) o =
     (elim (is_before (stamp_of q) (stamp_of x)) as (λ t. is_before (stamp_of q) (stamp_of x) ≡ t → without op (cond t (q ∷ put_first x held) (x ∷ (q ∷ held)))

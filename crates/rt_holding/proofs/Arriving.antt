@@ -5,7 +5,7 @@ use Rattle.rt_stamps.specs.declared.fault.Fault.TheVariants.{TextFull, WaitingFu
 use Rattle.rt_stamps.specs.declared.limits.TheConstants.{GREATEST_COUNT}
 use Rattle.rt_ops.specs.Operations.{Body, Operation}
 use Rattle.rt_ops.specs.Rules.{keeps_rules}
-use Rattle.rt_oplog.specs.Logs.{Has, holds}
+use Rattle.rt_oplog.specs.Logs.{HasOp, holds}
 use Rattle.rt_oplog.proofs.Sets.{has_held}
 use Rattle.rt_rga.specs.Answers.{Answer, New, Repeat, Refused, answer_to, answer_within}
 use Rattle.rt_rga.specs.Cells.{cells_of}
@@ -61,18 +61,18 @@ held_kept came op s o k = record {
 
 -- what an offer brings
 abbrev Brings : (Operation → Type 0) → Reply → Operation → Operation → Type 0
-Brings came reply op x = came x ⊎ Has (cond (finds_no_room reply) [] (op ∷ [])) x
+Brings came reply op x = came x ⊎ HasOp (cond (finds_no_room reply) [] (op ∷ [])) x
 
 brings_none : (came : Operation → Type 0) (reply : Reply) (op : Operation) (s : Holding) → finds_no_room reply ≡ true → IsKept came s → IsKept (Brings came reply op) s
 brings_none came reply op s e k = kept_same came (Brings came reply op) s (λ x. (
   λ i. inl i,
-  λ i. elim i [ inl j ↦ j | inr j ↦ absurd (let n : Has [] x = rw e at j in n) ],
+  λ i. elim i [ inl j ↦ j | inr j ↦ absurd (let n : HasOp [] x = rw e at j in n) ],
 )) k
 
 brings_one : (came : Operation → Type 0) (reply : Reply) (op : Operation) (s : Holding) → finds_no_room reply ≡ false → IsKept (With came op) s → IsKept (Brings came reply op) s
 brings_one came reply op s e k = kept_same (With came op) (Brings came reply op) s (λ x. (
   λ i. elim i [ inl j ↦ inl j | inr j ↦ inr (rw e (inl j)) ],
-  λ i. elim i [ inl j ↦ inl j | inr j ↦ inr (let n : Has (op ∷ []) x = rw e at j in elim n [ inl f ↦ f | inr f ↦ absurd f ]) ],
+  λ i. elim i [ inl j ↦ inl j | inr j ↦ inr (let n : HasOp (op ∷ []) x = rw e at j in elim n [ inl f ↦ f | inr f ↦ absurd f ]) ],
 )) k
 
 both_ways : (came : Operation → Type 0) (reply : Reply) (op : Operation) (s : Holding) → IsKept came s → IsKept (With came op) s → IsKept (Brings came reply op) s
@@ -108,7 +108,7 @@ neither a b e f = rw (e, f) refl
 
 offer_by : (a : Answer) (came : Operation → Type 0) (op : Operation) (s : Holding) → keeps_rules op.body ≡ true → IsKept came s
     → (is_new a ≡ true → IsKept (With came op) (with_taken op s))
-    → (is_new a ≡ false → stays a ≡ false → Has s.log op ⊎ (is_out (answer_to op s.log) ≡ true))
+    → (is_new a ≡ false → stays a ≡ false → HasOp s.log op ⊎ (is_out (answer_to op s.log) ≡ true))
     → IsKept (Brings came (reply_for a op s.held) op) (after_answer a op s)
 offer_by a came op s r k n d =
     let w = came_with came op s r k in
@@ -150,7 +150,7 @@ offer_kept limit came op s r k = offer_by (answer_within limit op s.log) came op
 
 pub drafts_kept : (site limit : ℕ) (drafts : List Body) (came : Operation → Type 0) (s : Holding) → 0 < site → MayBeMade site s.log drafts
     → last_count_after (greatest_last_count s.log) drafts ≤ GREATEST_COUNT → IsKept came s
-    → IsKept (λ x. came x ⊎ Has (operations_of site drafts s.log) x) (record { log = with_drafts site drafts s.log; held = s.held })
+    → IsKept (λ x. came x ⊎ HasOp (operations_of site drafts s.log) x) (record { log = with_drafts site drafts s.log; held = s.held })
 drafts_kept site limit drafts came s p m l k =
     let h = (made site drafts s.log p k.history (drafts_for site s.log drafts m l)).history in
     let ops = operations_of site drafts s.log in
@@ -168,10 +168,10 @@ drafts_kept site limit drafts came s p m l k =
       ];
     }
 
-drafted : (b : Bool) (came : Operation → Type 0) (ops : List Operation) (s t : Holding) → (b ≡ true → IsKept (λ x. came x ⊎ Has ops x) t) → IsKept came s
-    → IsKept (λ x. came x ⊎ Has (cond b ops []) x) (cond b t s)
+drafted : (b : Bool) (came : Operation → Type 0) (ops : List Operation) (s t : Holding) → (b ≡ true → IsKept (λ x. came x ⊎ HasOp ops x) t) → IsKept came s
+    → IsKept (λ x. came x ⊎ HasOp (cond b ops []) x) (cond b t s)
 drafted true came ops s t f k = f refl
-drafted false came ops s t f k = kept_same came (λ x. came x ⊎ Has [] x) s (λ x. (λ i. inl i, λ i. elim i [ inl j ↦ j | inr j ↦ absurd j ])) k
+drafted false came ops s t f k = kept_same came (λ x. came x ⊎ HasOp [] x) s (λ x. (λ i. inl i, λ i. elim i [ inl j ↦ j | inr j ↦ absurd j ])) k
 
 both : (a b : Bool) → (a && b) ≡ true → a ≡ true
 both true b h = refl
@@ -180,7 +180,7 @@ both false b h = absurd (cc h)
 -- ONE REQUEST
 
 abbrev pub Bringing : (Operation → Type 0) → ℕ → ℕ → Request → Holding → Operation → Type 0
-Bringing came site limit request s x = came x ⊎ Has (brought_by site limit request s) x
+Bringing came site limit request s x = came x ⊎ HasOp (brought_by site limit request s) x
 
 pub first_kept : (site limit : ℕ) (request : Request) (came : Operation → Type 0) (s : Holding) → 0 < site → MayBeAsked site s.log request → IsKept came s
     → IsKept (Bringing came site limit request s) (at_first site limit request s)
@@ -231,9 +231,9 @@ leads_keeps site limit request came s t more p m l k =
 -- ALL REQUESTS
 
 pub runs_keep : (site limit : ℕ) (requests : List Request) (came : Operation → Type 0) (s u : Holding) (ops : List Operation) → 0 < site
-    → Runs site limit requests s u ops → Keeps limit came s → Keeps limit (λ x. came x ⊎ Has ops x) u
+    → Runs site limit requests s u ops → Keeps limit came s → Keeps limit (λ x. came x ⊎ HasOp ops x) u
 runs_keep site limit requests came s u ops p none k = record {
-  kept = kept_same came (λ x. came x ⊎ Has [] x) s (λ x. (λ i. inl i, λ i. elim i [ inl j ↦ j | inr j ↦ absurd j ])) k.kept;
+  kept = kept_same came (λ x. came x ⊎ HasOp [] x) s (λ x. (λ i. inl i, λ i. elim i [ inl j ↦ j | inr j ↦ absurd j ])) k.kept;
   late = k.late;
 }
 runs_keep site limit requests came s u ops p (next {request = request} {requests = others} {t = t} {ops = later} more m l r) k =
@@ -241,20 +241,20 @@ runs_keep site limit requests came s u ops p (next {request = request} {requests
     let rest = runs_keep site limit others (Bringing came site limit request s) t u later p r one in
     let first = brought_by site limit request s in
     record {
-      kept = kept_same (λ x. Bringing came site limit request s x ⊎ Has later x) (λ x. came x ⊎ Has (first ++ later) x) u (λ x. (
+      kept = kept_same (λ x. Bringing came site limit request s x ⊎ HasOp later x) (λ x. came x ⊎ HasOp (first ++ later) x) u (λ x. (
         λ i. elim i [ inl j ↦ elim j [ inl n ↦ inl n | inr n ↦ inr (append_has first later x (inl n)) ] | inr j ↦ inr (append_has first later x (inr j)) ],
         λ i. elim i [ inl j ↦ inl (inl j) | inr j ↦ elim (has_append first later x j) [ inl n ↦ inl (inr n) | inr n ↦ inr n ] ],
       )) rest.kept;
       late = rest.late;
     }
 
-pub from_nothing : (site limit : ℕ) (requests : List Request) (u : Holding) (ops : List Operation) → 0 < site → Runs site limit requests nothing u ops → Keeps limit (Has ops) u
+pub from_nothing : (site limit : ℕ) (requests : List Request) (u : Holding) (ops : List Operation) → 0 < site → Runs site limit requests nothing u ops → Keeps limit (HasOp ops) u
 from_nothing site limit requests u ops p r =
     let k = runs_keep site limit requests (λ x. ⊥) nothing u ops p r (record {
       kept = record { history = tt; rules = λ x i. absurd i; log = λ x i. absurd i; held = λ x i. absurd i; each = λ x i. absurd i };
       late = λ x i. absurd i;
     }) in
     record {
-      kept = kept_same (λ x. ⊥ ⊎ Has ops x) (Has ops) u (λ x. (λ i. elim i [ inl j ↦ absurd j | inr j ↦ j ], λ i. inr i)) k.kept;
+      kept = kept_same (λ x. ⊥ ⊎ HasOp ops x) (HasOp ops) u (λ x. (λ i. elim i [ inl j ↦ absurd j | inr j ↦ j ], λ i. inr i)) k.kept;
       late = k.late;
     }

@@ -4,7 +4,7 @@ use Rattle.rt_stamps.specs.declared.fault.Fault.{Fault}
 use Rattle.rt_stamps.specs.declared.fault.Fault.TheVariants.{NoMemory, TextFull, WaitingFull}
 use Rattle.rt_ops.specs.Operations.{Operation}
 use Rattle.rt_ops.specs.Rules.{keeps_rules}
-use Rattle.rt_oplog.specs.Logs.{Has, holds}
+use Rattle.rt_oplog.specs.Logs.{HasOp, holds}
 use Rattle.rt_rga.specs.Answers.{Answer, New, Repeat, Refused, answer_within}
 use Rattle.rt_rga.specs.Requests.{Offer, Request}
 use Rattle.rt_rga.proofs.Skipping.{split}
@@ -176,7 +176,7 @@ module _ {Site : Type 0} (log : Site → List Operation) (limit : Site → ℕ) 
   }
 
   offers_go : (site : ℕ) (ops : List Operation) (offsets : List ℕ) (behind : Behind) (old : State Site) (received : Received) (new : State Site)
-      → (h : Offers log limit after ops offsets behind old received new) → 0 < site → ((op : Operation) → Has ops op → keeps_rules op.body ≡ true)
+      → (h : Offers log limit after ops offsets behind old received new) → 0 < site → ((op : Operation) → HasOp ops op → keeps_rules op.body ≡ true)
       → IsHolding (limit old.site) (state_of old) → Goes site old new (offered_in log limit after ops offsets behind old received new h)
   offers_go site [] offsets behind old received new h p rules k = stays_so site old new k h.same
   offers_go site (op ∷ ops) [] behind old received new h p rules k = absurd h

@@ -6,7 +6,7 @@ use Rattle.rt_stamps.specs.declared.fault.Fault.{Fault}
 use Rattle.rt_stamps.specs.declared.fault.Fault.TheVariants.{NoMemory, TextFull}
 use Rattle.rt_ops.specs.Operations.{Operation}
 use Rattle.rt_ops.specs.Reading.{Reads}
-use Rattle.rt_oplog.specs.Logs.{Has, holds, with_operation}
+use Rattle.rt_oplog.specs.Logs.{HasOp, holds, with_operation}
 use Rattle.rt_rga.specs.Answers.{Answer, New, Repeat, Refused, all_taken, answer_to, answer_within, refused_if_full, taken}
 use Rattle.rt_rga.specs.Histories.{IsHistory}
 use Rattle.rt_rga.specs.Orders.{AreIn, ComeInTime, HasBasesIn, is_made_upon}
@@ -29,32 +29,32 @@ use Rattle.rt_holding.proofs.Settling.{nothing_tried}
 -- IN TIME
 
 come_last : (set : List Operation) (op : Operation) (xs first : List Operation) → ComeInTime set first xs
-    → ((base : Operation) → Has set base → is_made_upon base op ≡ true → Has xs base ⊎ Has first base) → ComeInTime set first (xs ++ op ∷ [])
+    → ((base : Operation) → HasOp set base → is_made_upon base op ≡ true → HasOp xs base ⊎ HasOp first base) → ComeInTime set first (xs ++ op ∷ [])
 come_last set op [] first t b = (λ base i u. elim (b base i u) [ inl j ↦ absurd j | inr j ↦ j ], tt)
 come_last set op (x ∷ xs) first t b = (
   t.0,
   come_last set op xs (x ∷ first) t.1 (λ base i u. elim (b base i u) [ inl j ↦ elim j [ inl e ↦ inr (inl e) | inr k ↦ inl k ] | inr j ↦ inr (inr j) ]),
 )
 
-behind : (xs ys : List Operation) (x : Operation) → Has ys x → Has (xs ++ ys) x
+behind : (xs ys : List Operation) (x : Operation) → HasOp ys x → HasOp (xs ++ ys) x
 behind [] ys x i = i
 behind (z ∷ xs) ys x i = inr (behind xs ys x i)
 
-pub before : (xs ys : List Operation) (x : Operation) → Has xs x → Has (xs ++ ys) x
+pub before : (xs ys : List Operation) (x : Operation) → HasOp xs x → HasOp (xs ++ ys) x
 before [] ys x i = absurd i
 before (z ∷ xs) ys x (inl e) = inl e
 before (z ∷ xs) ys x (inr i) = inr (before xs ys x i)
 
-pub in_reverse : (xs : List Operation) (x : Operation) → Has xs x → Has (reverse xs) x
+pub in_reverse : (xs : List Operation) (x : Operation) → HasOp xs x → HasOp (reverse xs) x
 in_reverse [] x i = i
-in_reverse (z ∷ xs) x (inl e) = subst (λ l. Has l x) (sym (reverse-cons z xs)) (behind (reverse xs) (z ∷ []) x (inl e))
-in_reverse (z ∷ xs) x (inr i) = subst (λ l. Has l x) (sym (reverse-cons z xs)) (before (reverse xs) (z ∷ []) x (in_reverse xs x i))
+in_reverse (z ∷ xs) x (inl e) = subst (λ l. HasOp l x) (sym (reverse-cons z xs)) (behind (reverse xs) (z ∷ []) x (inl e))
+in_reverse (z ∷ xs) x (inr i) = subst (λ l. HasOp l x) (sym (reverse-cons z xs)) (before (reverse xs) (z ∷ []) x (in_reverse xs x i))
 
-pub of_reverse : (xs : List Operation) (x : Operation) → Has (reverse xs) x → Has xs x
+pub of_reverse : (xs : List Operation) (x : Operation) → HasOp (reverse xs) x → HasOp xs x
 of_reverse [] x i = i
-of_reverse (z ∷ xs) x i = elim (apart (reverse xs) x (subst (λ l. Has l x) (reverse-cons z xs) i)) [ inl j ↦ inr (of_reverse xs x j) | inr e ↦ inl e ]
+of_reverse (z ∷ xs) x i = elim (apart (reverse xs) x (subst (λ l. HasOp l x) (reverse-cons z xs) i)) [ inl j ↦ inr (of_reverse xs x j) | inr e ↦ inl e ]
   where
-    apart : (ys : List Operation) (x : Operation) → Has (ys ++ z ∷ []) x → Has ys x ⊎ (z ≡ x)
+    apart : (ys : List Operation) (x : Operation) → HasOp (ys ++ z ∷ []) x → HasOp ys x ⊎ (z ≡ x)
     apart [] x (inl e) = inr e
     apart [] x (inr i) = absurd i
     apart (y ∷ ys) x (inl e) = inl (inl e)
@@ -122,7 +122,7 @@ module _ {Site : Type 0} (log : Site → List Operation) (limit : Site → ℕ) 
   newly op offerings.Repeat old new set l e t = absurd (cc e)
   newly op offerings.Held old new set l e t = absurd (cc e)
 
-  one_goes : (op : Operation) (o : Offered) (all set : List Operation) (old new : State Site) → IsHistory all → IsHistory set → AreIn set all → Has all op → HasBasesIn all op set
+  one_goes : (op : Operation) (o : Offered) (all set : List Operation) (old new : State Site) → IsHistory all → IsHistory set → AreIn set all → HasOp all op → HasBasesIn all op set
       → HasLog set old → reply_to (limit old.site) op (holding log old.site old.held) ≡ replied (Ok o)
       → IsOffered log after (limit old.site) op o old.site old.held new.site new.held → HasLog (taken op set) new
   one_goes op o all set old new h k sub i bases l r t =
@@ -138,7 +138,7 @@ module _ {Site : Type 0} (log : Site → List Operation) (limit : Site → ℕ) 
       subst (λ s. HasLog s new) (sym (ap (λ b. Rattle.rt_rga.specs.Answers.set_after b op set) a)) (newly op o old new set l q t))
 
   offers_go : (all : List Operation) → IsHistory all → (ops : List Operation) (offsets : List ℕ) (behind : Behind) (old : State Site) (received : Received) (new : State Site) (seen set : List Operation)
-      → Offers log limit after ops offsets behind old received new → received.fault ≡ None → HasLog set old → IsHistory set → ((x : Operation) → Has set x → Has seen x) → ((x : Operation) → Has seen x → Has set x)
+      → Offers log limit after ops offsets behind old received new → received.fault ≡ None → HasLog set old → IsHistory set → ((x : Operation) → HasOp set x → HasOp seen x) → ((x : Operation) → HasOp seen x → HasOp set x)
       → AreIn set all → AreIn ops all → ComeInTime all seen ops → HasLog (all_taken ops set) new
   offers_go all h [] offsets behind old received new seen set f e l k a b sub o t = subst (λ s. HasLog set s) (sym f.same) l
   offers_go all h (op ∷ ops) [] behind old received new seen set f e l k a b sub o t = absurd f
@@ -151,11 +151,11 @@ module _ {Site : Type 0} (log : Site → List Operation) (limit : Site → ℕ) 
       offers_go all h ops offsets behind f.next f.rest new (op ∷ seen) (taken op set) f.others fault next one.history
       (λ x i. elim ((one.members x).0 i) [ inl j ↦ inr (a x j) | inr q ↦ inl q ])
       (λ x i. (one.members x).1 (elim i [ inl q ↦ inr q | inr j ↦ inl (b x j) ]))
-      (λ x i. elim ((one.members x).0 i) [ inl j ↦ sub x j | inr q ↦ subst (Has all) q (o op (inl refl)) ])
+      (λ x i. elim ((one.members x).0 i) [ inl j ↦ sub x j | inr q ↦ subst (HasOp all) q (o op (inl refl)) ])
       (λ x i. o x (inr i)) t.1
 
   -- and only want of memory or of room ends it early
-  refused_goes : (op : Operation) (fault : Fault) (all set : List Operation) (old : State Site) → IsHistory all → IsHistory set → AreIn set all → Has all op → HasBasesIn all op set
+  refused_goes : (op : Operation) (fault : Fault) (all set : List Operation) (old : State Site) → IsHistory all → IsHistory set → AreIn set all → HasOp all op → HasBasesIn all op set
       → HasLog set old → IsRefused (reply_to (limit old.site) op (holding log old.site old.held)) fault → (fault ≡ NoMemory) ⊎ (fault ≡ TextFull)
   refused_goes op fault all set old h k sub i bases l (inr r) = inl r.0
   refused_goes op fault all set old h k sub i bases l (inl r) =
@@ -168,7 +168,7 @@ module _ {Site : Type 0} (log : Site → List Operation) (limit : Site → ℕ) 
       (λ e. let a = new_if_continues set op k (in_time all set op h k sub i bases e) in inr (full_fault _ (answer_to op set) op fault a here))
 
   offers_end : (all : List Operation) → IsHistory all → (ops : List Operation) (offsets : List ℕ) (behind : Behind) (old : State Site) (received : Received) (new : State Site) (seen set : List Operation)
-      → Offers log limit after ops offsets behind old received new → EndsWell behind → HasLog set old → IsHistory set → ((x : Operation) → Has set x → Has seen x) → ((x : Operation) → Has seen x → Has set x)
+      → Offers log limit after ops offsets behind old received new → EndsWell behind → HasLog set old → IsHistory set → ((x : Operation) → HasOp set x → HasOp seen x) → ((x : Operation) → HasOp seen x → HasOp set x)
       → AreIn set all → AreIn ops all → ComeInTime all seen ops → IfSome received.fault (λ found. (found.0 ≡ NoMemory) ⊎ (found.0 ≡ TextFull))
   offers_end all h [] offsets behind old received new seen set f w l k a b sub o t =
       subst (λ (r : Received). IfSome r.fault (λ found. (found.0 ≡ NoMemory) ⊎ (found.0 ≡ TextFull))) (sym f.counted)
@@ -185,13 +185,13 @@ module _ {Site : Type 0} (log : Site → List Operation) (limit : Site → ℕ) 
       (offers_end all h ops offsets behind f.next f.rest new (op ∷ seen) (taken op set) f.others w next one.history
       (λ x i. elim ((one.members x).0 i) [ inl j ↦ inr (a x j) | inr q ↦ inl q ])
       (λ x i. (one.members x).1 (elim i [ inl q ↦ inr q | inr j ↦ inl (b x j) ]))
-      (λ x i. elim ((one.members x).0 i) [ inl j ↦ sub x j | inr q ↦ subst (Has all) q (o op (inl refl)) ])
+      (λ x i. elim ((one.members x).0 i) [ inl j ↦ sub x j | inr q ↦ subst (HasOp all) q (o op (inl refl)) ])
       (λ x i. o x (inr i)) t.1)
 
   -- a file of operations that come in time behind those of a set, with which they are a history: where no fault is told, the site has that
   pub part_joins : (bytes : List ℕ) (offsets : List ℕ) (all set ops : List Operation) (old : State Site) (received : Received) (new : State Site)
       → Reads bytes ops offsets None → Receives log limit after bytes old received new → received.fault ≡ None → HasLog set old → IsHistory all → IsHistory set
-      → ((x : Operation) → Has all x ↔ (Has set x ⊎ Has ops x)) → ComeInTime all set ops → HasLog all new
+      → ((x : Operation) → HasOp all x ↔ (HasOp set x ⊎ HasOp ops x)) → ComeInTime all set ops → HasLog all new
   part_joins bytes offsets all set ops old received new reads f e l h k same t =
       let read : ops ≡ f.ops = all_offered log limit after bytes ops f.ops offsets f.offsets f.behind old received new reads f.read f.offers e in
       let offers : Offers log limit after ops f.offsets f.behind old received new = subst (λ ops. Offers log limit after ops f.offsets f.behind old received new) (sym read) f.offers in
@@ -200,8 +200,8 @@ module _ {Site : Type 0} (log : Site → List Operation) (limit : Site → ℕ) 
 
   pub part_ends : (bytes : List ℕ) (offsets : List ℕ) (all set ops : List Operation) (old : State Site) (received : Received) (new : State Site)
       → Reads bytes ops offsets None → Receives log limit after bytes old received new → HasLog set old → IsHistory all → IsHistory set
-      → ((x : Operation) → Has all x ↔ (Has set x ⊎ Has ops x)) → ComeInTime all set ops → IfSome received.fault (λ found. (found.0 ≡ NoMemory) ⊎ (found.0 ≡ TextFull))
+      → ((x : Operation) → HasOp all x ↔ (HasOp set x ⊎ HasOp ops x)) → ComeInTime all set ops → IfSome received.fault (λ found. (found.0 ≡ NoMemory) ⊎ (found.0 ≡ TextFull))
   part_ends bytes offsets all set ops old received new reads f l h k same t =
       let front = front_read bytes ops f.ops offsets f.offsets f.behind reads f.read in
       offers_end all h f.ops f.offsets f.behind old received new set set f.offers front.well l k (λ x i. i) (λ x i. i) (λ x i. (same x).1 (inl i))
-      (λ x i. (same x).1 (inr (subst (λ l. Has l x) (sym front.is) (before f.ops front.more x i)))) (come_front all set f.ops front.more (subst (ComeInTime all set) front.is t))
+      (λ x i. (same x).1 (inr (subst (λ l. HasOp l x) (sym front.is) (before f.ops front.more x i)))) (come_front all set f.ops front.more (subst (ComeInTime all set) front.is t))

@@ -13,7 +13,7 @@ use Rattle.rt_ops.specs.Reading.{IsBegun, Reads, ReadsAs, head_of, offsets_from}
 use Rattle.rt_ops.specs.Rules.{keeps_rules}
 use Rattle.rt_ops.proofs.Fronts.{front_of_read, head_begun, two_fronts}
 use Rattle.rt_ops.proofs.Unique.{one_reading}
-use Rattle.rt_oplog.specs.Logs.{Has}
+use Rattle.rt_oplog.specs.Logs.{HasOp}
 use Rattle.rt_holding.specs.declared.receiving.Received.{Received}
 use Rattle.rt_holding.specs.Receiving.{Behind, AtEnd, EndsWith, Offers, ReadsUpTo, State, Unread, Wanting}
 use Rattle.rt_holding.proofs.Receptions.{same_fault}
@@ -40,25 +40,25 @@ offsets_are bytes ops offsets (Wanting offset) h = h.3 ∙ ap (λ ver. offsets_f
 offsets_are bytes ops offsets Unread h = h.2 ∙ ap (λ ver. offsets_from ver 8 ops) (sym (ap version_told (head_begun bytes ops h.1)))
 
 begun_read : (found : Result Version Fault) (bytes : List ℕ) (ops : List Operation) (offsets : List ℕ) (ending : Option (Fault × ℕ)) → ReadsAs found bytes ops offsets ending
-    → (op : Operation) → Has ops op → IsBegun bytes ops
-begun_read (Err found) bytes ops offsets ending h op i = absurd (subst (λ l. Has l op) h.0 i)
+    → (op : Operation) → HasOp ops op → IsBegun bytes ops
+begun_read (Err found) bytes ops offsets ending h op i = absurd (subst (λ l. HasOp l op) h.0 i)
 begun_read (Ok ver) bytes ops offsets ending h op i = (ver, (h.0, h.1, h.2))
 
 -- where some were read, the file begins with them
 pub begun_with : (bytes : List ℕ) (ops : List Operation) (offsets : List ℕ) (behind : Behind) → ReadsUpTo bytes ops offsets behind
-    → (op : Operation) → Has ops op → IsBegun bytes ops
+    → (op : Operation) → HasOp ops op → IsBegun bytes ops
 begun_with bytes ops offsets (AtEnd ending) h op i = begun_read (head_of (take 8 bytes)) bytes ops offsets ending h op i
 begun_with bytes ops offsets (Wanting offset) h op i = (h.0, h.1)
 begun_with bytes ops offsets Unread h op i = (h.0, h.1)
 
-all_rules : (ver : Version) (ops : List Operation) → AllByRecursion (HasRecord ver) ops → (op : Operation) → Has ops op → keeps_rules op.body ≡ true
+all_rules : (ver : Version) (ops : List Operation) → AllByRecursion (HasRecord ver) ops → (op : Operation) → HasOp ops op → keeps_rules op.body ≡ true
 all_rules ver [] h op i = absurd i
 all_rules ver (q ∷ ops) h op (inl e) = subst (λ (x : Operation). keeps_rules x.body ≡ true) e h.0.rules
 all_rules ver (q ∷ ops) h op (inr i) = all_rules ver ops h.1 op i
 
 -- each operation that was read keeps the rules
 pub read_rules : (bytes : List ℕ) (ops : List Operation) (offsets : List ℕ) (behind : Behind) → ReadsUpTo bytes ops offsets behind
-    → (op : Operation) → Has ops op → keeps_rules op.body ≡ true
+    → (op : Operation) → HasOp ops op → keeps_rules op.body ≡ true
 read_rules bytes ops offsets behind h op i =
     let begun = begun_with bytes ops offsets behind h op i in
     all_rules begun.0 ops begun.1.2.records op i

@@ -5,7 +5,7 @@ use Rattle.std.specs.List.{list_any, list_all}
 use Rattle.rt_stamps.specs.declared.fault.Fault.{Fault}
 use Rattle.rt_stamps.specs.declared.fault.Fault.TheVariants.{BadStamp, BadTarget, Conflict, NotYet}
 use Rattle.rt_ops.specs.Operations.{Operation, has_bad_stamp, named}
-use Rattle.rt_oplog.specs.Logs.{Has, clash, holds, known_end, union}
+use Rattle.rt_oplog.specs.Logs.{HasOp, clash, holds, known_end, union}
 use Rattle.rt_oplog.proofs.Sets.{has_held, held_from, union_has}
 use Rattle.rt_rga.specs.Answers.{Answer, New, Repeat, Refused, answer_to, can_never_be_known}
 use Rattle.rt_rga.specs.Histories.{IsHistory, is_known}
@@ -42,7 +42,7 @@ refused_repeat : (a : Answer) (fault : Fault) → a ≡ Refused fault → a ≡ 
 refused_repeat a fault e f = cc (e, f)
 
 -- what a history refuses for good no larger one has
-never_in : (set more : List Operation) (op : Operation) → IsHistory set → IsHistory more → AreIn set more → is_out (answer_to op set) ≡ true → Has more op → ⊥
+never_in : (set more : List Operation) (op : Operation) → IsHistory set → IsHistory more → AreIn set more → is_out (answer_to op set) ≡ true → HasOp more op → ⊥
 never_in set more op h m sub k i =
     let r = (repeat_is more op m).1 i in
     out_tests ⊥ (has_bad_stamp op) (holds set op) (nat_lt op.prev (known_end set op.site)) (nat_lt (known_end set op.site) op.prev) (list_any (can_never_be_known set op) (named op.body)) (not (list_all (is_known set op.body) (named op.body)))
@@ -63,9 +63,9 @@ pub record IsOut (set : List Operation) (op : Operation) : Type 0 where
 -- THE GREATEST
 
 module _ (ops set : List Operation) (h : IsHistory set) (w : AreIn set ops) (free : AreFree ops)
-    (each : (x : Operation) → Has ops x → Has set x ⊎ ((answer_to x set ≡ New → ⊥) ⊎ IsOut set x)) where
+    (each : (x : Operation) → HasOp ops x → HasOp set x ⊎ ((answer_to x set ≡ New → ⊥) ⊎ IsOut set x)) where
   module _ (all : List Operation) (u : IsHistory all) (sub : AreIn set all) where
-    had : (older : List Operation) (op : Operation) → IsHistory (op ∷ older) → AreIn (op ∷ older) ops → AreIn (op ∷ older) all → AreIn older set → Has set op
+    had : (older : List Operation) (op : Operation) → IsHistory (op ∷ older) → AreIn (op ∷ older) ops → AreIn (op ∷ older) all → AreIn older set → HasOp set op
     had older op o within more f = split (holds set op)
         (λ e. has_held set op e)
         (λ e. elim (each op (within op (inl refl))) [
@@ -77,20 +77,20 @@ module _ (ops set : List Operation) (h : IsHistory set) (w : AreIn set ops) (fre
           ]
         ])
       where
-        not_had : Has set op → holds set op ≡ false → ⊥
+        not_had : HasOp set op → holds set op ≡ false → ⊥
         not_had i e = let j = held_from set op i in cc (j, e)
 
     reach : (part : List Operation) → IsHistory part → AreIn part ops → AreIn part all → AreIn part set
     reach [] o within more x i = absurd i
     reach (op ∷ older) o within more x i =
         let f : AreIn older set = reach older o.2 (λ y j. within y (inr j)) (λ y j. more y (inr j)) in
-        elim i [ inl e ↦ subst (Has set) e (had older op o within more f) | inr j ↦ f x j ]
+        elim i [ inl e ↦ subst (HasOp set) e (had older op o within more f) | inr j ↦ f x j ]
 
   pub is_greatest : IsGreatestHistoryWithin ops set
   is_greatest = record {
     history = h;
     within = w;
     greatest = λ other o within.
-        let between : (p q : Operation) → Has set p → Has other q → clash p q ≡ false = λ p q i j. free p q (w p i) (within q j) in
+        let between : (p q : Operation) → HasOp set p → HasOp other q → clash p q ≡ false = λ p q i j. free p q (w p i) (within q j) in
         reach (union set other) (union_history set other h o (all_free set other h o between)) (λ x i. union_has set other x (inl i)) other o within (λ x i. union_has set other x (inr i));
   }

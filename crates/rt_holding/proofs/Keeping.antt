@@ -3,7 +3,7 @@ use Rattle.std.proofs.Common.{◌≡◌, ◌↔◌, ℕ, ◌+◌, Bool, true, fa
 use Rattle.rt_stamps.specs.Stamps.{is_before}
 use Rattle.rt_ops.specs.Operations.{Operation, stamp_of}
 use Rattle.rt_ops.specs.Rules.{keeps_rules}
-use Rattle.rt_oplog.specs.Logs.{Has, holds, same_operation, with_operation}
+use Rattle.rt_oplog.specs.Logs.{HasOp, holds, same_operation, with_operation}
 use Rattle.rt_oplog.proofs.Sets.{has_with, operation_true, with_has}
 use Rattle.rt_rga.specs.Answers.{Answer, New, Repeat, Refused, answer_to, answer_within, refused_if_full}
 use Rattle.rt_rga.specs.Cells.{cells_of}
@@ -18,54 +18,54 @@ use Rattle.rt_holding.proofs.Greatest.{IsOut, is_out}
 
 -- LISTS OF OPERATIONS
 
-pub without_has : (op : Operation) (held : List Operation) (x : Operation) → Has (without op held) x → Has held x
+pub without_has : (op : Operation) (held : List Operation) (x : Operation) → HasOp (without op held) x → HasOp held x
 without_has op [] x h = h
 without_has op (q ∷ held) x h =
-    (elim (not (same_operation q op)) as (λ t. Has (cond t (q ∷ without op held) (without op held)) x → Has (q ∷ held) x) [
+    (elim (not (same_operation q op)) as (λ t. HasOp (cond t (q ∷ without op held) (without op held)) x → HasOp (q ∷ held) x) [
       | true ↦ λ k. elim k [ inl e ↦ inl e | inr i ↦ inr (without_has op held x i) ]
       | false ↦ λ k. inr (without_has op held x k)
     ]) h
 
-pub without_or : (op : Operation) (held : List Operation) (x : Operation) → Has held x → (op ≡ x) ⊎ Has (without op held) x
+pub without_or : (op : Operation) (held : List Operation) (x : Operation) → HasOp held x → (op ≡ x) ⊎ HasOp (without op held) x
 without_or op [] x h = absurd h
 without_or op (q ∷ held) x h = split (same_operation q op)
     (λ e. rw e (elim h [ inl i ↦ inl (sym (operation_true q op e) ∙ i) | inr i ↦ without_or op held x i ]))
     (λ e. rw e (elim h [ inl i ↦ inr (inl i) | inr i ↦ elim (without_or op held x i) [ inl j ↦ inl j | inr j ↦ inr (inr j) ] ]))
 
-pub append_has : (xs ys : List Operation) (x : Operation) → Has xs x ⊎ Has ys x → Has (xs ++ ys) x
+pub append_has : (xs ys : List Operation) (x : Operation) → HasOp xs x ⊎ HasOp ys x → HasOp (xs ++ ys) x
 append_has [] ys x h = elim h [ inl i ↦ absurd i | inr i ↦ i ]
 append_has (z ∷ xs) ys x h = elim h [ inl i ↦ elim i [ inl e ↦ inl e | inr j ↦ inr (append_has xs ys x (inl j)) ] | inr i ↦ inr (append_has xs ys x (inr i)) ]
 
-pub has_append : (xs ys : List Operation) (x : Operation) → Has (xs ++ ys) x → Has xs x ⊎ Has ys x
+pub has_append : (xs ys : List Operation) (x : Operation) → HasOp (xs ++ ys) x → HasOp xs x ⊎ HasOp ys x
 has_append [] ys x h = inr h
 has_append (z ∷ xs) ys x h = elim h [ inl e ↦ inl (inl e) | inr i ↦ elim (has_append xs ys x i) [ inl j ↦ inl (inr j) | inr j ↦ inr j ] ]
 
-pub all_with : (ops set : List Operation) (x : Operation) → Has (with_operations ops set) x → Has set x ⊎ Has ops x
+pub all_with : (ops set : List Operation) (x : Operation) → HasOp (with_operations ops set) x → HasOp set x ⊎ HasOp ops x
 all_with [] set x h = inl h
 all_with (op ∷ ops) set x h = elim (all_with ops (with_operation op set) x h) [
   | inl i ↦ elim (has_with op set x i) [ inl e ↦ inr (inl e) | inr j ↦ inl j ]
   | inr i ↦ inr (inr i)
 ]
 
-pub with_all : (ops set : List Operation) (x : Operation) → Has set x ⊎ Has ops x → Has (with_operations ops set) x
+pub with_all : (ops set : List Operation) (x : Operation) → HasOp set x ⊎ HasOp ops x → HasOp (with_operations ops set) x
 with_all [] set x h = elim h [ inl i ↦ i | inr i ↦ absurd i ]
 with_all (op ∷ ops) set x h = with_all ops (with_operation op set) x (elim h [
   | inl i ↦ inl (with_has op set x (inr i))
   | inr i ↦ elim i [ inl e ↦ inl (with_has op set x (inl e)) | inr j ↦ inr j ]
 ])
 
-pub put_has : (op : Operation) (held : List Operation) (x : Operation) → (op ≡ x) ⊎ Has held x → Has (put_held op held) x
+pub put_has : (op : Operation) (held : List Operation) (x : Operation) → (op ≡ x) ⊎ HasOp held x → HasOp (put_held op held) x
 put_has op [] x h = h
 put_has op (q ∷ held) x h =
-    elim (is_before (stamp_of op) (stamp_of q)) as (λ t. Has (cond t (op ∷ (q ∷ held)) (q ∷ put_held op held)) x) [
+    elim (is_before (stamp_of op) (stamp_of q)) as (λ t. HasOp (cond t (op ∷ (q ∷ held)) (q ∷ put_held op held)) x) [
       | true ↦ h
       | false ↦ elim h [ inl e ↦ inr (put_has op held x (inl e)) | inr i ↦ elim i [ inl e ↦ inl e | inr j ↦ inr (put_has op held x (inr j)) ] ]
     ]
 
-pub has_put : (op : Operation) (held : List Operation) (x : Operation) → Has (put_held op held) x → (op ≡ x) ⊎ Has held x
+pub has_put : (op : Operation) (held : List Operation) (x : Operation) → HasOp (put_held op held) x → (op ≡ x) ⊎ HasOp held x
 has_put op [] x h = h
 has_put op (q ∷ held) x h =
-    (elim (is_before (stamp_of op) (stamp_of q)) as (λ t. Has (cond t (op ∷ (q ∷ held)) (q ∷ put_held op held)) x → (op ≡ x) ⊎ Has (q ∷ held) x) [
+    (elim (is_before (stamp_of op) (stamp_of q)) as (λ t. HasOp (cond t (op ∷ (q ∷ held)) (q ∷ put_held op held)) x → (op ≡ x) ⊎ HasOp (q ∷ held) x) [
       | true ↦ λ k. k
       | false ↦ λ k. elim k [ inl e ↦ inr (inl e) | inr i ↦ elim (has_put op held x i) [ inl e ↦ inl e | inr j ↦ inr (inr j) ] ]
     ]) h
@@ -93,7 +93,7 @@ drop_cases full (Refused fault) e f = inr (neither (is_early (Refused fault)) (h
 
 -- what is dropped is there, or refused for good
 pub dropped_is : (limit : ℕ) (op : Operation) (log : List Operation) → IsHistory log → is_new (answer_within limit op log) ≡ false → stays (answer_within limit op log) ≡ false
-    → Has log op ⊎ (is_out (answer_to op log) ≡ true)
+    → HasOp log op ⊎ (is_out (answer_to op log) ≡ true)
 dropped_is limit op log h e f = elim (drop_cases (nat_lt limit (length (cells_of log) + length (inserted op))) (answer_to op log) e f) [
   | inl i ↦ inl ((repeat_is log op h).0 i)
   | inr i ↦ inr i
@@ -102,22 +102,22 @@ dropped_is limit op log h e f = elim (drop_cases (nat_lt limit (length (cells_of
 -- WHAT IS KEPT
 
 abbrev pub IsPlaced : Holding → Operation → Type 0
-IsPlaced s x = Has s.log x ⊎ (Has s.held x ⊎ IsOut s.log x)
+IsPlaced s x = HasOp s.log x ⊎ (HasOp s.held x ⊎ IsOut s.log x)
 
 -- of the operations that came: one is accepted, or held, or was refused for good
 pub record IsKept (came : Operation → Type 0) (s : Holding) : Type 0 where
   pub history : IsHistory s.log
   pub rules : (x : Operation) → came x → keeps_rules x.body ≡ true
-  pub log : (x : Operation) → Has s.log x → came x
-  pub held : (x : Operation) → Has s.held x → came x
+  pub log : (x : Operation) → HasOp s.log x → came x
+  pub held : (x : Operation) → HasOp s.held x → came x
   pub each : (x : Operation) → came x → IsPlaced s x
 
 -- so is each of the operations that came but one
 pub record IsKeptBut (op : Operation) (came : Operation → Type 0) (s : Holding) : Type 0 where
   pub history : IsHistory s.log
   pub rules : (x : Operation) → came x → keeps_rules x.body ≡ true
-  pub log : (x : Operation) → Has s.log x → came x
-  pub held : (x : Operation) → Has s.held x → came x
+  pub log : (x : Operation) → HasOp s.log x → came x
+  pub held : (x : Operation) → HasOp s.held x → came x
   pub each : (x : Operation) → came x → (op ≡ x) ⊎ IsPlaced s x
 
 pub kept_but : (op : Operation) (came : Operation → Type 0) (s : Holding) → IsKept came s → IsKeptBut op came s
@@ -134,7 +134,7 @@ kept_same came other s f k = record {
 
 -- each held one would be taken, or stay
 abbrev pub AreLate : ℕ → Holding → Type 0
-AreLate limit s = (x : Operation) → Has s.held x → (is_new (answer_within limit x s.log) || stays (answer_within limit x s.log)) ≡ true
+AreLate limit s = (x : Operation) → HasOp s.held x → (is_new (answer_within limit x s.log) || stays (answer_within limit x s.log)) ≡ true
 
 pub out_more : (log more : List Operation) (x : Operation) → AreIn log more → IsOut log x → IsOut more x
 out_more log more x sub o = record { older = o.older; history = o.history; within = λ y i. sub y (o.within y i); out = o.out }
@@ -157,7 +157,7 @@ taken_kept limit op came s o e k = record {
   ];
 }
 
-pub dropped_kept : (op : Operation) (came : Operation → Type 0) (s : Holding) → Has s.log op ⊎ (is_out (answer_to op s.log) ≡ true) → IsKeptBut op came s → IsKept came (no_more_held op s)
+pub dropped_kept : (op : Operation) (came : Operation → Type 0) (s : Holding) → HasOp s.log op ⊎ (is_out (answer_to op s.log) ≡ true) → IsKeptBut op came s → IsKept came (no_more_held op s)
 dropped_kept op came s e k = record {
   history = k.history;
   rules = k.rules;
@@ -177,7 +177,7 @@ dropped_kept op came s e k = record {
   where
     gone : (x : Operation) → op ≡ x → IsPlaced (no_more_held op s) x
     gone x j = elim e [
-      | inl i ↦ inl (subst (Has s.log) j i)
+      | inl i ↦ inl (subst (HasOp s.log) j i)
       | inr i ↦ inr (inr (subst (IsOut s.log) j (record { older = s.log; history = k.history; within = λ y n. n; out = i })))
     ]
 
@@ -191,7 +191,7 @@ none_some a k = cc k
 
 -- a held one that isn't left is tried
 abbrev IsTried : ℕ → List Operation → List Operation → List Operation → Operation → Type 0
-IsTried limit wanting log held x = Has held x × (is_left limit wanting log x ≡ false)
+IsTried limit wanting log held x = HasOp held x × (is_left limit wanting log x ≡ false)
 
 next_one : (limit : ℕ) (wanting log held : List Operation) (x : Operation) → next_of limit wanting log held ≡ Some x → IsTried limit wanting log held x
 next_one limit wanting log [] x e = absurd (cc e)
@@ -202,7 +202,7 @@ next_one limit wanting log (op ∷ held) x e = split (is_left limit wanting log 
 pub next_is : (limit : ℕ) (wanting : List Operation) (s : Holding) (x : Operation) → next_held limit wanting s ≡ Some x → IsTried limit wanting s.log s.held x
 next_is limit wanting s x e = next_one limit wanting s.log s.held x e
 
-pub none_next : (limit : ℕ) (wanting log held : List Operation) → next_of limit wanting log held ≡ None → (x : Operation) → Has held x → is_left limit wanting log x ≡ true
+pub none_next : (limit : ℕ) (wanting log held : List Operation) → next_of limit wanting log held ≡ None → (x : Operation) → HasOp held x → is_left limit wanting log x ≡ true
 none_next limit wanting log [] e x h = absurd h
 none_next limit wanting log (op ∷ held) e x h = split (is_left limit wanting log op)
     (λ t. elim h [ inl i ↦ subst (λ y. is_left limit wanting log y ≡ true) i t | inr i ↦ none_next limit wanting log held (rw t at e) x i ])
@@ -231,7 +231,7 @@ settles_kept limit came wanting s t more (drops {op = op} e n r) k =
     (kept_but op came s k))
 settles_kept limit came wanting s t more (lacks {op = op} e n r) k = settles_kept limit came (op ∷ wanting) s t more r k
 
-pub settles_late : (limit : ℕ) (wanting : List Operation) (s t : Holding) (more : List Operation) → Settles limit wanting s t more → (x : Operation) → Has t.held x
+pub settles_late : (limit : ℕ) (wanting : List Operation) (s t : Holding) (more : List Operation) → Settles limit wanting s t more → (x : Operation) → HasOp t.held x
     → (is_new (answer_within limit x t.log) || stays (answer_within limit x t.log)) ≡ true
 settles_late limit wanting s t more (rest e) x i =
     left_late (is_new (answer_within limit x s.log)) (stays (answer_within limit x s.log)) (holds wanting x) (none_next limit wanting s.log s.held e x i)

@@ -3,7 +3,7 @@ use Rattle.std.proofs.Common.{◌≡◌, ℕ, ◌+◌, ◌≤◌, false, true, i
 use Rattle.std.specs.List.{AllByRecursion}
 use Rattle.rt_stamps.specs.Stamps.{is_before}
 use Rattle.rt_ops.specs.Operations.{Operation, stamp_of}
-use Rattle.rt_oplog.specs.Logs.{Has, same_operation, with_operation}
+use Rattle.rt_oplog.specs.Logs.{HasOp, same_operation, with_operation}
 use Rattle.rt_oplog.proofs.Sets.{held_from, operation_refl, operation_true}
 use Rattle.rt_rga.specs.Cells.{cells_of}
 use Rattle.rt_rga.specs.Histories.{IsHistory, inserted}
@@ -38,7 +38,7 @@ total_less op (q ∷ log) =
     let i = total_less op log in
     elim (not (same_operation q op)) as (λ t. total (cond t (q ∷ without op log) (without op log)) ≤ total (q ∷ log)) [ true ↦ omega (arith, i) | false ↦ omega (arith, i) ]
 
-total_without : (op : Operation) (log : List Operation) → Has log op → total (without op log) + length (inserted op) ≤ total log
+total_without : (op : Operation) (log : List Operation) → HasOp log op → total (without op log) + length (inserted op) ≤ total log
 total_without op [] h = absurd h
 total_without op (q ∷ log) h = split (same_operation q op)
     (λ e. let i = total_less op log in
@@ -54,7 +54,7 @@ more_total [] log h sub = omega arith
 more_total (op ∷ older) log h sub =
     let i = total_without op log (sub op (inl refl)) in
     let j = more_total older (without op log) h.2 (λ x k. elim (without_or op log x (sub x (inr k))) [
-      | inl e ↦ absurd (let m = held_from older op (subst (Has older) (sym e) k) in let n = not_held older op h.1 in cc (m, n))
+      | inl e ↦ absurd (let m = held_from older op (subst (HasOp older) (sym e) k) in let n = not_held older op h.1 in cc (m, n))
       | inr m ↦ m
     ]) in
     omega (arith, i, j)

@@ -17,14 +17,14 @@ use Rattle.std.specs.declared.cmp.Ordering.TheVariants.{Equal, Greater, Less}
 use Rattle.rt_stamps.specs.Stamps.{is_before}
 use Rattle.rt_ops.specs.Operations.{Operation, has_bad_stamp, stamp_of}
 use Rattle.rt_ops.specs.Rules.{keeps_rules}
-use Rattle.rt_oplog.specs.Logs.{Has, holds, same_operation}
+use Rattle.rt_oplog.specs.Logs.{HasOp, holds, same_operation}
 use Rattle.rt_oplog.proofs.Sets.{operation_refl, operation_sym, operation_true}
 use Rattle.rt_rga.proofs.Skipping.{split}
 use Rattle.std.proofs.lemmas.List.{take-append-drop}
 use Rattle.rt_holding.specs.declared.held.TheConstants.{MOST_HELD}
 use Rattle.rt_holding.specs.Holding.{put_held, without}
-use Rattle.rt_holding.specs.Kept.{AreHeld, Entry, IsAt, IsInPlace, Standing, by_stamp_and_arrival, ops_in, put_in_front}
-use Rattle.rt_holding.specs.Runs.{AreOnce, AreRising}
+use Rattle.rt_holding.specs.Kept.{AreHeld, Entry, IsHeldAt, IsInPlace, Standing, by_stamp_and_arrival, ops_in, put_in_front}
+use Rattle.rt_holding.specs.Runs.{NoneFalls, NoneTwice}
 use Rattle.rt_holding.proofs.Keeping.{has_put, without_has}
 use Rattle.rt_holding.proofs.Sites.{length_put, put_once, put_order, without_none, without_once, without_order}
 
@@ -98,17 +98,17 @@ pub found_at : (front behind : List Entry) (p : Standing) (v : Option Operation)
 found_at [] behind p v a = let e = place_same p in rw e refl
 found_at (x ∷ front) behind p v a = let e = a.0 in rw e (found_at front behind p v a.1)
 
-pub get_at : (m : BTreeMap Standing (Option Operation)) (p : Standing) (op : Operation) → IsAt p op m.entries → get by_stamp_and_arrival m p ≡ Some (Some op)
+pub get_at : (m : BTreeMap Standing (Option Operation)) (p : Standing) (op : Operation) → IsHeldAt p op m.entries → get by_stamp_and_arrival m p ≡ Some (Some op)
 get_at m p op i = ap (λ es. lookup (is_at (by_stamp_and_arrival p)) es) i.is ∙ found_at i.front i.behind p (Some op) i.before
 
 -- what stands at a place is told when another is put there
-pub was_there : {E : Type 0} (r : Result (Option (Option Operation)) E) (m : BTreeMap Standing (Option Operation)) (p : Standing) (op : Operation) → IsAt p op m.entries
+pub was_there : {E : Type 0} (r : Result (Option (Option Operation)) E) (m : BTreeMap Standing (Option Operation)) (p : Standing) (op : Operation) → IsHeldAt p op m.entries
     → IfOk r (λ old. old ≡ get by_stamp_and_arrival m p) → OnErr r (get by_stamp_and_arrival m p ≡ None) → r ≡ Ok (Some (Some op))
 was_there (Ok old) m p op i e f = ap (λ v. Ok v) (e ∙ get_at m p op i)
 was_there (Err x) m p op i e f = let g = get_at m p op i in cc
 
 -- and only one stands there
-pub same_at : (m : BTreeMap Standing (Option Operation)) (p : Standing) (op q : Operation) → IsAt p op m.entries → IsAt p q m.entries → op ≡ q
+pub same_at : (m : BTreeMap Standing (Option Operation)) (p : Standing) (op q : Operation) → IsHeldAt p op m.entries → IsHeldAt p q m.entries → op ≡ q
 same_at m p op q i j = let g = get_at m p op i in let h = get_at m p q j in cc
 
 -- at a place that stands no memory is wanting
@@ -118,7 +118,7 @@ puts (Ok x) m p v new old e n g = e
 puts (Err x) m p v new old e n g = cc
 
 -- taken out, and put back
-pub back_at : (entries : List Entry) (p : Standing) (op : Operation) → IsAt p op entries
+pub back_at : (entries : List Entry) (p : Standing) (op : Operation) → IsHeldAt p op entries
     → insert_entry by_stamp_and_arrival (insert_entry by_stamp_and_arrival entries p None) p (Some op) ≡ entries
 back_at entries p op i =
     ap (λ es. insert_entry by_stamp_and_arrival (insert_entry by_stamp_and_arrival es p None) p (Some op)) i.is
@@ -126,7 +126,7 @@ back_at entries p op i =
     ∙ set_at i.front i.behind p None (Some op) i.before
     ∙ sym i.is
 
-pub out_of : (entries : List Entry) (p : Standing) (op : Operation) → IsAt p op entries
+pub out_of : (entries : List Entry) (p : Standing) (op : Operation) → IsHeldAt p op entries
     → remove_entry (is_at (by_stamp_and_arrival p)) (insert_entry by_stamp_and_arrival entries p None) ≡ remove_entry (is_at (by_stamp_and_arrival p)) entries
 out_of entries p op i =
     ap (λ es. remove_entry (is_at (by_stamp_and_arrival p)) (insert_entry by_stamp_and_arrival es p None)) i.is
@@ -136,7 +136,7 @@ out_of entries p op i =
     ∙ ap (remove_entry (is_at (by_stamp_and_arrival p))) (sym i.is)
 
 -- a place that has none still stands
-pub stands : (m : BTreeMap Standing (Option Operation)) (entries : List Entry) (p : Standing) (op : Operation) → IsAt p op entries
+pub stands : (m : BTreeMap Standing (Option Operation)) (entries : List Entry) (p : Standing) (op : Operation) → IsHeldAt p op entries
     → m.entries ≡ insert_entry by_stamp_and_arrival entries p None → get by_stamp_and_arrival m p ≡ Some None
 stands m entries p op i e =
     ap (λ es. lookup (is_at (by_stamp_and_arrival p)) es) (e ∙ ap (λ es. insert_entry by_stamp_and_arrival es p None) i.is ∙ set_at i.front i.behind p (Some op) None i.before)
@@ -151,7 +151,7 @@ fewer (x ∷ xs) ys op y h =
     let a = i.1 in (i.0, grind (arith, h, a))
 
 -- one of a list is the only one that is the same
-taken_out : (xs ys : List Operation) (op : Operation) → AreOnce (xs ++ op ∷ ys) → without op (xs ++ op ∷ ys) ≡ xs ++ ys
+taken_out : (xs ys : List Operation) (op : Operation) → NoneTwice (xs ++ op ∷ ys) → without op (xs ++ op ∷ ys) ≡ xs ++ ys
 taken_out [] ys op o = let e = operation_refl op in rw e (without_none op ys o.0)
 taken_out (x ∷ xs) ys op o =
     let a = (fewer xs ys op x o.0).0 in
@@ -186,7 +186,7 @@ out_between : (arrivals : ℕ) (p : Standing) (op : Operation) (front behind : L
     → IsTakenOut arrivals op (front ++ (p, Some op) ∷ behind) (front ++ behind)
 out_between arrivals p op front behind h =
     let all = front ++ (p, Some op) ∷ behind in
-    let once : AreOnce (ops_in front ++ op ∷ ops_in behind) = subst AreOnce (in_append front behind p op) h.once in
+    let once : NoneTwice (ops_in front ++ op ∷ ops_in behind) = subst NoneTwice (in_append front behind p op) h.once in
     let ops : ops_in (front ++ behind) ≡ without op (ops_in all) =
     in_both front behind ∙ sym (taken_out (ops_in front) (ops_in behind) op once) ∙ ap (without op) (sym (in_append front behind p op)) in
     let l = length_out front behind (p, Some op) in
@@ -195,15 +195,15 @@ out_between arrivals p op front behind h =
       held = record {
         places = before_all (IsInPlace arrivals) front behind (p, Some op) h.places;
         few = (let f = h.few in omega (arith, f, l));
-        once = subst AreOnce (sym ops) (without_once op (ops_in all) h.once);
-        order = subst AreRising (sym ops) (without_order op (ops_in all) h.order);
-        rules = λ x i. h.rules x (without_has op (ops_in all) x (subst (λ l. Has l x) ops i));
-        sound = λ x i. h.sound x (without_has op (ops_in all) x (subst (λ l. Has l x) ops i));
+        once = subst NoneTwice (sym ops) (without_once op (ops_in all) h.once);
+        order = subst NoneFalls (sym ops) (without_order op (ops_in all) h.order);
+        rules = λ x i. h.rules x (without_has op (ops_in all) x (subst (λ l. HasOp l x) ops i));
+        sound = λ x i. h.sound x (without_has op (ops_in all) x (subst (λ l. HasOp l x) ops i));
       };
       length = sym l;
     }
 
-pub taken_from : (arrivals : ℕ) (p : Standing) (op : Operation) (entries less : List Entry) → AreHeld arrivals entries → IsAt p op entries
+pub taken_from : (arrivals : ℕ) (p : Standing) (op : Operation) (entries less : List Entry) → AreHeld arrivals entries → IsHeldAt p op entries
     → less ≡ remove_entry (is_at (by_stamp_and_arrival p)) entries → IsTakenOut arrivals op entries less
 taken_from arrivals p op entries less h i e =
     let r = out_between arrivals p op i.front i.behind (subst (AreHeld arrivals) i.is h) in
@@ -249,7 +249,7 @@ pub looked : (entries front old new behind : List Entry) (e : Entry) → entries
 looked entries front old new behind e i o = i ∙ ap (λ l. front ++ (l ++ behind)) o ∙ sym (append_assoc front (e ∷ []) (new ++ behind))
 
 pub place_found : (entries front old new behind : List Entry) (p : Standing) (v : Option Operation) (q op : Operation) → entries ≡ front ++ (old ++ behind) → old ≡ (p, v) ∷ new
-    → v ≡ Some q → same_operation q op ≡ true → IsStrictlySortedBy by_stamp_and_arrival (keys_of entries) → IsAt p op entries
+    → v ≡ Some q → same_operation q op ≡ true → IsStrictlySortedBy by_stamp_and_arrival (keys_of entries) → IsHeldAt p op entries
 place_found entries front old new behind p v q op i o w t s =
     let is : entries ≡ front ++ (p, Some op) ∷ (new ++ behind) =
     i ∙ ap (λ l. front ++ (l ++ behind)) o ∙ ap (λ x. front ++ (p, x) ∷ (new ++ behind)) (w ∙ ap (λ x. Some x) (operation_true q op t)) in
@@ -321,10 +321,10 @@ put_held_in n op entries new h f l r b e =
     subst (AreHeld (n + 1)) (sym e) (record {
       places = put_places n op entries h.places;
       few = (let m = length_put_in n op entries h.places in omega (arith, l, m));
-      once = subst AreOnce (sym ops) (put_once op (ops_in entries) f h.once);
-      order = subst AreRising (sym ops) (put_order op (ops_in entries) h.order);
-      rules = λ x i. elim (has_put op (ops_in entries) x (subst (λ z. Has z x) ops i)) [ inl j ↦ subst (λ (y : Operation). keeps_rules y.body ≡ true) j r | inr j ↦ h.rules x j ];
-      sound = λ x i. elim (has_put op (ops_in entries) x (subst (λ z. Has z x) ops i)) [ inl j ↦ subst (λ (y : Operation). has_bad_stamp y ≡ false) j b | inr j ↦ h.sound x j ];
+      once = subst NoneTwice (sym ops) (put_once op (ops_in entries) f h.once);
+      order = subst NoneFalls (sym ops) (put_order op (ops_in entries) h.order);
+      rules = λ x i. elim (has_put op (ops_in entries) x (subst (λ z. HasOp z x) ops i)) [ inl j ↦ subst (λ (y : Operation). keeps_rules y.body ≡ true) j r | inr j ↦ h.rules x j ];
+      sound = λ x i. elim (has_put op (ops_in entries) x (subst (λ z. HasOp z x) ops i)) [ inl j ↦ subst (λ (y : Operation). has_bad_stamp y ≡ false) j b | inr j ↦ h.sound x j ];
     })
 
 -- one that may be held is held no more
@@ -333,7 +333,7 @@ pub record IsForgotten (arrivals : ℕ) (op : Operation) (entries less : List En
   pub held : AreHeld arrivals less
 
 pub forgotten : (arrivals : ℕ) (op : Operation) (place : Option Standing) (entries less : List Entry) → AreHeld arrivals entries
-    → IfSome place (λ p. IsAt p op entries) → IfNone place (holds (ops_in entries) op ≡ false)
+    → IfSome place (λ p. IsHeldAt p op entries) → IfNone place (holds (ops_in entries) op ≡ false)
     → IfSome place (λ p. less ≡ remove_entry (is_at (by_stamp_and_arrival p)) entries) → IfNone place (less ≡ entries) → IsForgotten arrivals op entries less
 forgotten arrivals op None entries less h i n e f = record {
   ops = ap ops_in f ∙ sym (without_none op (ops_in entries) n);
@@ -342,7 +342,7 @@ forgotten arrivals op None entries less h i n e f = record {
 forgotten arrivals op (Some p) entries less h i n e f = let r = taken_from arrivals p op entries less h i e in record { ops = r.ops; held = r.held }
 
 -- a place is found exactly where one is held
-pub found_if : (entries : List Entry) (op : Operation) (place : Option Standing) → IfSome place (λ p. IsAt p op entries) → IfNone place (holds (ops_in entries) op ≡ false)
+pub found_if : (entries : List Entry) (op : Operation) (place : Option Standing) → IfSome place (λ p. IsHeldAt p op entries) → IfNone place (holds (ops_in entries) op ≡ false)
     → is_some place ≡ holds (ops_in entries) op
 found_if entries op None i n = sym n
 found_if entries op (Some p) i n = sym (ap (λ es. holds (ops_in es) op) i.is ∙ ap (λ l. holds l op) (in_append i.front i.behind p op) ∙ there (ops_in i.front))

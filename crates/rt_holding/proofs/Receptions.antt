@@ -16,7 +16,7 @@ use Rattle.rt_holding.specs.declared.held.Offered.TheVariants as offered
 use Rattle.rt_holding.specs.declared.receiving.Received.{Received}
 use Rattle.rt_holding.specs.Holding.{Holding, Settles, rest, takes, drops, lacks, with_taken, no_more_held}
 use Rattle.rt_holding.specs.Taken.{IsOffered, IsRefused, holding, replied}
-use Rattle.rt_holding.specs.Receiving.{Behind, AtEnd, EndsWith, Offers, ReadsUpTo, Receives, State, Unread, Wanting, count_of, none_accepted, one_more, reply_at}
+use Rattle.rt_holding.specs.Receiving.{Behind, AtEnd, EndsWith, Offers, ReadsUpTo, Receives, State, Unread, Wanting, counts_as, none_accepted, one_more, reply_at}
 use Rattle.rt_holding.proofs.Keeping.{next_is}
 use Rattle.rt_holding.proofs.Settling.{without_le, without_lt}
 use Rattle.rt_holding.proofs.Sites.{length_put}
@@ -80,7 +80,7 @@ fewer left ops h =
 
 module _ {Site : Type 0} (log : Site → List Operation) (limit : Site → ℕ) (after : Operation → Site → Site) where
   pub offered_length : (most : ℕ) (op : Operation) (o : Offered) (old : Site) (held : List Operation) (new : Site) (left : List Operation)
-      → IsOffered log after most op o old held new left → count_of o + length left ≤ 1 + length held
+      → IsOffered log after most op o old held new left → counts_as o + length left ≤ 1 + length held
   offered_length most op (offered.New count) old held new left t =
       let i = settles_length most [] (with_taken op (holding log old held)) (holding log new left) t.more t.settles in
       let l = without_le op held in
@@ -89,7 +89,7 @@ module _ {Site : Type 0} (log : Site → List Operation) (limit : Site → ℕ) 
   offered_length most op offered.Repeat old held new left t = let l = ap length t.1 in omega (arith, l)
   offered_length most op offered.Held old held new left t = let l = ap length t.1 in let m = length_put op held in omega (arith, l, m)
 
-  pub counted_more : (o : Offered) (r : Received) → (one_more o r).new + (one_more o r).repeats ≡ count_of o + (r.new + r.repeats)
+  pub counted_more : (o : Offered) (r : Received) → (one_more o r).new + (one_more o r).repeats ≡ counts_as o + (r.new + r.repeats)
   counted_more (offered.New more) r = omega arith
   counted_more offered.Repeat r = omega arith
   counted_more offered.Held r = omega arith

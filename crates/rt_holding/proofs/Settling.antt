@@ -3,7 +3,7 @@ use Rattle.std.proofs.Common.{◌≡◌, ℕ, zero, suc, ◌+◌, ◌<◌, ◌�
 use Rattle.rt_stamps.specs.declared.fault.Fault.TheVariants.{TextFull}
 use Rattle.rt_ops.specs.Operations.{Operation}
 use Rattle.rt_ops.specs.Rules.{keeps_rules}
-use Rattle.rt_oplog.specs.Logs.{Has, holds, same_operation, with_operation}
+use Rattle.rt_oplog.specs.Logs.{HasOp, holds, same_operation, with_operation}
 use Rattle.rt_oplog.proofs.Sets.{operation_refl}
 use Rattle.rt_rga.specs.Answers.{Answer, New, Refused, answer_to, answer_within}
 use Rattle.rt_rga.specs.Cells.{cells_of}
@@ -28,7 +28,7 @@ without_le op (q ∷ held) = elim (not (same_operation q op)) as (λ t. length (
   | false ↦ omega (arith, without_le op held)
 ]
 
-pub without_lt : (op : Operation) (held : List Operation) → Has held op → length (without op held) < length held
+pub without_lt : (op : Operation) (held : List Operation) → HasOp held op → length (without op held) < length held
 without_lt op [] h = absurd h
 without_lt op (q ∷ held) h = split (same_operation q op)
     (λ e. rw e (omega (arith, without_le op held)))
@@ -137,7 +137,7 @@ taken_in_turn limit wanting more s t (takes {more = later} {op = op} e n r) =
 taken_in_turn limit wanting more s t (drops {op = op} e n r) = taken_in_turn limit wanting more (no_more_held op s) t r
 taken_in_turn limit wanting more s t (lacks {op = op} e n r) = taken_in_turn limit (op ∷ wanting) more s t r
 
-pub cells_in_turn : (limit : ℕ) (ops log : List Operation) → IsHistory log → ((op : Operation) → Has ops op → keeps_rules op.body ≡ true) → AreTakenInTurn limit log ops
+pub cells_in_turn : (limit : ℕ) (ops log : List Operation) → IsHistory log → ((op : Operation) → HasOp ops op → keeps_rules op.body ≡ true) → AreTakenInTurn limit log ops
     → cells_of (with_operations ops log) ≡ all_changed ops (cells_of log)
 cells_in_turn limit [] log h r t = refl
 cells_in_turn limit (op ∷ ops) log h r t =
@@ -162,7 +162,7 @@ full_stays limit op y log h r e w n =
 -- NOTHING HELD
 
 none_next : (limit : ℕ) (wanting : List Operation) (s : Holding) (op : Operation) → s.held ≡ [] → next_held limit wanting s ≡ Some op → ⊥
-none_next limit wanting s op e n = subst (λ held. Has held op) e (next_is limit wanting s op n).0
+none_next limit wanting s op e n = subst (λ held. HasOp held op) e (next_is limit wanting s op n).0
 
 pub nothing_tried : (limit : ℕ) (wanting more : List Operation) (s t : Holding) → s.held ≡ [] → Settles limit wanting s t more → (t ≡ s) × (more ≡ [])
 nothing_tried limit wanting more s t e (rest n) = (refl, refl)

@@ -7,7 +7,7 @@ use Rattle.std.specs.List.{AllByRecursion}
 use Rattle.rt_stamps.specs.Stamps.{is_before}
 use Rattle.rt_ops.specs.Operations.{Body, Operation, stamp_of}
 use Rattle.rt_ops.specs.Rules.{keeps_rules}
-use Rattle.rt_oplog.specs.Logs.{Has, holds, same_operation}
+use Rattle.rt_oplog.specs.Logs.{HasOp, holds, same_operation}
 use Rattle.rt_oplog.proofs.Sets.{has_held, operation_sym}
 use Rattle.rt_rga.specs.Answers.{Answer, New, Repeat, Refused, answer_within}
 use Rattle.rt_rga.specs.Cells.{cells_of}
@@ -21,7 +21,7 @@ use Rattle.rt_holding.specs.Replies.{Reply}
 use Rattle.rt_holding.specs.Replies as replies
 use Rattle.rt_holding.specs.declared.held.TheConstants.{MOST_HELD}
 use Rattle.rt_holding.specs.Holding.{Holding, Settles, after_answer, has_no_room, hold, is_early, is_full, is_new, no_more_held, put_held, reply_for, reply_to, rest, takes, drops, lacks, stays, waits, with_taken, without}
-use Rattle.rt_holding.specs.Runs.{AreOnce, AreRising, IsHolding, Leads, at_first}
+use Rattle.rt_holding.specs.Runs.{IsHolding, Leads, NoneFalls, NoneTwice, at_first}
 use Rattle.rt_holding.proofs.Keeping.{IsKept, dropped_is, dropped_kept, is_new_true, kept_but, left_not, next_is, taken_kept}
 use Rattle.rt_holding.proofs.Arriving.{Bringing, Keeps, first_kept, leads_keeps}
 use Rattle.rt_holding.proofs.Settling.{without_le}
@@ -31,8 +31,8 @@ use Rattle.rt_holding.proofs.Settling.{without_le}
 record IsNeat (limit : ℕ) (s : Holding) : Type 0 where
   room : length (cells_of s.log) ≤ limit
   few : length s.held ≤ MOST_HELD
-  once : AreOnce s.held
-  order : AreRising s.held
+  once : NoneTwice s.held
+  order : NoneFalls s.held
 
 not_there : (op x : Operation) (held : List Operation) → holds held x ≡ false → holds (without op held) x ≡ false
 not_there op x [] h = refl
@@ -43,9 +43,9 @@ not_there op x (q ∷ held) h =
       | false ↦ i
     ])
 
-pub without_once : (op : Operation) (held : List Operation) → AreOnce held → AreOnce (without op held)
+pub without_once : (op : Operation) (held : List Operation) → NoneTwice held → NoneTwice (without op held)
 without_once op [] o = tt
-without_once op (q ∷ held) o = elim (not (same_operation q op)) as (λ t. AreOnce (cond t (q ∷ without op held) (without op held))) [
+without_once op (q ∷ held) o = elim (not (same_operation q op)) as (λ t. NoneTwice (cond t (q ∷ without op held) (without op held))) [
   | true ↦ (not_there op q held o.0, without_once op held o.1)
   | false ↦ without_once op held o.1
 ]
@@ -59,13 +59,13 @@ put_there op x (q ∷ held) h e =
       | false ↦ grind (arith, h, i)
     ]
 
-pub put_once : (op : Operation) (held : List Operation) → holds held op ≡ false → AreOnce held → AreOnce (put_held op held)
+pub put_once : (op : Operation) (held : List Operation) → holds held op ≡ false → NoneTwice held → NoneTwice (put_held op held)
 put_once op [] h o = (refl, tt)
 put_once op (q ∷ held) h o =
     let e : same_operation q op ≡ false = grind (arith, h) in
     let i = put_there op q held o.0 (operation_sym op q ∙ e) in
     let r = put_once op held (grind (arith, h)) o.1 in
-    elim (is_before (stamp_of op) (stamp_of q)) as (λ t. AreOnce (cond t (op ∷ (q ∷ held)) (q ∷ put_held op held))) [
+    elim (is_before (stamp_of op) (stamp_of q)) as (λ t. NoneTwice (cond t (op ∷ (q ∷ held)) (q ∷ put_held op held))) [
       | true ↦ (h, o)
       | false ↦ (i, r)
     ]
@@ -91,9 +91,9 @@ without_all P op (q ∷ held) a = elim (not (same_operation q op)) as (λ t. All
   | false ↦ without_all P op held a.1
 ]
 
-pub without_order : (op : Operation) (held : List Operation) → AreRising held → AreRising (without op held)
+pub without_order : (op : Operation) (held : List Operation) → NoneFalls held → NoneFalls (without op held)
 without_order op [] o = tt
-without_order op (q ∷ held) o = elim (not (same_operation q op)) as (λ t. AreRising (cond t (q ∷ without op held) (without op held))) [
+without_order op (q ∷ held) o = elim (not (same_operation q op)) as (λ t. NoneFalls (cond t (q ∷ without op held) (without op held))) [
   | true ↦ (without_all (λ later. is_before (stamp_of later) (stamp_of q) ≡ false) op held o.0, without_order op held o.1)
   | false ↦ without_order op held o.1
 ]
@@ -105,10 +105,10 @@ put_all P op (q ∷ held) p a = elim (is_before (stamp_of op) (stamp_of q)) as (
   | false ↦ (a.0, put_all P op held p a.1)
 ]
 
-pub put_order : (op : Operation) (held : List Operation) → AreRising held → AreRising (put_held op held)
+pub put_order : (op : Operation) (held : List Operation) → NoneFalls held → NoneFalls (put_held op held)
 put_order op [] o = (tt, tt)
 put_order op (q ∷ held) o =
-    (elim (is_before (stamp_of op) (stamp_of q)) as (λ t. is_before (stamp_of op) (stamp_of q) ≡ t → AreRising (cond t (op ∷ (q ∷ held)) (q ∷ put_held op held))) [
+    (elim (is_before (stamp_of op) (stamp_of q)) as (λ t. is_before (stamp_of op) (stamp_of q) ≡ t → NoneFalls (cond t (op ∷ (q ∷ held)) (q ∷ put_held op held))) [
       | true ↦ λ e. (((let i = e in grind (arith, nat_tests)), none_before op q held e o.0), o)
       | false ↦ λ e. (put_all (λ later. is_before (stamp_of later) (stamp_of q) ≡ false) op held e o.0, put_order op held o.1)
     ]) refl
@@ -193,7 +193,7 @@ leads_neat site limit request came s t more p m l k n =
 -- WHAT A SITE KEEPS TO
 
 abbrev Known : Holding → Operation → Type 0
-Known s x = Has s.log x ⊎ Has s.held x
+Known s x = HasOp s.log x ⊎ HasOp s.held x
 
 holding_keeps : (limit : ℕ) (s : Holding) → IsHolding limit s → Keeps limit (Known s) s
 holding_keeps limit s h = record {

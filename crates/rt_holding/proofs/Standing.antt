@@ -16,7 +16,7 @@ use Rattle.std.specs.declared.cmp.Ordering.TheVariants.{Equal, Greater, Less}
 use Rattle.rt_ops.specs.Operations.{Operation}
 use Rattle.rt_rga.proofs.Skipping.{split}
 use Rattle.rt_holding.specs.declared.waits.Key.{Key}
-use Rattle.rt_holding.specs.Kept.{Entry, IsAt, IsInPlace, Standing, by_stamp_and_arrival}
+use Rattle.rt_holding.specs.Kept.{Entry, IsHeldAt, IsInPlace, Standing, by_stamp_and_arrival}
 use Rattle.rt_holding.specs.Waits.{IsSetAt, by_key}
 use Rattle.rt_holding.proofs.Places.{all_before, found_at, place_same, places_total}
 
@@ -163,7 +163,7 @@ found_in (x ∷ entries) p v e = split (is_at (by_stamp_and_arrival p) x.0)
     record { front = x ∷ i.front; behind = i.behind; is = ap (λ l. x ∷ l) i.is })
 
 -- an operation that is found at a place stands there
-pub at_found : (entries : List Entry) (p : Standing) (op : Operation) → IsStrictlySortedBy by_stamp_and_arrival (keys_of entries) → lookup (is_at (by_stamp_and_arrival p)) entries ≡ Some (Some op) → IsAt p op entries
+pub at_found : (entries : List Entry) (p : Standing) (op : Operation) → IsStrictlySortedBy by_stamp_and_arrival (keys_of entries) → lookup (is_at (by_stamp_and_arrival p)) entries ≡ Some (Some op) → IsHeldAt p op entries
 at_found entries p op s g =
     let f = found_in entries p (Some op) g in
     record { front = f.front; behind = f.behind; is = f.is; before = all_before f.front f.behind (p, Some op) (subst (λ x. IsStrictlySortedBy by_stamp_and_arrival (keys_of x)) f.is s) }

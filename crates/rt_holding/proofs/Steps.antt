@@ -10,7 +10,7 @@ use Rattle.std.specs.Map.{lookup, remove_entry}
 use Rattle.rt_stamps.specs.declared.fault.Fault.TheVariants.{NotYet, TextFull}
 use Rattle.rt_ops.specs.Operations.{Operation, has_bad_stamp}
 use Rattle.rt_ops.specs.Rules.{keeps_rules}
-use Rattle.rt_oplog.specs.Logs.{Has, holds, known_end, same_operation, with_operation}
+use Rattle.rt_oplog.specs.Logs.{HasOp, holds, known_end, same_operation, with_operation}
 use Rattle.rt_oplog.proofs.Sets.{operation_refl, with_has}
 use Rattle.rt_rga.specs.Answers.{Answer, New, Repeat, Refused, answer_within}
 use Rattle.rt_rga.specs.Histories.{IsHistory}
@@ -21,7 +21,7 @@ use Rattle.rt_holding.specs.declared.waits.Keys.{Keys}
 use Rattle.rt_holding.specs.declared.waits.Waits.{Waits as Table}
 use Rattle.rt_holding.specs.Grown.{HasGrownBy}
 use Rattle.rt_holding.specs.Holding.{Holding, is_left, is_new, stays}
-use Rattle.rt_holding.specs.Kept.{AreHeld, Entry, IsAt, IsNewAt, Standing, by_stamp_and_arrival, ops_in, after_try_of}
+use Rattle.rt_holding.specs.Kept.{AreHeld, Entry, IsHeldAt, IsNewAt, Standing, by_stamp_and_arrival, ops_in, after_try_of}
 use Rattle.rt_holding.specs.Taken.{AreTried, holding}
 use Rattle.rt_holding.specs.Waits.{IfIsThere, IsFirstDue, IsSetAt, KeepsOthers, are_kept, are_tried_at, is_due, is_listed, key_at, after_try_there, sleeps}
 use Rattle.rt_holding.specs.Waking.{IsWoken}
@@ -49,18 +49,18 @@ pub each_keeps : (arrivals : ℕ) (m : BTreeMap Standing (Option Operation)) →
     → get by_stamp_and_arrival m p ≡ Some (Some x) → keeps_rules x.body ≡ true
 each_keeps arrivals m h s p x f = h.rules x (at_has p x m.entries (at_found m.entries p x s f))
   where
-    in_middle : (front behind : List Operation) (x : Operation) → Has (front ++ x ∷ behind) x
+    in_middle : (front behind : List Operation) (x : Operation) → HasOp (front ++ x ∷ behind) x
     in_middle [] behind x = inl refl
     in_middle (y ∷ front) behind x = inr (in_middle front behind x)
 
-    at_has : (p : Standing) (x : Operation) (entries : List Entry) → IsAt p x entries → Has (ops_in entries) x
-    at_has p x entries i = subst (λ ops. Has ops x) (sym (ap ops_in i.is ∙ in_append i.front i.behind p x)) (in_middle (ops_in i.front) (ops_in i.behind) x)
+    at_has : (p : Standing) (x : Operation) (entries : List Entry) → IsHeldAt p x entries → HasOp (ops_in entries) x
+    at_has p x entries i = subst (λ ops. HasOp ops x) (sym (ap ops_in i.is ∙ in_append i.front i.behind p x)) (in_middle (ops_in i.front) (ops_in i.behind) x)
 
 -- a log grows by one operation
 pub grown_by : (older log : List Operation) (by : ℕ) (op : Operation) → IsHistory older → by ≡ op.site → log ≡ with_operation op older → HasGrownBy by older log
 grown_by older log by op h b l = record {
   history = h;
-  among = λ x i. subst (λ (ops : List Operation). Has ops x) (sym l) (with_has op older x (inr i));
+  among = λ x i. subst (λ (ops : List Operation). HasOp ops x) (sym l) (with_has op older x (inr i));
   others = λ other e. ap (λ ops. known_end ops other) l ∙ other_end op older other (ap (λ n. n == other) (sym b) ∙ e);
 }
 
@@ -335,8 +335,8 @@ module _ {Site : Type 0} (log : Site → List Operation) (after : Operation → 
 
     pub took : IsNewAt limit (log now) m.entries p → lacks ≡ false → IsOrdered by_stamp_and_arrival m → IsHistory (log now)
         → (site : Site) (arrivals by : ℕ) (less : BTreeMap Standing (Option Operation)) (new : Table) → AreHeld arrivals m.entries
-        → ((op : Operation) → IsAt p op m.entries → site ≡ after op now) → ((op : Operation) → IsAt p op m.entries → log site ≡ with_operation op (log now))
-        → ((op : Operation) → IsAt p op m.entries → by ≡ op.site)
+        → ((op : Operation) → IsHeldAt p op m.entries → site ≡ after op now) → ((op : Operation) → IsHeldAt p op m.entries → log site ≡ with_operation op (log now))
+        → ((op : Operation) → IsHeldAt p op m.entries → by ≡ op.site)
         → IsWoken by (log site) less (record { keys = old.keys; due = due; again = old.again }) new
         → IsSetAt p None m less → less.entries ≡ remove_entry (is_at (by_stamp_and_arrival p)) m.entries → IsGone lacks site less new arrivals (count + 1)
     took t n s history site arrivals by less new h is_after is_log is_by w set r =

@@ -8,13 +8,13 @@ use Rattle.std.specs.declared.cmp.Ordering.TheVariants.{Greater}
 use Rattle.rt_stamps.specs.declared.stamp.Stamp.{Stamp}
 use Rattle.rt_ops.specs.Operations.{Operation, has_bad_stamp, stamp_of}
 use Rattle.rt_ops.specs.Rules.{keeps_rules}
-use Rattle.rt_oplog.specs.Logs.{Has}
+use Rattle.rt_oplog.specs.Logs.{HasOp}
 use Rattle.rt_rga.specs.Answers.{Answer, New, answer_within}
 use Rattle.rt_holding.specs.declared.trying.AfterTry.{AfterTry}
 use Rattle.rt_holding.specs.declared.trying.AfterTry.TheVariants.{Taken, Waits, Stays, Dropped}
 use Rattle.rt_holding.specs.declared.held.TheConstants.{MOST_HELD}
 use Rattle.rt_holding.specs.Holding.{is_new, stays}
-use Rattle.rt_holding.specs.Runs.{AreOnce, AreRising}
+use Rattle.rt_holding.specs.Runs.{NoneFalls, NoneTwice}
 
 -- where a held operation stands: by its stamp, and of equal stamps by when it came
 abbrev pub Standing : Type 0
@@ -44,13 +44,13 @@ pub record IsInPlace (arrivals : ℕ) (e : Entry) : Type 0 where
 pub record AreHeld (arrivals : ℕ) (entries : List Entry) : Type 0 where
   pub places : AllByRecursion (IsInPlace arrivals) entries
   pub few : length entries ≤ MOST_HELD
-  pub once : AreOnce (ops_in entries)
-  pub order : AreRising (ops_in entries)
-  pub rules : (op : Operation) → Has (ops_in entries) op → keeps_rules op.body ≡ true
-  pub sound : (op : Operation) → Has (ops_in entries) op → has_bad_stamp op ≡ false
+  pub once : NoneTwice (ops_in entries)
+  pub order : NoneFalls (ops_in entries)
+  pub rules : (op : Operation) → HasOp (ops_in entries) op → keeps_rules op.body ≡ true
+  pub sound : (op : Operation) → HasOp (ops_in entries) op → has_bad_stamp op ≡ false
 
 -- an operation stands at a place, behind those of lesser places
-pub record IsAt (place : Standing) (op : Operation) (entries : List Entry) : Type 0 where
+pub record IsHeldAt (place : Standing) (op : Operation) (entries : List Entry) : Type 0 where
   pub front : List Entry
   pub behind : List Entry
   pub is : entries ≡ front ++ (place, Some op) ∷ behind
@@ -66,5 +66,5 @@ after_try_of lacks answer =
 -- at a place stands one that is new
 pub record IsNewAt (limit : ℕ) (log : List Operation) (entries : List Entry) (place : Standing) : Type 0 where
   pub op : Operation
-  pub there : IsAt place op entries
+  pub there : IsHeldAt place op entries
   pub new : answer_within limit op log ≡ New

@@ -2,7 +2,7 @@
 use Rattle.std.specs.Prelude.{◌≡◌, ℕ, ◌<◌, true, false, List, [], None}
 use Rattle.rt_ops.specs.Operations.{Operation}
 use Rattle.rt_ops.specs.Rules.{keeps_rules}
-use Rattle.rt_oplog.specs.Logs.{AreOf, Has, with_operation}
+use Rattle.rt_oplog.specs.Logs.{AreOf, HasOp, with_operation}
 use Rattle.rt_rga.specs.Answers.{New, Refused, answer_within}
 use Rattle.rt_rga.specs.Drafts.{all_changed, with_operations}
 use Rattle.rt_stamps.specs.declared.fault.Fault.{Fault}
@@ -72,7 +72,7 @@ TakenInTurn =
 
 abbrev pub CellsChangeInTurn : Type 0
 CellsChangeInTurn =
-    (limit : ℕ) (ops log : List Operation) → IsHistory log → ((op : Operation) → Has ops op → keeps_rules op.body ≡ true)
+    (limit : ℕ) (ops log : List Operation) → IsHistory log → ((op : Operation) → HasOp ops op → keeps_rules op.body ≡ true)
     → AreTakenInTurn limit log ops
     → cells_of (with_operations ops log) ≡ all_changed ops (cells_of log)
 
@@ -98,7 +98,7 @@ AmpleStay = (site limit : ℕ) (requests : List Request) (s : Holding) → AllSt
 abbrev pub AmpleIsGreatest : Type 0
 AmpleIsGreatest =
     (site limit : ℕ) (requests : List Request) → 0 < site → AllMayBeAsked site limit requests nothing → AreFree (brought site limit requests nothing)
-    → ((op : Operation) → Has (after_requests site limit requests nothing).held op
+    → ((op : Operation) → HasOp (after_requests site limit requests nothing).held op
     → has_no_room (answer_within limit op (after_requests site limit requests nothing).log) ≡ false)
     → IsGreatestHistoryWithin (brought site limit requests nothing) (after_requests site limit requests nothing).log
 

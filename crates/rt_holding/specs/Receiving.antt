@@ -49,10 +49,10 @@ one_more offered.Repeat received = record received { repeats = 1 + received.repe
 one_more offered.Held received = received
 
 -- how many it counts
-abbrev pub count_of : Offered → ℕ
-count_of (offered.New more) = 1 + more
-count_of offered.Repeat = 1
-count_of offered.Held = 0
+abbrev pub counts_as : Offered → ℕ
+counts_as (offered.New more) = 1 + more
+counts_as offered.Repeat = 1
+counts_as offered.Held = 0
 
 -- a site, and the operations that are held for it
 pub record State (Site : Type 0) : Type 0 where

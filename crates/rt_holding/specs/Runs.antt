@@ -5,7 +5,7 @@ use Rattle.std.specs.List.{AllByRecursion}
 use Rattle.rt_stamps.specs.Stamps.{is_before}
 use Rattle.rt_ops.specs.Operations.{Operation, stamp_of}
 use Rattle.rt_ops.specs.Rules.{keeps_rules}
-use Rattle.rt_oplog.specs.Logs.{AreOf, Has, clash, holds, with_operation}
+use Rattle.rt_oplog.specs.Logs.{AreOf, HasOp, clash, holds, with_operation}
 use Rattle.rt_rga.specs.Answers.{New, answer_within}
 use Rattle.rt_rga.specs.Cells.{cells_of}
 use Rattle.rt_rga.specs.Drafts.{operations_of, with_drafts}
@@ -71,7 +71,7 @@ pub data Runs (site limit : ℕ) : List Request → Holding → Holding → List
 
 -- no two of some operations clash
 abbrev pub AreFree : List Operation → Type 0
-AreFree ops = (p q : Operation) → Has ops p → Has ops q → clash p q ≡ false
+AreFree ops = (p q : Operation) → HasOp ops p → HasOp ops q → clash p q ≡ false
 
 -- a history of some operations that has each other history of them
 pub record IsGreatestHistoryWithin (ops set : List Operation) : Type 0 where
@@ -82,20 +82,20 @@ pub record IsGreatestHistoryWithin (ops set : List Operation) : Type 0 where
 -- no held operation could be taken, if there were memory and room
 abbrev pub NoneCouldBeTaken : ℕ → Holding → Type 0
 NoneCouldBeTaken limit s =
-    (op : Operation) → Has s.held op
+    (op : Operation) → HasOp s.held op
     → (is_new (answer_within limit op s.log) ≡ false) × (has_no_room (answer_within limit op s.log) ≡ false)
 
 -- WHAT A SITE KEEPS TO
 
 -- none is there twice
-abbrev pub AreOnce : List Operation → Type 0
-AreOnce [] = Unit {0}
-AreOnce (op ∷ ops) = (holds ops op ≡ false) × AreOnce ops
+abbrev pub NoneTwice : List Operation → Type 0
+NoneTwice [] = Unit {0}
+NoneTwice (op ∷ ops) = (holds ops op ≡ false) × NoneTwice ops
 
 -- none has a lesser stamp than one before it
-abbrev pub AreRising : List Operation → Type 0
-AreRising [] = Unit {0}
-AreRising (op ∷ ops) = AllByRecursion (λ later. is_before (stamp_of later) (stamp_of op) ≡ false) ops × AreRising ops
+abbrev pub NoneFalls : List Operation → Type 0
+NoneFalls [] = Unit {0}
+NoneFalls (op ∷ ops) = AllByRecursion (λ later. is_before (stamp_of later) (stamp_of op) ≡ false) ops × NoneFalls ops
 
 -- The accepted ones are a history within the limit of cells. The held ones are no more than may be, by rising stamp, none is there
 -- twice, and each waits: it comes too early, or finds no room, or found no memory.
@@ -103,10 +103,10 @@ pub record IsHolding (limit : ℕ) (s : Holding) : Type 0 where
   pub history : IsHistory s.log
   pub room : length (cells_of s.log) ≤ limit
   pub few : length s.held ≤ MOST_HELD
-  pub once : AreOnce s.held
-  pub order : AreRising s.held
-  pub rules : (op : Operation) → Has s.held op → keeps_rules op.body ≡ true
-  pub waiting : (op : Operation) → Has s.held op → waits (answer_within limit op s.log) ≡ true
+  pub once : NoneTwice s.held
+  pub order : NoneFalls s.held
+  pub rules : (op : Operation) → HasOp s.held op → keeps_rules op.body ≡ true
+  pub waiting : (op : Operation) → HasOp s.held op → waits (answer_within limit op s.log) ≡ true
 
 -- each operation continues a log with those before it, within the limit of cells
 abbrev pub AreTakenInTurn : ℕ → List Operation → List Operation → Type 0
@@ -126,4 +126,4 @@ AllMayBeAsked site limit (request ∷ requests) s = MayBeAsked site s.log reques
 
 -- each held one comes too early or finds no room
 abbrev pub AllStay : ℕ → Holding → Type 0
-AllStay limit s = (op : Operation) → Has s.held op → stays (answer_within limit op s.log) ≡ true
+AllStay limit s = (op : Operation) → HasOp s.held op → stays (answer_within limit op s.log) ≡ true

@@ -69,7 +69,7 @@ impl Held {
     ghost use Rattle.rt_rga.specs.Answers.{New, Refused, answer_within};
     ghost use Rattle.rt_rga.specs.Histories.{IsHistory};
     ghost use Rattle.rt_holding.specs.Replies as replies;
-    ghost use Rattle.rt_holding.specs.Runs.{AreOnce, AreRising};
+    ghost use Rattle.rt_holding.specs.Runs.{NoneFalls, NoneTwice};
     ghost use Rattle.rt_holding.specs.Taken.{AreTried, IsOffered, IsRefused, held_after, holding, replied};
 
     /// Nothing is held. It takes no memory.
@@ -88,8 +88,8 @@ impl Held {
     pub fn len(&self) -> usize
         ensures len { result ≡ length self.now.held }
         ensures most { result ≤ MOST_HELD }
-        ensures once { AreOnce self.now.held }
-        ensures order { AreRising self.now.held }
+        ensures once { NoneTwice self.now.held }
+        ensures order { NoneFalls self.now.held }
     {
         self.ops.len()
     }

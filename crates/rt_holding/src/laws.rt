@@ -3,7 +3,7 @@ ghost use Rattle.std.specs.Prelude.{ℕ, List};
 ghost use Rattle.rt_ops.specs.Operations.{Operation};
 ghost use Rattle.rt_holding.specs.Arrivals.{ComesToTheSame, by_stamp};
 ghost use Rattle.rt_holding.specs.Memory.{FilesFindMemory, FilesGoOneWay, OffersFindMemory, SettledFindsMemory, SettlesAlone};
-ghost use Rattle.rt_holding.specs.Runs.{AreRising};
+ghost use Rattle.rt_holding.specs.Runs.{NoneFalls};
 ghost use Rattle.rt_holding.specs.Waiting.{LeftOnesStay, LooksAreEnough, UnpassedStay};
 ghost use Rattle.rt_holding.specs.Laws.{AmpleIsGreatest, AmpleRuns, AmpleStay, CellsChangeInTurn, FullStays, GreatestIsAccepted, HistoriesAreAccepted, NothingIsTried, RefusedChangesNothing, RepeatChangesNothing, RequestsKeep, SettledLeavesNone, SettledSettles, SitesAgree, TakenInTurn};
 
@@ -56,7 +56,7 @@ pub fn waiting()
 /// equal ones the one that came first.
 pub fn arrivals()
     ensures same { (arrived : List Operation) → ComesToTheSame arrived }
-    ensures order { (arrived : List Operation) → AreRising (by_stamp arrived) }
+    ensures order { (arrived : List Operation) → NoneFalls (by_stamp arrived) }
 {}
 
 /// Where no memory was wanting, there is at most one way in which held operations settle, and in which a file is received.

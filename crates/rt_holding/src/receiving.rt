@@ -2,7 +2,7 @@
 ghost use Rattle.std.specs.Prelude.{◌≡◌, ◌+◌, ◌<◌, ◌≤◌, None, length};
 ghost use Rattle.rt_stamps.specs.declared.limits.TheConstants.{MOST_BYTES};
 ghost use Rattle.rt_holding.specs.Grown.{AreTriedAt};
-ghost use Rattle.rt_holding.specs.Receiving.{Receives, count_of, none_accepted, one_more};
+ghost use Rattle.rt_holding.specs.Receiving.{Receives, counts_as, none_accepted, one_more};
 
 use crate::held::{Held, MOST_HELD, Offered};
 use crate::taking::Taking;
@@ -40,7 +40,7 @@ impl Received {
 
     // With one more that was offered.
     fn with(self, offered: Offered) -> Received
-        requires { self.new + self.repeats + count_of offered < u64.MAX }
+        requires { self.new + self.repeats + counts_as offered < u64.MAX }
         ensures counted { result ≡ one_more offered self }
     {
         match offered {

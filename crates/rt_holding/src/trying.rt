@@ -7,7 +7,7 @@ ghost use Rattle.std.specs.List.{AllByRecursion};
 ghost use Rattle.rt_ops.specs.Operations.{Operation, has_bad_stamp};
 ghost use Rattle.rt_oplog.specs.Logs.{holds, with_operation};
 ghost use Rattle.rt_rga.specs.Answers.{answer_within};
-ghost use Rattle.rt_holding.specs.Kept.{IsAt, IsInPlace, IsNewAt, Standing, by_stamp_and_arrival, ops_in, after_try_of};
+ghost use Rattle.rt_holding.specs.Kept.{IsHeldAt, IsInPlace, IsNewAt, Standing, by_stamp_and_arrival, ops_in, after_try_of};
 ghost use Rattle.rt_holding.specs.Waits.{HasLess, IfIsThere, IsReady, IsSetAt, KeepsOthers, are_kept, is_any_kept, is_listed, key_count, after_try_there};
 
 use crate::taking::Taking;
@@ -90,7 +90,7 @@ pub(crate) fn sleep<T: Taking>(site: &T, ops: &Ops, waits: &mut Waits, place: St
 /// Where an operation is held, if it is: looks at those of its stamp.
 pub(crate) fn standing_of(ops: &Ops, arrivals: u64, op: &Op) -> Option<Standing>
     requires { AllByRecursion (IsInPlace arrivals) ops.now.entries }
-    ensures some { IfSome result (λ place. IsAt place op.now ops.now.entries) }
+    ensures some { IfSome result (λ place. IsHeldAt place op.now ops.now.entries) }
     ensures none { IfNone result (holds (ops_in ops.now.entries) op.now ≡ false) }
 {
     let stamp = op.stamp();
@@ -106,8 +106,8 @@ pub(crate) fn standing_of(ops: &Ops, arrivals: u64, op: &Op) -> Option<Standing>
 
 /// Takes out the operation at a place, which stays.
 fn take_out(ops: &mut Ops, place: Standing) -> Op
-    requires { (op : Operation) × IsAt place op ops.old.entries }
-    ensures there { IsAt place result ops.old.entries }
+    requires { (op : Operation) × IsHeldAt place op ops.old.entries }
+    ensures there { IsHeldAt place result ops.old.entries }
     ensures entries { ops.new.entries ≡ insert_entry by_stamp_and_arrival ops.old.entries place None }
     ensures others { IsSetAt place (Some None) ops.old ops.new }
 {
@@ -149,9 +149,9 @@ pub(crate) fn take_at<T: Taking>(
     place: Standing,
 ) -> Result<u32, AllocError>
     requires { IsNewAt (T.limit site.old) (T.log site.old) ops.old.entries place }
-    ensures site { OnOk result ((op : Operation) → IsAt place op ops.old.entries → site.new ≡ T.after op site.old) }
-    ensures log { OnOk result ((op : Operation) → IsAt place op ops.old.entries → T.log site.new ≡ with_operation op (T.log site.old)) }
-    ensures by { IfOk result (λ by. (op : Operation) → IsAt place op ops.old.entries → by ≡ op.site) }
+    ensures site { OnOk result ((op : Operation) → IsHeldAt place op ops.old.entries → site.new ≡ T.after op site.old) }
+    ensures log { OnOk result ((op : Operation) → IsHeldAt place op ops.old.entries → T.log site.new ≡ with_operation op (T.log site.old)) }
+    ensures by { IfOk result (λ by. (op : Operation) → IsHeldAt place op ops.old.entries → by ≡ op.site) }
     ensures out { OnOk result (ops.new.entries ≡ remove_entry (is_at (by_stamp_and_arrival place)) ops.old.entries) }
     ensures others { OnOk result (IsSetAt place None ops.old ops.new) }
     ensures ordered { IsOrdered by_stamp_and_arrival ops.new }

@@ -4,7 +4,7 @@ use Rattle.std.specs.List.{list_all}
 use Rattle.std.proofs.lemmas.List.{map-append}
 use Rattle.std.proofs.lemmas.Grind.{flat_map-append}
 use Rattle.std.proofs.lemmas.List.Folds.{list_all-append, list_all-map, list_all_at, list_all_more}
-use Rattle.rt_ops.specs.declared.version.Version.TheVariants.{One, Two}
+use Rattle.rt_ops.specs.declared.version.Version.TheVariants.{One}
 use Rattle.rt_ops.specs.Operations.{Operation}
 use Rattle.rt_ops.specs.File.{fits, version_of}
 use Rattle.rt_oplog.specs.declared.block.Block.{Block}

@@ -11,7 +11,7 @@ use Rattle.rt_stamps.specs.declared.stamp.Stamp.{Stamp}
 use Rattle.rt_stamps.specs.Stamps.{is_before}
 use Rattle.rt_oplog.specs.declared.block.Block.{Block}
 use Rattle.rt_ops.specs.Operations.{Operation, stamp_of}
-use Rattle.rt_oplog.specs.Logs.{Has, IsFalling, IsLog}
+use Rattle.rt_oplog.specs.Logs.{HasOp, IsFalling, IsLog}
 use Rattle.rt_oplog.specs.Kept.{newest_first, leading}
 use Rattle.rt_oplog.specs.Blocks.{all_pass, in_blocks, places_before}
 use Rattle.rt_oplog.proofs.Sets.{split}
@@ -266,15 +266,15 @@ all_block P (c ∷ bs) (suc i) b l e h = all_block P bs i b (omega arith) e (res
     rest P [] ys h = h
     rest P (x ∷ xs) ys h = rest P xs ys h.1
 
-has_block : (ops : List Operation) (bs : List Block) (i : ℕ) (b : Block) (x : Operation) → i < length bs → b ≡ get_or bs i b → Has (newest_first ops b.places.items) x → Has (newest_first ops (in_blocks bs)) x
+has_block : (ops : List Operation) (bs : List Block) (i : ℕ) (b : Block) (x : Operation) → i < length bs → b ≡ get_or bs i b → HasOp (newest_first ops b.places.items) x → HasOp (newest_first ops (in_blocks bs)) x
 has_block ops [] i b x l e h = absurd (omega arith)
 has_block ops (c ∷ bs) zero b x l e h =
-    let same = subst (λ (y : Block). Has (newest_first ops y.places.items) x) e h in
-    subst (λ s. Has s x) (sym (seen_append ops c.places.items (in_blocks bs))) (has_after (newest_first ops (in_blocks bs)) (newest_first ops c.places.items) x same)
+    let same = subst (λ (y : Block). HasOp (newest_first ops y.places.items) x) e h in
+    subst (λ s. HasOp s x) (sym (seen_append ops c.places.items (in_blocks bs))) (has_after (newest_first ops (in_blocks bs)) (newest_first ops c.places.items) x same)
 has_block ops (c ∷ bs) (suc i) b x l e h =
-    subst (λ s. Has s x) (sym (seen_append ops c.places.items (in_blocks bs))) (has_before (newest_first ops (in_blocks bs)) (newest_first ops c.places.items) x (has_block ops bs i b x (omega arith) e h))
+    subst (λ s. HasOp s x) (sym (seen_append ops c.places.items (in_blocks bs))) (has_before (newest_first ops (in_blocks bs)) (newest_first ops c.places.items) x (has_block ops bs i b x (omega arith) e h))
   where
-    has_before : (xs ys : List Operation) (x : Operation) → Has xs x → Has (xs ++ ys) x
+    has_before : (xs ys : List Operation) (x : Operation) → HasOp xs x → HasOp (xs ++ ys) x
     has_before [] ys x h = absurd h
     has_before (y ∷ xs) ys x h = elim h [ inl d ↦ inl d | inr j ↦ inr (has_before xs ys x j) ]
 

@@ -6,7 +6,7 @@ use Rattle.rt_stamps.specs.declared.fault.Fault.{Fault}
 use Rattle.rt_stamps.specs.declared.fault.Fault.TheVariants.{Conflict}
 use Rattle.rt_stamps.specs.Stamps.{is_before, is_same}
 use Rattle.rt_ops.specs.Operations.{Operation, stamp_of, last_count, has_bad_stamp}
-use Rattle.rt_oplog.specs.Logs.{Has, same_operation, holds, reaches_into, clash, IsFalling, IsLog, with_operation, known_end, added, union, has_clash, IsUnion, HasClashOf, joined, joins}
+use Rattle.rt_oplog.specs.Logs.{HasOp, same_operation, holds, reaches_into, clash, IsFalling, IsLog, with_operation, known_end, added, union, has_clash, IsUnion, HasClashOf, joined, joins}
 use Rattle.rt_oplog.proofs.Sets.{split, operation_true, clash_self, clash_sym, last_ge, apart, has_with, held_from, added_has, has_union, union_has, none_at, clash_in, clash_from, free_from, falling_with, same_set}
 
 -- a set that has another operation, with its stamp apart from theirs, is a log
@@ -26,25 +26,25 @@ log_with op set l s n f = record {
   ];
 }
   where
-    other : (x : Operation) → Has set x → same_operation x op ≡ false
+    other : (x : Operation) → HasOp set x → same_operation x op ≡ false
     other x i = split (same_operation x op) (λ e. let k = held_from set x i in let j : holds set op ≡ true = subst (λ y. holds set y ≡ true) (operation_true x op e) k in absurd (cc (j, n))) (λ e. e)
 
-falling_added : (op : Operation) (set : List Operation) → IsFalling set → ((x : Operation) → Has set x → holds set op ≡ false → is_same (stamp_of x) (stamp_of op) ≡ false) → IsFalling (added op set)
+falling_added : (op : Operation) (set : List Operation) → IsFalling set → ((x : Operation) → HasOp set x → holds set op ≡ false → is_same (stamp_of x) (stamp_of op) ≡ false) → IsFalling (added op set)
 falling_added op set h f = (elim (holds set op) as (λ t. holds set op ≡ t → IsFalling (cond t set (with_operation op set))) [
   | true ↦ λ e. h
   | false ↦ λ e. falling_with op set h (λ x i. f x i e)
 ]) refl
 
-falling_union : (one other : List Operation) → IsFalling other → ((x : Operation) → Has one x → has_bad_stamp x ≡ false)
-    → ((p q : Operation) → Has (union one other) p → Has (union one other) q → clash p q ≡ false) → IsFalling (union one other)
+falling_union : (one other : List Operation) → IsFalling other → ((x : Operation) → HasOp one x → has_bad_stamp x ≡ false)
+    → ((p q : Operation) → HasOp (union one other) p → HasOp (union one other) q → clash p q ≡ false) → IsFalling (union one other)
 falling_union [] other h s f = h
 falling_union (op ∷ set) other h s f =
-    let mine : Has (union (op ∷ set) other) op = added_has op (union set other) op (inl refl) in
+    let mine : HasOp (union (op ∷ set) other) op = added_has op (union set other) op (inl refl) in
     let rest = falling_union set other h (λ x i. s x (inr i)) (λ p q i j. f p q (added_has op (union set other) p (inr i)) (added_has op (union set other) q (inr j))) in
     falling_added op (union set other) rest
     (λ x i n. apart x op (s op (inl refl)) (unlike x i n) (f x op (added_has op (union set other) x (inr i)) mine))
   where
-    unlike : (x : Operation) → Has (union set other) x → holds (union set other) op ≡ false → same_operation x op ≡ false
+    unlike : (x : Operation) → HasOp (union set other) x → holds (union set other) op ≡ false → same_operation x op ≡ false
     unlike x i n = split (same_operation x op)
         (λ e. let k = held_from (union set other) x i in let j : holds (union set other) op ≡ true = subst (λ y. holds (union set other) y ≡ true) (operation_true x op e) k in absurd (cc (j, n)))
         (λ e. e)
@@ -60,7 +60,7 @@ union_log one other l k h = record {
 }
 
 -- two operations of the logs clash
-pub joined_err : (one other : List Operation) (p q : Operation) → Has one p ⊎ Has other p → Has one q ⊎ Has other q → clash p q ≡ true → joined one other ≡ Err Conflict
+pub joined_err : (one other : List Operation) (p q : Operation) → HasOp one p ⊎ HasOp other p → HasOp one q ⊎ HasOp other q → clash p q ≡ true → joined one other ≡ Err Conflict
 joined_err one other p q i j c =
     let k : has_clash (union one other) ≡ true = clash_in (union one other) p q (union_has one other p i) (union_has one other q j) c in
     rw k
@@ -78,7 +78,7 @@ joined_ok one other set l k u = split (has_clash (union one other))
 -- what a join is, one way or the other
 pub joined_cases : (P : Result (List Operation) Fault → Type 0) (one other : List Operation) → IsLog one → IsLog other
     → ((set : List Operation) → IsUnion one other set → joined one other ≡ Ok set → P (Ok set))
-    → ((p q : Operation) → Has one p ⊎ Has other p → Has one q ⊎ Has other q → clash p q ≡ true → joined one other ≡ Err Conflict → P (Err Conflict)) → P (joined one other)
+    → ((p q : Operation) → HasOp one p ⊎ HasOp other p → HasOp one q ⊎ HasOp other q → clash p q ≡ true → joined one other ≡ Err Conflict → P (Err Conflict)) → P (joined one other)
 joined_cases P one other l k f g = split (has_clash (union one other))
     (λ e. let (p, q, i, j, c) = clash_from (union one other) e in
     let r : joined one other ≡ Err Conflict = rw e in
@@ -117,11 +117,11 @@ idempotent one l = joined_ok one one one l l (record { log = l; members = λ x. 
 -- the join of three
 pub record IsUnionOfThree (a b c set : List Operation) : Type 0 where
   pub log : IsLog set
-  pub members : (x : Operation) → Has set x ↔ (Has a x ⊎ (Has b x ⊎ Has c x))
+  pub members : (x : Operation) → HasOp set x ↔ (HasOp a x ⊎ (HasOp b x ⊎ HasOp c x))
 
 left_three : (a b c : List Operation) → IsLog a → IsLog b → IsLog c → (P : Result (List Operation) Fault → Type 0)
     → ((set : List Operation) → IsUnionOfThree a b c set → P (Ok set))
-    → ((p q : Operation) → Has a p ⊎ (Has b p ⊎ Has c p) → Has a q ⊎ (Has b q ⊎ Has c q) → clash p q ≡ true → P (Err Conflict)) → P (joins (joined a b) (Ok c))
+    → ((p q : Operation) → HasOp a p ⊎ (HasOp b p ⊎ HasOp c p) → HasOp a q ⊎ (HasOp b q ⊎ HasOp c q) → clash p q ≡ true → P (Err Conflict)) → P (joins (joined a b) (Ok c))
 left_three a b c la lb lc P f g = joined_cases (λ r. P (joins r (Ok c))) a b la lb
     (λ set u e. joined_cases P set c u.log lc
     (λ all v d. f all (record { log = v.log; members = λ x. (λ i. grow (u.members x).0 ((v.members x).0 i), λ i. (v.members x).1 (shrink (u.members x).1 i)) }))
@@ -148,7 +148,7 @@ right_ok a b c set la lb lc w = joined_cases (λ r. joins (Ok a) r ≡ Ok set) b
     outward : {A B C S : Type 0} → (S → B ⊎ C) → A ⊎ S → A ⊎ (B ⊎ C)
     outward f i = elim i [ inl a ↦ inl a | inr s ↦ inr (f s) ]
 
-right_err : (a b c : List Operation) (p q : Operation) → IsLog a → IsLog b → IsLog c → Has a p ⊎ (Has b p ⊎ Has c p) → Has a q ⊎ (Has b q ⊎ Has c q) → clash p q ≡ true
+right_err : (a b c : List Operation) (p q : Operation) → IsLog a → IsLog b → IsLog c → HasOp a p ⊎ (HasOp b p ⊎ HasOp c p) → HasOp a q ⊎ (HasOp b q ⊎ HasOp c q) → clash p q ≡ true
     → joins (Ok a) (joined b c) ≡ Err Conflict
 right_err a b c p q la lb lc i j k = joined_cases (λ r. joins (Ok a) r ≡ Err Conflict) b c lb lc
     (λ one u e. joined_err a one p q (inward (u.members p).1 i) (inward (u.members q).1 j) k)
@@ -164,7 +164,7 @@ associative a b c la lb lc = left_three a b c la lb lc (λ r. r ≡ joins (Ok a)
 
 -- the known end
 
-pub end_ge : (set : List Operation) (x : Operation) → Has set x → last_count x ≤ known_end set x.site
+pub end_ge : (set : List Operation) (x : Operation) → HasOp set x → last_count x ≤ known_end set x.site
 end_ge [] x h = absurd h
 end_ge (q ∷ older) x h = elim h [
   | inl e ↦ subst (λ y. last_count y ≤ known_end (q ∷ older) y.site) e (own q (known_end older q.site))
@@ -178,7 +178,7 @@ end_ge (q ∷ older) x h = elim h [
     later q x rest h = grind (arith, nat_tests)
 
 -- an operation that goes on from its site's known end clashes with none and is not there yet
-pub free_past : (set : List Operation) (op : Operation) → has_bad_stamp op ≡ false → known_end set op.site ≤ op.prev → (x : Operation) → Has set x → clash op x ≡ false
+pub free_past : (set : List Operation) (op : Operation) → has_bad_stamp op ≡ false → known_end set op.site ≤ op.prev → (x : Operation) → HasOp set x → clash op x ≡ false
 free_past set op s l x i =
     let g = end_ge set x i in
     past x g

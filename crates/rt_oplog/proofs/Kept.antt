@@ -8,10 +8,10 @@ use Rattle.rt_stamps.specs.declared.fault.Fault.{Fault}
 use Rattle.rt_stamps.specs.declared.fault.Fault.TheVariants.{NoMemory, Conflict}
 use Rattle.rt_stamps.specs.Stamps.{is_before}
 use Rattle.rt_stamps.proofs.Order.{before_irrefl, differ}
-use Rattle.rt_oplog.specs.declared.ends.SiteEnd.{SiteEnd}
+use Rattle.rt_oplog.specs.declared.ends.Ends.{Ends}
 use Rattle.rt_oplog.specs.Ends.{end_in}
 use Rattle.rt_ops.specs.Operations.{Operation, stamp_of, has_bad_stamp}
-use Rattle.rt_oplog.specs.Logs.{HasClashOf, Has, holds, clash, IsFalling, IsLog, with_operation, known_end, joined}
+use Rattle.rt_oplog.specs.Logs.{HasClashOf, HasOp, holds, clash, IsFalling, IsLog, with_operation, known_end, joined}
 use Rattle.rt_oplog.specs.Kept.{nothing, op_at, newest_first, leading, IsKept}
 use Rattle.rt_oplog.specs.Merged.{IsMerged}
 use Rattle.rt_oplog.proofs.Sets.{split, clash_sym, any_at, none_from}
@@ -22,7 +22,7 @@ use Rattle.rt_oplog.proofs.Merges.{ops_at, IsRising, rising_seen, clash_below, s
 -- an operation that is newer than all of a log
 
 pub leading_short : (ops : List Operation) (stamp : Stamp) (order : List ℕ) → leading (is_earlier ops stamp) order ≡ length order
-    → (x : Operation) → Has (newest_first ops order) x → is_before (stamp_of x) stamp ≡ true
+    → (x : Operation) → HasOp (newest_first ops order) x → is_before (stamp_of x) stamp ≡ true
 leading_short ops stamp [] e x i = absurd i
 leading_short ops stamp (place ∷ order) e x i = split (is_earlier ops stamp place)
     (λ h. let k : suc (leading (is_earlier ops stamp) order) ≡ suc (length order) = rw h at e in
@@ -32,16 +32,16 @@ leading_short ops stamp (place ∷ order) e x i = split (is_earlier ops stamp pl
     ])
     (λ h. let k : 0 ≡ suc (length order) = rw h at e in absurd (omega (arith, k)))
   where
-    end_has : (set : List Operation) (q x : Operation) → Has (set ++ q ∷ []) x → Has set x ⊎ (q ≡ x)
+    end_has : (set : List Operation) (q x : Operation) → HasOp (set ++ q ∷ []) x → HasOp set x ⊎ (q ≡ x)
     end_has [] q x h = elim h [ inl d ↦ inr d | inr j ↦ absurd j ]
     end_has (y ∷ set) q x h = elim h [ inl d ↦ inl (inl d) | inr j ↦ elim (end_has set q x j) [ inl k ↦ inl (inr k) | inr d ↦ inr d ] ]
 
-all_before : (set : List Operation) (stamp : Stamp) → ((x : Operation) → Has set x → is_before (stamp_of x) stamp ≡ true) → AllByRecursion (λ q. is_before (stamp_of q) stamp ≡ true) set
+all_before : (set : List Operation) (stamp : Stamp) → ((x : Operation) → HasOp set x → is_before (stamp_of x) stamp ≡ true) → AllByRecursion (λ q. is_before (stamp_of q) stamp ≡ true) set
 all_before [] stamp f = tt
 all_before (q ∷ set) stamp f = (f q (inl refl), all_before set stamp (λ x i. f x (inr i)))
 
 -- the newest operation clashes where it goes on from below its site's known end
-pub clash_newest : (ops : List Operation) (order : List ℕ) (ends : List SiteEnd) (op : Operation) → IsKept ops order ends → leading (is_earlier ops (stamp_of op)) order ≡ length order
+pub clash_newest : (ops : List Operation) (order : List ℕ) (ends : Ends) (op : Operation) → IsKept ops order ends → leading (is_earlier ops (stamp_of op)) order ≡ length order
     → op.prev < end_in ends op.site → list_any (clash op) (newest_first ops order) ≡ true
 clash_newest ops order ends op k e h =
     let set = newest_first ops order in
@@ -68,7 +68,7 @@ seen_newest ops order op w =
     ∙ ap (λ set. op ∷ set) (seen_more ops (op ∷ []) order w)
 
 -- a log with an operation that is newer than all of it, and goes on from no lower than its site's known end
-pub kept_newest : (ops : List Operation) (order : List ℕ) (ends more : List SiteEnd) (op : Operation) → IsKept ops order ends → has_bad_stamp op ≡ false
+pub kept_newest : (ops : List Operation) (order : List ℕ) (ends more : Ends) (op : Operation) → IsKept ops order ends → has_bad_stamp op ≡ false
     → AllByRecursion (λ q. is_before (stamp_of q) (stamp_of op) ≡ true) (newest_first ops order) → known_end (newest_first ops order) op.site ≤ op.prev
     → ((s : ℕ) → end_in more s ≡ known_end (op ∷ newest_first ops order) s) → IsKept (ops ++ op ∷ []) (order ++ length ops ∷ []) more
 kept_newest ops order ends more op k s n p e =
@@ -85,7 +85,7 @@ kept_newest ops order ends more op k s n p e =
 -- operations taken out
 
 all_apart : (first now next : List Operation) (place : ℕ) (order : List ℕ) → ((p : ℕ) → (p ≡ place → ⊥) → op_at next p ≡ op_at now p)
-    → ((y : Operation) → Has (ops_at first order) y → is_before (stamp_of (op_at first place)) (stamp_of y) ≡ true)
+    → ((y : Operation) → HasOp (ops_at first order) y → is_before (stamp_of (op_at first place)) (stamp_of y) ≡ true)
     → AllByRecursion (λ p. op_at now p ≡ op_at first p) order → AllByRecursion (λ p. op_at next p ≡ op_at first p) order
 all_apart first now next place [] o b h = tt
 all_apart first now next place (p ∷ order) o b h = (
@@ -143,7 +143,7 @@ clash_of_merged ops one other order m h =
     either : {A : Type 0} → A ⊎ A → A
     either h = elim h [ inl a ↦ a | inr a ↦ a ]
 
-pub joined_merged : (ops one other : List Operation) (order : List ℕ) (ends : List SiteEnd) → IsMerged ops one other order → IsKept ops order ends → IsLog one → IsLog other → joined one other ≡ Ok (newest_first ops order)
+pub joined_merged : (ops one other : List Operation) (order : List ℕ) (ends : Ends) → IsMerged ops one other order → IsKept ops order ends → IsLog one → IsLog other → joined one other ≡ Ok (newest_first ops order)
 joined_merged ops one other order ends m k l n = joined_ok one other (newest_first ops order) l n (record { log = k.log; members = m.members })
 
 -- what the steps of a join answer

@@ -1,9 +1,9 @@
+pub mod SameEnds
 pub mod Filling
 pub mod Fitting
 pub mod InBlocks
 pub mod Joins
 pub mod Kept
-pub mod Known
 pub mod LogsOf
 pub mod Merges
 pub mod Merging

@@ -6,23 +6,23 @@ use Rattle.std.specs.List.{list_any}
 use Rattle.rt_stamps.specs.declared.fault.Fault.{Fault}
 use Rattle.rt_stamps.specs.declared.fault.Fault.TheVariants.{NoMemory}
 use Rattle.rt_ops.specs.Operations.{Operation, has_bad_stamp}
-use Rattle.rt_oplog.specs.Logs.{Has, IsLog, holds, clash, with_operation, pushed}
+use Rattle.rt_oplog.specs.Logs.{HasOp, IsLog, holds, clash, with_operation, pushed}
 use Rattle.rt_oplog.specs.Kept.{nothing, op_at}
 use Rattle.rt_oplog.specs.Outcomes.{IsLogOf, MakesLog}
 use Rattle.rt_oplog.proofs.Sets.{split, has_with, with_has, has_held}
 use Rattle.rt_oplog.proofs.Merges.{has_end, end_has}
 
 -- what a push leaves has the operation, and what was there
-pushed_has : (op : Operation) (log new : List Operation) → pushed op log ≡ Ok new → (x : Operation) → Has new x ↔ (Has log x ⊎ (op ≡ x))
+pushed_has : (op : Operation) (log new : List Operation) → pushed op log ≡ Ok new → (x : Operation) → HasOp new x ↔ (HasOp log x ⊎ (op ≡ x))
 pushed_has op log new e x = split (has_bad_stamp op)
     (λ b. let k = rw b at e in absurd (cc k))
     (λ b. split (holds log op)
     (λ h. let k = rw (b, h) at e in let same : log ≡ new = cc k in
-    subst (λ set. Has set x ↔ (Has log x ⊎ (op ≡ x))) same (λ i. inl i, λ i. elim i [ inl j ↦ j | inr d ↦ subst (λ y. Has log y) d (has_held log op h) ]))
+    subst (λ set. HasOp set x ↔ (HasOp log x ⊎ (op ≡ x))) same (λ i. inl i, λ i. elim i [ inl j ↦ j | inr d ↦ subst (λ y. HasOp log y) d (has_held log op h) ]))
     (λ h. split (list_any (clash op) log)
     (λ c. let k = rw (b, h, c) at e in absurd (cc k))
     (λ c. let k = rw (b, h, c) at e in let same : with_operation op log ≡ new = cc k in
-    subst (λ set. Has set x ↔ (Has log x ⊎ (op ≡ x))) same (λ i. turned (has_with op log x i), λ i. with_has op log x (turned i)))))
+    subst (λ set. HasOp set x ↔ (HasOp log x ⊎ (op ≡ x))) same (λ i. turned (has_with op log x i), λ i. with_has op log x (turned i)))))
   where
     turned : {A B : Type 0} → A ⊎ B → B ⊎ A
     turned h = elim h [ inl a ↦ inr a | inr b ↦ inl b ]
@@ -32,7 +32,7 @@ pub log_of_more : (ops : List Operation) (i : ℕ) (log new : List Operation) �
 log_of_more ops i log new h l n e = record {
   is_log = n;
   members = λ x. let p = pushed_has (op_at ops i) log new e x in let m = l.members x in
-      subst (λ set. Has new x ↔ Has set x) (sym (take_more ops i nothing h)) (
+      subst (λ set. HasOp new x ↔ HasOp set x) (sym (take_more ops i nothing h)) (
         λ k. has_end (take i ops) (op_at ops i) x (elim (p.0 k) [ inl j ↦ inl (m.0 j) | inr d ↦ inr d ]),
         λ k. p.1 (elim (end_has (take i ops) (op_at ops i) x k) [ inl j ↦ inl (m.1 j) | inr d ↦ inr d ]),
       );

@@ -4,10 +4,10 @@ use Rattle.std.proofs.lemmas.Bool.Decides.{nat_tests}
 use Rattle.std.specs.List.{AllByRecursion}
 use Rattle.rt_stamps.specs.Stamps.{is_before}
 use Rattle.rt_stamps.proofs.Order.{before_trans, before_irrefl}
-use Rattle.rt_oplog.specs.declared.ends.SiteEnd.{SiteEnd}
+use Rattle.rt_oplog.specs.declared.ends.Ends.{Ends}
 use Rattle.rt_oplog.specs.Ends.{end_in}
 use Rattle.rt_ops.specs.Operations.{Operation, stamp_of, has_bad_stamp, last_count}
-use Rattle.rt_oplog.specs.Logs.{HasClashOf, Has, same_operation, reaches_into, clash, IsFalling, IsLog, known_end}
+use Rattle.rt_oplog.specs.Logs.{HasClashOf, HasOp, same_operation, reaches_into, clash, IsFalling, IsLog, known_end}
 use Rattle.rt_oplog.specs.Kept.{op_at, newest_first, IsKept}
 use Rattle.rt_oplog.proofs.Sets.{split, operation_true, clash_self, clash_sym, member_before}
 use Rattle.rt_oplog.proofs.Joins.{free_past}
@@ -22,15 +22,15 @@ ops_at ops order = map (op_at ops) order
 -- each is before those behind it
 abbrev pub IsRising : List Operation → Type 0
 IsRising [] = Unit {0}
-IsRising (x ∷ xs) = ((y : Operation) → Has xs y → is_before (stamp_of x) (stamp_of y) ≡ true) × IsRising xs
+IsRising (x ∷ xs) = ((y : Operation) → HasOp xs y → is_before (stamp_of x) (stamp_of y) ≡ true) × IsRising xs
 
 -- What was merged, the newest first, and what is left of the two.
 pub record Merging (one other merged left right : List Operation) : Type 0 where
   pub falling : IsFalling merged
-  pub ahead : (p x : Operation) → Has merged p → Has left x ⊎ Has right x → is_before (stamp_of p) (stamp_of x) ≡ true
+  pub ahead : (p x : Operation) → HasOp merged p → HasOp left x ⊎ HasOp right x → is_before (stamp_of p) (stamp_of x) ≡ true
   pub rising_left : IsRising left
   pub rising_right : IsRising right
-  pub members : (x : Operation) → (Has merged x ⊎ (Has left x ⊎ Has right x)) ↔ (Has one x ⊎ Has other x)
+  pub members : (x : Operation) → (HasOp merged x ⊎ (HasOp left x ⊎ HasOp right x)) ↔ (HasOp one x ⊎ HasOp other x)
 
 turned : {A B : Type 0} → A ⊎ B → B ⊎ A
 turned h = elim h [ inl a ↦ inr a | inr b ↦ inl b ]
@@ -47,12 +47,12 @@ sides one other merged left right m = record {
   members = λ x. (λ h. (m.members x).0 (turned_rest h), λ h. turned_rest ((m.members x).1 h));
 }
 
-all_from : (P : Operation → Type 0) (set : List Operation) → ((x : Operation) → Has set x → P x) → AllByRecursion P set
+all_from : (P : Operation → Type 0) (set : List Operation) → ((x : Operation) → HasOp set x → P x) → AllByRecursion P set
 all_from P [] f = tt
 all_from P (q ∷ set) f = (f q (inl refl), all_from P set (λ x i. f x (inr i)))
 
 pub take_left : (one other merged : List Operation) (x : Operation) (left right : List Operation) → Merging one other merged (x ∷ left) right
-    → ((y : Operation) → Has right y → is_before (stamp_of x) (stamp_of y) ≡ true) → Merging one other (x ∷ merged) left right
+    → ((y : Operation) → HasOp right y → is_before (stamp_of x) (stamp_of y) ≡ true) → Merging one other (x ∷ merged) left right
 take_left one other merged x left right m f = record {
   falling = (all_from (λ q. is_before (stamp_of q) (stamp_of x) ≡ true) merged (λ q i. m.ahead q x i (inl (inl refl))), m.falling);
   ahead = λ p y i j. elim i [
@@ -71,7 +71,7 @@ take_left one other merged x left right m f = record {
     on h = elim h [ inl b ↦ inl (inr b) | inr i ↦ elim i [ inl j ↦ elim j [ inl a ↦ inl (inl a) | inr c ↦ inr (inl c) ] | inr d ↦ inr (inr d) ] ]
 
 -- the first of a rising list is before all others of it, and so is what is before the first
-before_all : (x y : Operation) (right : List Operation) → IsRising (y ∷ right) → is_before (stamp_of x) (stamp_of y) ≡ true → (z : Operation) → Has (y ∷ right) z → is_before (stamp_of x) (stamp_of z) ≡ true
+before_all : (x y : Operation) (right : List Operation) → IsRising (y ∷ right) → is_before (stamp_of x) (stamp_of y) ≡ true → (z : Operation) → HasOp (y ∷ right) z → is_before (stamp_of x) (stamp_of z) ≡ true
 before_all x y right r e z i = elim i [
   | inl d ↦ subst (λ w. is_before (stamp_of x) (stamp_of w) ≡ true) d e
   | inr j ↦ before_trans (stamp_of x) (stamp_of y) (stamp_of z) e (r.0 z j)
@@ -107,15 +107,15 @@ pub seen_push : (ops : List Operation) (order : List ℕ) (place : ℕ) → newe
 seen_push ops [] place = refl
 seen_push ops (first ∷ order) place = ap (λ xs. xs ++ op_at ops first ∷ []) (seen_push ops order place)
 
-pub has_end : (set : List Operation) (q x : Operation) → Has set x ⊎ (q ≡ x) → Has (set ++ q ∷ []) x
+pub has_end : (set : List Operation) (q x : Operation) → HasOp set x ⊎ (q ≡ x) → HasOp (set ++ q ∷ []) x
 has_end [] q x h = elim h [ inl i ↦ absurd i | inr e ↦ inl e ]
 has_end (y ∷ set) q x h = elim h [ inl i ↦ elim i [ inl e ↦ inl e | inr j ↦ inr (has_end set q x (inl j)) ] | inr e ↦ inr (has_end set q x (inr e)) ]
 
-pub end_has : (set : List Operation) (q x : Operation) → Has (set ++ q ∷ []) x → Has set x ⊎ (q ≡ x)
+pub end_has : (set : List Operation) (q x : Operation) → HasOp (set ++ q ∷ []) x → HasOp set x ⊎ (q ≡ x)
 end_has [] q x h = elim h [ inl e ↦ inr e | inr i ↦ absurd i ]
 end_has (y ∷ set) q x h = elim h [ inl e ↦ inl (inl e) | inr i ↦ elim (end_has set q x i) [ inl j ↦ inl (inr j) | inr e ↦ inr e ] ]
 
-pub seen_has : (ops : List Operation) (order : List ℕ) (x : Operation) → Has (newest_first ops order) x ↔ Has (ops_at ops order) x
+pub seen_has : (ops : List Operation) (order : List ℕ) (x : Operation) → HasOp (newest_first ops order) x ↔ HasOp (ops_at ops order) x
 seen_has ops [] x = (λ h. h, λ h. h)
 seen_has ops (place ∷ order) x = (
   λ h. elim (end_has (newest_first ops order) (op_at ops place) x h) [ inl i ↦ inr ((seen_has ops order x).0 i) | inr e ↦ inl e ],
@@ -152,7 +152,7 @@ merging_rest one other ops order (place ∷ rest) m =
     (subst (λ xs. Merging one other xs (ops_at ops rest) []) (sym (seen_push ops order place)) (take_left one other (newest_first ops order) (op_at ops place) (ops_at ops rest) [] m (λ y i. absurd i))))
 
 -- a site's known end is the last count of one of its operations
-pub end_from : (set : List Operation) (site n : ℕ) → n < known_end set site → (p : Operation) × Has set p × (p.site ≡ site) × (n < last_count p)
+pub end_from : (set : List Operation) (site n : ℕ) → n < known_end set site → (p : Operation) × HasOp set p × (p.site ≡ site) × (n < last_count p)
 end_from [] site n h = absurd (omega arith)
 end_from (q ∷ set) site n h = split (nat_lt n (known_end set site))
     (λ e. let (p, i, s, l) = end_from set site n (grind (arith, nat_tests)) in (p, inr i, s, l))
@@ -162,7 +162,7 @@ end_from (q ∷ set) site n h = split (nat_lt n (known_end set site))
     own q rest h e = (grind (arith, nat_tests), grind (arith, nat_tests))
 
 -- a newer operation that goes on from below the known end clashes
-pub clash_below : (set : List Operation) (op : Operation) → IsFalling (op ∷ set) → op.prev < known_end set op.site → (p : Operation) × Has set p × (clash p op ≡ true)
+pub clash_below : (set : List Operation) (op : Operation) → IsFalling (op ∷ set) → op.prev < known_end set op.site → (p : Operation) × HasOp set p × (clash p op ≡ true)
 clash_below set op f h =
     let (p, i, s, l) = end_from set op.site op.prev h in
     let b = member_before op p set f.0 i in
@@ -203,7 +203,7 @@ pub falling_after : (xs ys : List Operation) → IsFalling (xs ++ ys) → IsFall
 falling_after [] ys h = h
 falling_after (x ∷ xs) ys h = falling_after xs ys h.1
 
-pub has_after : (xs ys : List Operation) (x : Operation) → Has ys x → Has (xs ++ ys) x
+pub has_after : (xs ys : List Operation) (x : Operation) → HasOp ys x → HasOp (xs ++ ys) x
 has_after [] ys x h = h
 has_after (y ∷ xs) ys x h = inr (has_after xs ys x h)
 
@@ -213,8 +213,8 @@ seen_parts ops order i = ap (newest_first ops) (sym (take-append-drop i order)) 
 falling_take : (ops : List Operation) (order : List ℕ) (i : ℕ) → IsFalling (newest_first ops order) → IsFalling (newest_first ops (take i order))
 falling_take ops order i f = falling_after (newest_first ops (drop i order)) (newest_first ops (take i order)) (subst IsFalling (seen_parts ops order i) f)
 
-has_take : (ops : List Operation) (order : List ℕ) (i : ℕ) (x : Operation) → Has (newest_first ops (take i order)) x → Has (newest_first ops order) x
-has_take ops order i x h = subst (λ s. Has s x) (sym (seen_parts ops order i)) (has_after (newest_first ops (drop i order)) (newest_first ops (take i order)) x h)
+has_take : (ops : List Operation) (order : List ℕ) (i : ℕ) (x : Operation) → HasOp (newest_first ops (take i order)) x → HasOp (newest_first ops order) x
+has_take ops order i x h = subst (λ s. HasOp s x) (sym (seen_parts ops order i)) (has_after (newest_first ops (drop i order)) (newest_first ops (take i order)) x h)
 
 pub within_push : (n place : ℕ) (order : List ℕ) → AllByRecursion (λ k. k < n) order → place < n → AllByRecursion (λ k. k < n) (order ++ place ∷ [])
 within_push n place [] h l = (l, tt)
@@ -239,8 +239,8 @@ seen_next ops order i h = ap (newest_first ops) (take_more order i 0 h) ∙ seen
 
 -- one more operation, and its end
 
-pub kept_step : (ops : List Operation) (order : List ℕ) (i : ℕ) (ends more : List SiteEnd) (op : Operation) → i < length order → op ≡ op_at ops (get_or order i 0)
-    → AllByRecursion (λ place. place < length ops) order → IsFalling (newest_first ops order) → ((x : Operation) → Has (newest_first ops order) x → has_bad_stamp x ≡ false)
+pub kept_step : (ops : List Operation) (order : List ℕ) (i : ℕ) (ends more : Ends) (op : Operation) → i < length order → op ≡ op_at ops (get_or order i 0)
+    → AllByRecursion (λ place. place < length ops) order → IsFalling (newest_first ops order) → ((x : Operation) → HasOp (newest_first ops order) x → has_bad_stamp x ≡ false)
     → IsKept ops (take i order) ends → end_in ends op.site ≤ op.prev → ((s : ℕ) → end_in more s ≡ cond (op.site == s) (max (last_count op) (end_in ends s)) (end_in ends s))
     → IsKept ops (take (i + 1) order) more
 kept_step ops order i ends more op h e w f s k l m =
@@ -254,19 +254,19 @@ kept_step ops order i ends more op h e w f s k l m =
       known = λ site. m site ∙ ap (λ n. cond (op.site == site) (max (last_count op) n) n) (k.known site) ∙ ap (λ xs. known_end xs site) (sym seen);
     }
 
-pub clash_step : (ops : List Operation) (order : List ℕ) (i : ℕ) (ends : List SiteEnd) (op : Operation) → i < length order → op ≡ op_at ops (get_or order i 0)
+pub clash_step : (ops : List Operation) (order : List ℕ) (i : ℕ) (ends : Ends) (op : Operation) → i < length order → op ≡ op_at ops (get_or order i 0)
     → IsFalling (newest_first ops order) → IsKept ops (take i order) ends → op.prev < end_in ends op.site → HasClashOf (newest_first ops order) (newest_first ops order)
 clash_step ops order i ends op h e f k l =
     let set = newest_first ops (take i order) in
     let seen : newest_first ops (take (i + 1) order) ≡ op ∷ set = seen_next ops order i h ∙ ap (λ y. y ∷ set) (sym e) in
     let below : op.prev < known_end set op.site = let a = k.known op.site in omega arith in
     let (p, j, c) = clash_below set op (subst IsFalling seen (falling_take ops order (i + 1) f)) below in
-    (p, op, inl (has_take ops order i p j), inl (subst (λ y. Has (newest_first ops order) y) (sym e) (at_has ops order i 0 h)), c)
+    (p, op, inl (has_take ops order i p j), inl (subst (λ y. HasOp (newest_first ops order) y) (sym e) (at_has ops order i 0 h)), c)
 
 pub ops_drop : (ops : List Operation) (order : List ℕ) (i : ℕ) → i < length order → ops_at ops (drop i order) ≡ op_at ops (get_or order i 0) ∷ ops_at ops (drop (i + 1) order)
 ops_drop ops order i h = ap (ops_at ops) (drop-cons order i 0 h ∙ ap (λ n. get_or order i 0 ∷ drop n order) (sym (add-one i)))
 
-pub kept_none : (ops : List Operation) (ends : List SiteEnd) → ((s : ℕ) → end_in ends s ≡ 0) → IsKept ops [] ends
+pub kept_none : (ops : List Operation) (ends : Ends) → ((s : ℕ) → end_in ends s ≡ 0) → IsKept ops [] ends
 kept_none ops ends e = record {
   within = tt;
   log = record { falling = tt; sound = λ op i. absurd i; free = λ p q i j. absurd i };

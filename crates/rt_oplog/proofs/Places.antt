@@ -9,10 +9,10 @@ use Rattle.std.proofs.lemmas.List.Folds.{list_any-append}
 use Rattle.rt_stamps.specs.declared.stamp.Stamp.{Stamp}
 use Rattle.rt_stamps.specs.Stamps.{is_before, is_same}
 use Rattle.rt_stamps.proofs.Order.{before_trans, differ}
-use Rattle.rt_oplog.specs.declared.ends.SiteEnd.{SiteEnd}
+use Rattle.rt_oplog.specs.declared.ends.Ends.{Ends}
 use Rattle.rt_oplog.specs.Ends.{end_in}
 use Rattle.rt_ops.specs.Operations.{Operation, stamp_of, has_bad_stamp}
-use Rattle.rt_oplog.specs.Logs.{Has, same_operation, holds, clash, IsFalling, IsLog, with_operation, known_end}
+use Rattle.rt_oplog.specs.Logs.{HasOp, same_operation, holds, clash, IsFalling, IsLog, with_operation, known_end}
 use Rattle.rt_oplog.specs.Kept.{nothing, op_at, newest_first, leading, IsKept}
 use Rattle.rt_oplog.proofs.Sets.{split, operation_true, none_from}
 use Rattle.rt_oplog.proofs.Joins.{log_with, end_with}
@@ -31,24 +31,24 @@ pub falling_front : (set : List Operation) (q : Operation) → IsFalling (set ++
 falling_front [] q h = tt
 falling_front (x ∷ set) q h = ((all_front (λ y. is_before (stamp_of y) (stamp_of x) ≡ true) set q h.0).0, falling_front set q h.1)
 
-pub oldest_before : (set : List Operation) (q x : Operation) → IsFalling (set ++ q ∷ []) → Has set x → is_before (stamp_of q) (stamp_of x) ≡ true
+pub oldest_before : (set : List Operation) (q x : Operation) → IsFalling (set ++ q ∷ []) → HasOp set x → is_before (stamp_of q) (stamp_of x) ≡ true
 oldest_before [] q x h i = absurd i
 oldest_before (y ∷ set) q x h i = elim i [
   | inl e ↦ subst (λ z. is_before (stamp_of q) (stamp_of z) ≡ true) e (all_front (λ z. is_before (stamp_of z) (stamp_of y) ≡ true) set q h.0).1
   | inr j ↦ oldest_before set q x h.1 j
 ]
 
-has_front : (set : List Operation) (q x : Operation) → Has set x → Has (set ++ q ∷ []) x
+has_front : (set : List Operation) (q x : Operation) → HasOp set x → HasOp (set ++ q ∷ []) x
 has_front [] q x h = absurd h
 has_front (y ∷ set) q x h = elim h [ inl e ↦ inl e | inr i ↦ inr (has_front set q x i) ]
 
-has_last : (set : List Operation) (q : Operation) → Has (set ++ q ∷ []) q
+has_last : (set : List Operation) (q : Operation) → HasOp (set ++ q ∷ []) q
 has_last [] q = inl refl
 has_last (y ∷ set) q = inr (has_last set q)
 
 -- what a place of the order has
 
-pub at_has : (ops : List Operation) (order : List ℕ) (j d : ℕ) → j < length order → Has (newest_first ops order) (op_at ops (get_or order j d))
+pub at_has : (ops : List Operation) (order : List ℕ) (j d : ℕ) → j < length order → HasOp (newest_first ops order) (op_at ops (get_or order j d))
 at_has ops [] j d h = absurd (omega arith)
 at_has ops (place ∷ order) zero d h = has_last (newest_first ops order) (op_at ops place)
 at_has ops (place ∷ order) (suc j) d h = has_front (newest_first ops order) (op_at ops place) _ (at_has ops order j d (omega arith))
@@ -76,7 +76,7 @@ leading_le p [] = omega arith
 leading_le p (x ∷ xs) = let r = leading_le p xs in split (p x) (λ e. rw e (omega arith)) (λ e. rw e (omega arith))
 
 -- the oldest operation is not before a stamp, so none is
-none_earlier : (set : List Operation) (q : Operation) (stamp : Stamp) → IsFalling (set ++ q ∷ []) → is_before (stamp_of q) stamp ≡ false → (x : Operation) → Has set x → is_before (stamp_of x) stamp ≡ false
+none_earlier : (set : List Operation) (q : Operation) (stamp : Stamp) → IsFalling (set ++ q ∷ []) → is_before (stamp_of q) stamp ≡ false → (x : Operation) → HasOp set x → is_before (stamp_of x) stamp ≡ false
 none_earlier set q stamp f e x i = split (is_before (stamp_of x) stamp)
     (λ h. let k = before_trans (stamp_of q) (stamp_of x) stamp (oldest_before set q x f i) h in absurd (cc (k, e)))
     (λ h. h)
@@ -89,17 +89,17 @@ with_newer op q (x ∷ set) h = split (is_before (stamp_of x) (stamp_of op))
     (λ e. rw e refl)
     (λ e. rw e (ap (λ xs. x ∷ xs) (with_newer op q set h)))
 
-with_oldest : (op : Operation) (set : List Operation) → ((x : Operation) → Has set x → is_before (stamp_of x) (stamp_of op) ≡ false) → with_operation op set ≡ set ++ op ∷ []
+with_oldest : (op : Operation) (set : List Operation) → ((x : Operation) → HasOp set x → is_before (stamp_of x) (stamp_of op) ≡ false) → with_operation op set ≡ set ++ op ∷ []
 with_oldest op [] h = refl
 with_oldest op (x ∷ set) h = let e = h x (inl refl) in rw e (ap (λ xs. x ∷ xs) (with_oldest op set (λ y i. h y (inr i))))
 
-earlier_none : (set : List Operation) (q op : Operation) → IsFalling (set ++ q ∷ []) → is_before (stamp_of q) (stamp_of op) ≡ false → (x : Operation) → Has (set ++ q ∷ []) x → is_before (stamp_of x) (stamp_of op) ≡ false
+earlier_none : (set : List Operation) (q op : Operation) → IsFalling (set ++ q ∷ []) → is_before (stamp_of q) (stamp_of op) ≡ false → (x : Operation) → HasOp (set ++ q ∷ []) x → is_before (stamp_of x) (stamp_of op) ≡ false
 earlier_none set q op f e x i = elim (front_or_last set q x i) [
   | inl j ↦ none_earlier set q (stamp_of op) f e x j
   | inr d ↦ subst (λ y. is_before (stamp_of y) (stamp_of op) ≡ false) d e
 ]
   where
-    front_or_last : (set : List Operation) (q x : Operation) → Has (set ++ q ∷ []) x → Has set x ⊎ (q ≡ x)
+    front_or_last : (set : List Operation) (q x : Operation) → HasOp (set ++ q ∷ []) x → HasOp set x ⊎ (q ≡ x)
     front_or_last [] q x h = elim h [ inl d ↦ inr d | inr j ↦ absurd j ]
     front_or_last (y ∷ set) q x h = elim h [ inl d ↦ inl (inl d) | inr j ↦ elim (front_or_last set q x j) [ inl k ↦ inl (inr k) | inr d ↦ inr d ] ]
 
@@ -190,7 +190,7 @@ kept_seen ops order op w f =
     ∙ ap (with_operation op) same
 
 -- an operation that a log can take, put in
-pub kept_with : (ops : List Operation) (order : List ℕ) (ends more : List SiteEnd) (op : Operation) → IsKept ops order ends → has_bad_stamp op ≡ false
+pub kept_with : (ops : List Operation) (order : List ℕ) (ends more : Ends) (op : Operation) → IsKept ops order ends → has_bad_stamp op ≡ false
     → holds (newest_first ops order) op ≡ false → list_any (clash op) (newest_first ops order) ≡ false → ((s : ℕ) → end_in more s ≡ known_end (op ∷ newest_first ops order) s)
     → IsKept (ops ++ op ∷ []) (insert order (leading (is_earlier ops (stamp_of op)) order) (length ops)) more
 kept_with ops order ends more op k s n f e =
@@ -204,7 +204,7 @@ kept_with ops order ends more op k s n f e =
     }
 
 -- an operation that a log can take, and that stands at a place already
-pub kept_at : (ops : List Operation) (order : List ℕ) (ends more : List SiteEnd) (op : Operation) (place : ℕ) → IsKept ops order ends → op_at ops place ≡ op → place < length ops → has_bad_stamp op ≡ false
+pub kept_at : (ops : List Operation) (order : List ℕ) (ends more : Ends) (op : Operation) (place : ℕ) → IsKept ops order ends → op_at ops place ≡ op → place < length ops → has_bad_stamp op ≡ false
     → holds (newest_first ops order) op ≡ false → list_any (clash op) (newest_first ops order) ≡ false → ((s : ℕ) → end_in more s ≡ known_end (op ∷ newest_first ops order) s)
     → IsKept ops (insert order (leading (is_earlier ops (stamp_of op)) order) place) more
 kept_at ops order ends more op place k is here s n f e =

@@ -10,7 +10,7 @@ use Rattle.rt_stamps.specs.declared.stamp.Stamp.{Stamp}
 use Rattle.rt_stamps.specs.Stamps.{is_before, is_same}
 use Rattle.rt_stamps.proofs.Order.{before_trans, before_irrefl, before_total, same_refl, same_from_true}
 use Rattle.rt_ops.specs.Operations.{Name, Body, Insert, Delete, Tag, Operation, stamp_of, last_of, has_bad_stamp}
-use Rattle.rt_oplog.specs.Logs.{Has, same_bool, same_span, same_body, same_operation, holds, reaches_into, clash, IsFalling, with_operation, added, union, has_clash}
+use Rattle.rt_oplog.specs.Logs.{HasOp, same_bool, same_span, same_body, same_operation, holds, reaches_into, clash, IsFalling, with_operation, added, union, has_clash}
 
 pub split : {A : Type 0} (b : Bool) → (b ≡ true → A) → (b ≡ false → A) → A
 split true f g = f refl
@@ -135,50 +135,50 @@ apart p q h s f = split (is_same (stamp_of p) (stamp_of q))
 
 -- members
 
-pub has_with : (op : Operation) (set : List Operation) (x : Operation) → Has (with_operation op set) x → (op ≡ x) ⊎ Has set x
+pub has_with : (op : Operation) (set : List Operation) (x : Operation) → HasOp (with_operation op set) x → (op ≡ x) ⊎ HasOp set x
 has_with op [] x h = h
 has_with op (q ∷ older) x h =
-    (elim (is_before (stamp_of q) (stamp_of op)) as (λ t. Has (cond t (op ∷ (q ∷ older)) (q ∷ with_operation op older)) x → (op ≡ x) ⊎ ((q ≡ x) ⊎ Has older x)) [
+    (elim (is_before (stamp_of q) (stamp_of op)) as (λ t. HasOp (cond t (op ∷ (q ∷ older)) (q ∷ with_operation op older)) x → (op ≡ x) ⊎ ((q ≡ x) ⊎ HasOp older x)) [
       | true ↦ λ k. k
       | false ↦ λ k. elim k [ inl e ↦ inr (inl e) | inr i ↦ elim (has_with op older x i) [ inl e ↦ inl e | inr j ↦ inr (inr j) ] ]
     ]) h
 
-pub with_has : (op : Operation) (set : List Operation) (x : Operation) → (op ≡ x) ⊎ Has set x → Has (with_operation op set) x
+pub with_has : (op : Operation) (set : List Operation) (x : Operation) → (op ≡ x) ⊎ HasOp set x → HasOp (with_operation op set) x
 with_has op [] x h = h
 with_has op (q ∷ older) x h =
-    elim (is_before (stamp_of q) (stamp_of op)) as (λ t. Has (cond t (op ∷ (q ∷ older)) (q ∷ with_operation op older)) x) [
+    elim (is_before (stamp_of q) (stamp_of op)) as (λ t. HasOp (cond t (op ∷ (q ∷ older)) (q ∷ with_operation op older)) x) [
       | true ↦ h
       | false ↦ elim h [ inl e ↦ inr (with_has op older x (inl e)) | inr i ↦ elim i [ inl e ↦ inl e | inr j ↦ inr (with_has op older x (inr j)) ] ]
     ]
 
-pub has_held : (set : List Operation) (op : Operation) → holds set op ≡ true → Has set op
+pub has_held : (set : List Operation) (op : Operation) → holds set op ≡ true → HasOp set op
 has_held [] op h = absurd (cc h)
 has_held (q ∷ older) op h = split (same_operation q op) (λ e. inl (operation_true q op e)) (λ e. inr (has_held older op (grind (arith, h, e))))
 
-pub held_from : (set : List Operation) (op : Operation) → Has set op → holds set op ≡ true
+pub held_from : (set : List Operation) (op : Operation) → HasOp set op → holds set op ≡ true
 held_from [] op h = absurd h
 held_from (q ∷ older) op h = elim h [
   | inl e ↦ (let p : same_operation q op ≡ true = rw e (operation_refl op) in grind (arith, p))
   | inr i ↦ (let p = held_from older op i in grind (arith, p))
 ]
 
-pub has_added : (op : Operation) (set : List Operation) (x : Operation) → Has (added op set) x → (op ≡ x) ⊎ Has set x
-has_added op set x h = (elim (holds set op) as (λ t. Has (cond t set (with_operation op set)) x → (op ≡ x) ⊎ Has set x) [ true ↦ λ k. inr k | false ↦ has_with op set x ]) h
+pub has_added : (op : Operation) (set : List Operation) (x : Operation) → HasOp (added op set) x → (op ≡ x) ⊎ HasOp set x
+has_added op set x h = (elim (holds set op) as (λ t. HasOp (cond t set (with_operation op set)) x → (op ≡ x) ⊎ HasOp set x) [ true ↦ λ k. inr k | false ↦ has_with op set x ]) h
 
-pub added_has : (op : Operation) (set : List Operation) (x : Operation) → (op ≡ x) ⊎ Has set x → Has (added op set) x
-added_has op set x h = (elim (holds set op) as (λ t. holds set op ≡ t → Has (cond t set (with_operation op set)) x) [
-  | true ↦ λ e. elim h [ inl i ↦ subst (Has set) i (has_held set op e) | inr j ↦ j ]
+pub added_has : (op : Operation) (set : List Operation) (x : Operation) → (op ≡ x) ⊎ HasOp set x → HasOp (added op set) x
+added_has op set x h = (elim (holds set op) as (λ t. holds set op ≡ t → HasOp (cond t set (with_operation op set)) x) [
+  | true ↦ λ e. elim h [ inl i ↦ subst (HasOp set) i (has_held set op e) | inr j ↦ j ]
   | false ↦ λ e. with_has op set x h
 ]) refl
 
-pub has_union : (one other : List Operation) (x : Operation) → Has (union one other) x → Has one x ⊎ Has other x
+pub has_union : (one other : List Operation) (x : Operation) → HasOp (union one other) x → HasOp one x ⊎ HasOp other x
 has_union [] other x h = inr h
 has_union (op ∷ set) other x h = elim (has_added op (union set other) x h) [
   | inl e ↦ inl (inl e)
   | inr i ↦ elim (has_union set other x i) [ inl j ↦ inl (inr j) | inr j ↦ inr j ]
 ]
 
-pub union_has : (one other : List Operation) (x : Operation) → Has one x ⊎ Has other x → Has (union one other) x
+pub union_has : (one other : List Operation) (x : Operation) → HasOp one x ⊎ HasOp other x → HasOp (union one other) x
 union_has [] other x h = elim h [ inl i ↦ absurd i | inr j ↦ j ]
 union_has (op ∷ set) other x h = added_has op (union set other) x (elim h [
   | inl i ↦ elim i [ inl e ↦ inl e | inr j ↦ inr (union_has set other x (inl j)) ]
@@ -187,26 +187,26 @@ union_has (op ∷ set) other x h = added_has op (union set other) x (elim h [
 
 -- tests of all pairs
 
-pub any_at : (p : Operation → Bool) (set : List Operation) (x : Operation) → Has set x → p x ≡ true → list_any p set ≡ true
+pub any_at : (p : Operation → Bool) (set : List Operation) (x : Operation) → HasOp set x → p x ≡ true → list_any p set ≡ true
 any_at p [] x h e = absurd h
 any_at p (q ∷ older) x h e = elim h [
   | inl i ↦ (let k : p q ≡ true = rw i e in rw k)
   | inr j ↦ (let k = any_at p older x j e in grind (arith, k))
 ]
 
-pub none_at : (p : Operation → Bool) (set : List Operation) (x : Operation) → list_any p set ≡ false → Has set x → p x ≡ false
+pub none_at : (p : Operation → Bool) (set : List Operation) (x : Operation) → list_any p set ≡ false → HasOp set x → p x ≡ false
 none_at p set x h i = split (p x) (λ e. let k = any_at p set x i e in absurd (cc (k, h))) (λ e. e)
 
-pub any_from : (p : Operation → Bool) (set : List Operation) → list_any p set ≡ true → (x : Operation) × Has set x × (p x ≡ true)
+pub any_from : (p : Operation → Bool) (set : List Operation) → list_any p set ≡ true → (x : Operation) × HasOp set x × (p x ≡ true)
 any_from p [] h = absurd (cc h)
 any_from p (q ∷ older) h = split (p q)
     (λ e. (q, inl refl, e))
     (λ e. let (x, i, k) = any_from p older (grind (arith, h, e)) in (x, inr i, k))
 
-pub none_from : (p : Operation → Bool) (set : List Operation) → ((x : Operation) → Has set x → p x ≡ false) → list_any p set ≡ false
+pub none_from : (p : Operation → Bool) (set : List Operation) → ((x : Operation) → HasOp set x → p x ≡ false) → list_any p set ≡ false
 none_from p set f = split (list_any p set) (λ e. let (x, i, k) = any_from p set e in let l = f x i in absurd (cc (k, l))) (λ e. e)
 
-pub clash_in : (set : List Operation) (p q : Operation) → Has set p → Has set q → clash p q ≡ true → has_clash set ≡ true
+pub clash_in : (set : List Operation) (p q : Operation) → HasOp set p → HasOp set q → clash p q ≡ true → has_clash set ≡ true
 clash_in [] p q h k c = absurd h
 clash_in (op ∷ older) p q h k c = elim h [
   | inl e ↦ elim k [
@@ -219,13 +219,13 @@ clash_in (op ∷ older) p q h k c = elim h [
   ]
 ]
 
-pub clash_from : (set : List Operation) → has_clash set ≡ true → (p : Operation) × (q : Operation) × Has set p × Has set q × (clash p q ≡ true)
+pub clash_from : (set : List Operation) → has_clash set ≡ true → (p : Operation) × (q : Operation) × HasOp set p × HasOp set q × (clash p q ≡ true)
 clash_from [] h = absurd (cc h)
 clash_from (op ∷ older) h = split (list_any (clash op) older)
     (λ e. let (x, i, k) = any_from (clash op) older e in (op, x, inl refl, inr i, k))
     (λ e. let (p, q, i, j, k) = clash_from older (grind (arith, h, e)) in (p, q, inr i, inr j, k))
 
-pub free_from : (set : List Operation) → has_clash set ≡ false → (p q : Operation) → Has set p → Has set q → clash p q ≡ false
+pub free_from : (set : List Operation) → has_clash set ≡ false → (p q : Operation) → HasOp set p → HasOp set q → clash p q ≡ false
 free_from set h p q i j = split (clash p q) (λ e. let k = clash_in set p q i j e in absurd (cc (k, h))) (λ e. e)
 
 -- the order
@@ -242,34 +242,34 @@ all_before s t h [] k = tt
 all_before s t h (q ∷ older) k = (before_trans (stamp_of q) s t k.0 h, all_before s t h older k.1)
 
 -- an operation of another stamp finds its place
-pub falling_with : (op : Operation) (set : List Operation) → IsFalling set → ((x : Operation) → Has set x → is_same (stamp_of x) (stamp_of op) ≡ false) → IsFalling (with_operation op set)
+pub falling_with : (op : Operation) (set : List Operation) → IsFalling set → ((x : Operation) → HasOp set x → is_same (stamp_of x) (stamp_of op) ≡ false) → IsFalling (with_operation op set)
 falling_with op [] h f = (tt, tt)
 falling_with op (q ∷ older) h f = split (is_before (stamp_of q) (stamp_of op))
     (λ e. rw e ((e, all_before (stamp_of q) (stamp_of op) e older h.0), h))
     (λ e. let b = before_total (stamp_of q) (stamp_of op) e (f q (inl refl)) in
     rw e (all_with (λ x. is_before (stamp_of x) (stamp_of q) ≡ true) op b older h.0, falling_with op older h.1 (λ x i. f x (inr i))))
 
-pub member_before : (op x : Operation) (older : List Operation) → AllByRecursion (λ q. is_before (stamp_of q) (stamp_of op) ≡ true) older → Has older x → is_before (stamp_of x) (stamp_of op) ≡ true
+pub member_before : (op x : Operation) (older : List Operation) → AllByRecursion (λ q. is_before (stamp_of q) (stamp_of op) ≡ true) older → HasOp older x → is_before (stamp_of x) (stamp_of op) ≡ true
 member_before op x [] h k = absurd k
 member_before op x (q ∷ older) h k = elim k [ inl e ↦ subst (λ p. is_before (stamp_of p) (stamp_of op) ≡ true) e h.0 | inr i ↦ member_before op x older h.1 i ]
 
 not_itself : (s : Stamp) → is_before s s ≡ true → ⊥
 not_itself s h = let i = before_irrefl s in cc (h, i)
 
-same_head : (a b : Operation) (us bs : List Operation) → IsFalling (a ∷ us) → IsFalling (b ∷ bs) → Has (b ∷ bs) a → Has (a ∷ us) b → a ≡ b
+same_head : (a b : Operation) (us bs : List Operation) → IsFalling (a ∷ us) → IsFalling (b ∷ bs) → HasOp (b ∷ bs) a → HasOp (a ∷ us) b → a ≡ b
 same_head a b us bs h k i j = elim i [
   | inl e ↦ sym e
   | inr m ↦ elim j [ inl e ↦ e | inr n ↦ absurd (not_itself (stamp_of a) (before_trans (stamp_of a) (stamp_of b) (stamp_of a) (member_before b a bs k.0 m) (member_before a b us h.0 n))) ]
 ]
 
-rest_in : (a b : Operation) (us bs : List Operation) → IsFalling (a ∷ us) → a ≡ b → ((x : Operation) → Has (a ∷ us) x → Has (b ∷ bs) x) → (x : Operation) → Has us x → Has bs x
+rest_in : (a b : Operation) (us bs : List Operation) → IsFalling (a ∷ us) → a ≡ b → ((x : Operation) → HasOp (a ∷ us) x → HasOp (b ∷ bs) x) → (x : Operation) → HasOp us x → HasOp bs x
 rest_in a b us bs h e f x m = elim (f x (inr m)) [
   | inl i ↦ absurd (not_itself (stamp_of a) (subst (λ p. is_before (stamp_of p) (stamp_of a) ≡ true) (sym (e ∙ i)) (member_before a x us h.0 m)))
   | inr n ↦ n
 ]
 
 -- by falling stamp a set is one list
-pub same_set : (us bs : List Operation) → IsFalling us → IsFalling bs → ((x : Operation) → Has us x ↔ Has bs x) → us ≡ bs
+pub same_set : (us bs : List Operation) → IsFalling us → IsFalling bs → ((x : Operation) → HasOp us x ↔ HasOp bs x) → us ≡ bs
 same_set [] [] h k f = refl
 same_set [] (b ∷ bs) h k f = absurd ((f b).1 (inl refl))
 same_set (a ∷ us) [] h k f = absurd ((f a).0 (inl refl))

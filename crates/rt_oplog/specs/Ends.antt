@@ -1,17 +1,19 @@
 -- The known ends of sites, as they are kept.
-use Rattle.std.specs.Prelude.{ℕ, nat_lt, ◌==◌, Bool, true, ◌&&◌, List, [], ◌∷◌, if◌then◌else◌}
-use Rattle.std.specs.List.{list_all}
-use Rattle.rt_oplog.specs.declared.ends.SiteEnd.{SiteEnd}
+use Rattle.std.specs.Prelude.{ℕ, ◌-◌, ◌^◌, ◌==◌, Option, Some, None, min, if◌then◌else◌}
+use Rattle.rt_spans.specs.Shown.{Shown, value_of}
+use Rattle.rt_oplog.specs.declared.ends.Ends.{Ends}
 
-abbrev pub end_in : List SiteEnd → ℕ → ℕ
-end_in [] site = 0
-end_in (end ∷ ends) site = if end.site == site then end.last else end_in ends site
+-- what a map has at a site's stamp of count 0, or 0
+abbrev pub end_found : Option ℕ → ℕ
+end_found (Some last) = last
+end_found None = 0
 
--- the sites rise strictly
-abbrev pub are_rising : List SiteEnd → Bool
-are_rising [] = true
-are_rising (end ∷ ends) = list_all (λ e. nat_lt end.site e.site) ends && are_rising ends
+abbrev pub end_kept : Shown ℕ → ℕ → ℕ
+end_kept ends site = end_found (value_of ends (record { count = 0; site = site }))
 
--- of a lesser site
-abbrev pub is_lower : ℕ → SiteEnd → Bool
-is_lower site end = nat_lt end.site site
+abbrev pub end_in : Ends → ℕ → ℕ
+end_in ends site = if ends.latest.site == site then ends.latest.last else end_kept ends.others site
+
+-- so many more sites take no memory, of all that there are
+abbrev pub room_for : Ends → ℕ
+room_for ends = min ends.others.room (2 ^ 32 - 1)

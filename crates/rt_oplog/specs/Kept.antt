@@ -1,7 +1,7 @@
 -- A log as it is kept: the operations as they came, and their places by rising stamp.
 use Rattle.std.specs.Prelude.{◌≡◌, ℕ, suc, ◌<◌, Bool, List, [], ◌∷◌, ◌++◌, length, slice_index_or, if◌then◌else◌}
 use Rattle.std.specs.List.{AllByRecursion}
-use Rattle.rt_oplog.specs.declared.ends.SiteEnd.{SiteEnd}
+use Rattle.rt_oplog.specs.declared.ends.Ends.{Ends}
 use Rattle.rt_ops.specs.Operations.{Operation, Delete}
 use Rattle.rt_oplog.specs.Logs.{IsLog, known_end}
 use Rattle.rt_oplog.specs.Ends.{end_in}
@@ -23,7 +23,7 @@ abbrev pub leading : {A : Type 0} → (A → Bool) → List A → ℕ
 leading p [] = 0
 leading p (x ∷ xs) = if p x then suc (leading p xs) else 0
 
-pub record IsKept (ops : List Operation) (order : List ℕ) (ends : List SiteEnd) : Type 0 where
+pub record IsKept (ops : List Operation) (order : List ℕ) (ends : Ends) : Type 0 where
   pub within : AllByRecursion (λ place. place < length ops) order
   pub log : IsLog (newest_first ops order)
   pub known : (site : ℕ) → end_in ends site ≡ known_end (newest_first ops order) site

@@ -12,13 +12,13 @@ use Rattle.rt_stamps.specs.Stamps.{is_before, is_same}
 use Rattle.rt_ops.specs.Operations.{Body, Insert, Delete, Tag, Operation, stamp_of, last_count, has_bad_stamp}
 
 -- the set has the operation
-abbrev pub Has : List Operation → Operation → Type 0
-Has [] op = ⊥
-Has (q ∷ older) op = (q ≡ op) ⊎ Has older op
+abbrev pub HasOp : List Operation → Operation → Type 0
+HasOp [] op = ⊥
+HasOp (q ∷ older) op = (q ≡ op) ⊎ HasOp older op
 
 -- two lists have the same operations, in whatever order and with whatever repeats
 abbrev pub AreOf : List Operation → List Operation → Type 0
-AreOf ops set = (op : Operation) → Has ops op ↔ Has set op
+AreOf ops set = (op : Operation) → HasOp ops op ↔ HasOp set op
 
 -- Tests of equality.
 
@@ -58,8 +58,8 @@ IsFalling (op ∷ older) = AllByRecursion (λ q. is_before (stamp_of q) (stamp_o
 -- a set of sound operations, no two of which clash
 pub record IsLog (set : List Operation) : Type 0 where
   pub falling : IsFalling set
-  pub sound : (op : Operation) → Has set op → has_bad_stamp op ≡ false
-  pub free : (p q : Operation) → Has set p → Has set q → clash p q ≡ false
+  pub sound : (op : Operation) → HasOp set op → has_bad_stamp op ≡ false
+  pub free : (p q : Operation) → HasOp set p → HasOp set q → clash p q ≡ false
 
 -- the set with one more operation
 abbrev pub with_operation : Operation → List Operation → List Operation
@@ -99,11 +99,11 @@ has_clash (op ∷ older) = list_any (clash op) older || has_clash older
 -- a log that has just the operations of both sets
 pub record IsUnion (one other set : List Operation) : Type 0 where
   pub log : IsLog set
-  pub members : (x : Operation) → Has set x ↔ (Has one x ⊎ Has other x)
+  pub members : (x : Operation) → HasOp set x ↔ (HasOp one x ⊎ HasOp other x)
 
 -- two operations of the two sets clash
 abbrev pub HasClashOf : List Operation → List Operation → Type 0
-HasClashOf one other = (p : Operation) × (q : Operation) × (Has one p ⊎ Has other p) × (Has one q ⊎ Has other q) × (clash p q ≡ true)
+HasClashOf one other = (p : Operation) × (q : Operation) × (HasOp one p ⊎ HasOp other p) × (HasOp one q ⊎ HasOp other q) × (clash p q ≡ true)
 
 -- the join of two logs: their union, if that is a log
 abbrev pub joined : List Operation → List Operation → Result (List Operation) Fault

@@ -1,8 +1,9 @@
 // The known ends of sites.
-ghost use Rattle.std.specs.Prelude.{◌≡◌, ℕ, ◌+◌, ◌==◌, ◌<◌, ◌≤◌, true, max, length, vec_len, vec_capacity, if◌then◌else◌, IsOk, OnOk};
-ghost use Rattle.rt_oplog.specs.Ends.{end_in, are_rising, is_lower};
-ghost use Rattle.rt_oplog.specs.Kept.{leading};
+ghost use Rattle.std.specs.Prelude.{◌≡◌, ℕ, ◌+◌, ◌==◌, ◌<◌, ◌≤◌, max, if◌then◌else◌, IsOk, OnOk};
+ghost use Rattle.rt_oplog.specs.Ends.{end_in, end_kept, room_for};
 
+use rt_spans::SpanMap;
+use rt_stamps::{Span, Stamp};
 use std::alloc::{AllocError, Global};
 
 /// A site and its known end.
@@ -12,78 +13,107 @@ pub(crate) struct SiteEnd {
     pub last: u64,
 }
 
-/// The known end of each site that has operations, by rising site.
+/// The known end of each site that has operations.
 #[derive(Drop)]
 pub(crate) struct Ends {
-    pub ends: Vec<SiteEnd>,
-    ghost rising: { are_rising ends.items ≡ true },
+    /// That of the site whose end was raised last, so that what one site does in a row looks nothing up.
+    pub latest: SiteEnd,
+    /// Those of the others, each at the site's stamp of count 0: a map that takes a further site at the cost of a logarithm,
+    /// in whatever order sites come.
+    pub others: SpanMap<u64>,
 }
 
-/// How many sites are lesser.
-#[inline(always)]
-fn sites_below(ends: &[SiteEnd], site: u32) -> usize
-    requires { are_rising ends.now ≡ true }
-    ensures place { result ≡ leading (is_lower site) ends.now }
-    ensures within { result ≤ length ends.now }
+/// The end of a site that is kept.
+fn kept(ends: &SpanMap<u64>, site: u32) -> u64
+    ensures { result ≡ end_kept ends.now site }
 {
-    ends.partition_point(|end| end.site < site)
+    match ends.get(Stamp { count: 0, site }) {
+        Some(last) => last,
+        None => 0,
+    }
+}
+
+/// Keeps the end of a site, where there is room for one.
+fn keep(ends: &mut SpanMap<u64>, end: SiteEnd)
+    requires { 0 < ends.old.room }
+    ensures ends { (site : ℕ) → end_kept ends.new site ≡ (if end.site == site then end.last else end_kept ends.old site) }
+    ensures room { ends.old.room ≤ ends.new.room + 1 }
+{
+    let span = Span {
+        site: end.site,
+        first: 0,
+        last: 0,
+    };
+    if !ends.repaint(span, end.last) {
+        ends.set(span, end.last);
+    }
 }
 
 impl Ends {
     /// No site.
     pub(crate) fn new(alloc: Global) -> Ends
-        ensures { (site : ℕ) → end_in result.ends.items site ≡ 0 }
+        ensures { (site : ℕ) → end_in result site ≡ 0 }
     {
         Ends {
-            ends: Vec::new(alloc),
+            latest: SiteEnd { site: 0, last: 0 },
+            others: SpanMap::new(alloc),
         }
     }
 
-    /// Room for so many more sites.
+    /// Room for so many more sites. An error where there are none so many, or a growth was refused.
     #[inline(always)]
     pub(crate) fn reserve(&mut self, more: usize) -> Result<(), AllocError>
-        ensures same { self.new.ends.items ≡ self.old.ends.items }
-        ensures ok { OnOk result (vec_len self.new.ends + more ≤ vec_capacity self.new.ends) }
-        ensures len { vec_len self.new.ends ≡ vec_len self.old.ends }
-        ensures capacity { vec_capacity self.old.ends ≤ vec_capacity self.new.ends }
-        ensures succeeds { vec_len self.old.ends + more ≤ vec_capacity self.old.ends → IsOk result }
+        ensures same { (site : ℕ) → end_in self.new site ≡ end_in self.old site }
+        ensures ok { OnOk result (more ≤ room_for self.new) }
+        ensures kept { room_for self.old ≤ room_for self.new }
+        ensures succeeds { more ≤ room_for self.old → IsOk result }
     {
-        self.ends.reserve(more)
+        if more > u32::MAX as usize {
+            return Err(AllocError);
+        }
+        match self.others.reserve(more) {
+            Ok(()) => Ok(()),
+            Err(_) => Err(AllocError),
+        }
     }
 
     /// The known end of a site, 0 if it has none.
+    #[inline(always)]
     pub(crate) fn get(&self, site: u32) -> u64
-        ensures { result ≡ end_in self.now.ends.items site }
+        ensures { result ≡ end_in self.now site }
     {
-        let place = sites_below(&self.ends, site);
-        if place < self.ends.len() && self.ends[place].site == site {
-            self.ends[place].last
+        if self.latest.site == site {
+            self.latest.last
         } else {
-            0
+            kept(&self.others, site)
         }
+    }
+
+    /// Makes a site the latest. There is room for one more site.
+    fn turn_to(&mut self, site: u32)
+        requires { 0 < room_for self.old }
+        ensures site { self.new.latest.site ≡ site }
+        ensures same { (s : ℕ) → end_in self.new s ≡ end_in self.old s }
+        ensures room { room_for self.old ≤ room_for self.new + 1 }
+    {
+        let last = self.get(site);
+        keep(&mut self.others, self.latest);
+        self.latest = SiteEnd { site, last };
     }
 
     /// A last count of a site, and what its known end was. There is room for one more site.
     #[inline(always)]
     pub(crate) fn raise(&mut self, site: u32, last: u64) -> u64
-        requires { vec_len self.old.ends < vec_capacity self.old.ends }
-        ensures known { result ≡ end_in self.old.ends.items site }
-        ensures ends { (s : ℕ) → end_in self.new.ends.items s
-            ≡ (if site == s then max last (end_in self.old.ends.items s) else end_in self.old.ends.items s) }
-        ensures capacity { vec_capacity self.new.ends ≡ vec_capacity self.old.ends }
-        ensures len { vec_len self.new.ends ≤ vec_len self.old.ends + 1 }
+        requires { 0 < room_for self.old }
+        ensures known { result ≡ end_in self.old site }
+        ensures ends { (s : ℕ) → end_in self.new s ≡ (if site == s then max last (end_in self.old s) else end_in self.old s) }
+        ensures room { room_for self.old ≤ room_for self.new + 1 }
     {
-        let place = sites_below(&self.ends, site);
-        if place < self.ends.len() && self.ends[place].site == site {
-            let known = self.ends[place].last;
-            self.ends[place] = SiteEnd {
-                site,
-                last: last.max(known),
-            };
-            known
-        } else {
-            let _added = self.ends.insert(place, SiteEnd { site, last });
-            0
+        if self.latest.site != site {
+            self.turn_to(site);
         }
+        let known = self.latest.last;
+        self.latest.last = last.max(known);
+        known
     }
 }

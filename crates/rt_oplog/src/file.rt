@@ -93,10 +93,10 @@ fn write_in<W: Sink>(alloc: Global, version: Version, log: &OpLog, out: &mut W) 
 }
 
 /// Writes the file of a log's operations by rising stamp, one record after the other, through a
-/// buffer of a record. It is of the first version where that has room for each operation: sites, also named
-/// ones, up to 65,535, and at most 64 tags of an Insert; else of the second. What was written reads as these
-/// operations (`read_file` takes files of at most `MOST_BYTES`). `NoMemory` where the buffer could not grow,
-/// `WriteFault` where a write failed; a front of the file was then written.
+/// buffer of a record. It is of the first version where that has room for each operation (`rt_ops::fits`), else of
+/// the second. What was written reads as these operations (`read_file` takes files of at most `MOST_BYTES`).
+/// `NoMemory` where the buffer could not grow, `WriteFault` where a write failed; a front of the file was then
+/// written.
 pub fn write_file<W: Sink>(alloc: Global, log: &OpLog, out: &mut W) -> Result<(), Fault>
     ensures writes { WritesBuffered (W.stream out.old) (W.stream out.new) result (spelling (reverse log.now.operations)) }
     ensures read_back { OnOk result

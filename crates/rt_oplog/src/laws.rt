@@ -3,14 +3,14 @@ ghost use Rattle.std.specs.Prelude.{◌≡◌, ◌↔◌, ℕ, true, List, rever
 ghost use Rattle.rt_stamps.specs.declared.fault.Fault.{Fault};
 ghost use Rattle.rt_stamps.specs.declared.fault.Fault.TheVariants.{Conflict};
 ghost use Rattle.rt_ops.specs.Operations.{Operation};
-ghost use Rattle.rt_oplog.specs.Logs.{Has, HasClashOf, IsLog, IsUnion, holds, joined, joins, same_operation};
+ghost use Rattle.rt_oplog.specs.Logs.{HasClashOf, HasOp, IsLog, IsUnion, holds, joined, joins, same_operation};
 ghost use Rattle.rt_oplog.specs.Outcomes.{IsLogOf, IsFirstRefused};
 
 /// The tests of operations say what they are named after: two operations are the same where they are equal, and a set
 /// holds one where it has it. This is so of any list of operations, whether it is a log or not.
 pub fn membership()
     ensures same { (a b : Operation) → (same_operation a b ≡ true) ↔ (a ≡ b) }
-    ensures holds { (set : List Operation) (op : Operation) → (holds set op ≡ true) ↔ Has set op }
+    ensures holds { (set : List Operation) (op : Operation) → (holds set op ≡ true) ↔ HasOp set op }
 {}
 
 /// The join of logs is the log that has just the operations of both; it is a Conflict exactly where two

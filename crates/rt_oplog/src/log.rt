@@ -43,6 +43,7 @@ pub struct Refused {
 
 impl Model for OpLog {
     ghost use Rattle.std.specs.Prelude.{◌-◌, min, vec_len, vec_capacity};
+    ghost use Rattle.rt_oplog.specs.Ends.{room_for};
     ghost use Rattle.rt_oplog.specs.Outcomes.{Log};
 
     ghost Value = { Log };
@@ -51,10 +52,10 @@ impl Model for OpLog {
 
     ghost view = { λ log. record {
       operations = newest_first log.ops.items log.order.items;
-      room = min (vec_capacity log.ops - vec_len log.ops) (min log.order.room (vec_capacity log.ends.ends - vec_len log.ends.ends));
+      room = min (vec_capacity log.ops - vec_len log.ops) (min log.order.room (room_for log.ends));
     } };
 
-    ghost invariant = { λ log. IsKept log.ops.items log.order.items log.ends.ends.items };
+    ghost invariant = { λ log. IsKept log.ops.items log.order.items log.ends };
 }
 
 /// Whether the operation of a place is this one.
@@ -110,7 +111,7 @@ fn any_clash_in(ops: &[Op], blocks: &[Block], op: &Op) -> bool
 /// Whether an operation of the places clashes with this one. What goes on from its site's known end
 /// clashes with none; what is the newest and goes on from below it clashes.
 fn has_clash(ops: &[Op], order: &Order, ends: &Ends, op: &Op) -> bool
-    requires kept { IsKept ops.now order.now.items ends.now.ends.items }
+    requires kept { IsKept ops.now order.now.items ends.now }
     requires sound { has_bad_stamp op.now ≡ false }
     ensures { result ≡ list_any (clash op.now) (newest_first ops.now order.now.items) }
 {
@@ -126,9 +127,9 @@ fn has_clash(ops: &[Op], order: &Order, ends: &Ends, op: &Op) -> bool
 /// Pushes the operation of a place to the log of those that have been put in order.
 fn push_place(ops: &[Op], order: &mut Order, ends: &mut Ends, place: usize) -> Result<(), Fault>
     requires place { place < length ops.now }
-    requires kept { IsKept ops.now order.old.items ends.old.ends.items }
+    requires kept { IsKept ops.now order.old.items ends.old }
     ensures { MatchResult result
-        (λ _. IsKept ops.now order.new.items ends.new.ends.items
+        (λ _. IsKept ops.now order.new.items ends.new
         × (pushed (op_at ops.now place) (newest_first ops.now order.old.items) ≡ Ok (newest_first ops.now order.new.items)))
         (λ fault. (fault ≡ NoMemory) ⊎ (pushed (op_at ops.now place) (newest_first ops.now order.old.items) ≡ Err fault)) }
 {

@@ -5,7 +5,7 @@ ghost use Rattle.rt_stamps.specs.declared.fault.Fault.TheVariants.{NoMemory, Con
 ghost use Rattle.rt_stamps.specs.Stamps.{is_before};
 ghost use Rattle.rt_stamps.specs.declared.stamp.TheConstants.{ROOT};
 ghost use Rattle.rt_ops.specs.Operations.{Insert, Operation, stamp_of, has_bad_stamp};
-ghost use Rattle.rt_oplog.specs.Logs.{HasClashOf, Has, IsLog, IsFalling, same_operation};
+ghost use Rattle.rt_oplog.specs.Logs.{HasClashOf, HasOp, IsLog, IsFalling, same_operation};
 ghost use Rattle.rt_oplog.specs.Kept.{op_at, newest_first, IsKept};
 ghost use Rattle.rt_oplog.specs.Merged.{IsMerged};
 
@@ -148,8 +148,8 @@ pub(crate) fn merge(
 pub(crate) fn ends_of(alloc: Global, ops: &[Op], order: &[usize]) -> Result<Ends, Fault>
     requires within { AllByRecursion (λ place. place < length ops.now) order.now }
     requires falling { IsFalling (newest_first ops.now order.now) }
-    requires sound { (op : Operation) → Has (newest_first ops.now order.now) op → has_bad_stamp op ≡ false }
-    ensures { MatchResult result (λ ends. IsKept ops.now order.now ends.ends.items)
+    requires sound { (op : Operation) → HasOp (newest_first ops.now order.now) op → has_bad_stamp op ≡ false }
+    ensures { MatchResult result (λ ends. IsKept ops.now order.now ends)
         (λ fault. (fault ≡ NoMemory) ⊎ ((fault ≡ Conflict) × HasClashOf (newest_first ops.now order.now) (newest_first ops.now order.now))) }
 {
     let mut ends = Ends::new(alloc);

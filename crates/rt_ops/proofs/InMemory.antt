@@ -10,13 +10,13 @@ use Rattle.rt_stamps.specs.declared.fault.Fault.{Fault}
 use Rattle.rt_stamps.specs.declared.fault.Fault.TheVariants.{NoMemory, Truncated, BadRecord}
 use Rattle.rt_stamps.specs.declared.stamp.Stamp.{Stamp}
 use Rattle.rt_ops.specs.declared.version.Version.{Version}
-use Rattle.rt_ops.specs.Versions.{layout}
+use Rattle.rt_ops.specs.Versions.{fewest}
 use Rattle.rt_ops.specs.Operations.{Operation, stamp_of}
 use Rattle.rt_ops.specs.Decoding.{RefusesBytes}
 use Rattle.rt_ops.specs.File.{magic, number, content_of, record_of, file_of, HasRecord, AreInFile}
 use Rattle.rt_ops.specs.Rules.{is_within}
-use Rattle.rt_ops.specs.Reading.{head_of, EndsEarly, HasNoRecord, IsBroken, IsEnd, Reads, offsets_from, last_stamp, may_follow}
-use Rattle.rt_ops.specs.Records.{Left, HasTaken, IsAt, TakesRecord, RefusesRecord}
+use Rattle.rt_ops.specs.Reading.{head_of, EndsEarly, HasNoRecord, IsBroken, IsEnd, Reads, offsets_from, stamp_of_last, may_follow}
+use Rattle.rt_ops.specs.Records.{Left, HasTaken, IsFileUpTo, TakesRecord, RefusesRecord}
 use Rattle.rt_ops.proofs.Lengths.{length_4}
 use Rattle.rt_ops.proofs.Taken.{bad_length, bad_content, magic_length, head_is_magic}
 use Rattle.rt_ops.proofs.Readings.{broken_unrisen, in_file_none, in_file_push, last_has, last_push, reads_records, spelling_push}
@@ -24,11 +24,11 @@ use Rattle.rt_ops.proofs.Unique.{one_list}
 
 -- ---- the length and the content of a record
 
-pub no_length : {ver : Version} (bytes rest : List ℕ) (n : ℕ) → n < 2 ^ 32 → bytes ≡ number w32 n ++ rest → is_within (layout ver).fewest MOST_RECORD_BYTES n ≡ false → (4 ≤ length bytes) × HasNoRecord ver (take 4 bytes)
+pub no_length : {ver : Version} (bytes rest : List ℕ) (n : ℕ) → n < 2 ^ 32 → bytes ≡ number w32 n ++ rest → is_within (fewest ver) MOST_RECORD_BYTES n ≡ false → (4 ≤ length bytes) × HasNoRecord ver (take 4 bytes)
 no_length {ver} bytes rest n few parts out = (
   omega (arith, ap length parts, length-append (number w32 n) rest, length_4 n),
   bad_length (take 4 bytes) n few (ap (take 4) parts ∙ take_at (number w32 n) rest 4 (length_4 n)) (λ range.
-      let inside : is_within (layout ver).fewest MOST_RECORD_BYTES n ≡ true = grind (arith, nat_tests, range.0, range.1) in
+      let inside : is_within (fewest ver) MOST_RECORD_BYTES n ≡ true = grind (arith, nat_tests, range.0, range.1) in
       false≢true (sym out ∙ inside)),
 )
 
@@ -42,11 +42,11 @@ none_before {ver} front rest h = record {
 pub none_of_length : {ver : Version} (bytes : List ℕ) → HasNoRecord ver (take 4 bytes) → HasNoRecord ver bytes
 none_of_length {ver} bytes h = subst (HasNoRecord ver) (take-append-drop 4 bytes) (none_before (take 4 bytes) (drop 4 bytes) h)
 
-pub cut_in : (ver : Version) (bytes rest : List ℕ) (n : ℕ) → bytes ≡ number w32 n ++ rest → (layout ver).fewest ≤ n → n ≤ MOST_RECORD_BYTES → length rest < n → EndsEarly ver bytes
+pub cut_in : (ver : Version) (bytes rest : List ℕ) (n : ℕ) → bytes ≡ number w32 n ++ rest → fewest ver ≤ n → n ≤ MOST_RECORD_BYTES → length rest < n → EndsEarly ver bytes
 cut_in ver bytes rest n parts least most lt = inr (n, rest, parts, least, most, lt)
 
-pub content_in : (ver : Version) (bytes rest content : List ℕ) (n : ℕ) → bytes ≡ number w32 n ++ rest → (layout ver).fewest ≤ n → n ≤ MOST_RECORD_BYTES → n ≤ length rest → content ≡ take n rest
-    → ((layout ver).fewest ≤ length content) × (length content ≤ MOST_RECORD_BYTES) × (bytes ≡ (number w32 (length content) ++ content) ++ drop (4 + length content) bytes)
+pub content_in : (ver : Version) (bytes rest content : List ℕ) (n : ℕ) → bytes ≡ number w32 n ++ rest → fewest ver ≤ n → n ≤ MOST_RECORD_BYTES → n ≤ length rest → content ≡ take n rest
+    → (fewest ver ≤ length content) × (length content ≤ MOST_RECORD_BYTES) × (bytes ≡ (number w32 (length content) ++ content) ++ drop (4 + length content) bytes)
 content_in ver bytes rest content n parts least most long is =
     let size : length content ≡ n = omega (arith, ap length is, length-take n rest, long) in
     let left : drop (4 + n) bytes ≡ drop n rest = sym (drop-drop n 4 bytes) ∙ ap (λ v. drop n (drop 4 v)) parts ∙ ap (drop n) (drop_at (number w32 n) rest 4 (length_4 n)) in
@@ -60,7 +60,7 @@ content_in ver bytes rest content n parts least most long is =
 pub same_taken : (left : Left) (one other : List Operation) → HasTaken left one → HasTaken left other → one ≡ other
 same_taken left one other h k = one_list left.version one other h.are.records k.are.records (append_cancel_right (file_of left.version one) (file_of left.version other) left.rest (sym h.bytes ∙ k.bytes))
 
-pub begun : {ver : Version} (bytes front : List ℕ) → front ≡ take (min (length bytes) 8) bytes → head_of front ≡ Ok ver → IsAt ver bytes 8 None []
+pub begun : {ver : Version} (bytes front : List ℕ) → front ≡ take (min (length bytes) 8) bytes → head_of front ≡ Ok ver → IsFileUpTo ver bytes 8 None []
 begun {ver} bytes front is found =
     let whole : take 8 bytes ≡ magic ver = sym (is ∙ least) ∙ head_is_magic front ver found in
     record {
@@ -75,7 +75,7 @@ begun {ver} bytes front is found =
 pub front_of : (bytes front : List ℕ) → front ≡ take (min (length bytes) 8) bytes → front ≡ take 8 bytes
 front_of bytes front is = let same : min (length bytes) 8 ≡ min 8 (length bytes) = omega arith in is ∙ ap (λ n. take n bytes) same ∙ take_min 8 bytes
 
-pub where_taken : {ver : Version} (bytes : List ℕ) (offset : ℕ) (last : Option Stamp) (ops other : List Operation) → IsAt ver bytes offset last ops → HasTaken (record { version = ver; bytes = bytes; rest = drop offset bytes }) other → offset ≡ length (file_of ver other)
+pub where_taken : {ver : Version} (bytes : List ℕ) (offset : ℕ) (last : Option Stamp) (ops other : List Operation) → IsFileUpTo ver bytes offset last ops → HasTaken (record { version = ver; bytes = bytes; rest = drop offset bytes }) other → offset ≡ length (file_of ver other)
 where_taken {ver} bytes offset last ops other h k = h.offset_is ∙ ap (λ v. length (file_of ver v)) (same_taken _ ops other h.taken k)
 
 -- ---- why no record is taken
@@ -91,7 +91,7 @@ pub refused_bytes : (left : Left) (fault : Fault) → 0 < length left.rest → (
 refused_bytes left fault some (inl cut) = inr (λ ops taken. (refl, inl (cut.0, (some, cut.1))))
 refused_bytes left fault some (inr bad) = inr (λ ops taken. (refl, inr (bad.0, broken ops left.rest bad.1)))
 
-pub refused_in : (left : Left) (content more : List ℕ) (fault : Fault) → (layout left.version).fewest ≤ length content → length content ≤ MOST_RECORD_BYTES → left.rest ≡ (number w32 (length content) ++ content) ++ more
+pub refused_in : (left : Left) (content more : List ℕ) (fault : Fault) → fewest left.version ≤ length content → length content ≤ MOST_RECORD_BYTES → left.rest ≡ (number w32 (length content) ++ content) ++ more
     → RefusesBytes fault ((op : Operation) → HasRecord left.version op → content ≡ content_of left.version op → ⊥) → RefusesRecord left fault
 refused_in left content more fault least most parts (inl memory) =
     inl (memory, record { content = content; more = more; parts = parts; least = least; most = most })
@@ -100,16 +100,16 @@ refused_in left content more fault least most parts (inr bad) =
     refused_bytes left fault none.some (inr (bad.0, none))
 
 -- the record of an operation that may not follow
-pub refused_after : {ver : Version} (bytes rest : List ℕ) (offset : ℕ) (last : Option Stamp) (all : List Operation) (op : Operation) → IsAt ver bytes offset last all → HasRecord ver op → drop offset bytes ≡ record_of ver op ++ rest → may_follow last op ≡ false
+pub refused_after : {ver : Version} (bytes rest : List ℕ) (offset : ℕ) (last : Option Stamp) (all : List Operation) (op : Operation) → IsFileUpTo ver bytes offset last all → HasRecord ver op → drop offset bytes ≡ record_of ver op ++ rest → may_follow last op ≡ false
     → RefusesRecord (record { version = ver; bytes = bytes; rest = drop offset bytes }) BadRecord
 refused_after {ver} bytes rest offset last all op at has parts out = inr (λ ops taken.
     let same : all ≡ ops = same_taken _ all ops at.taken taken in
-    let after : may_follow (last_stamp ops) op ≡ false = ap (λ l. may_follow l op) (sym (at.last_is ∙ ap last_stamp same)) ∙ out in
+    let after : may_follow (stamp_of_last ops) op ≡ false = ap (λ l. may_follow l op) (sym (at.last_is ∙ ap stamp_of_last same)) ∙ out in
     (refl, inr (refl, subst (IsBroken ver ops) (sym parts) (broken_unrisen ops op rest has after))))
 
 -- ---- a record is taken
 
-taken_more : (old new : Left) (ops : List Operation) (op : Operation) → HasTaken old ops → HasRecord old.version op → may_follow (last_stamp ops) op ≡ true → new.version ≡ old.version → new.bytes ≡ old.bytes → old.rest ≡ record_of old.version op ++ new.rest → HasTaken new (ops ++ op ∷ [])
+taken_more : (old new : Left) (ops : List Operation) (op : Operation) → HasTaken old ops → HasRecord old.version op → may_follow (stamp_of_last ops) op ≡ true → new.version ≡ old.version → new.bytes ≡ old.bytes → old.rest ≡ record_of old.version op ++ new.rest → HasTaken new (ops ++ op ∷ [])
 taken_more old new ops op h has f version same parts = record {
   bytes = same ∙ h.bytes ∙ ap (λ v. file_of old.version ops ++ v) parts ∙ sym (append_assoc (file_of old.version ops) (record_of old.version op) new.rest) ∙ ap (λ v. v ++ new.rest) (sym (spelling_push old.version ops op)) ∙ ap (λ v. file_of v (ops ++ op ∷ []) ++ new.rest) (sym version);
   are = subst (λ v. AreInFile v (ops ++ op ∷ [])) (sym version) (in_file_push ops op h.are has f);
@@ -122,15 +122,15 @@ pub record_long : (ver : Version) (content : List ℕ) (op : Operation) → cont
 record_long ver content op is =
     omega (arith, ap length is, length-append (number w32 (length (content_of ver op))) (content_of ver op), length_4 (length (content_of ver op)))
 
-pub at_next : {ver : Version} (bytes : List ℕ) (offset next size : ℕ) (last : Option Stamp) (ops : List Operation) (op : Operation) → IsAt ver bytes offset last ops → HasRecord ver op → may_follow last op ≡ true → drop offset bytes ≡ record_of ver op ++ drop (4 + size) (drop offset bytes)
-    → next ≡ offset + (4 + size) → length (record_of ver op) ≡ 4 + size → IsAt ver bytes next (Some (stamp_of op)) (ops ++ op ∷ [])
+pub at_next : {ver : Version} (bytes : List ℕ) (offset next size : ℕ) (last : Option Stamp) (ops : List Operation) (op : Operation) → IsFileUpTo ver bytes offset last ops → HasRecord ver op → may_follow last op ≡ true → drop offset bytes ≡ record_of ver op ++ drop (4 + size) (drop offset bytes)
+    → next ≡ offset + (4 + size) → length (record_of ver op) ≡ 4 + size → IsFileUpTo ver bytes next (Some (stamp_of op)) (ops ++ op ∷ [])
 at_next {ver} bytes offset next size last ops op at has f parts is long = record {
   taken = taken_more _ _ ops op at.taken has (ap (λ l. may_follow l op) (sym at.last_is) ∙ f) refl refl (parts ∙ ap (λ v. record_of ver op ++ v) (drop-drop (4 + size) offset bytes ∙ ap (λ n. drop n bytes) (sym is)));
   offset_is = is ∙ omega (arith, at.offset_is, long, length-append (file_of ver ops) (record_of ver op)) ∙ ap length (sym (spelling_push ver ops op));
   last_is = sym (last_push ops op);
 }
 
-pub takes_next : {ver : Version} (bytes : List ℕ) (offset next size : ℕ) (last : Option Stamp) (all : List Operation) (op : Operation) → IsAt ver bytes offset last all → HasRecord ver op → may_follow last op ≡ true → drop offset bytes ≡ record_of ver op ++ drop (4 + size) (drop offset bytes)
+pub takes_next : {ver : Version} (bytes : List ℕ) (offset next size : ℕ) (last : Option Stamp) (all : List Operation) (op : Operation) → IsFileUpTo ver bytes offset last all → HasRecord ver op → may_follow last op ≡ true → drop offset bytes ≡ record_of ver op ++ drop (4 + size) (drop offset bytes)
     → next ≡ offset + (4 + size) → TakesRecord (record { version = ver; bytes = bytes; rest = drop offset bytes }) op (record { version = ver; bytes = bytes; rest = drop next bytes })
 takes_next {ver} bytes offset next size last all op at has f parts is =
     let left : drop offset bytes ≡ record_of ver op ++ drop next bytes = parts ∙ ap (λ v. record_of ver op ++ v) (drop-drop (4 + size) offset bytes ∙ ap (λ n. drop n bytes) (sym is)) in
@@ -139,7 +139,7 @@ takes_next {ver} bytes offset next size last all op at has f parts is =
       bytes = refl;
       record_is = left;
       taken = λ ops taken.
-          let after : may_follow (last_stamp ops) op ≡ true = ap (λ l. may_follow l op) (sym (at.last_is ∙ ap last_stamp (same_taken _ all ops at.taken taken))) ∙ f in
+          let after : may_follow (stamp_of_last ops) op ≡ true = ap (λ l. may_follow l op) (sym (at.last_is ∙ ap stamp_of_last (same_taken _ all ops at.taken taken))) ∙ f in
           taken_more _ _ ops op taken has after refl refl left;
     }
 

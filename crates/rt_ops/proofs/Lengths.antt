@@ -14,7 +14,7 @@ use Rattle.rt_stamps.specs.declared.limits.TheConstants.{MOST_NAME_BYTES, MOST_T
 use Rattle.rt_stamps.specs.Words.{as_words}
 use Rattle.rt_ops.specs.declared.version.Version.{Version}
 use Rattle.rt_ops.specs.declared.version.Version.TheVariants.{One, Two}
-use Rattle.rt_ops.specs.Versions.{layout, sites}
+use Rattle.rt_ops.specs.Versions.{fewest, layout, sites}
 use Rattle.rt_ops.specs.Operations.{Name, Body, Insert, Delete, Tag, Operation, stamp_of}
 use Rattle.rt_ops.specs.Rules.{is_name, are_spans, keeps_rules}
 use Rattle.rt_ops.specs.File.{number, stamp_bytes, span_bytes, spans_bytes, name_bytes, tags_bytes, body_bytes, content_of}
@@ -59,11 +59,6 @@ same_site Two m n hm hn e = same_4 m n hm hn e
 site_bytes : (ver : Version) → (2 ≤ byte_len (layout ver).site) × (byte_len (layout ver).site ≤ 4)
 site_bytes One = (omega arith, omega arith)
 site_bytes Two = (omega arith, omega arith)
-
--- the fewest bytes of a record are those before its body
-pub fewest_bytes : (ver : Version) → (layout ver).fewest ≡ 17 + byte_len (layout ver).site
-fewest_bytes One = refl
-fewest_bytes Two = refl
 
 -- two fronts of one length
 pub same_front : (a b x y : List ℕ) → length a ≡ length b → a ++ x ≡ b ++ y → (a ≡ b) × (x ≡ y)
@@ -141,12 +136,12 @@ body_short ver (Tag on name spans) h =
     let rules = tag_is on name spans h in
     omega (arith, rules.0, rules.1, spans_short ver spans, length-append name (spans_bytes ver spans))
 
-pub content_length : (ver : Version) (op : Operation) → length (content_of ver op) ≡ (layout ver).fewest + length (body_bytes ver op.body)
-content_length ver op = omega (arith, length-append (stamp_bytes ver (stamp_of op)) (number w64 op.prev ++ body_bytes ver op.body), length-append (number w64 op.prev) (body_bytes ver op.body), stamp_length ver (stamp_of op), length_8 op.prev, fewest_bytes ver)
+pub content_length : (ver : Version) (op : Operation) → length (content_of ver op) ≡ fewest ver + length (body_bytes ver op.body)
+content_length ver op = omega (arith, length-append (stamp_bytes ver (stamp_of op)) (number w64 op.prev ++ body_bytes ver op.body), length-append (number w64 op.prev) (body_bytes ver op.body), stamp_length ver (stamp_of op), length_8 op.prev)
 
 -- a record always keeps to the most bytes
 pub content_short : (ver : Version) (op : Operation) → keeps_rules op.body ≡ true → length (content_of ver op) ≤ MOST_RECORD_BYTES
-content_short ver op h = omega (arith, content_length ver op, fewest_bytes ver, (site_bytes ver).1, body_short ver op.body h)
+content_short ver op h = omega (arith, content_length ver op, (site_bytes ver).1, body_short ver op.body h)
 
 -- a length that is written in the place of four bytes
 pub patched : (old new zeros content : List ℕ) (size n : ℕ) → size ≡ length old → old ≡ zeros ++ content → length zeros ≡ 4 → n ≡ length content → new ≡ number w32 n ++ drop 4 old

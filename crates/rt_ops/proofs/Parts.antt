@@ -14,11 +14,12 @@ use Rattle.rt_stamps.specs.declared.stamp.Stamp.{Stamp}
 use Rattle.rt_stamps.specs.declared.fault.Fault.{Fault}
 use Rattle.rt_stamps.specs.declared.fault.Fault.TheVariants.{NoMemory}
 use Rattle.rt_ops.specs.declared.version.Version.{Version}
-use Rattle.rt_ops.specs.Versions.{layout}
+use Rattle.rt_ops.specs.Versions.{fewest, layout}
 use Rattle.rt_ops.specs.Operations.{Name, Body, Insert, Delete, Tag, Operation}
 use Rattle.rt_ops.specs.Rules.{keeps_rules, within_rules}
-use Rattle.rt_ops.specs.File.{number, stamp_bytes, span_bytes, spans_bytes, name_bytes, tags_bytes, flag, kind_of, body_bytes, content_of, StampFits, SpanFits, BodyFits, HasRecord}
-use Rattle.rt_ops.specs.Decoding.{RefusesBytes, Decodes, DecodesFront, DecodesBody, NameFits, IsNameOf, AreNames, TagsFit, SpansFit, AreScalars}
+use Rattle.rt_ops.specs.File.{number, stamp_bytes, span_bytes, spans_bytes, name_bytes, tags_bytes, flag, kind_of, body_bytes, content_of, HasRecord}
+use Rattle.rt_ops.specs.Decoding.{RefusesBytes, Decodes, DecodesFront, DecodesBody, NameFits, IsNameOf, AreNames, StampFits, SpanFits, BodyFits, TagsFit, SpansFit, AreScalars}
+use Rattle.rt_ops.proofs.Rooms.{after_fits, body_fits, has_record}
 use Rattle.rt_ops.proofs.Lengths.{stamp_length, spans_length, spans_flat, content_length}
 use Rattle.rt_ops.proofs.Spells.{spans_parts, tags_parts, names_go_on, same_stamp, same_tags, same_name, heads, IsSpelled, is_spelled, same_body, same_head}
 
@@ -122,7 +123,7 @@ no_insert ver bytes few (Tag on name spans) k fits rules e = omega arith
 pub no_tags_of : {ver : Version} (bytes rest : List ℕ) (after : Stamp) → StampFits ver after → bytes ≡ stamp_bytes ver after ++ rest → ((tags : List Name) (more : List ℕ) → TagsFit tags → rest ≡ tags_bytes tags ++ more → ⊥)
     → (body : Body) → kind_of body ≡ 1 → BodyFits ver body → keeps_rules body ≡ true → bytes ≡ body_bytes ver body → ⊥
 no_tags_of {ver} bytes rest after fits parts none (Insert other tags text) k fits' rules e =
-    let p = same_stamp after other rest (tags_bytes tags ++ encode_utf8_all text) fits fits'.0 (sym parts ∙ e) in
+    let p = same_stamp after other rest (tags_bytes tags ++ encode_utf8_all text) fits (after_fits ver other tags text fits').0 (sym parts ∙ e) in
     none tags (encode_utf8_all text) (is_spelled ver (Insert other tags text) fits' rules).1 p.1
 no_tags_of {ver} bytes rest after fits parts none (Delete spans) k fits' rules e = absurd (omega arith)
 no_tags_of {ver} bytes rest after fits parts none (Tag on name spans) k fits' rules e = absurd (omega arith)
@@ -131,16 +132,16 @@ no_tags_of {ver} bytes rest after fits parts none (Tag on name spans) k fits' ru
 pub too_many_tags : {ver : Version} (bytes rest left : List ℕ) (after : Stamp) (tags : List Name) → StampFits ver after → bytes ≡ stamp_bytes ver after ++ rest → rest ≡ tags_bytes tags ++ left → (layout ver).most_tags < length tags
     → (body : Body) → kind_of body ≡ 1 → BodyFits ver body → keeps_rules body ≡ true → bytes ≡ body_bytes ver body → ⊥
 too_many_tags {ver} bytes rest left after tags fits parts more many (Insert other others text) k fits' rules e =
-    let p = same_stamp after other rest (tags_bytes others ++ encode_utf8_all text) fits fits'.0 (sym parts ∙ e) in
+    let p = same_stamp after other rest (tags_bytes others ++ encode_utf8_all text) fits (after_fits ver other others text fits').0 (sym parts ∙ e) in
     let q = same_tags tags others left (encode_utf8_all text) (sym more ∙ p.1) in
-    omega (arith, ap length q.0, fits'.1, many)
+    omega (arith, ap length q.0, (after_fits ver other others text fits').1, many)
 too_many_tags {ver} bytes rest left after tags fits parts more many (Delete spans) k fits' rules e = absurd (omega arith)
 too_many_tags {ver} bytes rest left after tags fits parts more many (Tag on name spans) k fits' rules e = absurd (omega arith)
 
 pub no_text_of : {ver : Version} (bytes rest left : List ℕ) (after : Stamp) (tags : List Name) → StampFits ver after → bytes ≡ stamp_bytes ver after ++ rest → rest ≡ tags_bytes tags ++ left → ((text : List ℕ) → AreScalars text → left ≡ encode_utf8_all text → ⊥)
     → (body : Body) → kind_of body ≡ 1 → BodyFits ver body → keeps_rules body ≡ true → bytes ≡ body_bytes ver body → ⊥
 no_text_of {ver} bytes rest left after tags fits parts more none (Insert other others text) k fits' rules e =
-    let p = same_stamp after other rest (tags_bytes others ++ encode_utf8_all text) fits fits'.0 (sym parts ∙ e) in
+    let p = same_stamp after other rest (tags_bytes others ++ encode_utf8_all text) fits (after_fits ver other others text fits').0 (sym parts ∙ e) in
     let q = same_tags tags others left (encode_utf8_all text) (sym more ∙ p.1) in
     none text (grind (arith, nat_tests)) q.1
 no_text_of {ver} bytes rest left after tags fits parts more none (Delete spans) k fits' rules e = absurd (omega arith)
@@ -155,18 +156,24 @@ no_spans_of {ver} bytes rest left on name parts more none (Tag other label spans
 no_spans_of {ver} bytes rest left on name parts more none (Delete spans) k fits rules e = absurd (omega arith)
 no_spans_of {ver} bytes rest left on name parts more none (Insert after tags text) k fits rules e = absurd (omega arith)
 
+pub no_deletion : {ver : Version} (bytes : List ℕ) → ((spans : List Span) → SpansFit ver spans → bytes ≡ spans_bytes ver spans → ⊥)
+    → (body : Body) → kind_of body ≡ 2 → BodyFits ver body → keeps_rules body ≡ true → bytes ≡ body_bytes ver body → ⊥
+no_deletion {ver} bytes none (Delete spans) k fits rules e = none spans (is_spelled ver (Delete spans) fits rules) e
+no_deletion {ver} bytes none (Insert after tags text) k fits rules e = absurd (omega arith)
+no_deletion {ver} bytes none (Tag on name spans) k fits rules e = absurd (omega arith)
+
 -- ---- operations
 
-pub no_content : {ver : Version} (bytes : List ℕ) → length bytes < (layout ver).fewest → (op : Operation) → HasRecord ver op → bytes ≡ content_of ver op → ⊥
+pub no_content : {ver : Version} (bytes : List ℕ) → length bytes < fewest ver → (op : Operation) → HasRecord ver op → bytes ≡ content_of ver op → ⊥
 no_content {ver} bytes few op has e = omega (arith, ap length e, content_length ver op)
 
 pub decoded : {ver : Version} (kind : ℕ) (stamp : Stamp) (prev : ℕ) (bytes rest : List ℕ) (result : Result Operation Fault) → StampFits ver stamp → prev < 2 ^ 64 → bytes ≡ kind ∷ (stamp_bytes ver stamp ++ (number w64 prev ++ rest))
     → DecodesBody ver kind stamp prev rest result → Decodes (content_of ver) (HasRecord ver) (λ op. op) bytes result
 decoded {ver} kind stamp prev bytes rest (Ok op) fits small parts h = (
-  record { stamp = subst (StampFits ver) (sym h.3) fits; prev = omega (arith, h.4); body = h.0; rules = h.1 },
+  has_record op (subst (StampFits ver) (sym h.3) fits) (omega (arith, h.4)) h.0 h.1,
   parts ∙ (λ i. sym h.2 i ∷ (stamp_bytes ver (sym h.3 i) ++ (number w64 (sym h.4 i) ++ h.5 i))),
 )
 decoded {ver} kind stamp prev bytes rest (Err fault) fits small parts h =
     refused_as fault (λ none op has e.
     let p = same_head kind stamp prev rest op fits small has (sym parts ∙ e) in
-    none op.body (sym p.0) has.body has.rules p.3) h
+    none op.body (sym p.0) (body_fits op has) has.rules p.3) h

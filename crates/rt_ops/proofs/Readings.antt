@@ -1,6 +1,6 @@
 -- Operations read from a file, record by record.
-use Rattle.std.proofs.Common.{◌≡◌, ℕ, ◌+◌, ◌<◌, ◌≤◌, Bool, true, false, suc, List, [], ◌∷◌, ◌++◌, length, take, Option, Some, None, Result, Ok, Err, IfOk, IfErr, cond, refl, sym, ap, subst, ◌∙◌, append_assoc, append-nil, arith, inl, inr}
-use Rattle.std.specs.Prelude.{◌⊎◌, min, not, nat_lt, IfSome}
+use Rattle.std.proofs.Common.{◌≡◌, ℕ, ◌+◌, ◌<◌, ◌≤◌, Bool, true, false, suc, List, [], ◌∷◌, ◌++◌, length, take, Option, Some, None, Result, Ok, Err, IfOk, IfErr, refl, sym, ap, subst, ◌∙◌, append_assoc, append-nil, arith, inl, inr}
+use Rattle.std.specs.Prelude.{◌⊎◌, min, nat_lt, IfSome}
 use Rattle.std.specs.Str.{bytes_eq}
 use Rattle.std.specs.List.{flat_map, AllByRecursion}
 use Rattle.std.specs.Int.{w32}
@@ -12,14 +12,15 @@ use Rattle.std.proofs.lemmas.List.Concat.{flat_map-append}
 use Rattle.rt_stamps.specs.Stamps.{is_before}
 use Rattle.rt_stamps.specs.declared.stamp.Stamp.{Stamp}
 use Rattle.rt_stamps.specs.declared.fault.Fault.{Fault}
-use Rattle.rt_stamps.specs.declared.fault.Fault.TheVariants.{NoMemory, BadMagic, BadVersion, Truncated, BadRecord, ReadFault}
+use Rattle.rt_stamps.specs.declared.fault.Fault.TheVariants.{NoMemory, Truncated, BadRecord, ReadFault}
 use Rattle.rt_stamps.specs.declared.limits.Bounds.{Bounds}
 use Rattle.rt_ops.specs.declared.version.Version.{Version}
 use Rattle.rt_ops.specs.declared.version.Version.TheVariants.{One, Two}
 use Rattle.rt_ops.specs.Operations.{Operation, stamp_of}
 use Rattle.rt_ops.specs.Rules.{each_next}
 use Rattle.rt_ops.specs.File.{magic, number, content_of, record_of, file_of, HasRecord, AreInFile}
-use Rattle.rt_ops.specs.Reading.{file_name, head_of, offsets_from, EndsEarly, IsEnd, ReadsAs, HasNoRecord, IsBroken, Reads, last_stamp, may_follow}
+use Rattle.rt_ops.specs.Reading.{head_of, offsets_from, EndsEarly, IsEnd, ReadsAs, HasNoRecord, IsBroken, Reads, stamp_of_last, may_follow}
+use Rattle.rt_ops.specs.Versions.{file_name}
 use Rattle.rt_stamps.specs.Streams.{Stream}
 use Rattle.rt_ops.specs.Intake.{Takes, Finishes, IsStopped, Fails, GetsHead, HasRead, IsTold, ReadsFile, LacksMemory}
 use Rattle.rt_ops.proofs.Lengths.{length_4, same_front, content_short}
@@ -80,7 +81,7 @@ all_push {ver} (q ∷ ops) op h has = (h.0, all_push ops op h.1 has)
 abbrev rises : Operation → Operation → Bool
 rises a b = is_before (stamp_of a) (stamp_of b)
 
-pub rising_push : (ops : List Operation) (op : Operation) → each_next rises ops ≡ true → may_follow (last_stamp ops) op ≡ true → each_next rises (ops ++ op ∷ []) ≡ true
+pub rising_push : (ops : List Operation) (op : Operation) → each_next rises ops ≡ true → may_follow (stamp_of_last ops) op ≡ true → each_next rises (ops ++ op ∷ []) ≡ true
 rising_push [] op h f = refl
 rising_push (q ∷ []) op h f = grind (arith, nat_tests)
 rising_push (q ∷ (r ∷ ops)) op h f =
@@ -89,14 +90,14 @@ rising_push (q ∷ (r ∷ ops)) op h f =
     let rest : each_next rises ((r ∷ ops) ++ op ∷ []) ≡ true = rising_push (r ∷ ops) op others f in
     rw (one, rest) refl
 
-pub rising_last : (ops : List Operation) (op : Operation) → each_next rises (ops ++ op ∷ []) ≡ true → may_follow (last_stamp ops) op ≡ true
+pub rising_last : (ops : List Operation) (op : Operation) → each_next rises (ops ++ op ∷ []) ≡ true → may_follow (stamp_of_last ops) op ≡ true
 rising_last [] op h = refl
 rising_last (q ∷ []) op h = grind (arith, nat_tests)
 rising_last (q ∷ (r ∷ ops)) op h =
     let rest : each_next rises ((r ∷ ops) ++ op ∷ []) ≡ true = grind (arith, nat_tests) in
     rising_last (r ∷ ops) op rest
 
-pub last_push : (ops : List Operation) (op : Operation) → last_stamp (ops ++ op ∷ []) ≡ Some (stamp_of op)
+pub last_push : (ops : List Operation) (op : Operation) → stamp_of_last (ops ++ op ∷ []) ≡ Some (stamp_of op)
 last_push [] op = refl
 last_push (q ∷ []) op = refl
 last_push (q ∷ (r ∷ ops)) op = last_push (r ∷ ops) op
@@ -104,7 +105,7 @@ last_push (q ∷ (r ∷ ops)) op = last_push (r ∷ ops) op
 pub in_file_none : {ver : Version} → AreInFile ver []
 in_file_none {ver} = record { records = tt; rising = refl }
 
-pub in_file_push : {ver : Version} (ops : List Operation) (op : Operation) → AreInFile ver ops → HasRecord ver op → may_follow (last_stamp ops) op ≡ true → AreInFile ver (ops ++ op ∷ [])
+pub in_file_push : {ver : Version} (ops : List Operation) (op : Operation) → AreInFile ver ops → HasRecord ver op → may_follow (stamp_of_last ops) op ≡ true → AreInFile ver (ops ++ op ∷ [])
 in_file_push {ver} ops op are has f = record { records = all_push ops op are.records has; rising = rising_push ops op are.rising f }
 
 pub last_has : {ver : Version} (ops : List Operation) (op : Operation) → AllByRecursion (HasRecord ver) (ops ++ op ∷ []) → HasRecord ver op
@@ -241,17 +242,17 @@ ends_fault {ver} a b c x y z ops offsets fault at h are off fails other place = 
     by (inr (inr (inr t))) = inr (at, file_of ver ops ++ taken, ap (λ f. Some (f, at)) t.0, inr (ver, taken, refl, are, off, place, t.2), stopped_then a b c x y (file_of ver ops) taken h t.1)
 
 -- the record of an operation that may not follow
-pub broken_unrisen : {ver : Version} (ops : List Operation) (op : Operation) (rest : List ℕ) → HasRecord ver op → may_follow (last_stamp ops) op ≡ false → IsBroken ver ops (record_of ver op ++ rest)
+pub broken_unrisen : {ver : Version} (ops : List Operation) (op : Operation) (rest : List ℕ) → HasRecord ver op → may_follow (stamp_of_last ops) op ≡ false → IsBroken ver ops (record_of ver op ++ rest)
 broken_unrisen {ver} ops op rest has out = record {
   some = record_some ver op rest;
   whole = is_whole op rest has;
   none = λ other more next e.
       let same = same_record op other rest more has (last_has ops other next.records) e in
-      false≢true (sym out ∙ ap (λ o. may_follow (last_stamp ops) o) same.0 ∙ rising_last ops other next.rising);
+      false≢true (sym out ∙ ap (λ o. may_follow (stamp_of_last ops) o) same.0 ∙ rising_last ops other next.rising);
 }
 
 pub ends_unrisen : {ver : Version} (a b c : Stream) (x y z : Bounds) (ops : List Operation) (offsets : List ℕ) (op : Operation) (at : ℕ) → Takes a b x y (file_of ver ops) → AreInFile ver ops → offsets ≡ offsets_from ver 8 ops → Takes b c y z (record_of ver op) → HasRecord ver op
-    → may_follow (last_stamp ops) op ≡ false → at ≡ length (file_of ver ops) → ReadsFile x a c ops offsets (Some (BadRecord, at))
+    → may_follow (stamp_of_last ops) op ≡ false → at ≡ length (file_of ver ops) → ReadsFile x a c ops offsets (Some (BadRecord, at))
 ends_unrisen {ver} a b c x y z ops offsets op at h are off t has out place =
     let bytes = file_of ver ops ++ record_of ver op in
     inl (
@@ -365,7 +366,7 @@ ended_by (Err refused) found P fault at f p = tt
 
 -- one more record is read
 pub records_more : {ver : Version} (a b c : Stream) (x y z : Bounds) (ops : List Operation) (offsets : List ℕ) (op : Operation) (at : ℕ) → Takes a b x y (file_of ver ops) → AreInFile ver ops → offsets ≡ offsets_from ver 8 ops → Takes b c y z (record_of ver op) → HasRecord ver op
-    → may_follow (last_stamp ops) op ≡ true → at ≡ length (file_of ver ops)
+    → may_follow (stamp_of_last ops) op ≡ true → at ≡ length (file_of ver ops)
     → Takes a c x z (file_of ver (ops ++ op ∷ [])) × AreInFile ver (ops ++ op ∷ []) × (offsets ++ at ∷ [] ≡ offsets_from ver 8 (ops ++ op ∷ []))
 records_more {ver} a b c x y z ops offsets op at h are off t has f place = (
   subst (Takes a c x z) (sym (spelling_push ver ops op)) (takes_then a b c x y z (file_of ver ops) (record_of ver op) h t),
@@ -373,5 +374,5 @@ records_more {ver} a b c x y z ops offsets op at h are off t has f place = (
   offsets_more ver ops offsets op at off place,
 )
 
-pub follows : (ops : List Operation) (last : Option Stamp) (op : Operation) (b : Bool) → last ≡ last_stamp ops → b ≡ may_follow last op → may_follow (last_stamp ops) op ≡ b
+pub follows : (ops : List Operation) (last : Option Stamp) (op : Operation) (b : Bool) → last ≡ stamp_of_last ops → b ≡ may_follow last op → may_follow (stamp_of_last ops) op ≡ b
 follows ops last op b same h = ap (λ l. may_follow l op) (sym same) ∙ sym h

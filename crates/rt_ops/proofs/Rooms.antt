@@ -1,74 +1,111 @@
--- Which version has room for an operation.
-use Rattle.std.proofs.Common.{◌≡◌, ℕ, zero, suc, get_or, ◌^◌, ◌<◌, ◌≤◌, Bool, true, false, ◌&&◌, List, [], ◌∷◌, length, refl, sym, ap, subst, ◌∙◌, arith}
-use Rattle.std.specs.Prelude.{nat_lt, nat_le}
+-- Which version has room for an operation, and what has a record in it.
+use Rattle.std.proofs.Common.{◌≡◌, ℕ, zero, suc, get_or, ◌^◌, ◌<◌, ◌≤◌, Bool, true, false, ◌&&◌, List, [], ◌∷◌, length, refl, arith}
+use Rattle.std.specs.Prelude.{nat_lt, nat_le, OnOk, Result, Ok, Err}
+use Rattle.rt_stamps.specs.declared.fault.Fault.{Fault}
 use Rattle.std.specs.List.{list_all, AllByRecursion}
 use Rattle.std.proofs.lemmas.Bool.Decides.{nat_tests}
 use Rattle.rt_stamps.specs.declared.stamp.Span.{Span}
 use Rattle.rt_stamps.specs.declared.stamp.Stamp.{Stamp}
 use Rattle.rt_ops.specs.declared.version.Version.{Version}
 use Rattle.rt_ops.specs.declared.version.Version.TheVariants.{One, Two}
-use Rattle.rt_ops.specs.Operations.{Body, Insert, Delete, Tag, Operation, stamp_of}
+use Rattle.rt_ops.specs.Operations.{Name, Body, Insert, Delete, Tag, Operation, stamp_of}
+use Rattle.rt_ops.specs.Rules.{keeps_rules}
 use Rattle.rt_ops.specs.Versions.{layout, sites}
-use Rattle.rt_ops.specs.File.{StampFits, SpanFits, BodyFits, HasRecord, AreInFile, have_room, has_room, fits, version_of}
+use Rattle.rt_ops.specs.File.{HasRecord, AreInFile, counts_of, have_room, has_room, fits, version_of}
+use Rattle.rt_ops.specs.Decoding.{StampFits, SpanFits, BodyFits}
 
--- ---- from the first version to the second
+pub and_parts : (a b : Bool) → (a && b) ≡ true → (a ≡ true) × (b ≡ true)
+and_parts true b h = (refl, h)
+and_parts false b h = absurd cc
 
-spans_more : (spans : List Span) → AllByRecursion (SpanFits One) spans → AllByRecursion (SpanFits Two) spans
-spans_more [] h = tt
-spans_more (span ∷ spans) h = (record { site = omega (arith, h.0.site); first = h.0.first; last = h.0.last }, spans_more spans h.1)
+-- ---- the fields of a body, and of what has a record
 
-body_more : (body : Body) → BodyFits One body → BodyFits Two body
-body_more (Insert after tags text) h = (record { count = h.0.count; site = omega (arith, h.0.site) }, omega (arith, h.1))
+spans_in : (ver : Version) (spans : List Span) → have_room ver spans ≡ true → AllByRecursion (λ count. count < 2 ^ 64) (counts_of spans) → AllByRecursion (SpanFits ver) spans
+spans_in ver [] room counts = tt
+spans_in ver (span ∷ spans) room counts =
+    let parts = and_parts (nat_lt span.site (sites ver)) (have_room ver spans) room in
+    (record { site = grind (arith, nat_tests, parts.0); first = counts.0; last = counts.1.0 }, spans_in ver spans parts.1 counts.1.1)
+
+spans_room : (ver : Version) (spans : List Span) → AllByRecursion (SpanFits ver) spans → have_room ver spans ≡ true
+spans_room ver [] h = refl
+spans_room ver (span ∷ spans) h =
+    let site : nat_lt span.site (sites ver) ≡ true = grind (arith, nat_tests, h.0.site) in
+    rw (site, spans_room ver spans h.1) refl
+
+spans_counts : (ver : Version) (spans : List Span) → AllByRecursion (SpanFits ver) spans → AllByRecursion (λ count. count < 2 ^ 64) (counts_of spans)
+spans_counts ver [] h = tt
+spans_counts ver (span ∷ spans) h = (h.0.first, (h.0.last, spans_counts ver spans h.1))
+
+pub insert_fits : (ver : Version) (after : Stamp) (tags : List Name) (text : List ℕ) → StampFits ver after → length tags ≤ (layout ver).most_tags → BodyFits ver (Insert after tags text)
+insert_fits ver after tags text h few =
+    let site : nat_lt after.site (sites ver) ≡ true = grind (arith, nat_tests, h.site) in
+    let tags_few : nat_le (length tags) (layout ver).most_tags ≡ true = grind (arith, nat_tests, few) in
+    record { room = rw (site, tags_few) refl; counts = (h.count, tt) }
+
+pub delete_fits : (ver : Version) (spans : List Span) → AllByRecursion (SpanFits ver) spans → BodyFits ver (Delete spans)
+delete_fits ver spans h = record { room = spans_room ver spans h; counts = spans_counts ver spans h }
+
+pub tag_fits : (ver : Version) (on : Bool) (name : Name) (spans : List Span) → AllByRecursion (SpanFits ver) spans → BodyFits ver (Tag on name spans)
+tag_fits ver on name spans h = record { room = spans_room ver spans h; counts = spans_counts ver spans h }
+
+pub after_fits : (ver : Version) (after : Stamp) (tags : List Name) (text : List ℕ) → BodyFits ver (Insert after tags text) → StampFits ver after × (length tags ≤ (layout ver).most_tags)
+after_fits ver after tags text h =
+    let parts = and_parts (nat_lt after.site (sites ver)) (nat_le (length tags) (layout ver).most_tags) h.room in
+    (record { count = h.counts.0; site = grind (arith, nat_tests, parts.0) }, grind (arith, nat_tests, parts.1))
+
+pub deleted_fit : (ver : Version) (spans : List Span) → BodyFits ver (Delete spans) → AllByRecursion (SpanFits ver) spans
+deleted_fit ver spans h = spans_in ver spans h.room h.counts
+
+pub tagged_fit : (ver : Version) (on : Bool) (name : Name) (spans : List Span) → BodyFits ver (Tag on name spans) → AllByRecursion (SpanFits ver) spans
+tagged_fit ver on name spans h = spans_in ver spans h.room h.counts
+
+-- what was written fits, where its spans do
+pub deletion_fits : (ver : Version) (spans : List Span) (result : Result (Unit {0}) Fault) → OnOk result (AllByRecursion (SpanFits ver) spans) → OnOk result (BodyFits ver (Delete spans))
+deletion_fits ver spans (Ok done) h = delete_fits ver spans h
+deletion_fits ver spans (Err fault) h = tt
+
+pub tagging_fits : (ver : Version) (on : Bool) (name : Name) (spans : List Span) (result : Result (Unit {0}) Fault) → OnOk result (AllByRecursion (SpanFits ver) spans)
+    → OnOk result (BodyFits ver (Tag on name spans))
+tagging_fits ver on name spans (Ok done) h = tag_fits ver on name spans h
+tagging_fits ver on name spans (Err fault) h = tt
+
+pub has_record : {ver : Version} (op : Operation) → StampFits ver (stamp_of op) → op.prev < 2 ^ 64 → BodyFits ver op.body → keeps_rules op.body ≡ true → HasRecord ver op
+has_record {ver} op stamp prev body rules =
+    let site : nat_lt op.site (sites ver) ≡ true = grind (arith, nat_tests, stamp.site) in
+    record { room = rw (site, body.room) refl; counts = (stamp.count, (prev, body.counts)); rules = rules }
+
+pub stamp_fits : {ver : Version} (op : Operation) → HasRecord ver op → StampFits ver (stamp_of op)
+stamp_fits {ver} op h = record { count = h.counts.0; site = grind (arith, nat_tests, (and_parts (nat_lt op.site (sites ver)) (has_room ver op.body) h.room).0) }
+
+pub body_fits : {ver : Version} (op : Operation) → HasRecord ver op → BodyFits ver op.body
+body_fits {ver} op h = record { room = (and_parts (nat_lt op.site (sites ver)) (has_room ver op.body) h.room).1; counts = h.counts.1.1 }
+
+-- ---- what the first version has room for, the second has
+
+spans_more : (spans : List Span) → have_room One spans ≡ true → have_room Two spans ≡ true
+spans_more [] h = refl
+spans_more (span ∷ spans) h =
+    let parts = and_parts (nat_lt span.site (sites One)) (have_room One spans) h in
+    let site : nat_lt span.site (sites Two) ≡ true = grind (arith, nat_tests, parts.0) in
+    rw (site, spans_more spans parts.1) refl
+
+body_more : (body : Body) → has_room One body ≡ true → has_room Two body ≡ true
+body_more (Insert after tags text) h =
+    let parts = and_parts (nat_lt after.site (sites One)) (nat_le (length tags) (layout One).most_tags) h in
+    let site : nat_lt after.site (sites Two) ≡ true = grind (arith, nat_tests, parts.0) in
+    let few : nat_le (length tags) (layout Two).most_tags ≡ true = grind (arith, nat_tests, parts.1) in
+    rw (site, few) refl
 body_more (Delete spans) h = spans_more spans h
 body_more (Tag on name spans) h = spans_more spans h
 
 pub record_more : (op : Operation) → HasRecord One op → HasRecord Two op
-record_more op h = record { stamp = record { count = h.stamp.count; site = omega (arith, h.stamp.site) }; prev = h.prev; body = body_more op.body h.body; rules = h.rules }
-
--- ---- from the second version to the first
-
-spans_first : (spans : List Span) → AllByRecursion (SpanFits Two) spans → have_room One spans ≡ true → AllByRecursion (SpanFits One) spans
-spans_first [] h room = tt
-spans_first (span ∷ spans) h room =
-    let site : span.site < sites One = grind (arith, nat_tests) in
-    let rest : have_room One spans ≡ true = grind (arith, nat_tests) in
-    (record { site = site; first = h.0.first; last = h.0.last }, spans_first spans h.1 rest)
-
-body_first : (body : Body) → BodyFits Two body → has_room One body ≡ true → BodyFits One body
-body_first (Insert after tags text) h room = (record { count = h.0.count; site = grind (arith, nat_tests) }, grind (arith, nat_tests))
-body_first (Delete spans) h room = spans_first spans h room
-body_first (Tag on name spans) h room = spans_first spans h room
-
-and_parts : (a b : Bool) → (a && b) ≡ true → (a ≡ true) × (b ≡ true)
-and_parts true b h = (refl, h)
-and_parts false b h = absurd cc
+record_more op h =
+    let parts = and_parts (nat_lt op.site (sites One)) (has_room One op.body) h.room in
+    let site : nat_lt op.site (sites Two) ≡ true = grind (arith, nat_tests, parts.0) in
+    record { room = rw (site, body_more op.body parts.1) refl; counts = h.counts; rules = h.rules }
 
 pub record_first : (op : Operation) → HasRecord Two op → fits One op ≡ true → HasRecord One op
-record_first op h room =
-    let parts = and_parts (nat_lt op.site (sites One)) (has_room One op.body) room in
-    let site : op.site < sites One = grind (arith, nat_tests, parts.0) in
-    record { stamp = record { count = h.stamp.count; site = site }; prev = h.prev; body = body_first op.body h.body parts.1; rules = h.rules }
-
--- ---- what has a record in the first version has room in it
-
-spans_room : (spans : List Span) → AllByRecursion (SpanFits One) spans → have_room One spans ≡ true
-spans_room [] h = refl
-spans_room (span ∷ spans) h =
-    let site : nat_lt span.site (sites One) ≡ true = grind (arith, nat_tests, h.0.site) in
-    rw (site, spans_room spans h.1) refl
-
-body_room : (body : Body) → BodyFits One body → has_room One body ≡ true
-body_room (Insert after tags text) h =
-    let site : nat_lt after.site (sites One) ≡ true = grind (arith, nat_tests, h.0.site) in
-    let few : nat_le (length tags) (layout One).most_tags ≡ true = grind (arith, nat_tests, h.1) in
-    rw (site, few) refl
-body_room (Delete spans) h = spans_room spans h
-body_room (Tag on name spans) h = spans_room spans h
-
-pub record_room : (op : Operation) → HasRecord One op → fits One op ≡ true
-record_room op h =
-    let site : nat_lt op.site (sites One) ≡ true = grind (arith, nat_tests, h.stamp.site) in
-    rw (site, body_room op.body h.body) refl
+record_first op h room = record { room = room; counts = h.counts; rules = h.rules }
 
 -- ---- the version that is chosen
 

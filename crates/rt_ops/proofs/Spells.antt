@@ -14,8 +14,9 @@ use Rattle.rt_ops.specs.declared.version.Version.{Version}
 use Rattle.rt_ops.specs.Versions.{layout, sites}
 use Rattle.rt_ops.specs.Operations.{Name, Body, Insert, Delete, Tag, Operation, stamp_of}
 use Rattle.rt_ops.specs.Rules.{is_name, keeps_rules}
-use Rattle.rt_ops.specs.File.{number, stamp_bytes, span_bytes, spans_bytes, name_bytes, tags_bytes, flag, kind_of, body_bytes, content_of, StampFits, SpanFits, BodyFits, HasRecord}
-use Rattle.rt_ops.specs.Decoding.{NameFits, TagsFit, SpansFit}
+use Rattle.rt_ops.specs.File.{number, stamp_bytes, span_bytes, spans_bytes, name_bytes, tags_bytes, flag, kind_of, body_bytes, content_of, HasRecord}
+use Rattle.rt_ops.specs.Decoding.{NameFits, StampFits, SpanFits, BodyFits, TagsFit, SpansFit}
+use Rattle.rt_ops.proofs.Rooms.{after_fits, body_fits, deleted_fit, stamp_fits, tagged_fit}
 use Rattle.rt_ops.proofs.Lengths.{length_4, length_8, length_site, same_4, same_8, same_site, same_front, spans_are, tags_are, tag_is}
 
 -- ---- numbers that are read
@@ -172,11 +173,11 @@ names_fit (name ∷ tags) h =
 pub is_spelled : (ver : Version) (body : Body) → BodyFits ver body → keeps_rules body ≡ true → IsSpelled ver body
 is_spelled ver (Insert after tags text) fits h =
     let rules = tags_are after tags text h in
-    (fits.0, record { each = names_fit tags rules.1; few = omega (arith, rules.0) })
-is_spelled ver (Delete spans) fits h = record { each = fits; few = omega (arith, spans_are spans h) }
+    ((after_fits ver after tags text fits).0, record { each = names_fit tags rules.1; few = omega (arith, rules.0) })
+is_spelled ver (Delete spans) fits h = record { each = deleted_fit ver spans fits; few = omega (arith, spans_are spans h) }
 is_spelled ver (Tag on name spans) fits h =
     let rules = tag_is on name spans h in
-    (record { utf8 = grind (arith, nat_tests); short = omega (arith, rules.0) }, record { each = fits; few = omega (arith, rules.1) })
+    (record { utf8 = grind (arith, nat_tests); short = omega (arith, rules.0) }, record { each = tagged_fit ver on name spans fits; few = omega (arith, rules.1) })
 
 pub same_body : (ver : Version) (a b : Body) → kind_of a ≡ kind_of b → IsSpelled ver a → IsSpelled ver b → body_bytes ver a ≡ body_bytes ver b → a ≡ b
 same_body ver (Insert after tags text) (Insert other others more) k fits so e =
@@ -205,12 +206,12 @@ pub same_head : {ver : Version} (kind : ℕ) (stamp : Stamp) (prev : ℕ) (rest 
     → (kind ≡ kind_of op.body) × (stamp ≡ stamp_of op) × (prev ≡ op.prev) × (rest ≡ body_bytes ver op.body)
 same_head {ver} kind stamp prev rest op fits small has e =
     let k = heads kind (kind_of op.body) (stamp_bytes ver stamp ++ (number w64 prev ++ rest)) (stamp_bytes ver (stamp_of op) ++ (number w64 op.prev ++ body_bytes ver op.body)) e in
-    let s = same_stamp stamp (stamp_of op) (number w64 prev ++ rest) (number w64 op.prev ++ body_bytes ver op.body) fits has.stamp k.1 in
-    let p = front_same_8 prev op.prev rest (body_bytes ver op.body) small has.prev s.1 in
+    let s = same_stamp stamp (stamp_of op) (number w64 prev ++ rest) (number w64 op.prev ++ body_bytes ver op.body) fits (stamp_fits op has) k.1 in
+    let p = front_same_8 prev op.prev rest (body_bytes ver op.body) small has.counts.1.0 s.1 in
     (k.0, s.0, p.0, p.1)
 
 pub same_content : {ver : Version} (a b : Operation) → HasRecord ver a → HasRecord ver b → content_of ver a ≡ content_of ver b → a ≡ b
 same_content {ver} a b has so e =
-    let p = same_head (kind_of a.body) (stamp_of a) a.prev (body_bytes ver a.body) b has.stamp has.prev so e in
-    let q = same_body ver a.body b.body p.0 (is_spelled ver a.body has.body has.rules) (is_spelled ver b.body so.body so.rules) p.3 in
+    let p = same_head (kind_of a.body) (stamp_of a) a.prev (body_bytes ver a.body) b (stamp_fits a has) has.counts.1.0 so e in
+    let q = same_body ver a.body b.body p.0 (is_spelled ver a.body (body_fits a has) has.rules) (is_spelled ver b.body (body_fits b so) so.rules) p.3 in
     λ i. record { count = ap (λ (s : Stamp). s.count) p.1 i; site = ap (λ (s : Stamp). s.site) p.1 i; prev = p.2 i; body = q i }

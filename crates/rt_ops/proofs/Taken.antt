@@ -12,11 +12,11 @@ use Rattle.rt_stamps.specs.declared.fault.Fault.TheVariants.{NoMemory, BadMagic,
 use Rattle.rt_stamps.specs.declared.limits.Bounds.{Bounds}
 use Rattle.rt_ops.specs.declared.version.Version.{Version}
 use Rattle.rt_ops.specs.declared.version.Version.TheVariants.{One, Two}
-use Rattle.rt_ops.specs.Versions.{layout}
+use Rattle.rt_ops.specs.Versions.{file_name, fewest}
 use Rattle.rt_ops.specs.Operations.{Operation}
 use Rattle.rt_ops.specs.Decoding.{RefusesBytes}
 use Rattle.rt_ops.specs.File.{magic, number, content_of, record_of, HasRecord}
-use Rattle.rt_ops.specs.Reading.{file_name, head_of, EndsEarly, HasNoRecord}
+use Rattle.rt_ops.specs.Reading.{head_of, EndsEarly, HasNoRecord}
 use Rattle.rt_stamps.specs.Streams.{Stream}
 use Rattle.rt_ops.specs.Intake.{Takes, Finishes, IsStopped, Fails, GetsHead}
 use Rattle.rt_ops.proofs.Lengths.{length_4, same_front, content_length, content_short}
@@ -87,7 +87,7 @@ not_gathered {ver} a b c x y z front wanted fault h early (inr stop) =
 pub short_field : (ver : Version) (taken : List ℕ) → length taken < 4 → EndsEarly ver ([] ++ taken)
 short_field ver taken lt = inl lt
 
-pub short_content : (ver : Version) (n : ℕ) → (layout ver).fewest ≤ n → n ≤ MOST_RECORD_BYTES → (taken : List ℕ) → length taken < n → EndsEarly ver (number w32 n ++ taken)
+pub short_content : (ver : Version) (n : ℕ) → fewest ver ≤ n → n ≤ MOST_RECORD_BYTES → (taken : List ℕ) → length taken < n → EndsEarly ver (number w32 n ++ taken)
 short_content ver n least most taken lt = inr (n, taken, refl, least, most, lt)
 
 -- the length field alone
@@ -96,7 +96,7 @@ only_length buffer rest n parts short =
     let none : rest ≡ [] = nil_from_length rest (omega (arith, ap length parts, length-append (number w32 n) rest, length_4 n)) in
     parts ∙ ap (λ v. number w32 n ++ v) none ∙ append-nil (number w32 n)
 
-pub bad_length : {ver : Version} (buffer : List ℕ) (n : ℕ) → n < 2 ^ 32 → buffer ≡ number w32 n → (((layout ver).fewest ≤ n) × (n ≤ MOST_RECORD_BYTES) → ⊥) → HasNoRecord ver buffer
+pub bad_length : {ver : Version} (buffer : List ℕ) (n : ℕ) → n < 2 ^ 32 → buffer ≡ number w32 n → ((fewest ver ≤ n) × (n ≤ MOST_RECORD_BYTES) → ⊥) → HasNoRecord ver buffer
 bad_length {ver} buffer n few is out = record {
   some = omega (arith, ap length is, length_4 n);
   whole = λ more early. elim early [
@@ -111,7 +111,7 @@ bad_length {ver} buffer n few is out = record {
 }
 
 -- a whole record doesn't end early
-pub whole_content : (ver : Version) (content more : List ℕ) → (layout ver).fewest ≤ length content → length content ≤ MOST_RECORD_BYTES → EndsEarly ver ((number w32 (length content) ++ content) ++ more) → ⊥
+pub whole_content : (ver : Version) (content more : List ℕ) → fewest ver ≤ length content → length content ≤ MOST_RECORD_BYTES → EndsEarly ver ((number w32 (length content) ++ content) ++ more) → ⊥
 whole_content ver content more least most (inl lt) =
     let n = length content in
     omega (arith, lt, length-append (number w32 n ++ content) more, length-append (number w32 n) content, length_4 n)
@@ -120,7 +120,7 @@ whole_content ver content more least most (inr r) =
     let p = front_same_4 n r.0 (content ++ more) r.1 (omega (arith, most)) (omega (arith, r.4)) (sym (append_assoc (number w32 n) content more) ∙ r.2) in
     omega (arith, p.0, ap length p.1, length-append content more, r.5)
 
-pub bad_content : {ver : Version} (content : List ℕ) (n : ℕ) → (layout ver).fewest ≤ n → n ≤ MOST_RECORD_BYTES → length content ≡ n → ((op : Operation) → HasRecord ver op → content ≡ content_of ver op → ⊥) → HasNoRecord ver (number w32 n ++ content)
+pub bad_content : {ver : Version} (content : List ℕ) (n : ℕ) → fewest ver ≤ n → n ≤ MOST_RECORD_BYTES → length content ≡ n → ((op : Operation) → HasRecord ver op → content ≡ content_of ver op → ⊥) → HasNoRecord ver (number w32 n ++ content)
 bad_content {ver} content n least most size none = record {
   some = omega (arith, length-append (number w32 n) content, length_4 n);
   whole = λ more. subst (λ m. EndsEarly ver ((number w32 m ++ content) ++ more) → ⊥) size (whole_content ver content more (omega (arith, size, least)) (omega (arith, size, most)));
@@ -134,7 +134,7 @@ bad_content {ver} content n least most size none = record {
 }
 
 -- why a record's bytes are refused
-pub not_decoded : {ver : Version} (a b : Stream) (x y : Bounds) (content : List ℕ) (n : ℕ) (fault : Fault) → Takes a b x y (number w32 n ++ content) → (layout ver).fewest ≤ n → n ≤ MOST_RECORD_BYTES → length content ≡ n
+pub not_decoded : {ver : Version} (a b : Stream) (x y : Bounds) (content : List ℕ) (n : ℕ) (fault : Fault) → Takes a b x y (number w32 n ++ content) → fewest ver ≤ n → n ≤ MOST_RECORD_BYTES → length content ≡ n
     → RefusesBytes fault ((op : Operation) → HasRecord ver op → content ≡ content_of ver op → ⊥) → Fails ver a b x y fault
 not_decoded {ver} a b x y content n fault h least most size (inl memory) = (number w32 n ++ content, inl (memory, h))
 not_decoded {ver} a b x y content n fault h least most size (inr bad) = (number w32 n ++ content, inr (inr (inl (bad.0, h, bad_content content n least most size bad.1))))
@@ -157,11 +157,11 @@ field_told a b x y s rest n parts short takes =
 
 -- ---- what a record has behind _ it
 
-pub cut_content : {ver : Version} (a b c : Stream) (x y z : Bounds) (n : ℕ) (content : List ℕ) → Takes a b x y (number w32 n) → (layout ver).fewest ≤ n → n ≤ MOST_RECORD_BYTES → Finishes b c y z content → length content < n → Fails ver a c x z Truncated
+pub cut_content : {ver : Version} (a b c : Stream) (x y z : Bounds) (n : ℕ) (content : List ℕ) → Takes a b x y (number w32 n) → fewest ver ≤ n → n ≤ MOST_RECORD_BYTES → Finishes b c y z content → length content < n → Fails ver a c x z Truncated
 cut_content {ver} a b c x y z n content h least most k lt =
     (number w32 n ++ content, inr (inl (refl, finishes_then a b c x y z (number w32 n) content h k, omega (arith, length-append (number w32 n) content, length_4 n), inr (n, content, refl, least, most, lt))))
 
-pub refused_content : {ver : Version} (a b c : Stream) (x y z : Bounds) (n : ℕ) (content : List ℕ) (fault : Fault) → Takes a b x y (number w32 n) → (layout ver).fewest ≤ n → n ≤ MOST_RECORD_BYTES → Takes b c y z content → length content ≤ n → n ≤ length content
+pub refused_content : {ver : Version} (a b c : Stream) (x y z : Bounds) (n : ℕ) (content : List ℕ) (fault : Fault) → Takes a b x y (number w32 n) → fewest ver ≤ n → n ≤ MOST_RECORD_BYTES → Takes b c y z content → length content ≤ n → n ≤ length content
     → RefusesBytes fault ((op : Operation) → HasRecord ver op → content ≡ content_of ver op → ⊥) → Fails ver a c x z fault
 refused_content {ver} a b c x y z n content fault h least most k short long refuses =
     not_decoded a c x z content n fault (takes_then a b c x y z (number w32 n) content h k) least most (omega arith) refuses
@@ -185,7 +185,7 @@ tells true false false true ver e = inr (cc, refl)
 tells true false false false ver e = absurd cc
 
 pub magic_length : (ver : Version) → length (magic ver) ≡ 8
-unfolding magic
+unfolding magic file_name
 magic_length One = refl
 magic_length Two = refl
 

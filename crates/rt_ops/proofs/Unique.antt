@@ -8,7 +8,6 @@ use Rattle.rt_stamps.specs.Stamps.{is_before}
 use Rattle.rt_stamps.specs.declared.fault.Fault.{Fault}
 use Rattle.rt_stamps.specs.declared.fault.Fault.TheVariants.{Truncated, BadRecord}
 use Rattle.rt_ops.specs.declared.version.Version.{Version}
-use Rattle.rt_ops.specs.declared.version.Version.TheVariants.{One, Two}
 use Rattle.rt_ops.specs.Operations.{Operation, stamp_of}
 use Rattle.rt_ops.specs.Rules.{each_next}
 use Rattle.rt_ops.specs.File.{magic, record_of, file_of, HasRecord, AreInFile}

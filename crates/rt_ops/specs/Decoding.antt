@@ -9,7 +9,8 @@ use Rattle.rt_stamps.specs.declared.fault.Fault.TheVariants.{NoMemory, BadRecord
 use Rattle.rt_ops.specs.declared.version.Version.{Version}
 use Rattle.rt_ops.specs.Operations.{Name, Body, Operation, stamp_of}
 use Rattle.rt_ops.specs.Rules.{keeps_rules}
-use Rattle.rt_ops.specs.File.{SpanFits, BodyFits, kind_of, body_bytes}
+use Rattle.rt_ops.specs.Versions.{sites}
+use Rattle.rt_ops.specs.File.{has_room, named_counts, kind_of, body_bytes}
 
 -- want of memory, or BadRecord where something doesn't hold
 abbrev pub RefusesBytes : Fault → Type 0 → Type 0
@@ -26,6 +27,21 @@ abbrev pub DecodesFront : {A X : Type 0} → (A → List ℕ) → (A → Type 0)
 DecodesFront {A} spelled Fits view rest bytes result = MatchResult result
     (λ x. Fits (view x) × (bytes ≡ spelled (view x) ++ rest x))
     (λ fault. RefusesBytes fault ((a : A) (more : List ℕ) → Fits a → bytes ≡ spelled a ++ more → ⊥))
+
+-- what was decoded fits its fields
+
+pub record StampFits (version : Version) (stamp : Stamp) : Type 0 where
+  pub count : stamp.count < 2 ^ 64
+  pub site : stamp.site < sites version
+
+pub record SpanFits (version : Version) (span : Span) : Type 0 where
+  pub site : span.site < sites version
+  pub first : span.first < 2 ^ 64
+  pub last : span.last < 2 ^ 64
+
+pub record BodyFits (version : Version) (body : Body) : Type 0 where
+  pub room : has_room version body ≡ true
+  pub counts : AllByRecursion (λ count. count < 2 ^ 64) (named_counts body)
 
 -- a name whose length fits a byte, in UTF-8
 pub record NameFits (name : Name) : Type 0 where

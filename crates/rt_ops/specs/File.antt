@@ -1,5 +1,5 @@
 -- The operation file: the bytes that spell operations.
-use Rattle.std.specs.Prelude.{◌≡◌, ℕ, ◌<◌, ◌≤◌, ◌^◌, Bool, true, false, ◌&&◌, nat_lt, nat_le, List, ◌∷◌, ◌++◌, length, encode_utf8_all, if◌then◌else◌}
+use Rattle.std.specs.Prelude.{◌≡◌, ℕ, ◌<◌, ◌^◌, Bool, true, false, ◌&&◌, nat_lt, nat_le, List, [], ◌∷◌, ◌++◌, length, encode_utf8_all, if◌then◌else◌}
 use Rattle.std.specs.List.{flat_map, list_all, AllByRecursion}
 use Rattle.std.specs.Int.{Width, w32, w64, to_be_bytes}
 use Rattle.rt_stamps.specs.declared.stamp.Span.{Span}
@@ -9,11 +9,11 @@ use Rattle.rt_ops.specs.declared.version.Version.{Version}
 use Rattle.rt_ops.specs.declared.version.Version.TheVariants.{One, Two}
 use Rattle.rt_ops.specs.Operations.{Name, Body, Insert, Delete, Tag, Operation, stamp_of}
 use Rattle.rt_ops.specs.Rules.{each_next, keeps_rules}
-use Rattle.rt_ops.specs.Versions.{layout, sites}
+use Rattle.rt_ops.specs.Versions.{file_name, layout, sites}
 
--- the eight bytes with which a file begins
+-- the eight bytes with which a file begins: its name and its version
 unfoldable pub magic : Version → List ℕ
-magic version = (layout version).magic
+magic version = file_name ++ (layout version).digit ∷ []
 
 -- a number, the highest byte first
 unfoldable pub number : Width → ℕ → List ℕ
@@ -67,40 +67,13 @@ record_of version op = number w32 (length (content_of version op)) ++ content_of
 abbrev pub file_of : Version → List Operation → List ℕ
 file_of version ops = magic version ++ flat_map (record_of version) ops
 
--- What has a record: the numbers fit their fields, the tags are no more than the version lists, and the body keeps the rules.
+-- What a version has room for: the sites that stand in it, and the tags that an Insert lists.
 
-pub record StampFits (version : Version) (stamp : Stamp) : Type 0 where
-  pub count : stamp.count < 2 ^ 64
-  pub site : stamp.site < sites version
-
-pub record SpanFits (version : Version) (span : Span) : Type 0 where
-  pub site : span.site < sites version
-  pub first : span.first < 2 ^ 64
-  pub last : span.last < 2 ^ 64
-
-abbrev pub BodyFits : Version → Body → Type 0
-BodyFits version (Insert after tags text) = StampFits version after × (length tags ≤ (layout version).most_tags)
-BodyFits version (Delete spans) = AllByRecursion (SpanFits version) spans
-BodyFits version (Tag on name spans) = AllByRecursion (SpanFits version) spans
-
-pub record HasRecord (version : Version) (op : Operation) : Type 0 where
-  pub stamp : StampFits version (stamp_of op)
-  pub prev : op.prev < 2 ^ 64
-  pub body : BodyFits version op.body
-  pub rules : keeps_rules op.body ≡ true
-
--- the operations of a file: each has a record, and their stamps rise strictly
-pub record AreInFile (version : Version) (ops : List Operation) : Type 0 where
-  pub records : AllByRecursion (HasRecord version) ops
-  pub rising : each_next (λ a b. is_before (stamp_of a) (stamp_of b)) ops ≡ true
-
--- Which version operations are written in: the first where each has room in it, else the second.
-
--- the version has room for the sites of spans
+-- the sites of spans
 abbrev pub have_room : Version → List Span → Bool
 have_room version spans = list_all (λ span. nat_lt span.site (sites version)) spans
 
--- the version has room for the sites that a body names, and for its tags
+-- the sites that a body names, and its tags
 abbrev pub has_room : Version → Body → Bool
 has_room version (Insert after tags text) = nat_lt after.site (sites version) && nat_le (length tags) (layout version).most_tags
 has_room version (Delete spans) = have_room version spans
@@ -109,6 +82,28 @@ has_room version (Tag on name spans) = have_room version spans
 abbrev pub fits : Version → Operation → Bool
 fits version op = nat_lt op.site (sites version) && has_room version op.body
 
+-- the counts that a body names
+abbrev pub counts_of : List Span → List ℕ
+counts_of spans = flat_map (λ span. span.first ∷ span.last ∷ []) spans
+
+abbrev pub named_counts : Body → List ℕ
+named_counts (Insert after tags text) = after.count ∷ []
+named_counts (Delete spans) = counts_of spans
+named_counts (Tag on name spans) = counts_of spans
+
+-- an operation has a record in a version that has room for it, where eight bytes have room for its counts and its body keeps
+-- the rules
+pub record HasRecord (version : Version) (op : Operation) : Type 0 where
+  pub room : fits version op ≡ true
+  pub counts : AllByRecursion (λ count. count < 2 ^ 64) (op.count ∷ op.prev ∷ named_counts op.body)
+  pub rules : keeps_rules op.body ≡ true
+
+-- the operations of a file: each has a record, and their stamps rise strictly
+pub record AreInFile (version : Version) (ops : List Operation) : Type 0 where
+  pub records : AllByRecursion (HasRecord version) ops
+  pub rising : each_next (λ a b. is_before (stamp_of a) (stamp_of b)) ops ≡ true
+
+-- which version operations are written in: the first where that has room for each, else the second
 abbrev pub version_of : List Operation → Version
 version_of ops = if list_all (fits One) ops then One else Two
 

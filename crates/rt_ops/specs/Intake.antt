@@ -11,7 +11,7 @@ use Rattle.rt_stamps.specs.Streams.{Stream}
 use Rattle.rt_ops.specs.declared.version.Version.{Version}
 use Rattle.rt_ops.specs.Operations.{Operation}
 use Rattle.rt_ops.specs.File.{magic, number, record_of, HasRecord}
-use Rattle.rt_ops.specs.Versions.{layout}
+use Rattle.rt_ops.specs.Versions.{fewest}
 use Rattle.rt_ops.specs.Reading.{head_of, EndsEarly, HasNoRecord, Reads, Stops}
 
 -- These bytes were taken in no more reads than there are bytes, and none failed. `had` and `has` are what the bounds allowed
@@ -100,7 +100,8 @@ Fails version old new had has fault = (bytes : List ℕ) × (
 -- a record's length field, or none at the end
 abbrev pub GetsLength : Version → Stream → Stream → Bounds → Bounds → Result (Option ℕ) Fault → Type 0
 GetsLength version old new had has result = MatchResult result
-    (λ found. MatchOption found (Finishes old new had has []) (λ n. Takes old new had has (number w32 n) × ((layout version).fewest ≤ n) × (n ≤ MOST_RECORD_BYTES)))
+    (λ found. MatchOption found (Finishes old new had has [])
+    (λ n. Takes old new had has (number w32 n) × (fewest version ≤ n) × (n ≤ MOST_RECORD_BYTES)))
     (Fails version old new had has)
 
 -- a record, or none at the end

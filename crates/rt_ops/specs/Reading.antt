@@ -1,5 +1,5 @@
 -- What reading makes of the bytes of a file.
-use Rattle.std.specs.Prelude.{◌≡◌, ◌⊎◌, ℕ, ◌+◌, ◌<◌, ◌≤◌, Bool, true, not, nat_lt, List, [], ◌∷◌, ◌++◌, length, take, Option, Some, None, option_map, Result, Ok, Err, codes, if◌then◌else◌}
+use Rattle.std.specs.Prelude.{◌≡◌, ◌⊎◌, ℕ, ◌+◌, ◌<◌, ◌≤◌, Bool, true, not, nat_lt, List, [], ◌∷◌, ◌++◌, length, take, Option, Some, None, option_map, Result, Ok, Err, if◌then◌else◌}
 use Rattle.std.specs.List.{last_or}
 use Rattle.std.specs.Int.{w32}
 use Rattle.std.specs.Str.{bytes_eq}
@@ -12,11 +12,7 @@ use Rattle.rt_ops.specs.declared.version.Version.TheVariants.{One, Two}
 use Rattle.rt_ops.specs.Operations.{Operation, stamp_of}
 use Rattle.rt_stamps.specs.Stamps.{is_before}
 use Rattle.rt_ops.specs.File.{magic, number, record_of, file_of, version_of, HasRecord, AreInFile}
-use Rattle.rt_ops.specs.Versions.{layout}
-
--- the first seven bytes of a file, before the version
-unfoldable pub file_name : List ℕ
-file_name = codes "RGATEXT"
+use Rattle.rt_ops.specs.Versions.{file_name, fewest}
 
 -- the version that a file's first eight bytes tell, or their fault; of all bytes where there are fewer
 abbrev pub head_of : List ℕ → Result Version Fault
@@ -40,14 +36,14 @@ offsets_of ops = offsets_from (version_of ops) 8 ops
 abbrev pub EndsEarly : Version → List ℕ → Type 0
 EndsEarly version rest =
     (length rest < 4)
-    ⊎ ((n : ℕ) × (content : List ℕ) × (rest ≡ number w32 n ++ content) × ((layout version).fewest ≤ n) × (n ≤ MOST_RECORD_BYTES) × (length content < n))
+    ⊎ ((n : ℕ) × (content : List ℕ) × (rest ≡ number w32 n ++ content) × (fewest version ≤ n) × (n ≤ MOST_RECORD_BYTES) × (length content < n))
 
 -- a length in its range stands at the front, and as many bytes follow it
 pub record StandsWhole (version : Version) (rest : List ℕ) : Type 0 where
   pub content : List ℕ
   pub more : List ℕ
   pub parts : rest ≡ (number w32 (length content) ++ content) ++ more
-  pub least : (layout version).fewest ≤ length content
+  pub least : fewest version ≤ length content
   pub most : length content ≤ MOST_RECORD_BYTES
 
 -- whatever follows, these bytes are whole and begin with the record of no operation
@@ -87,8 +83,8 @@ abbrev pub IsBegun : List ℕ → List Operation → Type 0
 IsBegun bytes ops = (version : Version) × IsBegunIn version bytes ops
 
 -- these operations are the first of all, or all of them
-abbrev pub IsFrontOf : List Operation → List Operation → Type 0
-IsFrontOf ops all = (more : List Operation) × (all ≡ ops ++ more)
+abbrev pub AreFirstOf : List Operation → List Operation → Type 0
+AreFirstOf ops all = (more : List Operation) × (all ≡ ops ++ more)
 
 -- what is read of a file's bytes
 abbrev pub Reads : List ℕ → List Operation → List ℕ → Option (Fault × ℕ) → Type 0
@@ -103,8 +99,8 @@ Stops front ops offsets at =
     × (at ≡ length (file_of version ops)) × EndsEarly version rest)
 
 -- the stamp of the last operation, if there is any
-abbrev pub last_stamp : List Operation → Option Stamp
-last_stamp ops = option_map stamp_of (last_or None ops)
+abbrev pub stamp_of_last : List Operation → Option Stamp
+stamp_of_last ops = option_map stamp_of (last_or None ops)
 
 -- whether an operation's stamp is after the last one, if there is any
 abbrev pub may_follow : Option Stamp → Operation → Bool

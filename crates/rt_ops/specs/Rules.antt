@@ -23,7 +23,7 @@ is_name name = is_utf8 name && (is_name_length (length name) && not (bytes_eq na
 abbrev pub is_lesser_name : Name → Name → Bool
 is_lesser_name a b = is_lt (name_order a b)
 
--- at most 64 names, which rise strictly by bytes
+-- at most 255 names, which rise strictly by bytes
 abbrev pub are_tags : List Name → Bool
 are_tags tags = is_within 0 MOST_TAGS (length tags) && (list_all is_name tags && each_next is_lesser_name tags)
 

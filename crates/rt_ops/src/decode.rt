@@ -1,9 +1,9 @@
 // Operations, read from the bytes of a record.
 ghost use Rattle.std.specs.Prelude.{◌≡◌, ℕ, ◌∷◌, ◌++◌, ◌<◌, ◌^◌, Bool, List, length, IfNone, IfSome};
 ghost use Rattle.std.specs.Int.{w64};
-ghost use Rattle.rt_ops.specs.Versions.{layout};
-ghost use Rattle.rt_ops.specs.File.{number, stamp_bytes, flag, StampFits, HasRecord, content_of};
-ghost use Rattle.rt_ops.specs.Decoding.{Decodes, DecodesBody};
+ghost use Rattle.rt_ops.specs.Versions.{fewest, layout};
+ghost use Rattle.rt_ops.specs.File.{number, stamp_bytes, flag, HasRecord, content_of};
+ghost use Rattle.rt_ops.specs.Decoding.{Decodes, DecodesBody, StampFits};
 
 use crate::fields::{byte_at, name_at, spans_of, stamp_at, tags_at, text_of, u64_at};
 use crate::{Op, Version};
@@ -19,7 +19,7 @@ struct Head {
 }
 
 fn head_at(version: Version, bytes: &[u8]) -> Option<(Head, &[u8])>
-    ensures none { IfNone result (length bytes.now < (layout version).fewest) }
+    ensures none { IfNone result (length bytes.now < fewest version) }
     ensures fits { IfSome result (λ found. StampFits version found.0.stamp × (found.0.prev < 2 ^ 64)) }
     ensures bytes { IfSome result (λ found. bytes.now ≡ found.0.kind ∷ (stamp_bytes version found.0.stamp ++ (number w64 found.0.prev ++ found.1.now))) }
 {

@@ -1,12 +1,13 @@
 // Worked examples of the rules and of the file, each a clause that computes.
 ghost use Rattle.std.specs.Prelude.{◌≡◌, ◌-◌, ◌^◌, true, false, [], ◌∷◌, codes, Ok, Err};
+ghost use Rattle.std.specs.List.{repeat};
 ghost use Rattle.rt_stamps.specs.declared.fault.Fault.TheVariants.{BadMagic, BadVersion, Truncated};
 ghost use Rattle.rt_ops.specs.declared.version.Version.TheVariants.{One, Two};
 ghost use Rattle.rt_stamps.specs.declared.stamp.TheConstants.{ROOT};
 ghost use Rattle.rt_ops.specs.Examples.{hex, made, may_be_deleted, may_be_listed, may_be_tagged, puts_ab, puts_c, span, tags_a, takes_b};
 ghost use Rattle.rt_ops.specs.File.{record_of, version_of};
 ghost use Rattle.rt_ops.specs.Operations.{Delete, Insert, has_bad_stamp};
-ghost use Rattle.rt_ops.specs.Reading.{head_of, last_stamp, may_follow};
+ghost use Rattle.rt_ops.specs.Reading.{head_of, may_follow, stamp_of_last};
 
 /// The spans of an operation stand by site, and at one site by count, with at least one count between two.
 pub fn spans()
@@ -35,7 +36,7 @@ pub fn tags()
 {}
 
 /// The version that a file's first eight bytes tell, or their fault; of all bytes where there are fewer.
-#[tactic(auto, unfolding(crate::specs::Reading::file_name, crate::specs::File::magic))]
+#[tactic(auto, unfolding(crate::specs::Versions::file_name, crate::specs::File::magic))]
 pub fn heads()
     ensures version_one { head_of (codes "RGATEXT1") ≡ Ok One }
     ensures version_two { head_of (codes "RGATEXT2") ≡ Ok Two }
@@ -55,7 +56,8 @@ pub fn records()
     ensures wide_site { record_of Two puts_c ≡ hex (codes "000000230100000000000000030001000000000000000000000000000000000002000000010063") }
 {}
 
-/// Which version operations are written in: the first, but for a site above 65,535, also a named one.
+/// Which version operations are written in: the first, but for a site above 65,535, also a named one, or an Insert of more than
+/// 64 tags.
 pub fn versions()
     ensures none { version_of [] ≡ One }
     ensures first { version_of (puts_ab ∷ takes_b ∷ []) ≡ One }
@@ -64,15 +66,17 @@ pub fn versions()
     ensures least_of_two { version_of (made 1 65536 0 (Insert ROOT [] (codes "a")) ∷ []) ≡ Two }
     ensures named { version_of (made 3 1 2 (Delete (span 1 2 2 ∷ span 65536 1 1 ∷ [])) ∷ []) ≡ Two }
     ensures after { version_of (made 3 1 2 (Insert (record { count = 1; site = 65536 }) [] (codes "a")) ∷ []) ≡ Two }
+    ensures tags_of_one { version_of (made 1 1 0 (Insert ROOT (repeat 64 (codes "t" ∷ [])) (codes "a")) ∷ []) ≡ One }
+    ensures tags_of_two { version_of (made 1 1 0 (Insert ROOT (repeat 65 (codes "t" ∷ [])) (codes "a")) ∷ []) ≡ Two }
 {}
 
 /// Stamps of a file's operations rise: by count, and at one count by site.
 pub fn orders()
-    ensures first { may_follow (last_stamp []) takes_b ≡ true }
-    ensures greater { may_follow (last_stamp (puts_ab ∷ [])) takes_b ≡ true }
-    ensures last { may_follow (last_stamp (puts_ab ∷ takes_b ∷ [])) tags_a ≡ false }
-    ensures next_site { may_follow (last_stamp (takes_b ∷ [])) (made 3 2 0 (Delete [])) ≡ true }
-    ensures lesser { may_follow (last_stamp (takes_b ∷ [])) puts_ab ≡ false }
+    ensures first { may_follow (stamp_of_last []) takes_b ≡ true }
+    ensures greater { may_follow (stamp_of_last (puts_ab ∷ [])) takes_b ≡ true }
+    ensures last { may_follow (stamp_of_last (puts_ab ∷ takes_b ∷ [])) tags_a ≡ false }
+    ensures next_site { may_follow (stamp_of_last (takes_b ∷ [])) (made 3 2 0 (Delete [])) ≡ true }
+    ensures lesser { may_follow (stamp_of_last (takes_b ∷ [])) puts_ab ≡ false }
 {}
 
 /// Which stamps of an operation are bad.

@@ -6,8 +6,8 @@ ghost use Rattle.std.specs.Str.{chars};
 ghost use Rattle.rt_stamps.specs.declared.fault.Fault.TheVariants.{NoMemory};
 ghost use Rattle.rt_stamps.specs.Words.{as_words};
 ghost use Rattle.rt_ops.specs.Versions.{layout, sites};
-ghost use Rattle.rt_ops.specs.File.{number, stamp_bytes, span_bytes, spans_bytes, name_bytes, tags_bytes, StampFits, SpanFits};
-ghost use Rattle.rt_ops.specs.Decoding.{Decodes, DecodesFront, NameFits, IsNameOf, AreNames, TagsFit, SpansFit, AreScalars};
+ghost use Rattle.rt_ops.specs.File.{number, stamp_bytes, span_bytes, spans_bytes, name_bytes, tags_bytes};
+ghost use Rattle.rt_ops.specs.Decoding.{Decodes, DecodesFront, NameFits, IsNameOf, AreNames, StampFits, SpanFits, TagsFit, SpansFit, AreScalars};
 
 use crate::Version;
 use rt_stamps::{Fault, Span, Stamp};

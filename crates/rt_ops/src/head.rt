@@ -2,7 +2,8 @@
 ghost use Rattle.std.specs.Prelude.{◌≡◌, ◌≤◌, length, take};
 ghost use Rattle.std.specs.Str.{bytes_eq};
 ghost use Rattle.rt_ops.specs.File.{magic};
-ghost use Rattle.rt_ops.specs.Reading.{file_name, head_of};
+ghost use Rattle.rt_ops.specs.Reading.{head_of};
+ghost use Rattle.rt_ops.specs.Versions.{file_name};
 
 use crate::Version;
 use rt_stamps::Fault;
@@ -10,7 +11,7 @@ use rt_stamps::Fault;
 /// The bytes of a file before its records.
 pub const HEAD_BYTES: usize = 8;
 
-#[tactic(auto, unfolding(crate::specs::Reading::file_name))]
+#[tactic(auto, unfolding(crate::specs::Versions::file_name))]
 fn begins_name(front: &[u8]) -> bool
     requires { length front.now ≤ 7 }
     ensures { result ≡ bytes_eq front.now (take (length front.now) file_name) }
@@ -27,7 +28,7 @@ fn is_named(front: &[u8]) -> bool
 }
 
 /// The eight bytes with which a file of a version begins.
-#[tactic(auto, unfolding(crate::specs::File::magic))]
+#[tactic(auto, unfolding(crate::specs::File::magic, crate::specs::Versions::file_name))]
 pub fn magic(version: Version) -> [u8; HEAD_BYTES]
     ensures { result ≡ magic version }
 {

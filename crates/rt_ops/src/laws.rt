@@ -13,7 +13,7 @@ ghost use Rattle.rt_ops.specs.declared.version.Version.TheVariants.{One, Two};
 ghost use Rattle.rt_ops.specs.Operations.{Operation};
 ghost use Rattle.rt_ops.specs.File.{HasRecord, AreInFile, file_of, fits, spelling, version_of};
 ghost use Rattle.rt_ops.specs.Intake.{FailsAfter, IsStopped, PassesBytes, ReadsFile};
-ghost use Rattle.rt_ops.specs.Reading.{IsBegun, IsEnd, IsFrontOf, Reads, head_of, offsets_from, offsets_of};
+ghost use Rattle.rt_ops.specs.Reading.{AreFirstOf, IsBegun, IsEnd, Reads, head_of, offsets_from, offsets_of};
 ghost use Rattle.rt_ops.specs.Records.{HasTaken, Left};
 ghost use Rattle.rt_ops.specs.Rules.{are_spans};
 
@@ -53,9 +53,9 @@ pub fn offsets()
 /// read is what it begins with, where its first eight bytes have no fault.
 pub fn fronts()
     ensures read { (bytes : List ℕ) (ops all : List Operation) (offsets : List ℕ) (fault : Option (Fault × ℕ)) → IsBegun bytes ops
-        → Reads bytes all offsets fault → IsFrontOf ops all }
+        → Reads bytes all offsets fault → AreFirstOf ops all }
     ensures two { (bytes : List ℕ) (one other : List Operation) → IsBegun bytes one → IsBegun bytes other
-        → IsFrontOf one other ⊎ IsFrontOf other one }
+        → AreFirstOf one other ⊎ AreFirstOf other one }
     ensures begun { (bytes : List ℕ) (all : List Operation) (offsets : List ℕ) (fault : Option (Fault × ℕ)) (version : Version)
         → head_of (take 8 bytes) ≡ Ok version → Reads bytes all offsets fault → IsBegun bytes all }
 {}

@@ -1,6 +1,6 @@
 // What every reading of records goes by: their lengths, and the order of their stamps.
 ghost use Rattle.std.specs.Prelude.{◌≡◌};
-ghost use Rattle.rt_ops.specs.Versions.{layout};
+ghost use Rattle.rt_ops.specs.Versions.{fewest, layout};
 ghost use Rattle.rt_ops.specs.Rules.{is_within};
 ghost use Rattle.rt_ops.specs.Reading.{may_follow};
 ghost use Rattle.rt_ops.specs.Records.{TellsLength};
@@ -12,7 +12,7 @@ use rt_stamps::{Fault, Stamp};
 
 /// Whether a record may have this length.
 fn is_length(version: Version, length: usize) -> bool
-    ensures { result ≡ is_within (layout version).fewest MOST_RECORD_BYTES length }
+    ensures { result ≡ is_within (fewest version) MOST_RECORD_BYTES length }
 {
     version.fewest_record_bytes() <= length && length <= MOST_RECORD_BYTES
 }

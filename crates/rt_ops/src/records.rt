@@ -26,13 +26,13 @@ pub struct Records<'a> {
 impl<'a> Model for Records<'a> {
     ghost use Rattle.std.specs.Prelude.{List, drop};
     ghost use Rattle.rt_ops.specs.Operations.{Operation};
-    ghost use Rattle.rt_ops.specs.Records.{Left, IsAt};
+    ghost use Rattle.rt_ops.specs.Records.{Left, IsFileUpTo};
 
     ghost Value = { Left };
 
     ghost view = { λ r. record { version = r.version; bytes = r.bytes.now; rest = drop r.offset r.bytes.now } };
 
-    ghost invariant = { λ r. (ops : List Operation) × IsAt r.version r.bytes.now r.offset r.last ops };
+    ghost invariant = { λ r. (ops : List Operation) × IsFileUpTo r.version r.bytes.now r.offset r.last ops };
 }
 
 /// The content of the record at the front.

@@ -7,7 +7,8 @@ ghost use Rattle.rt_stamps.specs.declared.limits.TheConstants.{MOST_RECORD_BYTES
 ghost use Rattle.rt_stamps.specs.Words.{as_words};
 ghost use Rattle.rt_ops.specs.Edits.{body_of};
 ghost use Rattle.rt_ops.specs.declared.version.Version.TheVariants.{One};
-ghost use Rattle.rt_ops.specs.File.{number, stamp_bytes, span_bytes, spans_bytes, name_bytes, tags_bytes, body_bytes, kind_of, content_of, record_of, StampFits, SpanFits, BodyFits, HasRecord, have_room, has_room, fits};
+ghost use Rattle.rt_ops.specs.File.{number, stamp_bytes, span_bytes, spans_bytes, name_bytes, tags_bytes, body_bytes, kind_of, content_of, record_of, HasRecord, have_room, has_room, fits};
+ghost use Rattle.rt_ops.specs.Decoding.{BodyFits, SpanFits, StampFits};
 ghost use Rattle.rt_ops.specs.Versions.{layout, sites};
 ghost use Rattle.rt_ops.specs.Rules.{keeps_rules};
 

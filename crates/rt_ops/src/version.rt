@@ -1,7 +1,7 @@
 // The versions of the operation file.
 ghost use Rattle.std.specs.Prelude.{◌≡◌, ◌+◌};
 ghost use Rattle.std.specs.Int.{byte_len};
-ghost use Rattle.rt_ops.specs.Versions.{layout, sites};
+ghost use Rattle.rt_ops.specs.Versions.{fewest, layout, sites};
 
 /// A version of the operation file. An operation is the same in each.
 #[derive(Clone, Copy, Debug, PartialEq, Eq)]
@@ -33,9 +33,9 @@ impl Version {
         }
     }
 
-    /// The fewest bytes of a record, its length field not counted.
+    /// The least length that a record may have: the bytes that stand before each body.
     pub(crate) fn fewest_record_bytes(self) -> usize
-        ensures { result ≡ (layout self).fewest }
+        ensures { result ≡ fewest self }
     {
         match self {
             Version::One => 19,

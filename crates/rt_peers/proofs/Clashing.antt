@@ -9,7 +9,7 @@ use Rattle.rt_stamps.specs.declared.fault.Fault.TheVariants.{Conflict, TextFull}
 use Rattle.rt_stamps.specs.declared.stamp.Stamp.{Stamp}
 use Rattle.rt_ops.specs.Operations.{Operation, last_count, named}
 use Rattle.rt_ops.specs.Reading.{Reads}
-use Rattle.rt_oplog.specs.Logs.{Has, clash, holds, with_operation}
+use Rattle.rt_oplog.specs.Logs.{HasOp, clash, holds, with_operation}
 use Rattle.rt_oplog.proofs.Joins.{joined_err}
 use Rattle.rt_oplog.proofs.Sets.{any_from, has_held, has_with, held_from, none_at, split, with_has}
 use Rattle.rt_rga.specs.Answers.{Answer, New, Repeat, Refused, answer_to, answer_within, refused_if_full}
@@ -46,8 +46,8 @@ upon_named : (base op : Operation) (s : Stamp) → names op.body s ≡ true → 
 upon_named base op s n h = let a = any_named (has_stamp (inserted base)) (named op.body) s n h in grind (arith, a)
 
 -- an operation of another history, whose bases are there, continues a history of which none clashes with it
-continues_apart : (other set : List Operation) (op : Operation) → IsHistory other → IsHistory set → Has other op → HasBasesIn other op set
-    → ((r : Operation) → Has set r → clash op r ≡ false) → holds set op ≡ false → Continues set op
+continues_apart : (other set : List Operation) (op : Operation) → IsHistory other → IsHistory set → HasOp other op → HasBasesIn other op set
+    → ((r : Operation) → HasOp set r → clash op r ≡ false) → holds set op ≡ false → Continues set op
 continues_apart other set op h k i bases f n = continues_free set op k (sound_in other h op i) (rules_in other h op i)
     (λ s m. known_weaker other set op.body s (λ c. let (x, j, t) = insert_of other s c in character_of set x s (bases x j (upon_named x op s m t)) t) (known_in_set other h op i s m))
     (elim (cases_lt 0 op.prev) [
@@ -58,11 +58,11 @@ continues_apart other set op h k i bases f n = continues_free set op k (sound_in
 
 -- a history has an operation already, or is continued by it, or one of its own clashes with it
 data IsAnswered (set : List Operation) (op : Operation) : Type 0 where
-  there : Has set op → answer_to op set ≡ Repeat → IsAnswered set op
+  there : HasOp set op → answer_to op set ≡ Repeat → IsAnswered set op
   goes_on : Continues set op → answer_to op set ≡ New → IsAnswered set op
-  clashes : (q : Operation) → Has set q → clash op q ≡ true → answer_to op set ≡ Refused Conflict → IsAnswered set op
+  clashes : (q : Operation) → HasOp set q → clash op q ≡ true → answer_to op set ≡ Refused Conflict → IsAnswered set op
 
-answered : (other set : List Operation) (op : Operation) → IsHistory other → IsHistory set → Has other op → HasBasesIn other op set → IsAnswered set op
+answered : (other set : List Operation) (op : Operation) → IsHistory other → IsHistory set → HasOp other op → HasBasesIn other op set → IsAnswered set op
 answered other set op h k i bases = split (holds set op)
     (λ e. let t = has_held set op e in there t ((repeat_is set op k).1 t))
     (λ e. split (list_any (clash op) set)
@@ -101,7 +101,7 @@ is_full_for limit op set = nat_lt limit (length (cells_of set) + length (inserte
 -- a history of operations of two logs
 record IsAmong (one other set : List Operation) : Type 0 where
   history : IsHistory set
-  some : (x : Operation) → Has set x → Has one x ⊎ Has other x
+  some : (x : Operation) → HasOp set x → HasOp one x ⊎ HasOp other x
 
 module _ {Site : Type 0} (log : Site → List Operation) (limit : Site → ℕ) (after : Operation → Site → Site) where
   abbrev Logs : List Operation → State Site → Type 0
@@ -136,7 +136,7 @@ module _ {Site : Type 0} (log : Site → List Operation) (limit : Site → ℕ) 
     result : List Operation
     has : Logs result new
     history : IsHistory result
-    members : (x : Operation) → Has result x ↔ (Has set x ⊎ (op ≡ x))
+    members : (x : Operation) → HasOp result x ↔ (HasOp set x ⊎ (op ≡ x))
 
   -- one that isn't refused is there afterwards
   goes : (op : Operation) (o : Offered) (set : List Operation) (old new : State Site) → IsHistory set → IsAnswered set op → Logs set old
@@ -146,7 +146,7 @@ module _ {Site : Type 0} (log : Site → List Operation) (limit : Site → ℕ) 
     result = set;
     has = repeated op o old new set l (sym r ∙ reply_is Repeat op set old l a) t;
     history = k;
-    members = λ x. (λ j. inl j, λ j. elim j [ inl m ↦ m | inr e ↦ subst (Has set) e i ]);
+    members = λ x. (λ j. inl j, λ j. elim j [ inl m ↦ m | inr e ↦ subst (HasOp set) e i ]);
   }
   goes op o set old new k (goes_on c a) l r t = record {
     result = with_operation op set;
@@ -160,7 +160,7 @@ module _ {Site : Type 0} (log : Site → List Operation) (limit : Site → ℕ) 
   goes op o set old new k (clashes q i c a) l r t = absurd (refuses o Conflict (sym r ∙ reply_is (Refused Conflict) op set old l a))
 
   -- and one that is refused finds no memory or no room, or clashes with one of both logs
-  ended : (op : Operation) (fault : Fault) (one other set : List Operation) (old : State Site) → IsAmong one other set → IsAnswered set op → Logs set old → Has other op
+  ended : (op : Operation) (fault : Fault) (one other set : List Operation) (old : State Site) → IsAmong one other set → IsAnswered set op → Logs set old → HasOp other op
       → IsRefused (reply_to (limit old.site) op (holding log old.site old.held)) fault → IsWantOrConflict one other fault
   ended op fault one other set old m is l i (inr r) = inl r.0
   ended op fault one other set old m (there j a) l i (inl r) =
@@ -177,8 +177,8 @@ module _ {Site : Type 0} (log : Site → List Operation) (limit : Site → ℕ) 
     pub result : List Operation
     pub has : HasLog log limit after result new
     pub history : IsHistory result
-    pub some : (x : Operation) → Has result x → Has one x ⊎ Has other x
-    pub all : (x : Operation) → Has set x ⊎ Has ops x → Has result x
+    pub some : (x : Operation) → HasOp result x → HasOp one x ⊎ HasOp other x
+    pub all : (x : Operation) → HasOp set x ⊎ HasOp ops x → HasOp result x
 
   abbrev pub Ends : List Operation → List Operation → List Operation → List Operation → Received → State Site → Type 0
   Ends one other set ops received new = (received.fault ≡ None → HasAll one other set ops new) × IfSome received.fault (λ found. IsWantOrConflict one other found.0)
@@ -203,7 +203,7 @@ module _ {Site : Type 0} (log : Site → List Operation) (limit : Site → ℕ) 
       let next = goes op f.offered set old f.next m.history is l f.reply f.is_offered in
       let among : IsAmong one other next.result = record {
         history = next.history;
-        some = λ x j. elim ((next.members x).0 j) [ inl k ↦ m.some x k | inr e ↦ inr (subst (Has other) e (o op (inl refl))) ];
+        some = λ x j. elim ((next.members x).0 j) [ inl k ↦ m.some x k | inr e ↦ inr (subst (HasOp other) e (o op (inl refl))) ];
       } in
       let rest = offers_end one other h ops offsets behind f.next f.rest new (op ∷ seen) next.result f.others w next.has among
       (λ x j. (next.members x).1 (elim j [ inl e ↦ inr e | inr k ↦ inl (a x k) ]))
@@ -229,7 +229,7 @@ module _ {Site : Type 0} (log : Site → List Operation) (limit : Site → ℕ) 
   file_ends bytes offsets one other old received new reads f l h k =
       let front = front_read bytes (reverse other) f.ops offsets f.offsets f.behind reads f.read in
       let ends = offers_end one other k f.ops f.offsets f.behind old received new [] one f.offers front.well l (record { history = h; some = λ x i. inl i })
-      (λ x i. absurd i) (λ x i. of_reverse other x (subst (λ l. Has l x) (sym front.is) (before f.ops front.more x i)))
+      (λ x i. absurd i) (λ x i. of_reverse other x (subst (λ l. HasOp l x) (sym front.is) (before f.ops front.more x i)))
       (come_front other [] f.ops front.more (subst (ComeInTime other []) front.is (by_stamp other other [] k k (λ x i. i)))) in (
         λ e. subst (λ ops. HasAll one other one ops new) (sym (all_offered log limit after bytes (reverse other) f.ops offsets f.offsets f.behind old received new reads f.read f.offers e)) (ends.0 e),
         ends.1,

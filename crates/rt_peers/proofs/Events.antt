@@ -5,7 +5,7 @@ use Rattle.std.proofs.lemmas.List.Elements.{Contains-append_left, Contains-appen
 use Rattle.rt_stamps.specs.declared.fault.Fault.{Fault}
 use Rattle.rt_stamps.specs.Words.{Word}
 use Rattle.rt_ops.specs.Operations.{Operation}
-use Rattle.rt_oplog.specs.Logs.{Has}
+use Rattle.rt_oplog.specs.Logs.{HasOp}
 use Rattle.rt_peers.specs.Events.{Answer, Command, Destroy, Event, EventFoundMemory, EventGives, EventsFoundMemory, EventsGive, IsOfReceived, OfFile, Receive, Replied, EventAnswer}
 use Rattle.rt_peers.specs.PeerStep.{Destroys}
 use Rattle.rt_peers.specs.Lives.{IsOfFile, Lives, LivesOn}
@@ -57,8 +57,8 @@ events_once (event ∷ events) (a ∷ one) (b ∷ two) old new left h k f g =
 -- LIVES
 
 -- one of some operations, or of others
-pub either_of : (P : Operation → Type 0) (ops more : List Operation) → ((op : Operation) → Has ops op → P op) → ((op : Operation) → Has more op → P op)
-    → (op : Operation) → Has (ops ++ more) op → P op
+pub either_of : (P : Operation → Type 0) (ops more : List Operation) → ((op : Operation) → HasOp ops op → P op) → ((op : Operation) → HasOp more op → P op)
+    → (op : Operation) → HasOp (ops ++ more) op → P op
 either_of P [] more f g op h = g op h
 either_of P (q ∷ ops) more f g op (inl e) = f op (inl e)
 either_of P (q ∷ ops) more f g op (inr i) = either_of P ops more (λ x j. f x (inr j)) g op i

@@ -12,7 +12,7 @@ use Rattle.rt_store.specs.Shown.{TaggedCell}
 use Rattle.rt_tags.specs.Tags.{sel, without}
 use Rattle.rt_tags.specs.States.{names_on}
 use Rattle.rt_plans.specs.declared.range.Range.{Range}
-use Rattle.rt_plans.specs.Deletions.{Loss, delete_drafts, loss_in, newline_of, without_places, without_text}
+use Rattle.rt_plans.specs.Deletions.{Loss, delete_drafts, loss_in, newline_left, without_places, without_text}
 use Rattle.rt_plans.specs.DocValue.{DocValue, logged}
 use Rattle.rt_plans.specs.Insertions.{Piece}
 use Rattle.rt_plans.specs.Removals.{is_covered, stamps_at}
@@ -20,7 +20,7 @@ use Rattle.rt_plans.specs.Selections.{selection_with}
 use Rattle.rt_plans.specs.TagDrafts.{tag_deletion_drafts, tag_drafts_at}
 use Rattle.rt_plans.specs.TagWrites.{bared, listed_if, with_tag, with_tag_at, without_tag, without_tags}
 use Rattle.rt_undo.specs.Actions.{Action, Removed}
-use Rattle.rt_revert.specs.Reverting.{Reversion, as_it_is, gone_cell_of, reversion, stamp_after, with_character, with_each_reverted, with_gone, with_return, with_returns, with_reverted}
+use Rattle.rt_revert.specs.Reverting.{Reversion, as_it_is, gone_cell_of, reversion, stamp_after, with_each_reverted, with_insertion, with_removal, with_return, with_returns, with_reverted}
 use Rattle.rt_text.specs.Commands.{with_pieces_at, with_tag_in, with_tags_deleted, without_ranges}
 use Rattle.rt_text.specs.Replacements.{drafts_at}
 use Rattle.rt_text.specs.Reversions.{view_reverted}
@@ -48,7 +48,7 @@ left_same flat left None same = same
 left_same flat left (Some cell) same = of_both flat left (bared left cell.stamp (names_on cell.state)) same (bared_same left cell.stamp (names_on cell.state))
 
 text_same : (flat : DocValue) (loss : Loss) → IsOfSame flat (without_text flat loss)
-text_same flat loss = left_same flat (without_places flat loss.places) (newline_of flat loss) (record { site = refl; limit = refl })
+text_same flat loss = left_same flat (without_places flat loss.places) (newline_left flat loss) (record { site = refl; limit = refl })
 
 listed_same : (on : Bool) (name : Word) (flat : DocValue) → IsOfSame flat (listed_if on name flat)
 listed_same true name flat = record { site = refl; limit = refl }
@@ -68,7 +68,7 @@ tags_same flat (name ∷ names) =
 -- reverting
 
 returned_same : (removed : Removed (List Word)) (stamp : Stamp) (r : Reversion) (found : Option TaggedCell)
-    → IsOfSame r.doc (unwrap_or (option_map (λ (cell : TaggedCell). with_character stamp removed.tags cell.ch r) found) r).doc
+    → IsOfSame r.doc (unwrap_or (option_map (λ (cell : TaggedCell). with_insertion stamp removed.tags cell.ch r) found) r).doc
 returned_same removed stamp r None = of_same r.doc
 returned_same removed stamp r (Some cell) = record { site = refl; limit = refl }
 
@@ -82,7 +82,7 @@ reverted_same : (actions : List (Action (List Word))) (r : Reversion) → IsOfSa
 reverted_same [] r = of_same r.doc
 reverted_same (action ∷ actions) r =
     let inserted = Rattle.std.specs.Prelude.map (stamp_after r.returns) action.inserted in
-    let gone = with_gone inserted r in
+    let gone = with_removal inserted r in
     let one = with_reverted action r in
     let back = returns_same action.removed gone in
     of_both r.doc one.doc (with_each_reverted actions one).doc (record { site = back.site; limit = back.limit }) (reverted_same actions one)

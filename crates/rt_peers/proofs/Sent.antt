@@ -5,7 +5,7 @@ use Rattle.std.specs.List.{filter}
 use Rattle.std.proofs.lemmas.Bool.Decides.{nat_tests}
 use Rattle.std.proofs.lemmas.List.Elements.{filter-append}
 use Rattle.rt_ops.specs.Operations.{Operation, last_count}
-use Rattle.rt_oplog.specs.Logs.{Has, clash, holds, known_end, union}
+use Rattle.rt_oplog.specs.Logs.{HasOp, clash, holds, known_end, union}
 use Rattle.rt_oplog.proofs.Sets.{any_from, clash_sym, has_held, has_union, last_ge, split, union_has}
 use Rattle.rt_rga.specs.Histories.{IsHistory}
 use Rattle.rt_rga.specs.Orders.{ComeInTime, HasBasesIn}
@@ -23,7 +23,7 @@ use Rattle.rt_peers.proofs.Lacking.{filter_has, has_filter}
 
 -- what isn't past the counts that are known is known
 covered : (set log : List Operation) (known : ℕ → ℕ) → IsHistory set → IsHistory log → HaveNoClash set log → ((site : ℕ) → known site ≤ known_end set site)
-    → (x : Operation) → Has log x → is_past known x ≡ false → Has set x
+    → (x : Operation) → HasOp log x → is_past known x ≡ false → HasOp set x
 covered set log known h k apart up x i f = split (holds set x)
     (λ e. has_held set x e)
     (λ e. let before = bad_prev x (sound_in log k x i) in
@@ -53,13 +53,13 @@ rest_by : (all seen rest : List Operation) (op : Operation) (b : Bool) → HasBa
 rest_by all seen rest op true here kept dropped = (here, kept)
 rest_by all seen rest op false here kept dropped = dropped refl
 
-rest_in_time : (p : Operation → Bool) (all ops first seen : List Operation) → ((x : Operation) → Has first x → Has seen x) → ((x : Operation) → Has ops x → p x ≡ false → Has seen x)
+rest_in_time : (p : Operation → Bool) (all ops first seen : List Operation) → ((x : Operation) → HasOp first x → HasOp seen x) → ((x : Operation) → HasOp ops x → p x ≡ false → HasOp seen x)
     → ComeInTime all first ops → ComeInTime all seen (filter p ops)
 rest_in_time p all [] first seen f g t = tt
 rest_in_time p all (op ∷ ops) first seen f g t = rest_by all seen (filter p ops) op (p op)
     (λ base i u. f base (t.0 base i u))
     (rest_in_time p all ops (op ∷ first) (op ∷ seen) (λ x i. elim i [ inl e ↦ inl e | inr j ↦ inr (f x j) ]) (λ x i e. inr (g x (inr i) e)) t.1)
-    (λ e. rest_in_time p all ops (op ∷ first) seen (λ x i. elim i [ inl s ↦ subst (Has seen) s (g op (inl refl) e) | inr j ↦ f x j ]) (λ x i d. g x (inr i) d) t.1)
+    (λ e. rest_in_time p all ops (op ∷ first) seen (λ x i. elim i [ inl s ↦ subst (HasOp seen) s (g op (inl refl) e) | inr j ↦ f x j ]) (λ x i d. g x (inr i) d) t.1)
 
 -- THE FILE
 
@@ -71,7 +71,7 @@ module _ (set log : List Operation) (known : ℕ → ℕ) (h : IsHistory set) (k
   whole_history : IsHistory both
   whole_history = union_history set log h k (all_free set log h k apart)
 
-  members : (x : Operation) → Has both x ↔ (Has set x ⊎ Has (reverse (past_known known log)) x)
+  members : (x : Operation) → HasOp both x ↔ (HasOp set x ⊎ HasOp (reverse (past_known known log)) x)
   members x = (
     λ i. elim (has_union set log x i) [
       | inl j ↦ inl j

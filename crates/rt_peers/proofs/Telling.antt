@@ -2,7 +2,7 @@
 use Rattle.std.proofs.Common.{◌≡◌, ◌∙◌, ◌++◌, ℕ, List, [], ◌∷◌, ap, append_assoc, inl, inr, map, refl, subst, sym, true}
 use Rattle.rt_ops.specs.Operations.{Operation}
 use Rattle.rt_ops.specs.Rules.{keeps_rules}
-use Rattle.rt_oplog.specs.Logs.{Has, with_operation}
+use Rattle.rt_oplog.specs.Logs.{HasOp, with_operation}
 use Rattle.rt_rga.specs.Cells.{cells_of}
 use Rattle.rt_rga.specs.Drafts.{ContinueInTurn, with_operations}
 use Rattle.rt_rga.specs.Histories.{IsHistory}
@@ -135,7 +135,7 @@ told_then old mid new told more p q = record {
 -- WHAT WAS TOLD
 
 -- operations that are new in turn continue the log in turn
-continue_in_turn : (limit : ℕ) (ops log : List Operation) → IsHistory log → ((op : Operation) → Has ops op → keeps_rules op.body ≡ true)
+continue_in_turn : (limit : ℕ) (ops log : List Operation) → IsHistory log → ((op : Operation) → HasOp ops op → keeps_rules op.body ≡ true)
     → AreTakenInTurn limit log ops → ContinueInTurn log ops
 continue_in_turn limit [] log h rules turn = tt
 continue_in_turn limit (op ∷ ops) log h rules turn =

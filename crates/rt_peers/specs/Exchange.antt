@@ -4,7 +4,7 @@ use Rattle.rt_stamps.specs.declared.fault.Fault.{Fault}
 use Rattle.rt_stamps.specs.declared.fault.Fault.TheVariants.{Conflict, NoMemory, TextFull}
 use Rattle.rt_ops.specs.Operations.{Operation}
 use Rattle.rt_ops.specs.Reading.{Reads}
-use Rattle.rt_oplog.specs.Logs.{Has, HasClashOf, clash, joined, known_end}
+use Rattle.rt_oplog.specs.Logs.{HasClashOf, HasOp, clash, joined, known_end}
 use Rattle.rt_holding.specs.declared.receiving.Received.{Received}
 use Rattle.rt_peers.specs.Lacking.{past_known}
 use Rattle.rt_peers.specs.SiteStep.{SiteReceives, log_of}
@@ -16,7 +16,7 @@ IsFileOf bytes log = (offsets : List ℕ) × Reads bytes (reverse log) offsets N
 
 -- no operation of one log clashes with one of the other
 abbrev pub HaveNoClash : List Operation → List Operation → Type 0
-HaveNoClash one other = (p q : Operation) → Has one p → Has other q → clash p q ≡ false
+HaveNoClash one other = (p q : Operation) → HasOp one p → HasOp other q → clash p q ≡ false
 
 -- what is told of a file comes to the join of two logs, with nothing held, or a fault was told; and no other than want of memory or of
 -- room is
@@ -87,5 +87,6 @@ AgreeOnceExchanged shown one other left_one left_other =
 abbrev pub AgreeOnceCaughtUp : {Shown : Type 0} → (SiteValue → Shown) → SiteValue → SiteValue → SiteValue → SiteValue → Type 0
 AgreeOnceCaughtUp shown one other left_one left_other =
     (known_one known_other : ℕ → ℕ) (file_one file_other : List ℕ) → CoversKnown (log_of one) known_one → CoversKnown (log_of other) known_other
-    → HaveNoClash (log_of one) (log_of other) → IsFileOf file_one (past_known known_other (log_of one)) → IsFileOf file_other (past_known known_one (log_of other))
+    → HaveNoClash (log_of one) (log_of other)
+    → IsFileOf file_one (past_known known_other (log_of one)) → IsFileOf file_other (past_known known_one (log_of other))
     → ReceivesAll file_other one left_one → ReceivesAll file_one other left_other → shown left_one ≡ shown left_other

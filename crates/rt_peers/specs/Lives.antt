@@ -2,7 +2,7 @@
 use Rattle.std.specs.Prelude.{◌≡◌, ◌⊎◌, ℕ, ◌<◌, List, [], ◌++◌}
 use Rattle.rt_ops.specs.Operations.{Operation}
 use Rattle.rt_ops.specs.Reading.{IsBegun}
-use Rattle.rt_oplog.specs.Logs.{AreOf, Has}
+use Rattle.rt_oplog.specs.Logs.{AreOf, HasOp}
 use Rattle.rt_rga.specs.Drafts.{operations_of}
 use Rattle.rt_rga.specs.Histories.{IsHistory}
 use Rattle.rt_recording.specs.Edits.{text_with_new}
@@ -39,14 +39,14 @@ KeepsOrMakes old new = KeepsOperations old new ⊎ ((mid : SiteValue) × MakesAn
 
 -- an operation is one of those with whose records the bytes of a file begin
 abbrev pub IsOfFile : List ℕ → Operation → Type 0
-IsOfFile bytes op = (ops : List Operation) × IsBegun bytes ops × Has ops op
+IsOfFile bytes op = (ops : List Operation) × IsBegun bytes ops × HasOp ops op
 
 -- Some calls lead from one state to another. What came to the site with them are operations of its own number, and others, of which
 -- something is known.
 abbrev pub LivesOn : (Operation → Type 0) → SiteValue → SiteValue → Type 0
 LivesOn IsOther old new =
     (site limit : ℕ) (came : List Operation) → Lives site limit old came
-    → (more : List Operation) × Lives site limit new (came ++ more) × ((op : Operation) → Has more op → (op.site ≡ site) ⊎ IsOther op)
+    → (more : List Operation) × Lives site limit new (came ++ more) × ((op : Operation) → HasOp more op → (op.site ≡ site) ⊎ IsOther op)
 
 -- none of the operations that it holds could be taken, if there were memory and room: so it is where it holds none
 abbrev pub IsAtRest : SiteValue → Type 0

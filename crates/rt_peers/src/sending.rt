@@ -1,5 +1,7 @@
 // What another site lacks of a log.
-ghost use Rattle.std.specs.Prelude.{◌≡◌, ◌≤◌, ℕ, IfOk, IsOkUnless};
+ghost use Rattle.std.specs.Prelude.{◌≡◌, ◌≤◌, ℕ, IfOk, IsOkUnless, None};
+ghost use Rattle.std.specs.BTreeMap.{get};
+ghost use Rattle.std.specs.Ordering.{nat_cmp};
 ghost use Rattle.rt_stamps.specs.declared.limits.TheConstants.{GREATEST_COUNT};
 ghost use Rattle.rt_stamps.specs.declared.fault.Fault.TheVariants.{NoMemory};
 ghost use Rattle.rt_ops.specs.Operations.{last_count};
@@ -12,16 +14,20 @@ use rt_stamps::Fault;
 use std::alloc::Global;
 use std::collections::BTreeMap;
 
-/// The last count that is known of each site that has operations in a log.
+/// The last count that is known of each site that has operations in a log, and of no other.
 pub(crate) fn ends_of(alloc: Global, log: &OpLog) -> Result<BTreeMap<u32, u64>, Fault>
     ensures ok { IfOk result (λ ends. (site : ℕ) → known_in ends site ≡ known_end log.now.operations site) }
+    ensures only { IfOk result (λ ends. (site : ℕ) → known_end log.now.operations site ≡ 0 → get nat_cmp ends site ≡ None) }
     ensures fault { IsOkUnless result NoMemory }
 {
     let mut ends = BTreeMap::new(alloc);
+    log.soundness();
     let ops = log.in_order()?;
     for op in &ops {
         let site = op.site();
-        ends.insert(site, log.known(site))?;
+        if !ends.contains_key(&site) {
+            ends.insert(site, log.known(site))?;
+        }
     }
     Ok(ends)
 }

@@ -12,7 +12,7 @@ use Rattle.rt_store.specs.Tagged.{tag_is}
 use Rattle.rt_store.proofs.Shown.{visible_at_shown, visible_shown}
 use Rattle.rt_tags.specs.States.{TagStates, is_on, name_at, state_at}
 use Rattle.rt_plans.specs.declared.range.Range.{Range}
-use Rattle.rt_plans.specs.Removals.{AreInOrder, cells_at, is_covered, stamps_at}
+use Rattle.rt_plans.specs.Removals.{RangesFollow, cells_at, is_covered, stamps_at}
 use Rattle.rt_plans.specs.TagWrites.{changed_stamps, is_changed, passes_at}
 use Rattle.rt_plans.proofs.ChosenLaws.{chosen, chosen_visible}
 use Rattle.rt_plans.proofs.PassingPlaces.{covered_within, passes_all, passes_within}
@@ -110,7 +110,7 @@ pub visible_many : (table : TagStates) (cells : List (Cell ℕ)) → length (vis
 visible_many table cells = ap length (visible_shown (state_at table) cells) ∙ length-map (visible_of cells) (shown table)
 
 -- and none of them stands behind the text
-pub changed_within : (table : TagStates) (name : Word) (on : Bool) (ranges : ℕ → Bool) (cells : List (Cell ℕ)) (changed : List Range) → AreInOrder 0 changed
+pub changed_within : (table : TagStates) (name : Word) (on : Bool) (ranges : ℕ → Bool) (cells : List (Cell ℕ)) (changed : List Range) → RangesFollow 0 changed
     → ((place : ℕ) → is_covered changed place ≡ (ranges place && passes_at (is_changed name on) (visible_of (map (shown table) cells)) place))
     → All (λ range. range.to ≤ length (visible_of cells)) changed
 changed_within table name on ranges cells changed order h =

@@ -16,10 +16,10 @@ use Rattle.rt_tags.specs.States.{names_on}
 use Rattle.rt_tags.specs.Tags.{sel}
 use Rattle.rt_rga.specs.Requests.{characters_in_all}
 use Rattle.rt_rga.proofs.Appending.{characters_append}
-use Rattle.rt_plans.specs.Deletions.{Loss, delete_drafts, newline_of}
+use Rattle.rt_plans.specs.Deletions.{Loss, delete_drafts, newline_left}
 use Rattle.rt_plans.specs.DocValue.{DocValue}
 use Rattle.rt_plans.specs.InsertionDrafts.{behind, insertion_drafts, inserts_of, pieces_drafts, tags_on, text_drafts}
-use Rattle.rt_plans.specs.Insertions.{Insertion, Piece, cells_of_inserts, further_tags, insertion_of, inserts_for, last_of, new_state, shared_names, tagged_cells, tags_between, with_listed, with_pieces, with_unlisted}
+use Rattle.rt_plans.specs.Insertions.{Insertion, Piece, cells_of_inserts, further_tags, insertion_of, inserts_for, new_state, on_left, shared_names, tagged_cells, tags_between, with_listed, with_pieces, with_unlisted}
 use Rattle.rt_plans.specs.NamedSpans.{first_parts, parts_of, spans_in}
 use Rattle.rt_plans.specs.RemovalDrafts.{removal_drafts}
 use Rattle.rt_plans.specs.Removals.{cells_at, stamps_at}
@@ -68,8 +68,8 @@ deletions_insert_none (name ∷ names) flat =
 
 pub loss_inserts_none : (flat : DocValue) (loss : Loss) → characters_in_all (delete_drafts MOST_SPANS flat loss) ≡ 0
 loss_inserts_none flat loss =
-    both_none (removal_drafts MOST_SPANS loss.places flat.cells) (tags (newline_of flat loss))
-    (deletes_none (parts_of MOST_SPANS (spans_in (stamps_at loss.places 0 flat.cells)))) (none (newline_of flat loss))
+    both_none (removal_drafts MOST_SPANS loss.places flat.cells) (tags (newline_left flat loss))
+    (deletes_none (parts_of MOST_SPANS (spans_in (stamps_at loss.places 0 flat.cells)))) (none (newline_left flat loss))
   where
     tags : Option TaggedCell → List Body
     tags o = unwrap_or (option_map (λ (cell : TaggedCell). newline_drafts cell.stamp (names_on cell.state)) o) []
@@ -152,7 +152,7 @@ pub insertion_length : (site : ℕ) (after : Stamp) (left right : Option TaggedC
     → length start.cells + characters_in_all (insertion_drafts MOST_CHARACTERS site after left right pieces rest start) ≡ length (insertion_of site left right pieces rest start).cells
 insertion_length site after left right pieces rest start =
     let listed = with_pieces site pieces start in
-    let neighbour = last_of left listed.cells in
+    let neighbour = on_left left listed.cells in
     let names = tags_between neighbour right in
     let text = chars rest in
     let drafts = text_drafts MOST_CHARACTERS site listed.count (behind after listed.cells) names text in

@@ -7,7 +7,7 @@ use Rattle.std.proofs.lemmas.Option.{get_or_from_slice_get}
 use Rattle.rt_store.specs.declared.cell.Cell.{Cell}
 use Rattle.rt_store.specs.Cells.{visible_of}
 use Rattle.rt_plans.specs.declared.range.Range.{Range}
-use Rattle.rt_plans.specs.Removals.{is_in, is_covered, cells_at, AreInOrder}
+use Rattle.rt_plans.specs.Removals.{is_in, is_covered, cells_at, RangesFollow}
 use Rattle.rt_plans.proofs.StampLaws.{in_after, before_all}
 
 -- the cells at some places, of visible ones
@@ -55,7 +55,7 @@ in_within : (range : Range) (q : ℕ) → range.from ≤ q → q < range.to → 
 in_within range q h k = and_from (nat_le range.from q) (nat_lt q range.to) (le-leb range.from q h) (lt-ltb q range.to k)
 
 -- the first of the ranges, and the others
-range_chosen : {T : Type 0} (range : Range) (ranges : List Range) (cs : List (Cell T)) → AreInOrder 0 (range ∷ ranges)
+range_chosen : {T : Type 0} (range : Range) (ranges : List Range) (cs : List (Cell T)) → RangesFollow 0 (range ∷ ranges)
     → chosen (is_covered (range ∷ ranges)) 0 cs ≡ take (range.to - range.from) (drop range.from cs) ++ chosen (is_covered ranges) 0 cs
 range_chosen range ranges cs h =
     let r : ℕ → Bool = is_covered (range ∷ ranges) in
@@ -77,7 +77,7 @@ range_chosen range ranges cs h =
     first ∙ mid ∙ ap (λ l. take k (drop from cs) ++ l) (there ∙ alike ∙ sym back)
 
 -- one range more
-pub ranges_chosen : {T : Type 0} (cells : List (Cell T)) (ranges : List Range) (i : ℕ) (d : Range) → i < length ranges → AreInOrder 0 (drop i ranges)
+pub ranges_chosen : {T : Type 0} (cells : List (Cell T)) (ranges : List Range) (i : ℕ) (d : Range) → i < length ranges → RangesFollow 0 (drop i ranges)
     → cells_at (is_covered (drop i ranges)) 0 cells
     ≡ take ((get_or ranges i d).to - (get_or ranges i d).from) (drop (get_or ranges i d).from (visible_of cells)) ++ cells_at (is_covered (drop (i + 1) ranges)) 0 cells
 ranges_chosen cells ranges i d h k =
@@ -85,7 +85,7 @@ ranges_chosen cells ranges i d h k =
     let rest = drop (i + 1) ranges in
     let e : drop i ranges ≡ range ∷ rest = drop_more ranges i d h in
     chosen_visible (is_covered (drop i ranges)) 0 cells ∙ ap (λ l. chosen (is_covered l) 0 (visible_of cells)) e
-    ∙ range_chosen range rest (visible_of cells) (subst (AreInOrder 0) e k)
+    ∙ range_chosen range rest (visible_of cells) (subst (RangesFollow 0) e k)
     ∙ ap (λ l. take (range.to - range.from) (drop range.from (visible_of cells)) ++ l) (sym (chosen_visible (is_covered rest) 0 cells))
 
 pub none_covered : {T : Type 0} (p : ℕ) (cells : List (Cell T)) → cells_at (is_covered []) p cells ≡ []

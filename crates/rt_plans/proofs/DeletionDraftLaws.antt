@@ -18,7 +18,7 @@ use Rattle.rt_rga.proofs.Drafting.{made}
 use Rattle.rt_rga.proofs.Requests.{all_count_on, drafts_for}
 use Rattle.rt_tags.specs.States.{names_on}
 use Rattle.rt_plans.specs.declared.range.Range.{Range}
-use Rattle.rt_plans.specs.Deletions.{Loss, delete_drafts, loss_in, newline_of, without_places, without_text}
+use Rattle.rt_plans.specs.Deletions.{Loss, delete_drafts, loss_in, newline_left, without_places, without_text}
 use Rattle.rt_plans.specs.DraftLaws.{IsDocument, SparesLast}
 use Rattle.rt_plans.specs.DocValue.{DocValue}
 use Rattle.rt_plans.specs.RemovalDrafts.{removal_drafts}
@@ -100,25 +100,25 @@ abbrev left_by : DocValue → Option TaggedCell → DocValue
 left_by left o = unwrap_or (option_map (λ (cell : TaggedCell). bared left cell.stamp (names_on cell.state)) o) left
 
 -- it is known, and its tags are names
-newline_known : (site : ℕ) (log : List Operation) (flat : DocValue) (loss : Loss) (cell : TaggedCell) → IsHistory log → IsDocument site log flat → newline_of flat loss ≡ Some cell → IsKnown log cell.stamp
+newline_known : (site : ℕ) (log : List Operation) (flat : DocValue) (loss : Loss) (cell : TaggedCell) → IsHistory log → IsDocument site log flat → newline_left flat loss ≡ Some cell → IsKnown log cell.stamp
 newline_known site log flat loss cell h doc e = known_cells log flat.cells h doc.cells cell.stamp (newline_among flat loss cell e)
 
 pub document_named : (site : ℕ) (log : List Operation) (flat : DocValue) → IsHistory log → IsDocument site log flat → CellsNamed flat.cells
 document_named site log flat h doc = subst CellsNamed (sym doc.cells) (every_named log h)
 
-newline_tags : (site : ℕ) (log : List Operation) (flat : DocValue) (loss : Loss) (cell : TaggedCell) → IsHistory log → IsDocument site log flat → newline_of flat loss ≡ Some cell
+newline_tags : (site : ℕ) (log : List Operation) (flat : DocValue) (loss : Loss) (cell : TaggedCell) → IsHistory log → IsDocument site log flat → newline_left flat loss ≡ Some cell
     → list_all is_name (names_on cell.state) ≡ true
 newline_tags site log flat loss cell h doc e = newline_names flat loss cell (document_named site log flat h doc) e
 
 pub loss_may : (site : ℕ) (log : List Operation) (flat : DocValue) (loss : Loss) → IsHistory log → IsDocument site log flat → SparesLast loss.places (text_of flat.cells)
     → MayBeMade site log (delete_drafts MOST_SPANS flat loss)
 loss_may site log flat loss h doc s =
-    may_append site deletes (tags_of (newline_of flat loss)) log (removal_may site log flat loss.places h doc s) (by (newline_of flat loss) refl)
+    may_append site deletes (tags_of (newline_left flat loss)) log (removal_may site log flat loss.places h doc s) (by (newline_left flat loss) refl)
   where
     deletes : List Body
     deletes = deletes_of flat loss
 
-    by : (o : Option TaggedCell) → newline_of flat loss ≡ o → MayBeMade site (with_drafts site deletes log) (tags_of o)
+    by : (o : Option TaggedCell) → newline_left flat loss ≡ o → MayBeMade site (with_drafts site deletes log) (tags_of o)
     by None e = tt
     by (Some cell) e =
         bared_may (names_on cell.state) site (with_drafts site deletes log) cell.stamp (newline_tags site log flat loss cell h doc e)
@@ -127,7 +127,7 @@ loss_may site log flat loss h doc s =
 pub loss_counted : (site : ℕ) (log : List Operation) (flat : DocValue) (loss : Loss) → IsHistory log → IsDocument site log flat
     → greatest_last_count (with_drafts site (delete_drafts MOST_SPANS flat loss) log) ≡ (without_text flat loss).count
 loss_counted site log flat loss h doc =
-    ap greatest_last_count (drafts_append site deletes (tags_of (newline_of flat loss)) log) ∙ by (newline_of flat loss)
+    ap greatest_last_count (drafts_append site deletes (tags_of (newline_left flat loss)) log) ∙ by (newline_left flat loss)
   where
     deletes : List Body
     deletes = deletes_of flat loss
@@ -149,7 +149,7 @@ loss_history site log flat loss p h doc s l =
 pub loss_made : (site : ℕ) (log : List Operation) (flat : DocValue) (loss : Loss) → 0 < site → IsHistory log → IsDocument site log flat → SparesLast loss.places (text_of flat.cells)
     → (without_text flat loss).count ≤ GREATEST_COUNT → IsDocument site (with_drafts site (delete_drafts MOST_SPANS flat loss) log) (without_text flat loss)
 loss_made site log flat loss p h doc s l =
-    subst (λ set. IsDocument site set (without_text flat loss)) (sym (drafts_append site deletes (tags_of (newline_of flat loss)) log)) (by (newline_of flat loss) refl l)
+    subst (λ set. IsDocument site set (without_text flat loss)) (sym (drafts_append site deletes (tags_of (newline_left flat loss)) log)) (by (newline_left flat loss) refl l)
   where
     deletes : List Body
     deletes = deletes_of flat loss
@@ -157,7 +157,7 @@ loss_made site log flat loss p h doc s l =
     left : DocValue
     left = without_places flat loss.places
 
-    by : (o : Option TaggedCell) → newline_of flat loss ≡ o → (left_by left o).count ≤ GREATEST_COUNT → IsDocument site (with_drafts site (tags_of o) (with_drafts site deletes log)) (left_by left o)
+    by : (o : Option TaggedCell) → newline_left flat loss ≡ o → (left_by left o).count ≤ GREATEST_COUNT → IsDocument site (with_drafts site (tags_of o) (with_drafts site deletes log)) (left_by left o)
     by None e k = (removal_made site log flat loss.places p h doc s k).document
     by (Some cell) e k =
         let few : left.count ≤ GREATEST_COUNT = omega (arith, k, bared_grows (names_on cell.state) left cell.stamp) in

@@ -24,9 +24,9 @@ use Rattle.rt_rga.specs.Histories.{IsHistory, final_character, has_character}
 use Rattle.rt_rga.proofs.Corollaries.{cells_distinct}
 use Rattle.rt_rga.proofs.Final.{cells_last}
 use Rattle.rt_plans.specs.Deletions.{Loss, delete_drafts, without_places, without_text}
-use Rattle.rt_plans.specs.DraftLaws.{AreTagNames, AreTexts, IsDocument, IsElement, SparesLast}
-use Rattle.rt_plans.specs.DocValue.{DocValue, left_of}
-use Rattle.rt_plans.specs.Insertions.{Insertion, Piece, last_of, left_neighbour, tags_between, with_pieces}
+use Rattle.rt_plans.specs.DraftLaws.{AreTagNames, HaveTexts, IsDocument, IsElement, SparesLast}
+use Rattle.rt_plans.specs.DocValue.{DocValue, left_stamp}
+use Rattle.rt_plans.specs.Insertions.{Insertion, Piece, left_neighbour, on_left, tags_between, with_pieces}
 use Rattle.rt_plans.specs.Removals.{gone_at}
 use Rattle.rt_plans.specs.TagWrites.{bared, tagged, with_tag}
 use Rattle.rt_plans.proofs.DeletionDraftLaws.{document_named, stamps_gone, still_ends}
@@ -74,13 +74,13 @@ among_front (c ∷ cs) rest s h = split (is_same c.stamp s)
     (λ e. or_right (is_same c.stamp s) _ (among_front cs rest s (ap (λ b. b || is_among (stamps_of cs) s) (sym e) ∙ h)))
 
 left_known : (log : List Operation) (cells front : List TaggedCell) (last : TaggedCell) (place : ℕ) → HasLast cells front last → AreDistinct cells → AreKnownCells log cells → place < length (text_of cells)
-    → IsElement log (left_of cells place)
+    → IsElement log (left_stamp cells place)
 left_known log cells front last zero e d k l = or_right (has_character log ROOT) (is_same ROOT ROOT) refl
 left_known log cells front last (suc p) e d k l =
     let n : suc p < length (visible_of (front ++ last ∷ [])) = subst (λ (cells : List TaggedCell). suc p < length (visible_of cells)) e.is (omega (arith, l, length_text cells)) in
     let w = left_in front last p e.gone n in
     let s = w.0.stamp in
-    let at : left_of cells (suc p) ≡ s =
+    let at : left_stamp cells (suc p) ≡ s =
     ap (λ (cells : List TaggedCell). unwrap_or (option_map (λ (cell : TaggedCell). cell.stamp) (slice_get (visible_of cells) p)) ROOT) e.is
     ∙ ap (λ o. unwrap_or (option_map (λ (cell : TaggedCell). cell.stamp) o) ROOT) w.1 in
     let there : is_among (stamps_of cells) s ≡ true = ap (λ (cells : List TaggedCell). is_among (stamps_of cells) s) e.is ∙ among_front front (last ∷ []) s w.2 in
@@ -92,7 +92,7 @@ left_known log cells front last (suc p) e d k l =
     ] in
     subst (IsElement log) (sym at) element
 
-pub left_is_element : (log : List Operation) (place : ℕ) → IsHistory log → place < length (text_of (cells_of log)) → IsElement log (left_of (cells_of log) place)
+pub left_is_element : (log : List Operation) (place : ℕ) → IsHistory log → place < length (text_of (cells_of log)) → IsElement log (left_stamp (cells_of log) place)
 left_is_element log place h l =
     let w = cells_last log h in
     left_known log (cells_of log) w.0 (cell_in log final_character) place (record { is = w.1.is; stamp = w.1.stamp; gone = w.1.gone }) (cells_distinct log h) (known_cells log (cells_of log) h refl) l
@@ -132,7 +132,7 @@ left_end flat loss front last e s =
     loss_has (λ (left : DocValue). SomeLast left.cells) flat loss end (λ cell k. bared_end (names_on cell.state) left cell.stamp end)
 
 pub left_stays : (site : ℕ) (log : List Operation) (flat : DocValue) (loss : Loss) (place : ℕ) → IsHistory log → IsDocument site log flat → SparesLast loss.places (text_of flat.cells)
-    → place < length (text_of (without_text flat loss).cells) → IsElement (with_drafts site (delete_drafts MOST_SPANS flat loss) log) (left_of (without_text flat loss).cells place)
+    → place < length (text_of (without_text flat loss).cells) → IsElement (with_drafts site (delete_drafts MOST_SPANS flat loss) log) (left_stamp (without_text flat loss).cells place)
 left_stays site log flat loss place h doc spared l =
     let cells = (without_text flat loss).cells in
     let drafts = delete_drafts MOST_SPANS flat loss in
@@ -143,8 +143,8 @@ left_stays site log flat loss place h doc spared l =
     (λ s k. known_later site drafts log flat.cells (known_cells log flat.cells h doc.cells) s (ap (λ l. is_among l s) (sym stamps) ∙ k)) l
 
 pub tags_left_are : (site : ℕ) (log : List Operation) (flat : DocValue) (loss : Loss) (place : ℕ) (right : Option TaggedCell) (pieces : List Piece) (start : Insertion)
-    → IsHistory log → IsDocument site log flat → AreTexts pieces → start.cells ≡ []
-    → AreTagNames (tags_between (last_of (left_neighbour (visible_of (without_text flat loss).cells) place) (with_pieces site pieces start).cells) right)
+    → IsHistory log → IsDocument site log flat → HaveTexts pieces → start.cells ≡ []
+    → AreTagNames (tags_between (on_left (left_neighbour (visible_of (without_text flat loss).cells) place) (with_pieces site pieces start).cells) right)
 tags_left_are site log flat loss place right pieces start h doc t none =
     let named = document_named site log flat h doc in
     let left : CellsNamed (without_places flat loss.places).cells = gone_named loss.places 0 flat.cells named in

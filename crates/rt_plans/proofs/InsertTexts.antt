@@ -12,7 +12,7 @@ use Rattle.rt_store.specs.Cells.{cells_from, stamps_of}
 use Rattle.rt_store.specs.Shown.{TaggedCell}
 use Rattle.rt_store.proofs.Shown.{map_append}
 use Rattle.rt_plans.specs.InsertionDrafts.{behind, inserts_of, tags_on, text_drafts}
-use Rattle.rt_plans.specs.Insertions.{counts_for, further_tags, inserts_for, last_of, new_state, tagged_cells}
+use Rattle.rt_plans.specs.Insertions.{counts_for, further_tags, inserts_for, new_state, on_left, tagged_cells}
 use Rattle.rt_plans.specs.NamedSpans.{first_parts}
 use Rattle.rt_plans.proofs.Planning.{cells_more, counts_more, inserts_more}
 
@@ -65,23 +65,23 @@ one_stamp site count names (c ∷ d ∷ text) e = absurd (omega arith)
 abbrev stamp_or : Option TaggedCell → Stamp → Stamp
 stamp_or cell after = unwrap_or (option_map (λ cell. cell.stamp) cell) after
 
-any_default : (x : TaggedCell) (xs : List TaggedCell) (a b : Stamp) → stamp_or (last_of (Some x) xs) a ≡ stamp_or (last_of (Some x) xs) b
+any_default : (x : TaggedCell) (xs : List TaggedCell) (a b : Stamp) → stamp_or (on_left (Some x) xs) a ≡ stamp_or (on_left (Some x) xs) b
 any_default x [] a b = refl
 any_default x (y ∷ ys) a b = any_default y ys a b
 
-pub last_append : {T : Type 0} (left : Option (Cell T)) (xs ys : List (Cell T)) → last_of left (xs ++ ys) ≡ last_of (last_of left xs) ys
+pub last_append : {T : Type 0} (left : Option (Cell T)) (xs ys : List (Cell T)) → on_left left (xs ++ ys) ≡ on_left (on_left left xs) ys
 last_append left [] ys = refl
 last_append left (x ∷ xs) ys = last_append (Some x) xs ys
 
-last_behind : (left : Option TaggedCell) (after : Stamp) (ys : List TaggedCell) → stamp_or (last_of left ys) after ≡ behind (stamp_or left after) ys
+last_behind : (left : Option TaggedCell) (after : Stamp) (ys : List TaggedCell) → stamp_or (on_left left ys) after ≡ behind (stamp_or left after) ys
 last_behind left after [] = refl
 last_behind left after (y ∷ ys) = any_default y ys after (stamp_or left after)
 
 pub behind_append : (after : Stamp) (xs ys : List TaggedCell) → behind after (xs ++ ys) ≡ behind (behind after xs) ys
-behind_append after xs ys = ap (λ o. stamp_or o after) (last_append None xs ys) ∙ last_behind (last_of None xs) after ys
+behind_append after xs ys = ap (λ o. stamp_or o after) (last_append None xs ys) ∙ last_behind (on_left None xs) after ys
 
 last_from : (x : TaggedCell) (after : Stamp) (count site : ℕ) (state : List Write) (text : List ℕ) → x.stamp ≡ record { count = count; site = site }
-    → stamp_or (last_of (Some x) (cells_from (count + 1) site state text)) after ≡ record { count = count + length text; site = site }
+    → stamp_or (on_left (Some x) (cells_from (count + 1) site state text)) after ≡ record { count = count + length text; site = site }
 last_from x after count site state [] e = e ∙ (let n : count ≡ count + 0 = omega arith in λ i. record { count = n i; site = site })
 last_from x after count site state (c ∷ text) e =
     let n : count + 1 + length text ≡ count + suc (length text) = omega arith in

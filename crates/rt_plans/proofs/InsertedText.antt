@@ -14,7 +14,7 @@ use Rattle.rt_stamps.specs.Stamps.{is_same}
 use Rattle.rt_stamps.specs.Words.{Word}
 use Rattle.rt_store.specs.declared.cell.Cell.{Cell}
 use Rattle.rt_store.specs.Cells.{visible_of, text_of, after_element, cells_from, stamps_of}
-use Rattle.rt_plans.specs.DocValue.{left_of, put_after}
+use Rattle.rt_plans.specs.DocValue.{left_stamp, put_after}
 use Rattle.rt_plans.specs.Insertions.{inserts_for, cells_of_inserts, tagged_cells, new_state, further_tags}
 use Rattle.rt_plans.proofs.CellLaws.{found_before}
 use Rattle.rt_plans.proofs.PlaceLaws.{length_text}
@@ -109,23 +109,23 @@ after_visible cells p x root e h =
     rw (root, within) (omega arith)
 
 -- new cells stand where the place is
-behind_left : {T : Type 0} (cells : List (Cell T)) (place : ℕ) → IsDistinct is_same (ROOT ∷ stamps_of cells) → place < length (visible_of cells) → Cut cells (after_element cells (left_of cells place)) place
+behind_left : {T : Type 0} (cells : List (Cell T)) (place : ℕ) → IsDistinct is_same (ROOT ∷ stamps_of cells) → place < length (visible_of cells) → Cut cells (after_element cells (left_stamp cells place)) place
 behind_left {T} cells zero h k = cut_start cells
 behind_left {T} cells (suc p) h k = by_cell (slice_get_cases (visible_of cells) p).1
   where
     by_cell : ((x : Cell T) × (p < length (visible_of cells)) × (slice_get (visible_of cells) p ≡ Some x) × (get_or (visible_of cells) p x ≡ x)) ⊎ ((length (visible_of cells) ≤ p) × (slice_get (visible_of cells) p ≡ None))
-        → Cut cells (after_element cells (left_of cells (suc p))) (suc p)
+        → Cut cells (after_element cells (left_stamp cells (suc p))) (suc p)
     by_cell (inl w) =
         let root : is_same w.0.stamp ROOT ≡ false = same_sym w.0.stamp ROOT ∙ differs_visible ROOT cells p w.0 (IsDistinct-head is_same ROOT (stamps_of cells) h) w.2 in
-        let left : left_of cells (suc p) ≡ w.0.stamp = ap (λ o. unwrap_or (option_map (λ (cell : Cell T). cell.stamp) o) ROOT) w.2 in
+        let left : left_stamp cells (suc p) ≡ w.0.stamp = ap (λ o. unwrap_or (option_map (λ (cell : Cell T). cell.stamp) o) ROOT) w.2 in
         subst (λ n. Cut cells n (suc p)) (sym (ap (after_element cells) left ∙ after_visible cells p w.0 root w.2 k)) (behind cells p w.0 (IsDistinct-tail is_same ROOT (stamps_of cells) h) w.2)
     by_cell (inr w) = absurd (omega (arith, w.0))
 
 -- the new characters stand before the one at the place
 pub text_inserted : {T : Type 0} (cells new : List (Cell T)) (place : ℕ) → IsDistinct is_same (ROOT ∷ stamps_of cells) → place < length (text_of cells)
-    → text_of (put_after cells (left_of cells place) new) ≡ take place (text_of cells) ++ text_of new ++ drop place (text_of cells)
+    → text_of (put_after cells (left_stamp cells place) new) ≡ take place (text_of cells) ++ text_of new ++ drop place (text_of cells)
 text_inserted cells new place h k =
-    let at = after_element cells (left_of cells place) in
+    let at = after_element cells (left_stamp cells place) in
     let cut = behind_left cells place h (omega (arith, length_text cells)) in
     text_append (take at cells ++ new) (drop at cells)
     ∙ ap (λ t. t ++ text_of (drop at cells)) (text_append (take at cells) new ∙ ap (λ t. t ++ text_of new) cut.front)

@@ -18,7 +18,7 @@ use Rattle.rt_tags.proofs.Commuting.{back_other}
 use Rattle.rt_rga.proofs.Writes.{state_sorted}
 use Rattle.rt_store.specs.Cells.{cells_from}
 use Rattle.rt_store.specs.Shown.{TaggedCell}
-use Rattle.rt_plans.specs.Insertions.{cells_of_inserts, further_tags, last_of, new_state, put_on, shared_names, tagged_cells}
+use Rattle.rt_plans.specs.Insertions.{cells_of_inserts, further_tags, new_state, on_left, put_on, shared_names, tagged_cells}
 use Rattle.rt_plans.proofs.InsertTexts.{last_append}
 use Rattle.rt_plans.proofs.Planning.{cells_more}
 
@@ -130,19 +130,19 @@ abbrev pub tags_of : Option TaggedCell → Option (List Word)
 tags_of cell = option_map (λ cell. names_on cell.state) cell
 
 last_in : (left : Option TaggedCell) (count site : ℕ) (state : List Write) (text : List ℕ) (names : List Word) → tags_of left ≡ Some names → names_on state ≡ names
-    → tags_of (last_of left (cells_from count site state text)) ≡ Some names
+    → tags_of (on_left left (cells_from count site state text)) ≡ Some names
 last_in left count site state [] names h e = h
 last_in left count site state (c ∷ text) names h e =
     last_in (Some (record { stamp = record { count = count; site = site }; ch = c; gone = false; state = state })) (count + 1) site state text names (ap Some e) e
 
 last_part : (left : Option TaggedCell) (count site : ℕ) (state : List Write) (text : List ℕ) (names : List Word) → 1 ≤ length text → names_on state ≡ names
-    → tags_of (last_of left (cells_from count site state text)) ≡ Some names
+    → tags_of (on_left left (cells_from count site state text)) ≡ Some names
 last_part left count site state [] names h e = absurd (omega arith)
 last_part left count site state (c ∷ text) names h e =
     last_in (Some (record { stamp = record { count = count; site = site }; ch = c; gone = false; state = state })) (count + 1) site state text names (ap Some e) e
 
 last_inserts : (inserts site count : ℕ) (left : Option TaggedCell) (names : List Word) (text : List ℕ) → Rise names → tags_of left ≡ Some names
-    → tags_of (last_of left (cells_of_inserts inserts site count names text)) ≡ Some names
+    → tags_of (on_left left (cells_of_inserts inserts site count names text)) ≡ Some names
 last_inserts zero site count left names text r h = h
 last_inserts (suc inserts) site count left names text r h =
     let part = take MOST_CHARACTERS text in
@@ -150,18 +150,18 @@ last_inserts (suc inserts) site count left names text r h =
     let state = new_state site last names in
     let first = cells_from (count + 1) site state part in
     ap tags_of (last_append left first (cells_of_inserts inserts site (last + length (further_tags names)) names (drop MOST_CHARACTERS text)))
-    ∙ last_inserts inserts site (last + length (further_tags names)) (last_of left first) names (drop MOST_CHARACTERS text) r (last_in left (count + 1) site state part names h (new_names site last names r))
+    ∙ last_inserts inserts site (last + length (further_tags names)) (on_left left first) names (drop MOST_CHARACTERS text) r (last_in left (count + 1) site state part names h (new_names site last names r))
 
 -- the tags of the last cell, behind a text
 pub last_tagged : (site count : ℕ) (before : List TaggedCell) (names : List Word) (text : List ℕ) → Rise names → 1 ≤ length text
-    → tags_of (last_of None (before ++ tagged_cells site count names text)) ≡ Some names
+    → tags_of (on_left None (before ++ tagged_cells site count names text)) ≡ Some names
 last_tagged site count before names text r h =
     let part = take MOST_CHARACTERS text in
     let last = count + length part in
     let state = new_state site last names in
     let first = cells_from (count + 1) site state part in
     let rest = tagged_cells site (last + length (further_tags names)) names (drop MOST_CHARACTERS text) in
-    let left = last_of None before in
+    let left = on_left None before in
     let some : 1 ≤ length part = omega (arith, length-take MOST_CHARACTERS text) in
-    ap tags_of (last_append None before (tagged_cells site count names text) ∙ ap (last_of left) (cells_more site count names text h) ∙ last_append left first rest)
-    ∙ last_inserts _ site (last + length (further_tags names)) (last_of left first) names (drop MOST_CHARACTERS text) r (last_part left (count + 1) site state part names some (new_names site last names r))
+    ap tags_of (last_append None before (tagged_cells site count names text) ∙ ap (on_left left) (cells_more site count names text h) ∙ last_append left first rest)
+    ∙ last_inserts _ site (last + length (further_tags names)) (on_left left first) names (drop MOST_CHARACTERS text) r (last_part left (count + 1) site state part names some (new_names site last names r))

@@ -7,7 +7,7 @@ use Rattle.std.proofs.lemmas.Bool.Decides.{nat_tests}
 use Rattle.std.proofs.lemmas.List.{drop_all}
 use Rattle.std.proofs.lemmas.List.Elements.{All-cons, All-nil}
 use Rattle.rt_plans.specs.declared.range.Range.{Range}
-use Rattle.rt_plans.specs.Merging.{AreRising, AreApart}
+use Rattle.rt_plans.specs.Merging.{RangesRise, AreSpaced}
 use Rattle.rt_plans.specs.Removals.{is_in, is_covered}
 
 -- CUT
@@ -61,7 +61,7 @@ before_done end ranges done i h e = sym (append-nil done) ∙ ap (λ rest. done 
 
 -- sorted ranges, none of them empty
 pub rising : (place : ℕ) (ranges : List Range) → IsNonDecreasingBy (λ range. range.from) ranges → All (λ range. range.from < range.to) ranges
-    → ((d : Range) → 0 < length ranges → place ≤ (get_or ranges 0 d).from) → AreRising place ranges
+    → ((d : Range) → 0 < length ranges → place ≤ (get_or ranges 0 d).from) → RangesRise place ranges
 rising place [] up some first = tt
 rising place (range ∷ ranges) up some first = (
   first range (omega arith),
@@ -69,7 +69,7 @@ rising place (range ∷ ranges) up some first = (
   rising range.from ranges (λ i j d h k. up (suc i) (suc j) d (omega arith) (omega arith)) (λ k d h. some (suc k) d (omega arith)) (λ d h. up 0 1 d (omega arith) (omega arith)),
 )
 
-pub rising_lower : (low high : ℕ) (ranges : List Range) → low ≤ high → AreRising high ranges → AreRising low ranges
+pub rising_lower : (low high : ℕ) (ranges : List Range) → low ≤ high → RangesRise high ranges → RangesRise low ranges
 rising_lower low high [] h rises = tt
 rising_lower low high (range ∷ ranges) h rises = (omega arith, rises.1, rises.2)
 
@@ -87,7 +87,7 @@ joined_covers from to begin end place true h k = grind (arith, nat_tests)
 joined_covers from to begin end place false h k = grind (arith, nat_tests)
 
 -- merged ranges cover the places that the ranges cover
-pub merged_covers : (current : Range) (ranges : List Range) (place : ℕ) → AreRising current.from ranges → is_covered (merged_from current ranges) place ≡ is_covered (current ∷ ranges) place
+pub merged_covers : (current : Range) (ranges : List Range) (place : ℕ) → RangesRise current.from ranges → is_covered (merged_from current ranges) place ≡ is_covered (current ∷ ranges) place
 merged_covers current [] place rises = refl
 merged_covers current (range ∷ ranges) place rises =
     elim (nat_le range.from current.to) as
@@ -101,12 +101,12 @@ merged_covers current (range ∷ ranges) place rises =
     refl
 
 -- between one and the next stands a place
-pub merged_stand_apart : (low : ℕ) (current : Range) (ranges : List Range) → low ≤ current.from → current.from < current.to → AreRising current.from ranges → AreApart low (merged_from current ranges)
+pub merged_stand_apart : (low : ℕ) (current : Range) (ranges : List Range) → low ≤ current.from → current.from < current.to → RangesRise current.from ranges → AreSpaced low (merged_from current ranges)
 merged_stand_apart low current [] h k rises = (h, k, tt)
 merged_stand_apart low current (range ∷ ranges) h k rises =
     elim (nat_le range.from current.to) as
     (λ b. nat_le range.from current.to ≡ b
-    → AreApart low (cond b (merged_from (record { from = current.from; to = max current.to range.to }) ranges) (current ∷ merged_from range ranges))) [
+    → AreSpaced low (cond b (merged_from (record { from = current.from; to = max current.to range.to }) ranges) (current ∷ merged_from range ranges))) [
       | true ↦ λ e. merged_stand_apart low (record { from = current.from; to = max current.to range.to }) ranges h (omega arith) (rising_lower current.from range.from ranges rises.0 rises.2)
       | false ↦ λ e. (h, k, merged_stand_apart (current.to + 1) range ranges (omega (arith, leb-false _ _ e)) rises.1 rises.2)
     ]

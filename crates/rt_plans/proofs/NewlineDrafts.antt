@@ -22,7 +22,7 @@ use Rattle.rt_rga.specs.Histories.{IsHistory, final_character, greatest_last_cou
 use Rattle.rt_rga.specs.Requests.{MayBeMade}
 use Rattle.rt_rga.proofs.Appending.{drafts_append, may_append}
 use Rattle.rt_rga.proofs.Final.{cells_last}
-use Rattle.rt_plans.specs.Deletions.{Loss, newline_of, without_places, without_text}
+use Rattle.rt_plans.specs.Deletions.{Loss, newline_left, without_places, without_text}
 use Rattle.rt_plans.specs.DraftLaws.{IsDocument}
 use Rattle.rt_plans.specs.DocValue.{DocValue}
 use Rattle.rt_stamps.specs.Spans.{span_of}
@@ -128,7 +128,7 @@ bared_named (name ∷ names) flat stamp n h =
 -- THE NEWLINE THAT STAYS
 
 -- it is the visible cell of some place
-pub newline_at : (flat : DocValue) (loss : Loss) (cell : TaggedCell) → newline_of flat loss ≡ Some cell → (place : ℕ) × (slice_get (visible_of flat.cells) place ≡ Some cell)
+pub newline_at : (flat : DocValue) (loss : Loss) (cell : TaggedCell) → newline_left flat loss ≡ Some cell → (place : ℕ) × (slice_get (visible_of flat.cells) place ≡ Some cell)
 newline_at flat loss cell e = by loss.newline e
   where
     by : (o : Option ℕ) → option_and_then (slice_get (visible_of flat.cells)) o ≡ Some cell → (place : ℕ) × (slice_get (visible_of flat.cells) place ≡ Some cell)
@@ -150,12 +150,12 @@ among_at (x ∷ xs) zero cell e =
     subst (λ (c : TaggedCell). is_among (stamps_of (x ∷ xs)) c.stamp ≡ true) (same_some x cell e) (or_left (is_same x.stamp x.stamp) _ (same_refl x.stamp))
 among_at (x ∷ xs) (suc place) cell e = or_right (is_same x.stamp cell.stamp) _ (among_at xs place cell e)
 
-pub newline_among : (flat : DocValue) (loss : Loss) (cell : TaggedCell) → newline_of flat loss ≡ Some cell → is_among (stamps_of flat.cells) cell.stamp ≡ true
+pub newline_among : (flat : DocValue) (loss : Loss) (cell : TaggedCell) → newline_left flat loss ≡ Some cell → is_among (stamps_of flat.cells) cell.stamp ≡ true
 newline_among flat loss cell e =
     let w = newline_at flat loss cell e in
     some_among (λ (c : TaggedCell). not c.gone) flat.cells cell.stamp (among_at (visible_of flat.cells) w.0 cell w.1)
 
-pub newline_names : (flat : DocValue) (loss : Loss) (cell : TaggedCell) → CellsNamed flat.cells → newline_of flat loss ≡ Some cell → list_all is_name (names_on cell.state) ≡ true
+pub newline_names : (flat : DocValue) (loss : Loss) (cell : TaggedCell) → CellsNamed flat.cells → newline_left flat loss ≡ Some cell → list_all is_name (names_on cell.state) ≡ true
 newline_names flat loss cell h e =
     let w = newline_at flat loss cell e in
     let P = λ (c : TaggedCell). AreNamed c.state in
@@ -163,13 +163,13 @@ newline_names flat loss cell h e =
 
 -- what holds of the removal, and where a newline stays, also without its tags, holds of the deletion
 pub loss_has : (P : DocValue → Type 0) (flat : DocValue) (loss : Loss) → P (without_places flat loss.places)
-    → ((cell : TaggedCell) → newline_of flat loss ≡ Some cell → P (bared (without_places flat loss.places) cell.stamp (names_on cell.state))) → P (without_text flat loss)
-loss_has P flat loss h f = by (newline_of flat loss) refl
+    → ((cell : TaggedCell) → newline_left flat loss ≡ Some cell → P (bared (without_places flat loss.places) cell.stamp (names_on cell.state))) → P (without_text flat loss)
+loss_has P flat loss h f = by (newline_left flat loss) refl
   where
     left : DocValue
     left = without_places flat loss.places
 
-    by : (o : Option TaggedCell) → newline_of flat loss ≡ o → P (unwrap_or (option_map (λ (cell : TaggedCell). bared left cell.stamp (names_on cell.state)) o) left)
+    by : (o : Option TaggedCell) → newline_left flat loss ≡ o → P (unwrap_or (option_map (λ (cell : TaggedCell). bared left cell.stamp (names_on cell.state)) o) left)
     by None e = h
     by (Some cell) e = f cell e
 

@@ -9,7 +9,7 @@ use Rattle.rt_store.specs.Tagged.{Passes, next_place}
 use Rattle.rt_store.proofs.Distinct.{split}
 use Rattle.rt_store.proofs.Least.{least, no_next}
 use Rattle.rt_plans.specs.declared.range.Range.{Range}
-use Rattle.rt_plans.specs.Removals.{AreInOrder, is_covered, is_in}
+use Rattle.rt_plans.specs.Removals.{RangesFollow, is_covered, is_in}
 use Rattle.rt_plans.specs.TagWrites.{passes_at}
 use Rattle.rt_plans.proofs.WithinLaws.{less_from}
 
@@ -163,8 +163,8 @@ places_so_far found rest next passes place old a h k =
     ap (λ b. b || left) (covered_more found next place) ∙ sym (or_assoc (is_covered found place) (is_in next place) left)
     ∙ ap (λ b. is_covered found place || b) (rest_places rest next passes place a h) ∙ k
 
-pub order_put : (found : List Range) (next : Range) (place : ℕ) → AreInOrder place found → All (λ range. range.to ≤ next.from) found → place ≤ next.from → next.from < next.to
-    → AreInOrder place (found ++ next ∷ [])
+pub order_put : (found : List Range) (next : Range) (place : ℕ) → RangesFollow place found → All (λ range. range.to ≤ next.from) found → place ≤ next.from → next.from < next.to
+    → RangesFollow place (found ++ next ∷ [])
 order_put [] next place o e h k = (h, k, tt)
 order_put (x ∷ xs) next place o e h k =
     let P : Range → Type 0 = λ range. range.to ≤ next.from in

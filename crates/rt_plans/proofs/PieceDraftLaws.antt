@@ -27,10 +27,10 @@ use Rattle.rt_rga.proofs.Appending.{drafts_append, may_append}
 use Rattle.rt_rga.proofs.Corollaries.{cells_distinct, root_absent}
 use Rattle.rt_rga.proofs.Drafting.{count_after}
 use Rattle.rt_rga.proofs.Requests.{all_count_on}
-use Rattle.rt_plans.specs.DraftLaws.{AreTexts, IsElement, IsInserted, IsInsertion, IsText}
+use Rattle.rt_plans.specs.DraftLaws.{HaveTexts, IsElement, IsInserted, IsInsertion, IsText}
 use Rattle.rt_plans.specs.DocValue.{put_after}
 use Rattle.rt_plans.specs.InsertionDrafts.{behind, insertion_drafts, inserts_of, pieces_drafts, tags_on, text_drafts}
-use Rattle.rt_plans.specs.Insertions.{Insertion, Piece, cells_of_inserts, counts_for, further_tags, insertion_of, inserts_for, last_of, new_state, shared_names, tagged_cells, tags_between, with_listed, with_pieces, with_unlisted}
+use Rattle.rt_plans.specs.Insertions.{Insertion, Piece, cells_of_inserts, counts_for, further_tags, insertion_of, inserts_for, new_state, on_left, shared_names, tagged_cells, tags_between, with_listed, with_pieces, with_unlisted}
 use Rattle.rt_plans.specs.NamedSpans.{first_parts}
 use Rattle.rt_plans.proofs.DraftSteps.{stays_character}
 use Rattle.rt_plans.proofs.InsertDraftLaws.{put_behind, tags_counted}
@@ -39,7 +39,7 @@ use Rattle.rt_plans.proofs.NamedSpanLaws.{IsCut, cut, cut_more, cut_some}
 
 -- BEHIND THE CELLS SO FAR
 
-last_some : (o : Option TaggedCell) (init : List TaggedCell) (x : TaggedCell) → last_of o (init ++ x ∷ []) ≡ Some x
+last_some : (o : Option TaggedCell) (init : List TaggedCell) (x : TaggedCell) → on_left o (init ++ x ∷ []) ≡ Some x
 last_some o [] x = refl
 last_some o (y ∷ ys) x = last_some (Some y) ys x
 
@@ -49,7 +49,7 @@ last_apart c (d ∷ ds) = let w = last_apart d ds in (c ∷ w.0, w.1, ap (λ l. 
 
 behind_last : (after : Stamp) (cells init : List TaggedCell) (x : TaggedCell) → cells ≡ init ++ x ∷ [] → behind after cells ≡ x.stamp
 behind_last after cells init x e =
-    ap (λ l. unwrap_or (option_map (λ (cell : TaggedCell). cell.stamp) (last_of None l)) after) e
+    ap (λ l. unwrap_or (option_map (λ (cell : TaggedCell). cell.stamp) (on_left None l)) after) e
     ∙ ap (λ o. unwrap_or (option_map (λ (cell : TaggedCell). cell.stamp) o) after) (last_some None init x)
 
 in_middle : (front : List TaggedCell) (x : TaggedCell) (rest : List TaggedCell) → is_among (stamps_of (front ++ x ∷ rest)) x.stamp ≡ true
@@ -233,7 +233,7 @@ pub unlisted_more : (site : ℕ) (left right : Option TaggedCell) (so_far : Inse
 unlisted_more site left right so_far [] = record { cells = sym (append-nil so_far.cells); count = omega arith }
 unlisted_more site left right so_far (c ∷ text) = record { cells = refl; count = refl }
 
-pieces_may : (pieces : List Piece) (site : ℕ) (after : Stamp) (so_far : Insertion) (log : List Operation) → HasSoFar after so_far log → AreTexts pieces
+pieces_may : (pieces : List Piece) (site : ℕ) (after : Stamp) (so_far : Insertion) (log : List Operation) → HasSoFar after so_far log → HaveTexts pieces
     → MayBeMade site log (pieces_drafts MOST_CHARACTERS site after pieces so_far)
     × HasSoFar after (with_pieces site pieces so_far) (with_drafts site (pieces_drafts MOST_CHARACTERS site after pieces so_far) log)
 pieces_may [] site after so_far log h t = (tt, h)
@@ -265,7 +265,7 @@ pieces_grow (piece ∷ pieces) site so_far =
     let m = (listed_more site so_far piece.tags (chars piece.text)).count in
     omega (arith, m, pieces_grow pieces site (with_listed site piece.tags (chars piece.text) so_far))
 
-pieces_made : (pieces : List Piece) (site : ℕ) (first : List Operation) (after : Stamp) (so_far : Insertion) (log : List Operation) → 0 < site → IsSoFar first after so_far log → AreTexts pieces
+pieces_made : (pieces : List Piece) (site : ℕ) (first : List Operation) (after : Stamp) (so_far : Insertion) (log : List Operation) → 0 < site → IsSoFar first after so_far log → HaveTexts pieces
     → (with_pieces site pieces so_far).count ≤ GREATEST_COUNT
     → IsSoFar first after (with_pieces site pieces so_far) (with_drafts site (pieces_drafts MOST_CHARACTERS site after pieces so_far) log)
 pieces_made [] site first after so_far log p h t l = h
@@ -295,7 +295,7 @@ pub insertion_may : (site : ℕ) (log : List Operation) (after : Stamp) (left ri
 insertion_may site log after left right pieces rest start h =
     let listed = with_pieces site pieces start in
     let drafts = pieces_drafts MOST_CHARACTERS site after pieces start in
-    let names = tags_between (last_of left listed.cells) right in
+    let names = tags_between (on_left left listed.cells) right in
     let all = pieces_may pieces site after start log (has_start site log after left right pieces rest start h) h.listed in
     may_append site drafts (next_drafts site after listed names (chars rest)) log all.0 (next_may site after listed (with_drafts site drafts log) names (chars rest) all.1 h.unlisted)
 
@@ -305,7 +305,7 @@ pub insertion_made : (site : ℕ) (log : List Operation) (after : Stamp) (left r
 insertion_made site log after left right pieces rest start p history h l =
     let listed = with_pieces site pieces start in
     let drafts = pieces_drafts MOST_CHARACTERS site after pieces start in
-    let neighbour = last_of left listed.cells in
+    let neighbour = on_left left listed.cells in
     let names = tags_between neighbour right in
     let text = chars rest in
     let whole = insertion_of site left right pieces rest start in
@@ -327,7 +327,7 @@ pub insertion_counted : (site : ℕ) (log : List Operation) (after : Stamp) (lef
 insertion_counted site log after left right pieces rest start e =
     let listed = with_pieces site pieces start in
     let drafts = pieces_drafts MOST_CHARACTERS site after pieces start in
-    let neighbour = last_of left listed.cells in
+    let neighbour = on_left left listed.cells in
     let names = tags_between neighbour right in
     let text = chars rest in
     ap greatest_last_count (drafts_append site drafts (next_drafts site after listed names text) log)
@@ -337,5 +337,5 @@ insertion_counted site log after left right pieces rest start e =
 pub insertion_grows : (site : ℕ) (left right : Option TaggedCell) (pieces : List Piece) (rest : Word) (start : Insertion) → start.count ≤ (insertion_of site left right pieces rest start).count
 insertion_grows site left right pieces rest start =
     let listed = with_pieces site pieces start in
-    let m = (unlisted_more site (last_of left listed.cells) right listed (chars rest)).count in
+    let m = (unlisted_more site (on_left left listed.cells) right listed (chars rest)).count in
     omega (arith, m, pieces_grow pieces site start)

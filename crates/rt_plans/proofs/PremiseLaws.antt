@@ -18,8 +18,8 @@ use Rattle.rt_rga.specs.Drafts.{with_drafts}
 use Rattle.rt_rga.specs.Histories.{IsHistory}
 use Rattle.rt_plans.specs.DeletionLaws.{IsPiece}
 use Rattle.rt_plans.specs.Deletions.{Loss, delete_drafts, without_text}
-use Rattle.rt_plans.specs.DraftLaws.{AreTexts, IsDocument, IsElement, IsInsertion, IsText, SparesLast}
-use Rattle.rt_plans.specs.DocValue.{DocValue, left_of}
+use Rattle.rt_plans.specs.DraftLaws.{HaveTexts, IsDocument, IsElement, IsInsertion, IsText, SparesLast}
+use Rattle.rt_plans.specs.DocValue.{DocValue, left_stamp}
 use Rattle.rt_plans.specs.Insertions.{Insertion, Piece, left_neighbour, shared_names}
 use Rattle.rt_plans.proofs.DeletionDraftLaws.{loss_counted}
 use Rattle.rt_plans.proofs.FoundLaws.{characters_are_scalars, left_is_element, left_stays, tags_left_are}
@@ -45,20 +45,20 @@ piece_is piece h = record {
   characters = characters_are_scalars piece.text h.text;
 }
 
-pieces_by : (pieces : List Piece) → AllByRecursion IsPiece pieces → AreTexts pieces
+pieces_by : (pieces : List Piece) → AllByRecursion IsPiece pieces → HaveTexts pieces
 pieces_by [] h = tt
 pieces_by (piece ∷ pieces) h = (piece_is piece h.0, pieces_by pieces h.1)
 
-pub pieces_are : (pieces : List Piece) → All IsPiece pieces → AreTexts pieces
+pub pieces_are : (pieces : List Piece) → All IsPiece pieces → HaveTexts pieces
 pieces_are pieces h = pieces_by pieces (recursion_from_All IsPiece pieces h)
 
 -- PLACES
 
 pub may_begin : (site : ℕ) (log : List Operation) (flat : DocValue) (place : ℕ) (right : Option TaggedCell) (pieces : List Piece) (rest : Word) (start : Insertion) → IsHistory log → IsDocument site log flat
-    → place < length (text_of flat.cells) → AreTexts pieces → IsUtf8 rest → start.cells ≡ [] → start.count ≡ flat.count
-    → IsInsertion site log (left_of flat.cells place) (left_neighbour (visible_of flat.cells) place) right pieces rest start
+    → place < length (text_of flat.cells) → HaveTexts pieces → IsUtf8 rest → start.cells ≡ [] → start.count ≡ flat.count
+    → IsInsertion site log (left_stamp flat.cells place) (left_neighbour (visible_of flat.cells) place) right pieces rest start
 may_begin site log flat place right pieces rest start h doc l t u none count = record {
-  element = subst (λ (cells : List TaggedCell). IsElement log (left_of cells place)) (sym doc.cells)
+  element = subst (λ (cells : List TaggedCell). IsElement log (left_stamp cells place)) (sym doc.cells)
       (left_is_element log place h (subst (λ (cells : List TaggedCell). place < length (text_of cells)) doc.cells l));
   listed = t;
   unlisted = record {
@@ -70,8 +70,8 @@ may_begin site log flat place right pieces rest start h doc l t u none count = r
 }
 
 pub may_begin_in_rest : (site : ℕ) (log : List Operation) (flat : DocValue) (loss : Loss) (place : ℕ) (right : Option TaggedCell) (pieces : List Piece) (rest : Word) (start : Insertion)
-    → IsHistory log → IsDocument site log flat → SparesLast loss.places (text_of flat.cells) → place < length (text_of (without_text flat loss).cells) → AreTexts pieces → IsUtf8 rest → start.cells ≡ [] → start.count ≡ (without_text flat loss).count
-    → IsInsertion site (with_drafts site (delete_drafts MOST_SPANS flat loss) log) (left_of (without_text flat loss).cells place)
+    → IsHistory log → IsDocument site log flat → SparesLast loss.places (text_of flat.cells) → place < length (text_of (without_text flat loss).cells) → HaveTexts pieces → IsUtf8 rest → start.cells ≡ [] → start.count ≡ (without_text flat loss).count
+    → IsInsertion site (with_drafts site (delete_drafts MOST_SPANS flat loss) log) (left_stamp (without_text flat loss).cells place)
     (left_neighbour (visible_of (without_text flat loss).cells) place) right pieces rest start
 may_begin_in_rest site log flat loss place right pieces rest start h doc s l t u none count = record {
   element = left_stays site log flat loss place h doc s l;

@@ -16,10 +16,10 @@ use Rattle.rt_store.specs.Tagged.{AreStates}
 use Rattle.rt_store.proofs.Shown.{visible_at_shown}
 use Rattle.rt_plans.specs.declared.inserting.Plan.{Plan}
 use Rattle.rt_plans.specs.declared.pieces.PlannedPieces.{PlannedPieces}
-use Rattle.rt_plans.specs.DocValue.{left_of}
+use Rattle.rt_plans.specs.DocValue.{left_stamp}
 use Rattle.rt_plans.specs.InsertionDrafts.{behind}
 use Rattle.rt_plans.specs.InsertionPlans.{Plans, selected_between}
-use Rattle.rt_plans.specs.Insertions.{Insertion, Piece, all_listed, are_among, last_of, left_neighbour, selected_if, tagged_cells, tags_between, with_listed, with_pieces, with_unlisted}
+use Rattle.rt_plans.specs.Insertions.{Insertion, Piece, all_listed, are_among, left_neighbour, on_left, selected_if, tagged_cells, tags_between, with_listed, with_pieces, with_unlisted}
 use Rattle.rt_plans.specs.PlannedPieces.{ArePlanned, AreSoFar}
 use Rattle.rt_plans.specs.Selections.{with_stamps}
 use Rattle.rt_plans.proofs.CharacterCounts.{unlisted_length}
@@ -29,20 +29,20 @@ use Rattle.rt_plans.proofs.PlanLaws.{all_append}
 
 -- THE LEFT NEIGHBOUR'S TAGS
 
-some_last : (x : TaggedCell) (xs : List TaggedCell) → None ≡ tags_of (last_of (Some x) xs) → ⊥
+some_last : (x : TaggedCell) (xs : List TaggedCell) → None ≡ tags_of (on_left (Some x) xs) → ⊥
 some_last x [] h = cc h
 some_last x (y ∷ ys) h = some_last y ys h
 
-pub between_last : (cells : List TaggedCell) (left : Option TaggedCell) (right : TaggedCell) (names : List Word) → Some names ≡ tags_of (last_of None cells)
-    → filter (λ name. is_on name right.state) names ≡ tags_between (last_of left cells) (Some right)
+pub between_last : (cells : List TaggedCell) (left : Option TaggedCell) (right : TaggedCell) (names : List Word) → Some names ≡ tags_of (on_left None cells)
+    → filter (λ name. is_on name right.state) names ≡ tags_between (on_left left cells) (Some right)
 between_last [] left right names h = absurd (cc h)
-between_last (c ∷ cs) left right names h = by (last_of (Some c) cs) h
+between_last (c ∷ cs) left right names h = by (on_left (Some c) cs) h
   where
     by : (o : Option TaggedCell) → Some names ≡ tags_of o → filter (λ name. is_on name right.state) names ≡ tags_between o (Some right)
     by None e = absurd (cc e)
     by (Some x) e = ap (λ o. filter (λ name. is_on name right.state) (unwrap_or o [])) e
 
-pub no_last : (cells : List TaggedCell) (left : Option TaggedCell) → None ≡ tags_of (last_of None cells) → left ≡ last_of left cells
+pub no_last : (cells : List TaggedCell) (left : Option TaggedCell) → None ≡ tags_of (on_left None cells) → left ≡ on_left left cells
 no_last [] left h = refl
 no_last (c ∷ cs) left h = absurd (some_last c cs h)
 
@@ -62,7 +62,7 @@ either false b h = (refl, h)
 
 -- some pieces have no text, and there is no left neighbour
 no_left : (after : Stamp) (selection : List Stamp) (listed : List Word) (pieces : PlannedPieces) (so_far : Insertion) (table : TagStates) (left : Option (Cell ℕ)) → AreSoFar after selection listed pieces so_far
-    → (is_some pieces.last || is_some left) ≡ false → last_of (option_map (shown table) left) so_far.cells ≡ None
+    → (is_some pieces.last || is_some left) ≡ false → on_left (option_map (shown table) left) so_far.cells ≡ None
 no_left after selection listed pieces so_far table left h e =
     let p = either (is_some pieces.last) (is_some left) e in
     sym (no_last so_far.cells (option_map (shown table) left) (none_named (λ names. as_words names.items) pieces.last p.0 ∙ h.last)) ∙ none left p.1
@@ -72,13 +72,13 @@ no_left after selection listed pieces so_far table left h e =
     none (Some x) k = absurd (cc k)
 
 among_last : (stamps : List Stamp) (x : TaggedCell) (xs : List TaggedCell) (right : TaggedCell) (after : Stamp)
-    → are_among stamps (last_of (Some x) xs) (Some right) ≡ (is_among stamps (unwrap_or (option_map (λ cell. cell.stamp) (last_of (Some x) xs)) after) && is_among stamps right.stamp)
+    → are_among stamps (on_left (Some x) xs) (Some right) ≡ (is_among stamps (unwrap_or (option_map (λ cell. cell.stamp) (on_left (Some x) xs)) after) && is_among stamps right.stamp)
 among_last stamps x [] right after = refl
 among_last stamps x (y ∷ ys) right after = among_last stamps y ys right after
 
 are_both : (after : Stamp) (selection : List Stamp) (listed : List Word) (pieces : PlannedPieces) (so_far : Insertion) (table : TagStates) (left : Option (Cell ℕ)) (right : TaggedCell) (stamps : List Stamp) → AreSoFar after selection listed pieces so_far
     → IfSome left (λ cell. after ≡ cell.stamp) → (is_some pieces.last || is_some left) ≡ true
-    → are_among stamps (last_of (option_map (shown table) left) so_far.cells) (Some right) ≡ (is_among stamps pieces.texts.behind && is_among stamps right.stamp)
+    → are_among stamps (on_left (option_map (shown table) left) so_far.cells) (Some right) ≡ (is_among stamps pieces.texts.behind && is_among stamps right.stamp)
 are_both after selection listed pieces so_far table left right stamps h a e = by so_far.cells h.last ∙ ap (λ s. is_among stamps s && is_among stamps right.stamp) (sym h.element)
   where
     first : (o : Option (Cell ℕ)) → is_some o ≡ true → IfSome o (λ cell. after ≡ cell.stamp)
@@ -86,8 +86,8 @@ are_both after selection listed pieces so_far table left right stamps h a e = by
     first None k b = absurd (cc k)
     first (Some x) k b = ap (λ s. is_among stamps s && is_among stamps right.stamp) (sym b)
 
-    by : (cells : List TaggedCell) → option_map (λ names. as_words names.items) pieces.last ≡ tags_of (last_of None cells)
-        → are_among stamps (last_of (option_map (shown table) left) cells) (Some right) ≡ (is_among stamps (behind after cells) && is_among stamps right.stamp)
+    by : (cells : List TaggedCell) → option_map (λ names. as_words names.items) pieces.last ≡ tags_of (on_left None cells)
+        → are_among stamps (on_left (option_map (shown table) left) cells) (Some right) ≡ (is_among stamps (behind after cells) && is_among stamps right.stamp)
     by [] k = first left (sym (ap (λ b. b || is_some left) (is_none (λ names. as_words names.items) pieces.last k)) ∙ e) a
     by (c ∷ cs) k = among_last stamps c cs right after
 
@@ -102,27 +102,27 @@ never_both stamps (Some left) = refl
 
 -- one side is missing
 pub not_both : (after : Stamp) (selection : List Stamp) (listed : List Word) (pieces : PlannedPieces) (so_far : Insertion) (table : TagStates) (left right : Option (Cell ℕ)) (stamps : List Stamp) → AreSoFar after selection listed pieces so_far
-    → sides pieces left right ≡ None → are_among stamps (last_of (option_map (shown table) left) so_far.cells) (option_map (shown table) right) ≡ false
-not_both after selection listed pieces so_far table left None stamps h e = never_both stamps (last_of (option_map (shown table) left) so_far.cells)
+    → sides pieces left right ≡ None → are_among stamps (on_left (option_map (shown table) left) so_far.cells) (option_map (shown table) right) ≡ false
+not_both after selection listed pieces so_far table left None stamps h e = never_both stamps (on_left (option_map (shown table) left) so_far.cells)
 not_both after selection listed pieces so_far table left (Some x) stamps h e = by (is_some pieces.last || is_some left) refl e
   where
-    by : (b : Bool) → (is_some pieces.last || is_some left) ≡ b → cond {A = Option (Stamp × Stamp)} b (Some (pieces.texts.behind, x.stamp)) None ≡ None → are_among stamps (last_of (option_map (shown table) left) so_far.cells) (Some (shown table x)) ≡ false
+    by : (b : Bool) → (is_some pieces.last || is_some left) ≡ b → cond {A = Option (Stamp × Stamp)} b (Some (pieces.texts.behind, x.stamp)) None ≡ None → are_among stamps (on_left (option_map (shown table) left) so_far.cells) (Some (shown table x)) ≡ false
     by true k f = absurd (cc f)
     by false k f = ap (λ o. are_among stamps o (Some (shown table x))) (no_left after selection listed pieces so_far table left h k)
 
 -- both are there
 pub is_side : (after : Stamp) (selection : List Stamp) (listed : List Word) (pieces : PlannedPieces) (so_far : Insertion) (table : TagStates) (left right : Option (Cell ℕ)) (one other : Stamp) (stamps : List Stamp) → AreSoFar after selection listed pieces so_far
     → IfSome left (λ cell. after ≡ cell.stamp) → sides pieces left right ≡ Some (one, other)
-    → are_among stamps (last_of (option_map (shown table) left) so_far.cells) (option_map (shown table) right) ≡ (is_among stamps one && is_among stamps other)
+    → are_among stamps (on_left (option_map (shown table) left) so_far.cells) (option_map (shown table) right) ≡ (is_among stamps one && is_among stamps other)
 is_side after selection listed pieces so_far table left None one other stamps h a e = by (is_some pieces.last || is_some left) e
   where
-    by : (b : Bool) → cond {A = Option (Stamp × Stamp)} b None None ≡ Some (one, other) → are_among stamps (last_of (option_map (shown table) left) so_far.cells) None ≡ (is_among stamps one && is_among stamps other)
+    by : (b : Bool) → cond {A = Option (Stamp × Stamp)} b None None ≡ Some (one, other) → are_among stamps (on_left (option_map (shown table) left) so_far.cells) None ≡ (is_among stamps one && is_among stamps other)
     by true f = absurd (cc f)
     by false f = absurd (cc f)
 is_side after selection listed pieces so_far table left (Some x) one other stamps h a e = by (is_some pieces.last || is_some left) refl e
   where
     by : (b : Bool) → (is_some pieces.last || is_some left) ≡ b → cond {A = Option (Stamp × Stamp)} b (Some (pieces.texts.behind, x.stamp)) None ≡ Some (one, other)
-        → are_among stamps (last_of (option_map (shown table) left) so_far.cells) (Some (shown table x)) ≡ (is_among stamps one && is_among stamps other)
+        → are_among stamps (on_left (option_map (shown table) left) so_far.cells) (Some (shown table x)) ≡ (is_among stamps one && is_among stamps other)
     by false k f = absurd (cc f)
     by true k f =
         let here : Stamp × Stamp = (pieces.texts.behind, x.stamp) in
@@ -198,7 +198,7 @@ same_stamp : (table : TagStates) (o : Option (Cell ℕ)) → option_map (λ cell
 same_stamp table None = refl
 same_stamp table (Some x) = refl
 
-pub element_shown : (table : TagStates) (cells : List (Cell ℕ)) (place : ℕ) → unwrap_or (option_map (λ cell. cell.stamp) (left_neighbour (visible_of cells) place)) ROOT ≡ left_of (map (shown table) cells) place
+pub element_shown : (table : TagStates) (cells : List (Cell ℕ)) (place : ℕ) → unwrap_or (option_map (λ cell. cell.stamp) (left_neighbour (visible_of cells) place)) ROOT ≡ left_stamp (map (shown table) cells) place
 element_shown table cells zero = refl
 element_shown table cells (suc place) =
     ap (λ o. unwrap_or o ROOT) (same_stamp table (slice_get (visible_of cells) place) ∙ ap (option_map (λ (cell : TaggedCell). cell.stamp)) (sym (visible_at_shown (state_at table) cells place)))

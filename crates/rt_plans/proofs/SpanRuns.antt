@@ -13,7 +13,7 @@ use Rattle.rt_store.specs.declared.cell.CellRun.{CellRun}
 use Rattle.rt_store.specs.Cells.{AreDistinct, GoOnTo, cell_of, is_in_span, position_of, stamps_of, visible_before, visible_of}
 use Rattle.rt_store.specs.Spans.{is_among, is_in_spans, is_span, next_stamp}
 use Rattle.rt_lines.proofs.Parts.{get_drop}
-use Rattle.rt_rga.specs.NamedRuns.{IsRun, span_of_run}
+use Rattle.rt_rga.specs.NamedRuns.{IsCellRun, span_of_run}
 use Rattle.rt_rga.proofs.PlaceRuns.{cell_along}
 use Rattle.rt_rga.proofs.RemovedPlaces.{found_visible}
 use Rattle.rt_stamps.specs.Spans.{span_of}
@@ -61,7 +61,7 @@ run_place cells place position first distinct there here =
     cc at
 
 -- its cells follow one another from there on
-run_on : (cells : List (Cell ℕ)) (place : ℕ) (run : CellRun) → AreDistinct cells → slice_get (visible_of cells) place ≡ Some run.cell → IsRun cells run
+run_on : (cells : List (Cell ℕ)) (place : ℕ) (run : CellRun) → AreDistinct cells → slice_get (visible_of cells) place ≡ Some run.cell → IsCellRun cells run
     → GoOn run.cell.stamp (run.last - run.cell.stamp.count) (drop place (visible_of cells))
 run_on cells place run distinct there r = λ n few.
     let le = r.forward in
@@ -70,7 +70,7 @@ run_on cells place run distinct there r = λ n few.
     let (other, its, on) = cell_along cells run distinct r shown n (omega (arith, few, le)) in
     (other, get_drop (visible_of cells) place n ∙ ap (λ p. slice_get (visible_of cells) (p + n)) (sym here) ∙ its, on.stamp)
 
-run_spans : (cells : List (Cell ℕ)) (place : ℕ) (run : CellRun) (s : Stamp) → AreDistinct cells → slice_get (visible_of cells) place ≡ Some run.cell → IsRun cells run
+run_spans : (cells : List (Cell ℕ)) (place : ℕ) (run : CellRun) (s : Stamp) → AreDistinct cells → slice_get (visible_of cells) place ≡ Some run.cell → IsCellRun cells run
     → is_in_span (span_of_run run) s ≡ is_among (stamps_of (take (run.last - run.cell.stamp.count + 1) (drop place (visible_of cells)))) s
 run_spans cells place run s distinct there r =
     let le = r.forward in

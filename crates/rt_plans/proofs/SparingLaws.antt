@@ -6,16 +6,16 @@ use Rattle.std.proofs.lemmas.Bool.Decides.{nat_tests}
 use Rattle.std.proofs.lemmas.List.Elements.{All-cons, All-nil, All-append}
 use Rattle.std.proofs.lemmas.List.Folds.{list_any-append}
 use Rattle.rt_plans.specs.declared.range.Range.{Range}
-use Rattle.rt_plans.specs.Merging.{AreApart, begins_line, spared}
-use Rattle.rt_plans.specs.Removals.{is_in, is_covered, are_covered, is_newline_at, is_removed, AreInOrder}
+use Rattle.rt_plans.specs.Merging.{AreSpaced, begins_line, spared}
+use Rattle.rt_plans.specs.Removals.{is_in, is_covered, are_covered, is_newline_at, is_removed, RangesFollow}
 
 -- THE LAST RANGE
 
-pub last_after : (low : ℕ) (front : List Range) (last : Range) → AreApart low (front ++ last ∷ []) → low ≤ last.from
+pub last_after : (low : ℕ) (front : List Range) (last : Range) → AreSpaced low (front ++ last ∷ []) → low ≤ last.from
 last_after low [] last apart = apart.0
 last_after low (range ∷ ranges) last apart = omega (arith, apart.0, apart.1, last_after (range.to + 1) ranges last apart.2)
 
-pub last_some : (low : ℕ) (front : List Range) (last : Range) → AreApart low (front ++ last ∷ []) → last.from < last.to
+pub last_some : (low : ℕ) (front : List Range) (last : Range) → AreSpaced low (front ++ last ∷ []) → last.from < last.to
 last_some low [] last apart = apart.1
 last_some low (range ∷ ranges) last apart = last_some (range.to + 1) ranges last apart.2
 
@@ -23,7 +23,7 @@ ended : (from to place : ℕ) → to ≤ place → (nat_le from place && nat_lt 
 ended from to place h = grind (arith, nat_tests)
 
 -- no range before the last one covers the place before it, nor a later one
-pub none_near : (low : ℕ) (front : List Range) (last : Range) (place : ℕ) → AreApart low (front ++ last ∷ []) → last.from ≤ place + 1 → is_covered front place ≡ false
+pub none_near : (low : ℕ) (front : List Range) (last : Range) (place : ℕ) → AreSpaced low (front ++ last ∷ []) → last.from ≤ place + 1 → is_covered front place ≡ false
 none_near low [] last place apart h = refl
 none_near low (range ∷ ranges) last place apart h =
     or_from (is_in range place) (is_covered ranges place) (ended range.from range.to place (omega (arith, last_after (range.to + 1) ranges last apart.2)))
@@ -68,7 +68,7 @@ end_step from to place n c a b h near = by_cases (cases_lt (place + 1) from)
     by_cases (inl lt) = end_apart from to place n c lt
     by_cases (inr le) = ap (λ b. (b || (nat_le from place && nat_lt place to)) && (nat_le from (place + 1) && (to == n))) (near le) ∙ end_later from to place n a b h
 
-covered_from : (front : List Range) (last : Range) (n : ℕ) → AreApart 0 (front ++ last ∷ []) → last.to ≤ n → (k place : ℕ) → place + suc k ≡ n
+covered_from : (front : List Range) (last : Range) (n : ℕ) → AreSpaced 0 (front ++ last ∷ []) → last.to ≤ n → (k place : ℕ) → place + suc k ≡ n
     → are_covered (front ++ last ∷ []) place (suc k) ≡ (nat_le last.from place && (last.to == n))
 covered_from front last n apart h zero place e =
     let some = last_some 0 front last apart in
@@ -79,7 +79,7 @@ covered_from front last n apart h (suc k) place e =
     ∙ end_step last.from last.to place n (is_covered front place) (last_some 0 front last apart) h (omega arith) (λ near. none_near 0 front last place apart near)
 
 -- All places after one are covered, down to the end, where the last range begins at the next or before and ends there.
-pub covered_to_end : (front : List Range) (last : Range) (n place : ℕ) → AreApart 0 (front ++ last ∷ []) → last.to ≤ n → place + 1 < n
+pub covered_to_end : (front : List Range) (last : Range) (n place : ℕ) → AreSpaced 0 (front ++ last ∷ []) → last.to ≤ n → place + 1 < n
     → are_covered (front ++ last ∷ []) (place + 1) (n - (place + 1)) ≡ (nat_le last.from (place + 1) && (last.to == n))
 covered_to_end front last n place apart h k =
     let more : n - (place + 1) ≡ suc (n - (place + 2)) = omega arith in
@@ -178,7 +178,7 @@ spared_starts text last = by_tests (nat_lt last.to (length text)) (begins_line t
 spared_past : (text : List ℕ) (last : Range) (place : ℕ) → last.from < last.to → last.to ≤ length text → length text ≤ place + 1 → is_in (spared text last) place ≡ false
 spared_past text last place some within h = ended (spared text last).from (spared text last).to place (omega (arith, spared_ends text last some within))
 
-pub covered_spared : (text : List ℕ) (front : List Range) (last : Range) (place : ℕ) → AreApart 0 (front ++ last ∷ []) → last.to ≤ length text
+pub covered_spared : (text : List ℕ) (front : List Range) (last : Range) (place : ℕ) → AreSpaced 0 (front ++ last ∷ []) → last.to ≤ length text
     → (is_covered front place || is_in (spared text last) place) ≡ is_removed text (front ++ last ∷ []) place
 covered_spared text front last place apart within =
     elim (nat_lt (place + 1) (length text)) as
@@ -196,14 +196,14 @@ covered_spared text front last place apart within =
     some = last_some 0 front last apart
 
 -- with the last range, or without it where it is empty then
-pub places_kept : (text : List ℕ) (front : List Range) (last : Range) (place : ℕ) → AreApart 0 (front ++ last ∷ []) → last.to ≤ length text
+pub places_kept : (text : List ℕ) (front : List Range) (last : Range) (place : ℕ) → AreSpaced 0 (front ++ last ∷ []) → last.to ≤ length text
     → is_covered (front ++ spared text last ∷ []) place ≡ is_removed text (front ++ last ∷ []) place
 places_kept text front last place apart within = covered_last front (spared text last) place ∙ covered_spared text front last place apart within
 
 empty_in : (from to place : ℕ) → to ≤ from → (nat_le from place && nat_lt place to) ≡ false
 empty_in from to place h = grind (arith, nat_tests)
 
-pub places_dropped : (text : List ℕ) (front : List Range) (last : Range) (place : ℕ) → AreApart 0 (front ++ last ∷ []) → last.to ≤ length text → (spared text last).to ≤ (spared text last).from
+pub places_dropped : (text : List ℕ) (front : List Range) (last : Range) (place : ℕ) → AreSpaced 0 (front ++ last ∷ []) → last.to ≤ length text → (spared text last).to ≤ (spared text last).from
     → is_covered front place ≡ is_removed text (front ++ last ∷ []) place
 places_dropped text front last place apart within empty =
     sym (or_none (is_covered front place)) ∙ ap (λ b. is_covered front place || b) (sym (empty_in (spared text last).from (spared text last).to place empty))
@@ -227,29 +227,29 @@ nothing_removed text place = by_cases (cases_lt (place + 1) (length text))
 
 -- IN ORDER
 
-pub front_in_order : (low high : ℕ) (front : List Range) (last : Range) → low ≤ high → AreApart high (front ++ last ∷ []) → AreInOrder low front
+pub front_in_order : (low high : ℕ) (front : List Range) (last : Range) → low ≤ high → AreSpaced high (front ++ last ∷ []) → RangesFollow low front
 front_in_order low high [] last h apart = tt
 front_in_order low high (range ∷ ranges) last h apart = (omega (arith, apart.0), apart.1, front_in_order range.to (range.to + 1) ranges last (omega arith) apart.2)
 
-after_front : (low : ℕ) (front : List Range) (last kept : Range) → AreApart (low + 1) (front ++ last ∷ []) → last.from ≤ kept.from + 1 → kept.from < kept.to → AreInOrder low (front ++ kept ∷ [])
+after_front : (low : ℕ) (front : List Range) (last kept : Range) → AreSpaced (low + 1) (front ++ last ∷ []) → last.from ≤ kept.from + 1 → kept.from < kept.to → RangesFollow low (front ++ kept ∷ [])
 after_front low [] last kept apart h k = (omega (arith, apart.0), k, tt)
 after_front low (range ∷ ranges) last kept apart h k = (omega (arith, apart.0), apart.1, after_front range.to ranges last kept apart.2 h k)
 
-pub kept_in_order : (front : List Range) (last kept : Range) → AreApart 0 (front ++ last ∷ []) → last.from ≤ kept.from + 1 → kept.from < kept.to → AreInOrder 0 (front ++ kept ∷ [])
+pub kept_in_order : (front : List Range) (last kept : Range) → AreSpaced 0 (front ++ last ∷ []) → last.from ≤ kept.from + 1 → kept.from < kept.to → RangesFollow 0 (front ++ kept ∷ [])
 kept_in_order [] last kept apart h k = (omega arith, k, tt)
 kept_in_order (range ∷ ranges) last kept apart h k = (omega arith, apart.1, after_front range.to ranges last kept apart.2 h k)
 
-front_before : (low : ℕ) (front : List Range) (last : Range) → AreApart low (front ++ last ∷ []) → All (λ range. range.to < last.from) front
+front_before : (low : ℕ) (front : List Range) (last : Range) → AreSpaced low (front ++ last ∷ []) → All (λ range. range.to < last.from) front
 front_before low [] last apart = All-nil (λ range. range.to < last.from)
 front_before low (range ∷ ranges) last apart =
     All-cons (λ range. range.to < last.from) range ranges (omega (arith, last_after (range.to + 1) ranges last apart.2)) (front_before (range.to + 1) ranges last apart.2)
 
-pub front_within : (front : List Range) (last : Range) (n : ℕ) → AreApart 0 (front ++ last ∷ []) → last.to ≤ n → All (λ range. range.to < n) front
+pub front_within : (front : List Range) (last : Range) (n : ℕ) → AreSpaced 0 (front ++ last ∷ []) → last.to ≤ n → All (λ range. range.to < n) front
 front_within front last n apart within =
     let before : All (λ range. range.to < last.from) front = front_before 0 front last apart in
     λ k d h. omega (arith, before k d h, last_some 0 front last apart)
 
-pub kept_within : (front : List Range) (last kept : Range) (n : ℕ) → AreApart 0 (front ++ last ∷ []) → last.to ≤ n → kept.to < n → All (λ range. range.to < n) (front ++ kept ∷ [])
+pub kept_within : (front : List Range) (last kept : Range) (n : ℕ) → AreSpaced 0 (front ++ last ∷ []) → last.to ≤ n → kept.to < n → All (λ range. range.to < n) (front ++ kept ∷ [])
 kept_within front last kept n apart within h =
     let P : Range → Type 0 = λ range. range.to < n in
     All-append P front (kept ∷ []) (front_within front last n apart within) (All-cons P kept [] h (All-nil P))
@@ -282,14 +282,14 @@ removed_same text some other same place =
 
 -- ranges that take what a removal of others takes
 pub record Takes (text : List ℕ) (ranges taken : List Range) : Type 0 where
-  pub order : AreInOrder 0 taken
+  pub order : RangesFollow 0 taken
   pub within : All (λ range. range.to < length text) taken
   pub places : (place : ℕ) → is_covered taken place ≡ is_removed text ranges place
 
-last_of : (text : List ℕ) (front : List Range) (last : Range) → AreApart 0 (front ++ last ∷ []) → ((place : ℕ) → is_covered (front ++ last ∷ []) place ≡ true → place < length text) → last.to ≤ length text
+last_of : (text : List ℕ) (front : List Range) (last : Range) → AreSpaced 0 (front ++ last ∷ []) → ((place : ℕ) → is_covered (front ++ last ∷ []) place ≡ true → place < length text) → last.to ≤ length text
 last_of text front last apart within = last_within front last (length text) (last_some 0 front last apart) within
 
-taken_with : (text : List ℕ) (front : List Range) (last : Range) → AreApart 0 (front ++ last ∷ []) → last.to ≤ length text → (spared text last).from < (spared text last).to
+taken_with : (text : List ℕ) (front : List Range) (last : Range) → AreSpaced 0 (front ++ last ∷ []) → last.to ≤ length text → (spared text last).from < (spared text last).to
     → Takes text (front ++ last ∷ []) (front ++ spared text last ∷ [])
 taken_with text front last apart within some = record {
   order = kept_in_order front last (spared text last) apart (spared_starts text last) some;
@@ -297,7 +297,7 @@ taken_with text front last apart within some = record {
   places = λ place. places_kept text front last place apart within;
 }
 
-taken_without : (text : List ℕ) (front : List Range) (last : Range) → AreApart 0 (front ++ last ∷ []) → last.to ≤ length text → (spared text last).to ≤ (spared text last).from
+taken_without : (text : List ℕ) (front : List Range) (last : Range) → AreSpaced 0 (front ++ last ∷ []) → last.to ≤ length text → (spared text last).to ≤ (spared text last).from
     → Takes text (front ++ last ∷ []) front
 taken_without text front last apart within empty = record {
   order = front_in_order 0 0 front last (omega arith) apart;
@@ -305,24 +305,24 @@ taken_without text front last apart within empty = record {
   places = λ place. places_dropped text front last place apart within empty;
 }
 
-pub last_ends : (text : List ℕ) (merged front : List Range) (last : Range) → merged ≡ front ++ last ∷ [] → AreApart 0 merged → ((place : ℕ) → is_covered merged place ≡ true → place < length text)
+pub last_ends : (text : List ℕ) (merged front : List Range) (last : Range) → merged ≡ front ++ last ∷ [] → AreSpaced 0 merged → ((place : ℕ) → is_covered merged place ≡ true → place < length text)
     → (last.from < last.to) × (last.to ≤ length text)
 last_ends text merged front last e apart within =
-    let apart_here : AreApart 0 (front ++ last ∷ []) = subst (AreApart 0) e apart in
+    let apart_here : AreSpaced 0 (front ++ last ∷ []) = subst (AreSpaced 0) e apart in
     (last_some 0 front last apart_here, last_of text front last apart_here (λ place h. within place (ap (λ ranges. is_covered ranges place) e ∙ h)))
 
-pub with_last : (text : List ℕ) (merged front taken : List Range) (last kept : Range) → merged ≡ front ++ last ∷ [] → AreApart 0 merged → ((place : ℕ) → is_covered merged place ≡ true → place < length text)
+pub with_last : (text : List ℕ) (merged front taken : List Range) (last kept : Range) → merged ≡ front ++ last ∷ [] → AreSpaced 0 merged → ((place : ℕ) → is_covered merged place ≡ true → place < length text)
     → kept ≡ spared text last → kept.from < kept.to → taken ≡ front ++ kept ∷ [] → Takes text merged taken
 with_last text merged front taken last kept e apart within k some t =
-    let apart_here : AreApart 0 (front ++ last ∷ []) = subst (AreApart 0) e apart in
+    let apart_here : AreSpaced 0 (front ++ last ∷ []) = subst (AreSpaced 0) e apart in
     let ends : last.to ≤ length text = (last_ends text merged front last e apart within).1 in
     let some_here : (spared text last).from < (spared text last).to = subst (λ (range : Range). range.from < range.to) k some in
     rw (e, t, k) (taken_with text front last apart_here ends some_here)
 
-pub without_last : (text : List ℕ) (merged front : List Range) (last kept : Range) → merged ≡ front ++ last ∷ [] → AreApart 0 merged → ((place : ℕ) → is_covered merged place ≡ true → place < length text)
+pub without_last : (text : List ℕ) (merged front : List Range) (last kept : Range) → merged ≡ front ++ last ∷ [] → AreSpaced 0 merged → ((place : ℕ) → is_covered merged place ≡ true → place < length text)
     → kept ≡ spared text last → kept.to ≤ kept.from → Takes text merged front
 without_last text merged front last kept e apart within k empty =
-    let apart_here : AreApart 0 (front ++ last ∷ []) = subst (AreApart 0) e apart in
+    let apart_here : AreSpaced 0 (front ++ last ∷ []) = subst (AreSpaced 0) e apart in
     let ends : last.to ≤ length text = (last_ends text merged front last e apart within).1 in
     let empty_here : (spared text last).to ≤ (spared text last).from = subst (λ (range : Range). range.to ≤ range.from) k empty in
     rw e (taken_without text front last apart_here ends empty_here)

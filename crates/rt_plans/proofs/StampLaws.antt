@@ -9,7 +9,7 @@ use Rattle.rt_stamps.specs.declared.stamp.Stamp.{Stamp}
 use Rattle.rt_store.specs.declared.cell.Cell.{Cell}
 use Rattle.rt_store.specs.Cells.{visible_of, stamps_of}
 use Rattle.rt_plans.specs.declared.range.Range.{Range}
-use Rattle.rt_plans.specs.Removals.{is_in, is_covered, stamps_at, AreInOrder}
+use Rattle.rt_plans.specs.Removals.{is_in, is_covered, stamps_at, RangesFollow}
 
 -- the stamps of visible cells at some places
 abbrev pub picked : {T : Type 0} → (ℕ → Bool) → ℕ → List (Cell T) → List Stamp
@@ -50,7 +50,7 @@ alike_picked r s p (c ∷ cs) h =
     λ i. cond (h p (omega arith) i) (c.stamp ∷ rest i) (rest i)
 
 -- ranges in order begin no earlier
-pub order_weaker : (p q : ℕ) (ranges : List Range) → q ≤ p → AreInOrder p ranges → AreInOrder q ranges
+pub order_weaker : (p q : ℕ) (ranges : List Range) → q ≤ p → RangesFollow p ranges → RangesFollow q ranges
 order_weaker p q [] h k = tt
 order_weaker p q (range ∷ ranges) h k = (omega (arith, k.0), k.1, k.2)
 
@@ -63,7 +63,7 @@ in_after range q h = and_right _ (nat_lt q range.to) (le-ltb q range.to h)
 in_within : (range : Range) (q : ℕ) → range.from ≤ q → q < range.to → is_in range q ≡ true
 in_within range q h k = and_from (nat_le range.from q) (nat_lt q range.to) (le-leb range.from q h) (lt-ltb q range.to k)
 
-pub before_all : (p : ℕ) (ranges : List Range) (q : ℕ) → AreInOrder p ranges → q < p → is_covered ranges q ≡ false
+pub before_all : (p : ℕ) (ranges : List Range) (q : ℕ) → RangesFollow p ranges → q < p → is_covered ranges q ≡ false
 before_all p [] q h k = refl
 before_all p (range ∷ ranges) q h k = or_from (is_in range q) _ (in_before range q (omega (arith, h.0))) (before_all range.to ranges q h.2 (omega (arith, h.0, h.1)))
 
@@ -75,7 +75,7 @@ uncovered_from (range ∷ ranges) n q h k =
     or_from (is_in range q) _ (in_after range q (omega arith)) (uncovered_from ranges n q (All-tail (λ (r : Range). r.to < n) range ranges h) k)
 
 -- the first of the ranges, and the others
-range_picked : {T : Type 0} (range : Range) (ranges : List Range) (cs : List (Cell T)) → AreInOrder 0 (range ∷ ranges)
+range_picked : {T : Type 0} (range : Range) (ranges : List Range) (cs : List (Cell T)) → RangesFollow 0 (range ∷ ranges)
     → picked (is_covered (range ∷ ranges)) 0 cs ≡ stamps_of (take (range.to - range.from) (drop range.from cs)) ++ picked (is_covered ranges) 0 cs
 range_picked range ranges cs h =
     let r : ℕ → Bool = is_covered (range ∷ ranges) in
@@ -97,7 +97,7 @@ range_picked range ranges cs h =
     first ∙ mid ∙ ap (λ l. stamps_of (take k (drop from cs)) ++ l) (there ∙ alike ∙ sym back)
 
 -- one range more
-pub ranges_more : {T : Type 0} (cells : List (Cell T)) (ranges : List Range) (i : ℕ) (d : Range) → i < length ranges → AreInOrder 0 (drop i ranges)
+pub ranges_more : {T : Type 0} (cells : List (Cell T)) (ranges : List Range) (i : ℕ) (d : Range) → i < length ranges → RangesFollow 0 (drop i ranges)
     → stamps_at (is_covered (drop i ranges)) 0 cells
     ≡ stamps_of (take ((get_or ranges i d).to - (get_or ranges i d).from) (drop (get_or ranges i d).from (visible_of cells))) ++ stamps_at (is_covered (drop (i + 1) ranges)) 0 cells
 ranges_more cells ranges i d h k =
@@ -105,19 +105,19 @@ ranges_more cells ranges i d h k =
     let rest = drop (i + 1) ranges in
     let e : drop i ranges ≡ range ∷ rest = drop_more ranges i d h in
     picked_visible (is_covered (drop i ranges)) 0 cells ∙ ap (λ l. picked (is_covered l) 0 (visible_of cells)) e
-    ∙ range_picked range rest (visible_of cells) (subst (AreInOrder 0) e k)
+    ∙ range_picked range rest (visible_of cells) (subst (RangesFollow 0) e k)
     ∙ ap (λ l. stamps_of (take (range.to - range.from) (drop range.from (visible_of cells))) ++ l) (sym (picked_visible (is_covered rest) 0 cells))
 
-pub order_more : (ranges : List Range) (i : ℕ) → i < length ranges → AreInOrder 0 (drop i ranges) → AreInOrder 0 (drop (i + 1) ranges)
+pub order_more : (ranges : List Range) (i : ℕ) → i < length ranges → RangesFollow 0 (drop i ranges) → RangesFollow 0 (drop (i + 1) ranges)
 order_more ranges i h k =
     let d : Range = record { from = 0; to = 0 } in
     let e : drop i ranges ≡ get_or ranges i d ∷ drop (i + 1) ranges = drop_more ranges i d h in
-    let k2 : AreInOrder 0 (get_or ranges i d ∷ drop (i + 1) ranges) = subst (AreInOrder 0) e k in
+    let k2 : RangesFollow 0 (get_or ranges i d ∷ drop (i + 1) ranges) = subst (RangesFollow 0) e k in
     order_weaker (get_or ranges i d).to 0 (drop (i + 1) ranges) (omega arith) k2.2
 
-pub order_at : (ranges : List Range) (i : ℕ) (d : Range) → i < length ranges → AreInOrder 0 (drop i ranges) → (get_or ranges i d).from ≤ (get_or ranges i d).to
+pub order_at : (ranges : List Range) (i : ℕ) (d : Range) → i < length ranges → RangesFollow 0 (drop i ranges) → (get_or ranges i d).from ≤ (get_or ranges i d).to
 order_at ranges i d h k =
-    let k2 : AreInOrder 0 (get_or ranges i d ∷ drop (i + 1) ranges) = subst (AreInOrder 0) (drop_more ranges i d h) k in
+    let k2 : RangesFollow 0 (get_or ranges i d ∷ drop (i + 1) ranges) = subst (RangesFollow 0) (drop_more ranges i d h) k in
     omega (arith, k2.1)
 
 pub none_at : {T : Type 0} (p : ℕ) (cells : List (Cell T)) → stamps_at (is_covered []) p cells ≡ []

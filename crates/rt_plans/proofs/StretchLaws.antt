@@ -7,10 +7,10 @@ use Rattle.rt_store.proofs.Distinct.{split}
 use Rattle.rt_plans.specs.declared.range.Range.{Range}
 use Rattle.rt_plans.specs.Deletions.{places_from}
 use Rattle.rt_plans.specs.Merging.{range_from}
-use Rattle.rt_plans.specs.Removals.{AreInOrder, is_covered, is_in}
+use Rattle.rt_plans.specs.Removals.{RangesFollow, is_covered, is_in}
 
 -- they stay in order
-pub moved_in_order : (begin low : ℕ) (ranges : List Range) → AreInOrder low ranges → AreInOrder (begin + low) (map (range_from begin) ranges)
+pub moved_in_order : (begin low : ℕ) (ranges : List Range) → RangesFollow low ranges → RangesFollow (begin + low) (map (range_from begin) ranges)
 moved_in_order begin low [] h = tt
 moved_in_order begin low (range ∷ ranges) h = (omega (arith, h.0), omega (arith, h.1), moved_in_order begin range.to ranges h.2)
 
@@ -48,7 +48,7 @@ moved_up_to begin n end (range ∷ ranges) e h =
     (moved_up_to begin n end ranges e (λ i d lt. h (suc i) d (omega arith)))
 
 -- and their places are numbers
-pub moved_fit : (begin n most low : ℕ) (ranges : List Range) → begin + n ≤ most → AreInOrder low ranges → All (λ range. range.to ≤ n) ranges
+pub moved_fit : (begin n most low : ℕ) (ranges : List Range) → begin + n ≤ most → RangesFollow low ranges → All (λ range. range.to ≤ n) ranges
     → All (λ range. (begin + range.from ≤ most) × (begin + range.to ≤ most)) ranges
 moved_fit begin n most low [] e order h = All-nil (λ (range : Range). (begin + range.from ≤ most) × (begin + range.to ≤ most))
 moved_fit begin n most low (range ∷ ranges) e order h =

@@ -29,8 +29,8 @@ use Rattle.rt_rga.specs.Histories.{IsHistory, characters_from}
 use Rattle.rt_rga.specs.Reading.{has_stamp}
 use Rattle.rt_rga.proofs.Corollaries.{all_states}
 use Rattle.rt_rga.proofs.Writes.{state_sorted}
-use Rattle.rt_plans.specs.DraftLaws.{AreTagNames, AreTexts}
-use Rattle.rt_plans.specs.Insertions.{Insertion, Piece, cells_of_inserts, further_tags, inserts_for, last_of, left_neighbour, new_state, put_on, shared_names, tagged_cells, tags_between, with_listed, with_pieces}
+use Rattle.rt_plans.specs.DraftLaws.{AreTagNames, HaveTexts}
+use Rattle.rt_plans.specs.Insertions.{Insertion, Piece, cells_of_inserts, further_tags, inserts_for, left_neighbour, new_state, on_left, put_on, shared_names, tagged_cells, tags_between, with_listed, with_pieces}
 use Rattle.rt_plans.specs.DocValue.{DocValue}
 use Rattle.rt_plans.specs.Removals.{cells_at, gone_at}
 use Rattle.rt_plans.specs.TagWrites.{changed_stamps, tag_write, tagged, with_tag_at, with_tags_at}
@@ -206,7 +206,7 @@ inserts_named (suc inserts) site count names text h =
     (from_named (count + 1) site (new_state site last names) part (new_named site last names h))
     (inserts_named inserts site (last + length (further_tags names)) names (drop MOST_CHARACTERS text) h)
 
-pieces_named : (pieces : List Piece) (site : ℕ) (so_far : Insertion) → AreTexts pieces → CellsNamed so_far.cells → CellsNamed (with_pieces site pieces so_far).cells
+pieces_named : (pieces : List Piece) (site : ℕ) (so_far : Insertion) → HaveTexts pieces → CellsNamed so_far.cells → CellsNamed (with_pieces site pieces so_far).cells
 pieces_named [] site so_far t h = h
 pieces_named (piece ∷ pieces) site so_far t h =
     let text = chars piece.text in
@@ -217,23 +217,23 @@ pieces_named (piece ∷ pieces) site so_far t h =
     (subst CellsNamed (sym (listed_more site so_far piece.tags text).cells)
     (every_append (λ (cell : TaggedCell). AreNamed cell.state) so_far.cells new h (inserts_named (inserts_for (length text)) site so_far.count names text t.0.tags.each)))
 
-last_named : (o : Option TaggedCell) (cells : List TaggedCell) → HasNamed o → CellsNamed cells → HasNamed (last_of o cells)
+last_named : (o : Option TaggedCell) (cells : List TaggedCell) → HasNamed o → CellsNamed cells → HasNamed (on_left o cells)
 last_named o [] h k = h
 last_named o (c ∷ cs) h k = last_named (Some c) cs k.0 k.1
 
 -- the tags that both neighbours of a place have, where pieces stand before it perhaps
-pub tags_between_in : (site : ℕ) (cells : List TaggedCell) (place : ℕ) (right : Option TaggedCell) (pieces : List Piece) (start : Insertion) → CellsNamed cells → AreTexts pieces → start.cells ≡ []
-    → AreTagNames (tags_between (last_of (left_neighbour (visible_of cells) place) (with_pieces site pieces start).cells) right)
+pub tags_between_in : (site : ℕ) (cells : List TaggedCell) (place : ℕ) (right : Option TaggedCell) (pieces : List Piece) (start : Insertion) → CellsNamed cells → HaveTexts pieces → start.cells ≡ []
+    → AreTagNames (tags_between (on_left (left_neighbour (visible_of cells) place) (with_pieces site pieces start).cells) right)
 tags_between_in site cells place right pieces start h t none =
     let left = left_neighbour (visible_of cells) place in
     let new = (with_pieces site pieces start).cells in
-    between_are (last_of left new) right (last_named left new (neighbour_named cells place h) (pieces_named pieces site start t (subst CellsNamed (sym none) tt)))
+    between_are (on_left left new) right (last_named left new (neighbour_named cells place h) (pieces_named pieces site start t (subst CellsNamed (sym none) tt)))
 
 pub every_named : (log : List Operation) → IsHistory log → CellsNamed (cells_of log)
 every_named log h = recursion_from_All (λ (cell : TaggedCell). AreNamed cell.state) (cells_of log) (cells_are_named log h)
 
-pub tags_between_are : (site : ℕ) (log : List Operation) (place : ℕ) (right : Option TaggedCell) (pieces : List Piece) (start : Insertion) → IsHistory log → AreTexts pieces → start.cells ≡ []
-    → AreTagNames (tags_between (last_of (left_neighbour (visible_of (cells_of log)) place) (with_pieces site pieces start).cells) right)
+pub tags_between_are : (site : ℕ) (log : List Operation) (place : ℕ) (right : Option TaggedCell) (pieces : List Piece) (start : Insertion) → IsHistory log → HaveTexts pieces → start.cells ≡ []
+    → AreTagNames (tags_between (on_left (left_neighbour (visible_of (cells_of log)) place) (with_pieces site pieces start).cells) right)
 tags_between_are site log place right pieces start h t none = tags_between_in site (cells_of log) place right pieces start (every_named log h) t none
 
 -- AFTER OTHER WRITES

@@ -5,17 +5,17 @@ use Rattle.std.proofs.lemmas.Bool.{or_left, or_right, and_from, le-leb, lt-ltb}
 use Rattle.std.proofs.lemmas.Bool.Decides.{nat_tests}
 use Rattle.std.proofs.lemmas.List.Elements.{All-cons, All-nil}
 use Rattle.rt_plans.specs.declared.range.Range.{Range}
-use Rattle.rt_plans.specs.Merging.{AreApart}
-use Rattle.rt_plans.specs.Removals.{is_in, is_covered, AreInOrder}
+use Rattle.rt_plans.specs.Merging.{AreSpaced}
+use Rattle.rt_plans.specs.Removals.{is_in, is_covered, RangesFollow}
 use Rattle.rt_plans.proofs.StampLaws.{order_weaker}
 
 -- ranges that stand apart are in order
-pub apart_in_order : (p : ℕ) (ranges : List Range) → AreApart p ranges → AreInOrder p ranges
+pub apart_in_order : (p : ℕ) (ranges : List Range) → AreSpaced p ranges → RangesFollow p ranges
 apart_in_order p [] h = tt
 apart_in_order p (range ∷ ranges) h = (h.0, h.1, order_weaker (range.to + 1) range.to ranges (omega arith) (apart_in_order (range.to + 1) ranges h.2))
 
 -- where they cover only places of a text, none ends behind it
-pub all_within : (n p : ℕ) (ranges : List Range) → AreInOrder p ranges → ((place : ℕ) → is_covered ranges place ≡ true → place < n) → All (λ range. range.to ≤ n) ranges
+pub all_within : (n p : ℕ) (ranges : List Range) → RangesFollow p ranges → ((place : ℕ) → is_covered ranges place ≡ true → place < n) → All (λ range. range.to ≤ n) ranges
 all_within n p [] h k = All-nil (λ (range : Range). range.to ≤ n)
 all_within n p (range ∷ ranges) h k =
     let last = range.to - 1 in

@@ -15,10 +15,10 @@ use Rattle.rt_rga.specs.Histories.{IsHistory, greatest_last_count}
 use Rattle.rt_rga.specs.Requests.{MayBeMade, characters_in_all}
 use Rattle.rt_plans.specs.declared.range.Range.{Range}
 use Rattle.rt_plans.specs.Deletions.{Loss, delete_drafts, loss_in, without_text}
-use Rattle.rt_plans.specs.DraftLaws.{AreTagNames, AreTexts, IsDocument, IsElement, IsInsertion, SparesLast}
-use Rattle.rt_plans.specs.DocValue.{DocValue, left_of, put_after}
+use Rattle.rt_plans.specs.DraftLaws.{AreTagNames, HaveTexts, IsDocument, IsElement, IsInsertion, SparesLast}
+use Rattle.rt_plans.specs.DocValue.{DocValue, left_stamp, put_after}
 use Rattle.rt_plans.specs.InsertionDrafts.{insertion_drafts}
-use Rattle.rt_plans.specs.Insertions.{Insertion, Piece, insertion_of, last_of, left_neighbour, tags_between, with_pieces}
+use Rattle.rt_plans.specs.Insertions.{Insertion, Piece, insertion_of, left_neighbour, on_left, tags_between, with_pieces}
 
 -- DELETIONS
 
@@ -78,14 +78,14 @@ ReplacementIsMade =
 
 -- The visible left neighbour of a place below the end.
 abbrev pub LeftIsElement : Type 0
-LeftIsElement = (log : List Operation) (place : ℕ) → IsHistory log → place < length (text_of (cells_of log)) → IsElement log (left_of (cells_of log) place)
+LeftIsElement = (log : List Operation) (place : ℕ) → IsHistory log → place < length (text_of (cells_of log)) → IsElement log (left_stamp (cells_of log) place)
 
 -- The visible left neighbour of a place below the end of what a deletion leaves, also where its counts don't fit.
 abbrev pub LeftStaysElement : Type 0
 LeftStaysElement =
     (site : ℕ) (log : List Operation) (flat : DocValue) (loss : Loss) (place : ℕ) → IsHistory log → IsDocument site log flat
     → SparesLast loss.places (text_of flat.cells) → place < length (text_of (without_text flat loss).cells)
-    → IsElement (with_drafts site (delete_drafts MOST_SPANS flat loss) log) (left_of (without_text flat loss).cells place)
+    → IsElement (with_drafts site (delete_drafts MOST_SPANS flat loss) log) (left_stamp (without_text flat loss).cells place)
 
 -- The tags on the characters of a history are names that rise by their bytes.
 abbrev pub CellsHaveTagNames : Type 0
@@ -95,8 +95,8 @@ CellsHaveTagNames = (log : List Operation) → IsHistory log → All (λ cell. A
 abbrev pub TagsLeftAreTags : Type 0
 TagsLeftAreTags =
     (site : ℕ) (log : List Operation) (flat : DocValue) (loss : Loss) (place : ℕ) (right : Option TaggedCell) (pieces : List Piece)
-    (start : Insertion) → IsHistory log → IsDocument site log flat → AreTexts pieces → start.cells ≡ []
-    → AreTagNames (tags_between (last_of (left_neighbour (visible_of (without_text flat loss).cells) place)
+    (start : Insertion) → IsHistory log → IsDocument site log flat → HaveTexts pieces → start.cells ≡ []
+    → AreTagNames (tags_between (on_left (left_neighbour (visible_of (without_text flat loss).cells) place)
     (with_pieces site pieces start).cells) right)
 
 -- The characters of a text's bytes are scalar values.
@@ -111,15 +111,15 @@ pub record IsPiece (piece : Piece) : Type 0 where
   pub names : All (λ name. IsUtf8 name × IsName name) piece.tags
 
 abbrev pub PiecesAreTexts : Type 0
-PiecesAreTexts = (pieces : List Piece) → All IsPiece pieces → AreTexts pieces
+PiecesAreTexts = (pieces : List Piece) → All IsPiece pieces → HaveTexts pieces
 
 -- Before each place below the text's end an insertion may begin.
 abbrev pub InsertionsMayBegin : Type 0
 InsertionsMayBegin =
     (site : ℕ) (log : List Operation) (flat : DocValue) (place : ℕ) (right : Option TaggedCell) (pieces : List Piece) (rest : Word) (start : Insertion)
-    → IsHistory log → IsDocument site log flat → place < length (text_of flat.cells) → AreTexts pieces → IsUtf8 rest
+    → IsHistory log → IsDocument site log flat → place < length (text_of flat.cells) → HaveTexts pieces → IsUtf8 rest
     → start.cells ≡ [] → start.count ≡ flat.count
-    → IsInsertion site log (left_of flat.cells place) (left_neighbour (visible_of flat.cells) place) right pieces rest start
+    → IsInsertion site log (left_stamp flat.cells place) (left_neighbour (visible_of flat.cells) place) right pieces rest start
 
 -- So it may before each place below the end of what a deletion leaves, also where its counts don't fit.
 abbrev pub ReplacementsMayBegin : Type 0
@@ -127,6 +127,6 @@ ReplacementsMayBegin =
     (site : ℕ) (log : List Operation) (flat : DocValue) (loss : Loss) (place : ℕ) (right : Option TaggedCell) (pieces : List Piece)
     (rest : Word) (start : Insertion) → IsHistory log → IsDocument site log flat → SparesLast loss.places (text_of flat.cells)
     → let left = without_text flat loss in
-    place < length (text_of left.cells) → AreTexts pieces → IsUtf8 rest → start.cells ≡ [] → start.count ≡ left.count
-    → IsInsertion site (with_drafts site (delete_drafts MOST_SPANS flat loss) log) (left_of left.cells place)
+    place < length (text_of left.cells) → HaveTexts pieces → IsUtf8 rest → start.cells ≡ [] → start.count ≡ left.count
+    → IsInsertion site (with_drafts site (delete_drafts MOST_SPANS flat loss) log) (left_stamp left.cells place)
     (left_neighbour (visible_of left.cells) place) right pieces rest start

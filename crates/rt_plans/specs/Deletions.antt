@@ -33,8 +33,8 @@ loss_in text begin ranges =
     }
 
 -- the newline that stays
-abbrev pub newline_of : DocValue → Loss → Option TaggedCell
-newline_of flat loss = option_and_then (slice_get (visible_of flat.cells)) loss.newline
+abbrev pub newline_left : DocValue → Loss → Option TaggedCell
+newline_left flat loss = option_and_then (slice_get (visible_of flat.cells)) loss.newline
 
 -- the document without the characters at some places: their cells are gone, with the counts that this takes, and the marks move
 -- for that
@@ -49,11 +49,11 @@ without_places flat removed = record flat {
 abbrev pub without_text : DocValue → Loss → DocValue
 without_text flat loss =
     let left = without_places flat loss.places in
-    unwrap_or (option_map (λ cell. bared left cell.stamp (names_on cell.state)) (newline_of flat loss)) left
+    unwrap_or (option_map (λ cell. bared left cell.stamp (names_on cell.state)) (newline_left flat loss)) left
 
 -- The operations: the Deletes of the characters that go, of at most so many spans each, and then one Tag for each shared tag of the
 -- newline that stays, by their bytes.
 abbrev pub delete_drafts : ℕ → DocValue → Loss → List Body
 delete_drafts most flat loss =
     removal_drafts most loss.places flat.cells
-    ++ unwrap_or (option_map (λ cell. newline_drafts cell.stamp (names_on cell.state)) (newline_of flat loss)) []
+    ++ unwrap_or (option_map (λ cell. newline_drafts cell.stamp (names_on cell.state)) (newline_left flat loss)) []

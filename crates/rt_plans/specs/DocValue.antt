@@ -26,9 +26,9 @@ abbrev pub new_doc : ℕ → ℕ → DocValue
 new_doc site limit = record { cells = map_state (λ _. []) final_cell ∷ []; site = site; limit = limit; log = []; count = 0; marks = []; tags = sel ∷ [] }
 
 -- the stamp of the visible cell before a place, which is the root's at the beginning
-abbrev pub left_of : {T : Type 0} → List (Cell T) → ℕ → Stamp
-left_of cells zero = ROOT
-left_of cells (suc place) = unwrap_or (option_map (λ cell. cell.stamp) (slice_get (visible_of cells) place)) ROOT
+abbrev pub left_stamp : {T : Type 0} → List (Cell T) → ℕ → Stamp
+left_stamp cells zero = ROOT
+left_stamp cells (suc place) = unwrap_or (option_map (λ cell. cell.stamp) (slice_get (visible_of cells) place)) ROOT
 
 -- new cells, put in directly after an element
 abbrev pub put_after : {T : Type 0} → List (Cell T) → Stamp → List (Cell T) → List (Cell T)

@@ -20,7 +20,7 @@ use Rattle.rt_rga.specs.Requests.{MayBeMade, characters_in_all}
 use Rattle.rt_plans.specs.Deletions.{without_places}
 use Rattle.rt_plans.specs.DocValue.{DocValue, put_after}
 use Rattle.rt_plans.specs.InsertionDrafts.{insertion_drafts, text_drafts}
-use Rattle.rt_plans.specs.Insertions.{Insertion, Piece, counts_for, insertion_of, last_of, left_neighbour, shared_names, tagged_cells, tags_between, with_pieces}
+use Rattle.rt_plans.specs.Insertions.{Insertion, Piece, counts_for, insertion_of, left_neighbour, on_left, shared_names, tagged_cells, tags_between, with_pieces}
 use Rattle.rt_plans.specs.RemovalDrafts.{removal_drafts}
 use Rattle.rt_plans.specs.Removals.{gone_at, operations_for, span_count, stamps_at}
 use Rattle.rt_plans.specs.TagDrafts.{tag_deletion_drafts, newline_drafts, tag_drafts, tags_drafts_at}
@@ -160,15 +160,15 @@ pub record IsText (names : List Word) (text : List ℕ) : Type 0 where
   pub tags : AreTagNames names
   pub characters : all_scalars text ≡ true
 
-abbrev pub AreTexts : List Piece → Type 0
-AreTexts pieces = AllByRecursion (λ piece. IsText (shared_names piece.tags) (chars piece.text)) pieces
+abbrev pub HaveTexts : List Piece → Type 0
+HaveTexts pieces = AllByRecursion (λ piece. IsText (shared_names piece.tags) (chars piece.text)) pieces
 
 -- the tags and the characters of an insertion, and the element that it goes behind
 pub record IsInsertion (site : ℕ) (log : List Operation) (after : Stamp) (left right : Option TaggedCell) (pieces : List Piece) (rest : Word)
     (start : Insertion) : Type 0 where
   pub element : IsElement log after
-  pub listed : AreTexts pieces
-  pub unlisted : IsText (tags_between (last_of left (with_pieces site pieces start).cells) right) (chars rest)
+  pub listed : HaveTexts pieces
+  pub unlisted : IsText (tags_between (on_left left (with_pieces site pieces start).cells) right) (chars rest)
   pub none : start.cells ≡ []
   pub count : start.count ≡ greatest_last_count log
 
@@ -198,8 +198,8 @@ SharedNamesAreTags =
 abbrev pub TagsBetweenAreTags : Type 0
 TagsBetweenAreTags =
     (site : ℕ) (log : List Operation) (place : ℕ) (right : Option TaggedCell) (pieces : List Piece) (start : Insertion)
-    → IsHistory log → AreTexts pieces → start.cells ≡ []
-    → AreTagNames (tags_between (last_of (left_neighbour (visible_of (cells_of log)) place) (with_pieces site pieces start).cells) right)
+    → IsHistory log → HaveTexts pieces → start.cells ≡ []
+    → AreTagNames (tags_between (on_left (left_neighbour (visible_of (cells_of log)) place) (with_pieces site pieces start).cells) right)
 
 -- Whether the counts fit is told by the count of the flat edit.
 abbrev pub AllTagsAreCounted : Type 0

@@ -7,7 +7,7 @@ use Rattle.rt_stamps.specs.declared.stamp.Stamp.{Stamp}
 use Rattle.rt_stamps.specs.Words.{Word}
 use Rattle.rt_ops.specs.Operations.{Body, Insert, Tag}
 use Rattle.rt_store.specs.Shown.{TaggedCell}
-use Rattle.rt_plans.specs.Insertions.{Insertion, Piece, further_tags, last_of, shared_names, tags_between, with_listed, with_pieces}
+use Rattle.rt_plans.specs.Insertions.{Insertion, Piece, further_tags, on_left, shared_names, tags_between, with_listed, with_pieces}
 use Rattle.rt_plans.specs.NamedSpans.{parts_of}
 
 -- each tag of a list is put on the characters of a span by an operation of its own
@@ -33,7 +33,7 @@ text_drafts most site count after names text = inserts_of site count after names
 
 -- the element behind which further text goes: the last of the new cells, and where there are none yet the given one
 abbrev pub behind : Stamp → List TaggedCell → Stamp
-behind after new = unwrap_or (option_map (λ cell. cell.stamp) (last_of None new)) after
+behind after new = unwrap_or (option_map (λ cell. cell.stamp) (on_left None new)) after
 
 -- pieces with lists, each behind the text of the one before it
 abbrev pub pieces_drafts : ℕ → ℕ → Stamp → List Piece → Insertion → List Body
@@ -48,4 +48,4 @@ abbrev pub insertion_drafts : ℕ → ℕ → Stamp → Option TaggedCell → Op
 insertion_drafts most site after left right pieces rest start =
     let listed = with_pieces site pieces start in
     pieces_drafts most site after pieces start
-    ++ text_drafts most site listed.count (behind after listed.cells) (tags_between (last_of left listed.cells) right) (chars rest)
+    ++ text_drafts most site listed.count (behind after listed.cells) (tags_between (on_left left listed.cells) right) (chars rest)

@@ -86,9 +86,9 @@ pub record Insertion : Type 0 where
   pub tags : List Word
 
 -- the last of some cells, and before the first of them the given one
-abbrev pub last_of : {T : Type 0} → Option (Cell T) → List (Cell T) → Option (Cell T)
-last_of left [] = left
-last_of left (cell ∷ cells) = last_of (Some cell) cells
+abbrev pub on_left : {T : Type 0} → Option (Cell T) → List (Cell T) → Option (Cell T)
+on_left left [] = left
+on_left left (cell ∷ cells) = on_left (Some cell) cells
 
 -- names are listed, one after the other
 abbrev pub all_listed : List Word → List Word → List Word
@@ -142,7 +142,7 @@ with_unlisted site left right (c ∷ text) so_far =
 abbrev pub insertion_of : ℕ → Option TaggedCell → Option TaggedCell → List Piece → Word → Insertion → Insertion
 insertion_of site left right pieces rest start =
     let listed = with_pieces site pieces start in
-    with_unlisted site (last_of left listed.cells) right (chars rest) listed
+    with_unlisted site (on_left left listed.cells) right (chars rest) listed
 
 -- the neighbours of a place among characters
 abbrev pub left_neighbour : {T : Type 0} → List (Cell T) → ℕ → Option (Cell T)

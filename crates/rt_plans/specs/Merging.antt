@@ -4,14 +4,14 @@ use Rattle.rt_plans.specs.Removals.{is_newline_at}
 use Rattle.rt_plans.specs.declared.range.Range.{Range}
 
 -- ranges in the order of their beginnings, from a place on, and none is empty
-abbrev pub AreRising : ℕ → List Range → Type 0
-AreRising place [] = ⊤
-AreRising place (range ∷ ranges) = (place ≤ range.from) × (range.from < range.to) × AreRising range.from ranges
+abbrev pub RangesRise : ℕ → List Range → Type 0
+RangesRise place [] = ⊤
+RangesRise place (range ∷ ranges) = (place ≤ range.from) × (range.from < range.to) × RangesRise range.from ranges
 
 -- ranges in the text's order, from a place on: none is empty, and a place stands between one and the next
-abbrev pub AreApart : ℕ → List Range → Type 0
-AreApart place [] = ⊤
-AreApart place (range ∷ ranges) = (place ≤ range.from) × (range.from < range.to) × AreApart (range.to + 1) ranges
+abbrev pub AreSpaced : ℕ → List Range → Type 0
+AreSpaced place [] = ⊤
+AreSpaced place (range ∷ ranges) = (place ≤ range.from) × (range.from < range.to) × AreSpaced (range.to + 1) ranges
 
 -- a range of a stretch as one of the text, in which the stretch begins at a place
 abbrev pub range_from : ℕ → Range → Range

@@ -7,7 +7,7 @@ use Rattle.rt_plans.specs.declared.inserting.Between.{Between}
 use Rattle.rt_plans.specs.declared.inserting.Plan.{Plan}
 use Rattle.rt_plans.specs.declared.pieces.PlannedPieces.{PlannedPieces}
 use Rattle.rt_plans.specs.InsertionDrafts.{behind}
-use Rattle.rt_plans.specs.Insertions.{Insertion, all_listed, last_of}
+use Rattle.rt_plans.specs.Insertions.{Insertion, all_listed, on_left}
 use Rattle.rt_plans.specs.Selections.{with_stamps}
 
 -- The number of new characters and the greatest count, the element behind them, what the commanding widget selects, the tags to
@@ -19,7 +19,7 @@ pub record AreSoFar (after : Stamp) (selection : List Stamp) (listed : List Word
   pub element : pieces.texts.behind ≡ behind after so_far.cells
   pub sel : with_stamps pieces.selected.items selection ≡ so_far.sel
   pub tags : all_listed (as_words pieces.names.items) listed ≡ so_far.tags
-  pub last : option_map (λ names. as_words names.items) pieces.last ≡ option_map (λ cell. names_on cell.state) (last_of None so_far.cells)
+  pub last : option_map (λ names. as_words names.items) pieces.last ≡ option_map (λ cell. names_on cell.state) (on_left None so_far.cells)
 
 -- the plan that the pieces make, with the characters between two others
 pub record ArePlanned (plan : Plan) (pieces : PlannedPieces) (between : Option Between) : Type 0 where

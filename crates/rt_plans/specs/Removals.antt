@@ -70,6 +70,6 @@ abbrev pub operations_for : ℕ → ℕ
 operations_for spans = parts_for MOST_SPANS spans
 
 -- ranges in the text's order, from a place on: none is empty, and each begins where the one before it has ended or later
-abbrev pub AreInOrder : ℕ → List Range → Type 0
-AreInOrder place [] = ⊤
-AreInOrder place (range ∷ ranges) = (place ≤ range.from) × (range.from < range.to) × AreInOrder range.to ranges
+abbrev pub RangesFollow : ℕ → List Range → Type 0
+RangesFollow place [] = ⊤
+RangesFollow place (range ∷ ranges) = (place ≤ range.from) × (range.from < range.to) × RangesFollow range.to ranges

@@ -1,7 +1,7 @@
 // The visible cells in ranges.
 ghost use Rattle.std.specs.Prelude.{◌≡◌, ◌+◌, ◌-◌, ◌*◌, ◌/◌, ◌<◌, ◌≤◌, ◌++◌, All, IfOk, IsOkUnless, OnOk, length, take, drop};
 ghost use Rattle.rt_store.specs.Cells.{visible_of};
-ghost use Rattle.rt_plans.specs.Removals.{is_covered, cells_at, AreInOrder};
+ghost use Rattle.rt_plans.specs.Removals.{is_covered, cells_at, RangesFollow};
 
 use crate::Range;
 use rt_stamps::Fault;
@@ -32,7 +32,7 @@ pub fn cells_in<S: TextStore>(
     store: &S,
     ranges: &[Range],
 ) -> Result<Vec<Cell<StateId>>, Fault>
-    requires order { AreInOrder 0 ranges.now }
+    requires order { RangesFollow 0 ranges.now }
     requires within { All (λ range. range.to ≤ length (visible_of (S.list store.now))) ranges.now }
     ensures ok { IfOk result (λ cells. cells.items ≡ cells_at (is_covered ranges.now) 0 (S.list store.now)) }
     ensures err { IsOkUnless result Fault.NoMemory }

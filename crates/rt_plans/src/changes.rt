@@ -6,7 +6,7 @@ ghost use Rattle.rt_store.specs.Cells.{AreDistinct, visible_of};
 ghost use Rattle.rt_store.specs.Shown.{shown};
 ghost use Rattle.rt_store.specs.Tagged.{next_place, tag_is};
 ghost use Rattle.rt_tags.specs.States.{IsTag};
-ghost use Rattle.rt_plans.specs.Removals.{AreInOrder, is_covered, is_in};
+ghost use Rattle.rt_plans.specs.Removals.{RangesFollow, is_covered, is_in};
 ghost use Rattle.rt_plans.specs.TagDrafts.{tag_drafts_at};
 ghost use Rattle.rt_plans.specs.TagWrites.{is_changed, passes_at};
 
@@ -79,9 +79,9 @@ fn push_with<S: TextStore>(
     requires states { S.agrees store.now states.now }
     requires range { range.from ≤ range.to }
     requires within { range.to ≤ length (visible_of (S.list store.now)) }
-    requires order { AreInOrder 0 found.old.items }
+    requires order { RangesFollow 0 found.old.items }
     requires ends { All (λ found. found.to ≤ range.from) found.old.items }
-    ensures order { OnOk result (AreInOrder 0 found.new.items) }
+    ensures order { OnOk result (RangesFollow 0 found.new.items) }
     ensures ends { OnOk result (All (λ found. found.to ≤ range.to) found.new.items) }
     ensures places { OnOk result ((place : ℕ) → is_covered found.new.items place ≡ (is_covered found.old.items place
         || (is_in range place && passes_at (tag_is states.now tag on) (visible_of (S.list store.now)) place))) }
@@ -106,9 +106,9 @@ fn ranges_with<S: TextStore>(
 ) -> Result<Vec<Range>, Fault>
     requires tag { IsTag states.now tag }
     requires states { S.agrees store.now states.now }
-    requires order { AreInOrder 0 ranges.now }
+    requires order { RangesFollow 0 ranges.now }
     requires within { All (λ range. range.to ≤ length (visible_of (S.list store.now))) ranges.now }
-    ensures order { IfOk result (λ found. AreInOrder 0 found.items) }
+    ensures order { IfOk result (λ found. RangesFollow 0 found.items) }
     ensures places { IfOk result (λ found. (place : ℕ) → is_covered found.items place
         ≡ (is_covered ranges.now place && passes_at (tag_is states.now tag on) (visible_of (S.list store.now)) place)) }
     ensures err { IsOkUnless result Fault.NoMemory }
@@ -130,9 +130,9 @@ fn changed_ranges<S: TextStore>(
     on: bool,
 ) -> Result<Vec<Range>, Fault>
     requires states { S.agrees store.now states.now }
-    requires order { AreInOrder 0 ranges.now }
+    requires order { RangesFollow 0 ranges.now }
     requires within { All (λ range. range.to ≤ length (visible_of (S.list store.now))) ranges.now }
-    ensures order { IfOk result (λ changed. AreInOrder 0 changed.items) }
+    ensures order { IfOk result (λ changed. RangesFollow 0 changed.items) }
     ensures places { IfOk result (λ changed. (place : ℕ) → is_covered changed.items place
         ≡ (is_covered ranges.now place && passes_at (is_changed name.now on) (visible_of (map (shown states.now) (S.list store.now))) place)) }
     ensures err { IsOkUnless result Fault.NoMemory }
@@ -157,7 +157,7 @@ pub(crate) fn push_changes<S: TextStore>(
 ) -> Result<(), Fault>
     requires distinct { AreDistinct (S.list store.now) }
     requires states { S.agrees store.now states.now }
-    requires order { AreInOrder 0 ranges.now }
+    requires order { RangesFollow 0 ranges.now }
     requires within { All (λ range. range.to ≤ length (visible_of (S.list store.now))) ranges.now }
     ensures ok { OnOk result (map body_of drafts.new.items ≡ map body_of drafts.old.items
         ++ tag_drafts_at MOST_SPANS (is_covered ranges.now) on name.now (map (shown states.now) (S.list store.now))) }

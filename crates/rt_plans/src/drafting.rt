@@ -13,7 +13,7 @@ ghost use Rattle.rt_lines.specs.Stretches.{part};
 ghost use Rattle.rt_plans.specs.Deletions.{delete_drafts, loss_in};
 ghost use Rattle.rt_plans.specs.DocValue.{DocValue};
 ghost use Rattle.rt_plans.specs.Listed.{AreListed};
-ghost use Rattle.rt_plans.specs.Removals.{AreInOrder, is_covered};
+ghost use Rattle.rt_plans.specs.Removals.{RangesFollow, is_covered};
 ghost use Rattle.rt_plans.specs.RemovalDrafts.{removal_drafts};
 ghost use Rattle.rt_plans.specs.TagDrafts.{tag_deletion_drafts, newline_drafts, tag_drafts_at};
 
@@ -54,7 +54,7 @@ pub fn removals<S: TextStore>(
     removed: &[Range],
 ) -> Result<Vec<Draft>, Fault>
     requires distinct { AreDistinct (S.list store.now) }
-    requires order { AreInOrder 0 removed.now }
+    requires order { RangesFollow 0 removed.now }
     requires within { All (λ range. range.to ≤ length (visible_of (S.list store.now))) removed.now }
     ensures ok { IfOk result (λ drafts. map body_of drafts.items ≡ removal_drafts MOST_SPANS (is_covered removed.now) (S.list store.now)) }
     ensures err { IsOkUnless result Fault.NoMemory }
@@ -110,7 +110,7 @@ pub fn planned_deletion<S: TextStore>(
         → map body_of d.drafts.items ≡ delete_drafts MOST_SPANS flat (loss_in (part stretch (text_of (S.list store.now))) stretch.begin ranges.now)) }
     ensures places { IfOk result (λ d. (place : ℕ)
         → is_covered d.removed.items place ≡ (loss_in (part stretch (text_of (S.list store.now))) stretch.begin ranges.now).places place) }
-    ensures order { IfOk result (λ d. AreInOrder 0 d.removed.items) }
+    ensures order { IfOk result (λ d. RangesFollow 0 d.removed.items) }
     ensures before { IfOk result (λ d. All (λ range. range.to < stretch.end) d.removed.items) }
     ensures held { IfOk result (λ d. d.held ≡ is_some (loss_in (part stretch (text_of (S.list store.now))) stretch.begin ranges.now).newline) }
     ensures err { IsOkUnless result Fault.NoMemory }
@@ -141,7 +141,7 @@ pub fn planned_tag<S: TextStore>(
 ) -> Result<Vec<Draft>, Fault>
     requires distinct { AreDistinct (S.list store.now) }
     requires states { S.agrees store.now states.now }
-    requires order { AreInOrder 0 ranges.now }
+    requires order { RangesFollow 0 ranges.now }
     requires within { All (λ range. range.to ≤ length (visible_of (S.list store.now))) ranges.now }
     ensures ok { IfOk result (λ drafts. map body_of drafts.items
         ≡ tag_drafts_at MOST_SPANS (is_covered ranges.now) on name.now (map (shown states.now) (S.list store.now))) }

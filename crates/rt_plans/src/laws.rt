@@ -8,7 +8,7 @@ ghost use Rattle.rt_stamps.specs.Stamps.{is_same};
 ghost use Rattle.rt_store.specs.Cells.{AreDistinct, text_of, stamps_of, with_state};
 ghost use Rattle.rt_plans.specs.declared.range.Range.{Range};
 ghost use Rattle.rt_stamps.specs.Words.{Word};
-ghost use Rattle.rt_plans.specs.DocValue.{DocValue, left_of, put_after};
+ghost use Rattle.rt_plans.specs.DocValue.{DocValue, left_stamp, put_after};
 ghost use Rattle.rt_store.specs.Shown.{TaggedCell};
 ghost use Rattle.rt_plans.specs.Insertions.{shared_names, tagged_cells};
 ghost use Rattle.rt_plans.specs.Merging.{begins_line};
@@ -26,7 +26,7 @@ ghost use Rattle.rt_tags.specs.Tags.{is_listed, sel};
 /// cells, gone ones too, have stamps of their own.
 pub fn text_of_insertion()
     ensures put { (cells new : List TaggedCell) (place : ℕ) → IsDistinct is_same (ROOT ∷ stamps_of cells)
-        → place < length (text_of cells) → text_of (put_after cells (left_of cells place) new) ≡ take place (text_of cells)
+        → place < length (text_of cells) → text_of (put_after cells (left_stamp cells place) new) ≡ take place (text_of cells)
         ++ text_of new ++ drop place (text_of cells) }
     ensures new { (site count : ℕ) (names : List Word) (text : List ℕ) → text_of (tagged_cells site count names text) ≡ text }
 {}

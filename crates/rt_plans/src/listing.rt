@@ -3,7 +3,7 @@ ghost use Rattle.std.specs.Prelude.{◌≡◌, ◌<◌, ◌≤◌, All, Err, IsO
 ghost use Rattle.rt_stamps.specs.Words.{as_words};
 ghost use Rattle.rt_store.specs.Cells.{visible_of};
 ghost use Rattle.rt_tags.specs.Tags.{AlsoReady, IsName, SameReady, all_forgotten, is_ready, with_name};
-ghost use Rattle.rt_plans.specs.Removals.{AreInOrder, is_covered, stamps_at};
+ghost use Rattle.rt_plans.specs.Removals.{RangesFollow, is_covered, stamps_at};
 ghost use Rattle.rt_plans.specs.Selected.{selected_stamps};
 ghost use Rattle.rt_plans.specs.Selections.{selection_with};
 
@@ -24,7 +24,7 @@ pub fn select<S: TextStore>(
     ranges: &[Range],
     on: bool,
 ) -> Result<(), Fault>
-    requires order { AreInOrder 0 ranges.now }
+    requires order { RangesFollow 0 ranges.now }
     requires within { All (λ range. range.to ≤ length (visible_of (S.list store.now))) ranges.now }
     ensures ok { OnOk result (selected_stamps selection.new
         ≡ selection_with on (stamps_at (is_covered ranges.now) 0 (S.list store.now)) (selected_stamps selection.old)) }

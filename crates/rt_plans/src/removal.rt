@@ -3,8 +3,8 @@ ghost use Rattle.std.specs.Prelude.{◌≡◌, ℕ, ◌<◌, ◌≤◌, ◌&&◌
 ghost use Rattle.rt_store.specs.Cells.{text_of, visible_of};
 ghost use Rattle.rt_lines.specs.Stretches.{part};
 ghost use Rattle.rt_plans.specs.Deletions.{places_from};
-ghost use Rattle.rt_plans.specs.Merging.{AreRising, AreApart, begins_line, range_from, spared};
-ghost use Rattle.rt_plans.specs.Removals.{is_covered, is_removed, AreInOrder};
+ghost use Rattle.rt_plans.specs.Merging.{RangesRise, AreSpaced, begins_line, range_from, spared};
+ghost use Rattle.rt_plans.specs.Removals.{is_covered, is_removed, RangesFollow};
 
 use crate::Range;
 use rt_lines::Stretch;
@@ -34,7 +34,7 @@ fn ranges_before(alloc: Global, ranges: &[Range], end: usize) -> Result<Vec<Rang
 // The ranges up to an end in the order of their beginnings.
 fn sorted_before(alloc: Global, ranges: &[Range], end: usize) -> Result<Vec<Range>, Fault>
     ensures covered { IfOk result (λ sorted. (place : ℕ) → is_covered sorted.items place ≡ (nat_lt place end && is_covered ranges.now place)) }
-    ensures rising { IfOk result (λ sorted. AreRising 0 sorted.items) }
+    ensures rising { IfOk result (λ sorted. RangesRise 0 sorted.items) }
     ensures err { IsOkUnless result Fault.NoMemory }
 {
     let mut sorted = ranges_before(alloc, ranges, end)?;
@@ -45,9 +45,9 @@ fn sorted_before(alloc: Global, ranges: &[Range], end: usize) -> Result<Vec<Rang
 // The ranges that overlap or touch as one, after a first.
 fn merged_after(alloc: Global, first: Range, rest: &[Range]) -> Result<Vec<Range>, Fault>
     requires some { first.from < first.to }
-    requires rising { AreRising first.from rest.now }
+    requires rising { RangesRise first.from rest.now }
     ensures covered { IfOk result (λ merged. (place : ℕ) → is_covered merged.items place ≡ is_covered (first ∷ rest.now) place) }
-    ensures apart { IfOk result (λ merged. AreApart 0 merged.items) }
+    ensures apart { IfOk result (λ merged. AreSpaced 0 merged.items) }
     ensures err { IsOkUnless result Fault.NoMemory }
 {
     let mut merged = Vec::new(alloc);
@@ -66,9 +66,9 @@ fn merged_after(alloc: Global, first: Range, rest: &[Range]) -> Result<Vec<Range
 
 // Sorted ranges, those that overlap or touch as one.
 fn merged(alloc: Global, sorted: &[Range]) -> Result<Vec<Range>, Fault>
-    requires { AreRising 0 sorted.now }
+    requires { RangesRise 0 sorted.now }
     ensures covered { IfOk result (λ merged. (place : ℕ) → is_covered merged.items place ≡ is_covered sorted.now place) }
-    ensures apart { IfOk result (λ merged. AreApart 0 merged.items) }
+    ensures apart { IfOk result (λ merged. AreSpaced 0 merged.items) }
     ensures err { IsOkUnless result Fault.NoMemory }
 {
     match sorted.split_first() {
@@ -109,9 +109,9 @@ fn spared<S: TextStore>(store: &S, stretch: Stretch, last: Range) -> Range
 // Merged ranges of a stretch, the last newline spared.
 fn sparing<S: TextStore>(store: &S, stretch: Stretch, mut merged: Vec<Range>) -> Vec<Range>
     requires stretch { stretch.end ≤ length (text_of (S.list store.now)) }
-    requires apart { AreApart 0 merged.items }
+    requires apart { AreSpaced 0 merged.items }
     requires within { (place : ℕ) → is_covered merged.items place ≡ true → place < length (part stretch (text_of (S.list store.now))) }
-    ensures order { AreInOrder 0 result.items }
+    ensures order { RangesFollow 0 result.items }
     ensures within { All (λ range. range.to < length (part stretch (text_of (S.list store.now)))) result.items }
     ensures places { (place : ℕ) → is_covered result.items place ≡ is_removed (part stretch (text_of (S.list store.now))) merged.items place }
 {
@@ -146,7 +146,7 @@ pub fn removed_ranges<S: TextStore>(
     ranges: &[Range],
 ) -> Result<Vec<Range>, Fault>
     requires { (stretch.begin < stretch.end) × (stretch.end ≤ length (text_of (S.list store.now))) }
-    ensures ok { IfOk result (λ removed. AreInOrder 0 removed.items) }
+    ensures ok { IfOk result (λ removed. RangesFollow 0 removed.items) }
     ensures within { IfOk result (λ removed. All (λ range. range.to < stretch.end) removed.items) }
     ensures places { IfOk result (λ removed. (place : ℕ) → is_covered removed.items place
         ≡ places_from stretch.begin (is_removed (part stretch (text_of (S.list store.now))) ranges.now) place) }
@@ -161,7 +161,7 @@ pub fn removed_ranges<S: TextStore>(
 /// are of the stretch, and may come in any order, overlap, be empty, and pass its end. Want of memory.
 pub fn ranges_shown(alloc: Global, stretch: Stretch, ranges: &[Range]) -> Result<Vec<Range>, Fault>
     requires { stretch.begin ≤ stretch.end }
-    ensures order { IfOk result (λ shown. AreInOrder 0 shown.items) }
+    ensures order { IfOk result (λ shown. RangesFollow 0 shown.items) }
     ensures within { IfOk result (λ shown. All (λ range. range.to ≤ stretch.end) shown.items) }
     ensures places { IfOk result (λ shown. (place : ℕ) → is_covered shown.items place
         ≡ places_from stretch.begin (λ p. nat_lt p (stretch.end - stretch.begin) && is_covered ranges.now p) place) }
@@ -179,7 +179,7 @@ pub fn ranges_within<S: TextStore>(
     store: &S,
     ranges: &[Range],
 ) -> Result<Vec<Range>, Fault>
-    ensures order { IfOk result (λ within. AreInOrder 0 within.items) }
+    ensures order { IfOk result (λ within. RangesFollow 0 within.items) }
     ensures within { IfOk result (λ within. All (λ range. range.to ≤ length (visible_of (S.list store.now))) within.items) }
     ensures places { IfOk result (λ within. (place : ℕ)
         → is_covered within.items place ≡ (nat_lt place (length (visible_of (S.list store.now))) && is_covered ranges.now place)) }

@@ -5,7 +5,7 @@ ghost use Rattle.rt_stamps.specs.declared.stamp.Stamp.{Stamp};
 ghost use Rattle.rt_store.specs.Cells.{AreDistinct, is_in_span, stamps_of, visible_of};
 ghost use Rattle.rt_store.specs.Spans.{each_next, is_among, is_clear_of, is_in_spans, is_span};
 ghost use Rattle.rt_plans.specs.NamedSpans.{begins_by, spans_in};
-ghost use Rattle.rt_plans.specs.Removals.{AreInOrder, is_covered, stamps_at};
+ghost use Rattle.rt_plans.specs.Removals.{RangesFollow, is_covered, stamps_at};
 
 use crate::Range;
 use rt_stamps::{Fault, Span};
@@ -62,7 +62,7 @@ fn push_spans<S: TextStore>(store: &S, range: Range, spans: &mut Vec<Span>) -> R
 // The spans of the visible cells in ranges, in the text's order.
 fn spans_there<S: TextStore>(alloc: Global, store: &S, ranges: &[Range]) -> Result<Vec<Span>, Fault>
     requires distinct { AreDistinct (S.list store.now) }
-    requires order { AreInOrder 0 ranges.now }
+    requires order { RangesFollow 0 ranges.now }
     requires within { All (λ range. range.to ≤ length (visible_of (S.list store.now))) ranges.now }
     ensures forward { IfOk result (λ spans. list_all is_span spans.items ≡ true) }
     ensures named { IfOk result (λ spans. (stamp : Stamp)
@@ -126,7 +126,7 @@ pub(crate) fn spans_in<S: TextStore>(
     ranges: &[Range],
 ) -> Result<Vec<Span>, Fault>
     requires distinct { AreDistinct (S.list store.now) }
-    requires order { AreInOrder 0 ranges.now }
+    requires order { RangesFollow 0 ranges.now }
     requires within { All (λ range. range.to ≤ length (visible_of (S.list store.now))) ranges.now }
     ensures ok { IfOk result (λ spans. spans.items ≡ spans_in (stamps_at (is_covered ranges.now) 0 (S.list store.now))) }
     ensures err { IsOkUnless result Fault.NoMemory }

@@ -1,7 +1,7 @@
 // Stamps of visible cells in ranges.
 ghost use Rattle.std.specs.Prelude.{◌≡◌, ◌-◌, ◌≤◌, ◌++◌, All, IfOk, IsOkUnless, OnOk, drop, length, map, take};
 ghost use Rattle.rt_store.specs.Cells.{visible_of};
-ghost use Rattle.rt_plans.specs.Removals.{AreInOrder, is_covered, stamps_at};
+ghost use Rattle.rt_plans.specs.Removals.{RangesFollow, is_covered, stamps_at};
 
 use crate::Range;
 use rt_stamps::{Fault, Stamp};
@@ -28,7 +28,7 @@ pub(crate) fn stamps_in<S: TextStore>(
     store: &S,
     removed: &[Range],
 ) -> Result<Vec<Stamp>, Fault>
-    requires order { AreInOrder 0 removed.now }
+    requires order { RangesFollow 0 removed.now }
     requires within { All (λ range. range.to ≤ length (visible_of (S.list store.now))) removed.now }
     ensures ok { IfOk result (λ stamps. stamps.items ≡ stamps_at (is_covered removed.now) 0 (S.list store.now)) }
     ensures err { IsOkUnless result Fault.NoMemory }

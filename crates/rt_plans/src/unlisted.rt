@@ -12,7 +12,7 @@ ghost use Rattle.rt_tags.specs.States.{IsState, is_on, names_on, state_at};
 ghost use Rattle.rt_plans.specs.declared.inserting.Plan.{Plan};
 ghost use Rattle.rt_plans.specs.InsertionDrafts.{behind, text_drafts};
 ghost use Rattle.rt_plans.specs.InsertionPlans.{Plans};
-ghost use Rattle.rt_plans.specs.Insertions.{Insertion, counts_for, last_of, tags_between, with_unlisted};
+ghost use Rattle.rt_plans.specs.Insertions.{Insertion, counts_for, on_left, tags_between, with_unlisted};
 ghost use Rattle.rt_plans.specs.PlannedPieces.{ArePlanned, AreSoFar};
 ghost use Rattle.rt_plans.specs.Selected.{selected_stamps};
 ghost use Rattle.rt_plans.specs.Selections.{with_stamps};
@@ -94,8 +94,8 @@ impl PlannedPieces {
         requires left { IfSome left (λ cell. IsState states.now cell.state) }
         requires right { IfSome right (λ cell. IsState states.now cell.state) }
         ensures ok { IfOk result (λ v. (cells : List TaggedCell)
-            → option_map (λ names. as_words names.items) self.now.last ≡ option_map (λ cell. names_on cell.state) (last_of None cells)
-            → as_words v.items ≡ tags_between (last_of (option_map (shown states.now) left) cells) (option_map (shown states.now) right)) }
+            → option_map (λ names. as_words names.items) self.now.last ≡ option_map (λ cell. names_on cell.state) (on_left None cells)
+            → as_words v.items ≡ tags_between (on_left (option_map (shown states.now) left) cells) (option_map (shown states.now) right)) }
         ensures err { IsOkUnless result Fault.NoMemory }
     {
         let Some(right) = right else {
@@ -169,18 +169,18 @@ impl PlannedPieces {
             → IfSome gap.now.right (λ cell. sel ≡ selected_stamps selection.now) → AreSoFar after sel listed self.old so_far
             → map body_of (items_in self.new.texts.drafts)
             ≡ map body_of (items_in self.old.texts.drafts) ++ text_drafts MOST_CHARACTERS site.number so_far.count (behind after so_far.cells)
-            (tags_between (last_of (option_map (shown states.now) gap.now.left) so_far.cells) (option_map (shown states.now) gap.now.right)) (chars rest.now)) }
+            (tags_between (on_left (option_map (shown states.now) gap.now.left) so_far.cells) (option_map (shown states.now) gap.now.right)) (chars rest.now)) }
         ensures plans { IfOk result (λ between. (plan : Plan) (after : Stamp) (sel : List Stamp) (listed : List Word) (so_far : Insertion)
             → IfSome gap.now.right (λ cell. sel ≡ selected_stamps selection.now) → AreSoFar after sel listed self.old so_far
             → IfSome gap.now.left (λ cell. after ≡ cell.stamp) → ArePlanned plan self.new between
             → Plans plan sel so_far.others listed (with_unlisted site.number
-            (last_of (option_map (shown states.now) gap.now.left) so_far.cells) (option_map (shown states.now) gap.now.right) (chars rest.now) so_far)) }
+            (on_left (option_map (shown states.now) gap.now.left) so_far.cells) (option_map (shown states.now) gap.now.right) (chars rest.now) so_far)) }
         ensures alone { IfOk result (λ between. gap.now.right ≡ None → between ≡ None) }
         ensures err { IfErr result (λ fault. (fault ≡ Fault.NoMemory) ⊎ ((fault ≡ Fault.ClockSpent)
             × ((after : Stamp) (sel : List Stamp) (listed : List Word) (so_far : Insertion)
             → IfSome gap.now.right (λ cell. sel ≡ selected_stamps selection.now) → AreSoFar after sel listed self.old so_far
             → GREATEST_COUNT < so_far.count + counts_for
-            (tags_between (last_of (option_map (shown states.now) gap.now.left) so_far.cells) (option_map (shown states.now) gap.now.right))
+            (tags_between (on_left (option_map (shown states.now) gap.now.left) so_far.cells) (option_map (shown states.now) gap.now.right))
             (chars rest.now)))) }
     {
         let text = characters_of(alloc, rest)?;

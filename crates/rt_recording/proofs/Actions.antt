@@ -26,7 +26,7 @@ use Rattle.rt_plans.specs.Removals.{cells_at, stamps_at}
 use Rattle.rt_plans.proofs.RemovalDraftLaws.{last_spared}
 use Rattle.rt_plans.proofs.TagNames.{cells_have_names}
 use Rattle.rt_revert.specs.Reverting.{as_removed}
-use Rattle.rt_revert.specs.ReversionLaws.{IsSound, MayReturn}
+use Rattle.rt_revert.specs.ReversionLaws.{MayReturn, MayRevert}
 use Rattle.rt_recording.specs.Recordings.{HasStayed, made}
 use Rattle.rt_recording.specs.Settled.{is_gone as has_gone}
 use Rattle.rt_text.specs.Commands.{lost_in}
@@ -151,9 +151,9 @@ lost_sound view ranges kept =
     last_spared flat.log places kept.history (subst (λ (cells : List TaggedCell). SparesLast places (text_of cells)) kept.cells stays) in
     taken_sound places 0 flat.cells names (subst (λ (cells : List TaggedCell). is_among (stamps_at places 0 cells) FINAL ≡ false) (sym kept.cells) here)
 
-pub action_sound : (kind : Kind) (site before after : ℕ) (removed : List (Removed (List Word))) → 0 < site → AllByRecursion MayReturn removed → IsSound (made kind (counts_between site before after) removed)
+pub action_sound : (kind : Kind) (site before after : ℕ) (removed : List (Removed (List Word))) → 0 < site → AllByRecursion MayReturn removed → MayRevert (made kind (counts_between site before after) removed)
 action_sound kind site before after removed h k = record { inserted = counts_spare_final site before after h; removed = k }
 
 -- an edit's action, where it is the site's own
-pub edit_sound : (kind : Kind) (site : ℕ) (old new : DocValue) (lost : List TaggedCell) → site ≡ old.site → 0 < site → AllByRecursion MayReturn (map as_removed lost) → IsSound (edit_action kind old new lost)
+pub edit_sound : (kind : Kind) (site : ℕ) (old new : DocValue) (lost : List TaggedCell) → site ≡ old.site → 0 < site → AllByRecursion MayReturn (map as_removed lost) → MayRevert (edit_action kind old new lost)
 edit_sound kind site old new lost e h k = action_sound kind old.site old.count new.count (map as_removed lost) (subst (λ n. 0 < n) e h) k

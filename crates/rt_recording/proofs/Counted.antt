@@ -13,7 +13,7 @@ use Rattle.rt_plans.specs.DocValue.{DocValue}
 use Rattle.rt_undo.specs.declared.action.Action.{Action as KeptAction}
 use Rattle.rt_undo.specs.declared.action.RemovedSpan.{RemovedSpan}
 use Rattle.rt_undo.specs.Actions.{Action, Removed, group_of, removed_in, removed_of, removed_with}
-use Rattle.rt_revert.specs.Reverting.{Reversion, as_it_is, gone_cell_of, next_in, reversion, with_character, with_each_reverted, with_gone, with_return, with_returns, with_reverted}
+use Rattle.rt_revert.specs.Reverting.{Reversion, as_it_is, gone_cell_of, next_in, reversion, with_each_reverted, with_insertion, with_removal, with_return, with_returns, with_reverted}
 use Rattle.rt_recording.specs.Naming.{named_group, named_removed}
 use Rattle.rt_recording.specs.Returns.{removed_count, stamp_after}
 
@@ -23,7 +23,7 @@ return_few removed r = by (gone_cell_of r.doc.cells stamp)
     stamp : Stamp
     stamp = stamp_after r.returns removed.stamp
 
-    by : (o : Option TaggedCell) → length (unwrap_or (option_map (λ (cell : TaggedCell). with_character stamp removed.tags cell.ch r) o) r).returns ≤ length r.returns + 1
+    by : (o : Option TaggedCell) → length (unwrap_or (option_map (λ (cell : TaggedCell). with_insertion stamp removed.tags cell.ch r) o) r).returns ≤ length r.returns + 1
     by None = omega arith
     by (Some cell) = omega (arith, length-append r.returns (record { former = stamp; newer = next_in r.doc } ∷ []))
 
@@ -35,7 +35,7 @@ all_few : (actions : List (Action (List Word))) (r : Reversion) → length (with
 all_few [] r = omega arith
 all_few (action ∷ actions) r =
     let next = with_reverted action r in
-    let one : length next.returns ≤ length r.returns + length action.removed = returns_few action.removed (with_gone (map (stamp_after r.returns) action.inserted) r) in
+    let one : length next.returns ≤ length r.returns + length action.removed = returns_few action.removed (with_removal (map (stamp_after r.returns) action.inserted) r) in
     omega (arith, one, all_few actions next)
 
 count_append : (xs ys : List (Action (List Word))) → removed_count (xs ++ ys) ≡ removed_count xs + removed_count ys

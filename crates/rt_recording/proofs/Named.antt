@@ -15,7 +15,7 @@ use Rattle.rt_undo.specs.Actions.{Action, Removed, action_of, is_replace, remove
 use Rattle.rt_undo.specs.Groups.{IsStill}
 use Rattle.rt_undo.specs.Renames.{Shown, is_moved}
 use Rattle.rt_undo.specs.Seen.{UndoStacks}
-use Rattle.rt_undo.specs.Undo.{History, added, as_group, asks_separator, differs_from, dropped, emptied, forced_on, is_modified, last, limited, numbers, numbers_in, recorded, rest_after, same_numbers, separated, to_undo, too_many, unmodified, with_most}
+use Rattle.rt_undo.specs.Undo.{History, as_group, asks_separator, differs_from, dropped, emptied, forced_on, is_modified, last, limited, numbers, numbers_in, recorded, rest_after, same_numbers, separated, to_undo, too_many, unmodified, with_action, with_most}
 use Rattle.rt_undo.proofs.Histories.{last_map}
 use Rattle.rt_recording.specs.declared.recorder.Prepared.{Prepared}
 use Rattle.rt_recording.specs.declared.recorder.Recorder.TheInside.{Inside}
@@ -121,7 +121,7 @@ pub most_named : (t : TagStates) (most : ℕ) (h : History ℕ) → named_histor
 most_named t most h = limited_named t (record h { most = most })
 
 pub added_named : (t : TagStates) (auto : Bool) (a : Action ℕ) (h : History ℕ)
-    → named_history t (added auto a h) ≡ added auto (named_action t a) (named_history t h)
+    → named_history t (with_action auto a h) ≡ with_action auto (named_action t a) (named_history t h)
 added_named t auto a h =
     limited_named t (recorded a (if auto && asks_separator a.kind h then separated h else h))
     ∙ ap (λ (x : History (List Word)). limited x)
@@ -257,12 +257,12 @@ prepared_still t moves o next inserted kind span is one stays =
 
 pub prepared_history : (t : TagStates) (auto : Bool) (h new : History ℕ) (o : Option Prepared) (next : Prepared) (inserted : Vec Span Global) (kind : Kind) (span : Span)
     → o ≡ Some next → inserted.items ≡ span ∷ []
-    → new ≡ added auto (action_of (record { number = span.first; kind = kind; inserted = inserted; removed = next.removed })) h
-    → IfSome (prepared_removed t o) (λ removed. named_history t new ≡ added auto (made kind span removed) (named_history t h))
+    → new ≡ with_action auto (action_of (record { number = span.first; kind = kind; inserted = inserted; removed = next.removed })) h
+    → IfSome (prepared_removed t o) (λ removed. named_history t new ≡ with_action auto (made kind span removed) (named_history t h))
 prepared_history t auto h new o next inserted kind span is one e =
     let removed = map (named_removed t) (removed_in next.removed.items) in
-    let here : named_history t new ≡ added auto (made kind span removed) (named_history t h)
+    let here : named_history t new ≡ with_action auto (made kind span removed) (named_history t h)
     = ap (named_history t) e
     ∙ added_named t auto (action_of (record { number = span.first; kind = kind; inserted = inserted; removed = next.removed })) h
-    ∙ (λ i. added auto (record { number = span.first; kind = kind; inserted = one_span inserted span one i; removed = removed }) (named_history t h)) in
-    subst (λ x. IfSome (prepared_removed t x) (λ removed. named_history t new ≡ added auto (made kind span removed) (named_history t h))) (sym is) here
+    ∙ (λ i. with_action auto (record { number = span.first; kind = kind; inserted = one_span inserted span one i; removed = removed }) (named_history t h)) in
+    subst (λ x. IfSome (prepared_removed t x) (λ removed. named_history t new ≡ with_action auto (made kind span removed) (named_history t h))) (sym is) here

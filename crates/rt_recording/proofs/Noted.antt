@@ -8,7 +8,7 @@ use Rattle.rt_stamps.specs.Words.{Word}
 use Rattle.rt_store.specs.Cells.{text_of}
 use Rattle.rt_store.specs.Shown.{TaggedCell}
 use Rattle.rt_revert.specs.Reverting.{as_removed}
-use Rattle.rt_revert.specs.ReversionLaws.{AreSound, IsSound}
+use Rattle.rt_revert.specs.ReversionLaws.{AllMayRevert, MayRevert}
 use Rattle.rt_recording.specs.Recordings.{HasStayed, Recording, came_back, made}
 use Rattle.rt_recording.specs.Settled.{AreGoneOnce, IsSettled, removed_in_history, is_gone}
 use Rattle.rt_plans.specs.declared.range.Range.{Range}
@@ -17,7 +17,7 @@ use Rattle.rt_text.specs.Commands.{lost_in}
 use Rattle.rt_text.specs.Widgets.{ViewValue, begin_of, text_shown}
 use Rattle.rt_undo.specs.declared.action.Kind.{Kind}
 use Rattle.rt_undo.specs.Actions.{Action, Removed}
-use Rattle.rt_undo.specs.Undo.{History, added, as_group, asks_separator, forced_on, limited, recorded, separated, too_many, with_most}
+use Rattle.rt_undo.specs.Undo.{History, as_group, asks_separator, forced_on, limited, recorded, separated, too_many, with_action, with_most}
 use Rattle.rt_recording.specs.EditedValue.{edited}
 use Rattle.rt_recording.specs.Edits.{edit_action, counts_between, has_changed, noted, noted_by, recorded_edit}
 use Rattle.rt_recording.specs.Noting.{IsOfLog, Keeps}
@@ -30,32 +30,32 @@ use Rattle.rt_recording.proofs.Once.{HaveGone, in_limited, in_noted, once_fewer,
 -- SOUND HISTORIES
 
 pub record IsSoundHistory (h : History (List Word)) : Type 0 where
-  pub closed : AllByRecursion AreSound h.closed
-  pub current : AreSound h.current
-  pub undone : AllByRecursion AreSound h.undone
+  pub closed : AllByRecursion AllMayRevert h.closed
+  pub current : AllMayRevert h.current
+  pub undone : AllByRecursion AllMayRevert h.undone
 
 pub every_append : {X : Type 0} (P : X → Type 0) (xs ys : List X) → AllByRecursion P xs → AllByRecursion P ys → AllByRecursion P (xs ++ ys)
 every_append P [] ys h k = k
 every_append P (x ∷ xs) ys h k = (h.0, every_append P xs ys h.1 k)
 
-group_sound : (group : List (Action (List Word))) → AreSound group → AllByRecursion AreSound (as_group group)
+group_sound : (group : List (Action (List Word))) → AllMayRevert group → AllByRecursion AllMayRevert (as_group group)
 group_sound [] h = tt
 group_sound (action ∷ group) h = (h, tt)
 
 pub separated_sound : (h : History (List Word)) → IsSoundHistory h → IsSoundHistory (separated h)
 separated_sound h sound = record {
-  closed = every_append AreSound h.closed (as_group h.current) sound.closed (group_sound h.current sound.current);
+  closed = every_append AllMayRevert h.closed (as_group h.current) sound.closed (group_sound h.current sound.current);
   current = tt;
   undone = sound.undone;
 }
 
-recorded_sound : (action : Action (List Word)) (h : History (List Word)) → IsSound action → IsSoundHistory h → IsSoundHistory (recorded action h)
-recorded_sound action h k sound = record { closed = sound.closed; current = every_append IsSound h.current (action ∷ []) sound.current (k, tt); undone = tt }
+recorded_sound : (action : Action (List Word)) (h : History (List Word)) → MayRevert action → IsSoundHistory h → IsSoundHistory (recorded action h)
+recorded_sound action h k sound = record { closed = sound.closed; current = every_append MayRevert h.current (action ∷ []) sound.current (k, tt); undone = tt }
 
 limited_sound : (h : History (List Word)) → IsSoundHistory h → IsSoundHistory (limited h)
-limited_sound h sound = record { closed = every_drop AreSound (too_many h) h.closed sound.closed; current = sound.current; undone = sound.undone }
+limited_sound h sound = record { closed = every_drop AllMayRevert (too_many h) h.closed sound.closed; current = sound.current; undone = sound.undone }
 
-added_sound : (auto : Bool) (action : Action (List Word)) (h : History (List Word)) → IsSound action → IsSoundHistory h → IsSoundHistory (added auto action h)
+added_sound : (auto : Bool) (action : Action (List Word)) (h : History (List Word)) → MayRevert action → IsSoundHistory h → IsSoundHistory (with_action auto action h)
 added_sound auto action h k sound =
     limited_sound (recorded action (cond (auto && asks_separator action.kind h) (separated h) h)) (by (auto && asks_separator action.kind h))
   where
@@ -66,7 +66,7 @@ added_sound auto action h k sound =
 pub forced_sound : (h : History (List Word)) → IsSoundHistory h → IsSoundHistory (forced_on h)
 forced_sound h sound = record { closed = sound.closed; current = sound.current; undone = sound.undone }
 
-pub noted_sound : (changed undo auto : Bool) (action : Action (List Word)) (h : History (List Word)) → IsSound action → IsSoundHistory h → IsSoundHistory (noted_by changed undo auto action h)
+pub noted_sound : (changed undo auto : Bool) (action : Action (List Word)) (h : History (List Word)) → MayRevert action → IsSoundHistory h → IsSoundHistory (noted_by changed undo auto action h)
 noted_sound true true auto action h k sound = added_sound auto action h k sound
 noted_sound true false auto action h k sound = forced_sound h sound
 noted_sound false undo auto action h k sound = sound
@@ -126,7 +126,7 @@ module _ (kind : Kind) (lost : List TaggedCell) (view new : ViewValue) (old mid 
       ∙ (λ i. Ok (record { view = new; history = sym noted_history i; undo = sym (settings.0 ∙ keeps.undo) i; auto = sym (settings.1 ∙ keeps.auto) i }))
 
   pub edit_settled : IsSettled view old → IsOfLog view.doc → IsOfLog new.doc → Grows view.doc.log new.doc.log → next.moves ≡ mid.moves
-      → IsSound (edit_action kind view.doc new.doc lost) → HaveGone view.doc.cells new.doc.cells (map (λ (r : Removed (List Word)). r.stamp) (map as_removed lost)) → IsSettled new next
+      → MayRevert (edit_action kind view.doc new.doc lost) → HaveGone view.doc.cells new.doc.cells (map (λ (r : Removed (List Word)). r.stamp) (map as_removed lost)) → IsSettled new next
   edit_settled settled kept same grows moves sound went =
       let changed = has_changed (length view.doc.cells) (length (text_of view.doc.cells)) new.doc in
       let action = edit_action kind view.doc new.doc lost in

@@ -9,7 +9,7 @@ use Rattle.rt_stamps.specs.Stamps.{is_same, replaced}
 use Rattle.rt_stamps.specs.Words.{Word}
 use Rattle.rt_store.specs.Shown.{TaggedCell}
 use Rattle.rt_undo.specs.Actions.{Action}
-use Rattle.rt_undo.specs.Undo.{History, added, as_group, asks_separator, forced_on, limited, recorded, separated, to_undo, too_many}
+use Rattle.rt_undo.specs.Undo.{History, as_group, asks_separator, forced_on, limited, recorded, separated, to_undo, too_many, with_action}
 use Rattle.rt_recording.specs.Edits.{noted_by}
 use Rattle.rt_recording.specs.Settled.{AreGoneOnce, removed_in_history, is_gone, taken_by, times}
 
@@ -136,7 +136,7 @@ in_recorded s action h =
     let both = times_append s (removed_in_history h) (map (λ r. r.stamp) action.removed) in
     omega (arith, new, old, all, one, both)
 
-pub in_added : (s : Stamp) (auto : Bool) (action : Action (List Word)) (h : History (List Word)) → times s (removed_in_history (added auto action h)) ≤ times s (removed_in_history h ++ map (λ r. r.stamp) action.removed)
+pub in_added : (s : Stamp) (auto : Bool) (action : Action (List Word)) (h : History (List Word)) → times s (removed_in_history (with_action auto action h)) ≤ times s (removed_in_history h ++ map (λ r. r.stamp) action.removed)
 in_added s auto action h =
     let fewer = in_limited s (recorded action (cond (auto && asks_separator action.kind h) (separated h) h)) in
     let all = by (auto && asks_separator action.kind h) in

@@ -16,10 +16,10 @@ use Rattle.rt_rga.specs.Histories.{IsHistory}
 use Rattle.rt_plans.specs.DraftLaws.{IsDocument}
 use Rattle.rt_plans.specs.DocValue.{DocValue}
 use Rattle.rt_plans.specs.Removals.{cells_at}
-use Rattle.rt_undo.specs.Actions.{Action, Removed, with_stamp}
+use Rattle.rt_undo.specs.Actions.{Action, Removed, restamped_one}
 use Rattle.rt_undo.specs.Undo.{History, as_group, but_last, last, redo_done, renamed_by, to_undo, undo_done, with_stamps_in}
-use Rattle.rt_revert.specs.Reverting.{Reversion, are_at, as_it_is, gone_cell_of, next_in, reversion, reverted_group, since, still_visible, with_character, with_each_reverted, with_gone, with_return, with_returns, with_reverted}
-use Rattle.rt_revert.specs.ReversionLaws.{AreSound, IsSound, MayReturn}
+use Rattle.rt_revert.specs.Reverting.{Reversion, are_at, as_it_is, gone_cell_of, next_in, reversion, reverted_group, since, still_visible, with_each_reverted, with_insertion, with_removal, with_return, with_returns, with_reverted}
+use Rattle.rt_revert.specs.ReversionLaws.{AllMayRevert, MayReturn, MayRevert}
 use Rattle.rt_revert.proofs.Stamps.{all_apart}
 use Rattle.rt_revert.proofs.Steps.{IsOnWay, action_step, all_grow, all_reversed, gone_step, return_step, returns_grow}
 use Rattle.rt_revert.proofs.TakenBack.{stamp_after_more, still_is}
@@ -106,10 +106,10 @@ return_once removed others r k h t = by (gone_cell_of r.doc.cells stamp) refl
     names (x ∷ xs) = (λ i. stamp_after_more r.returns came x i ∷ names xs i)
 
     by : (o : Option TaggedCell) → gone_cell_of r.doc.cells stamp ≡ o
-        → Back r (unwrap_or (option_map (λ (cell : TaggedCell). with_character stamp removed.tags cell.ch r) o) r) others (removed.stamp ∷ [])
+        → Back r (unwrap_or (option_map (λ (cell : TaggedCell). with_insertion stamp removed.tags cell.ch r) o) r) others (removed.stamp ∷ [])
     by None e = let gone = is_gone_now (is_gone r.doc.cells stamp) refl (h stamp) in let not_gone = none_gone r.doc.cells stamp e in absurd (cc (gone, not_gone))
     by (Some cell) e =
-        let next = with_character stamp removed.tags cell.ch r in
+        let next = with_insertion stamp removed.tags cell.ch r in
         let same = names others ∙ none_replaced stamp (next_in r.doc) rest (not_again (is_gone r.doc.cells stamp) (h stamp)) in
         record {
           once = subst (AreGoneOnce next.doc.cells) (sym same)
@@ -142,12 +142,12 @@ abbrev went : List Stamp → List TaggedCell → List Stamp
 went stamps cells = map (λ (x : Removed (List Word)). x.stamp) (still_visible stamps cells)
 
 -- those that go join those that were gone
-went_once : (stamps : List Stamp) (r : Reversion) → AreDistinct r.doc.cells → HaveGone r.doc.cells (with_gone stamps r).doc.cells (went stamps r.doc.cells)
+went_once : (stamps : List Stamp) (r : Reversion) → AreDistinct r.doc.cells → HaveGone r.doc.cells (with_removal stamps r).doc.cells (went stamps r.doc.cells)
 went_once stamps r d =
     let places = are_at stamps r.doc.cells in
     let same : went stamps r.doc.cells ≡ stamps_of (cells_at places 0 r.doc.cells) =
     ap (map (λ (x : Removed (List Word)). x.stamp)) (still_is stamps r.doc.cells) ∙ removed_stamps (cells_at places 0 r.doc.cells) in
-    subst (HaveGone r.doc.cells (with_gone stamps r).doc.cells) (sym same) (places_gone places r.doc.cells d)
+    subst (HaveGone r.doc.cells (with_removal stamps r).doc.cells) (sym same) (places_gone places r.doc.cells d)
 
 -- they came back under no other stamp
 kept_stamps : (returns : List Return) (xs : List Stamp) → AllByRecursion (λ s. back_after returns none s ≡ false) xs → map (stamp_after returns) xs ≡ xs
@@ -183,12 +183,12 @@ abbrev in_turn : Reversion → List (Action (List Word)) → List Stamp → List
 in_turn r actions others = taken_by actions ++ (others ++ taken_by r.actions)
 
 action_once : (site : ℕ) (log : List Operation) (action : Action (List Word)) (more : List (Action (List Word))) (others : List Stamp) (r : Reversion) → 0 < site
-    → IsOnWay site log r → IsSound action → (with_reverted action r).doc.count ≤ GREATEST_COUNT → IsTold none r → StandOnce r (in_turn r (action ∷ more) others)
+    → IsOnWay site log r → MayRevert action → (with_reverted action r).doc.count ≤ GREATEST_COUNT → IsTold none r → StandOnce r (in_turn r (action ∷ more) others)
     → map (stamp_after r.returns) (in_turn r (action ∷ more) others) ≡ in_turn r (action ∷ more) others
     → Back r (with_reverted action r) (in_turn (with_reverted action r) more others) (stamps_removed action.removed)
 action_once site log action more others r p h c l t once st =
     let stamps = map (stamp_after r.returns) action.inserted in
-    let left = with_gone stamps r in
+    let left = with_removal stamps r in
     let all = with_returns action.removed left in
     let f = stamp_after r.returns in
     let own = map (λ (x : Removed (List Word)). x.stamp) action.removed in
@@ -229,7 +229,7 @@ action_once site log action more others r p h c l t once st =
       formers = done.formers;
     }
 
-all_once : (site : ℕ) (log : List Operation) (actions : List (Action (List Word))) (others : List Stamp) (r : Reversion) → 0 < site → IsOnWay site log r → AreSound actions
+all_once : (site : ℕ) (log : List Operation) (actions : List (Action (List Word))) (others : List Stamp) (r : Reversion) → 0 < site → IsOnWay site log r → AllMayRevert actions
     → (with_each_reverted actions r).doc.count ≤ GREATEST_COUNT → IsTold none r → HaveStayed (λ s. back_after r.returns none (stamp_after r.returns s)) r.actions
     → AllByRecursion (λ (a : Action (List Word)). AllByRecursion (λ (x : Removed (List Word)). Stays none r.returns x.stamp) a.removed) actions
     → StandOnce r (in_turn r actions others) → map (stamp_after r.returns) (in_turn r actions others) ≡ in_turn r actions others
@@ -270,7 +270,7 @@ taken_now f (action ∷ group) =
     (λ i. own action.removed i ++ taken_now f group i)
     ∙ sym (map-append f (map (λ (x : Removed (List Word)). x.stamp) action.removed) (taken_by group))
   where
-    own : (removed : List (Removed (List Word))) → map (λ (x : Removed (List Word)). x.stamp) (map (with_stamp {T = List Word} f) removed) ≡ map f (map (λ (x : Removed (List Word)). x.stamp) removed)
+    own : (removed : List (Removed (List Word))) → map (λ (x : Removed (List Word)). x.stamp) (map (restamped_one {T = List Word} f) removed) ≡ map f (map (λ (x : Removed (List Word)). x.stamp) removed)
     own [] = refl
     own (x ∷ xs) = ap (λ l. f x.stamp ∷ l) (own xs)
 
@@ -281,7 +281,7 @@ pub record IsOnce (flat : DocValue) (group : List (Action (List Word))) (others 
   pub formers : map (λ (r : Return). r.former) (reversion flat group).returns ≡ taken_by (reverse group)
 
 pub reversion_once : (site : ℕ) (log : List Operation) (flat : DocValue) (group : List (Action (List Word))) (others : List Stamp) → 0 < site → IsHistory log
-    → IsDocument site log flat → AreSound group → (reversion flat group).doc.count ≤ GREATEST_COUNT → AreGoneOnce flat.cells (taken_by group ++ others)
+    → IsDocument site log flat → AllMayRevert group → (reversion flat group).doc.count ≤ GREATEST_COUNT → AreGoneOnce flat.cells (taken_by group ++ others)
     → IsOnce flat group others
 reversion_once site log flat group others p h doc c l once =
     let r = reversion flat group in
@@ -295,7 +295,7 @@ reversion_once site log flat group others p h doc c l once =
     let e = times_append s (taken_by group) others in
     let k = in_reverse s group in
     omega (arith, same, a, b, e, k)) once in
-    let all = all_once site log (reverse group) others (as_it_is flat) p (record { may = tt; history = h; document = doc; apart = tt; sound = tt }) (all_reversed IsSound group c) l
+    let all = all_once site log (reverse group) others (as_it_is flat) p (record { may = tt; history = h; document = doc; apart = tt; sound = tt }) (all_reversed MayRevert group c) l
     (record { gone = λ s e. absurd (cc e); returns = tt; newer = tt }) tt
     (trivial (λ (a : Action (List Word)). AllByRecursion (λ (x : Removed (List Word)). Stays none [] x.stamp) a.removed)
     (λ a. trivial (λ (x : Removed (List Word)). Stays none [] x.stamp) (λ x. refl) a.removed) (reverse group)) start (map-id (in_turn (as_it_is flat) (reverse group) others)) in

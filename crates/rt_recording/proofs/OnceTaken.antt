@@ -15,8 +15,8 @@ use Rattle.rt_store.specs.Spans.{is_among}
 use Rattle.rt_store.proofs.Distinct.{first_apart, others_distinct, split}
 use Rattle.rt_rga.proofs.Corollaries.{cells_distinct}
 use Rattle.rt_plans.specs.declared.range.Range.{Range}
-use Rattle.rt_plans.specs.Deletions.{Loss, loss_in, newline_of, without_places, without_text}
-use Rattle.rt_plans.specs.DocValue.{DocValue, left_of, put_after}
+use Rattle.rt_plans.specs.Deletions.{Loss, loss_in, newline_left, without_places, without_text}
+use Rattle.rt_plans.specs.DocValue.{DocValue, left_stamp, put_after}
 use Rattle.rt_plans.specs.Insertions.{Piece, insertion_of, left_neighbour}
 use Rattle.rt_plans.specs.Removals.{cells_at, gone_at}
 use Rattle.rt_plans.specs.TagWrites.{bared, tag_write, tagged, with_tag}
@@ -165,7 +165,7 @@ bared_gone flat stamp (name ∷ names) s =
     bared_gone (with_tag flat name false (stamp ∷ [])) stamp names s ∙ tagged_gone flat.site flat.count name false (stamp ∷ []) flat.cells s
 
 text_gone : (flat : DocValue) (loss : Loss) (s : Stamp) → is_gone (without_text flat loss).cells s ≡ is_gone (gone_at loss.places 0 flat.cells) s
-text_gone flat loss s = by (newline_of flat loss)
+text_gone flat loss s = by (newline_left flat loss)
   where
     left : DocValue
     left = without_places flat loss.places
@@ -259,7 +259,7 @@ replaced_gone view new from to pieces rest kept same h =
     let place = min range.from (length_shown left - 1) in
     let is : with_range_replaced view range pieces rest ≡ new = given _ (with_range_replaced view range pieces rest) new h in
     let at = in_text left place in
-    let behind = left_of left.doc.cells at in
+    let behind = left_stamp left.doc.cells at in
     let put = insertion_of left.doc.site (left_neighbour (cells_shown left) place) (right_behind left place pieces) pieces rest (none_inserted left) in
     let cells : put_after left.doc.cells behind put.cells ≡ new.doc.cells = ap (λ (v : ViewValue). v.doc.cells) is in
     have_gone_on view.doc.cells left.doc.cells new.doc.cells (map (λ (r : Removed (List Word)). r.stamp) (map as_removed (lost_from view from to)))

@@ -22,12 +22,12 @@ use Rattle.rt_rga.specs.Histories.{IsHistory}
 use Rattle.rt_rga.specs.Texts.{TaggedCharacter, tagged_text}
 use Rattle.rt_rga.proofs.Skipping.{split}
 use Rattle.rt_plans.specs.DraftLaws.{IsDocument}
-use Rattle.rt_plans.specs.DocValue.{DocValue, left_of, put_after}
-use Rattle.rt_plans.specs.Insertions.{Insertion, Piece, cells_of_inserts, counts_for, further_tags, insertion_of, inserts_for, last_of, left_neighbour, new_state, shared_names, tagged_cells, tags_between, with_listed, with_pieces, with_unlisted}
+use Rattle.rt_plans.specs.DocValue.{DocValue, left_stamp, put_after}
+use Rattle.rt_plans.specs.Insertions.{Insertion, Piece, cells_of_inserts, counts_for, further_tags, insertion_of, inserts_for, left_neighbour, new_state, on_left, shared_names, tagged_cells, tags_between, with_listed, with_pieces, with_unlisted}
 use Rattle.rt_plans.specs.Removals.{gone_at}
 use Rattle.rt_undo.specs.declared.action.Kind.TheVariants.{Insert}
 use Rattle.rt_undo.specs.Actions.{Action}
-use Rattle.rt_revert.specs.Reverting.{are_at, as_it_is, reverted, stamp_after, with_each_reverted, with_gone, with_returns}
+use Rattle.rt_revert.specs.Reverting.{are_at, as_it_is, reverted, stamp_after, with_each_reverted, with_removal, with_returns}
 use Rattle.rt_text.specs.Commands.{none_inserted, right_behind, with_pieces_at}
 use Rattle.rt_text.specs.Widgets.{ViewValue, in_text, cells_shown}
 use Rattle.rt_recording.specs.Edits.{edit_action, counts_between}
@@ -120,7 +120,7 @@ pub new_insertion : (site low : ℕ) (left right : Option TaggedCell) (pieces : 
     → IsNew site low (insertion_of site left right pieces rest start)
 new_insertion site low left right pieces rest start h =
     let listed = with_pieces site pieces start in
-    new_unlisted site low (last_of left listed.cells) right (chars rest) listed (new_pieces site low pieces start h)
+    new_unlisted site low (on_left left listed.cells) right (chars rest) listed (new_pieces site low pieces start h)
 
 -- a stamp of a site is among those of the site's consecutive counts where its count is one of them
 among_from : (s : Stamp) (site first n : ℕ) → s.site ≡ site → first ≤ s.count → s.count < first + n → is_among (stamps_from site first n) s ≡ true
@@ -226,8 +226,8 @@ text_reverted flat action none =
     let r = as_it_is flat in
     let stamps = map (stamp_after []) action.inserted in
     ap (λ group. tagged_text (with_each_reverted group r).doc.cells) (one_reversed action)
-    ∙ ap (λ removed. tagged_text (with_returns removed (with_gone stamps r)).doc.cells) none
-    ∙ ap (λ stamps. tagged_text (with_gone stamps r).doc.cells) (map-id action.inserted)
+    ∙ ap (λ removed. tagged_text (with_returns removed (with_removal stamps r)).doc.cells) none
+    ∙ ap (λ stamps. tagged_text (with_removal stamps r).doc.cells) (map-id action.inserted)
     ∙ text_beside action.inserted (are_at action.inserted flat.cells) 0 flat.cells (λ k. ap (are_at action.inserted flat.cells) (omega arith))
 
 -- an insertion that is undone at once leaves the text as it was
@@ -238,7 +238,7 @@ insertion_back site log view place pieces rest p h doc =
     let flat = view.doc in
     let start = none_inserted view in
     let inserted = insertion_of flat.site (left_neighbour (cells_shown view) place) (right_behind view place pieces) pieces rest start in
-    let after = left_of flat.cells (in_text view place) in
+    let after = left_stamp flat.cells (in_text view place) in
     let new = (with_pieces_at view place pieces rest).doc in
     let stamps = stamps_of_span (counts_between flat.site flat.count inserted.count) in
     let is_new : IsNew flat.site flat.count inserted =

@@ -17,13 +17,13 @@ use Rattle.rt_rga.specs.Histories.{IsHistory}
 use Rattle.rt_rga.specs.Texts.{tagged_text}
 use Rattle.rt_rga.proofs.Skipping.{split}
 use Rattle.rt_plans.specs.DraftLaws.{IsDocument}
-use Rattle.rt_plans.specs.DocValue.{left_of}
+use Rattle.rt_plans.specs.DocValue.{left_stamp}
 use Rattle.rt_plans.specs.Insertions.{Insertion, insertion_of, left_neighbour}
 use Rattle.rt_plans.specs.Removals.{gone_at}
 use Rattle.rt_plans.proofs.CellLaws.{known_put}
 use Rattle.rt_undo.specs.declared.action.Kind.TheVariants.{Insert}
 use Rattle.rt_undo.specs.Actions.{Action}
-use Rattle.rt_revert.specs.Reverting.{Reversion, are_at, as_it_is, stamp_after, reverted, with_each_reverted, with_gone, with_returns, with_reverted}
+use Rattle.rt_revert.specs.Reverting.{Reversion, are_at, as_it_is, stamp_after, reverted, with_each_reverted, with_removal, with_returns, with_reverted}
 use Rattle.rt_text.specs.Commands.{none_inserted, right_behind}
 use Rattle.rt_text.specs.Widgets.{ViewValue, in_text, cells_shown}
 use Rattle.rt_recording.specs.EditLaws.{Put, after_put, after_puts, put_actions}
@@ -76,9 +76,9 @@ visible_reverted : (action : Action (List Word)) (so_far : Reversion) → action
     → visible_of (with_reverted action so_far).doc.cells ≡ beside action.inserted (visible_of so_far.doc.cells)
 visible_reverted action so_far none start =
     let cells = so_far.doc.cells in
-    ap (λ removed. visible_of (with_returns removed (with_gone (map (stamp_after so_far.returns) action.inserted) so_far)).doc.cells) none
-    ∙ ap (λ returns. visible_of (with_gone (map (stamp_after returns) action.inserted) so_far).doc.cells) start
-    ∙ ap (λ stamps. visible_of (with_gone stamps so_far).doc.cells) (map-id action.inserted)
+    ap (λ removed. visible_of (with_returns removed (with_removal (map (stamp_after so_far.returns) action.inserted) so_far)).doc.cells) none
+    ∙ ap (λ returns. visible_of (with_removal (map (stamp_after returns) action.inserted) so_far).doc.cells) start
+    ∙ ap (λ stamps. visible_of (with_removal stamps so_far).doc.cells) (map-id action.inserted)
     ∙ visible_left action.inserted (are_at action.inserted cells) 0 cells (λ k. ap (are_at action.inserted cells) (omega arith))
 
 -- actions and then one more
@@ -111,7 +111,7 @@ module _ (view : ViewValue) (put : Put) where
   inserted = insertion_of view.doc.site (left_neighbour (cells_shown view) put.place) (right_behind view put.place put.pieces) put.pieces put.rest (none_inserted view)
 
   abbrev after : Stamp
-  after = left_of view.doc.cells (in_text view put.place)
+  after = left_stamp view.doc.cells (in_text view put.place)
 
   abbrev action : Action (List Word)
   action = edit_action Insert view.doc new.doc []

@@ -8,8 +8,8 @@ use Rattle.rt_stamps.specs.Words.{Word}
 use Rattle.rt_tags.specs.States.{TagStates, names_on, state_at}
 use Rattle.rt_tags.proofs.Sorted.{every_append}
 use Rattle.rt_undo.specs.declared.renames.Move.{Move}
-use Rattle.rt_undo.specs.Actions.{Action, Removed, with_stamp, with_stamps}
-use Rattle.rt_undo.specs.Groups.{AreStill}
+use Rattle.rt_undo.specs.Actions.{Action, Removed, restamped, restamped_one}
+use Rattle.rt_undo.specs.Groups.{NoneMoves}
 use Rattle.rt_undo.specs.Renames.{Shown, is_moved, replaced}
 use Rattle.rt_undo.specs.Undo.{History, as_group, but_last, last, limited, next_redo, next_undo, redo_done, renamed_by, to_undo, too_many, undo_done, with_stamps_in}
 use Rattle.rt_undo.proofs.Histories.{but_last_map, last_map, to_undo_renamed}
@@ -21,10 +21,10 @@ use Rattle.rt_recording.proofs.Named.{limited_named, to_undo_named}
 
 -- TWICE, AND NOT AT ALL
 
-action_twice : (g f : Stamp → Stamp) (a : Action ℕ) → with_stamps g (with_stamps f a) ≡ with_stamps (λ s. g (f s)) a
+action_twice : (g f : Stamp → Stamp) (a : Action ℕ) → restamped g (restamped f a) ≡ restamped (λ s. g (f s)) a
 action_twice g f a = λ i. record a {
   inserted = map-map g f a.inserted i;
-  removed = map-map (with_stamp {T = ℕ} g) (with_stamp {T = ℕ} f) a.removed i;
+  removed = map-map (restamped_one {T = ℕ} g) (restamped_one {T = ℕ} f) a.removed i;
 }
 
 group_twice : (g f : Stamp → Stamp) (group : List (Action ℕ)) → with_stamps_in g (with_stamps_in f group) ≡ with_stamps_in (λ s. g (f s)) group
@@ -47,7 +47,7 @@ stamps_same : (stamps : List Stamp) → map (λ s. s) stamps ≡ stamps
 stamps_same [] = refl
 stamps_same (s ∷ stamps) = ap (λ l. s ∷ l) (stamps_same stamps)
 
-removed_same : (removed : List (Removed ℕ)) → map (with_stamp {T = ℕ} (λ s. s)) removed ≡ removed
+removed_same : (removed : List (Removed ℕ)) → map (restamped_one {T = ℕ} (λ s. s)) removed ≡ removed
 removed_same [] = refl
 removed_same (r ∷ removed) = ap (λ l. r ∷ l) (removed_same removed)
 
@@ -126,7 +126,7 @@ moves_end returns i back s l = sym (ap (λ rs. back_after rs back s) (none_left 
 -- NAMES
 
 removed_named : (t : TagStates) (f : Stamp → Stamp) (removed : List (Removed ℕ))
-    → map (named_removed t) (map (with_stamp {T = ℕ} f) removed) ≡ map (with_stamp {T = List Word} f) (map (named_removed t) removed)
+    → map (named_removed t) (map (restamped_one {T = ℕ} f) removed) ≡ map (restamped_one {T = List Word} f) (map (named_removed t) removed)
 removed_named t f [] = refl
 removed_named t f (r ∷ removed) = ap (λ l. record { stamp = f r.stamp; tags = names_on (state_at t r.tags) } ∷ l) (removed_named t f removed)
 
@@ -224,13 +224,13 @@ removed_still : (t : TagStates) (back : Stamp → Bool) (removed : List (Removed
 removed_still t back [] stays = tt
 removed_still t back (r ∷ removed) stays = (stays.0, removed_still t back removed stays.1)
 
-group_still : (t : TagStates) (moves : Shown Move) (group : List (Action ℕ)) → HaveStayed (is_moved moves) (named_group t group) → AreStill moves group
+group_still : (t : TagStates) (moves : Shown Move) (group : List (Action ℕ)) → HaveStayed (is_moved moves) (named_group t group) → NoneMoves moves group
 group_still t moves [] stay = tt
 group_still t moves (a ∷ group) stay =
     (record { inserted = stay.0.inserted; removed = removed_still t (is_moved moves) a.removed stay.0.removed }, group_still t moves group stay.1)
 
 pub still_after : (t : TagStates) (moves : Shown Move) (back : Stamp → Bool) (group : List (Action ℕ)) → ((s : Stamp) → is_moved moves s ≡ back s)
-    → HaveStayed back (named_group t group) → AreStill moves group
+    → HaveStayed back (named_group t group) → NoneMoves moves group
 still_after t moves back group e stay =
     group_still t moves group (subst (λ (b : Stamp → Bool). HaveStayed b (named_group t group)) (λ j s. sym (e s) j) stay)
 
@@ -239,7 +239,7 @@ removed_stayed : (t : TagStates) (back : Stamp → Bool) (removed : List (Remove
 removed_stayed t back [] still = tt
 removed_stayed t back (r ∷ removed) still = (still.0, removed_stayed t back removed still.1)
 
-pub group_stayed : (t : TagStates) (moves : Shown Move) (group : List (Action ℕ)) → AreStill moves group → HaveStayed (is_moved moves) (named_group t group)
+pub group_stayed : (t : TagStates) (moves : Shown Move) (group : List (Action ℕ)) → NoneMoves moves group → HaveStayed (is_moved moves) (named_group t group)
 group_stayed t moves [] still = tt
 group_stayed t moves (a ∷ group) still =
     (record { inserted = still.0.inserted; removed = removed_stayed t (is_moved moves) a.removed still.0.removed }, group_stayed t moves group still.1)
@@ -257,7 +257,7 @@ none_from f (Some x) e = absurd (cc e)
 
 -- THE STATES OF TAGS
 
-removed_given : (t : TagStates) (f : Stamp → Stamp) (removed : List (Removed ℕ)) → RemovedAreGiven t removed → RemovedAreGiven t (map (with_stamp {T = ℕ} f) removed)
+removed_given : (t : TagStates) (f : Stamp → Stamp) (removed : List (Removed ℕ)) → RemovedAreGiven t removed → RemovedAreGiven t (map (restamped_one {T = ℕ} f) removed)
 removed_given t f [] given = tt
 removed_given t f (r ∷ removed) given = (given.0, removed_given t f removed given.1)
 

@@ -22,9 +22,9 @@ use Rattle.rt_rga.specs.Texts.{TaggedCharacter, tagged_text}
 use Rattle.rt_rga.proofs.Corollaries.{cells_distinct, cells_older, root_absent}
 use Rattle.rt_rga.proofs.Skipping.{split}
 use Rattle.rt_plans.specs.declared.range.Range.{Range}
-use Rattle.rt_plans.specs.Deletions.{loss_in, newline_of, without_places}
+use Rattle.rt_plans.specs.Deletions.{loss_in, newline_left, without_places}
 use Rattle.rt_plans.specs.DraftLaws.{IsDocument}
-use Rattle.rt_plans.specs.DocValue.{DocValue, left_of, put_after}
+use Rattle.rt_plans.specs.DocValue.{DocValue, left_stamp, put_after}
 use Rattle.rt_plans.specs.Insertions.{Piece, insertion_of, left_neighbour, new_state}
 use Rattle.rt_plans.specs.Removals.{cells_at, gone_at}
 use Rattle.rt_plans.specs.TagWrites.{bared}
@@ -35,7 +35,7 @@ use Rattle.rt_plans.proofs.TagNames.{AreNamed, CellsNamed, every_named}
 use Rattle.rt_undo.specs.declared.action.Kind.{Kind}
 use Rattle.rt_undo.specs.declared.action.Kind.TheVariants.{Delete, Replace}
 use Rattle.rt_undo.specs.Renames.{replaced}
-use Rattle.rt_revert.specs.Reverting.{Reversion, are_at, as_it_is, as_removed, gone_cell_of, reverted, stamp_after, with_character, with_each_reverted, with_gone, with_return, with_returns}
+use Rattle.rt_revert.specs.Reverting.{Reversion, are_at, as_it_is, as_removed, gone_cell_of, reverted, stamp_after, with_each_reverted, with_insertion, with_removal, with_return, with_returns}
 use Rattle.rt_revert.proofs.TakenBack.{stamp_after_more}
 use Rattle.rt_text.specs.Commands.{lost_in, none_inserted, right_behind, with_pieces_at, with_range_replaced, without_ranges}
 use Rattle.rt_text.specs.Widgets.{ViewValue, begin_of, in_text, length_shown, cells_shown, text_shown}
@@ -209,7 +209,7 @@ module _ (stamps : List Stamp) (places : ℕ → Bool) (p : ℕ) (pre : List Tag
   new = new_cell r.doc.site r.doc.count (names_on c.state) c.ch
 
   abbrev next : Reversion
-  next = with_character c.stamp (names_on c.state) c.ch r
+  next = with_insertion c.stamp (names_on c.state) c.ch r
 
   abbrev before : List TaggedCell
   before = (pre ++ left ∷ []) ++ new ∷ []
@@ -220,8 +220,8 @@ module _ (stamps : List Stamp) (places : ℕ → Bool) (p : ℕ) (pre : List Tag
       let is_there : cell_of r.doc.cells c.stamp ≡ Some left = ap (λ l. cell_of l c.stamp) h.cells ∙ cell_behind pre left xs (h.apart c.stamp same) in
       let found : gone_cell_of r.doc.cells c.stamp ≡ Some left =
       ap (option_and_then (λ (cell : TaggedCell). cond cell.gone (Some cell) None)) is_there ∙ ap (λ b. cond b (Some left) None) q in
-      ap (λ s. unwrap_or (option_map (λ (cell : TaggedCell). with_character s (names_on c.state) cell.ch r) (gone_cell_of r.doc.cells s)) r) (h.still c.stamp same)
-      ∙ ap (λ o. unwrap_or (option_map (λ (cell : TaggedCell). with_character c.stamp (names_on c.state) cell.ch r) o) r) found
+      ap (λ s. unwrap_or (option_map (λ (cell : TaggedCell). with_insertion s (names_on c.state) cell.ch r) (gone_cell_of r.doc.cells s)) r) (h.still c.stamp same)
+      ∙ ap (λ o. unwrap_or (option_map (λ (cell : TaggedCell). with_insertion c.stamp (names_on c.state) cell.ch r) o) r) found
 
   part_next : c.gone ≡ false → IsPart stamps places p pre (left ∷ xs) (c ∷ cs) r → IsPart stamps places (p + 1) before xs cs next
   part_next e h =
@@ -310,7 +310,7 @@ edit_back site log flat places kind new p h doc same later old =
     let stamps = stamps_of_span (counts_between flat.site flat.count new.count) in
     let action = edit_action kind flat new (cells_at places 0 flat.cells) in
     let r = as_it_is new in
-    let start = with_gone stamps r in
+    let start = with_removal stamps r in
     let removed = map as_removed (cells_at places 0 flat.cells) in
     let gone = went stamps (are_at stamps new.cells) 0 new.cells (λ k. ap (are_at stamps new.cells) (omega arith)) in
     let part : IsPart stamps places 0 [] start.doc.cells flat.cells start = record {
@@ -328,7 +328,7 @@ edit_back site log flat places kind new p h doc same later old =
       named = rise_all flat.cells (subst CellsNamed (sym doc.cells) (every_named log h));
     } in
     ap (λ group. tagged_text (with_each_reverted group r).doc.cells) (one_reversed action)
-    ∙ ap (λ ss. tagged_text (with_returns removed (with_gone ss r)).doc.cells) (map-id stamps)
+    ∙ ap (λ ss. tagged_text (with_returns removed (with_removal ss r)).doc.cells) (map-id stamps)
     ∙ back stamps places start.doc.cells flat.cells 0 [] start part
 
 -- what a document has that lacks some characters is apart from the counts of an edit
@@ -355,7 +355,7 @@ replaced_back site log flat places view place pieces rest p h doc lacks =
     let less = view.doc in
     let begun = none_inserted view in
     let inserted = insertion_of less.site (left_neighbour (cells_shown view) place) (right_behind view place pieces) pieces rest begun in
-    let after = left_of less.cells (in_text view place) in
+    let after = left_stamp less.cells (in_text view place) in
     let new = (with_pieces_at view place pieces rest).doc in
     let stamps = stamps_of_span (counts_between flat.site flat.count inserted.count) in
     let is_new : IsNew less.site less.count inserted =
@@ -381,7 +381,7 @@ lacks_ranges : (view : ViewValue) (ranges : List Range) → tags_lost view range
 lacks_ranges view ranges none =
     let flat = view.doc in
     let loss = loss_in (text_shown view) (begin_of view) ranges in
-    let less = only_places flat loss.places (newline_of flat loss) none in
+    let less = only_places flat loss.places (newline_left flat loss) none in
     record {
       cells = ap (λ (d : DocValue). d.cells) less;
       site = ap (λ (d : DocValue). d.site) less;

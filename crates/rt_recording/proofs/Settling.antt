@@ -11,7 +11,7 @@ use Rattle.rt_plans.specs.DocValue.{DocValue}
 use Rattle.rt_undo.specs.Actions.{Action}
 use Rattle.rt_undo.specs.Undo.{History, as_group, but_last, redo_done, renamed_by, to_undo, too_many, undo_done, with_stamps_in}
 use Rattle.rt_revert.specs.Reverting.{reversion, reverted, reverted_group}
-use Rattle.rt_revert.specs.ReversionLaws.{AreSound}
+use Rattle.rt_revert.specs.ReversionLaws.{AllMayRevert}
 use Rattle.rt_revert.proofs.Soundness.{group_renamed}
 use Rattle.rt_text.specs.Reversions.{reversion_check}
 use Rattle.rt_recording.specs.Recordings.{HaveStayed}
@@ -26,7 +26,7 @@ use Rattle.rt_recording.proofs.Told.{IsReturned, reversion_told}
 
 -- a document of a history, by which none of those who came back is visible, and a group of those who stayed
 pub told : (flat : DocValue) (group : List (Action (List Word))) (back : Stamp → Bool) (number : ℕ) → 0 < number → number ≡ flat.site → IsHistory flat.log
-    → flat.cells ≡ cells_of flat.log → flat.count ≡ greatest_last_count flat.log → AreSound group → ((s : Stamp) → back s ≡ true → is_gone flat.cells s ≡ true)
+    → flat.cells ≡ cells_of flat.log → flat.count ≡ greatest_last_count flat.log → AllMayRevert group → ((s : Stamp) → back s ≡ true → is_gone flat.cells s ≡ true)
     → HaveStayed back group → reversion_check flat group ≡ None → IsReturned back flat group
 told flat group back number p site history cells count sound gone stay checked =
     let positive : 0 < flat.site = omega (arith, p, site) in
@@ -34,7 +34,7 @@ told flat group back number p site history cells count sound gone stay checked =
 
 -- and who was taken away is gone once, by the stamps of then
 pub once_told : (flat : DocValue) (group : List (Action (List Word))) (others : List Stamp) (number : ℕ) → 0 < number → number ≡ flat.site → IsHistory flat.log
-    → flat.cells ≡ cells_of flat.log → flat.count ≡ greatest_last_count flat.log → AreSound group → reversion_check flat group ≡ None → AreGoneOnce flat.cells (taken_by group ++ others)
+    → flat.cells ≡ cells_of flat.log → flat.count ≡ greatest_last_count flat.log → AllMayRevert group → reversion_check flat group ≡ None → AreGoneOnce flat.cells (taken_by group ++ others)
     → AreGoneOnce (reversion flat group).doc.cells (map (stamp_after (reversion flat group).returns) others ++ taken_by (reverted_group flat group))
 once_told flat group others number p site history cells count sound checked once =
     let positive : 0 < flat.site = omega (arith, p, site) in
@@ -61,12 +61,12 @@ if_both P Q (Err e) p q = tt
 -- SOUND HISTORIES
 
 pub record HistoryIsSound (h : History (List Word)) : Type 0 where
-  pub closed : AllByRecursion AreSound h.closed
-  pub current : AreSound h.current
-  pub undone : AllByRecursion AreSound h.undone
+  pub closed : AllByRecursion AllMayRevert h.closed
+  pub current : AllMayRevert h.current
+  pub undone : AllByRecursion AllMayRevert h.undone
 
-groups_renamed : (returns : List Return) (groups : List (List (Action (List Word)))) → AllByRecursion IsOther returns → AllByRecursion AreSound groups
-    → AllByRecursion AreSound (map (with_stamps_in {T = List Word} (stamp_after returns)) groups)
+groups_renamed : (returns : List Return) (groups : List (List (Action (List Word)))) → AllByRecursion IsOther returns → AllByRecursion AllMayRevert groups
+    → AllByRecursion AllMayRevert (map (with_stamps_in {T = List Word} (stamp_after returns)) groups)
 groups_renamed returns [] h k = tt
 groups_renamed returns (group ∷ groups) h k = (group_renamed returns group h k.0, groups_renamed returns groups h k.1)
 
@@ -77,26 +77,26 @@ renamed_sound returns h others k = record {
   undone = groups_renamed returns h.undone others k.undone;
 }
 
-as_group_sound : (group : List (Action (List Word))) → AreSound group → AllByRecursion AreSound (as_group group)
+as_group_sound : (group : List (Action (List Word))) → AllMayRevert group → AllByRecursion AllMayRevert (as_group group)
 as_group_sound [] h = tt
 as_group_sound (a ∷ group) h = (h, tt)
 
-to_undo_sound : (h : History (List Word)) → HistoryIsSound h → AllByRecursion AreSound (to_undo h)
-to_undo_sound h k = every_append AreSound h.closed (as_group h.current) k.closed (as_group_sound h.current k.current)
+to_undo_sound : (h : History (List Word)) → HistoryIsSound h → AllByRecursion AllMayRevert (to_undo h)
+to_undo_sound h k = every_append AllMayRevert h.closed (as_group h.current) k.closed (as_group_sound h.current k.current)
 
-pub sound_undone : (returns : List Return) (reverted : List (Action (List Word))) (old between new : History (List Word)) → AllByRecursion IsOther returns → AreSound reverted
+pub sound_undone : (returns : List Return) (reverted : List (Action (List Word))) (old between new : History (List Word)) → AllByRecursion IsOther returns → AllMayRevert reverted
     → HistoryIsSound old → between ≡ old → new ≡ undo_done reverted (renamed_by (stamp_after returns) between) → HistoryIsSound new
 sound_undone returns reverted old between new others r k b e =
     let h = renamed_by (stamp_after returns) between in
     let s = renamed_sound returns between others (subst HistoryIsSound (sym b) k) in
     let done : HistoryIsSound (undo_done reverted h) = record {
-      closed = every_take AreSound (length (to_undo h) - 1) (to_undo h) (to_undo_sound h s);
+      closed = every_take AllMayRevert (length (to_undo h) - 1) (to_undo h) (to_undo_sound h s);
       current = tt;
-      undone = every_append AreSound h.undone (reverted ∷ []) s.undone (r, tt);
+      undone = every_append AllMayRevert h.undone (reverted ∷ []) s.undone (r, tt);
     } in
     subst HistoryIsSound (sym e) done
 
-pub sound_redone : (returns : List Return) (reverted : List (Action (List Word))) (old between new : History (List Word)) → AllByRecursion IsOther returns → AreSound reverted
+pub sound_redone : (returns : List Return) (reverted : List (Action (List Word))) (old between new : History (List Word)) → AllByRecursion IsOther returns → AllMayRevert reverted
     → HistoryIsSound old → between ≡ old → new ≡ redo_done reverted (renamed_by (stamp_after returns) between) → HistoryIsSound new
 sound_redone returns reverted old between new others r k b e =
     let h = renamed_by (stamp_after returns) between in
@@ -104,8 +104,8 @@ sound_redone returns reverted old between new others r k b e =
     let groups = to_undo h ++ reverted ∷ [] in
     let all : History (List Word) = record h { closed = groups; current = []; undone = but_last h.undone } in
     let done : HistoryIsSound (redo_done reverted h) = record {
-      closed = every_drop AreSound (too_many all) groups (every_append AreSound (to_undo h) (reverted ∷ []) (to_undo_sound h s) (r, tt));
+      closed = every_drop AllMayRevert (too_many all) groups (every_append AllMayRevert (to_undo h) (reverted ∷ []) (to_undo_sound h s) (r, tt));
       current = tt;
-      undone = every_take AreSound (length h.undone - 1) h.undone s.undone;
+      undone = every_take AllMayRevert (length h.undone - 1) h.undone s.undone;
     } in
     subst HistoryIsSound (sym e) done

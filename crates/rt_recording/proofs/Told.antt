@@ -23,10 +23,10 @@ use Rattle.rt_rga.proofs.Corollaries.{cells_distinct, cells_have, character_coun
 use Rattle.rt_plans.specs.DraftLaws.{IsDocument}
 use Rattle.rt_plans.specs.DocValue.{DocValue}
 use Rattle.rt_plans.specs.Insertions.{new_state}
-use Rattle.rt_undo.specs.Actions.{Action, Removed, with_stamp, with_stamps}
+use Rattle.rt_undo.specs.Actions.{Action, Removed, restamped, restamped_one}
 use Rattle.rt_undo.specs.Undo.{with_stamps_in}
-use Rattle.rt_revert.specs.Reverting.{Reversion, are_at, as_it_is, as_removed, gone_cell_of, next_in, reversion, reverted_group, since, still_visible, with_character, with_each_reverted, with_gone, with_return, with_returns, with_reverted}
-use Rattle.rt_revert.specs.ReversionLaws.{AreSound, IsSound, MayReturn}
+use Rattle.rt_revert.specs.Reverting.{Reversion, are_at, as_it_is, as_removed, gone_cell_of, next_in, reversion, reverted_group, since, still_visible, with_each_reverted, with_insertion, with_removal, with_return, with_returns, with_reverted}
+use Rattle.rt_revert.specs.ReversionLaws.{AllMayRevert, MayReturn, MayRevert}
 use Rattle.rt_revert.proofs.Stamps.{IsApart, after_apart, all_apart}
 use Rattle.rt_revert.proofs.Steps.{IsOnWay, action_step, all_grow, all_reversed, gone_step, on_way, return_step, returns_grow}
 use Rattle.rt_text.proofs.KeptLimits.{below_on_way, real_on_way}
@@ -103,7 +103,7 @@ module _ (back : Stamp → Bool) (stamp : Stamp) (tags : List Word) (ch : ℕ) (
   this = record { stamp = next_in r.doc; ch = ch; gone = false; state = new_state r.doc.site (r.doc.count + 1) tags }
 
   abbrev next : Reversion
-  next = with_character stamp tags ch r
+  next = with_insertion stamp tags ch r
 
   fresh_cell : AreKept r → is_among (stamps_of r.doc.cells) (next_in r.doc) ≡ false
   fresh_cell k = new_apart r.doc.count (r.doc.count + 1) r.doc.site r.doc.cells k.below (omega arith) k.site
@@ -135,7 +135,7 @@ module _ (back : Stamp → Bool) (stamp : Stamp) (tags : List Word) (ch : ℕ) (
   }
 
 abbrev pub brought : Stamp → List Word → Option TaggedCell → Reversion → Reversion
-brought stamp tags o r = unwrap_or (option_map (λ (cell : TaggedCell). with_character stamp tags cell.ch r) o) r
+brought stamp tags o r = unwrap_or (option_map (λ (cell : TaggedCell). with_insertion stamp tags cell.ch r) o) r
 
 pub return_told : (back : Stamp → Bool) (removed : Removed (List Word)) (r : Reversion) → AreKept r → IsTold back r → AllByRecursion IsApart r.returns → MayReturn removed
     → (with_return removed r).doc.count ≤ GREATEST_COUNT → Stays back r.returns removed.stamp → Leads back r (with_return removed r)
@@ -197,12 +197,12 @@ pub record Comes (back : Stamp → Bool) (r next : Reversion) : Type 0 where
   pub leads : Leads back r next
   pub stay : HaveStayed (now_back back next.returns) next.actions
 
-pub action_told : (back : Stamp → Bool) (site : ℕ) (log : List Operation) (action : Action (List Word)) (r : Reversion) → 0 < site → IsOnWay site log r → IsSound action
+pub action_told : (back : Stamp → Bool) (site : ℕ) (log : List Operation) (action : Action (List Word)) (r : Reversion) → 0 < site → IsOnWay site log r → MayRevert action
     → (with_reverted action r).doc.count ≤ GREATEST_COUNT → IsTold back r → AllByRecursion (λ (x : Removed (List Word)). Stays back r.returns x.stamp) action.removed
     → HaveStayed (now_back back r.returns) r.actions → Comes back r (with_reverted action r)
 action_told back site log action r p h c l t s st =
     let stamps = map (stamp_after r.returns) action.inserted in
-    let left = with_gone stamps r in
+    let left = with_removal stamps r in
     let all = with_returns action.removed left in
     let few : left.doc.count ≤ GREATEST_COUNT = omega (arith, returns_grow action.removed left, l) in
     let way = gone_step site log stamps r p h (all_apart r.returns action.inserted h.apart c.inserted) few in
@@ -233,7 +233,7 @@ removed_on back r next group on h =
     (λ a k. every_weaker (λ (x : Removed (List Word)). Stays back r.returns x.stamp) (λ (x : Removed (List Word)). Stays back next.returns x.stamp)
     (λ x j. on.stays x.stamp j) a.removed k) group h
 
-all_told : (back : Stamp → Bool) (site : ℕ) (log : List Operation) (actions : List (Action (List Word))) (r : Reversion) → 0 < site → IsOnWay site log r → AreSound actions
+all_told : (back : Stamp → Bool) (site : ℕ) (log : List Operation) (actions : List (Action (List Word))) (r : Reversion) → 0 < site → IsOnWay site log r → AllMayRevert actions
     → (with_each_reverted actions r).doc.count ≤ GREATEST_COUNT → IsTold back r → RemovedStay back r.returns actions → HaveStayed (now_back back r.returns) r.actions
     → Comes back r (with_each_reverted actions r)
 all_told back site log [] r p h c l t s st = record { leads = record { told = t; stays = λ u k. k }; stay = st }
@@ -246,10 +246,10 @@ all_told back site log (action ∷ actions) r p h c l t s st =
 
 -- UNDER THE STAMPS OF NOW
 
-action_now : (back : Stamp → Bool) (f : Stamp → Stamp) (action : Action (List Word)) → HasStayed (λ s. back (f s)) action → HasStayed back (with_stamps f action)
+action_now : (back : Stamp → Bool) (f : Stamp → Stamp) (action : Action (List Word)) → HasStayed (λ s. back (f s)) action → HasStayed back (restamped f action)
 action_now back f action h = record {
   inserted = mapped (λ (s : Stamp). back s ≡ false) f action.inserted h.inserted;
-  removed = mapped (λ (x : Removed (List Word)). back x.stamp ≡ false) (with_stamp {T = List Word} f) action.removed h.removed;
+  removed = mapped (λ (x : Removed (List Word)). back x.stamp ≡ false) (restamped_one {T = List Word} f) action.removed h.removed;
 }
 
 group_now : (back : Stamp → Bool) (f : Stamp → Stamp) (group : List (Action (List Word))) → HaveStayed (λ s. back (f s)) group → HaveStayed back (with_stamps_in f group)
@@ -266,14 +266,14 @@ pub record IsReturned (back : Stamp → Bool) (flat : DocValue) (group : List (A
   pub gone : (s : Stamp) → back_after (reversion flat group).returns back s ≡ true → is_gone (reversion flat group).doc.cells s ≡ true
 
 pub reversion_told : (site : ℕ) (log : List Operation) (flat : DocValue) (group : List (Action (List Word))) (back : Stamp → Bool) → 0 < site → IsHistory log
-    → IsDocument site log flat → AreSound group → (reversion flat group).doc.count ≤ GREATEST_COUNT → ((s : Stamp) → back s ≡ true → is_gone flat.cells s ≡ true)
+    → IsDocument site log flat → AllMayRevert group → (reversion flat group).doc.count ≤ GREATEST_COUNT → ((s : Stamp) → back s ≡ true → is_gone flat.cells s ≡ true)
     → HaveStayed back group → IsReturned back flat group
 reversion_told site log flat group back p h doc c l g st =
     let r = reversion flat group in
     let way = on_way site log flat group p h doc c l in
     let removed : RemovedStay back [] group =
     every_weaker (HasStayed back) (λ (a : Action (List Word)). AllByRecursion (λ (x : Removed (List Word)). back x.stamp ≡ false) a.removed) (λ a k. k.removed) group st in
-    let all = all_told back site log (reverse group) (as_it_is flat) p (record { may = tt; history = h; document = doc; apart = tt; sound = tt }) (all_reversed IsSound group c) l
+    let all = all_told back site log (reverse group) (as_it_is flat) p (record { may = tt; history = h; document = doc; apart = tt; sound = tt }) (all_reversed MayRevert group c) l
     (record { gone = g; returns = tt; newer = tt })
     (all_reversed (λ (a : Action (List Word)). AllByRecursion (λ (x : Removed (List Word)). back x.stamp ≡ false) a.removed) group removed) tt in
     record { returns = all.leads.told.returns; others = way.apart; stay = group_now (back_after r.returns back) (stamp_after r.returns) r.actions all.stay; gone = all.leads.told.gone }

@@ -7,14 +7,14 @@ use Rattle.rt_tags.specs.States.{names_on}
 use Rattle.rt_rga.specs.Histories.{IsHistory}
 use Rattle.rt_rga.specs.Texts.{tagged_text}
 use Rattle.rt_plans.specs.declared.range.Range.{Range}
-use Rattle.rt_plans.specs.Deletions.{loss_in, newline_of}
+use Rattle.rt_plans.specs.Deletions.{loss_in, newline_left}
 use Rattle.rt_plans.specs.DraftLaws.{IsDocument}
 use Rattle.rt_plans.specs.DocValue.{DocValue}
 use Rattle.rt_plans.specs.Insertions.{Piece}
 use Rattle.rt_undo.specs.Actions.{Action}
 use Rattle.rt_undo.specs.declared.action.Kind.TheVariants.{Delete, Insert, Replace}
 use Rattle.rt_revert.specs.Reverting.{reversion, reverted}
-use Rattle.rt_revert.specs.ReversionLaws.{AreSound}
+use Rattle.rt_revert.specs.ReversionLaws.{AllMayRevert}
 use Rattle.rt_text.specs.Commands.{lost_in, with_pieces_at, with_range_replaced, without_ranges}
 use Rattle.rt_text.specs.Widgets.{ViewValue, begin_of, text_shown}
 use Rattle.rt_recording.specs.Edits.{edit_action}
@@ -23,7 +23,7 @@ use Rattle.rt_recording.specs.Settled.{AreGoneOnce, taken_by}
 -- the tags that a deletion takes off the last newline that the widget shows, which stays
 abbrev pub tags_lost : ViewValue → List Range → List Word
 tags_lost view ranges =
-    let loss = loss_in (text_shown view) (begin_of view) ranges in unwrap_or (option_map (λ cell. names_on cell.state) (newline_of view.doc loss)) []
+    let loss = loss_in (text_shown view) (begin_of view) ranges in unwrap_or (option_map (λ cell. names_on cell.state) (newline_left view.doc loss)) []
 
 -- Ranges are deleted, with the action that `delete` records of it, and this is undone at once: the text is again what it was, each
 -- character with its tags. It is said of deletions that take no tags off the last newline.
@@ -75,5 +75,5 @@ ReplacementIsTakenBack =
 abbrev pub AllComeBack : Type 0
 AllComeBack =
     (site : ℕ) (log : List Operation) (flat : DocValue) (group : List (Action (List Word))) → 0 < site → IsHistory log → IsDocument site log flat
-    → AreSound group → (reversion flat group).doc.count ≤ GREATEST_COUNT → AreGoneOnce flat.cells (taken_by group)
+    → AllMayRevert group → (reversion flat group).doc.count ≤ GREATEST_COUNT → AreGoneOnce flat.cells (taken_by group)
     → map (λ r. r.former) (reversion flat group).returns ≡ taken_by (reverse group)

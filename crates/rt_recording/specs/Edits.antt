@@ -12,7 +12,7 @@ use Rattle.rt_plans.specs.Insertions.{Piece}
 use Rattle.rt_undo.specs.declared.action.Kind.{Kind}
 use Rattle.rt_undo.specs.declared.action.Kind.TheVariants.{Insert, Delete, Replace}
 use Rattle.rt_undo.specs.Actions.{Action}
-use Rattle.rt_undo.specs.Undo.{History, added, forced_on}
+use Rattle.rt_undo.specs.Undo.{History, forced_on, with_action}
 use Rattle.rt_revert.specs.Reverting.{as_removed}
 use Rattle.rt_recording.specs.Recordings.{made}
 use Rattle.rt_text.specs.Accepted.{view_with_new}
@@ -42,7 +42,7 @@ edit_action kind old new lost = made kind (counts_between old.site old.count new
 -- An edit that changed the text is recorded where edits are, with automatic separators or without, and takes away what could be
 -- redone; else it forces the modified flag. One that changed no text leaves the history as it is.
 abbrev pub noted_by : Bool → Bool → Bool → Action (List Word) → History (List Word) → History (List Word)
-noted_by changed undo auto action history = if changed then (if undo then added auto action history else forced_on history) else history
+noted_by changed undo auto action history = if changed then (if undo then with_action auto action history else forced_on history) else history
 
 abbrev pub noted : Kind → List TaggedCell → EditedValue → DocValue → History (List Word)
 noted kind lost text new = noted_by (text_changed text.view.doc new) text.undo text.auto (edit_action kind text.view.doc new lost) text.history

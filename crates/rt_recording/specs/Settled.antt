@@ -7,7 +7,7 @@ use Rattle.rt_stamps.specs.Words.{Word}
 use Rattle.rt_store.specs.Shown.{TaggedCell}
 use Rattle.rt_undo.specs.Actions.{Action}
 use Rattle.rt_undo.specs.Undo.{History}
-use Rattle.rt_revert.specs.ReversionLaws.{AreSound}
+use Rattle.rt_revert.specs.ReversionLaws.{AllMayRevert}
 use Rattle.rt_recording.specs.Recordings.{Recording, came_back}
 use Rattle.rt_text.specs.Widgets.{ViewValue}
 pub use Rattle.rt_lines.specs.Limits.{is_gone}
@@ -32,6 +32,6 @@ AreGoneOnce cells stamps = (stamp : Stamp) → times stamp stamps ≤ (if is_gon
 pub record IsSettled (view : ViewValue) (recording : Recording) : Type 0 where
   pub gone : (stamp : Stamp) → came_back recording stamp ≡ true → is_gone view.doc.cells stamp ≡ true
   pub taken : AreGoneOnce view.doc.cells (removed_in_history recording.history)
-  pub closed : AllByRecursion AreSound recording.history.closed
-  pub current : AreSound recording.history.current
-  pub undone : AllByRecursion AreSound recording.history.undone
+  pub closed : AllByRecursion AllMayRevert recording.history.closed
+  pub current : AllMayRevert recording.history.current
+  pub undone : AllByRecursion AllMayRevert recording.history.undone

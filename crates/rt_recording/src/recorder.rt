@@ -6,7 +6,7 @@ ghost use Rattle.rt_store.specs.Shown.{shown};
 ghost use Rattle.rt_store.specs.Tagged.{AreStates};
 ghost use Rattle.rt_tags.specs.States.{KeepsIds};
 ghost use Rattle.rt_undo.specs.Actions.{group_of};
-ghost use Rattle.rt_undo.specs.Undo.{added, emptied, forced_on, is_modified, next_redo, next_undo, no_history, redo_done, renamed_by, separated, undo_done, unmodified, with_most};
+ghost use Rattle.rt_undo.specs.Undo.{emptied, forced_on, is_modified, next_redo, next_undo, no_history, redo_done, renamed_by, separated, undo_done, unmodified, with_action, with_most};
 ghost use Rattle.rt_recording.specs.Naming.{AreGiven, named_group};
 ghost use Rattle.rt_recording.specs.Recordings.{HasStayed, HaveStayed, came_back, made};
 ghost use Rattle.rt_recording.specs.Returns.{AreReturns, back_after, stamp_after};
@@ -163,7 +163,7 @@ impl Recorder {
         requires prepared { is_some self.old.pending ≡ true }
         requires stays { IfSome self.old.pending (λ removed. HasStayed (came_back self.old)
             (made kind (record { site = site.number; first = first; last = last }) removed)) }
-        ensures history { IfSome self.old.pending (λ removed. self.new.history ≡ added self.old.auto
+        ensures history { IfSome self.old.pending (λ removed. self.new.history ≡ with_action self.old.auto
             (made kind (record { site = site.number; first = first; last = last }) removed) self.old.history) }
         ensures pending { self.new.pending ≡ None }
         ensures settings { (self.new.undo ≡ self.old.undo) × (self.new.auto ≡ self.old.auto) }

@@ -2,7 +2,7 @@
 use Rattle.std.proofs.Common.{◌≡◌, ◌∙◌, ℕ, List, [], ◌∷◌, ◌++◌, inl, inr, ap, map, refl, true}
 use Rattle.rt_ops.specs.Operations.{Body, Insert, Delete, Tag, Operation}
 use Rattle.rt_ops.specs.Rules.{keeps_rules}
-use Rattle.rt_oplog.specs.Logs.{Has, with_operation}
+use Rattle.rt_oplog.specs.Logs.{HasOp, with_operation}
 use Rattle.rt_rga.specs.Cells.{cells_of}
 use Rattle.rt_rga.specs.Drafts.{with_operations}
 use Rattle.rt_rga.specs.Histories.{IsHistory}
@@ -22,7 +22,7 @@ replayed_append : (changes more : List VisibleChange) (t : List TaggedCharacter)
 replayed_append [] more t = refl
 replayed_append (c ∷ changes) more t = replayed_append changes more (with_change c t)
 
-pub turn_replays : (limit : ℕ) (ops log : List Operation) → IsHistory log → ((op : Operation) → Has ops op → keeps_rules op.body ≡ true) → AreTakenInTurn limit log ops
+pub turn_replays : (limit : ℕ) (ops log : List Operation) → IsHistory log → ((op : Operation) → HasOp ops op → keeps_rules op.body ≡ true) → AreTakenInTurn limit log ops
     → replayed (changes_in_turn ops log) (tagged_text (cells_of log)) ≡ tagged_text (cells_of (with_operations ops log))
 turn_replays limit [] log h rules turn = refl
 turn_replays limit (op ∷ ops) log h rules turn =
@@ -70,7 +70,7 @@ all_changes (op ∷ ops) log =
     let more = with_operation op log in
     ap (λ l. l ++ all_as ops (told_in_turn ops more)) (as_changes op log) ∙ ap (λ l. changes_of op (cells_of log) ++ l) (all_changes ops more)
 
-pub told_replays : (limit : ℕ) (ops log : List Operation) (changes : List Change) → IsHistory log → ((op : Operation) → Has ops op → keeps_rules op.body ≡ true) → AreTakenInTurn limit log ops
+pub told_replays : (limit : ℕ) (ops log : List Operation) (changes : List Change) → IsHistory log → ((op : Operation) → HasOp ops op → keeps_rules op.body ≡ true) → AreTakenInTurn limit log ops
     → map as_told changes ≡ told_in_turn ops log → replayed (visible_changes ops changes) (tagged_text (cells_of log)) ≡ tagged_text (cells_of (with_operations ops log))
 told_replays limit ops log changes h rules turn told =
     ap (λ l. replayed l (tagged_text (cells_of log))) (shown_as ops changes ∙ ap (all_as ops) told ∙ all_changes ops log)

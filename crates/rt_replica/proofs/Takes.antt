@@ -4,7 +4,7 @@ use Rattle.rt_stamps.specs.declared.fault.Fault.{Fault}
 use Rattle.rt_stamps.specs.declared.fault.Fault.TheVariants.{WaitingFull}
 use Rattle.rt_ops.specs.Operations.{Operation}
 use Rattle.rt_ops.specs.Rules.{keeps_rules}
-use Rattle.rt_oplog.specs.Logs.{Has, holds}
+use Rattle.rt_oplog.specs.Logs.{HasOp, holds}
 use Rattle.rt_rga.specs.Answers.{Answer, New, Repeat, Refused}
 use Rattle.rt_rga.specs.Cells.{cells_of}
 use Rattle.rt_rga.specs.Drafts.{with_operations}
@@ -60,7 +60,7 @@ module _ (first : List Operation) (old site : TellingValue) (held left : List Op
       told ∙ ap (λ (t : TellingValue). t.changes) all ∙ all_told ops old ∙ ap (λ l. l ++ told_in_turn ops old.log) none in
       let kept : site.cells ≡ cells_of site.log =
       subst (λ (t : TellingValue). t.cells ≡ cells_of t.log) (sym tried.each) (all_celled tried.more mid celled) in
-      let rules : (x : Operation) → Has ops x → keeps_rules x.body ≡ true = λ x i. rules_in (with_operations ops old.log) (subst IsHistory logged after) x (with_all ops old.log x (inr i)) in
+      let rules : (x : Operation) → HasOp ops x → keeps_rules x.body ≡ true = λ x i. rules_in (with_operations ops old.log) (subst IsHistory logged after) x (with_all ops old.log x (inr i)) in
       let limited : new.limit ≡ old.limit = limit ∙ ap (λ (t : TellingValue). t.limit) all ∙ all_limited ops old in
       let state : record { log = mid.log; held = held } ≡ record { log = with_operations first old.log; held = held } =
       λ i. record { log = all_logged first old i; held = held } in

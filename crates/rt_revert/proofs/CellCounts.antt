@@ -18,7 +18,7 @@ use Rattle.rt_plans.specs.Removals.{gone_at, stamps_at}
 use Rattle.rt_plans.proofs.CharacterCounts.{cells_length, deletes_none, text_characters}
 use Rattle.rt_plans.proofs.NamedSpanLaws.{cut}
 use Rattle.rt_undo.specs.Actions.{Action, Removed}
-use Rattle.rt_revert.specs.Reverting.{Reversion, are_at, as_it_is, gone_cell_of, reversion, stamp_after, with_character, with_each_reverted, with_gone, with_return, with_returns, with_reverted}
+use Rattle.rt_revert.specs.Reverting.{Reversion, are_at, as_it_is, gone_cell_of, reversion, stamp_after, with_each_reverted, with_insertion, with_removal, with_return, with_returns, with_reverted}
 
 -- n cells and those of the operations so far
 abbrev HasCells : ℕ → Reversion → Type 0
@@ -40,14 +40,14 @@ length_put cells left new =
     omega (arith, length-append (take at cells) new, length-append (take at cells) (drop at cells), ap length (take-append-drop at cells)) in
     length-append (take at cells ++ new) (drop at cells) ∙ rest
 
-gone_cells : (n : ℕ) (stamps : List Stamp) (r : Reversion) → HasCells n r → HasCells n (with_gone stamps r)
+gone_cells : (n : ℕ) (stamps : List Stamp) (r : Reversion) → HasCells n r → HasCells n (with_removal stamps r)
 gone_cells n stamps r h =
     let places = are_at stamps r.doc.cells in
     let new = removal_drafts MOST_SPANS places r.doc.cells in
     let none : characters_in_all new ≡ 0 = deletes_none (parts_of MOST_SPANS (spans_in (stamps_at places 0 r.doc.cells))) in
     omega (arith, characters_append r.drafts new, none, length_gone places 0 r.doc.cells, h)
 
-character_cells : (n : ℕ) (stamp : Stamp) (tags : List Word) (ch : ℕ) (r : Reversion) → HasCells n r → HasCells n (with_character stamp tags ch r)
+character_cells : (n : ℕ) (stamp : Stamp) (tags : List Word) (ch : ℕ) (r : Reversion) → HasCells n r → HasCells n (with_insertion stamp tags ch r)
 character_cells n stamp tags ch r h =
     let text = ch ∷ [] in
     let new = text_drafts MOST_CHARACTERS r.doc.site r.doc.count stamp tags text in
@@ -61,7 +61,7 @@ return_cells n removed r h = by (gone_cell_of r.doc.cells stamp)
     stamp : Stamp
     stamp = stamp_after r.returns removed.stamp
 
-    by : (o : Option TaggedCell) → HasCells n (unwrap_or (option_map (λ (cell : TaggedCell). with_character stamp removed.tags cell.ch r) o) r)
+    by : (o : Option TaggedCell) → HasCells n (unwrap_or (option_map (λ (cell : TaggedCell). with_insertion stamp removed.tags cell.ch r) o) r)
     by None = h
     by (Some cell) = character_cells n stamp removed.tags cell.ch r h
 
@@ -73,7 +73,7 @@ all_cells : (n : ℕ) (actions : List (Action (List Word))) (r : Reversion) → 
 all_cells n [] r h = h
 all_cells n (action ∷ actions) r h =
     let stamps = map (stamp_after r.returns) action.inserted in
-    all_cells n actions (with_reverted action r) (returns_cells n action.removed (with_gone stamps r) (gone_cells n stamps r h))
+    all_cells n actions (with_reverted action r) (returns_cells n action.removed (with_removal stamps r) (gone_cells n stamps r h))
 
 pub reversion_cells : (flat : DocValue) (group : List (Action (List Word))) → length flat.cells + characters_in_all (reversion flat group).drafts ≡ length (reversion flat group).doc.cells
 reversion_cells flat group = all_cells (length flat.cells) (reverse group) (as_it_is flat) (omega arith)

@@ -26,17 +26,17 @@ use Rattle.rt_tags.specs.States.{KeepsIds, TagStates, names_on, state_at}
 use Rattle.rt_plans.specs.DocValue.{DocValue}
 use Rattle.rt_plans.specs.Insertions.{all_listed}
 use Rattle.rt_undo.specs.declared.action.Action.{Action as KeptAction}
-use Rattle.rt_undo.specs.Actions.{Action, Removed, group_of, with_stamp}
+use Rattle.rt_undo.specs.Actions.{Action, Removed, group_of, restamped_one}
 use Rattle.rt_undo.specs.Renames.{is_moved, now_of}
 use Rattle.rt_undo.specs.Undo.{with_stamps_in}
 use Rattle.rt_rga.specs.OneOrMany.{items_in}
 use Rattle.rt_revert.specs.declared.progress.Progress.{Progress}
-use Rattle.rt_revert.specs.Named.{is_named, named_by, named_in}
-use Rattle.rt_revert.specs.Plans.{AreGiven, AreUpTo, IsChange, IsOf, IsUpTo, RemovedAreGiven, marks_after, named_group, named_removed}
-use Rattle.rt_revert.specs.Portions.{AreSmall, Has, HasGroup, HasRemoved, Portion, offset_of, only, visible_before_stamp}
-use Rattle.rt_revert.specs.Progress.{IsCopy, IsGoing, IsOther, IsSoFar, LookAlike}
+use Rattle.rt_revert.specs.Named.{is_in_group, named_by, named_in}
+use Rattle.rt_revert.specs.Plans.{AreGiven, AreUpTo, IsOf, IsTextChange, IsUpTo, RemovedAreGiven, marks_after, named_group, named_removed}
+use Rattle.rt_revert.specs.Portions.{AreSmall, HasEach, HasGroup, HasRemoved, Portion, offset_of, only, visible_before_stamp}
+use Rattle.rt_revert.specs.Progress.{IsCopy, IsOther, IsSoFar, IsUnderWay, LookAlike}
 use Rattle.rt_revert.specs.Reverting.{Reversion, as_it_is, stamp_after}
-use Rattle.rt_revert.specs.ReversionLaws.{AreSound}
+use Rattle.rt_revert.specs.ReversionLaws.{AllMayRevert}
 use Rattle.rt_revert.proofs.Alike.{alike_place_in, alike_stamps, place_in_shown}
 use Rattle.rt_revert.proofs.Counted.{later_cells, up_to_stamps}
 use Rattle.rt_revert.proofs.Only.{only_distinct, only_fewer, only_final, only_shown, only_up_to}
@@ -63,21 +63,21 @@ pub later_given : (old new : TagStates) (group : List (Action ℕ)) → KeepsIds
 later_given old new [] ids h = tt
 later_given old new (a ∷ group) ids h = (given_removed old new a.removed ids h.0, later_given old new group ids h.1)
 
-pub later_sound : (old new : TagStates) (group : List (Action ℕ)) → KeepsIds old new → AreGiven old group → AreSound (named_group old group) → AreSound (named_group new group)
-later_sound old new group ids h s = subst AreSound (sym (later_group old new group ids h)) s
+pub later_sound : (old new : TagStates) (group : List (Action ℕ)) → KeepsIds old new → AreGiven old group → AllMayRevert (named_group old group) → AllMayRevert (named_group new group)
+later_sound old new group ids h s = subst AllMayRevert (sym (later_group old new group ids h)) s
 
 -- OTHER STAMPS
 
-stamped_removed : (table : TagStates) (f : Stamp → Stamp) (removed : List (Removed ℕ)) → map (named_removed table) (map (with_stamp {T = ℕ} f) removed) ≡ map (with_stamp {T = List Word} f) (map (named_removed table) removed)
+stamped_removed : (table : TagStates) (f : Stamp → Stamp) (removed : List (Removed ℕ)) → map (named_removed table) (map (restamped_one {T = ℕ} f) removed) ≡ map (restamped_one {T = List Word} f) (map (named_removed table) removed)
 stamped_removed table f [] = refl
-stamped_removed table f (r ∷ removed) = ap (λ l. with_stamp {T = List Word} f (named_removed table r) ∷ l) (stamped_removed table f removed)
+stamped_removed table f (r ∷ removed) = ap (λ l. restamped_one {T = List Word} f (named_removed table r) ∷ l) (stamped_removed table f removed)
 
 pub stamped_group : (table : TagStates) (f : Stamp → Stamp) (group : List (Action ℕ)) → named_group table (with_stamps_in {T = ℕ} f group) ≡ with_stamps_in {T = List Word} f (named_group table group)
 stamped_group table f [] = refl
 stamped_group table f (a ∷ group) =
     λ i. record { number = a.number; kind = a.kind; inserted = map f a.inserted; removed = stamped_removed table f a.removed i } ∷ stamped_group table f group i
 
-given_stamped : (table : TagStates) (f : Stamp → Stamp) (removed : List (Removed ℕ)) → RemovedAreGiven table removed → RemovedAreGiven table (map (with_stamp {T = ℕ} f) removed)
+given_stamped : (table : TagStates) (f : Stamp → Stamp) (removed : List (Removed ℕ)) → RemovedAreGiven table removed → RemovedAreGiven table (map (restamped_one {T = ℕ} f) removed)
 given_stamped table f [] h = tt
 given_stamped table f (r ∷ removed) h = (h.0, given_stamped table f removed h.1)
 
@@ -101,24 +101,24 @@ pub record IsNew (count : ℕ) (known : Shown ℕ) (plan : Progress) : Type 0 wh
 
 -- what the working copy of a group has: the cells that the group names, and all newer ones
 abbrev pub has_of : ℕ → List (Action ℕ) → Stamp → Bool
-has_of count group s = is_named group s || nat_lt count s.count
+has_of count group s = is_in_group group s || nat_lt count s.count
 
 abbrev pub portion_of : DocValue → List (Action ℕ) → Portion
 portion_of flat group = record { doc = flat; has = has_of flat.count group }
 
 -- nothing is newer at first
-only_named : (count : ℕ) (group : List (Action ℕ)) (cells : List (Cell ℕ)) → AreUpTo count cells → only (has_of count group) cells ≡ only (is_named group) cells
+only_named : (count : ℕ) (group : List (Action ℕ)) (cells : List (Cell ℕ)) → AreUpTo count cells → only (has_of count group) cells ≡ only (is_in_group group) cells
 only_named count group [] h = refl
 only_named count group (c ∷ cs) h =
     let rest = only_named count group cs (All-tail (λ (cell : Cell ℕ). IsUpTo count cell.stamp) c cs h) in
-    let same : has_of count group c.stamp ≡ is_named group c.stamp = split (is_same c.stamp FINAL)
+    let same : has_of count group c.stamp ≡ is_in_group group c.stamp = split (is_same c.stamp FINAL)
     (λ e.
-    let named : is_named group c.stamp ≡ true = or_left (is_same FINAL c.stamp) _ (same_sym FINAL c.stamp ∙ e) in
-    or_left (is_named group c.stamp) _ named ∙ sym named)
+    let named : is_in_group group c.stamp ≡ true = or_left (is_same FINAL c.stamp) _ (same_sym FINAL c.stamp ∙ e) in
+    or_left (is_in_group group c.stamp) _ named ∙ sym named)
     (λ e.
     let le : c.stamp.count ≤ count = h 0 c (omega arith) e in
     let none : nat_lt count c.stamp.count ≡ false = grind (arith, nat_tests) in
-    ap (λ b. is_named group c.stamp || b) none ∙ or_nothing (is_named group c.stamp)) in
+    ap (λ b. is_in_group group c.stamp || b) none ∙ or_nothing (is_in_group group c.stamp)) in
     λ i. cond (same i) (c ∷ rest i) (rest i)
   where
     or_nothing : (b : Bool) → (b || false) ≡ b
@@ -128,7 +128,7 @@ only_named count group (c ∷ cs) h =
 -- how a group begins: the working copy looks like the cells that the group names, and their offsets are known
 pub record IsBegun (kept states : TagStates) (copy store : List (Cell ℕ)) (count : ℕ) (offsets : Shown ℕ) (group : List (Action ℕ)) (plan : Progress) : Type 0 where
   pub new : IsNew count offsets plan
-  pub alike : LookAlike (map (shown kept) copy) (map (shown states) (only (is_named group) store))
+  pub alike : LookAlike (map (shown kept) copy) (map (shown states) (only (is_in_group group) store))
   pub given : AreStates kept copy
   pub distinct : AreDistinct store
   pub few : length store ≤ MOST_CELLS
@@ -139,23 +139,23 @@ pub record IsBegun (kept states : TagStates) (copy store : List (Cell ℕ)) (cou
 
 -- what the working copy begins with
 pub ready_cells : (kept states : TagStates) (store : List (Cell ℕ)) (group : List (Action ℕ)) (cells : List (Cell ℕ)) → EndsFinal store
-    → LookAlike (map (shown kept) cells) (map (shown states) (only (is_named group) store)) → length store ≤ MOST_CELLS → (length cells ≤ MOST_CELLS) × EndsFinal cells
+    → LookAlike (map (shown kept) cells) (map (shown states) (only (is_in_group group) store)) → length store ≤ MOST_CELLS → (length cells ≤ MOST_CELLS) × EndsFinal cells
 ready_cells kept states store group cells ends alike few =
-    let named = only (is_named group) store in (
-      omega (arith, same_length kept states cells named alike, only_fewer (is_named group) store, few),
-      same_end kept states cells named alike (only_final (is_named group) store (or_left (is_same FINAL FINAL) (is_among (named_in group) FINAL) (same_refl FINAL)) ends),
+    let named = only (is_in_group group) store in (
+      omega (arith, same_length kept states cells named alike, only_fewer (is_in_group group) store, few),
+      same_end kept states cells named alike (only_final (is_in_group group) store (or_left (is_same FINAL FINAL) (is_among (named_in group) FINAL) (same_refl FINAL)) ends),
     )
 
-pub older_named : (kept states : TagStates) (copy store : List (Cell ℕ)) (count : ℕ) (group : List (Action ℕ)) → LookAlike (map (shown kept) copy) (map (shown states) (only (is_named group) store))
+pub older_named : (kept states : TagStates) (copy store : List (Cell ℕ)) (count : ℕ) (group : List (Action ℕ)) → LookAlike (map (shown kept) copy) (map (shown states) (only (is_in_group group) store))
     → AreUpTo count store → count ≤ GREATEST_COUNT → AreUpTo GREATEST_COUNT copy
 older_named kept states copy store count group alike older le =
-    later_cells count GREATEST_COUNT copy le (same_up_to kept states count copy (only (is_named group) store) alike (only_up_to (is_named group) count store older))
+    later_cells count GREATEST_COUNT copy le (same_up_to kept states count copy (only (is_in_group group) store) alike (only_up_to (is_in_group group) count store older))
 
 -- it has what the group names
 among_append : (xs ys : List Stamp) (s : Stamp) → is_among (xs ++ ys) s ≡ (is_among xs s || is_among ys s)
 among_append xs ys s = list_any-append (λ t. is_same t s) xs ys
 
-has_stamps : (part : Portion) (ss : List Stamp) → ((s : Stamp) → is_among ss s ≡ true → part.has s ≡ true) → Has part ss
+has_stamps : (part : Portion) (ss : List Stamp) → ((s : Stamp) → is_among ss s ≡ true → part.has s ≡ true) → HasEach part ss
 has_stamps part [] h = tt
 has_stamps part (s ∷ ss) h = (h s (or_left (is_same s s) _ (same_refl s)), has_stamps part ss (λ t e. h t (or_right (is_same s t) _ e)))
 
@@ -175,21 +175,21 @@ has_group part (a ∷ group) h =
     )
 
 pub group_had : (flat : DocValue) (group : List (Action ℕ)) → HasGroup (portion_of flat group) group
-group_had flat group = has_group (portion_of flat group) group (λ s e. or_left (is_named group s) _ (or_right (is_same FINAL s) _ e))
+group_had flat group = has_group (portion_of flat group) group (λ s e. or_left (is_in_group group s) _ (or_right (is_same FINAL s) _ e))
 
 module _ (kept states : TagStates) (copy store : List (Cell ℕ)) (number count : ℕ) (offsets : Shown ℕ) (group : List (Action ℕ)) (plan : Progress) where
   abbrev named : List (Cell ℕ)
-  named = only (is_named group) store
+  named = only (is_in_group group) store
 
   pub begun_copy : IsBegun kept states copy store count offsets group plan → IsCopy kept copy plan.texts.count
   begun_copy b = record {
     states = b.given;
-    distinct = subst (IsDistinct is_same) (sym (same_stamps kept states copy named b.alike)) (only_distinct (is_named group) store b.distinct);
-    few = omega (arith, same_length kept states copy named b.alike, only_fewer (is_named group) store, b.few);
-    older = subst (λ (m : ℕ). AreUpTo m copy) (sym b.new.greatest) (same_up_to kept states count copy named b.alike (only_up_to (is_named group) count store b.older));
+    distinct = subst (IsDistinct is_same) (sym (same_stamps kept states copy named b.alike)) (only_distinct (is_in_group group) store b.distinct);
+    few = omega (arith, same_length kept states copy named b.alike, only_fewer (is_in_group group) store, b.few);
+    older = subst (λ (m : ℕ). AreUpTo m copy) (sym b.new.greatest) (same_up_to kept states count copy named b.alike (only_up_to (is_in_group group) count store b.older));
   }
 
-  pub begun_going : IsBegun kept states copy store count offsets group plan → IsGoing kept plan
+  pub begun_going : IsBegun kept states copy store count offsets group plan → IsUnderWay kept plan
   begun_going b =
       let n = b.new in
       record {
@@ -215,7 +215,7 @@ module _ (kept states : TagStates) (copy store : List (Cell ℕ)) (number count 
       record {
         cells = like;
         within = record {
-          newer = λ s lt. or_right (is_named group s) _ (let more : nat_lt flat.count s.count ≡ true = grind (arith, nat_tests, lt, of.count, n.greatest) in more);
+          newer = λ s lt. or_right (is_in_group group s) _ (let more : nat_lt flat.count s.count ≡ true = grind (arith, nat_tests, lt, of.count, n.greatest) in more);
           back = tt;
           offsets = λ s h a.
               let there : is_among (stamps_of copy) s ≡ true =
@@ -232,7 +232,7 @@ module _ (kept states : TagStates) (copy store : List (Cell ℕ)) (number count 
         drafts = ap (map body_of) (sym n.drafts);
         returns = sym n.returns;
         actions = ap (λ l. named_group kept (group_of l)) (sym n.actions);
-        changes = subst (AllByRecursion IsChange) (sym n.changes) tt;
+        changes = subst (AllByRecursion IsTextChange) (sym n.changes) tt;
         marks = ap (λ l. marks_after l flat.marks) (sym n.changes);
         tags = ap (λ l. all_listed (as_words l) flat.tags) (sym n.names);
       }
@@ -240,13 +240,13 @@ module _ (kept states : TagStates) (copy store : List (Cell ℕ)) (number count 
 -- THE END
 
 -- the group for the other stack
-pub ended_group : (table : TagStates) (number : ℕ) (copy : List (Cell ℕ)) (plan : Progress) (part : Portion) (r : Reversion) (actions : List KeptAction) → IsGoing table plan → IsSoFar table number copy plan part r
+pub ended_group : (table : TagStates) (number : ℕ) (copy : List (Cell ℕ)) (plan : Progress) (part : Portion) (r : Reversion) (actions : List KeptAction) → IsUnderWay table plan → IsSoFar table number copy plan part r
     → group_of actions ≡ with_stamps_in (now_of plan.renames) (group_of plan.actions.items) → named_group table (group_of actions) ≡ with_stamps_in (stamp_after r.returns) r.actions
 ended_group table number copy plan part r actions g s e =
     let f : now_of plan.renames ≡ stamp_after r.returns = (λ i stamp. g.now stamp i) ∙ ap stamp_after (sym s.returns) in
     ap (named_group table) e ∙ stamped_group table (now_of plan.renames) (group_of plan.actions.items)
     ∙ (λ i. with_stamps_in {T = List Word} (f i) (sym s.actions i))
 
-pub ended_given : (table : TagStates) (plan : Progress) (actions : List KeptAction) → IsGoing table plan → group_of actions ≡ with_stamps_in (now_of plan.renames) (group_of plan.actions.items)
+pub ended_given : (table : TagStates) (plan : Progress) (actions : List KeptAction) → IsUnderWay table plan → group_of actions ≡ with_stamps_in (now_of plan.renames) (group_of plan.actions.items)
     → AreGiven table (group_of actions)
 ended_given table plan actions g e = subst (AreGiven table) (sym e) (group_given table (now_of plan.renames) (group_of plan.actions.items) g.given)

@@ -12,12 +12,12 @@ use Rattle.rt_undo.specs.declared.action.Action.{Action as KeptAction}
 use Rattle.rt_undo.specs.declared.action.RemovedSpan.{RemovedSpan}
 use Rattle.rt_undo.specs.Actions.{Removed, action_of, group_of, removed_in, removed_of, removed_with}
 use Rattle.rt_revert.specs.declared.plan.Return.{Return}
-use Rattle.rt_revert.specs.Portions.{Has, HasAction, HasGroup, HasRemoved, Portion}
+use Rattle.rt_revert.specs.Portions.{HasAction, HasEach, HasGroup, HasRemoved, Portion}
 use Rattle.rt_revert.specs.Reverting.{stamp_after}
 use Rattle.rt_revert.proofs.PortionGone.{AreHad}
 use Rattle.rt_revert.proofs.Reaching.{every_parts}
 
-pub had_all : (part : Portion) (stamps : List Stamp) → Has part stamps → AreHad part.has stamps
+pub had_all : (part : Portion) (stamps : List Stamp) → HasEach part stamps → AreHad part.has stamps
 had_all part [] h s e = absurd (cc e)
 had_all part (x ∷ xs) h s e = split (is_same x s)
     (λ k. subst (λ t. part.has t ≡ true) (same_from_true x s k) h.0)
@@ -29,7 +29,7 @@ after_had part [] s h e = e
 after_had part (r ∷ returns) s h e =
     after_had part returns (cond (is_same s r.former) r.newer s) h.1 (elim (is_same s r.former) as (λ b. part.has (cond b r.newer s) ≡ true) [ true ↦ h.0 | false ↦ e ])
 
-pub all_after_had : (part : Portion) (returns : List Return) (ss : List Stamp) → AllByRecursion (λ (x : Return). part.has x.newer ≡ true) returns → Has part ss → Has part (map (stamp_after returns) ss)
+pub all_after_had : (part : Portion) (returns : List Return) (ss : List Stamp) → AllByRecursion (λ (x : Return). part.has x.newer ≡ true) returns → HasEach part ss → HasEach part (map (stamp_after returns) ss)
 all_after_had part returns [] h k = tt
 all_after_had part returns (s ∷ ss) h k = (after_had part returns s h k.0, all_after_had part returns ss h k.1)
 

@@ -14,7 +14,7 @@ use Rattle.rt_store.specs.Shown.{TaggedCell}
 use Rattle.rt_store.specs.Spans.{is_among}
 use Rattle.rt_store.proofs.Distinct.{differs, first_apart, others_distinct, split}
 use Rattle.rt_plans.specs.declared.range.Range.{Range}
-use Rattle.rt_plans.specs.Removals.{AreInOrder, gone_at, is_covered, is_in, stamps_at}
+use Rattle.rt_plans.specs.Removals.{RangesFollow, gone_at, is_covered, is_in, stamps_at}
 use Rattle.rt_revert.specs.Portions.{only, others_before, visible_before_stamp}
 use Rattle.rt_revert.specs.Reverting.{are_at, as_removed, still_visible}
 use Rattle.rt_revert.proofs.CellsParted.{place_first, place_next}
@@ -272,13 +272,13 @@ placed_all places cells d =
     ap (λ (f : Stamp → Range). map f (stamps_at places 0 cells)) (λ i s. one (sym (add-zero (visible_before_stamp cells s)) i)) ∙ placed_from places 0 cells d
 
 -- they are in order, and cover what is meant
-pub singles_order : {T : Type 0} (places : ℕ → Bool) (p q : ℕ) (cells : List (Cell T)) → q ≤ p → AreInOrder q (singles places p cells)
+pub singles_order : {T : Type 0} (places : ℕ → Bool) (p q : ℕ) (cells : List (Cell T)) → q ≤ p → RangesFollow q (singles places p cells)
 singles_order places p q [] le = tt
 singles_order {T} places p q (c ∷ cs) le =
     by (singles_order places p q cs le) (singles_order places (p + 1) (p + 1) cs (omega arith)) (singles_order places (p + 1) q cs (omega arith)) c.gone (places p)
   where
-    by : AreInOrder q (singles places p cs) → AreInOrder (p + 1) (singles places (p + 1) cs) → AreInOrder q (singles places (p + 1) cs)
-        → (g b : Bool) → AreInOrder q (cond g (singles places p cs) (cond b (one p ∷ singles places (p + 1) cs) (singles places (p + 1) cs)))
+    by : RangesFollow q (singles places p cs) → RangesFollow (p + 1) (singles places (p + 1) cs) → RangesFollow q (singles places (p + 1) cs)
+        → (g b : Bool) → RangesFollow q (cond g (singles places p cs) (cond b (one p ∷ singles places (p + 1) cs) (singles places (p + 1) cs)))
     by here next later true b = here
     by here next later false true = (le, omega arith, next)
     by here next later false false = later
@@ -352,7 +352,7 @@ singles_covered {T} stamps cells at =
     by (inr x) = outside (length (visible_of cells)) (are_at stamps cells at) x.0 ∙ sym (ap tests x.1)
 
 -- ranges in order that cover nothing past a bound end there
-pub ends_within : (ranges : List Range) (n bound : ℕ) → AreInOrder n ranges → ((p : ℕ) → is_covered ranges p ≡ true → p < bound) → All (λ (range : Range). range.to ≤ bound) ranges
+pub ends_within : (ranges : List Range) (n bound : ℕ) → RangesFollow n ranges → ((p : ℕ) → is_covered ranges p ≡ true → p < bound) → All (λ (range : Range). range.to ≤ bound) ranges
 ends_within [] n bound o h = λ k d lt. absurd (omega arith)
 ends_within (r ∷ rs) n bound o h =
     let last : is_in r (r.to - 1) ≡ true = grind (arith, nat_tests, o.1) in

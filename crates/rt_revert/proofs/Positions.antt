@@ -21,7 +21,7 @@ use Rattle.rt_store.proofs.Distinct.{first_apart, others_distinct, split}
 use Rattle.rt_store.proofs.Nearest.{position_cons}
 use Rattle.rt_store.proofs.Places.{final_last}
 use Rattle.rt_plans.proofs.CellLaws.{skip_from_newest}
-use Rattle.rt_revert.specs.Named.{AreAt, has_position, stands_at}
+use Rattle.rt_revert.specs.Named.{AreAt, has_position, is_one_at}
 use Rattle.rt_revert.specs.Portions.{only}
 use Rattle.rt_revert.proofs.CellsParted.{among_both, found_behind, parted}
 
@@ -31,7 +31,7 @@ use Rattle.rt_revert.proofs.CellsParted.{among_both, found_behind, parted}
 abbrev at_cell : {T : Type 0} → (Stamp → Bool) → List (Cell T) → ℕ → Bool
 at_cell {T} test cells at = unwrap_or (option_map (λ (cell : Cell T). test cell.stamp) (slice_get cells at)) false
 
-pub stands_more : {T : Type 0} (xs ys : List Stamp) (cells : List (Cell T)) (at : ℕ) → stands_at (xs ++ ys) cells at ≡ (stands_at xs cells at || stands_at ys cells at)
+pub stands_more : {T : Type 0} (xs ys : List Stamp) (cells : List (Cell T)) (at : ℕ) → is_one_at (xs ++ ys) cells at ≡ (is_one_at xs cells at || is_one_at ys cells at)
 stands_more {T} xs ys cells at = by (slice_get cells at)
   where
     by : (o : Option (Cell T)) → unwrap_or (option_map (λ (cell : Cell T). is_among (xs ++ ys) cell.stamp) o) false
@@ -39,7 +39,7 @@ stands_more {T} xs ys cells at = by (slice_get cells at)
     by None = refl
     by (Some c) = list_any-append (λ s. is_same s c.stamp) xs ys
 
-pub stands_none : {T : Type 0} (cells : List (Cell T)) (at : ℕ) → stands_at [] cells at ≡ false
+pub stands_none : {T : Type 0} (cells : List (Cell T)) (at : ℕ) → is_one_at [] cells at ≡ false
 stands_none {T} cells at = by (slice_get cells at)
   where
     by : (o : Option (Cell T)) → unwrap_or (option_map (λ (cell : Cell T). is_among [] cell.stamp) o) false ≡ false
@@ -50,7 +50,7 @@ or_nothing : (b : Bool) → (b || false) ≡ b
 or_nothing true = refl
 or_nothing false = refl
 
-pub nowhere : {T : Type 0} (s : Stamp) (cells : List (Cell T)) (at : ℕ) → is_among (stamps_of cells) s ≡ false → stands_at (s ∷ []) cells at ≡ false
+pub nowhere : {T : Type 0} (s : Stamp) (cells : List (Cell T)) (at : ℕ) → is_among (stamps_of cells) s ≡ false → is_one_at (s ∷ []) cells at ≡ false
 nowhere s [] at n = refl
 nowhere s (c ∷ cs) zero n = ap (λ b. b || false) (same_sym s c.stamp ∙ (or_parts (is_same c.stamp s) (is_among (stamps_of cs) s) n).0)
 nowhere s (c ∷ cs) (suc at) n = nowhere s cs at (or_parts (is_same c.stamp s) (is_among (stamps_of cs) s) n).1
@@ -65,7 +65,7 @@ no_position {T} (c ∷ cs) s h = by (is_same c.stamp s) (position_of cs s) refl 
     by false None e f k r = or_from (is_same c.stamp s) _ e (r f)
     by false (Some n) e f k r = absurd (let x : option_map suc (Some n) ≡ None = ap (option_map suc) (sym f) ∙ k in cc x)
 
-pub stands_alone : {T : Type 0} (cells : List (Cell T)) (s : Stamp) (p at : ℕ) → AreDistinct cells → position_of cells s ≡ Some p → (p == at) ≡ stands_at (s ∷ []) cells at
+pub stands_alone : {T : Type 0} (cells : List (Cell T)) (s : Stamp) (p at : ℕ) → AreDistinct cells → position_of cells s ≡ Some p → (p == at) ≡ is_one_at (s ∷ []) cells at
 stands_alone [] s p at d h = absurd (cc h)
 stands_alone {T} (c ∷ cs) s p at d h =
     by (is_same c.stamp s) (position_of cs s) at refl refl (sym (position_cons (λ (cell : Cell T). is_same cell.stamp s) c cs) ∙ h)
@@ -84,7 +84,7 @@ stands_alone {T} (c ∷ cs) s p at d h =
     here = grind (arith, nat_tests)
 
     by : (b : Bool) (o : Option ℕ) (n : ℕ) → is_same c.stamp s ≡ b → position_of cs s ≡ o → cond b (Some 0) (option_map suc (position_of cs s)) ≡ Some p
-        → ((q m : ℕ) → position_of cs s ≡ Some q → (q == m) ≡ stands_at (s ∷ []) cs m) → (p == n) ≡ stands_at (s ∷ []) (c ∷ cs) n
+        → ((q m : ℕ) → position_of cs s ≡ Some q → (q == m) ≡ is_one_at (s ∷ []) cs m) → (p == n) ≡ is_one_at (s ∷ []) (c ∷ cs) n
     by true o zero e f k r =
         let z : 0 ≡ p = cc k in
         ap (λ m. m == 0) (sym z) ∙ here ∙ sym (or_left (is_same s c.stamp) false (same_sym s c.stamp ∙ e))
@@ -238,7 +238,7 @@ where_stand {X} has k all (c ∷ cs) h = by (has c.stamp) (where_stand has (k + 
     by false r = r
 
 -- positions in order that are those of some stamps
-pub named_stand : {T : Type 0} (stamps : List Stamp) (cells : List (Cell T)) (ps : List ℕ) → IsStrictlyIncreasing ps → ((at : ℕ) → has_position ps at ≡ stands_at stamps cells at)
+pub named_stand : {T : Type 0} (stamps : List Stamp) (cells : List (Cell T)) (ps : List ℕ) → IsStrictlyIncreasing ps → ((at : ℕ) → has_position ps at ≡ is_one_at stamps cells at)
     → AreAt cells ps (only (is_among stamps) cells)
 named_stand stamps cells ps r h =
     let same : ps ≡ positions_where (is_among stamps) 0 cells =
@@ -255,24 +255,24 @@ or_three : (a b d : Bool) → ((a || b) || d) ≡ (a || (b || d))
 or_three true b d = refl
 or_three false b d = refl
 
-pub held_step : {T : Type 0} (old new : List ℕ) (here rest : List Stamp) (cells : List (Cell T)) (at : ℕ) → has_position new at ≡ (has_position old at || stands_at here cells at)
-    → (has_position new at || stands_at rest cells at) ≡ (has_position old at || stands_at (here ++ rest) cells at)
+pub held_step : {T : Type 0} (old new : List ℕ) (here rest : List Stamp) (cells : List (Cell T)) (at : ℕ) → has_position new at ≡ (has_position old at || is_one_at here cells at)
+    → (has_position new at || is_one_at rest cells at) ≡ (has_position old at || is_one_at (here ++ rest) cells at)
 held_step old new here rest cells at h =
-    ap (λ b. b || stands_at rest cells at) h ∙ or_three (has_position old at) (stands_at here cells at) (stands_at rest cells at)
+    ap (λ b. b || is_one_at rest cells at) h ∙ or_three (has_position old at) (is_one_at here cells at) (is_one_at rest cells at)
     ∙ ap (λ b. has_position old at || b) (sym (stands_more here rest cells at))
 
-pub held_last : {T : Type 0} (ps : List ℕ) (cells : List (Cell T)) (at : ℕ) → has_position ps at ≡ (has_position ps at || stands_at [] cells at)
+pub held_last : {T : Type 0} (ps : List ℕ) (cells : List (Cell T)) (at : ℕ) → has_position ps at ≡ (has_position ps at || is_one_at [] cells at)
 held_last ps cells at = sym (ap (λ b. has_position ps at || b) (stands_none cells at) ∙ or_nothing (has_position ps at))
 
 -- one position
-pub held_one : {T : Type 0} (cells : List (Cell T)) (p : ℕ) (s : Stamp) (at : ℕ) → AreDistinct cells → position_of cells s ≡ Some p → has_position (p ∷ []) at ≡ stands_at (s ∷ []) cells at
+pub held_one : {T : Type 0} (cells : List (Cell T)) (p : ℕ) (s : Stamp) (at : ℕ) → AreDistinct cells → position_of cells s ≡ Some p → has_position (p ∷ []) at ≡ is_one_at (s ∷ []) cells at
 held_one cells p s at d h = or_nothing (p == at) ∙ stands_alone cells s p at d h
 
 pub held_found : {T : Type 0} (cells : List (Cell T)) (ps qs : List ℕ) (p : ℕ) (s : Stamp) (at : ℕ) → AreDistinct cells → position_of cells s ≡ Some p → qs ≡ ps ++ p ∷ []
-    → has_position qs at ≡ (has_position ps at || stands_at (s ∷ []) cells at)
+    → has_position qs at ≡ (has_position ps at || is_one_at (s ∷ []) cells at)
 held_found cells ps qs p s at d h e = ap (λ l. has_position l at) e ∙ held_more ps (p ∷ []) at ∙ ap (λ b. has_position ps at || b) (held_one cells p s at d h)
 
-pub held_none : {T : Type 0} (cells : List (Cell T)) (ps : List ℕ) (s : Stamp) (at : ℕ) → position_of cells s ≡ None → has_position ps at ≡ (has_position ps at || stands_at (s ∷ []) cells at)
+pub held_none : {T : Type 0} (cells : List (Cell T)) (ps : List ℕ) (s : Stamp) (at : ℕ) → position_of cells s ≡ None → has_position ps at ≡ (has_position ps at || is_one_at (s ∷ []) cells at)
 held_none cells ps s at h = sym (ap (λ b. has_position ps at || b) (nowhere s cells at (no_position cells s h)) ∙ or_nothing (has_position ps at))
 
 -- a cell is none of those in front of it

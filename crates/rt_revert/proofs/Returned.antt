@@ -37,11 +37,11 @@ use Rattle.rt_undo.specs.Actions.{Removed, group_of}
 use Rattle.rt_undo.specs.Renames.{is_moved, now_of, replaced}
 use Rattle.rt_revert.specs.declared.plan.TextChange.TheVariants.{Inserted}
 use Rattle.rt_revert.specs.declared.progress.Progress.{Progress}
-use Rattle.rt_revert.specs.Plans.{AreGiven, AreUpTo, IsChange, marks_after, named_group}
+use Rattle.rt_revert.specs.Plans.{AreGiven, AreUpTo, IsTextChange, marks_after, named_group}
 use Rattle.rt_revert.specs.declared.plan.Return.{Return}
 use Rattle.rt_revert.specs.Portions.{Portion, offset_behind, offset_of, only, others_before}
-use Rattle.rt_revert.specs.Progress.{IsCopy, IsGoing, IsOther, IsSoFar, LookAlike}
-use Rattle.rt_revert.specs.Reverting.{Reversion, gone_cell_of, stamp_after, with_character, with_return}
+use Rattle.rt_revert.specs.Progress.{IsCopy, IsOther, IsSoFar, IsUnderWay, LookAlike}
+use Rattle.rt_revert.specs.Reverting.{Reversion, gone_cell_of, stamp_after, with_insertion, with_return}
 use Rattle.rt_revert.proofs.Alike.{alike_character, alike_place, alike_put, alike_stamps, character, character_shown, place_shown, put_shown}
 use Rattle.rt_revert.proofs.CellsParted.{put_among, put_distinct}
 use Rattle.rt_revert.proofs.Counted.{all_below, later_cells, new_up_to, put_up_to, up_to}
@@ -115,7 +115,7 @@ module _ (site : ℕ) (table : TagStates) (old new : List (Cell ℕ)) (before af
   small true false n m h k = h
   small false b n m h k = k
 
-  pub came_going : Came site table old new before after cell place words → IsThere table old cell → IsCopy table old before.texts.count → IsGoing table before → IsGoing table after
+  pub came_going : Came site table old new before after cell place words → IsThere table old cell → IsCopy table old before.texts.count → IsUnderWay table before → IsUnderWay table after
   came_going h t k g =
       let more : before.texts.count + 1 ≤ after.texts.count = omega (arith, h.count) in
       record {
@@ -147,7 +147,7 @@ module _ (site : ℕ) (table : TagStates) (old new : List (Cell ℕ)) (before af
       record { names = λ i. record { stamp = record { count = sym n i + 1; site = sym s i }; ch = cell.ch; gone = false; state = state i } ∷ [] }
 
   pub came_so_far : Came site table old new before after cell place words → IsThere table old cell → (part : Portion) (r : Reversion) → part.has cell.stamp ≡ true
-      → IsSoFar table site old before part r → IsSoFar table site new after part (with_character cell.stamp (names_on (state_at table cell.state)) cell.ch r)
+      → IsSoFar table site old before part r → IsSoFar table site new after part (with_insertion cell.stamp (names_on (state_at table cell.state)) cell.ch r)
   came_so_far h t part r had s =
       let tags = names_on (state_at table cell.state) in
       let all : List TaggedCell = map (shown table) old in
@@ -168,7 +168,7 @@ module _ (site : ℕ) (table : TagStates) (old new : List (Cell ℕ)) (before af
       sym (alike_place all ours cell.stamp s.cells) ∙ place_shown (state_at table) old cell.stamp ∙ sym h.at in
       let spot : visible_before whole (after_element whole cell.stamp) ≡ place + offset_behind before.offsets cell.stamp =
       spot_law part.has whole cell.stamp had there ∙ (λ i. ours_at i + offset i) in
-      let change : IsChange (Inserted (place + offset_behind before.offsets cell.stamp)) =
+      let change : IsTextChange (Inserted (place + offset_behind before.offsets cell.stamp)) =
       omega (arith, spot, fewer (take (after_element whole cell.stamp) whole), length-take (after_element whole cell.stamp) whole, s.within.few, h.count, h.most) in
       let up : before.texts.count + 1 ≤ after.texts.count = omega (arith, h.count) in
       record {
@@ -198,7 +198,7 @@ module _ (site : ℕ) (table : TagStates) (old new : List (Cell ℕ)) (before af
         drafts = (λ i. s.drafts i ++ text_drafts MOST_CHARACTERS (s.site i) (s.count i) cell.stamp (sym h.is i) (cell.ch ∷ [])) ∙ sym h.drafts;
         returns = (λ i. s.returns i ++ record { former = cell.stamp; newer = record { count = s.count i + 1; site = s.site i } } ∷ []) ∙ sym h.returns;
         actions = s.actions ∙ ap (λ v. named_group table (group_of v.items)) (sym h.actions);
-        changes = subst (AllByRecursion IsChange) (sym h.changes) (every_append IsChange before.changes.items (Inserted (place + offset_behind before.offsets cell.stamp) ∷ []) s.changes (change, tt));
+        changes = subst (AllByRecursion IsTextChange) (sym h.changes) (every_append IsTextChange before.changes.items (Inserted (place + offset_behind before.offsets cell.stamp) ∷ []) s.changes (change, tt));
         marks = (λ i. marks_inserted (spot i) 1 (s.marks i)) ∙ sym (after_more before.changes.items (Inserted (place + offset_behind before.offsets cell.stamp)) part.doc.marks)
             ∙ ap (λ l. marks_after l part.doc.marks) (sym h.changes);
         tags = ap (all_listed tags) s.tags ∙ ap (λ l. all_listed l (all_listed (as_words before.names.items) part.doc.tags)) (sym h.is)
@@ -213,7 +213,7 @@ module _ (site : ℕ) (table : TagStates) (old new : List (Cell ℕ)) (before af
   goes_directly k = skip_from_newest before.texts.count old cell.stamp this.stamp refl (all_below before.texts.count old k.older)
 
 -- a stamp that is newer than all hasn't moved
-pub unmoved : (table : TagStates) (plan : Progress) (s : Stamp) → IsGoing table plan → plan.texts.count < s.count → is_moved plan.renames s ≡ false
+pub unmoved : (table : TagStates) (plan : Progress) (s : Stamp) → IsUnderWay table plan → plan.texts.count < s.count → is_moved plan.renames s ≡ false
 unmoved table plan s g lt = split (is_moved plan.renames s) (λ e. absurd (omega (arith, g.moved s e, lt))) (λ e. e)
 
 -- A CHARACTER THAT MAY BE THERE
@@ -224,7 +224,7 @@ brought whole r (Some cell) = refl
 
 pub return_is : (table : TagStates) (site : ℕ) (old : List (Cell ℕ)) (plan : Progress) (part : Portion) (r : Reversion) (removed : Removed (List Word)) (s : Stamp) (o : Option (Cell ℕ))
     → part.has removed.stamp ≡ true → IsSoFar table site old plan part r → stamp_after plan.returns.items removed.stamp ≡ s → gone_cell_of old s ≡ o
-    → with_return removed r ≡ unwrap_or (option_map (λ ch. with_character s removed.tags ch r) (character o)) r
+    → with_return removed r ≡ unwrap_or (option_map (λ ch. with_insertion s removed.tags ch r) (character o)) r
 return_is table site old plan part r removed s o had h e f =
     let all : List TaggedCell = map (shown table) old in
     let ours = only part.has r.doc.cells in
@@ -232,9 +232,9 @@ return_is table site old plan part r removed s o had h e f =
     let has : part.has s ≡ true = ap part.has (sym same) ∙ after_had part r.returns removed.stamp h.within.back had in
     let theirs : character (gone_cell_of r.doc.cells s) ≡ character o =
     ap character (sym (only_gone_cell part.has r.doc.cells s has)) ∙ sym (alike_character all ours s h.cells) ∙ character_shown (state_at table) old s ∙ ap character f in
-    ap (λ t. unwrap_or (option_map (λ (cell : TaggedCell). with_character t removed.tags cell.ch r) (gone_cell_of r.doc.cells t)) r) same
-    ∙ brought (λ ch. with_character s removed.tags ch r) r (gone_cell_of r.doc.cells s)
-    ∙ ap (λ o. unwrap_or (option_map (λ ch. with_character s removed.tags ch r) o) r) theirs
+    ap (λ t. unwrap_or (option_map (λ (cell : TaggedCell). with_insertion t removed.tags cell.ch r) (gone_cell_of r.doc.cells t)) r) same
+    ∙ brought (λ ch. with_insertion s removed.tags ch r) r (gone_cell_of r.doc.cells s)
+    ∙ ap (λ o. unwrap_or (option_map (λ ch. with_insertion s removed.tags ch r) o) r) theirs
 
 -- the stamp that a removed character has by then
 pub stamp_had : (table : TagStates) (site : ℕ) (old : List (Cell ℕ)) (plan : Progress) (part : Portion) (r : Reversion) (s t : Stamp)

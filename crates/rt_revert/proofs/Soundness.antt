@@ -18,10 +18,10 @@ use Rattle.rt_rga.specs.Cells.{cells_of}
 use Rattle.rt_rga.specs.Histories.{IsHistory}
 use Rattle.rt_plans.specs.DraftLaws.{AreTagNames}
 use Rattle.rt_plans.proofs.TagNames.{cells_have_names}
-use Rattle.rt_undo.specs.Actions.{Action, Removed, with_stamp}
+use Rattle.rt_undo.specs.Actions.{Action, Removed, restamped_one}
 use Rattle.rt_undo.specs.Undo.{with_stamps_in}
 use Rattle.rt_revert.specs.Reverting.{Return, as_removed, stamp_after, still_visible}
-use Rattle.rt_revert.specs.ReversionLaws.{AreSound, MayReturn}
+use Rattle.rt_revert.specs.ReversionLaws.{AllMayRevert, MayReturn}
 use Rattle.rt_revert.proofs.Stamps.{IsApart, after_apart, all_apart}
 
 -- WHAT CAME BACK
@@ -68,11 +68,11 @@ names_of_cells log cells h e = subst (AllByRecursion HasNames) (sym e) (recursio
 -- UNDER THE STAMPS OF NOW
 
 removed_renamed : (returns : List Return) (removed : List (Removed (List Word))) → AllByRecursion IsApart returns → AllByRecursion MayReturn removed
-    → AllByRecursion MayReturn (map (with_stamp (stamp_after returns)) removed)
+    → AllByRecursion MayReturn (map (restamped_one (stamp_after returns)) removed)
 removed_renamed returns [] h k = tt
 removed_renamed returns (r ∷ removed) h k = (record { stamp = after_apart returns r.stamp h k.0.stamp; tags = k.0.tags }, removed_renamed returns removed h k.1)
 
-pub group_renamed : (returns : List Return) (group : List (Action (List Word))) → AllByRecursion IsApart returns → AreSound group → AreSound (with_stamps_in (stamp_after returns) group)
+pub group_renamed : (returns : List Return) (group : List (Action (List Word))) → AllByRecursion IsApart returns → AllMayRevert group → AllMayRevert (with_stamps_in (stamp_after returns) group)
 group_renamed returns [] h k = tt
 group_renamed returns (action ∷ group) h k = (
   record { inserted = all_apart returns action.inserted h k.0.inserted; removed = removed_renamed returns action.removed h k.0.removed },

@@ -8,7 +8,7 @@ use Rattle.rt_stamps.specs.declared.stamp.Stamp.{Stamp}
 use Rattle.rt_ops.specs.Operations.{stamps_from, stamps_in, stamps_of_span}
 use Rattle.rt_store.specs.declared.cell.Cell.{Cell}
 use Rattle.rt_plans.specs.declared.range.Range.{Range}
-use Rattle.rt_plans.specs.Removals.{AreInOrder, is_covered, is_in}
+use Rattle.rt_plans.specs.Removals.{RangesFollow, is_covered, is_in}
 use Rattle.rt_revert.specs.Planning.{is_behind, range_at, ranges_of_visible, visible_place}
 
 or_left_assoc : (a b d : Bool) → ((a || b) || d) ≡ (a || (b || d))
@@ -75,7 +75,7 @@ placed_alone front place at = covered_append front (record { from = place; to = 
 
 -- ranges in order stay so where the last one is longer
 pub order_joined : (front : List Range) (last : Range) (place : ℕ) (more : List Range) (n : ℕ) → is_behind last place ≡ true
-    → AreInOrder n (((front ++ last ∷ []) ++ record { from = place; to = place + 1 } ∷ []) ++ more) → AreInOrder n ((front ++ record { from = last.from; to = place + 1 } ∷ []) ++ more)
+    → RangesFollow n (((front ++ last ∷ []) ++ record { from = place; to = place + 1 } ∷ []) ++ more) → RangesFollow n ((front ++ record { from = last.from; to = place + 1 } ∷ []) ++ more)
 order_joined [] last place more n e h =
     let le : last.from ≤ place = omega (arith, h.1, h.2.0) in
     (h.0, omega (arith, le), h.2.2)

@@ -31,8 +31,8 @@ use Rattle.rt_plans.specs.RemovalDrafts.{removal_drafts}
 use Rattle.rt_plans.proofs.InsertRules.{text_is_counted, text_is_made, text_may}
 use Rattle.rt_plans.proofs.RemovalDraftLaws.{removal_made, removal_may}
 use Rattle.rt_undo.specs.Actions.{Action, Removed}
-use Rattle.rt_revert.specs.Reverting.{Reversion, are_at, as_it_is, gone_cell_of, next_in, reversion, reverted_group, since, stamp_after, still_visible, with_character, with_copy, with_each_reverted, with_gone, with_return, with_returns, with_reverted}
-use Rattle.rt_revert.specs.ReversionLaws.{AreSound, IsSound, MayReturn}
+use Rattle.rt_revert.specs.Reverting.{Reversion, are_at, as_it_is, gone_cell_of, next_in, reversion, reverted_group, since, stamp_after, still_visible, with_copy, with_each_reverted, with_insertion, with_removal, with_return, with_returns, with_reverted}
+use Rattle.rt_revert.specs.ReversionLaws.{AllMayRevert, MayReturn, MayRevert}
 use Rattle.rt_revert.proofs.Endings.{spares_final}
 use Rattle.rt_revert.proofs.Scalars.{HasScalar, cells_have_scalars}
 use Rattle.rt_revert.proofs.Soundness.{group_renamed, names_of_cells, since_apart, went_sound}
@@ -44,12 +44,12 @@ pub record IsOnWay (site : ℕ) (log : List Operation) (r : Reversion) : Type 0 
   pub history : IsHistory (with_drafts site r.drafts log)
   pub document : IsDocument site (with_drafts site r.drafts log) r.doc
   pub apart : AllByRecursion IsApart r.returns
-  pub sound : AreSound r.actions
+  pub sound : AllMayRevert r.actions
 
 -- CHARACTERS THAT GO
 
 pub gone_step : (site : ℕ) (log : List Operation) (stamps : List Stamp) (r : Reversion) → 0 < site → IsOnWay site log r → is_among stamps FINAL ≡ false
-    → (with_gone stamps r).doc.count ≤ GREATEST_COUNT → IsOnWay site log (with_gone stamps r)
+    → (with_removal stamps r).doc.count ≤ GREATEST_COUNT → IsOnWay site log (with_removal stamps r)
 gone_step site log stamps r p h n l =
     let places = are_at stamps r.doc.cells in
     let more = with_drafts site r.drafts log in
@@ -89,8 +89,8 @@ text_step site log flat stamp tags text p h doc n t e l =
     (record { history = made.history; cells = put ∙ sym made.cells; count = counted ∙ sym (text_is_counted site log stamp tags text) })
 
 character_step : (site : ℕ) (log : List Operation) (stamp : Stamp) (tags : List Word) (cell : TaggedCell) (r : Reversion) → 0 < site → IsOnWay site log r
-    → is_same stamp FINAL ≡ false → AreTagNames tags → cell_of r.doc.cells stamp ≡ Some cell → (with_character stamp tags cell.ch r).doc.count ≤ GREATEST_COUNT
-    → IsOnWay site log (with_character stamp tags cell.ch r)
+    → is_same stamp FINAL ≡ false → AreTagNames tags → cell_of r.doc.cells stamp ≡ Some cell → (with_insertion stamp tags cell.ch r).doc.count ≤ GREATEST_COUNT
+    → IsOnWay site log (with_insertion stamp tags cell.ch r)
 character_step site log stamp tags cell r p h n t e l =
     let more = with_drafts site r.drafts log in
     let text = cell.ch ∷ [] in
@@ -121,7 +121,7 @@ character_step site log stamp tags cell r p h n t e l =
 
 -- a character that comes back, if there is one
 abbrev brought : Stamp → List Word → Option TaggedCell → Reversion → Reversion
-brought stamp tags o r = unwrap_or (option_map (λ (cell : TaggedCell). with_character stamp tags cell.ch r) o) r
+brought stamp tags o r = unwrap_or (option_map (λ (cell : TaggedCell). with_insertion stamp tags cell.ch r) o) r
 
 pub return_step : (site : ℕ) (log : List Operation) (removed : Removed (List Word)) (r : Reversion) → 0 < site → IsOnWay site log r → MayReturn removed
     → (with_return removed r).doc.count ≤ GREATEST_COUNT → IsOnWay site log (with_return removed r)
@@ -147,13 +147,13 @@ pub returns_grow : (removed : List (Removed (List Word))) (r : Reversion) → r.
 returns_grow [] r = omega arith
 returns_grow (x ∷ more) r = omega (arith, return_grows x r, returns_grow more (with_return x r))
 
-gone_grows : (stamps : List Stamp) (r : Reversion) → r.doc.count ≤ (with_gone stamps r).doc.count
+gone_grows : (stamps : List Stamp) (r : Reversion) → r.doc.count ≤ (with_removal stamps r).doc.count
 gone_grows stamps r = omega arith
 
 pub action_grows : (action : Action (List Word)) (r : Reversion) → r.doc.count ≤ (with_reverted action r).doc.count
 action_grows action r =
     let stamps = map (stamp_after r.returns) action.inserted in
-    omega (arith, gone_grows stamps r, returns_grow action.removed (with_gone stamps r))
+    omega (arith, gone_grows stamps r, returns_grow action.removed (with_removal stamps r))
 
 pub all_grow : (actions : List (Action (List Word))) (r : Reversion) → r.doc.count ≤ (with_each_reverted actions r).doc.count
 all_grow [] r = omega arith
@@ -169,11 +169,11 @@ returns_step site log (x ∷ more) r p h c l =
     let few : next.doc.count ≤ GREATEST_COUNT = omega (arith, returns_grow more next, l) in
     returns_step site log more next p (return_step site log x r p h c.0 few) c.1 l
 
-pub action_step : (site : ℕ) (log : List Operation) (action : Action (List Word)) (r : Reversion) → 0 < site → IsOnWay site log r → IsSound action
+pub action_step : (site : ℕ) (log : List Operation) (action : Action (List Word)) (r : Reversion) → 0 < site → IsOnWay site log r → MayRevert action
     → (with_reverted action r).doc.count ≤ GREATEST_COUNT → IsOnWay site log (with_reverted action r)
 action_step site log action r p h c l =
     let stamps = map (stamp_after r.returns) action.inserted in
-    let left = with_gone stamps r in
+    let left = with_removal stamps r in
     let few : left.doc.count ≤ GREATEST_COUNT = omega (arith, returns_grow action.removed left, l) in
     let apart = all_apart r.returns action.inserted h.apart c.inserted in
     let gone = gone_step site log stamps r p h apart few in
@@ -181,10 +181,10 @@ action_step site log action r p h c l =
     let all = with_returns action.removed left in
     let names = names_of_cells (with_drafts site r.drafts log) r.doc.cells h.history h.document.cells in
     let new : Action (List Word) = record { number = action.number; kind = action.kind; inserted = since r all; removed = still_visible stamps r.doc.cells } in
-    let fine : IsSound new = record { inserted = since_apart (length r.returns) all.returns back.apart; removed = went_sound stamps r.doc.cells apart names } in
-    record { may = back.may; history = back.history; document = back.document; apart = back.apart; sound = every_append IsSound r.actions (new ∷ []) h.sound (fine, tt) }
+    let fine : MayRevert new = record { inserted = since_apart (length r.returns) all.returns back.apart; removed = went_sound stamps r.doc.cells apart names } in
+    record { may = back.may; history = back.history; document = back.document; apart = back.apart; sound = every_append MayRevert r.actions (new ∷ []) h.sound (fine, tt) }
 
-all_steps : (site : ℕ) (log : List Operation) (actions : List (Action (List Word))) (r : Reversion) → 0 < site → IsOnWay site log r → AreSound actions
+all_steps : (site : ℕ) (log : List Operation) (actions : List (Action (List Word))) (r : Reversion) → 0 < site → IsOnWay site log r → AllMayRevert actions
     → (with_each_reverted actions r).doc.count ≤ GREATEST_COUNT → IsOnWay site log (with_each_reverted actions r)
 all_steps site log [] r p h c l = h
 all_steps site log (action ∷ actions) r p h c l =
@@ -198,21 +198,21 @@ pub all_reversed : {X : Type 0} (P : X → Type 0) (xs : List X) → AllByRecurs
 all_reversed P [] h = tt
 all_reversed P (x ∷ xs) h = subst (AllByRecursion P) (sym (reverse-cons x xs)) (every_append P (reverse xs) (x ∷ []) (all_reversed P xs h.1) (h.0, tt))
 
-pub on_way : (site : ℕ) (log : List Operation) (flat : DocValue) (group : List (Action (List Word))) → 0 < site → IsHistory log → IsDocument site log flat → AreSound group
+pub on_way : (site : ℕ) (log : List Operation) (flat : DocValue) (group : List (Action (List Word))) → 0 < site → IsHistory log → IsDocument site log flat → AllMayRevert group
     → (reversion flat group).doc.count ≤ GREATEST_COUNT → IsOnWay site log (reversion flat group)
 on_way site log flat group p h doc s l =
-    all_steps site log (reverse group) (as_it_is flat) p (record { may = tt; history = h; document = doc; apart = tt; sound = tt }) (all_reversed IsSound group s) l
+    all_steps site log (reverse group) (as_it_is flat) p (record { may = tt; history = h; document = doc; apart = tt; sound = tt }) (all_reversed MayRevert group s) l
 
-pub reversion_may : (site : ℕ) (log : List Operation) (flat : DocValue) (group : List (Action (List Word))) → 0 < site → IsHistory log → IsDocument site log flat → AreSound group
+pub reversion_may : (site : ℕ) (log : List Operation) (flat : DocValue) (group : List (Action (List Word))) → 0 < site → IsHistory log → IsDocument site log flat → AllMayRevert group
     → (reversion flat group).doc.count ≤ GREATEST_COUNT → MayBeMade site log (reversion flat group).drafts
 reversion_may site log flat group p h doc s l = (on_way site log flat group p h doc s l).may
 
-pub reversion_made : (site : ℕ) (log : List Operation) (flat : DocValue) (group : List (Action (List Word))) → 0 < site → IsHistory log → IsDocument site log flat → AreSound group
+pub reversion_made : (site : ℕ) (log : List Operation) (flat : DocValue) (group : List (Action (List Word))) → 0 < site → IsHistory log → IsDocument site log flat → AllMayRevert group
     → (reversion flat group).doc.count ≤ GREATEST_COUNT → IsDocument site (with_drafts site (reversion flat group).drafts log) (reversion flat group).doc
 reversion_made site log flat group p h doc s l = (on_way site log flat group p h doc s l).document
 
-pub reversion_sound : (site : ℕ) (log : List Operation) (flat : DocValue) (group : List (Action (List Word))) → 0 < site → IsHistory log → IsDocument site log flat → AreSound group
-    → (reversion flat group).doc.count ≤ GREATEST_COUNT → AreSound (reverted_group flat group)
+pub reversion_sound : (site : ℕ) (log : List Operation) (flat : DocValue) (group : List (Action (List Word))) → 0 < site → IsHistory log → IsDocument site log flat → AllMayRevert group
+    → (reversion flat group).doc.count ≤ GREATEST_COUNT → AllMayRevert (reverted_group flat group)
 reversion_sound site log flat group p h doc s l =
     let w = on_way site log flat group p h doc s l in
     group_renamed (reversion flat group).returns (reversion flat group).actions w.apart w.sound

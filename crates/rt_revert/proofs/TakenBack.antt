@@ -32,10 +32,10 @@ use Rattle.rt_plans.proofs.InsertDraftLaws.{put_behind}
 use Rattle.rt_plans.proofs.LastNames.{Rise, new_names, rise_to, sorted_filter}
 use Rattle.rt_plans.proofs.RemovedText.{text_left}
 use Rattle.rt_plans.proofs.TagNames.{AreNamed, CellsNamed, every_named}
-use Rattle.rt_undo.specs.Actions.{Action, with_stamp}
+use Rattle.rt_undo.specs.Actions.{Action, restamped_one}
 use Rattle.rt_undo.specs.Renames.{replaced}
 use Rattle.rt_undo.specs.Undo.{with_stamps_in}
-use Rattle.rt_revert.specs.Reverting.{Return, Reversion, are_at, as_it_is, as_removed, gone_cell_of, reverted, reverted_group, stamp_after, still_visible, with_character, with_each_reverted, with_gone, with_return, with_returns, with_reverted}
+use Rattle.rt_revert.specs.Reverting.{Return, Reversion, are_at, as_it_is, as_removed, gone_cell_of, reverted, reverted_group, stamp_after, still_visible, with_each_reverted, with_insertion, with_removal, with_return, with_returns, with_reverted}
 
 -- INSERTIONS
 
@@ -47,8 +47,8 @@ insertion_back flat action none =
     let r = as_it_is flat in
     let stamps = map (stamp_after []) action.inserted in
     ap (λ group. text_of (with_each_reverted group r).doc.cells) (one_reversed action)
-    ∙ ap (λ removed. text_of (with_returns removed (with_gone stamps r)).doc.cells) none
-    ∙ ap (λ stamps. text_of (with_gone stamps r).doc.cells) (map-id action.inserted)
+    ∙ ap (λ removed. text_of (with_returns removed (with_removal stamps r)).doc.cells) none
+    ∙ ap (λ stamps. text_of (with_removal stamps r).doc.cells) (map-id action.inserted)
     ∙ text_left (are_at action.inserted flat.cells) 0 flat.cells
 
 -- REMOVALS
@@ -138,7 +138,7 @@ module _ (places : ℕ → Bool) (p : ℕ) (pre : List TaggedCell) (c : TaggedCe
   new = new_cell r.doc.site r.doc.count (names_on c.state) c.ch
 
   abbrev next : Reversion
-  next = with_character c.stamp (names_on c.state) c.ch r
+  next = with_insertion c.stamp (names_on c.state) c.ch r
 
   abbrev before : List TaggedCell
   before = (pre ++ left ∷ []) ++ new ∷ []
@@ -151,8 +151,8 @@ module _ (places : ℕ → Bool) (p : ℕ) (pre : List TaggedCell) (c : TaggedCe
       let is_there : cell_of r.doc.cells c.stamp ≡ Some left = ap (λ l. cell_of l c.stamp) whole ∙ cell_behind pre left rest (h.apart c.stamp same) in
       let found : gone_cell_of r.doc.cells c.stamp ≡ Some left =
       ap (option_and_then (λ (cell : TaggedCell). cond cell.gone (Some cell) None)) is_there ∙ ap (λ b. cond b (Some left) None) q in
-      ap (λ s. unwrap_or (option_map (λ (cell : TaggedCell). with_character s (names_on c.state) cell.ch r) (gone_cell_of r.doc.cells s)) r) (h.still c.stamp same)
-      ∙ ap (λ o. unwrap_or (option_map (λ (cell : TaggedCell). with_character c.stamp (names_on c.state) cell.ch r) o) r) found
+      ap (λ s. unwrap_or (option_map (λ (cell : TaggedCell). with_insertion s (names_on c.state) cell.ch r) (gone_cell_of r.doc.cells s)) r) (h.still c.stamp same)
+      ∙ ap (λ o. unwrap_or (option_map (λ (cell : TaggedCell). with_insertion c.stamp (names_on c.state) cell.ch r) o) r) found
 
   part_next : c.gone ≡ false → IsPart places p pre (c ∷ cs) r → IsPart places (p + 1) before cs next
   part_next e h =
@@ -248,7 +248,7 @@ taken_back : (site : ℕ) (log : List Operation) (flat less : DocValue) (places 
 taken_back site log flat less places action p h doc lacks none rem =
     let r = as_it_is less in
     let removed = map as_removed (cells_at places 0 flat.cells) in
-    let start = with_gone action.inserted r in
+    let start = with_removal action.inserted r in
     let fewer : HaveNone action.inserted less.cells =
     subst (HaveNone action.inserted) (sym lacks.cells) (λ s k. none s (subst (λ (l : List Stamp). is_among l s ≡ true) (stamps_gone places 0 flat.cells) k)) in
     let part : IsPart places 0 [] flat.cells start = record {
@@ -263,8 +263,8 @@ taken_back site log flat less places action p h doc lacks none rem =
       named = rise_all flat.cells (subst CellsNamed (sym doc.cells) (every_named log h));
     } in
     ap (λ group. tagged_text (with_each_reverted group r).doc.cells) (one_reversed action)
-    ∙ ap (λ l. tagged_text (with_returns l (with_gone (map (stamp_after []) action.inserted) r)).doc.cells) rem
-    ∙ ap (λ ss. tagged_text (with_returns removed (with_gone ss r)).doc.cells) (map-id action.inserted)
+    ∙ ap (λ l. tagged_text (with_returns l (with_removal (map (stamp_after []) action.inserted) r)).doc.cells) rem
+    ∙ ap (λ ss. tagged_text (with_returns removed (with_removal ss r)).doc.cells) (map-id action.inserted)
     ∙ back places flat.cells 0 [] start part
 
 pub removal_back : (site : ℕ) (log : List Operation) (flat : DocValue) (places : ℕ → Bool) (action : Action (List Word)) → 0 < site → IsHistory log → IsDocument site log flat
@@ -298,7 +298,7 @@ redone site log flat action p h doc =
     let places = are_at stamps flat.cells in
     let text : Reversion → List TaggedCharacter = λ r. tagged_text (reverted (logged flat r.drafts r.doc) (with_stamps_in (stamp_after r.returns) r.actions)).cells in
     let r = with_reverted undone (as_it_is flat) in
-    let again : Action (List Word) = record { number = action.number; kind = action.kind; inserted = []; removed = map (with_stamp (stamp_after [])) (still_visible stamps flat.cells) } in
+    let again : Action (List Word) = record { number = action.number; kind = action.kind; inserted = []; removed = map (restamped_one (stamp_after [])) (still_visible stamps flat.cells) } in
     ap (λ group. text (with_each_reverted group (as_it_is flat))) (one_reversed undone)
     ∙ taken_back site log flat (logged flat r.drafts r.doc) places again p h doc (record { cells = refl; site = refl; count = omega arith }) (λ s k. refl)
     (map-id (still_visible stamps flat.cells) ∙ still_is stamps flat.cells)

@@ -35,7 +35,7 @@ use Rattle.rt_plans.specs.declared.range.Range.{Range}
 use Rattle.rt_plans.specs.Insertions.{all_listed}
 use Rattle.rt_plans.specs.NamedSpans.{parts_for, parts_of, spans_in}
 use Rattle.rt_plans.specs.RemovalDrafts.{removal_drafts}
-use Rattle.rt_plans.specs.Removals.{AreInOrder, cells_at, gone_at, is_covered, operations_for, span_count, stamps_at}
+use Rattle.rt_plans.specs.Removals.{RangesFollow, cells_at, gone_at, is_covered, operations_for, span_count, stamps_at}
 use Rattle.rt_plans.proofs.DistinctLaws.{distinct_at}
 use Rattle.rt_plans.proofs.GoneLaws.{gone_from_spans}
 use Rattle.rt_plans.proofs.NamedSpanLaws.{length_parts, spans_counted}
@@ -47,10 +47,10 @@ use Rattle.rt_revert.specs.declared.losses.Losses.{Losses}
 use Rattle.rt_revert.specs.declared.plan.TextChange.{TextChange}
 use Rattle.rt_revert.specs.declared.plan.TextChange.TheVariants.{Removed as Gone}
 use Rattle.rt_revert.specs.declared.progress.Progress.{Progress}
-use Rattle.rt_revert.specs.Plans.{AreGiven, AreUpTo, IsChange, IsUpTo, marks_after, marks_changed, most_places, named_group, named_removed}
-use Rattle.rt_revert.specs.Portions.{AreSmall, Has, Portion, offset_of, only, visible_before_stamp, whole_ranges}
-use Rattle.rt_revert.specs.Progress.{IsCopy, IsGoing, IsOther, IsSoFar, LookAlike, spans_of}
-use Rattle.rt_revert.specs.Reverting.{Reversion, are_at, as_removed, stamp_after, still_visible, with_gone}
+use Rattle.rt_revert.specs.Plans.{AreGiven, AreUpTo, IsTextChange, IsUpTo, marks_after, marks_changed, most_places, named_group, named_removed}
+use Rattle.rt_revert.specs.Portions.{AreSmall, HasEach, Portion, offset_of, only, visible_before_stamp, whole_ranges}
+use Rattle.rt_revert.specs.Progress.{IsCopy, IsOther, IsSoFar, IsUnderWay, LookAlike, spans_of}
+use Rattle.rt_revert.specs.Reverting.{Reversion, are_at, as_removed, stamp_after, still_visible, with_removal}
 use Rattle.rt_revert.proofs.Alike.{alike_at, alike_gone, alike_place_in, alike_stamps_at, alike_still, gone_at_shown, place_in_shown, same_drafts}
 use Rattle.rt_revert.proofs.Counted.{later_cells, up_to_stamps}
 use Rattle.rt_revert.proofs.Had.{had_all}
@@ -146,7 +146,7 @@ pub record Took (table : TagStates) (stamps : List Stamp) (old new : List (Cell 
   pub drafts : map body_of losses.drafts.items ≡ removal_drafts MOST_SPANS (are_at stamps old) old
   pub places : (place : ℕ) → is_covered losses.places.items place ≡ are_at stamps old place
   pub covered : (place : ℕ) → is_covered whole.items place ≡ is_covered (whole_ranges before.offsets old (stamps_at (is_covered losses.places.items) 0 old)) place
-  pub order : AreInOrder 0 (whole_ranges before.offsets old (stamps_at (is_covered losses.places.items) 0 old)) → AreInOrder 0 whole.items
+  pub order : RangesFollow 0 (whole_ranges before.offsets old (stamps_at (is_covered losses.places.items) 0 old)) → RangesFollow 0 whole.items
   pub new_drafts : items_in after.texts.drafts ≡ items_in before.texts.drafts ++ losses.drafts.items
   pub count : after.texts.count ≡ before.texts.count + length losses.drafts.items
   pub most : after.texts.count ≤ GREATEST_COUNT
@@ -194,7 +194,7 @@ module _ (table : TagStates) (stamps : List Stamp) (old new : List (Cell ℕ)) (
         older = later spans old before.texts.count after.texts.count (omega (arith, h.count)) k.older;
       })
 
-  pub took_going : Took table stamps old new before after losses whole → IsGoing table before → IsGoing table after
+  pub took_going : Took table stamps old new before after losses whole → IsUnderWay table before → IsUnderWay table after
   took_going h k = record {
     count = h.most;
     moved = λ s e. omega (arith, h.count, k.moved s (ap (λ m. is_moved m s) (sym h.renames) ∙ e));
@@ -217,7 +217,7 @@ module _ (table : TagStates) (stamps : List Stamp) (old new : List (Cell ℕ)) (
 
   -- the counts of the operations
   pub lost_count : (number : ℕ) (part : Portion) (r : Reversion) → map body_of losses.drafts.items ≡ removal_drafts MOST_SPANS places old → IsDistinct is_same (stamps_of old)
-      → Has part stamps → IsSoFar table number old before part r → (with_gone stamps r).doc.count ≡ before.texts.count + length losses.drafts.items
+      → HasEach part stamps → IsSoFar table number old before part r → (with_removal stamps r).doc.count ≡ before.texts.count + length losses.drafts.items
   lost_count number part r e d had s =
       let same = named part r (had_all part stamps had) s.cells in
       let counted : length losses.drafts.items ≡ operations_for (span_count (stamps_at (are_at stamps r.doc.cells) 0 r.doc.cells)) =
@@ -225,7 +225,7 @@ module _ (table : TagStates) (stamps : List Stamp) (old new : List (Cell ℕ)) (
       (λ i. s.count i + sym counted i)
 
   pub took_still : (number : ℕ) (part : Portion) (r : Reversion) → map (named_removed table) (removed_in losses.removed.items) ≡ still_visible stamps all
-      → Has part stamps → IsSoFar table number old before part r → map (named_removed table) (removed_in losses.removed.items) ≡ still_visible stamps r.doc.cells
+      → HasEach part stamps → IsSoFar table number old before part r → map (named_removed table) (removed_in losses.removed.items) ≡ still_visible stamps r.doc.cells
   took_still number part r e had s =
       e ∙ alike_still stamps all (only part.has r.doc.cells) s.cells ∙ still_only part.has stamps r.doc.cells (had_all part stamps had)
 
@@ -256,7 +256,7 @@ module _ (table : TagStates) (stamps : List Stamp) (old new : List (Cell ℕ)) (
       by (inr x) = absurd (let n : are_at stamps cells place ≡ false = ap (λ o. unwrap_or (option_map (λ (cell : TaggedCell). is_among stamps cell.stamp) o) false) x.1 in cc (n, e))
 
   pub took_so_far : Took table stamps old new before after losses whole → IsDistinct is_same (stamps_of old) → (number : ℕ) (part : Portion) (r : Reversion)
-      → Has part stamps → IsSoFar table number old before part r → IsSoFar table number new after part (with_gone stamps r)
+      → HasEach part stamps → IsSoFar table number old before part r → IsSoFar table number new after part (with_removal stamps r)
   took_so_far h d number part r has s =
       let had = had_all part stamps has in
       let cells = r.doc.cells in
@@ -267,8 +267,8 @@ module _ (table : TagStates) (stamps : List Stamp) (old new : List (Cell ℕ)) (
       let ranges = ranges_are number part r h had s in
       let covers : (place : ℕ) → is_covered whole.items place ≡ theirs place =
       λ place. h.covered place ∙ ap (λ l. is_covered l place) ranges ∙ singles_covered stamps cells place in
-      let ordered : AreInOrder 0 whole.items = h.order (subst (AreInOrder 0) (sym ranges) (singles_order theirs 0 0 cells (omega arith))) in
-      let change : IsChange (Gone whole) =
+      let ordered : RangesFollow 0 whole.items = h.order (subst (RangesFollow 0) (sym ranges) (singles_order theirs 0 0 cells (omega arith))) in
+      let change : IsTextChange (Gone whole) =
       (ordered, ends_within whole.items 0 most_places ordered (λ place e. omega (arith, at_within cells place (sym (covers place) ∙ e), s.within.few, h.count, h.most))) in
       let copied : map (shown table) new ≡ gone_at (are_at stamps ours) 0 all =
       ap (map (shown table)) (went h d) ∙ sym (gone_at_shown (state_at table) places 0 old) ∙ ap (λ (p : ℕ → Bool). gone_at p 0 all) same in
@@ -290,7 +290,7 @@ module _ (table : TagStates) (stamps : List Stamp) (old new : List (Cell ℕ)) (
             ∙ sym (map-append body_of (items_in before.texts.drafts) losses.drafts.items) ∙ ap (map body_of) (sym h.new_drafts);
         returns = s.returns ∙ ap (λ v. v.items) (sym h.returns);
         actions = s.actions ∙ ap (λ v. named_group table (group_of v.items)) (sym h.actions);
-        changes = subst (AllByRecursion IsChange) (sym h.changes) (every_append IsChange before.changes.items (Gone whole ∷ []) s.changes (change, tt));
+        changes = subst (AllByRecursion IsTextChange) (sym h.changes) (every_append IsTextChange before.changes.items (Gone whole ∷ []) s.changes (change, tt));
         marks = ap (marks_left theirs) s.marks ∙ ap (λ (p : ℕ → Bool). marks_left p (marks_after before.changes.items part.doc.marks)) (λ i place. sym (covers place) i)
             ∙ sym (after_more before.changes.items (Gone whole) part.doc.marks) ∙ ap (λ l. marks_after l part.doc.marks) (sym h.changes);
         tags = s.tags ∙ ap (λ v. all_listed (as_words v.items) part.doc.tags) (sym h.names);

@@ -15,8 +15,8 @@ abbrev pub named_in : {T : Type 0} → List (Action T) → List Stamp
 named_in group = flat_map named_by group
 
 -- a stamp that a group names, or the final newline's
-abbrev pub is_named : {T : Type 0} → List (Action T) → Stamp → Bool
-is_named group s = is_among (FINAL ∷ named_in group) s
+abbrev pub is_in_group : {T : Type 0} → List (Action T) → Stamp → Bool
+is_in_group group s = is_among (FINAL ∷ named_in group) s
 
 -- POSITIONS
 
@@ -25,8 +25,8 @@ abbrev pub has_position : List ℕ → ℕ → Bool
 has_position positions position = list_any (λ p. p == position) positions
 
 -- the cell at a position has one of some stamps
-abbrev pub stands_at : {T : Type 0} → List Stamp → List (Cell T) → ℕ → Bool
-stands_at stamps cells position = unwrap_or (option_map (λ cell. is_among stamps cell.stamp) (slice_get cells position)) false
+abbrev pub is_one_at : {T : Type 0} → List Stamp → List (Cell T) → ℕ → Bool
+is_one_at stamps cells position = unwrap_or (option_map (λ cell. is_among stamps cell.stamp) (slice_get cells position)) false
 
 -- what stands at positions of a list
 abbrev pub AreAt : {X : Type 0} → List X → List ℕ → List X → Type 0

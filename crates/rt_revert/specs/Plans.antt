@@ -11,7 +11,7 @@ use Rattle.rt_store.specs.declared.cell.Cell.{Cell}
 use Rattle.rt_store.specs.Shown.{shown}
 use Rattle.rt_tags.specs.States.{IsState, TagStates, names_on, state_at}
 use Rattle.rt_plans.specs.DocValue.{DocValue}
-use Rattle.rt_plans.specs.Removals.{AreInOrder, is_covered}
+use Rattle.rt_plans.specs.Removals.{RangesFollow, is_covered}
 use Rattle.rt_undo.specs.Actions.{Action, Removed}
 use Rattle.rt_revert.specs.declared.plan.TextChange.{TextChange}
 use Rattle.rt_revert.specs.declared.plan.TextChange.TheVariants.{Inserted, Removed as Gone}
@@ -72,6 +72,6 @@ abbrev pub most_places : ℕ
 most_places = MOST_CELLS + GREATEST_COUNT
 
 -- a change of a text: removed ranges stand in order, and no place is past these
-abbrev pub IsChange : TextChange → Type 0
-IsChange (Gone ranges) = AreInOrder 0 ranges.items × All (λ range. range.to ≤ most_places) ranges.items
-IsChange (Inserted place) = place ≤ most_places
+abbrev pub IsTextChange : TextChange → Type 0
+IsTextChange (Gone ranges) = RangesFollow 0 ranges.items × All (λ range. range.to ≤ most_places) ranges.items
+IsTextChange (Inserted place) = place ≤ most_places

@@ -19,14 +19,14 @@ pub record Portion : Type 0 where
   pub has : Stamp → Bool
 
 -- all of some stamps are such ones, those of removed characters, and those of an action
-abbrev pub Has : Portion → List Stamp → Type 0
-Has part stamps = AllByRecursion (λ s. part.has s ≡ true) stamps
+abbrev pub HasEach : Portion → List Stamp → Type 0
+HasEach part stamps = AllByRecursion (λ s. part.has s ≡ true) stamps
 
 abbrev pub HasRemoved : {T : Type 0} → Portion → List (Removed T) → Type 0
 HasRemoved part removed = AllByRecursion (λ r. part.has r.stamp ≡ true) removed
 
 abbrev pub HasAction : {T : Type 0} → Portion → Action T → Type 0
-HasAction part action = Has part action.inserted × HasRemoved part action.removed
+HasAction part action = HasEach part action.inserted × HasRemoved part action.removed
 
 abbrev pub HasGroup : {T : Type 0} → Portion → List (Action T) → Type 0
 HasGroup part group = AllByRecursion (HasAction part) group

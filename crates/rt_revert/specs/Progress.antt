@@ -21,7 +21,7 @@ use Rattle.rt_undo.specs.Actions.{group_of}
 use Rattle.rt_undo.specs.Renames.{is_moved, now_of}
 use Rattle.rt_revert.specs.declared.plan.Return.{Return}
 use Rattle.rt_revert.specs.declared.progress.Progress.{Progress}
-use Rattle.rt_revert.specs.Plans.{AreGiven, AreUpTo, IsChange, marks_after, named_group}
+use Rattle.rt_revert.specs.Plans.{AreGiven, AreUpTo, IsTextChange, marks_after, named_group}
 use Rattle.rt_revert.specs.Portions.{AreOffsets, AreSmall, Portion, only}
 use Rattle.rt_revert.specs.Reverting.{Reversion, stamp_after}
 
@@ -57,7 +57,7 @@ pub record TellsTheSame (old new : Progress) : Type 0 where
   pub actions : new.actions.items ≡ old.actions.items
 
 -- what is known beside it: moved are only stamps up to the greatest count, to those that the characters have now
-pub record IsGoing (table : TagStates) (plan : Progress) : Type 0 where
+pub record IsUnderWay (table : TagStates) (plan : Progress) : Type 0 where
   pub count : plan.texts.count ≤ GREATEST_COUNT
   pub moved : (s : Stamp) → is_moved plan.renames s ≡ true → s.count ≤ plan.texts.count
   pub now : (s : Stamp) → now_of plan.renames s ≡ stamp_after plan.returns.items s
@@ -84,7 +84,7 @@ pub record IsSoFar (table : TagStates) (number : ℕ) (copy : List (Cell ℕ)) (
   pub drafts : r.drafts ≡ map body_of (items_in plan.texts.drafts)
   pub returns : r.returns ≡ plan.returns.items
   pub actions : r.actions ≡ named_group table (group_of plan.actions.items)
-  pub changes : AllByRecursion IsChange plan.changes.items
+  pub changes : AllByRecursion IsTextChange plan.changes.items
   pub marks : r.doc.marks ≡ marks_after plan.changes.items part.doc.marks
   pub tags : r.doc.tags ≡ all_listed (as_words plan.names.items) part.doc.tags
 

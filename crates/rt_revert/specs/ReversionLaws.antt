@@ -21,24 +21,24 @@ pub record MayReturn (removed : Removed (List Word)) : Type 0 where
   pub tags : AreTagNames removed.tags
 
 -- an action neither put the final newline in nor took it away, and its tags are such names
-pub record IsSound (action : Action (List Word)) : Type 0 where
+pub record MayRevert (action : Action (List Word)) : Type 0 where
   pub inserted : is_among action.inserted FINAL ≡ false
   pub removed : AllByRecursion MayReturn action.removed
 
-abbrev pub AreSound : List (Action (List Word)) → Type 0
-AreSound group = AllByRecursion IsSound group
+abbrev pub AllMayRevert : List (Action (List Word)) → Type 0
+AllMayRevert group = AllByRecursion MayRevert group
 
 -- Where the counts fit, the operations may be made.
 abbrev pub ReversionMayBeMade : Type 0
 ReversionMayBeMade =
     (site : ℕ) (log : List Operation) (flat : DocValue) (group : List (Action (List Word))) → 0 < site → IsHistory log → IsDocument site log flat
-    → AreSound group → (reversion flat group).doc.count ≤ GREATEST_COUNT → MayBeMade site log (reversion flat group).drafts
+    → AllMayRevert group → (reversion flat group).doc.count ≤ GREATEST_COUNT → MayBeMade site log (reversion flat group).drafts
 
 -- Then a document with the cells of a history has afterwards those of the history with the operations, and its greatest count.
 abbrev pub ReversionIsMade : Type 0
 ReversionIsMade =
     (site : ℕ) (log : List Operation) (flat : DocValue) (group : List (Action (List Word))) → 0 < site → IsHistory log → IsDocument site log flat
-    → AreSound group → (reversion flat group).doc.count ≤ GREATEST_COUNT
+    → AllMayRevert group → (reversion flat group).doc.count ≤ GREATEST_COUNT
     → IsDocument site (with_drafts site (reversion flat group).drafts log) (reversion flat group).doc
 
 -- There is one cell more for each character that the operations insert.
@@ -51,4 +51,4 @@ ReversionHasNewCells =
 abbrev pub ReversionIsSound : Type 0
 ReversionIsSound =
     (site : ℕ) (log : List Operation) (flat : DocValue) (group : List (Action (List Word))) → 0 < site → IsHistory log → IsDocument site log flat
-    → AreSound group → (reversion flat group).doc.count ≤ GREATEST_COUNT → AreSound (reverted_group flat group)
+    → AllMayRevert group → (reversion flat group).doc.count ≤ GREATEST_COUNT → AllMayRevert (reverted_group flat group)

@@ -53,8 +53,8 @@ abbrev pub still_visible : List Stamp → List TaggedCell → List (Removed (Lis
 still_visible stamps cells = map as_removed (filter (λ cell. is_among stamps cell.stamp) (visible_of cells))
 
 -- they go, by the operations of a deletion
-abbrev pub with_gone : List Stamp → Reversion → Reversion
-with_gone stamps so_far =
+abbrev pub with_removal : List Stamp → Reversion → Reversion
+with_removal stamps so_far =
     let places = are_at stamps so_far.doc.cells in
     record so_far {
       doc = without_places so_far.doc places;
@@ -77,8 +77,8 @@ with_copy flat stamp tags ch = record flat {
 }
 
 -- it comes back, by an Insert, and a Tag for each tag that this can't list
-abbrev pub with_character : Stamp → List Word → ℕ → Reversion → Reversion
-with_character stamp tags ch so_far = record so_far {
+abbrev pub with_insertion : Stamp → List Word → ℕ → Reversion → Reversion
+with_insertion stamp tags ch so_far = record so_far {
   doc = with_copy so_far.doc stamp tags ch;
   returns = so_far.returns ++ record { former = stamp; newer = next_in so_far.doc } ∷ [];
   drafts = so_far.drafts ++ text_drafts MOST_CHARACTERS so_far.doc.site so_far.doc.count stamp tags (ch ∷ []);
@@ -93,7 +93,7 @@ gone_cell_of cells stamp = option_and_then (λ cell. if cell.gone then Some cell
 abbrev pub with_return : Removed (List Word) → Reversion → Reversion
 with_return removed so_far =
     let stamp = stamp_after so_far.returns removed.stamp in
-    unwrap_or (option_map (λ cell. with_character stamp removed.tags cell.ch so_far) (gone_cell_of so_far.doc.cells stamp)) so_far
+    unwrap_or (option_map (λ cell. with_insertion stamp removed.tags cell.ch so_far) (gone_cell_of so_far.doc.cells stamp)) so_far
 
 abbrev pub with_returns : List (Removed (List Word)) → Reversion → Reversion
 with_returns [] so_far = so_far
@@ -110,7 +110,7 @@ since before after = map (λ r. r.newer) (drop (length before.returns) after.ret
 abbrev pub with_reverted : Action (List Word) → Reversion → Reversion
 with_reverted action so_far =
     let inserted = map (stamp_after so_far.returns) action.inserted in
-    let back = with_returns action.removed (with_gone inserted so_far) in
+    let back = with_returns action.removed (with_removal inserted so_far) in
     record back {
       actions = so_far.actions ++ record {
         number = action.number;

@@ -6,9 +6,9 @@ ghost use Rattle.rt_ops.specs.Operations.{stamps_in};
 ghost use Rattle.rt_store.specs.Spans.{gone_in_any, is_among, is_in_spans};
 ghost use Rattle.rt_undo.specs.Actions.{removed_in};
 ghost use Rattle.rt_revert.specs.Plans.{RemovedAreGiven, named_removed};
-ghost use Rattle.rt_revert.specs.Portions.{Has, Portion};
-ghost use Rattle.rt_revert.specs.Progress.{IsCopy, IsGoing, IsSoFar, spans_of};
-ghost use Rattle.rt_revert.specs.Reverting.{Reversion, still_visible, with_gone};
+ghost use Rattle.rt_revert.specs.Portions.{HasEach, Portion};
+ghost use Rattle.rt_revert.specs.Progress.{IsCopy, IsSoFar, IsUnderWay, spans_of};
+ghost use Rattle.rt_revert.specs.Reverting.{Reversion, still_visible, with_removal};
 
 use crate::losses::planned_losses;
 use crate::offsets::whole_places;
@@ -50,24 +50,24 @@ pub(crate) fn take_out<S: TextStore>(
 ) -> Result<Vec<RemovedSpan>, Fault>
     requires copy { IsCopy kept.now (S.list copy.old) plan.old.texts.count }
     requires agrees { S.agrees copy.old kept.now }
-    requires going { IsGoing kept.now plan.old }
+    requires going { IsUnderWay kept.now plan.old }
     requires stays { is_among (stamps_in spans.now) FINAL ≡ false }
     ensures copy { OnOk result (IsCopy kept.now (S.list copy.new) plan.new.texts.count) }
     ensures agrees { OnOk result (S.agrees copy.new kept.now) }
-    ensures going { OnOk result (IsGoing kept.now plan.new) }
+    ensures going { OnOk result (IsUnderWay kept.now plan.new) }
     ensures returns { OnOk result (plan.new.returns ≡ plan.old.returns) }
     ensures actions { OnOk result (plan.new.actions ≡ plan.old.actions) }
-    ensures so_far { OnOk result ((number : ℕ) (part : Portion) (r : Reversion) → Has part (stamps_in spans.now)
+    ensures so_far { OnOk result ((number : ℕ) (part : Portion) (r : Reversion) → HasEach part (stamps_in spans.now)
         → IsSoFar kept.now number (S.list copy.old) plan.old part r
-        → IsSoFar kept.now number (S.list copy.new) plan.new part (with_gone (stamps_in spans.now) r)) }
-    ensures removed { IfOk result (λ removed. (number : ℕ) (part : Portion) (r : Reversion) → Has part (stamps_in spans.now)
+        → IsSoFar kept.now number (S.list copy.new) plan.new part (with_removal (stamps_in spans.now) r)) }
+    ensures removed { IfOk result (λ removed. (number : ℕ) (part : Portion) (r : Reversion) → HasEach part (stamps_in spans.now)
         → IsSoFar kept.now number (S.list copy.old) plan.old part r
         → map (named_removed kept.now) (removed_in removed.items) ≡ still_visible (stamps_in spans.now) r.doc.cells) }
     ensures given { IfOk result (λ removed. RemovedAreGiven kept.now (removed_in removed.items)) }
     ensures err { IfErr result (λ fault. (fault ≡ Fault.NoMemory) ⊎ ((fault ≡ Fault.ClockSpent)
-        × ((number : ℕ) (part : Portion) (r : Reversion) → Has part (stamps_in spans.now)
+        × ((number : ℕ) (part : Portion) (r : Reversion) → HasEach part (stamps_in spans.now)
         → IsSoFar kept.now number (S.list copy.old) plan.old part r
-        → GREATEST_COUNT < (with_gone (stamps_in spans.now) r).doc.count))) }
+        → GREATEST_COUNT < (with_removal (stamps_in spans.now) r).doc.count))) }
 {
     let losses = planned_losses(alloc, &*copy, kept, spans)?;
     let whole = whole_places(alloc, &*copy, &plan.offsets, &losses.places)?;

@@ -10,9 +10,9 @@ ghost use Rattle.rt_tags.specs.States.{KeepsIds};
 ghost use Rattle.rt_plans.specs.DocValue.{DocValue};
 ghost use Rattle.rt_undo.specs.Actions.{group_of};
 ghost use Rattle.rt_revert.specs.PlannedGroups.{IsPlanOf};
-ghost use Rattle.rt_revert.specs.Plans.{AreGiven, AreUpTo, IsChange, IsOf, named_group};
+ghost use Rattle.rt_revert.specs.Plans.{AreGiven, AreUpTo, IsOf, IsTextChange, named_group};
 ghost use Rattle.rt_revert.specs.Reverting.{reversion};
-ghost use Rattle.rt_revert.specs.ReversionLaws.{AreSound};
+ghost use Rattle.rt_revert.specs.ReversionLaws.{AllMayRevert};
 
 use crate::copying::{fill, kept_cells};
 use crate::named::named_positions;
@@ -51,13 +51,13 @@ pub fn planned_reversion<S: TextStore, C: TextStore>(
     requires older { AreUpTo author.count (S.list store.now) }
     requires count { author.count ≤ GREATEST_COUNT }
     requires given { AreGiven kept.old (group_of group.now) }
-    requires sound { AreSound (named_group kept.old (group_of group.now)) }
+    requires sound { AllMayRevert (named_group kept.old (group_of group.now)) }
     ensures plan { IfOk result (λ plan. (flat : DocValue) → IsOf states.now (S.list store.now) author.site.number author.count flat
         → IsPlanOf kept.new flat (named_group kept.old (group_of group.now)) plan) }
     ensures fits { OnOk result ((flat : DocValue) → IsOf states.now (S.list store.now) author.site.number author.count flat
         → (reversion flat (named_group kept.old (group_of group.now))).doc.count ≤ GREATEST_COUNT) }
     ensures given { IfOk result (λ plan. AreGiven kept.new (group_of plan.actions.items)) }
-    ensures changes { IfOk result (λ plan. AllByRecursion IsChange plan.changes.items) }
+    ensures changes { IfOk result (λ plan. AllByRecursion IsTextChange plan.changes.items) }
     ensures names { IfOk result (λ plan. list_all is_name (as_words plan.names.items) ≡ true) }
     ensures ids { KeepsIds kept.old kept.new }
     ensures err { IfErr result (λ fault. (fault ≡ Fault.NoMemory) ⊎ ((fault ≡ Fault.ClockSpent)

@@ -9,7 +9,7 @@ ghost use Rattle.rt_store.specs.Shown.{shown};
 ghost use Rattle.rt_store.specs.Tagged.{AreStates};
 ghost use Rattle.rt_tags.specs.States.{IsState};
 ghost use Rattle.rt_plans.specs.RemovalDrafts.{removal_drafts};
-ghost use Rattle.rt_plans.specs.Removals.{AreInOrder, is_covered};
+ghost use Rattle.rt_plans.specs.Removals.{RangesFollow, is_covered};
 ghost use Rattle.rt_undo.specs.Actions.{removed_in};
 ghost use Rattle.rt_revert.specs.Plans.{named_removed};
 ghost use Rattle.rt_revert.specs.Reverting.{are_at, still_visible};
@@ -53,7 +53,7 @@ pub fn planned_losses<S: TextStore>(
         ≡ still_visible (stamps_in spans.now) (map (shown states.now) (S.list store.now))) }
     ensures given { IfOk result (λ losses. AllByRecursion (λ removed. IsState states.now removed.tags) (removed_in losses.removed.items)) }
     ensures places { IfOk result (λ losses. (place : ℕ) → is_covered losses.places.items place ≡ are_at (stamps_in spans.now) (S.list store.now) place) }
-    ensures order { IfOk result (λ losses. AreInOrder 0 losses.places.items) }
+    ensures order { IfOk result (λ losses. RangesFollow 0 losses.places.items) }
     ensures within { IfOk result (λ losses. All (λ range. range.to ≤ length (visible_of (S.list store.now))) losses.places.items) }
     ensures err { IsOkUnless result Fault.NoMemory }
 {

@@ -8,7 +8,7 @@ ghost use Rattle.rt_ops.specs.Operations.{stamps_in, stamps_of_span};
 ghost use Rattle.rt_store.specs.Cells.{AreDistinct, position_of};
 ghost use Rattle.rt_store.specs.Written.{AreBelowNext};
 ghost use Rattle.rt_undo.specs.Actions.{action_of, group_of};
-ghost use Rattle.rt_revert.specs.Named.{AreAt, has_position, is_named, named_by, named_in, stands_at};
+ghost use Rattle.rt_revert.specs.Named.{AreAt, has_position, is_in_group, is_one_at, named_by, named_in};
 ghost use Rattle.rt_revert.specs.Plans.{AreUpTo};
 ghost use Rattle.rt_revert.specs.Portions.{only};
 
@@ -84,7 +84,7 @@ fn push_position<S: TextStore>(
     requires older { AreBelowNext (newest.count - 1) (S.list store.now) }
     requires newest { (0 < newest.count) × (is_before FINAL newest ≡ true) }
     ensures ok { OnOk result ((at : ℕ) → has_position positions.new.items at
-        ≡ (has_position positions.old.items at || stands_at (stamp ∷ []) (S.list store.now) at)) }
+        ≡ (has_position positions.old.items at || is_one_at (stamp ∷ []) (S.list store.now) at)) }
     ensures err { IsOkUnless result Fault.NoMemory }
 {
     match position_of(store, newest, stamp) {
@@ -104,7 +104,7 @@ fn push_positions<S: TextStore>(
     requires older { AreBelowNext (newest.count - 1) (S.list store.now) }
     requires newest { (0 < newest.count) × (is_before FINAL newest ≡ true) }
     ensures ok { OnOk result ((at : ℕ) → has_position positions.new.items at
-        ≡ (has_position positions.old.items at || stands_at (stamps_of_span span) (S.list store.now) at)) }
+        ≡ (has_position positions.old.items at || is_one_at (stamps_of_span span) (S.list store.now) at)) }
     ensures err { IsOkUnless result Fault.NoMemory }
 {
     for count in span.first..=span.last {
@@ -128,7 +128,7 @@ fn positions_of<S: TextStore>(
     requires older { AreBelowNext (newest.count - 1) (S.list store.now) }
     requires newest { (0 < newest.count) × (is_before FINAL newest ≡ true) }
     ensures ok { IfOk result (λ positions. (at : ℕ) → has_position positions.items at
-        ≡ stands_at (FINAL ∷ stamps_in spans.now) (S.list store.now) at) }
+        ≡ is_one_at (FINAL ∷ stamps_in spans.now) (S.list store.now) at) }
     ensures err { IsOkUnless result Fault.NoMemory }
 {
     let mut positions = Vec::new(alloc);
@@ -162,7 +162,7 @@ pub(crate) fn named_positions<S: TextStore>(
     requires older { AreUpTo count (S.list store.now) }
     requires count { count ≤ GREATEST_COUNT }
     ensures within { IfOk result (λ positions. All (λ position. position < length (S.list store.now)) positions.items) }
-    ensures cells { IfOk result (λ positions. AreAt (S.list store.now) positions.items (only (is_named (group_of group.now)) (S.list store.now))) }
+    ensures cells { IfOk result (λ positions. AreAt (S.list store.now) positions.items (only (is_in_group (group_of group.now)) (S.list store.now))) }
     ensures err { IsOkUnless result Fault.NoMemory }
 {
     let newest = Stamp {

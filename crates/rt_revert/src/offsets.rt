@@ -4,7 +4,7 @@ ghost use Rattle.rt_stamps.specs.declared.limits.TheConstants.{GREATEST_COUNT, M
 ghost use Rattle.rt_stamps.specs.declared.stamp.Stamp.{Stamp};
 ghost use Rattle.rt_store.specs.Cells.{stamps_of, visible_of};
 ghost use Rattle.rt_store.specs.Spans.{is_among};
-ghost use Rattle.rt_plans.specs.Removals.{AreInOrder, is_covered, stamps_at};
+ghost use Rattle.rt_plans.specs.Removals.{RangesFollow, is_covered, stamps_at};
 ghost use Rattle.rt_revert.specs.Plans.{AreUpTo};
 ghost use Rattle.rt_revert.specs.Portions.{AreSmall, offset_behind, offset_of, visible_before_stamp, whole_ranges};
 
@@ -78,12 +78,12 @@ pub(crate) fn whole_places<S: TextStore>(
 ) -> Result<Vec<Range>, Fault>
     requires few { length (S.list copy.now) ≤ MOST_CELLS }
     requires small { AreSmall offsets.now }
-    requires order { AreInOrder 0 places.now }
+    requires order { RangesFollow 0 places.now }
     requires within { All (λ range. range.to ≤ length (visible_of (S.list copy.now))) places.now }
     ensures covered { IfOk result (λ ranges. (at : ℕ) → is_covered ranges.items at
         ≡ is_covered (whole_ranges offsets.now (S.list copy.now) (stamps_at (is_covered places.now) 0 (S.list copy.now))) at) }
-    ensures order { IfOk result (λ ranges. AreInOrder 0 (whole_ranges offsets.now (S.list copy.now) (stamps_at (is_covered places.now) 0 (S.list copy.now)))
-        → AreInOrder 0 ranges.items) }
+    ensures order { IfOk result (λ ranges. RangesFollow 0 (whole_ranges offsets.now (S.list copy.now) (stamps_at (is_covered places.now) 0 (S.list copy.now)))
+        → RangesFollow 0 ranges.items) }
     ensures err { IsOkUnless result Fault.NoMemory }
 {
     let cells = cells_in(alloc, copy, places)?;

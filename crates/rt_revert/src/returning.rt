@@ -14,8 +14,8 @@ ghost use Rattle.rt_undo.specs.Actions.{removed_in, removed_of, removed_with};
 ghost use Rattle.rt_undo.specs.Renames.{is_moved};
 ghost use Rattle.rt_revert.specs.Plans.{RemovedAreGiven, named_removed};
 ghost use Rattle.rt_revert.specs.Portions.{HasRemoved, Portion};
-ghost use Rattle.rt_revert.specs.Progress.{IsCopy, IsGoing, IsSoFar};
-ghost use Rattle.rt_revert.specs.Reverting.{Reversion, gone_cell_of, with_character, with_return, with_returns};
+ghost use Rattle.rt_revert.specs.Progress.{IsCopy, IsSoFar, IsUnderWay};
+ghost use Rattle.rt_revert.specs.Reverting.{Reversion, gone_cell_of, with_insertion, with_return, with_returns};
 ghost use Rattle.rt_revert.specs.ReversionLaws.{MayReturn};
 
 use crate::progress::Progress;
@@ -84,7 +84,7 @@ fn put_back<S: TextStore>(
 ) -> Result<(), Fault>
     requires copy { IsCopy kept.now (S.list copy.old) plan.old.texts.count }
     requires agrees { S.agrees copy.old kept.now }
-    requires going { IsGoing kept.now plan.old }
+    requires going { IsUnderWay kept.now plan.old }
     requires state { IsState kept.now cell.state }
     requires names { AreTagNames (names_on (state_at kept.now cell.state)) }
     requires there { is_among (stamps_of (S.list copy.old)) cell.stamp ≡ true }
@@ -92,15 +92,15 @@ fn put_back<S: TextStore>(
     requires still { is_moved plan.old.renames cell.stamp ≡ false }
     ensures copy { OnOk result (IsCopy kept.now (S.list copy.new) plan.new.texts.count) }
     ensures agrees { OnOk result (S.agrees copy.new kept.now) }
-    ensures going { OnOk result (IsGoing kept.now plan.new) }
+    ensures going { OnOk result (IsUnderWay kept.now plan.new) }
     ensures actions { OnOk result (plan.new.actions ≡ plan.old.actions) }
     ensures so_far { OnOk result ((part : Portion) (r : Reversion) → part.has cell.stamp ≡ true
         → IsSoFar kept.now site.number (S.list copy.old) plan.old part r
-        → IsSoFar kept.now site.number (S.list copy.new) plan.new part (with_character cell.stamp (names_on (state_at kept.now cell.state)) cell.ch r)) }
+        → IsSoFar kept.now site.number (S.list copy.new) plan.new part (with_insertion cell.stamp (names_on (state_at kept.now cell.state)) cell.ch r)) }
     ensures err { IfErr result (λ fault. (fault ≡ Fault.NoMemory) ⊎ ((fault ≡ Fault.ClockSpent)
         × ((part : Portion) (r : Reversion) → part.has cell.stamp ≡ true
         → IsSoFar kept.now site.number (S.list copy.old) plan.old part r
-        → GREATEST_COUNT < (with_character cell.stamp (names_on (state_at kept.now cell.state)) cell.ch r).doc.count))) }
+        → GREATEST_COUNT < (with_insertion cell.stamp (names_on (state_at kept.now cell.state)) cell.ch r).doc.count))) }
 {
     kept.order();
     let former = cell.stamp;
@@ -145,12 +145,12 @@ fn bring_back<S: TextStore>(
 ) -> Result<(), Fault>
     requires copy { IsCopy kept.now (S.list copy.old) plan.old.texts.count }
     requires agrees { S.agrees copy.old kept.now }
-    requires going { IsGoing kept.now plan.old }
+    requires going { IsUnderWay kept.now plan.old }
     requires state { IsState kept.now removed.1 }
     requires may { MayReturn (named_removed kept.now (removed_with removed.1 removed.0)) }
     ensures copy { OnOk result (IsCopy kept.now (S.list copy.new) plan.new.texts.count) }
     ensures agrees { OnOk result (S.agrees copy.new kept.now) }
-    ensures going { OnOk result (IsGoing kept.now plan.new) }
+    ensures going { OnOk result (IsUnderWay kept.now plan.new) }
     ensures actions { OnOk result (plan.new.actions ≡ plan.old.actions) }
     ensures so_far { OnOk result ((part : Portion) (r : Reversion) → part.has removed.0 ≡ true
         → IsSoFar kept.now site.number (S.list copy.old) plan.old part r
@@ -182,12 +182,12 @@ fn bring_span_back<S: TextStore>(
 ) -> Result<(), Fault>
     requires copy { IsCopy kept.now (S.list copy.old) plan.old.texts.count }
     requires agrees { S.agrees copy.old kept.now }
-    requires going { IsGoing kept.now plan.old }
+    requires going { IsUnderWay kept.now plan.old }
     requires given { RemovedAreGiven kept.now (removed_of part) }
     requires may { AllByRecursion MayReturn (map (named_removed kept.now) (removed_of part)) }
     ensures copy { OnOk result (IsCopy kept.now (S.list copy.new) plan.new.texts.count) }
     ensures agrees { OnOk result (S.agrees copy.new kept.now) }
-    ensures going { OnOk result (IsGoing kept.now plan.new) }
+    ensures going { OnOk result (IsUnderWay kept.now plan.new) }
     ensures actions { OnOk result (plan.new.actions ≡ plan.old.actions) }
     ensures so_far { OnOk result ((portion : Portion) (r : Reversion) → HasRemoved portion (removed_of part)
         → IsSoFar kept.now site.number (S.list copy.old) plan.old portion r
@@ -220,12 +220,12 @@ pub(crate) fn bring_all_back<S: TextStore>(
 ) -> Result<(), Fault>
     requires copy { IsCopy kept.now (S.list copy.old) plan.old.texts.count }
     requires agrees { S.agrees copy.old kept.now }
-    requires going { IsGoing kept.now plan.old }
+    requires going { IsUnderWay kept.now plan.old }
     requires given { RemovedAreGiven kept.now (removed_in removed.now) }
     requires may { AllByRecursion MayReturn (map (named_removed kept.now) (removed_in removed.now)) }
     ensures copy { OnOk result (IsCopy kept.now (S.list copy.new) plan.new.texts.count) }
     ensures agrees { OnOk result (S.agrees copy.new kept.now) }
-    ensures going { OnOk result (IsGoing kept.now plan.new) }
+    ensures going { OnOk result (IsUnderWay kept.now plan.new) }
     ensures actions { OnOk result (plan.new.actions ≡ plan.old.actions) }
     ensures so_far { OnOk result ((part : Portion) (r : Reversion) → HasRemoved part (removed_in removed.now)
         → IsSoFar kept.now site.number (S.list copy.old) plan.old part r

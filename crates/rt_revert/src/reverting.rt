@@ -5,9 +5,9 @@ ghost use Rattle.rt_ops.specs.Operations.{stamps_in};
 ghost use Rattle.rt_undo.specs.Actions.{action_of, group_of, removed_in};
 ghost use Rattle.rt_revert.specs.Plans.{AreGiven, RemovedAreGiven, named_action, named_group};
 ghost use Rattle.rt_revert.specs.Portions.{HasAction, HasGroup, Portion};
-ghost use Rattle.rt_revert.specs.Progress.{IsCopy, IsGoing, IsSoFar};
+ghost use Rattle.rt_revert.specs.Progress.{IsCopy, IsSoFar, IsUnderWay};
 ghost use Rattle.rt_revert.specs.Reverting.{Reversion, with_each_reverted, with_reverted};
-ghost use Rattle.rt_revert.specs.ReversionLaws.{AreSound, IsSound};
+ghost use Rattle.rt_revert.specs.ReversionLaws.{AllMayRevert, MayRevert};
 
 use crate::going::take_out;
 use crate::plan::Return;
@@ -49,12 +49,12 @@ fn revert<S: TextStore>(
 ) -> Result<(), Fault>
     requires copy { IsCopy kept.now (S.list copy.old) plan.old.texts.count }
     requires agrees { S.agrees copy.old kept.now }
-    requires going { IsGoing kept.now plan.old }
+    requires going { IsUnderWay kept.now plan.old }
     requires given { RemovedAreGiven kept.now (removed_in action.now.removed.items) }
-    requires sound { IsSound (named_action kept.now (action_of action.now)) }
+    requires sound { MayRevert (named_action kept.now (action_of action.now)) }
     ensures copy { OnOk result (IsCopy kept.now (S.list copy.new) plan.new.texts.count) }
     ensures agrees { OnOk result (S.agrees copy.new kept.now) }
-    ensures going { OnOk result (IsGoing kept.now plan.new) }
+    ensures going { OnOk result (IsUnderWay kept.now plan.new) }
     ensures so_far { OnOk result ((part : Portion) (r : Reversion) → HasAction part (action_of action.now)
         → IsSoFar kept.now site.number (S.list copy.old) plan.old part r
         → IsSoFar kept.now site.number (S.list copy.new) plan.new part (with_reverted (named_action kept.now (action_of action.now)) r)) }
@@ -88,10 +88,10 @@ pub(crate) fn revert_all<S: TextStore>(
 ) -> Result<(), Fault>
     requires copy { IsCopy kept.now (S.list copy.old) plan.old.texts.count }
     requires agrees { S.agrees copy.old kept.now }
-    requires going { IsGoing kept.now plan.old }
+    requires going { IsUnderWay kept.now plan.old }
     requires given { AreGiven kept.now (group_of group.now) }
-    requires sound { AreSound (named_group kept.now (group_of group.now)) }
-    ensures going { OnOk result (IsGoing kept.now plan.new) }
+    requires sound { AllMayRevert (named_group kept.now (group_of group.now)) }
+    ensures going { OnOk result (IsUnderWay kept.now plan.new) }
     ensures so_far { OnOk result ((part : Portion) (r : Reversion) → HasGroup part (group_of group.now)
         → IsSoFar kept.now site.number (S.list copy.old) plan.old part r
         → IsSoFar kept.now site.number (S.list copy.new) plan.new part (with_each_reverted (reverse (named_group kept.now (group_of group.now))) r)) }

@@ -4,7 +4,7 @@ ghost use Rattle.rt_stamps.specs.declared.limits.TheConstants.{MOST_CELLS};
 ghost use Rattle.rt_ops.specs.Operations.{stamps_in, stamps_of_span};
 ghost use Rattle.rt_store.specs.Cells.{AreDistinct, visible_of};
 ghost use Rattle.rt_plans.specs.declared.range.Range.{Range};
-ghost use Rattle.rt_plans.specs.Removals.{AreInOrder, is_covered};
+ghost use Rattle.rt_plans.specs.Removals.{RangesFollow, is_covered};
 ghost use Rattle.rt_revert.specs.Planning.{is_behind, range_at, ranges_of_visible, visible_place};
 ghost use Rattle.rt_revert.specs.Reverting.{are_at};
 
@@ -37,8 +37,8 @@ fn is_behind(range: Range, place: usize) -> bool
 pub(crate) fn push_place(ranges: &mut Vec<Range>, place: usize) -> Result<(), Fault>
     requires { place ≤ 2 * MOST_CELLS }
     ensures ok { OnOk result ((at : ℕ) → is_covered ranges.new.items at ≡ (is_covered ranges.old.items at || is_covered (range_at (Some place)) at)) }
-    ensures order { OnOk result ((more : List Range) → AreInOrder 0 (ranges.old.items ++ range_at (Some place) ++ more)
-        → AreInOrder 0 (ranges.new.items ++ more)) }
+    ensures order { OnOk result ((more : List Range) → RangesFollow 0 (ranges.old.items ++ range_at (Some place) ++ more)
+        → RangesFollow 0 (ranges.new.items ++ more)) }
     ensures same { OnErr result (ranges.new.items ≡ ranges.old.items) }
     ensures err { IsOkUnless result Fault.NoMemory }
 {
@@ -89,7 +89,8 @@ fn push_places<S: TextStore>(store: &S, span: Span, ranges: &mut Vec<Range>) -> 
 // The places of those of some characters that are visible, in the order of their stamps.
 fn places_of<S: TextStore>(alloc: Global, store: &S, spans: &[Span]) -> Result<Vec<Range>, Fault>
     requires few { length (S.list store.now) ≤ MOST_CELLS }
-    ensures ok { IfOk result (λ ranges. (at : ℕ) → is_covered ranges.items at ≡ is_covered (ranges_of_visible (S.list store.now) (stamps_in spans.now)) at) }
+    ensures ok { IfOk result (λ ranges. (at : ℕ)
+        → is_covered ranges.items at ≡ is_covered (ranges_of_visible (S.list store.now) (stamps_in spans.now)) at) }
     ensures err { IsOkUnless result Fault.NoMemory }
 {
     let mut ranges = Vec::new(alloc);
@@ -108,7 +109,7 @@ pub(crate) fn visible_ranges<S: TextStore>(
 ) -> Result<Vec<Range>, Fault>
     requires distinct { AreDistinct (S.list store.now) }
     requires few { length (S.list store.now) ≤ MOST_CELLS }
-    ensures order { IfOk result (λ ranges. AreInOrder 0 ranges.items) }
+    ensures order { IfOk result (λ ranges. RangesFollow 0 ranges.items) }
     ensures within { IfOk result (λ ranges. All (λ range. range.to ≤ length (visible_of (S.list store.now))) ranges.items) }
     ensures places { IfOk result (λ ranges. (place : ℕ) → is_covered ranges.items place ≡ are_at (stamps_in spans.now) (S.list store.now) place) }
     ensures err { IsOkUnless result Fault.NoMemory }

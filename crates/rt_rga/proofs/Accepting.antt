@@ -6,7 +6,7 @@ use Rattle.std.specs.List.{AllByRecursion, list_any, list_all}
 use Rattle.rt_stamps.specs.declared.stamp.Stamp.{Stamp}
 use Rattle.rt_stamps.specs.declared.fault.Fault.TheVariants.{BadStamp, Conflict, NotYet, BadTarget}
 use Rattle.rt_ops.specs.Operations.{Operation, Body, Insert, Delete, Tag, last_count, named, has_bad_stamp}
-use Rattle.rt_oplog.specs.Logs.{AreOf, Has, IsFalling, IsLog, clash, holds, known_end, pushed, reaches_into, same_operation, with_operation}
+use Rattle.rt_oplog.specs.Logs.{AreOf, HasOp, IsFalling, IsLog, clash, holds, known_end, pushed, reaches_into, same_operation, with_operation}
 use Rattle.rt_ops.specs.Rules.{keeps_rules}
 use Rattle.rt_oplog.proofs.Sets.{any_at, any_from, clash_self, clash_sym, has_held, held_from, none_at as no_op_at, operation_sym, same_set}
 use Rattle.rt_rga.specs.Histories.{has_character, may_name, is_known, Continues, IsHistory}
@@ -91,14 +91,14 @@ pub falling : (set : List Operation) → IsHistory set → IsFalling set
 falling [] h = tt
 falling (op ∷ older) h = (h.0, falling older h.2)
 
-pub sound_in : (set : List Operation) → IsHistory set → (x : Operation) → Has set x → has_bad_stamp x ≡ false
+pub sound_in : (set : List Operation) → IsHistory set → (x : Operation) → HasOp set x → has_bad_stamp x ≡ false
 sound_in [] h x i = absurd i
 sound_in (q ∷ older) h x i = elim i [ inl e ↦ subst (λ (y : Operation). has_bad_stamp y ≡ false) e h.1.sound | inr j ↦ sound_in older h.2 x j ]
 
 first_end : (q : Operation) (rest : ℕ) → last_count q ≤ cond (q.site == q.site) (max (last_count q) rest) rest
 first_end q rest = grind (arith, nat_tests)
 
-pub end_of : (set : List Operation) (x : Operation) → Has set x → last_count x ≤ known_end set x.site
+pub end_of : (set : List Operation) (x : Operation) → HasOp set x → last_count x ≤ known_end set x.site
 end_of [] x i = absurd i
 end_of (q ∷ older) x i = elim i [
   | inl e ↦ subst (λ (y : Operation). last_count y ≤ known_end (q ∷ older) y.site) e (first_end q (known_end older q.site))
@@ -111,12 +111,12 @@ clash_apart p q b h k = split (p.site == q.site)
     (λ e. let i = h e in let j = k e in let l = last_ge q.count q.body in let m : (q.site == p.site) ≡ true = grind (arith, nat_tests) in grind (arith, nat_tests))
     (λ e. let m : (q.site == p.site) ≡ false = grind (arith, nat_tests) in grind (arith, e, m))
 
-clash_none : (older : List Operation) (p : Operation) → Continues older p → (x : Operation) → Has older x → clash p x ≡ false
+clash_none : (older : List Operation) (p : Operation) → Continues older p → (x : Operation) → HasOp older x → clash p x ≡ false
 clash_none older p k x i =
     let l : (p.site == x.site) ≡ true → last_count x ≤ p.prev = λ e. let s : x.site ≡ p.site = grind (arith, nat_tests) in let j = ap (known_end older) s in omega (arith, end_of older x i, k.prev, j) in
     clash_apart p x (same_operation p x) (λ e. omega (arith, l e, (sound_of k).prev)) l
 
-pub free : (set : List Operation) → IsHistory set → (p q : Operation) → Has set p → Has set q → clash p q ≡ false
+pub free : (set : List Operation) → IsHistory set → (p q : Operation) → HasOp set p → HasOp set q → clash p q ≡ false
 free [] h p q i j = absurd i
 free (x ∷ older) h p q i j = elim i [
   | inl e ↦ elim j [
@@ -136,7 +136,7 @@ log_of set h = record { falling = falling set h; sound = sound_in set h; free = 
 
 -- an operation whose counts a history has passed overlaps one of it
 passed_by : (set : List Operation) → IsHistory set → (x : Operation) → x.prev < known_end set x.site
-    → (r : Operation) × Has set r × (r.site ≡ x.site) × (x.prev < last_count r) × (r.prev ≤ x.prev)
+    → (r : Operation) × HasOp set r × (r.site ≡ x.site) × (x.prev < last_count r) × (r.prev ≤ x.prev)
 passed_by [] h x l = absurd (omega arith)
 passed_by (q ∷ older) h x l = elim (cases_lt x.prev (known_end older x.site)) [
   | inl m ↦ (let (r, i, s, a, b) = passed_by older h.2 x m in (r, inr i, s, a, b))
@@ -199,13 +199,13 @@ conflict_tests false false false false true f k = absurd (cc k)
 conflict_tests false false false false false true k = absurd (cc k)
 conflict_tests false false false false false false k = absurd (cc k)
 
-pub repeat_is : (set : List Operation) (op : Operation) → IsHistory set → (answer_to op set ≡ Repeat) ↔ Has set op
+pub repeat_is : (set : List Operation) (op : Operation) → IsHistory set → (answer_to op set ≡ Repeat) ↔ HasOp set op
 repeat_is set op h = (
   λ k. has_held set op (repeat_tests (has_bad_stamp op) (holds set op) (nat_lt op.prev (known_end set op.site)) (nat_lt (known_end set op.site) op.prev) (list_any (can_never_be_known set op) (named op.body)) (not (list_all (is_known set op.body) (named op.body))) k),
   λ i. let a = sound_in set h op i in let b = held_from set op i in rw (a, b) refl,
 )
 
-pub conflict_answer : (set : List Operation) (op : Operation) → IsHistory set → has_bad_stamp op ≡ false → (Has set op → ⊥) → (answer_to op set ≡ Refused Conflict) ↔ (list_any (clash op) set ≡ true)
+pub conflict_answer : (set : List Operation) (op : Operation) → IsHistory set → has_bad_stamp op ≡ false → (HasOp set op → ⊥) → (answer_to op set ≡ Refused Conflict) ↔ (list_any (clash op) set ≡ true)
 conflict_answer set op h a n =
     let b : holds set op ≡ false = split (holds set op) (λ e. absurd (n (has_held set op e))) (λ e. e) in
     let c = conflict_is set op h a b in (

@@ -3,7 +3,7 @@ use Rattle.std.proofs.Common.{◌≡◌, ◌↔◌, ℕ, ◌<◌, ◌≤◌, Boo
 use Rattle.std.proofs.lemmas.Bool.Decides.{nat_tests}
 use Rattle.std.specs.List.{list_any}
 use Rattle.rt_ops.specs.Operations.{Operation, last_count, named}
-use Rattle.rt_oplog.specs.Logs.{Has, clash, holds, reaches_into, same_operation}
+use Rattle.rt_oplog.specs.Logs.{HasOp, clash, holds, reaches_into, same_operation}
 use Rattle.rt_oplog.proofs.Sets.{has_held, operation_true}
 use Rattle.rt_rga.specs.Reading.{has_stamp}
 use Rattle.rt_rga.specs.Histories.{Continues, IsHistory, inserted}
@@ -26,14 +26,14 @@ overlapping x y n s a b c d e f m = split (nat_le_count x y)
     nat_le_count : Operation → Operation → Bool
     nat_le_count x y = nat_le x.count y.count
 
-one_operation : (set : List Operation) → IsHistory set → (x y : Operation) → Has set x → Has set y → x.site ≡ y.site → (n : ℕ) → x.count ≤ n → n ≤ last_count x → y.count ≤ n → n ≤ last_count y → x ≡ y
+one_operation : (set : List Operation) → IsHistory set → (x y : Operation) → HasOp set x → HasOp set y → x.site ≡ y.site → (n : ℕ) → x.count ≤ n → n ≤ last_count x → y.count ≤ n → n ≤ last_count y → x ≡ y
 one_operation set h x y i j s n a b c d = split (same_operation x y)
     (λ e. operation_true x y e)
     (λ e. absurd (let t = overlapping x y n s (bad_prev x (sound_in set h x i)) (bad_prev y (sound_in set h y j)) a b c d e in let f = free set h x y i j in cc (t, f)))
 
 -- the Insert of a named character is there where the character is
-insert_there : (set older : List Operation) (op base : Operation) → IsHistory set → IsHistory older → AreIn older set → Continues older op → Has set base
-    → list_any (has_stamp (inserted base)) (named op.body) ≡ true → Has older base
+insert_there : (set older : List Operation) (op base : Operation) → IsHistory set → IsHistory older → AreIn older set → Continues older op → HasOp set base
+    → list_any (has_stamp (inserted base)) (named op.body) ≡ true → HasOp older base
 insert_there set older op base h o sub k i u =
     let (s, n, t) = some_named (has_stamp (inserted base)) (named op.body) u in
     elim (known_site older op.body s (knows k s n)) [
@@ -42,14 +42,14 @@ insert_there set older op base h o sub k i u =
           let p = inserted_range x s v in
           let q = inserted_range base s t in
           let e : x ≡ base = one_operation set h x base (sub x j) i (sym p.site ∙ q.site) s.count p.low p.high q.low q.high in
-          subst (Has older) e j
+          subst (HasOp older) e j
           )
       | inr z ↦ absurd (let w = character_site set h s (character_of set base s i t) in let y = z.1 in omega (arith, w, y))
     ]
 
 -- so is the previous one of the site
-previous_there : (set older : List Operation) (op base : Operation) → IsHistory set → IsHistory older → AreIn older set → Continues older op → Has set base
-    → base.site ≡ op.site → last_count base ≡ op.prev → Has older base
+previous_there : (set older : List Operation) (op base : Operation) → IsHistory set → IsHistory older → AreIn older set → Continues older op → HasOp set base
+    → base.site ≡ op.site → last_count base ≡ op.prev → HasOp older base
 previous_there set older op base h o sub k i s l =
     let a = bad_prev base (sound_in set h base i) in
     let b = last_ge base.count base.body in
@@ -57,7 +57,7 @@ previous_there set older op base h o sub k i s l =
     let (x, j, t, m) = end_reached older op.site (omega (arith, a, b, c, l)) in
     let d = last_ge x.count x.body in
     let e : x ≡ base = one_operation set h x base (sub x j) i (t ∙ sym s) (last_count base) (omega (arith, d, m, c, l)) (omega (arith, m, c, l)) b (omega arith) in
-    subst (Has older) e j
+    subst (HasOp older) e j
 
 pub bases_there : (set older : List Operation) (op : Operation) → IsHistory set → IsHistory older → AreIn older set → Continues older op → HasBasesIn set op older
 bases_there set older op h o sub k base i u = split (list_any (has_stamp (inserted base)) (named op.body))
@@ -65,12 +65,12 @@ bases_there set older op h o sub k base i u = split (list_any (has_stamp (insert
     (λ e. let a : ((base.site == op.site) && (last_count base == op.prev)) ≡ true = grind (arith, e, u) in
     previous_there set older op base h o sub k i (grind (arith, nat_tests, a)) (grind (arith, nat_tests, a)))
 
-pub new_upon_bases : (set older : List Operation) (op : Operation) → IsHistory set → IsHistory older → AreIn older set → Has set op → (Has older op → ⊥)
+pub new_upon_bases : (set older : List Operation) (op : Operation) → IsHistory set → IsHistory older → AreIn older set → HasOp set op → (HasOp older op → ⊥)
     → (answer_to op older ≡ New) ↔ HasBasesIn set op older
 new_upon_bases set older op h o sub i n = (
   λ e. bases_there set older op h o sub (continues_if_new older op (rules_in set h op i) e),
   λ b. new_if_continues older op o (in_time set older op h o sub i b (held_not n)),
 )
   where
-    held_not : (Has older op → ⊥) → holds older op ≡ false
+    held_not : (HasOp older op → ⊥) → holds older op ≡ false
     held_not m = split (holds older op) (λ e. absurd (m (has_held older op e))) (λ e. e)

@@ -3,7 +3,7 @@ use Rattle.std.proofs.Common.{◌≡◌, Bool, true, false, inl, inr, refl, sym,
 use Rattle.std.proofs.lemmas.Bool.{cases_lt}
 use Rattle.rt_stamps.specs.declared.fault.Fault.TheVariants.{Conflict}
 use Rattle.rt_ops.specs.Operations.{Operation}
-use Rattle.rt_oplog.specs.Logs.{Has, clash, has_clash, holds, joined, known_end, union, with_operation}
+use Rattle.rt_oplog.specs.Logs.{HasOp, clash, has_clash, holds, joined, known_end, union, with_operation}
 use Rattle.rt_oplog.proofs.Sets.{added_has, clash_from, clash_sym, free_from, has_union, union_has}
 use Rattle.rt_rga.specs.Histories.{Continues, IsHistory}
 use Rattle.rt_rga.proofs.Skipping.{split}
@@ -13,8 +13,8 @@ use Rattle.rt_rga.proofs.Accepting.{free}
 use Rattle.rt_rga.proofs.Orders.{character_of, continues_free, end_from_base, end_reached, insert_of}
 
 -- what continues a history continues a larger one that it clashes with nowhere
-pub continues_more : (older more : List Operation) (op : Operation) → Continues older op → IsHistory more → ((x : Operation) → Has older x → Has more x)
-    → ((r : Operation) → Has more r → clash op r ≡ false) → holds more op ≡ false → Continues more op
+pub continues_more : (older more : List Operation) (op : Operation) → Continues older op → IsHistory more → ((x : Operation) → HasOp older x → HasOp more x)
+    → ((r : Operation) → HasOp more r → clash op r ≡ false) → holds more op ≡ false → Continues more op
 continues_more older more op k m sub f n = continues_free more op m k.sound k.rules
     (λ s i. known_weaker older more op.body s (λ c. let (x, j, t) = insert_of older s c in character_of more x s (sub x j) t) (knows k s i))
     (elim (cases_lt 0 (known_end older op.site)) [
@@ -22,7 +22,7 @@ continues_more older more op k m sub f n = continues_free more op m k.sound k.ru
       | inr l ↦ (let p = k.prev in omega (arith, l, p))
     ]) f n
 
-pub union_history : (one other : List Operation) → IsHistory one → IsHistory other → ((p q : Operation) → Has (union one other) p → Has (union one other) q → clash p q ≡ false) → IsHistory (union one other)
+pub union_history : (one other : List Operation) → IsHistory one → IsHistory other → ((p q : Operation) → HasOp (union one other) p → HasOp (union one other) q → clash p q ≡ false) → IsHistory (union one other)
 union_history [] other h k f = k
 union_history (op ∷ older) other h k f =
     let set = union older other in
@@ -43,15 +43,15 @@ joined_history one other set h k e =
     let (n, i) = joined_free (has_clash (union one other)) (union one other) set e in
     subst IsHistory i (union_history one other h k (free_from (union one other) n))
 
-pub all_free : (one other : List Operation) → IsHistory one → IsHistory other → ((p q : Operation) → Has one p → Has other q → clash p q ≡ false)
-    → (p q : Operation) → Has (union one other) p → Has (union one other) q → clash p q ≡ false
+pub all_free : (one other : List Operation) → IsHistory one → IsHistory other → ((p q : Operation) → HasOp one p → HasOp other q → clash p q ≡ false)
+    → (p q : Operation) → HasOp (union one other) p → HasOp (union one other) q → clash p q ≡ false
 all_free one other h k f p q i j = elim (has_union one other p i) [
   | inl a ↦ elim (has_union one other q j) [ inl b ↦ free one h p q a b | inr b ↦ f p q a b ]
   | inr a ↦ elim (has_union one other q j) [ inl b ↦ clash_sym p q ∙ f q p b a | inr b ↦ free other k p q a b ]
 ]
 
 -- two histories, no operation of one of which clashes with one of the other, are joined to their union
-pub joined_free_histories : (one other : List Operation) → IsHistory one → IsHistory other → ((p q : Operation) → Has one p → Has other q → clash p q ≡ false)
+pub joined_free_histories : (one other : List Operation) → IsHistory one → IsHistory other → ((p q : Operation) → HasOp one p → HasOp other q → clash p q ≡ false)
     → joined one other ≡ Ok (union one other)
 joined_free_histories one other h k f = split (has_clash (union one other))
     (λ e. let (p, q, i, j, c) = clash_from (union one other) e in let n = all_free one other h k f p q i j in absurd (cc (c, n)))

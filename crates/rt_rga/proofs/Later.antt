@@ -8,7 +8,7 @@ use Rattle.rt_stamps.specs.declared.fault.Fault.TheVariants.{BadStamp, Conflict,
 use Rattle.rt_stamps.specs.Stamps.{is_before, is_same}
 use Rattle.rt_stamps.proofs.Order.{same_refl}
 use Rattle.rt_ops.specs.Operations.{Operation, last_count, named, has_bad_stamp, stamp_of}
-use Rattle.rt_oplog.specs.Logs.{Has, clash, holds, known_end, reaches_into, same_operation}
+use Rattle.rt_oplog.specs.Logs.{HasOp, clash, holds, known_end, reaches_into, same_operation}
 use Rattle.rt_oplog.proofs.Sets.{any_from, has_held, operation_true}
 use Rattle.rt_rga.specs.Histories.{IsHistory, has_character, is_known, may_name}
 use Rattle.rt_rga.specs.Answers.{Answer, New, Repeat, Refused, answer_to, can_never_be_known}
@@ -109,7 +109,7 @@ clash_between x op s a b c d e f n =
 pub named_before : (op : Operation) (s : Stamp) → has_bad_stamp op ≡ false → names op.body s ≡ true → is_before s (stamp_of op) ≡ true
 named_before op s h k = let i : not (is_before s (stamp_of op)) ≡ false = none_at (λ s. not (is_before s (stamp_of op))) (named op.body) (grind (arith, h)) s k in grind (arith, i)
 
-named_by_own : (set more : List Operation) (op : Operation) (s : Stamp) → IsHistory set → IsHistory more → AreIn set more → IsBad set op → Has more op
+named_by_own : (set more : List Operation) (op : Operation) (s : Stamp) → IsHistory set → IsHistory more → AreIn set more → IsBad set op → HasOp more op
     → names op.body s ≡ true → has_character set s ≡ false → s.site ≡ op.site → has_character more s ≡ false
 named_by_own set more op s h m sub bad i n a site = elim (cases_lt (known_end set s.site) s.count) [
   | inr l ↦ absent_later set more h m sub s l a
@@ -132,7 +132,7 @@ named_by_own set more op s h m sub bad i n a site = elim (cases_lt (known_end se
     later : (s : Stamp) (op : Operation) → s.site ≡ op.site → is_before s (stamp_of op) ≡ true → op.count ≤ s.count → ⊥
     later s op a b c = grind (arith, nat_tests)
 
-not_later : (set more : List Operation) (op : Operation) → IsHistory set → IsHistory more → AreIn set more → IsBad set op → Has more op → ⊥
+not_later : (set more : List Operation) (op : Operation) → IsHistory set → IsHistory more → AreIn set more → IsBad set op → HasOp more op → ⊥
 not_later set more op h m sub bad i =
     let (s, n, t) = some_named (can_never_be_known set op) (named op.body) bad.target in
     let k = known_site more op.body s (known_in_set more m op i s n) in

@@ -2,7 +2,7 @@
 use Rattle.std.proofs.Common.{◌≡◌, ◌↔◌, ℕ, ◌≤◌, true, ◌⊎◌, inl, inr, refl, sym, ap, subst, ◌∙◌, arith, List, [], ◌∷◌, ◌+◌, length, map, nat_lt}
 use Rattle.std.specs.List.{AllByRecursion}
 use Rattle.rt_ops.specs.Operations.{Operation}
-use Rattle.rt_oplog.specs.Logs.{Has, with_operation}
+use Rattle.rt_oplog.specs.Logs.{HasOp, with_operation}
 use Rattle.rt_ops.specs.Rules.{keeps_rules}
 use Rattle.rt_oplog.proofs.Sets.{has_with, with_has}
 use Rattle.rt_rga.specs.Answers.{Answer, New, Repeat, Refused, all_taken, answer_to, answer_within, set_after, taken}
@@ -16,12 +16,12 @@ use Rattle.rt_rga.proofs.Orders.{rules_in, whole}
 use Rattle.rt_rga.proofs.Room.{other_within, taken_within}
 
 -- the members after an offer
-after_answer : (a : Answer) (op x : Operation) (set : List Operation) → Has (set_after a op set) x ↔ (Has set x ⊎ ((op ≡ x) × (a ≡ New)))
+after_answer : (a : Answer) (op x : Operation) (set : List Operation) → HasOp (set_after a op set) x ↔ (HasOp set x ⊎ ((op ≡ x) × (a ≡ New)))
 after_answer New op x set = (λ h. elim (has_with op set x h) [ inl e ↦ inr (e, refl) | inr i ↦ inl i ], λ h. with_has op set x (elim h [ inl i ↦ inr i | inr e ↦ inl e.0 ]))
 after_answer Repeat op x set = (λ h. inl h, λ h. elim h [ inl i ↦ i | inr e ↦ absurd (cc e.1) ])
 after_answer (Refused fault) op x set = (λ h. inl h, λ h. elim h [ inl i ↦ i | inr e ↦ absurd (cc e.1) ])
 
-pub members : (set : List Operation) (op x : Operation) → Has (taken op set) x ↔ (Has set x ⊎ ((op ≡ x) × (answer_to op set ≡ New)))
+pub members : (set : List Operation) (op x : Operation) → HasOp (taken op set) x ↔ (HasOp set x ⊎ ((op ≡ x) × (answer_to op set ≡ New)))
 members set op x = after_answer (answer_to op set) op x set
 
 longer_by : (a : Answer) (op : Operation) (set : List Operation) → (a ≡ New → length (cells_of set) ≤ length (cells_of (with_operation op set))) → length (cells_of set) ≤ length (cells_of (set_after a op set))
@@ -55,11 +55,11 @@ alike site limit (op ∷ ops) set h r l =
     let e = answer_alike limit op set (answer_to op set) refl h r.0 (λ n. subst (λ a. length (cells_of (set_after a op set)) ≤ limit) n m) in
     ap (λ a. after_requests site limit (map Offer ops) (set_after a op set)) e ∙ alike site limit ops (taken op set) (one_history op set h r.0) r.1 l
 
-all_members : (P : Operation → Type 0) (ops : List Operation) → ((x : Operation) → Has ops x → P x) → AllByRecursion P ops
+all_members : (P : Operation → Type 0) (ops : List Operation) → ((x : Operation) → HasOp ops x → P x) → AllByRecursion P ops
 all_members P [] f = tt
 all_members P (op ∷ ops) f = (f op (inl refl), all_members P ops (λ x i. f x (inr i)))
 
-pub whole_within : (site limit : ℕ) (set first ops : List Operation) → IsHistory set → IsHistory first → ((op : Operation) → Has set op ↔ (Has first op ⊎ Has ops op)) → ComeInTime set first ops
+pub whole_within : (site limit : ℕ) (set first ops : List Operation) → IsHistory set → IsHistory first → ((op : Operation) → HasOp set op ↔ (HasOp first op ⊎ HasOp ops op)) → ComeInTime set first ops
     → length (cells_of set) ≤ limit → after_requests site limit (map Offer ops) first ≡ set
 whole_within site limit set first ops h o same t l =
     let w = whole set first ops h o same t in

@@ -14,7 +14,7 @@ use Rattle.rt_store.proofs.Distinct.{split}
 use Rattle.rt_store.proofs.Finding.{stamp_held}
 use Rattle.rt_store.proofs.Positions.{among_at, get_within, run_found}
 use Rattle.std.specs.Option.{is_some}
-use Rattle.rt_rga.specs.NamedRuns.{IsRun, names_at, span_of_run, spans_of_runs}
+use Rattle.rt_rga.specs.NamedRuns.{IsCellRun, names_at, span_of_run, spans_of_runs}
 use Rattle.rt_rga.proofs.RemovedPlaces.{visible_from}
 
 -- CELLS OF A RUN
@@ -33,7 +33,7 @@ behind span stamp h =
     record { is = λ i. record { count = count i; site = site i }; within = omega (arith, from, to) }
 
 -- the cell of a stamp in a run's span goes on from the first one
-pub of_run : (cells : List (Cell ℕ)) (run : CellRun) (cell : Cell ℕ) → AreDistinct cells → IsRun cells run → cell_of cells cell.stamp ≡ Some cell
+pub of_run : (cells : List (Cell ℕ)) (run : CellRun) (cell : Cell ℕ) → AreDistinct cells → IsCellRun cells run → cell_of cells cell.stamp ≡ Some cell
     → is_in_span (span_of_run run) cell.stamp ≡ true → GoesOn run.cell (cell.stamp.count - run.cell.stamp.count) cell
 of_run cells run cell distinct r found h =
     let b = behind (span_of_run run) cell.stamp h in
@@ -124,8 +124,8 @@ one_more (r ∷ runs) run other =
     by true b c = refl
     by false b c = refl
 
-pub runs_more : (cells : List (Cell ℕ)) (runs : List CellRun) (run : CellRun) → All (IsRun cells) runs → IsRun cells run → All (IsRun cells) (runs ++ run ∷ [])
-runs_more cells runs run h r = All-append (IsRun cells) runs (run ∷ []) h (All-cons (IsRun cells) run [] r (All-nil (IsRun cells)))
+pub runs_more : (cells : List (Cell ℕ)) (runs : List CellRun) (run : CellRun) → All (IsCellRun cells) runs → IsCellRun cells run → All (IsCellRun cells) (runs ++ run ∷ [])
+runs_more cells runs run h r = All-append (IsCellRun cells) runs (run ∷ []) h (All-cons (IsCellRun cells) run [] r (All-nil (IsCellRun cells)))
 
 -- a stamp of a span is in its first part or in the rest
 pub span_parted : (b : Bool) (site count to last : ℕ) (s : Stamp) → count ≤ to → to ≤ last
@@ -148,13 +148,13 @@ spans_parted false span spans s = refl
 
 -- the cells of runs whose first ones pass a test are those of the runs that pass it, where it asks for what a run has in common
 pub passing : (test : Cell ℕ → Bool) (cells : List (Cell ℕ)) (runs : List CellRun) (cell : Cell ℕ) → ((a b : Cell ℕ) → a.state ≡ b.state → test a ≡ test b)
-    → AreDistinct cells → All (IsRun cells) runs → cell_of cells cell.stamp ≡ Some cell
+    → AreDistinct cells → All (IsCellRun cells) runs → cell_of cells cell.stamp ≡ Some cell
     → is_in_spans (spans_of_runs (filter (λ run. test run.cell) runs)) cell.stamp ≡ (is_in_spans (spans_of_runs runs) cell.stamp && test cell)
 passing test cells [] cell alike distinct rs found = refl
 passing test cells (run ∷ runs) cell alike distinct rs found =
-    let rest = passing test cells runs cell alike distinct (All-tail (IsRun cells) run runs rs) found in
+    let rest = passing test cells runs cell alike distinct (All-tail (IsCellRun cells) run runs rs) found in
     let of : is_in_span (span_of_run run) cell.stamp ≡ true → test run.cell ≡ test cell = λ t.
-    alike run.cell cell (sym (of_run cells run cell distinct (All-head (IsRun cells) run runs rs) found t).state) in
+    alike run.cell cell (sym (of_run cells run cell distinct (All-head (IsCellRun cells) run runs rs) found t).state) in
     by (is_in_span (span_of_run run) cell.stamp) (test run.cell) refl of rest
   where
     by : (here passes : Bool) → is_in_span (span_of_run run) cell.stamp ≡ here → (here ≡ true → passes ≡ test cell)

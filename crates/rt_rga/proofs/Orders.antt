@@ -7,7 +7,7 @@ use Rattle.rt_stamps.specs.declared.stamp.Stamp.{Stamp}
 use Rattle.rt_stamps.specs.Stamps.{is_same}
 use Rattle.rt_stamps.proofs.Order.{same_from_true}
 use Rattle.rt_ops.specs.Operations.{Operation, last_count, named, has_bad_stamp}
-use Rattle.rt_oplog.specs.Logs.{Has, clash, holds, known_end}
+use Rattle.rt_oplog.specs.Logs.{HasOp, clash, holds, known_end}
 use Rattle.rt_ops.specs.Rules.{keeps_rules}
 use Rattle.rt_oplog.proofs.Sets.{any_at, any_from, has_held, has_with, with_has}
 use Rattle.rt_rga.specs.Reading.{has_stamp}
@@ -22,26 +22,26 @@ use Rattle.rt_rga.proofs.Chains.{by_sites}
 
 -- MEMBERS
 
-pub member_at : (P : Operation → Type 0) (set : List Operation) → AllByRecursion P set → (x : Operation) → Has set x → P x
+pub member_at : (P : Operation → Type 0) (set : List Operation) → AllByRecursion P set → (x : Operation) → HasOp set x → P x
 member_at P [] h x i = absurd i
 member_at P (q ∷ older) h x i = elim i [ inl e ↦ subst P e h.0 | inr j ↦ member_at P older h.1 x j ]
 
-pub rules_in : (set : List Operation) → IsHistory set → (x : Operation) → Has set x → keeps_rules x.body ≡ true
+pub rules_in : (set : List Operation) → IsHistory set → (x : Operation) → HasOp set x → keeps_rules x.body ≡ true
 rules_in set h x i = member_at (λ op. keeps_rules op.body ≡ true) set (by_sites set h).rules x i
 
-pub known_in_set : (set : List Operation) → IsHistory set → (x : Operation) → Has set x → (s : Stamp) → names x.body s ≡ true → IsKnown set x.body s
+pub known_in_set : (set : List Operation) → IsHistory set → (x : Operation) → HasOp set x → (s : Stamp) → names x.body s ≡ true → IsKnown set x.body s
 known_in_set set h x i s n =
     known_from set x.body s (all_at (is_known set x.body) (named x.body) (member_at (λ op. list_all (is_known set op.body) (named op.body) ≡ true) set (by_sites set h).known x i) s n)
 
 -- the Insert of a character, and the character of an Insert
-pub insert_of : (set : List Operation) (s : Stamp) → has_character set s ≡ true → (x : Operation) × Has set x × (has_stamp (inserted x) s ≡ true)
+pub insert_of : (set : List Operation) (s : Stamp) → has_character set s ≡ true → (x : Operation) × HasOp set x × (has_stamp (inserted x) s ≡ true)
 insert_of set s h = any_from (λ op. has_stamp (inserted op) s) set h
 
-pub character_of : (set : List Operation) (x : Operation) (s : Stamp) → Has set x → has_stamp (inserted x) s ≡ true → has_character set s ≡ true
+pub character_of : (set : List Operation) (x : Operation) (s : Stamp) → HasOp set x → has_stamp (inserted x) s ≡ true → has_character set s ≡ true
 character_of set x s i h = any_at (λ op. has_stamp (inserted op) s) set x i h
 
 -- a site's known end is the last count of one of its operations
-pub end_reached : (set : List Operation) (site : ℕ) → 0 < known_end set site → (x : Operation) × Has set x × (x.site ≡ site) × (last_count x ≡ known_end set site)
+pub end_reached : (set : List Operation) (site : ℕ) → 0 < known_end set site → (x : Operation) × HasOp set x × (x.site ≡ site) × (last_count x ≡ known_end set site)
 end_reached [] site h = absurd (omega arith)
 end_reached (q ∷ older) site h = split (q.site == site)
     (λ e. let s : q.site ≡ site = grind (arith, nat_tests) in
@@ -58,7 +58,7 @@ end_reached (q ∷ older) site h = split (q.site == site)
     lesser a b l = omega arith
 
 -- the previous operation of its site, for one that isn't the first
-pub previous_of : (set : List Operation) → IsHistory set → (x : Operation) → Has set x → 0 < x.prev → (base : Operation) × Has set base × (base.site ≡ x.site) × (last_count base ≡ x.prev)
+pub previous_of : (set : List Operation) → IsHistory set → (x : Operation) → HasOp set x → 0 < x.prev → (base : Operation) × HasOp set base × (base.site ≡ x.site) × (last_count base ≡ x.prev)
 previous_of [] h x i p = absurd i
 previous_of (q ∷ older) h x i p = elim i [
   | inl e ↦ (
@@ -76,7 +76,7 @@ previous_of (q ∷ older) h x i p = elim i [
 -- there, and it clashes with none.
 pub continues_free : (set : List Operation) (op : Operation) → IsHistory set → has_bad_stamp op ≡ false → keeps_rules op.body ≡ true
     → ((s : Stamp) → names op.body s ≡ true → IsKnown set op.body s) → op.prev ≤ known_end set op.site
-    → ((r : Operation) → Has set r → clash op r ≡ false) → holds set op ≡ false → Continues set op
+    → ((r : Operation) → HasOp set r → clash op r ≡ false) → holds set op ≡ false → Continues set op
 continues_free set op h a b k e f n = record {
   sound = a;
   rules = b;
@@ -92,7 +92,7 @@ continues_free set op h a b k e f n = record {
   known = known_all set op.body k;
 }
 
-pub end_from_base : (set : List Operation) (base op : Operation) → Has set base → base.site ≡ op.site → last_count base ≡ op.prev → op.prev ≤ known_end set op.site
+pub end_from_base : (set : List Operation) (base op : Operation) → HasOp set base → base.site ≡ op.site → last_count base ≡ op.prev → op.prev ≤ known_end set op.site
 end_from_base set base op i s l = let a = end_of set base i in let b = ap (known_end set) s in omega (arith, a, b, l)
 
 -- of an operation of a history, in a smaller history that has its bases
@@ -111,7 +111,7 @@ any_named p (x ∷ xs) s h k = split (is_same x s)
 upon_named : (base op : Operation) (s : Stamp) → names op.body s ≡ true → has_stamp (inserted base) s ≡ true → is_made_upon base op ≡ true
 upon_named base op s n h = let a = any_named (has_stamp (inserted base)) (named op.body) s n h in grind (arith, a)
 
-pub in_time : (set older : List Operation) (op : Operation) → IsHistory set → IsHistory older → ((x : Operation) → Has older x → Has set x) → Has set op → HasBasesIn set op older
+pub in_time : (set older : List Operation) (op : Operation) → IsHistory set → IsHistory older → ((x : Operation) → HasOp older x → HasOp set x) → HasOp set op → HasBasesIn set op older
     → holds older op ≡ false → Continues older op
 in_time set older op h o sub i bases n = continues_free older op o (sound_in set h op i) (rules_in set h op i)
     (λ s m. known_weaker set older op.body s (λ c. let (x, j, t) = insert_of set s c in character_of older x s (bases x j (upon_named x op s m t)) t) (known_in_set set h op i s m))
@@ -124,10 +124,10 @@ in_time set older op h o sub i bases n = continues_free older op o (sound_in set
 -- ALL
 
 -- the members after an offer
-pub members_after : (set : List Operation) (op x : Operation) → answer_to op set ≡ New → Has (taken op set) x ↔ (Has set x ⊎ (op ≡ x))
+pub members_after : (set : List Operation) (op x : Operation) → answer_to op set ≡ New → HasOp (taken op set) x ↔ (HasOp set x ⊎ (op ≡ x))
 members_after set op x e = (
-  λ h. elim (has_with op set x (subst (λ a. Has (set_after a op set) x) e h)) [ inl i ↦ inr i | inr j ↦ inl j ],
-  λ h. subst (λ a. Has (set_after a op set) x) (sym e) (with_has op set x (elim h [ inl i ↦ inr i | inr j ↦ inl j ])),
+  λ h. elim (has_with op set x (subst (λ a. HasOp (set_after a op set) x) e h)) [ inl i ↦ inr i | inr j ↦ inl j ],
+  λ h. subst (λ a. HasOp (set_after a op set) x) (sym e) (with_has op set x (elim h [ inl i ↦ inr i | inr j ↦ inl j ])),
 )
 
 pub repeat_after : (set : List Operation) (op : Operation) → answer_to op set ≡ Repeat → taken op set ≡ set
@@ -136,14 +136,14 @@ repeat_after set op e = ap (λ a. set_after a op set) e
 -- an offer of an operation whose bases are there
 pub record IsTaken (set older : List Operation) (op : Operation) : Type 0 where
   pub history : IsHistory (taken op older)
-  pub members : (x : Operation) → Has (taken op older) x ↔ (Has older x ⊎ (op ≡ x))
+  pub members : (x : Operation) → HasOp (taken op older) x ↔ (HasOp older x ⊎ (op ≡ x))
 
-pub one_taken : (set older : List Operation) (op : Operation) → IsHistory set → IsHistory older → ((x : Operation) → Has older x → Has set x) → Has set op → HasBasesIn set op older → IsTaken set older op
+pub one_taken : (set older : List Operation) (op : Operation) → IsHistory set → IsHistory older → ((x : Operation) → HasOp older x → HasOp set x) → HasOp set op → HasBasesIn set op older → IsTaken set older op
 one_taken set older op h o sub i bases = split (holds older op)
     (λ e. let r = (repeat_is older op o).1 (has_held older op e) in
     let t = repeat_after older op r in record {
       history = subst IsHistory (sym t) o;
-      members = λ x. (λ j. inl (subst (λ l. Has l x) t j), λ j. subst (λ l. Has l x) (sym t) (elim j [ inl k ↦ k | inr k ↦ subst (Has older) k (has_held older op e) ]));
+      members = λ x. (λ j. inl (subst (λ l. HasOp l x) t j), λ j. subst (λ l. HasOp l x) (sym t) (elim j [ inl k ↦ k | inr k ↦ subst (HasOp older) k (has_held older op e) ]));
     })
     (λ e. let k = in_time set older op h o sub i bases e in
     let n = new_if_continues older op o k in record {
@@ -153,10 +153,10 @@ one_taken set older op h o sub i bases = split (holds older op)
 
 pub record AreTaken (ops first result : List Operation) : Type 0 where
   pub history : IsHistory result
-  pub members : (x : Operation) → Has result x ↔ (Has first x ⊎ Has ops x)
+  pub members : (x : Operation) → HasOp result x ↔ (HasOp first x ⊎ HasOp ops x)
 
-pub come : (set : List Operation) → IsHistory set → (ops first older : List Operation) → IsHistory older → ((x : Operation) → Has older x ↔ Has first x)
-    → ((x : Operation) → Has first x → Has set x) → ((x : Operation) → Has ops x → Has set x) → ComeInTime set first ops → AreTaken ops first (all_taken ops older)
+pub come : (set : List Operation) → IsHistory set → (ops first older : List Operation) → IsHistory older → ((x : Operation) → HasOp older x ↔ HasOp first x)
+    → ((x : Operation) → HasOp first x → HasOp set x) → ((x : Operation) → HasOp ops x → HasOp set x) → ComeInTime set first ops → AreTaken ops first (all_taken ops older)
 come set h [] first older o same a b t = record { history = o; members = λ x. (λ i. inl ((same x).0 i), λ i. elim i [ inl j ↦ (same x).1 j | inr j ↦ absurd j ]) }
 come set h (op ∷ ops) first older o same a b t =
     let one = one_taken set older op h o (λ x i. a x ((same x).0 i)) (b op (inl refl)) (λ base i u. (same base).1 (t.0 base i u)) in
@@ -171,12 +171,12 @@ come set h (op ∷ ops) first older o same a b t =
       );
     }
 
-pub come_in_time : (set first ops : List Operation) → IsHistory set → IsHistory first → ((x : Operation) → Has first x → Has set x) → ((x : Operation) → Has ops x → Has set x)
+pub come_in_time : (set first ops : List Operation) → IsHistory set → IsHistory first → ((x : Operation) → HasOp first x → HasOp set x) → ((x : Operation) → HasOp ops x → HasOp set x)
     → ComeInTime set first ops → AreTaken ops first (all_taken ops first)
 come_in_time set first ops h o a b t = come set h ops first first o (λ x. (λ i. i, λ i. i)) a b t
 
 -- where they are the rest of the history, it is what they make
-pub whole : (set first ops : List Operation) → IsHistory set → IsHistory first → ((x : Operation) → Has set x ↔ (Has first x ⊎ Has ops x)) → ComeInTime set first ops → all_taken ops first ≡ set
+pub whole : (set first ops : List Operation) → IsHistory set → IsHistory first → ((x : Operation) → HasOp set x ↔ (HasOp first x ⊎ HasOp ops x)) → ComeInTime set first ops → all_taken ops first ≡ set
 whole set first ops h o same t =
     let r = come_in_time set first ops h o (λ x i. (same x).1 (inl i)) (λ x i. (same x).1 (inr i)) t in
     one_list (all_taken ops first) set r.history h (λ x. (λ i. (same x).1 ((r.members x).0 i), λ i. (r.members x).1 ((same x).0 i)))

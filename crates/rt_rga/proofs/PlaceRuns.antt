@@ -14,7 +14,7 @@ use Rattle.rt_store.specs.Cells.{AreDistinct, GoOnTo, GoesOn, cell_of, position_
 use Rattle.rt_store.proofs.Finding.{visible_there}
 use Rattle.rt_store.proofs.Positions.{get_within, position_at, run_found}
 use Rattle.rt_rga.specs.declared.taken.PlaceRun.{PlaceRun}
-use Rattle.rt_rga.specs.NamedRuns.{IsBelow, IsRun, fall, names_at, span_of_run}
+use Rattle.rt_rga.specs.NamedRuns.{IsBelow, IsCellRun, fall, names_at, span_of_run}
 use Rattle.rt_rga.specs.Taken.{AreFallingRuns, is_in_run, is_in_runs}
 use Rattle.rt_rga.proofs.NamedRuns.{behind}
 use Rattle.rt_rga.proofs.RemovedPlaces.{found_visible}
@@ -49,7 +49,7 @@ seen_along cells first last (suc n) on shown le =
     let b : visible_before cells (on.position + n) + 1 ≡ visible_before cells on.position + suc n = omega (arith, before) in
     ap (visible_before cells) a ∙ more ∙ b
 
-module _ (cells : List (Cell ℕ)) (run : CellRun) (distinct : AreDistinct cells) (r : IsRun cells run) (shown : run.cell.gone ≡ false) where
+module _ (cells : List (Cell ℕ)) (run : CellRun) (distinct : AreDistinct cells) (r : IsCellRun cells run) (shown : run.cell.gone ≡ false) where
   abbrev first : ℕ
   first = visible_before cells r.on.position
 
@@ -119,7 +119,7 @@ module _ (cells : List (Cell ℕ)) (run : CellRun) (distinct : AreDistinct cells
   run_places place = both_ways _ _ (in_run place) (in_places place)
 
 -- no visible cell is one of a run of gone ones
-pub gone_places : (cells : List (Cell ℕ)) (run : CellRun) (place : ℕ) → AreDistinct cells → IsRun cells run → run.cell.gone ≡ true → false ≡ names_at (span_of_run run ∷ []) cells place
+pub gone_places : (cells : List (Cell ℕ)) (run : CellRun) (place : ℕ) → AreDistinct cells → IsCellRun cells run → run.cell.gone ≡ true → false ≡ names_at (span_of_run run ∷ []) cells place
 gone_places cells run place distinct r gone = by (slice_get (visible_of cells) place) refl
   where
     none : (cell : Cell ℕ) → slice_get (visible_of cells) place ≡ Some cell → (b : Bool) → is_in_span (span_of_run run) cell.stamp ≡ b → false ≡ (b || false)

@@ -23,7 +23,7 @@ use Rattle.rt_tags.specs.Writers.{state_after}
 use Rattle.rt_tags.proofs.Greatest.{newer, write_of_written}
 use Rattle.rt_tags.proofs.Places.{name_itself}
 use Rattle.rt_rga.specs.declared.plan.Named.{Named}
-use Rattle.rt_rga.specs.Batches.{AreInOrder, entries_on, named_with, tag_writes, tag_writes_by}
+use Rattle.rt_rga.specs.Batches.{AreByStamp, entries_on, named_with, tag_writes, tag_writes_by}
 use Rattle.rt_rga.proofs.Skipping.{split}
 use Rattle.rt_rga.proofs.Writes.{spans_name, state_append}
 
@@ -138,14 +138,14 @@ entries_stay xs ys h s =
     tied : (s t : Stamp) → is_same t s ≡ (not (is_lt (ordering_then (nat_cmp s.site t.site) (nat_cmp s.count t.count))) && not (is_lt (ordering_then (nat_cmp t.site s.site) (nat_cmp t.count s.count))))
     tied s t = sym ((λ i. not (lesser s.site t.site s.count t.count i) && not (lesser t.site s.site t.count s.count i)) ∙ grind (arith, nat_tests))
 
-order_from : (xs : List Named) → ((i j : ℕ) (d : Named) → i ≤ j → j < length xs → precedes (get_or xs j d).stamp (get_or xs i d).stamp ≡ false) → AreInOrder xs
+order_from : (xs : List Named) → ((i j : ℕ) (d : Named) → i ≤ j → j < length xs → precedes (get_or xs j d).stamp (get_or xs i d).stamp ≡ false) → AreByStamp xs
 order_from [] h = tt
 order_from (x ∷ xs) h = (
   recursion_from_All (λ (later : Named). precedes later.stamp x.stamp ≡ false) xs (λ k d l. h 0 (suc k) d (omega arith) (omega arith)),
   order_from xs (λ i j d l m. h (suc i) (suc j) d (omega arith) (omega arith)),
 )
 
-pub in_order : (xs : List Named) → IsSortedBy (λ a b. is_lt (key_cmp (key_of a) (key_of b))) xs → AreInOrder xs
+pub in_order : (xs : List Named) → IsSortedBy (λ a b. is_lt (key_cmp (key_of a) (key_of b))) xs → AreByStamp xs
 in_order xs h = order_from xs (λ i j d l m.
     sym (lesser (get_or xs j d).stamp.site (get_or xs i d).stamp.site (get_or xs j d).stamp.count (get_or xs i d).stamp.count)
     ∙ sorted_far (λ a b. is_lt (key_cmp (key_of a) (key_of b))) (ranks_by keys_total key_of) xs h i j d l m)

@@ -21,7 +21,7 @@ use Rattle.rt_tags.specs.Writers.{state_after}
 use Rattle.rt_ops.specs.Operations.{Operation}
 use Rattle.rt_rga.specs.declared.plan.Named.{Named}
 use Rattle.rt_rga.specs.declared.tagging.StateRun.{StateRun}
-use Rattle.rt_rga.specs.Batches.{AreInOrder, CountsRise, IsCopied, HasEntries, after_tags, entries_on, tag_writes}
+use Rattle.rt_rga.specs.Batches.{AreByStamp, CountsRise, IsCopied, HasEntries, after_tags, entries_on, tag_writes}
 use Rattle.rt_tags.specs.Borders.{one_or_none}
 use Rattle.rt_rga.specs.Runs.{put_back, put_back_in_any}
 use Rattle.rt_rga.proofs.PlannedEntries.{writes_kept}
@@ -90,7 +90,7 @@ all_after s y (z ∷ ys) p n h = (beyond y.stamp z.stamp s p n h.0, all_after s 
     beyond : (y z s : Stamp) → precedes y s ≡ false → is_same y s ≡ false → precedes z y ≡ false → is_same z s ≡ false
     beyond y z s p n h = grind (arith, nat_tests)
 
-one_run : (s : Stamp) (ys : List Named) → AreInOrder ys → AllByRecursion (λ (y : Named). precedes y.stamp s ≡ false) ys → filter (λ n. is_same n.stamp s) ys ≡ take_while (λ n. is_same n.stamp s) ys
+one_run : (s : Stamp) (ys : List Named) → AreByStamp ys → AllByRecursion (λ (y : Named). precedes y.stamp s ≡ false) ys → filter (λ n. is_same n.stamp s) ys ≡ take_while (λ n. is_same n.stamp s) ys
 one_run s [] o h = refl
 one_run s (y ∷ ys) o h =
     split (is_same y.stamp s)
@@ -104,7 +104,7 @@ one_run s (y ∷ ys) o h =
 not_itself : (s : Stamp) → precedes s s ≡ false
 not_itself s = grind (arith, nat_tests)
 
-earlier : (x : Named) (xs : List Named) (j : ℕ) (d : Named) → AreInOrder (x ∷ xs) → j < length xs → is_same (get_or (x ∷ xs) j d).stamp (get_or xs j d).stamp ≡ false → is_same x.stamp (get_or xs j d).stamp ≡ false
+earlier : (x : Named) (xs : List Named) (j : ℕ) (d : Named) → AreByStamp (x ∷ xs) → j < length xs → is_same (get_or (x ∷ xs) j d).stamp (get_or xs j d).stamp ≡ false → is_same x.stamp (get_or xs j d).stamp ≡ false
 earlier x xs zero d o l n = n
 earlier x xs (suc k) d o l n =
     apart x.stamp (get_or xs k d).stamp (get_or xs (suc k) d).stamp
@@ -114,13 +114,13 @@ earlier x xs (suc k) d o l n =
     apart : (x p s : Stamp) → precedes p x ≡ false → precedes s p ≡ false → is_same p s ≡ false → is_same x s ≡ false
     apart x p s a b c = grind (arith, nat_tests)
 
-    next : (xs : List Named) (k : ℕ) (d : Named) → AreInOrder xs → suc k < length xs → precedes (get_or xs (suc k) d).stamp (get_or xs k d).stamp ≡ false
+    next : (xs : List Named) (k : ℕ) (d : Named) → AreByStamp xs → suc k < length xs → precedes (get_or xs (suc k) d).stamp (get_or xs k d).stamp ≡ false
     next [] k d o l = absurd (omega arith)
     next (x ∷ xs) zero d o l = All-from_recursion (λ (later : Named). precedes later.stamp x.stamp ≡ false) xs o.0 0 d (omega arith)
     next (x ∷ xs) (suc k) d o l = next xs k d o.1 (omega arith)
 
 -- from the first entry on a character on, all of them stand together
-pub all_from_first : (named : List Named) (i : ℕ) (d : Named) → AreInOrder named → i < length named → ((j : ℕ) → i ≡ suc j → is_same (get_or named j d).stamp (get_or named i d).stamp ≡ false)
+pub all_from_first : (named : List Named) (i : ℕ) (d : Named) → AreByStamp named → i < length named → ((j : ℕ) → i ≡ suc j → is_same (get_or named j d).stamp (get_or named i d).stamp ≡ false)
     → map (λ n. n.entry) (take_while (λ n. is_same n.stamp (get_or named i d).stamp) (drop i named)) ≡ entries_on named (get_or named i d).stamp
 all_from_first [] i d o l p = absurd (omega arith)
 all_from_first (x ∷ xs) zero d o l p = ap (map (λ n. n.entry)) (sym (one_run x.stamp (x ∷ xs) o (not_itself x.stamp, o.0)))

@@ -4,7 +4,7 @@ use Rattle.std.proofs.lemmas.Bool.Decides.{nat_tests}
 use Rattle.rt_stamps.specs.declared.limits.TheConstants.{GREATEST_COUNT}
 use Rattle.rt_stamps.specs.declared.stamp.Stamp.{Stamp}
 use Rattle.rt_ops.specs.Operations.{Operation, Body, Insert, Delete, Tag, last_of, stamp_of}
-use Rattle.rt_oplog.specs.Logs.{AreOf, Has, with_operation}
+use Rattle.rt_oplog.specs.Logs.{AreOf, HasOp, with_operation}
 use Rattle.rt_oplog.proofs.Sets.{with_has}
 use Rattle.rt_rga.specs.Answers.{Answer, New, Repeat, Refused, answer_to, answer_within, set_after}
 use Rattle.rt_rga.specs.Cells.{cells_of}
@@ -112,13 +112,13 @@ one_room site limit (Offer op) set h m l = offered (λ s. length (cells_of s) �
 one_room site limit (Make drafts) set h m l = drafted (λ s. length (cells_of s) ≤ limit) (fits site limit drafts set) (with_drafts site drafts set) set l
     (λ e. let (a, b) = both (nat_le (last_count_after (greatest_last_count set) drafts) GREATEST_COUNT) (nat_le (length (cells_of (with_drafts site drafts set))) limit) e in grind (arith, nat_tests, b))
 
-more_in : (ops set : List Operation) (x : Operation) → Has set x → Has (with_operations ops set) x
+more_in : (ops set : List Operation) (x : Operation) → HasOp set x → HasOp (with_operations ops set) x
 more_in [] set x i = i
 more_in (op ∷ ops) set x i = more_in ops (with_operation op set) x (with_has op set x (inr i))
 
-one_in : (site limit : ℕ) (request : Request) (set : List Operation) (x : Operation) → Has set x → Has (after_request site limit request set) x
-one_in site limit (Offer op) set x i = offered (λ s. Has s x) (answer_within limit op set) op set i (λ e. with_has op set x (inr i))
-one_in site limit (Make drafts) set x i = drafted (λ s. Has s x) (fits site limit drafts set) (with_drafts site drafts set) set i (λ e. more_in (operations_of site drafts set) set x i)
+one_in : (site limit : ℕ) (request : Request) (set : List Operation) (x : Operation) → HasOp set x → HasOp (after_request site limit request set) x
+one_in site limit (Offer op) set x i = offered (λ s. HasOp s x) (answer_within limit op set) op set i (λ e. with_has op set x (inr i))
+one_in site limit (Make drafts) set x i = drafted (λ s. HasOp s x) (fits site limit drafts set) (with_drafts site drafts set) set i (λ e. more_in (operations_of site drafts set) set x i)
 
 -- ALL REQUESTS
 

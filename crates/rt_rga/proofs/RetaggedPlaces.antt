@@ -18,7 +18,7 @@ use Rattle.rt_tags.proofs.Greatest.{newer, write_of_written}
 use Rattle.rt_tags.proofs.Listing.{keeps_both}
 use Rattle.rt_tags.proofs.Places.{name_itself, split}
 use Rattle.rt_rga.specs.Changes.{with_write, written_in_any}
-use Rattle.rt_rga.specs.NamedRuns.{IsRun, changes_kept, names_at, spans_of_runs}
+use Rattle.rt_rga.specs.NamedRuns.{IsCellRun, changes_kept, names_at, spans_of_runs}
 use Rattle.rt_rga.specs.Noted.{switches, switches_at}
 use Rattle.rt_rga.specs.Taken.{changes_tag, differ, retags}
 use Rattle.rt_store.proofs.Positions.{among_at}
@@ -75,7 +75,7 @@ module _ (stamp : Stamp) (on : Bool) (name : Name) (spans : List Span) where
   alike table a b e = ap (λ s. differ (is_on w.name (state_at table s)) (is_on w.name (written w (state_at table s)))) e
 
   -- The runs of the cells that a Tag names, of which it changes the first ones, have the places at which it changes the text.
-  pub places_retagged : (table : TagStates) (kept : List (Cell ℕ)) (runs : List CellRun) (place : ℕ) → AreDistinct kept → All (IsRun kept) runs
+  pub places_retagged : (table : TagStates) (kept : List (Cell ℕ)) (runs : List CellRun) (place : ℕ) → AreDistinct kept → All (IsCellRun kept) runs
       → ((s : Stamp) → is_among (stamps_of kept) s ≡ true → is_in_spans (spans_of_runs runs) s ≡ is_in_spans spans s)
       → names_at (spans_of_runs (filter (λ run. changes_kept table w run.cell) runs)) kept place ≡ retags stamp (Tag on name spans) (map (shown table) kept) place
   places_retagged table kept runs place d rs named =
@@ -98,7 +98,7 @@ is_switched table on name cell = differ on (is_on name (state_at table cell.stat
 
 -- The runs of the cells that a Tag names, of which it switches the first ones, have the places at which it switches its tag.
 pub places_switched : (on : Bool) (name : Name) (spans : List Span) (table : TagStates) (kept : List (Cell ℕ)) (runs : List CellRun) (place : ℕ)
-    → AreDistinct kept → All (IsRun kept) runs
+    → AreDistinct kept → All (IsCellRun kept) runs
     → ((s : Stamp) → is_among (stamps_of kept) s ≡ true → is_in_spans (spans_of_runs runs) s ≡ is_in_spans spans s)
     → names_at (spans_of_runs (filter (λ run. is_switched table on name run.cell) runs)) kept place
     ≡ switches_at (Tag on name spans) (map (shown table) kept) place

@@ -20,7 +20,7 @@ use Rattle.rt_store.proofs.Distinct.{split}
 use Rattle.rt_store.proofs.Finding.{stamp_held}
 use Rattle.rt_tags.specs.States.{IsState, IsTag, KeepsIds, TagStates, Write, state_at, write_at, written}
 use Rattle.rt_rga.specs.Changes.{with_write, written_in_any}
-use Rattle.rt_rga.specs.NamedRuns.{IsRun, span_of_run, spans_of_runs}
+use Rattle.rt_rga.specs.NamedRuns.{IsCellRun, span_of_run, spans_of_runs}
 use Rattle.rt_rga.specs.declared.tagging.StateChange.{StateChange}
 use Rattle.rt_rga.specs.declared.tagging.StateRun.{StateRun}
 use Rattle.rt_rga.specs.Runs.{IsStateChange, put_back_in_any}
@@ -60,14 +60,14 @@ module _ (old new : TagStates) (kept : List (Cell ℕ)) (w : Write) (distinct : 
   as_before : (cell : Cell ℕ) → IsState old cell.state → shown new cell ≡ shown old cell
   as_before cell h = λ i. record { stamp = cell.stamp; ch = cell.ch; gone = cell.gone; state = (keeps.states cell.state h).1 i }
 
-  here : (run : CellRun) (state : ℕ) (cell : Cell ℕ) → IsRun kept run → IsFound kept cell → is_in_span (span_of_run run) cell.stamp ≡ true
+  here : (run : CellRun) (state : ℕ) (cell : Cell ℕ) → IsCellRun kept run → IsFound kept cell → is_in_span (span_of_run run) cell.stamp ≡ true
       → state_at new state ≡ written w (state_at old run.cell.state) → shown new (with_state state cell) ≡ with_write w (shown old cell)
   here run state cell r found t e =
       let same = (of_run kept run cell distinct r found t).state in
       let is : state_at new state ≡ written w (state_at old cell.state) = e ∙ ap (λ s. written w (state_at old s)) (sym same) in
       λ i. record { stamp = cell.stamp; ch = cell.ch; gone = cell.gone; state = is i }
 
-  put_runs : (runs : List CellRun) (more : List StateRun) (cell : Cell ℕ) → IsState old cell.state → IsFound kept cell → All (IsRun kept) runs
+  put_runs : (runs : List CellRun) (more : List StateRun) (cell : Cell ℕ) → IsState old cell.state → IsFound kept cell → All (IsCellRun kept) runs
       → AreWritten old new w runs more → shown new (put_back_in_any more cell) ≡ after runs cell
   put_runs [] [] cell h found rs are = as_before cell h
   put_runs [] (m ∷ more) cell h found rs are = (let e = are.spans in absurd (cc e))
@@ -79,18 +79,18 @@ module _ (old new : TagStates) (kept : List (Cell ℕ)) (w : Write) (distinct : 
       let state : state_at new m.state ≡ written w (state_at old run.cell.state) = cc states in
       let other_spans : map (λ run. run.span) more ≡ spans_of_runs runs = cc spans in
       let other_states : map (λ run. state_at new run.state) more ≡ map (λ run. written w (state_at old run.cell.state)) runs = cc states in
-      let rest = put_runs runs more cell h found (All-tail (IsRun kept) run runs rs) (record { spans = other_spans; states = other_states }) in
+      let rest = put_runs runs more cell h found (All-tail (IsCellRun kept) run runs rs) (record { spans = other_spans; states = other_states }) in
       ap (λ s. shown new (cond (is_in_span s cell.stamp) (with_state m.state cell) (put_back_in_any more cell))) span
       ∙ split (is_in_span (span_of_run run) cell.stamp)
       (λ t. ap (λ b. shown new (cond b (with_state m.state cell) (put_back_in_any more cell))) t
-      ∙ here run m.state cell (All-head (IsRun kept) run runs rs) found t state
+      ∙ here run m.state cell (All-head (IsCellRun kept) run runs rs) found t state
       ∙ sym (ap (λ b. cond (b || is_in_spans (spans_of_runs runs) cell.stamp) (with_write w (shown old cell)) (shown old cell)) t))
       (λ f. ap (λ b. shown new (cond b (with_state m.state cell) (put_back_in_any more cell))) f
       ∙ rest
       ∙ sym (ap (λ b. cond (b || is_in_spans (spans_of_runs runs) cell.stamp) (with_write w (shown old cell)) (shown old cell)) f))
 
   -- the runs of the cells that spans name, put into their states: a Tag
-  put_all : (spans : List Span) (runs : List CellRun) (more : List StateRun) (cells : List (Cell ℕ)) → AreStates old cells → AllByRecursion (IsFound kept) cells → All (IsRun kept) runs
+  put_all : (spans : List Span) (runs : List CellRun) (more : List StateRun) (cells : List (Cell ℕ)) → AreStates old cells → AllByRecursion (IsFound kept) cells → All (IsCellRun kept) runs
       → ((stamp : Stamp) → is_among (stamps_of kept) stamp ≡ true → is_in_spans (spans_of_runs runs) stamp ≡ is_in_spans spans stamp) → AreWritten old new w runs more
       → map (shown new) (map (put_back_in_any more) cells) ≡ map (written_in_any spans w) (map (shown old) cells)
   put_all spans runs more [] h found rs named are = refl
@@ -101,7 +101,7 @@ module _ (old new : TagStates) (kept : List (Cell ℕ)) (w : Write) (distinct : 
       let rest = put_all spans runs more cs (All-tail P c cs h) found.1 rs named are in
       λ i. one i ∷ rest i
 
-  pub tagged_runs : (spans : List Span) (runs : List CellRun) (more : List StateRun) → AreStates old kept → All (IsRun kept) runs
+  pub tagged_runs : (spans : List Span) (runs : List CellRun) (more : List StateRun) → AreStates old kept → All (IsCellRun kept) runs
       → ((stamp : Stamp) → is_among (stamps_of kept) stamp ≡ true → is_in_spans (spans_of_runs runs) stamp ≡ is_in_spans spans stamp) → AreWritten old new w runs more
       → map (shown new) (map (put_back_in_any more) kept) ≡ map (written_in_any spans w) (map (shown old) kept)
   tagged_runs spans runs more h rs named are = put_all spans runs more kept h (all_found kept distinct) rs named are
@@ -109,7 +109,7 @@ module _ (old new : TagStates) (kept : List (Cell ℕ)) (w : Write) (distinct : 
 -- THE STATES OF RUNS
 
 -- the cells of runs are in states that were given out
-pub run_states : (table : TagStates) (kept : List (Cell ℕ)) (runs : List CellRun) → AreStates table kept → All (IsRun kept) runs → All (λ run. IsState table run.cell.state) runs
+pub run_states : (table : TagStates) (kept : List (Cell ℕ)) (runs : List CellRun) → AreStates table kept → All (IsCellRun kept) runs → All (λ run. IsState table run.cell.state) runs
 run_states table kept runs h rs = λ i d l. found_state table kept (get_or runs i d).cell h (rs i d l).cell
   where
     by : (table : TagStates) (c cell : Cell ℕ) (cs : List (Cell ℕ)) (b : Bool) → IsState table c.state → (cell_of cs cell.stamp ≡ Some cell → IsState table cell.state)
@@ -124,7 +124,7 @@ run_states table kept runs h rs = λ i d l. found_state table kept (get_or runs 
         by table c cell cs (is_same c.stamp cell.stamp) (All-head P c cs h) (found_state table cs cell (All-tail P c cs h)) e
 
 -- what is written on the states of runs is the same in a later table
-pub states_before : (old mid : TagStates) (kept : List (Cell ℕ)) (runs : List CellRun) (w : Write) → KeepsIds old mid → AreStates old kept → All (IsRun kept) runs
+pub states_before : (old mid : TagStates) (kept : List (Cell ℕ)) (runs : List CellRun) (w : Write) → KeepsIds old mid → AreStates old kept → All (IsCellRun kept) runs
     → map (λ run. written w (state_at mid run.cell.state)) runs ≡ map (λ run. written w (state_at old run.cell.state)) runs
 states_before old mid kept runs w keeps h rs = by runs (run_states old kept runs h rs)
   where

@@ -78,9 +78,9 @@ entry_if stamp None = None
 entry_if stamp (Some n) = if is_same n.stamp stamp then Some n.entry else None
 
 -- by the sites and counts of the stamps, so that entries on one character stand together
-abbrev pub AreInOrder : List Named → Type 0
-AreInOrder [] = Unit {0}
-AreInOrder (n ∷ named) = AllByRecursion (λ later. precedes later.stamp n.stamp ≡ false) named × AreInOrder named
+abbrev pub AreByStamp : List Named → Type 0
+AreByStamp [] = Unit {0}
+AreByStamp (n ∷ named) = AllByRecursion (λ later. precedes later.stamp n.stamp ≡ false) named × AreByStamp named
 
 -- new cells stand by rising counts
 abbrev pub CountsRise : List (Cell ℕ) → Type 0

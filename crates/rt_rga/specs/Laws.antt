@@ -16,7 +16,7 @@ use Rattle.rt_store.specs.declared.cell.Cell.{Cell}
 use Rattle.rt_store.specs.Cells.{after_element, cells_from, IsPlaced, put_at, skip_from, stamps_of}
 use Rattle.rt_store.specs.Tagged.{AreStates}
 use Rattle.rt_ops.specs.Operations.{Body, Operation, Insert, Delete, Tag, Name, has_bad_stamp, last_of, stamp_of, stamps_in, stamps_of_span}
-use Rattle.rt_oplog.specs.Logs.{AreOf, Has, clash, joined, known_end, union, with_operation}
+use Rattle.rt_oplog.specs.Logs.{AreOf, HasOp, clash, joined, known_end, union, with_operation}
 use Rattle.rt_ops.specs.Rules.{keeps_rules}
 use Rattle.rt_rga.specs.Reading.{reading}
 use Rattle.rt_rga.specs.Histories.{Continues, IsHistory, characters, greatest_last_count, has_character, inserted, is_known}
@@ -97,30 +97,30 @@ CellsAreCounted =
 -- An operation of a history is new to a smaller one just where this has those that it was made upon.
 abbrev pub NewHasItsBases : Type 0
 NewHasItsBases =
-    (set older : List Operation) (op : Operation) → IsHistory set → IsHistory older → AreIn older set → Has set op → (Has older op → ⊥)
+    (set older : List Operation) (op : Operation) → IsHistory set → IsHistory older → AreIn older set → HasOp set op → (HasOp older op → ⊥)
     → (answer_to op older ≡ New) ↔ HasBasesIn set op older
 
 -- Operations of a history that come in time, and with those that were there at first are all of it, make it.
 abbrev pub InTimeIsTaken : Type 0
 InTimeIsTaken =
     (set first ops : List Operation) → IsHistory set → IsHistory first
-    → ((op : Operation) → Has set op ↔ (Has first op ⊎ Has ops op)) → ComeInTime set first ops
+    → ((op : Operation) → HasOp set op ↔ (HasOp first op ⊎ HasOp ops op)) → ComeInTime set first ops
     → all_taken ops first ≡ set
 
 -- So they do at a site that keeps at most so many cells, if the history has no more.
 abbrev pub InTimeIsTakenWithin : Type 0
 InTimeIsTakenWithin =
     (site limit : ℕ) (set first ops : List Operation) → IsHistory set → IsHistory first
-    → ((op : Operation) → Has set op ↔ (Has first op ⊎ Has ops op)) → ComeInTime set first ops
+    → ((op : Operation) → HasOp set op ↔ (HasOp first op ⊎ HasOp ops op)) → ComeInTime set first ops
     → length (cells_of set) ≤ limit → after_requests site limit (map Offer ops) first ≡ set
 
 -- An offer adds the operation, where it is answered New, and nothing else.
 abbrev pub OffersAddNew : Type 0
-OffersAddNew = (set : List Operation) (op x : Operation) → Has (taken op set) x ↔ (Has set x ⊎ ((op ≡ x) × (answer_to op set ≡ New)))
+OffersAddNew = (set : List Operation) (op x : Operation) → HasOp (taken op set) x ↔ (HasOp set x ⊎ ((op ≡ x) × (answer_to op set ≡ New)))
 
 abbrev pub ConflictsAreClashes : Type 0
 ConflictsAreClashes =
-    (set : List Operation) (op : Operation) → IsHistory set → has_bad_stamp op ≡ false → (Has set op → ⊥)
+    (set : List Operation) (op : Operation) → IsHistory set → has_bad_stamp op ≡ false → (HasOp set op → ⊥)
     → (answer_to op set ≡ Refused Conflict) ↔ (list_any (clash op) set ≡ true)
 
 abbrev pub ConflictsStay : Type 0
@@ -166,14 +166,14 @@ SitesAgree =
 abbrev pub ClashFreeAreJoined : Type 0
 ClashFreeAreJoined =
     (one other : List Operation) → IsHistory one → IsHistory other
-    → ((p q : Operation) → Has one p → Has other q → clash p q ≡ false)
+    → ((p q : Operation) → HasOp one p → HasOp other q → clash p q ≡ false)
     → joined one other ≡ Ok (union one other)
 
 -- The operations of one offered to the other by rising stamp, as a file has them.
 abbrev pub ClashFreeAreTaken : Type 0
 ClashFreeAreTaken =
     (one other : List Operation) → IsHistory one → IsHistory other
-    → ((p q : Operation) → Has one p → Has other q → clash p q ≡ false)
+    → ((p q : Operation) → HasOp one p → HasOp other q → clash p q ≡ false)
     → all_taken (reverse other) one ≡ union one other
 
 -- A SITE'S OWN OPERATIONS

@@ -21,7 +21,7 @@ abbrev pub spans_of_runs : List CellRun → List Span
 spans_of_runs runs = map span_of_run runs
 
 -- a run of cells of a list: the first one is the cell of its stamp there, and those directly behind it go on to the last count
-pub record IsRun (cells : List (Cell ℕ)) (run : CellRun) : Type 0 where
+pub record IsCellRun (cells : List (Cell ℕ)) (run : CellRun) : Type 0 where
   pub cell : cell_of cells run.cell.stamp ≡ Some run.cell
   pub forward : run.cell.stamp.count ≤ run.last
   pub on : GoOnTo cells run.cell run.last

@@ -2,7 +2,7 @@
 use Rattle.std.specs.Prelude.{◌≡◌, Bool, true, ◌&&◌, ◌||◌, ◌==◌, List, [], ◌∷◌}
 use Rattle.std.specs.List.{list_any}
 use Rattle.rt_ops.specs.Operations.{Operation, last_count, named}
-use Rattle.rt_oplog.specs.Logs.{Has}
+use Rattle.rt_oplog.specs.Logs.{HasOp}
 use Rattle.rt_rga.specs.Reading.{has_stamp}
 use Rattle.rt_rga.specs.Histories.{inserted}
 
@@ -13,7 +13,7 @@ is_made_upon base op = ((base.site == op.site) && (last_count base == op.prev)) 
 
 -- those of a set that an operation was made upon are all among some others
 abbrev pub HasBasesIn : List Operation → Operation → List Operation → Type 0
-HasBasesIn set op others = (base : Operation) → Has set base → is_made_upon base op ≡ true → Has others base
+HasBasesIn set op others = (base : Operation) → HasOp set base → is_made_upon base op ≡ true → HasOp others base
 
 -- Each operation of a list comes after those of the set that it was made upon: they stand before it in the list, or are
 -- among those that were there at first. A repeat comes later than the first of its kind.
@@ -23,4 +23,4 @@ ComeInTime set first (op ∷ ops) = HasBasesIn set op first × ComeInTime set (o
 
 -- a set has every operation of another
 abbrev pub AreIn : List Operation → List Operation → Type 0
-AreIn set more = (op : Operation) → Has set op → Has more op
+AreIn set more = (op : Operation) → HasOp set op → HasOp more op

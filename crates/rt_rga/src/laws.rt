@@ -8,7 +8,7 @@ ghost use Rattle.rt_tags.specs.Tags.{HaveNoRepeats};
 ghost use Rattle.rt_store.specs.declared.cell.Cell.{Cell};
 ghost use Rattle.rt_store.specs.Cells.{AreDistinct, EndsFinal, stamps_of, text_of};
 ghost use Rattle.rt_ops.specs.Operations.{Operation, last_count};
-ghost use Rattle.rt_oplog.specs.Logs.{AreOf, Has, IsLog, joined, with_operation};
+ghost use Rattle.rt_oplog.specs.Logs.{AreOf, HasOp, IsLog, joined, with_operation};
 ghost use Rattle.rt_ops.specs.Rules.{keeps_rules};
 ghost use Rattle.rt_rga.specs.Reading.{Character, IsReading, reading, reading_by_stamp};
 ghost use Rattle.rt_rga.specs.Histories.{Continues, IsHistory, characters, greatest_last_count};
@@ -86,7 +86,7 @@ pub fn requests()
 /// where one of the history clashes with it. A conflict stays one in every larger history, and so does
 /// a bad target, unless by then it is a conflict.
 pub fn refusals()
-    ensures repeat { (set : List Operation) (op : Operation) → IsHistory set → (answer_to op set ≡ Repeat) ↔ Has set op }
+    ensures repeat { (set : List Operation) (op : Operation) → IsHistory set → (answer_to op set ≡ Repeat) ↔ HasOp set op }
     ensures conflict { ConflictsAreClashes }
     ensures conflict_stays { ConflictsStay }
     ensures target_stays { BadTargetsStay }

@@ -3,7 +3,7 @@ ghost use Rattle.std.specs.Prelude.{◌≡◌, ◌≤◌, ◌∷◌, ◌||◌, [
 ghost use Rattle.rt_stamps.specs.declared.stamp.Stamp.{Stamp as StampOf};
 ghost use Rattle.rt_store.specs.Cells.{is_in_span, stamps_of};
 ghost use Rattle.rt_store.specs.Spans.{is_among, is_in_spans};
-ghost use Rattle.rt_rga.specs.NamedRuns.{IsRun, spans_of_runs};
+ghost use Rattle.rt_rga.specs.NamedRuns.{IsCellRun, spans_of_runs};
 
 use rt_stamps::{Fault, Span, Stamp};
 use rt_store::{CellRun, TextStore};
@@ -18,8 +18,8 @@ fn push_next<S: TextStore>(
     runs: &mut Vec<CellRun>,
 ) -> Result<u64, Fault>
     requires last { stamp.count ≤ last }
-    requires runs { All (IsRun (S.list store.now)) runs.old.items }
-    ensures runs { OnOk result (All (IsRun (S.list store.now)) runs.new.items) }
+    requires runs { All (IsCellRun (S.list store.now)) runs.old.items }
+    ensures runs { OnOk result (All (IsCellRun (S.list store.now)) runs.new.items) }
     ensures named { IfOk result (λ to. (other : StampOf) → is_among (stamps_of (S.list store.now)) other ≡ true
         → is_in_spans (spans_of_runs runs.new.items) other
         ≡ (is_in_spans (spans_of_runs runs.old.items) other || is_in_span (record { site = stamp.site; first = stamp.count; last = to }) other)) }
@@ -38,8 +38,8 @@ fn push_next<S: TextStore>(
 
 /// Adds the runs of the cells of a span. Want of memory.
 fn push_runs<S: TextStore>(store: &S, span: Span, runs: &mut Vec<CellRun>) -> Result<(), Fault>
-    requires runs { All (IsRun (S.list store.now)) runs.old.items }
-    ensures runs { OnOk result (All (IsRun (S.list store.now)) runs.new.items) }
+    requires runs { All (IsCellRun (S.list store.now)) runs.old.items }
+    ensures runs { OnOk result (All (IsCellRun (S.list store.now)) runs.new.items) }
     ensures named { OnOk result ((stamp : StampOf) → is_among (stamps_of (S.list store.now)) stamp ≡ true
         → is_in_spans (spans_of_runs runs.new.items) stamp ≡ (is_in_spans (spans_of_runs runs.old.items) stamp || is_in_span span stamp)) }
     ensures fault { IsOkUnless result Fault.NoMemory }
@@ -66,7 +66,7 @@ pub(crate) fn named_runs<S: TextStore>(
     store: &S,
     spans: &[Span],
 ) -> Result<Vec<CellRun>, Fault>
-    ensures runs { IfOk result (λ runs. All (IsRun (S.list store.now)) runs.items) }
+    ensures runs { IfOk result (λ runs. All (IsCellRun (S.list store.now)) runs.items) }
     ensures named { IfOk result (λ runs. (stamp : StampOf) → is_among (stamps_of (S.list store.now)) stamp ≡ true
         → is_in_spans (spans_of_runs runs.items) stamp ≡ is_in_spans spans.now stamp) }
     ensures fault { IsOkUnless result Fault.NoMemory }

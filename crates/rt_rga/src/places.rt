@@ -3,7 +3,7 @@ ghost use Rattle.std.specs.Prelude.{◌≡◌, ◌+◌, ◌<◌, ◌≤◌, ◌�
 ghost use Rattle.rt_stamps.specs.declared.limits.TheConstants.{MOST_CELLS};
 ghost use Rattle.rt_store.specs.Cells.{AreDistinct, visible_of};
 ghost use Rattle.rt_tags.specs.Borders.{one_or_none};
-ghost use Rattle.rt_rga.specs.NamedRuns.{IsBelow, IsRun, fall, names_at, span_of_run, spans_of_runs};
+ghost use Rattle.rt_rga.specs.NamedRuns.{IsBelow, IsCellRun, fall, names_at, span_of_run, spans_of_runs};
 ghost use Rattle.rt_rga.specs.Taken.{AreFallingRuns, is_in_runs};
 
 use crate::taken::PlaceRun;
@@ -15,7 +15,7 @@ use std::alloc::Global;
 fn place_run<S: TextStore>(store: &S, run: &CellRun) -> Option<PlaceRun>
     requires distinct { AreDistinct (S.list store.now) }
     requires few { length (S.list store.now) ≤ MOST_CELLS }
-    requires run { IsRun (S.list store.now) run.now }
+    requires run { IsCellRun (S.list store.now) run.now }
     ensures places { (place : ℕ) → is_in_runs (one_or_none result) place ≡ names_at (span_of_run run.now ∷ []) (S.list store.now) place }
     ensures below { IfSome result (IsBelow (length (visible_of (S.list store.now)))) }
 {
@@ -38,7 +38,7 @@ fn place_runs<S: TextStore>(
 ) -> Result<Vec<PlaceRun>, Fault>
     requires distinct { AreDistinct (S.list store.now) }
     requires few { length (S.list store.now) ≤ MOST_CELLS }
-    requires runs { All (IsRun (S.list store.now)) runs.now }
+    requires runs { All (IsCellRun (S.list store.now)) runs.now }
     ensures places { IfOk result (λ places. (place : ℕ) → is_in_runs places.items place ≡ names_at (spans_of_runs runs.now) (S.list store.now) place) }
     ensures below { IfOk result (λ places. All (IsBelow (length (visible_of (S.list store.now)))) places.items) }
     ensures fault { IsOkUnless result Fault.NoMemory }
@@ -95,7 +95,7 @@ pub(crate) fn places_of<S: TextStore>(
 ) -> Result<Vec<PlaceRun>, Fault>
     requires distinct { AreDistinct (S.list store.now) }
     requires few { length (S.list store.now) ≤ MOST_CELLS }
-    requires runs { All (IsRun (S.list store.now)) runs.now }
+    requires runs { All (IsCellRun (S.list store.now)) runs.now }
     ensures places { IfOk result (λ places. (place : ℕ) → is_in_runs places.items place ≡ names_at (spans_of_runs runs.now) (S.list store.now) place) }
     ensures falling { IfOk result (λ places. (end : ℕ)
         → ((place : ℕ) → names_at (spans_of_runs runs.now) (S.list store.now) place ≡ true → place + 1 < end) → AreFallingRuns end places.items) }

@@ -12,7 +12,7 @@ ghost use Rattle.rt_store.specs.Spans.{is_among};
 ghost use Rattle.rt_store.specs.Tagged.{AreStates};
 ghost use Rattle.rt_tags.specs.States.{IsState, IsTag, KeepsIds, Write, state_at, writes_at};
 ghost use Rattle.rt_tags.specs.Writers.{state_after};
-ghost use Rattle.rt_rga.specs.Batches.{AreInOrder, CountsRise, IsCopied, IsWritten, HasEntries, after_tags, entries_in_front, entries_on, entry_if, named_with, tag_writes, tag_writes_by};
+ghost use Rattle.rt_rga.specs.Batches.{AreByStamp, CountsRise, IsCopied, IsWritten, HasEntries, after_tags, entries_in_front, entries_on, entry_if, named_with, tag_writes, tag_writes_by};
 ghost use Rattle.rt_rga.specs.Runs.{put_back, put_back_in_any};
 
 use crate::tagging::{StateRun, push_found, state_runs};
@@ -103,7 +103,7 @@ fn named_writes(alloc: Global, states: &mut StateTable, ops: &[Op]) -> Result<Ve
 /// Puts writes in the order of sites and counts, those on one character as they were. Want of memory.
 fn put_in_order(named: &mut Vec<Named>) -> Result<(), Fault>
     ensures same { IsPermutation named.old.items named.new.items }
-    ensures order { OnOk result (AreInOrder named.new.items) }
+    ensures order { OnOk result (AreByStamp named.new.items) }
     ensures entries { (stamp : StampOf) → entries_on named.new.items stamp ≡ entries_on named.old.items stamp }
     ensures fault { IsOkUnless result Fault.NoMemory }
 {
@@ -221,7 +221,7 @@ fn written_cell<S: TextStore>(
     last: &mut Written,
 ) -> Result<Option<Cell<StateId>>, Fault>
     requires at { at < length named.now }
-    requires order { AreInOrder named.now }
+    requires order { AreByStamp named.now }
     requires tags { All (λ n. IsTag states.old n.entry.tag) named.now }
     requires counts { CountsRise new.now }
     requires states { AreStates states.old (new.now ++ S.list store.now) }
@@ -263,7 +263,7 @@ fn written_cells<S: TextStore>(
     new: &[Cell<StateId>],
     named: &[Named],
 ) -> Result<Vec<Cell<StateId>>, Fault>
-    requires order { AreInOrder named.now }
+    requires order { AreByStamp named.now }
     requires tags { All (λ n. IsTag states.old n.entry.tag) named.now }
     requires counts { CountsRise new.now }
     requires states { AreStates states.old (new.now ++ S.list store.now) }

@@ -7,13 +7,13 @@ use Rattle.rt_stamps.specs.declared.fault.Fault.{Fault}
 use Rattle.rt_stamps.specs.declared.fault.Fault.TheVariants.{NoMemory, ReadFault, WriteFault}
 use Rattle.rt_stamps.specs.declared.limits.Bounds.{Bounds}
 use Rattle.rt_stamps.specs.declared.limits.TheConstants.{PIECE_BYTES}
-use Rattle.rt_script.specs.Lines.{cut, complete_of, rest_of, rest_line, lines_of}
+use Rattle.rt_script.specs.Lines.{split_lines, complete_of, rest_of, rest_line, lines_of}
 use Rattle.rt_stamps.specs.Words.{Word}
 use Rattle.rt_stamps.specs.Streams.{Stream}
 use Rattle.rt_script.specs.declared.answer.Answer.{Answer}
 use Rattle.rt_ops.specs.Intake.{EndIsUnseen, GaveSome, IsReadUp}
 use Rattle.rt_script.specs.Run.{Point, Ran, RanFront, RanPast, RanUnwritten, StopsInLast, Ends}
-use Rattle.rt_script.specs.Pieces.{kept, RanLines}
+use Rattle.rt_script.specs.Pieces.{kept_bytes, RanLines}
 use Rattle.rt_script.proofs.LinesLaws.{complete_append, rest_append, cut_rest}
 use Rattle.rt_script.proofs.RunLaws.{ran_then, unwritten_then, lines_append}
 
@@ -22,7 +22,7 @@ pub record Goes {S : Type 0} (gives : S → List Word → Answer → S → Type 
   pub read : List ℕ
   pub consumes : Consumes script.bytes left.bytes read
   pub ran : Ran gives old new (complete_of read)
-  pub rest : pending ≡ kept (rest_of read)
+  pub rest : pending ≡ kept_bytes (rest_of read)
   pub bounded : length read + room ≡ bounds.bytes
   pub calls : left.calls ≡ script.calls + turns
   -- each read gave a byte
@@ -53,8 +53,8 @@ length_piece read buf n h = omega (arith, length-append read (take n buf), lengt
 pub goes_more : {S : Type 0} (gives : S → List Word → Answer → S → Type 0) (bounds : Bounds) (old mid new : Point S) (script middle left : Stream) (kept_old kept_new : List ℕ) (n : ℕ) (buf : List ℕ) (room turns : ℕ)
     → Goes gives bounds old mid script middle kept_old room turns
     → Consumes middle.bytes left.bytes (take n buf) → n ≤ length buf → n ≤ room → n ≢ 0 → left.calls ≡ middle.calls + 1 → left.failures ≡ middle.failures + 0
-    → ((rest : List ℕ) → cut rest ≡ ([], rest) → kept_old ≡ kept rest → Ran gives mid new (complete_of (rest ++ take n buf)) × (new.out.failures ≡ mid.out.failures))
-    → ((rest : List ℕ) → cut rest ≡ ([], rest) → kept_old ≡ kept rest → kept_new ≡ kept (rest_of (rest ++ take n buf)))
+    → ((rest : List ℕ) → split_lines rest ≡ ([], rest) → kept_old ≡ kept_bytes rest → Ran gives mid new (complete_of (rest ++ take n buf)) × (new.out.failures ≡ mid.out.failures))
+    → ((rest : List ℕ) → split_lines rest ≡ ([], rest) → kept_old ≡ kept_bytes rest → kept_new ≡ kept_bytes (rest_of (rest ++ take n buf)))
     → Goes gives bounds old new script left kept_new (room - n) (turns + 1)
 goes_more gives bounds old mid new script middle left kept_old kept_new n buf room turns g eaten within fits given calls failures ran rest =
     let piece = take n buf in
@@ -63,7 +63,7 @@ goes_more gives bounds old mid new script middle left kept_old kept_new n buf ro
       read = g.read ++ piece;
       consumes = consumes_then _ _ _ g.read piece g.consumes eaten;
       ran = rw (complete_append g.read piece) (ran_then gives old mid new _ _ g.ran more.0);
-      rest = rest (rest_of g.read) (cut_rest g.read) g.rest ∙ ap kept (sym (rest_append g.read piece));
+      rest = rest (rest_of g.read) (cut_rest g.read) g.rest ∙ ap kept_bytes (sym (rest_append g.read piece));
       bounded = let b = g.bounded in omega (arith, length_piece g.read buf n within);
       calls = let b = g.calls in omega arith;
       some = let b = g.some in omega (arith, given, length_piece g.read buf n within);
@@ -225,7 +225,7 @@ ends_complete gives bounds old new script left read eaten few reads end ran same
 pub ends_whole : {S : Type 0} (gives : S → List Word → Answer → S → Type 0) (bounds : Bounds) (old mid new : Point S) (script middle left : Stream) (pending : List ℕ) (n : ℕ) (buf : List ℕ) (room turns : ℕ) (r : Result (Unit {0}) Fault)
     → Goes gives bounds old mid script middle pending room turns → turns < bounds.reads
     → Consumes middle.bytes left.bytes (take n buf) → n ≡ 0 → IsAtEnd left.bytes → left.calls ≡ middle.calls + 1 → left.failures ≡ middle.failures + 0
-    → ((rest : List ℕ) → pending ≡ kept rest → RanLines gives mid new (rest_line rest) (rest_line rest) r)
+    → ((rest : List ℕ) → pending ≡ kept_bytes rest → RanLines gives mid new (rest_line rest) (rest_line rest) r)
     → IfErr r (λ fault. fault ≡ WriteFault) → Ends gives bounds old new script left (result_err r)
 ends_whole gives bounds old mid new script middle left pending n buf room turns (Ok x) g few eaten none end calls failures ran fault =
     let bounded = g.bounded in
@@ -268,7 +268,7 @@ ran_past gives bounds old mid new script middle left pending n buf room turns g 
 pub ends_stopped : {S : Type 0} (gives : S → List Word → Answer → S → Type 0) (bounds : Bounds) (old mid new : Point S) (script middle left : Stream) (pending : List ℕ) (n : ℕ) (buf : List ℕ) (room turns : ℕ) (fault : Fault)
     → Goes gives bounds old mid script middle pending room turns → turns < bounds.reads
     → Consumes middle.bytes left.bytes (take n buf) → n ≤ length buf → n ≤ PIECE_BYTES → n ≤ room → n ≢ 0 → left.calls ≡ middle.calls + 1 → left.failures ≡ middle.failures + 0
-    → ((rest : List ℕ) → cut rest ≡ ([], rest) → pending ≡ kept rest → RanLines gives mid new (complete_of (rest ++ take n buf)) (lines_of (rest ++ take n buf)) (Err fault))
+    → ((rest : List ℕ) → split_lines rest ≡ ([], rest) → pending ≡ kept_bytes rest → RanLines gives mid new (complete_of (rest ++ take n buf)) (lines_of (rest ++ take n buf)) (Err fault))
     → Ends gives bounds old new script left (Some fault)
 ends_stopped gives bounds old mid new script middle left pending n buf room turns fault g few eaten within small fits given calls failures ran =
     let piece = take n buf in
@@ -290,7 +290,7 @@ ends_stopped gives bounds old mid new script middle left pending n buf room turn
 pub stops_in_last : {S R : Type 0} (gives : S → List Word → Answer → S → Type 0) (stream : R → Stream) (bounds : Bounds) (old mid new : Point S) (script middle left : R) (pending : List ℕ) (n : ℕ) (buf : List ℕ) (room turns : ℕ) (fault : Fault)
     → Goes gives bounds old mid (stream script) (stream middle) pending room turns
     → Consumes (stream middle).bytes (stream left).bytes (take n buf) → n ≤ length buf → n ≤ PIECE_BYTES → n ≢ 0 → (stream left).calls ≡ (stream middle).calls + 1
-    → ((rest : List ℕ) → cut rest ≡ ([], rest) → pending ≡ kept rest → RanLines gives mid new (complete_of (rest ++ take n buf)) (lines_of (rest ++ take n buf)) (Err fault))
+    → ((rest : List ℕ) → split_lines rest ≡ ([], rest) → pending ≡ kept_bytes rest → RanLines gives mid new (complete_of (rest ++ take n buf)) (lines_of (rest ++ take n buf)) (Err fault))
     → Is fault ≡ Is NoMemory → StopsInLast gives stream old new script left
 unfolding ran_past
 stops_in_last gives stream bounds old mid new script middle left pending n buf room turns fault g eaten within small given calls ran is =

@@ -5,7 +5,7 @@ use Rattle.std.specs.List.{prefix_len}
 use Rattle.std.proofs.lemmas.Bool.{false≢true}
 use Rattle.std.proofs.lemmas.List.Sums.{prefix_len_is}
 use Rattle.memchr.specs.Find.{NoneBefore, Nowhere, Passes, is_byte}
-use Rattle.rt_script.specs.Lines.{cut, before_all, without_return, complete_of, rest_of}
+use Rattle.rt_script.specs.Lines.{split_lines, before_all, without_return, complete_of, rest_of}
 use Rattle.rt_script.specs.Pieces.{is_inner}
 
 -- a newline ends the last line
@@ -16,12 +16,12 @@ before_ended : (c : ℕ) (ls : List (List ℕ)) (r : List ℕ) → before_all c 
 before_ended c [] r = refl
 before_ended c (l ∷ ls) r = refl
 
-pub cut_newline : (xs : List ℕ) → cut (xs ++ 10 ∷ []) ≡ ended (cut xs)
+pub cut_newline : (xs : List ℕ) → split_lines (xs ++ 10 ∷ []) ≡ ended (split_lines xs)
 cut_newline [] = refl
 cut_newline (c ∷ xs) = rw (cut_newline xs) (
-    elim (eqb c 10) as (λ b. cond b ([] ∷ (ended (cut xs)).0, (ended (cut xs)).1) (before_all c (ended (cut xs)).0 (ended (cut xs)).1) ≡ ended (cond b ([] ∷ (cut xs).0, (cut xs).1) (before_all c (cut xs).0 (cut xs).1))) [
+    elim (eqb c 10) as (λ b. cond b ([] ∷ (ended (split_lines xs)).0, (ended (split_lines xs)).1) (before_all c (ended (split_lines xs)).0 (ended (split_lines xs)).1) ≡ ended (cond b ([] ∷ (split_lines xs).0, (split_lines xs).1) (before_all c (split_lines xs).0 (split_lines xs).1))) [
       | true ↦ refl
-      | false ↦ before_ended c (cut xs).0 (cut xs).1
+      | false ↦ before_ended c (split_lines xs).0 (split_lines xs).1
     ])
 
 -- another byte goes onto the rest
@@ -32,19 +32,19 @@ before_longer : (c b : ℕ) (ls : List (List ℕ)) (r : List ℕ) → before_all
 before_longer c b [] r = refl
 before_longer c b (l ∷ ls) r = refl
 
-pub cut_other : (xs : List ℕ) (b : ℕ) → (b ≡ 10 → ⊥) → cut (xs ++ b ∷ []) ≡ longer b (cut xs)
+pub cut_other : (xs : List ℕ) (b : ℕ) → (b ≡ 10 → ⊥) → split_lines (xs ++ b ∷ []) ≡ longer b (split_lines xs)
 cut_other [] b h = rw (ne_eqb b 10 h) refl
 cut_other (c ∷ xs) b h = rw (cut_other xs b h) (
-    elim (eqb c 10) as (λ t. cond t ([] ∷ (longer b (cut xs)).0, (longer b (cut xs)).1) (before_all c (longer b (cut xs)).0 (longer b (cut xs)).1) ≡ longer b (cond t ([] ∷ (cut xs).0, (cut xs).1) (before_all c (cut xs).0 (cut xs).1))) [
+    elim (eqb c 10) as (λ t. cond t ([] ∷ (longer b (split_lines xs)).0, (longer b (split_lines xs)).1) (before_all c (longer b (split_lines xs)).0 (longer b (split_lines xs)).1) ≡ longer b (cond t ([] ∷ (split_lines xs).0, (split_lines xs).1) (before_all c (split_lines xs).0 (split_lines xs).1))) [
       | true ↦ refl
-      | false ↦ before_longer c b (cut xs).0 (cut xs).1
+      | false ↦ before_longer c b (split_lines xs).0 (split_lines xs).1
     ])
 
 -- a script goes on after its lines
 abbrev joined : List (List ℕ) × List ℕ → List ℕ → List (List ℕ) × List ℕ
-joined p ys = (p.0 ++ (cut (p.1 ++ ys)).0, (cut (p.1 ++ ys)).1)
+joined p ys = (p.0 ++ (split_lines (p.1 ++ ys)).0, (split_lines (p.1 ++ ys)).1)
 
-before_joined : (c : ℕ) (ls : List (List ℕ)) (r ys : List ℕ) → eqb c 10 ≡ false → before_all c (ls ++ (cut (r ++ ys)).0) (cut (r ++ ys)).1 ≡ joined (before_all c ls r) ys
+before_joined : (c : ℕ) (ls : List (List ℕ)) (r ys : List ℕ) → eqb c 10 ≡ false → before_all c (ls ++ (split_lines (r ++ ys)).0) (split_lines (r ++ ys)).1 ≡ joined (before_all c ls r) ys
 before_joined c [] r ys e = rw e refl
 before_joined c (l ∷ ls) r ys e = refl
 
@@ -53,34 +53,34 @@ cut_joined_one : (c : ℕ) (p : List (List ℕ) × List ℕ) (ys : List ℕ) (b 
 cut_joined_one c p ys true e = refl
 cut_joined_one c p ys false e = before_joined c p.0 p.1 ys e
 
-pub cut_append : (xs ys : List ℕ) → cut (xs ++ ys) ≡ joined (cut xs) ys
+pub cut_append : (xs ys : List ℕ) → split_lines (xs ++ ys) ≡ joined (split_lines xs) ys
 cut_append [] ys = refl
-cut_append (c ∷ xs) ys = rw (cut_append xs ys) (cut_joined_one c (cut xs) ys (eqb c 10) refl)
+cut_append (c ∷ xs) ys = rw (cut_append xs ys) (cut_joined_one c (split_lines xs) ys (eqb c 10) refl)
 
 pub complete_append : (xs ys : List ℕ) → complete_of (xs ++ ys) ≡ complete_of xs ++ complete_of (rest_of xs ++ ys)
-complete_append xs ys = ap (λ p. map without_return p.0) (cut_append xs ys) ∙ map-append without_return (cut xs).0 (cut (rest_of xs ++ ys)).0
+complete_append xs ys = ap (λ p. map without_return p.0) (cut_append xs ys) ∙ map-append without_return (split_lines xs).0 (split_lines (rest_of xs ++ ys)).0
 
-cut_rest_one : (c : ℕ) (p : List (List ℕ) × List ℕ) (b : Bool) → eqb c 10 ≡ b → cut p.1 ≡ ([], p.1)
-    → cut (cond b ([] ∷ p.0, p.1) (before_all c p.0 p.1)).1 ≡ ([], (cond b ([] ∷ p.0, p.1) (before_all c p.0 p.1)).1)
+cut_rest_one : (c : ℕ) (p : List (List ℕ) × List ℕ) (b : Bool) → eqb c 10 ≡ b → split_lines p.1 ≡ ([], p.1)
+    → split_lines (cond b ([] ∷ p.0, p.1) (before_all c p.0 p.1)).1 ≡ ([], (cond b ([] ∷ p.0, p.1) (before_all c p.0 p.1)).1)
 cut_rest_one c p true e h = h
 cut_rest_one c p false e h = go c p.0 p.1 e h
   where
-    go : (c : ℕ) (ls : List (List ℕ)) (r : List ℕ) → eqb c 10 ≡ false → cut r ≡ ([], r) → cut (before_all c ls r).1 ≡ ([], (before_all c ls r).1)
+    go : (c : ℕ) (ls : List (List ℕ)) (r : List ℕ) → eqb c 10 ≡ false → split_lines r ≡ ([], r) → split_lines (before_all c ls r).1 ≡ ([], (before_all c ls r).1)
     go c [] r e h = rw (e, h) refl
     go c (l ∷ ls) r e h = h
 
 -- what follows the last newline has none
-pub cut_rest : (xs : List ℕ) → cut (rest_of xs) ≡ ([], rest_of xs)
+pub cut_rest : (xs : List ℕ) → split_lines (rest_of xs) ≡ ([], rest_of xs)
 cut_rest [] = refl
-cut_rest (c ∷ xs) = cut_rest_one c (cut xs) (eqb c 10) refl (cut_rest xs)
+cut_rest (c ∷ xs) = cut_rest_one c (split_lines xs) (eqb c 10) refl (cut_rest xs)
 
 pub rest_append : (xs ys : List ℕ) → rest_of (xs ++ ys) ≡ rest_of (rest_of xs ++ ys)
 rest_append xs ys = ap (λ p. p.1) (cut_append xs ys)
 
 -- only nothing has neither a line nor a rest
-pub cut_empty : (xs : List ℕ) → cut xs ≡ ([], []) → xs ≡ []
+pub cut_empty : (xs : List ℕ) → split_lines xs ≡ ([], []) → xs ≡ []
 cut_empty [] e = refl
-cut_empty (c ∷ xs) e = absurd (go (eqb c 10) (cut xs) e)
+cut_empty (c ∷ xs) e = absurd (go (eqb c 10) (split_lines xs) e)
   where
     go : (b : Bool) (p : List (List ℕ) × List ℕ) → cond b ([] ∷ p.0, p.1) (before_all c p.0 p.1) ≡ ([], []) → ⊥
     go true p e = cc (ap (λ q. q.0) e)
@@ -89,7 +89,7 @@ cut_empty (c ∷ xs) e = absurd (go (eqb c 10) (cut xs) e)
 
 -- a newline completes the line
 pub complete_newline : (xs : List ℕ) → complete_of (xs ++ 10 ∷ []) ≡ complete_of xs ++ without_return (rest_of xs) ∷ []
-complete_newline xs = ap (λ p. map without_return p.0) (cut_newline xs) ∙ map-append without_return (cut xs).0 (rest_of xs ∷ [])
+complete_newline xs = ap (λ p. map without_return p.0) (cut_newline xs) ∙ map-append without_return (split_lines xs).0 (rest_of xs ∷ [])
 
 pub rest_newline : (xs : List ℕ) → rest_of (xs ++ 10 ∷ []) ≡ []
 rest_newline xs = ap (λ p. p.1) (cut_newline xs)
@@ -127,7 +127,7 @@ rest_front xs (z ∷ zs) = go (is_inner z) refl (rest_front (xs ++ z ∷ []) zs)
     go false e more = ap rest_of (append-nil xs) ∙ sym (append-nil (rest_of xs))
 
 -- a script without a newline has no complete line
-pub complete_none : (rest : List ℕ) → cut rest ≡ ([], rest) → complete_of rest ≡ []
+pub complete_none : (rest : List ℕ) → split_lines rest ≡ ([], rest) → complete_of rest ≡ []
 complete_none rest h = ap (λ p. map without_return p.0) h
 
 -- a carriage return at a line's end

@@ -11,7 +11,7 @@ use Rattle.rt_stamps.specs.declared.limits.TheConstants.{MOST_CELLS}
 use Rattle.rt_stamps.specs.Streams.{FILE_BOUNDS, Stream}
 use Rattle.rt_stamps.specs.Words.{Word}
 use Rattle.rt_ops.specs.Operations.{Operation}
-use Rattle.rt_oplog.specs.Logs.{Has}
+use Rattle.rt_oplog.specs.Logs.{HasOp}
 use Rattle.rt_holding.specs.declared.receiving.Received.{Received}
 use Rattle.rt_requests.specs.declared.destroying.Destroy.{Destroy}
 use Rattle.rt_requests.specs.PeerWords.{asked_destroy}
@@ -125,7 +125,7 @@ new_lives : (number : ℕ) → 0 < number → Lives number MOST_CELLS (new_site 
 new_lives number p = begins p (lit< tt)
 
 begun : (number : ℕ) (log : Option (Bor (List ℕ))) (start : SiteValue) → 0 < number → BeginsFrom number log start
-    → (came : List Operation) × Lives number MOST_CELLS start came × ((op : Operation) → Has came op → (op.site ≡ number) ⊎ IsOfFirstLog log op)
+    → (came : List Operation) × Lives number MOST_CELLS start came × ((op : Operation) → HasOp came op → (op.site ≡ number) ⊎ IsOfFirstLog log op)
 begun number None start p h = ([], subst (λ (s : SiteValue). Lives number MOST_CELLS s []) (sym h) (new_lives number p), λ op i. absurd i)
 begun number (Some log) start p h = received_on log.now h.0 (new_site number MOST_CELLS) start h.1 number MOST_CELLS [] (new_lives number p)
 

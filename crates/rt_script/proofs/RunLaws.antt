@@ -14,14 +14,14 @@ use Rattle.std.proofs.lemmas.Str.{IsUtf8-from_is_utf8, is_utf8-from_IsUtf8}
 use Rattle.rt_stamps.specs.declared.limits.TheConstants.{MOST_LINE_BYTES}
 use Rattle.rt_stamps.specs.declared.fault.Fault.{Fault}
 use Rattle.rt_stamps.specs.declared.fault.Fault.TheVariants.{NoMemory, WriteFault}
-use Rattle.rt_script.specs.Lines.{cut, lines_of, without_return, is_readable, is_silent, answered_lines, complete_of, rest_of, rest_line}
+use Rattle.rt_script.specs.Lines.{split_lines, lines_of, without_return, is_readable, is_silent, answered_lines, complete_of, rest_of, rest_line}
 use Rattle.rt_stamps.specs.Words.{Word}
 use Rattle.rt_stamps.proofs.Writes.{appends_then}
 use Rattle.rt_script.specs.declared.answer.Answer.{Answer}
 use Rattle.rt_script.specs.declared.engine.TheConstants.{MOST_KEPT_BYTES}
 use Rattle.rt_script.specs.Replies.{reply_line}
 use Rattle.rt_script.specs.Run.{LineGives, Point, RunsLines, Ran, RanFront, RanUnwritten}
-use Rattle.rt_script.specs.Pieces.{is_inner, kept, RanLine, RanLines}
+use Rattle.rt_script.specs.Pieces.{is_inner, kept_bytes, RanLine, RanLines}
 use Rattle.rt_stamps.specs.Source.{failures_of}
 use Rattle.rt_script.proofs.LinesLaws.{complete_append, complete_newline, complete_front, rest_append, rest_newline, rest_front, cut_empty}
 
@@ -144,22 +144,22 @@ length_without [] = omega arith
 length_without (c ∷ []) = elim (c == 13) as (λ t. 1 ≤ length (cond t [] (c ∷ [])) + 1) [ true ↦ omega arith | false ↦ omega arith ]
 length_without (c ∷ d ∷ line) = let h = length_without (d ∷ line) in omega arith
 
-kept_length : (line : List ℕ) → MOST_KEPT_BYTES < length line → length (kept line) ≡ MOST_KEPT_BYTES
+kept_length : (line : List ℕ) → MOST_KEPT_BYTES < length line → length (kept_bytes line) ≡ MOST_KEPT_BYTES
 kept_length line h = omega (arith, length-take MOST_KEPT_BYTES line)
 
 -- a line is answered by what is kept of it
-pub last_kept : {S : Type 0} (gives : S → List Word → Answer → S → Type 0) (old new : Point S) (line : List ℕ) (r : Result (Unit {0}) Fault) → RanLine gives old new (kept line) r → RanLine gives old new line r
+pub last_kept : {S : Type 0} (gives : S → List Word → Answer → S → Type 0) (old new : Point S) (line : List ℕ) (r : Result (Unit {0}) Fault) → RanLine gives old new (kept_bytes line) r → RanLine gives old new line r
 last_kept gives old new line r h = elim (cases_lt MOST_KEPT_BYTES (length line)) [
-  | inl long ↦ let e = kept_length line long in unreadable_line gives old new (kept line) line r (too_long (kept line) (omega arith)) (too_long line (omega arith)) h
+  | inl long ↦ let e = kept_length line long in unreadable_line gives old new (kept_bytes line) line r (too_long (kept_bytes line) (omega arith)) (too_long line (omega arith)) h
   | inr short ↦ subst (λ l. RanLine gives old new l r) (take_all MOST_KEPT_BYTES line short) h
 ]
 
-pub line_kept : {S : Type 0} (gives : S → List Word → Answer → S → Type 0) (old new : Point S) (line : List ℕ) (r : Result (Unit {0}) Fault) → RanLine gives old new (without_return (kept line)) r → RanLine gives old new (without_return line) r
+pub line_kept : {S : Type 0} (gives : S → List Word → Answer → S → Type 0) (old new : Point S) (line : List ℕ) (r : Result (Unit {0}) Fault) → RanLine gives old new (without_return (kept_bytes line)) r → RanLine gives old new (without_return line) r
 line_kept gives old new line r h = elim (cases_lt MOST_KEPT_BYTES (length line)) [
   | inl long ↦
       let e = kept_length line long in
-      unreadable_line gives old new (without_return (kept line)) (without_return line) r
-      (too_long (without_return (kept line)) (omega (arith, length_without (kept line)))) (too_long (without_return line) (omega (arith, length_without line))) h
+      unreadable_line gives old new (without_return (kept_bytes line)) (without_return line) r
+      (too_long (without_return (kept_bytes line)) (omega (arith, length_without (kept_bytes line)))) (too_long (without_return line) (omega (arith, length_without line))) h
   | inr short ↦ subst (λ l. RanLine gives old new (without_return l) r) (take_all MOST_KEPT_BYTES line short) h
 ]
 
@@ -169,17 +169,17 @@ take_longer zero xs ys = refl
 take_longer (suc n) [] ys = refl
 take_longer (suc n) (x ∷ xs) ys = ap (λ l. x ∷ l) (take_longer n xs ys)
 
-pub kept_longer : (xs ys : List ℕ) → kept (kept xs ++ ys) ≡ kept (xs ++ ys)
+pub kept_longer : (xs ys : List ℕ) → kept_bytes (kept_bytes xs ++ ys) ≡ kept_bytes (xs ++ ys)
 kept_longer xs ys = take_longer MOST_KEPT_BYTES xs ys
 
 -- as many bytes more as there is room for
-pub kept_more : (old bytes : List ℕ) (n : ℕ) → length old ≤ MOST_KEPT_BYTES → n ≡ min (MOST_KEPT_BYTES - length old) (length bytes) → old ++ take n bytes ≡ kept (old ++ bytes)
+pub kept_more : (old bytes : List ℕ) (n : ℕ) → length old ≤ MOST_KEPT_BYTES → n ≡ min (MOST_KEPT_BYTES - length old) (length bytes) → old ++ take n bytes ≡ kept_bytes (old ++ bytes)
 kept_more old bytes n h e =
     let all : length old + (MOST_KEPT_BYTES - length old) ≡ MOST_KEPT_BYTES = omega arith in
     ap (λ v. old ++ v) (ap (λ k. take k bytes) e ∙ take_min (MOST_KEPT_BYTES - length old) bytes)
     ∙ sym (take-append-add old bytes (MOST_KEPT_BYTES - length old)) ∙ ap (λ k. take k (old ++ bytes)) all
 
-pub kept_short : (line : List ℕ) → length (kept line) ≤ MOST_KEPT_BYTES
+pub kept_short : (line : List ℕ) → length (kept_bytes line) ≤ MOST_KEPT_BYTES
 kept_short line = omega (arith, length-take MOST_KEPT_BYTES line)
 
 -- the last line of a script, by what is kept of it
@@ -188,10 +188,10 @@ take_none zero line h e = absurd (omega arith)
 take_none (suc n) [] h e = refl
 take_none (suc n) (c ∷ line) h e = cc
 
-pub last_none : (rest : List ℕ) → kept rest ≡ [] → rest_line rest ≡ []
+pub last_none : (rest : List ℕ) → kept_bytes rest ≡ [] → rest_line rest ≡ []
 last_none rest e = ap rest_line (take_none MOST_KEPT_BYTES rest (omega arith) e)
 
-pub last_some : (rest : List ℕ) → kept rest ≢ [] → rest_line rest ≡ rest ∷ []
+pub last_some : (rest : List ℕ) → kept_bytes rest ≢ [] → rest_line rest ≡ rest ∷ []
 last_some [] n = absurd (n refl)
 last_some (c ∷ rest) n = refl
 
@@ -220,7 +220,7 @@ unstored_line gives here line fault is = inl (is, record { run = []; line = line
 
 -- it was run as it came, since nothing of it was kept before
 pub whole_line : {S : Type 0} (gives : S → List Word → Answer → S → Type 0) (old new : Point S) (front bytes pending line : List ℕ) (r : Result (Unit {0}) Fault)
-    → pending ≡ kept front → pending ≡ [] → line ≡ without_return bytes → RanLine gives old new line r → IfErr r (λ fault. fault ≡ WriteFault) → new.out.failures ≡ old.out.failures + failures_of r
+    → pending ≡ kept_bytes front → pending ≡ [] → line ≡ without_return bytes → RanLine gives old new line r → IfErr r (λ fault. fault ≡ WriteFault) → new.out.failures ≡ old.out.failures + failures_of r
     → RanLines gives old new (without_return (front ++ bytes) ∷ []) (without_return (front ++ bytes) ∷ []) r
 whole_line gives old new front bytes pending line r is none e h w n =
     let blank : front ≡ [] = take_none MOST_KEPT_BYTES front (omega arith) (sym is ∙ none) in
@@ -229,20 +229,20 @@ whole_line gives old new front bytes pending line r is none e h w n =
 
 -- it was run as what is kept of it
 pub kept_line : {S : Type 0} (gives : S → List Word → Answer → S → Type 0) (old new : Point S) (front bytes before pending line : List ℕ) (r : Result (Unit {0}) Fault)
-    → before ≡ kept front → pending ≡ kept (before ++ bytes) → line ≡ without_return pending → RanLine gives old new line r → IfErr r (λ fault. fault ≡ WriteFault) → new.out.failures ≡ old.out.failures + failures_of r
+    → before ≡ kept_bytes front → pending ≡ kept_bytes (before ++ bytes) → line ≡ without_return pending → RanLine gives old new line r → IfErr r (λ fault. fault ≡ WriteFault) → new.out.failures ≡ old.out.failures + failures_of r
     → RanLines gives old new (without_return (front ++ bytes) ∷ []) (without_return (front ++ bytes) ∷ []) r
 kept_line gives old new front bytes before pending line r is k e h w n =
-    let all : pending ≡ kept (front ++ bytes) = k ∙ ap (λ v. kept (v ++ bytes)) is ∙ kept_longer front bytes in
+    let all : pending ≡ kept_bytes (front ++ bytes) = k ∙ ap (λ v. kept_bytes (v ++ bytes)) is ∙ kept_longer front bytes in
     one_line gives old new (without_return (front ++ bytes)) r (line_kept gives old new (front ++ bytes) r (subst (λ l. RanLine gives old new l r) (e ∙ ap without_return all) h)) w n
 
 -- a byte of a line could not be stored: a line begins after those that were run
 lines_some : (rest : List ℕ) → rest ≢ [] → (line : List ℕ) × (more : List (List ℕ)) × (lines_of rest ≡ line ∷ more)
-lines_some rest some = go (cut rest) refl
+lines_some rest some = go (split_lines rest) refl
   where
     seen : List (List ℕ) × List ℕ → List (List ℕ)
     seen p = map without_return p.0 ++ rest_line p.1
 
-    go : (p : List (List ℕ) × List ℕ) → cut rest ≡ p → (line : List ℕ) × (more : List (List ℕ)) × (lines_of rest ≡ line ∷ more)
+    go : (p : List (List ℕ) × List ℕ) → split_lines rest ≡ p → (line : List ℕ) × (more : List (List ℕ)) × (lines_of rest ≡ line ∷ more)
     go ([], []) e = absurd (some (cut_empty rest e))
     go ([], c ∷ left) e = (c ∷ left, [], ap seen e)
     go (l ∷ lines, left) e = (without_return l, map without_return lines ++ rest_line left, ap seen e)
@@ -305,13 +305,13 @@ bytes_front p xs i n e = ap (λ k. p ++ take (i + k) xs) e ∙ ap (λ v. p ++ v)
 pub ran_front : {S : Type 0} (gives : S → List Word → Answer → S → Type 0) (old new : Point S) (p xs : List ℕ) (i n : ℕ) → n ≡ line_at xs i → Ran gives old new (complete_of (p ++ take i xs)) → Ran gives old new (complete_of (p ++ take (i + n) xs))
 ran_front gives old new p xs i n e h = rw (bytes_front p xs i n e, complete_front (p ++ take i xs) (drop i xs)) h
 
-pub kept_front : (old new p xs : List ℕ) (i n : ℕ) → n ≡ line_at xs i → new ≡ kept (old ++ take (i + n - i) (drop i xs)) → old ≡ kept (rest_of (p ++ take i xs)) → new ≡ kept (rest_of (p ++ take (i + n) xs))
+pub kept_front : (old new p xs : List ℕ) (i n : ℕ) → n ≡ line_at xs i → new ≡ kept_bytes (old ++ take (i + n - i) (drop i xs)) → old ≡ kept_bytes (rest_of (p ++ take i xs)) → new ≡ kept_bytes (rest_of (p ++ take (i + n) xs))
 kept_front old new p xs i n e h k =
     let count : i + n - i ≡ line_at xs i = omega (arith, e) in
     let front = take (line_at xs i) (drop i xs) in
     let before = rest_of (p ++ take i xs) in
-    h ∙ ap (λ m. kept (old ++ take m (drop i xs))) count ∙ ap (λ v. kept (v ++ front)) k ∙ kept_longer before front
-    ∙ ap kept (sym (ap rest_of (bytes_front p xs i n e) ∙ rest_front (p ++ take i xs) (drop i xs)))
+    h ∙ ap (λ m. kept_bytes (old ++ take m (drop i xs))) count ∙ ap (λ v. kept_bytes (v ++ front)) k ∙ kept_longer before front
+    ∙ ap kept_bytes (sym (ap rest_of (bytes_front p xs i n e) ∙ rest_front (p ++ take i xs) (drop i xs)))
 
 -- a newline completes the line that goes on with them
 pub complete_line : (p xs : List ℕ) (i n : ℕ) → n ≡ line_at xs i → i + n < length xs
@@ -358,14 +358,14 @@ kept_lines gives old new p xs i n (Ok x) e all some w h same =
     (subst (λ v. Ran gives old new (complete_of (p ++ v))) (take_all (i + n) xs (omega (arith, all))) (ran_front gives old new p xs i n e h), same)
 kept_lines gives old new p xs i n (Err x) e all some w h same = inl (w, front_unstored gives old new (p ++ take i xs) (p ++ xs) (drop i xs) h (bytes_all p xs i) (drop_some xs i some), same)
 
-pub kept_rest : (old new p xs : List ℕ) (i n : ℕ) (r : Result (Unit {0}) Fault) → n ≡ line_at xs i → i + n ≡ length xs → OnOk r (new ≡ kept (old ++ take (i + n - i) (drop i xs)))
-    → old ≡ kept (rest_of (p ++ take i xs)) → OnOk r (new ≡ kept (rest_of (p ++ xs)))
-kept_rest old new p xs i n (Ok x) e all h k = kept_front old new p xs i n e h k ∙ ap (λ v. kept (rest_of (p ++ v))) (take_all (i + n) xs (omega (arith, all)))
+pub kept_rest : (old new p xs : List ℕ) (i n : ℕ) (r : Result (Unit {0}) Fault) → n ≡ line_at xs i → i + n ≡ length xs → OnOk r (new ≡ kept_bytes (old ++ take (i + n - i) (drop i xs)))
+    → old ≡ kept_bytes (rest_of (p ++ take i xs)) → OnOk r (new ≡ kept_bytes (rest_of (p ++ xs)))
+kept_rest old new p xs i n (Ok x) e all h k = kept_front old new p xs i n e h k ∙ ap (λ v. kept_bytes (rest_of (p ++ v))) (take_all (i + n) xs (omega (arith, all)))
 kept_rest old new p xs i n (Err x) e all h k = tt
 
 -- nothing is kept after a newline
-pub kept_newline : (xs ys : List ℕ) → ys ≡ xs ++ 10 ∷ [] → [] ≡ kept (rest_of ys)
-kept_newline xs ys f = ap kept (sym (ap rest_of f ∙ rest_newline xs))
+pub kept_newline : (xs ys : List ℕ) → ys ≡ xs ++ 10 ∷ [] → [] ≡ kept_bytes (rest_of ys)
+kept_newline xs ys f = ap kept_bytes (sym (ap rest_of f ∙ rest_newline xs))
 
 -- nothing was run of a script without a newline
 pub ran_start : {S : Type 0} (gives : S → List Word → Answer → S → Type 0) (here : Point S) (rest : List ℕ) → complete_of rest ≡ [] → Ran gives here here (complete_of rest)
@@ -385,7 +385,7 @@ unreadable_text line n = go (nat_le (length line) MOST_LINE_BYTES) (is_utf8 line
 
 -- the last line of a script was run
 pub ran_last : {S : Type 0} (gives : S → List Word → Answer → S → Type 0) (old new : Point S) (rest : List ℕ) (r : Result (Unit {0}) Fault)
-    → RanLine gives old new (kept rest) r → kept rest ≢ [] → IfErr r (λ fault. fault ≡ WriteFault) → new.out.failures ≡ old.out.failures + failures_of r → RanLines gives old new (rest_line rest) (rest_line rest) r
+    → RanLine gives old new (kept_bytes rest) r → kept_bytes rest ≢ [] → IfErr r (λ fault. fault ≡ WriteFault) → new.out.failures ≡ old.out.failures + failures_of r → RanLines gives old new (rest_line rest) (rest_line rest) r
 ran_last gives old new rest r h n w e = rw (last_some rest n) (one_line gives old new rest r (last_kept gives old new rest r h) w e)
 
 pub length_none : (bytes : List ℕ) → length bytes ≡ 0 → bytes ≡ []

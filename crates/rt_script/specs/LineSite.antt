@@ -1,5 +1,8 @@
 -- A site that is asked by lines, one at a time, and what each call makes of it.
 use Rattle.std.specs.Prelude.{◌≡◌, ◌⊎◌, ◌++◌, ◌&&◌, Bool, true, false, List, [], Option, Some, None, Result, Err, ℕ, drop, length, reverse, take, unwrap_or, if◌then◌else◌}
+use Rattle.std.specs.BTreeMap.{is_at}
+use Rattle.std.specs.Map.{lookup}
+use Rattle.std.specs.Ordering.{nat_cmp}
 use Rattle.std.specs.Str.{is_utf8}
 use Rattle.rt_stamps.specs.declared.fault.Fault.{Fault}
 use Rattle.rt_stamps.specs.declared.fault.Fault.TheVariants.{BadQuoting}
@@ -37,9 +40,9 @@ bytes_of (Bytes bytes) = bytes.items
 bytes_of (Line answer) = reply_line answer
 
 -- whether they are ready
-abbrev pub is_ready : Spoken → Bool
-is_ready (Bytes bytes) = true
-is_ready (Line answer) = false
+abbrev pub is_line_ready : Spoken → Bool
+is_line_ready (Bytes bytes) = true
+is_line_ready (Line answer) = false
 
 -- what says some bytes, which are ready
 abbrev pub saying : List ℕ → LineSiteValue → LineSiteValue
@@ -84,9 +87,12 @@ pub record ReceivesTelling (bytes : List ℕ) (old : LineSiteValue) (received : 
   pub tells : TellsChanges old.site new.site new.changes
   pub said : (new.said ≡ old.said) × (new.ready ≡ old.ready)
 
--- these are the last counts that a site knows, by the numbers of their sites
-abbrev pub AreEndsOf : SiteValue → List (ℕ × ℕ) → Type 0
-AreEndsOf state ends = AreBySite ends × ((site : ℕ) → known_by ends site ≡ known_end (log_of state) site)
+-- these are the last counts that a site knows, by the numbers of their sites: of each site of which it has operations, and of
+-- no other
+pub record AreEndsOf (state : SiteValue) (ends : List (ℕ × ℕ)) : Type 0 where
+  pub order : AreBySite ends
+  pub known : (site : ℕ) → known_by ends site ≡ known_end (log_of state) site
+  pub only : (site : ℕ) → known_end (log_of state) site ≡ 0 → lookup (is_at (nat_cmp site)) ends ≡ None
 
 -- the place of an index in what the widget of a path shows, or why it is refused, if both are texts; else it is refused by `BadQuoting`
 abbrev pub place_at_path : Word → Word → SiteValue → Result ℕ Fault

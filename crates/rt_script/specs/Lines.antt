@@ -11,9 +11,9 @@ before_all c [] rest = ([], c ∷ rest)
 before_all c (line ∷ lines) rest = ((c ∷ line) ∷ lines, rest)
 
 -- the lines that newlines end, and what follows the last newline
-abbrev pub cut : List ℕ → List (List ℕ) × List ℕ
-cut [] = ([], [])
-cut (c ∷ bytes) = if c == 10 then ([] ∷ (cut bytes).0, (cut bytes).1) else before_all c (cut bytes).0 (cut bytes).1
+abbrev pub split_lines : List ℕ → List (List ℕ) × List ℕ
+split_lines [] = ([], [])
+split_lines (c ∷ bytes) = if c == 10 then ([] ∷ (split_lines bytes).0, (split_lines bytes).1) else before_all c (split_lines bytes).0 (split_lines bytes).1
 
 -- a line without a carriage return at its end
 abbrev pub without_return : List ℕ → List ℕ
@@ -23,11 +23,11 @@ without_return (c ∷ d ∷ line) = c ∷ without_return (d ∷ line)
 
 -- the lines that newlines end: a carriage return just before the newline isn't the line's
 abbrev pub complete_of : List ℕ → List (List ℕ)
-complete_of bytes = map without_return (cut bytes).0
+complete_of bytes = map without_return (split_lines bytes).0
 
 -- what follows the last newline
 abbrev pub rest_of : List ℕ → List ℕ
-rest_of bytes = (cut bytes).1
+rest_of bytes = (split_lines bytes).1
 
 -- what follows the last newline is a line too, if there is anything
 abbrev pub rest_line : List ℕ → List (List ℕ)

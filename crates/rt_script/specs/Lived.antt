@@ -5,7 +5,7 @@ use Rattle.rt_stamps.specs.declared.limits.TheConstants.{MOST_CELLS}
 use Rattle.rt_stamps.specs.Streams.{Stream}
 use Rattle.rt_stamps.specs.Words.{Word}
 use Rattle.rt_ops.specs.Operations.{Operation}
-use Rattle.rt_oplog.specs.Logs.{Has}
+use Rattle.rt_oplog.specs.Logs.{HasOp}
 use Rattle.rt_peers.specs.Lives.{IsOfFile, Lives, LivesOn}
 use Rattle.rt_peers.specs.SiteValue.{SiteValue}
 use Rattle.rt_script.specs.declared.site_run.ScriptRun.{ScriptRun}
@@ -42,7 +42,7 @@ abbrev pub RunsLive : Type 0
 RunsLive =
     (number : ℕ) (end : SiteValue) → 0 < number → (run : IsScriptRun number end)
     → (came : List Operation) × Lives number MOST_CELLS end came
-    × ((op : Operation) → Has came op → (op.site ≡ number) ⊎ (IsOfFirstLog run.log op ⊎ IsOfNamed run.files op))
+    × ((op : Operation) → HasOp came op → (op.site ≡ number) ⊎ (IsOfFirstLog run.log op ⊎ IsOfNamed run.files op))
 
 -- A site that goes on to run a script lives on, however the run ends: to it came operations of its own number, and of files that the
 -- lines may name.

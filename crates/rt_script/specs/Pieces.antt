@@ -16,8 +16,8 @@ abbrev pub is_inner : ℕ → Bool
 is_inner c = not (c == 10)
 
 -- what is kept of a line
-abbrev pub kept : List ℕ → List ℕ
-kept line = take MOST_KEPT_BYTES line
+abbrev pub kept_bytes : List ℕ → List ℕ
+kept_bytes line = take MOST_KEPT_BYTES line
 
 -- A line was run: nothing was done for a silent one; else the line of its answer was written, or a front of it.
 abbrev pub RanLine : {S : Type 0} → (S → List Word → Answer → S → Type 0) → Point S → Point S → List ℕ → Result (Unit {0}) Fault → Type 0

@@ -1,12 +1,12 @@
 // Runs of scripts.
 ghost use Rattle.std.specs.Prelude.{◌≡◌, ℕ, ◌+◌, ◌<◌, ◌≤◌, ◌&&◌, ◌∷◌, ◌++◌, [], true, false, List, length, Some, codes, IfOk, IsOkUnless, OnOk, IfSome, MatchOption};
 ghost use Rattle.std.specs.List.{list_all, prefix_len};
-ghost use Rattle.rt_script.specs.Lines.{cut, without_return, is_readable, is_silent, complete_of, rest_of, rest_line, lines_of};
+ghost use Rattle.rt_script.specs.Lines.{split_lines, without_return, is_readable, is_silent, complete_of, rest_of, rest_line, lines_of};
 ghost use Rattle.rt_words.specs.Spelling.{is_blank};
 ghost use Rattle.rt_stamps.specs.Source.{failures_of};
 ghost use Rattle.rt_stamps.specs.Written.{WritesText};
 ghost use Rattle.rt_words.specs.declared.spare.TheConstants.{MOST_WORDS};
-ghost use Rattle.rt_script.specs.Pieces.{is_inner, kept, RanLine, RanLines};
+ghost use Rattle.rt_script.specs.Pieces.{is_inner, kept_bytes, RanLine, RanLines};
 ghost use Rattle.rt_script.specs.Replies.{reply_line};
 ghost use Rattle.rt_ops.specs.Intake.{StopsUnseen};
 ghost use Rattle.rt_script.specs.Run.{LineGives, Ends, StopsInLast, point};
@@ -261,7 +261,7 @@ fn line_len(bytes: &[u8]) -> usize
 // Keeps bytes of a line that isn't complete, as far as the line isn't too long already.
 fn keep(pending: &mut Vec<u8>, bytes: &[u8]) -> Result<(), Fault>
     requires { length pending.old.items ≤ MOST_KEPT_BYTES }
-    ensures kept { OnOk result (pending.new.items ≡ kept (pending.old.items ++ bytes.now)) }
+    ensures kept { OnOk result (pending.new.items ≡ kept_bytes (pending.old.items ++ bytes.now)) }
     ensures fault { IsOkUnless result Fault.NoMemory }
 {
     let room = MOST_KEPT_BYTES - pending.len();
@@ -279,7 +279,7 @@ fn end_line<C: Commands, W: Sink>(
     out: &mut W,
 ) -> Result<(), Fault>
     requires { length pending.old.items ≤ MOST_KEPT_BYTES }
-    ensures ran { (front : List ℕ) → pending.old.items ≡ kept front → let line = without_return (front ++ bytes.now) in
+    ensures ran { (front : List ℕ) → pending.old.items ≡ kept_bytes front → let line = without_return (front ++ bytes.now) in
         RanLines C.gives (point (C.state site.old) (W.stream out.old)) (point (C.state site.new) (W.stream out.new))
         (line ∷ []) (line ∷ []) result }
     ensures rest { OnOk result (pending.new.items ≡ []) }
@@ -304,11 +304,11 @@ fn feed<C: Commands, W: Sink>(
     out: &mut W,
 ) -> Result<(), Fault>
     requires { length pending.old.items ≤ MOST_KEPT_BYTES }
-    ensures ran { (rest : List ℕ) → cut rest ≡ ([], rest) → pending.old.items ≡ kept rest
+    ensures ran { (rest : List ℕ) → split_lines rest ≡ ([], rest) → pending.old.items ≡ kept_bytes rest
         → RanLines C.gives (point (C.state site.old) (W.stream out.old)) (point (C.state site.new) (W.stream out.new))
         (complete_of (rest ++ piece.now)) (lines_of (rest ++ piece.now)) result }
-    ensures rest { (rest : List ℕ) → cut rest ≡ ([], rest) → pending.old.items ≡ kept rest
-        → OnOk result (pending.new.items ≡ kept (rest_of (rest ++ piece.now))) }
+    ensures rest { (rest : List ℕ) → split_lines rest ≡ ([], rest) → pending.old.items ≡ kept_bytes rest
+        → OnOk result (pending.new.items ≡ kept_bytes (rest_of (rest ++ piece.now))) }
 {
     let mut start = 0;
     while start < piece.len() {
@@ -330,7 +330,7 @@ fn finish<C: Commands, W: Sink>(
     pending: &[u8],
     out: &mut W,
 ) -> Result<(), Fault>
-    ensures ran { (rest : List ℕ) → pending.now ≡ kept rest
+    ensures ran { (rest : List ℕ) → pending.now ≡ kept_bytes rest
         → RanLines C.gives (point (C.state site.old) (W.stream out.old)) (point (C.state site.new) (W.stream out.new))
         (rest_line rest) (rest_line rest) result }
     ensures fault { IsOkUnless result Fault.WriteFault }

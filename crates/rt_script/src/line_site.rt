@@ -8,7 +8,7 @@ ghost use Rattle.rt_files.specs.Ends.{SpellEnds, SpellNoEnds, ends_bytes};
 ghost use Rattle.rt_changes.specs.declared.change.ToldChange.{ToldChange};
 ghost use Rattle.rt_script.specs.Changes.{change_lines};
 ghost use Rattle.rt_script.specs.Replies.{reply_line};
-ghost use Rattle.rt_script.specs.LineSite.{AreEndsOf, ReceivesTelling, RunsLine, bytes_of, file_since, in_front, is_ready, known_changes};
+ghost use Rattle.rt_script.specs.LineSite.{AreEndsOf, ReceivesTelling, RunsLine, bytes_of, file_since, in_front, is_line_ready, known_changes};
 ghost use Rattle.rt_script.specs.LineSite.{place_at_path, place_of_path, saying, stamp_of_path, untold};
 
 use crate::answer::Answer;
@@ -76,11 +76,11 @@ impl Drop for LineSite {
 
 impl Model for LineSite {
     ghost use Rattle.rt_script.specs.Telling.{told_items};
-    ghost use Rattle.rt_script.specs.LineSite.{LineSiteValue, bytes_of, is_ready};
+    ghost use Rattle.rt_script.specs.LineSite.{LineSiteValue, bytes_of, is_line_ready};
 
     ghost Value = { LineSiteValue };
 
-    ghost view = { λ k. record { site = k.site; said = bytes_of k.said; ready = is_ready k.said; changes = told_items k.changes } };
+    ghost view = { λ k. record { site = k.site; said = bytes_of k.said; ready = is_line_ready k.said; changes = told_items k.changes } };
 }
 
 impl LineSite {
@@ -226,7 +226,8 @@ impl LineSite {
         Some(change_bytes(self.alloc, change))
     }
 
-    /// The last counts that its site knows, as bytes (`bytes_of_ends` of rt_files). `NoMemory` is its only fault.
+    /// The last counts that its site knows, of each site of which it has operations, as bytes (`bytes_of_ends` of rt_files).
+    /// `NoMemory` is its only fault.
     pub fn ends(&self) -> Result<Vec<u8>, Fault>
         ensures ok { IfOk result (λ bytes. (ends : List (ℕ × ℕ)) × (bytes.items ≡ ends_bytes ends) × AreEndsOf self.now.site ends) }
         ensures err { IsOkUnless result NoMemory }

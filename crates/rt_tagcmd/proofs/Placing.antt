@@ -8,7 +8,7 @@ use Rattle.std.proofs.lemmas.Bool.Decides.{nat_tests}
 use Rattle.std.proofs.lemmas.List.Elements.{All-head, All-tail, filter_agree}
 use Rattle.std.proofs.lemmas.List.Sorted.{IsNonDecreasingBy-drop}
 use Rattle.rt_tagcmd.specs.declared.element.Key.TheVariants.{Text}
-use Rattle.rt_tagcmd.specs.Elements.{Placed, by_place, placed, is_at_place}
+use Rattle.rt_tagcmd.specs.Elements.{Placed, by_place, element_at, is_at_place}
 use Rattle.rt_tagcmd.proofs.Bools.{split}
 
 -- AT ONE PLACE
@@ -106,7 +106,7 @@ tie_is p q = grind (arith, nat_tests)
 -- it keeps what stands at each place
 pub same_at : (xs ys : List Placed) → IsStableByKey (λ e. e.place) nat_cmp xs ys → (p : ℕ) → filter (is_at_place p) ys ≡ filter (is_at_place p) xs
 same_at xs ys stable p =
-    let test : Placed → Bool = λ e. ties (λ (x : Placed) (y : Placed). is_lt (nat_cmp x.place y.place)) (placed Text [] p) e in
+    let test : Placed → Bool = λ e. ties (λ (x : Placed) (y : Placed). is_lt (nat_cmp x.place y.place)) (element_at Text [] p) e in
     let agree : (e : Placed) → is_at_place p e ≡ test e =
     λ e. tie_is p e.place ∙ (λ i. not (sym (lt_is (nat_lt p e.place) (p == e.place)) i) && not (sym (lt_is (nat_lt e.place p) (e.place == p)) i)) in
-    filter_agree (is_at_place p) test agree ys ∙ stable (placed Text [] p) ∙ sym (filter_agree (is_at_place p) test agree xs)
+    filter_agree (is_at_place p) test agree ys ∙ stable (element_at Text [] p) ∙ sym (filter_agree (is_at_place p) test agree xs)

@@ -15,7 +15,7 @@ use Rattle.rt_store.specs.Shown.{TaggedCell}
 use Rattle.rt_plans.specs.Listed.{AreListed}
 use Rattle.rt_store.specs.Spans.{is_among}
 use Rattle.rt_store.specs.Cells.{visible_of}
-use Rattle.rt_text.specs.Widgets.{ViewValue, is_tagged, length_shown, cells_shown, stretch_by}
+use Rattle.rt_text.specs.Widgets.{ViewValue, shows_tag, length_shown, cells_shown, stretch_by}
 use Rattle.rt_lines.specs.Stretches.{part}
 use Rattle.rt_lines.specs.declared.stretch.Stretch.{Stretch}
 use Rattle.rt_tagcmd.specs.TagCommands.{tagged_ranges}
@@ -40,7 +40,7 @@ all_within : {A : Type 0} (test : A → Bool) (cs : List A) → All (IsWithin (l
 all_within test cs = λ k d l. maximal_within test cs _ (each_maximal test cs k d l)
 
 pub tagged_within : (view : ViewValue) (name : Word) → All (IsWithin (length_shown view)) (tagged_ranges view name)
-tagged_within view name = subst (λ n. All (IsWithin n) (tagged_ranges view name)) (sym (text_length view)) (all_within (is_tagged view.own name) (cells_shown view))
+tagged_within view name = subst (λ n. All (IsWithin n) (tagged_ranges view name)) (sym (text_length view)) (all_within (shows_tag view.own name) (cells_shown view))
 
 all_found : {X : Type 0} (P : X → Type 0) (test : X → Bool) (xs : List X) → All P xs → All P (option_to_list (find test xs))
 all_found P test [] h = All-nil P
@@ -95,6 +95,6 @@ pub unlisted : (view : ViewValue) (name : Word) → AreListed view.doc.tags view
 unlisted view name h u =
     let tags = view.doc.tags in
     let shown : All (HasListed tags) (cells_shown view) = part_all (HasListed tags) (stretch_by view) (visible_of view.doc.cells) h.each in
-    none_passes (is_tagged view.own name) 0 (cells_shown view)
+    none_passes (shows_tag view.own name) 0 (cells_shown view)
     (λ k d l. let cell = get_or (cells_shown view) k d in
     cond-false (bytes_eq name sel) (is_among view.own.sel cell.stamp) (is_on name cell.state) (not_sel name tags h.sel u) ∙ not_on name tags cell u (shown k d l))

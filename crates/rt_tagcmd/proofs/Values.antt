@@ -11,7 +11,7 @@ use Rattle.std.proofs.lemmas.Str.{encodes-append}
 use Rattle.std.proofs.lemmas.Map.Views.{any-filter_same}
 use Rattle.rt_tagcmd.specs.declared.element.Key.TheVariants.{Text}
 use Rattle.rt_tagcmd.specs.declared.stretch.DumpStretch.{DumpStretch}
-use Rattle.rt_tagcmd.specs.Elements.{Placed, ends_text, placed, is_at_place, text_values, values_up_to}
+use Rattle.rt_tagcmd.specs.Elements.{Placed, ends_text, element_at, is_at_place, text_values, values_up_to}
 use Rattle.rt_tagcmd.specs.Stretches.{AreGathered, EndsWhere}
 use Rattle.rt_tagcmd.proofs.Bools.{split}
 use Rattle.rt_tagcmd.proofs.Placing.{at_is, at_isnt, is_at, isnt_at}
@@ -58,7 +58,7 @@ values_left text others to start = values_up_to text start (filter (ends_text te
 
 -- the first of them
 pub values_step : (text : List ℕ) (others : List Placed) (to start end : ℕ) → start < to → EndsWhere (ends_text text others to) start end to
-    → values_left text others to start ≡ placed Text (encode_utf8_all (text_between text start end)) start ∷ values_left text others to end
+    → values_left text others to start ≡ element_at Text (encode_utf8_all (text_between text start end)) start ∷ values_left text others to end
 values_step text others to start end b e =
     let behind : start < end = e.behind in
     let within : end ≤ to = e.within in
@@ -122,7 +122,7 @@ inside_from text f from to zero a start l b h = All-nil (λ e. (from ≤ e.place
 inside_from text f from to (suc n) a start l b h =
     split (f a)
     (λ t. subst (λ ends. All (λ e. (from ≤ e.place) × (e.place < to)) (values_up_to text start ends)) (sym (ap (λ c. cond c (a ∷ filter f (range_with_len (a + 1) n)) (filter f (range_with_len (a + 1) n))) t))
-    (All-cons (λ e. (from ≤ e.place) × (e.place < to)) (placed Text (encode_utf8_all (text_between text start a)) start) (values_up_to text a (filter f (range_with_len (a + 1) n)))
+    (All-cons (λ e. (from ≤ e.place) × (e.place < to)) (element_at Text (encode_utf8_all (text_between text start a)) start) (values_up_to text a (filter f (range_with_len (a + 1) n)))
     (l, omega arith) (inside_from text f from to n (a + 1) a (omega arith) (omega arith) (omega arith))))
     (λ t. subst (λ ends. All (λ e. (from ≤ e.place) × (e.place < to)) (values_up_to text start ends)) (sym (ap (λ c. cond c (a ∷ filter f (range_with_len (a + 1) n)) (filter f (range_with_len (a + 1) n))) t))
     (inside_from text f from to n (a + 1) start l (omega arith) (omega arith)))

@@ -2,7 +2,7 @@
 use Rattle.std.specs.Prelude.{ℕ, ◌+◌, List, ◌∷◌, ◌++◌, map, flat_map, min, Option, option_to_list, Result}
 use Rattle.std.specs.Option.{option_map_or}
 use Rattle.rt_tagcmd.specs.declared.element.Key.TheVariants.{TagOff, TagOn, Mark}
-use Rattle.rt_tagcmd.specs.Elements.{Element, Placed, answered, by_place, if_asked, placed, places_between, text_values}
+use Rattle.rt_tagcmd.specs.Elements.{Element, Placed, answered, by_place, element_at, if_asked, places_between, text_values}
 use Rattle.rt_requests.specs.declared.kinds.Kinds.{Kinds}
 use Rattle.rt_stamps.specs.declared.fault.Fault.{Fault}
 use Rattle.rt_stamps.specs.Outcomes.{first_of, unless}
@@ -15,10 +15,10 @@ use Rattle.rt_text.specs.Widgets.{ViewValue, length_shown, marks_of, text_shown,
 
 -- where the ranges of a tag end in the widget, and where they begin
 abbrev pub tagoffs_of : ViewValue → Word → List Placed
-tagoffs_of view name = map (λ range. placed TagOff name range.to) (tagged_ranges view name)
+tagoffs_of view name = map (λ range. element_at TagOff name range.to) (tagged_ranges view name)
 
 abbrev pub tagons_of : ViewValue → Word → List Placed
-tagons_of view name = map (λ range. placed TagOn name range.from) (tagged_ranges view name)
+tagons_of view name = map (λ range. element_at TagOn name range.from) (tagged_ranges view name)
 
 -- `tagoff`: the ends of each listed tag, of the tag of the lowest priority first
 abbrev pub tagoffs : ViewValue → List Placed
@@ -30,7 +30,7 @@ tagons view = flat_map (tagons_of view) view.doc.tags
 
 -- `mark`: the widget's marks, in their order
 abbrev pub marks_standing : ViewValue → List Placed
-marks_standing view = map (λ m. placed Mark m.name m.place) (marks_of view)
+marks_standing view = map (λ m. element_at Mark m.name m.place) (marks_of view)
 
 -- THE DUMP
 

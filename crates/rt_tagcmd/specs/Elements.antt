@@ -20,8 +20,8 @@ pub record Element : Type 0 where
   pub value : Word
   pub position : Position
 
-abbrev pub placed : Key → Word → ℕ → Placed
-placed key value place = record { key = key; value = value; place = place }
+abbrev pub element_at : Key → Word → ℕ → Placed
+element_at key value place = record { key = key; value = value; place = place }
 
 abbrev pub answered : List ℕ → Placed → Element
 answered text element = record { key = element.key; value = element.value; position = position_at text element.place }
@@ -47,7 +47,7 @@ ends_text text others to place = is_newline (slice_index_or text (place - 1) 0) 
 -- the text values that end at some places: each begins where the one before it ends
 abbrev pub values_up_to : List ℕ → ℕ → List ℕ → List Placed
 values_up_to text from [] = []
-values_up_to text from (to ∷ ends) = placed Text (encode_utf8_all (text_between text from to)) from ∷ values_up_to text to ends
+values_up_to text from (to ∷ ends) = element_at Text (encode_utf8_all (text_between text from to)) from ∷ values_up_to text to ends
 
 -- the text values of the stretch from one place up to before another, between other elements
 abbrev pub text_values : List ℕ → List Placed → ℕ → ℕ → List Placed

@@ -14,7 +14,7 @@ use Rattle.rt_stamps.specs.Names.{name_check}
 use Rattle.rt_text.specs.Commands.{clock_check, with_tag_in, with_tags_deleted}
 use Rattle.rt_text.specs.Index.{index_check, place_at_index}
 use Rattle.rt_text.specs.Ranges.{ranges_of}
-use Rattle.rt_text.specs.Widgets.{ViewValue, is_tagged, length_shown, cells_shown, tags_shown, text_shown, widget_of, with_tags}
+use Rattle.rt_text.specs.Widgets.{ViewValue, shows_tag, length_shown, cells_shown, tags_shown, text_shown, widget_of, with_tags}
 use Rattle.rt_tagcmd.specs.TagRanges.{passing_ranges, next_range, previous_range}
 
 -- CHECKS
@@ -78,7 +78,7 @@ tag_names_at view index =
 
 -- the ranges of characters that have a tag, in order
 abbrev pub tagged_ranges : ViewValue → Word → List Range
-tagged_ranges view name = passing_ranges (is_tagged view.own name) (cells_shown view)
+tagged_ranges view name = passing_ranges (shows_tag view.own name) (cells_shown view)
 
 -- where ranges begin and end, in turn
 abbrev pub range_ends : ViewValue → List Range → List Position

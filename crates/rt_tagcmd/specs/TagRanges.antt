@@ -12,7 +12,8 @@ with_place_before place (range ∷ ranges) =
 -- the ranges of characters that pass a test, in order, where the first character stands at a place
 abbrev pub ranges_from : {A : Type 0} → (A → Bool) → ℕ → List A → List Range
 ranges_from test place [] = []
-ranges_from test place (c ∷ characters) = if test c then with_place_before place (ranges_from test (place + 1) characters) else ranges_from test (place + 1) characters
+ranges_from test place (c ∷ characters) =
+    if test c then with_place_before place (ranges_from test (place + 1) characters) else ranges_from test (place + 1) characters
 
 -- the ranges of a text's characters that pass a test, in order
 abbrev pub passing_ranges : {A : Type 0} → (A → Bool) → List A → List Range

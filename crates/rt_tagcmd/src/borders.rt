@@ -3,7 +3,7 @@ ghost use Rattle.std.specs.Prelude.{◌≡◌, ◌++◌, ◌≤◌, ◌<◌, ℕ
 ghost use Rattle.rt_tagcmd.specs.Dumping.{tagoffs_of, tagons_of, tagoffs, tagons};
 ghost use Rattle.rt_tagcmd.specs.Stretches.{RunsTo, within};
 ghost use Rattle.rt_store.specs.Tagged.{IsLeastFrom, Passes};
-ghost use Rattle.rt_text.specs.Widgets.{is_tagged, cells_shown};
+ghost use Rattle.rt_text.specs.Widgets.{shows_tag, cells_shown};
 
 use crate::Key;
 use crate::placed::Placed;
@@ -20,8 +20,8 @@ fn next_begin<S: TextStore>(
     place: usize,
     behind: usize,
 ) -> Option<usize>
-    ensures some { IfSome result (λ begin. IsLeastFrom (is_tagged view.now.own name.now) (cells_shown view.now) place begin × (begin < behind)) }
-    ensures none { result ≡ None → (k : ℕ) → place ≤ k → k < behind → Passes (is_tagged view.now.own name.now) (cells_shown view.now) k → ⊥ }
+    ensures some { IfSome result (λ begin. IsLeastFrom (shows_tag view.now.own name.now) (cells_shown view.now) place begin × (begin < behind)) }
+    ensures none { result ≡ None → (k : ℕ) → place ≤ k → k < behind → Passes (shows_tag view.now.own name.now) (cells_shown view.now) k → ⊥ }
 {
     match view.next_tagged(name, place) {
         Some(begin) if begin < behind => Some(begin),
@@ -32,8 +32,8 @@ fn next_begin<S: TextStore>(
 /// Where the characters from a place on that have a tag end, or another place if they go on up to that.
 fn end_within<S: TextStore>(view: &ViewRef<'_, S>, name: &str, begin: usize, behind: usize) -> usize
     requires before { begin < behind }
-    requires tagged { Passes (is_tagged view.now.own name.now) (cells_shown view.now) begin }
-    ensures { RunsTo (is_tagged view.now.own name.now) (cells_shown view.now) begin result behind }
+    requires tagged { Passes (shows_tag view.now.own name.now) (cells_shown view.now) begin }
+    ensures { RunsTo (shows_tag view.now.own name.now) (cells_shown view.now) begin result behind }
 {
     let end = view.visible();
     view.next_untagged(name, begin).unwrap_or(end).min(behind)

@@ -1,6 +1,6 @@
 // An element of a dump at its place.
 ghost use Rattle.std.specs.Prelude.{◌≡◌, string_bytes};
-ghost use Rattle.rt_tagcmd.specs.Elements.{placed};
+ghost use Rattle.rt_tagcmd.specs.Elements.{element_at};
 
 use crate::{Element, Key};
 use rt_stamps::Position;
@@ -26,7 +26,7 @@ impl Model for Placed {
 impl Placed {
     /// An element at a place. It takes no memory.
     pub(crate) fn new(key: Key, value: String, place: usize) -> Placed
-        ensures { result ≡ placed key (string_bytes value) place }
+        ensures { result ≡ element_at key (string_bytes value) place }
     {
         Placed { key, value, place }
     }

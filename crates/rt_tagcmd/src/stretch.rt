@@ -1,6 +1,6 @@
 // The stretch of a text that a dump shows.
 ghost use Rattle.std.specs.Prelude.{◌≡◌, ◌∷◌, [], ◌++◌, ◌↔◌, ◌≤◌, ◌<◌, IsOkUnless, IsTrue, OnOk, filter};
-ghost use Rattle.rt_tagcmd.specs.Elements.{placed};
+ghost use Rattle.rt_tagcmd.specs.Elements.{element_at};
 ghost use Rattle.rt_tagcmd.specs.Stretches.{is_in_stretch};
 
 use crate::Key;
@@ -33,7 +33,7 @@ impl DumpStretch {
         place: usize,
     ) -> Result<(), Fault>
         ensures ok { OnOk result (elements.new.items
-            ≡ elements.old.items ++ filter (λ e. is_in_stretch self.now e.place) (placed key value.now place ∷ [])) }
+            ≡ elements.old.items ++ filter (λ e. is_in_stretch self.now e.place) (element_at key value.now place ∷ [])) }
         ensures err { IsOkUnless result Fault.NoMemory }
     {
         if self.has(place) {

@@ -2,7 +2,7 @@
 ghost use Rattle.std.specs.Prelude.{◌≡◌, ◌≤◌, Decides, IfOk, IsOkUnless, length};
 ghost use Rattle.rt_store.specs.Tagged.{Passes};
 ghost use Rattle.rt_tagcmd.specs.TagRanges.{BeginFrom, IsBegin, IsClearFrom, PassThrough, PassUpTo, first_range_from, next_range, passing_ranges, previous_range};
-ghost use Rattle.rt_text.specs.Widgets.{is_tagged, cells_shown};
+ghost use Rattle.rt_text.specs.Widgets.{shows_tag, cells_shown};
 
 use rt_stamps::Fault;
 use rt_store::TextStore;
@@ -11,7 +11,7 @@ use std::alloc::Global;
 
 // Whether a character stands at a place and has a tag.
 fn has_tag<S: TextStore>(view: &ViewRef<'_, S>, name: &str, place: usize) -> bool
-    ensures { Decides result (Passes (is_tagged view.now.own name.now) (cells_shown view.now) place) }
+    ensures { Decides result (Passes (shows_tag view.now.own name.now) (cells_shown view.now) place) }
 {
     view.next_tagged(name, place) == Some(place)
 }
@@ -19,7 +19,7 @@ fn has_tag<S: TextStore>(view: &ViewRef<'_, S>, name: &str, place: usize) -> boo
 // Up to where all characters from a place on have a tag.
 fn tagged_up_to<S: TextStore>(view: &ViewRef<'_, S>, name: &str, place: usize) -> usize
     requires { place ≤ length (cells_shown view.now) }
-    ensures { PassUpTo (is_tagged view.now.own name.now) (cells_shown view.now) place result }
+    ensures { PassUpTo (shows_tag view.now.own name.now) (cells_shown view.now) place result }
 {
     let end = view.visible();
     view.next_untagged(name, place).unwrap_or(end)
@@ -27,7 +27,7 @@ fn tagged_up_to<S: TextStore>(view: &ViewRef<'_, S>, name: &str, place: usize) -
 
 // The end of the range that reaches over a place, or the place where none does.
 fn clear_from<S: TextStore>(view: &ViewRef<'_, S>, name: &str, place: usize) -> usize
-    ensures { IsClearFrom (is_tagged view.now.own name.now) (cells_shown view.now) place result }
+    ensures { IsClearFrom (shows_tag view.now.own name.now) (cells_shown view.now) place result }
 {
     if place > 0 && has_tag(view, name, place - 1) {
         return tagged_up_to(view, name, place);
@@ -37,7 +37,7 @@ fn clear_from<S: TextStore>(view: &ViewRef<'_, S>, name: &str, place: usize) -> 
 
 // The first range that begins at a place or later.
 fn first_range<S: TextStore>(view: &ViewRef<'_, S>, name: &str, place: usize) -> Option<Range>
-    ensures { result ≡ first_range_from place (passing_ranges (is_tagged view.now.own name.now) (cells_shown view.now)) }
+    ensures { result ≡ first_range_from place (passing_ranges (shows_tag view.now.own name.now) (cells_shown view.now)) }
 {
     let clear = clear_from(view, name, place);
     let from = view.next_tagged(name, clear)?;
@@ -51,7 +51,7 @@ pub fn ranges<S: TextStore>(
     view: &ViewRef<'_, S>,
     name: &str,
 ) -> Result<Vec<Range>, Fault>
-    ensures ok { IfOk result (λ ranges. ranges.items ≡ passing_ranges (is_tagged view.now.own name.now) (cells_shown view.now)) }
+    ensures ok { IfOk result (λ ranges. ranges.items ≡ passing_ranges (shows_tag view.now.own name.now) (cells_shown view.now)) }
     ensures err { IsOkUnless result Fault.NoMemory }
 {
     let mut ranges = Vec::new(alloc);
@@ -70,7 +70,7 @@ pub(crate) fn next_range<S: TextStore>(
     from: usize,
     to: usize,
 ) -> Option<Range>
-    ensures { result ≡ next_range from to (passing_ranges (is_tagged view.now.own name.now) (cells_shown view.now)) }
+    ensures { result ≡ next_range from to (passing_ranges (shows_tag view.now.own name.now) (cells_shown view.now)) }
 {
     let range = first_range(view, name, from)?;
     if range.from < to { Some(range) } else { None }
@@ -78,8 +78,8 @@ pub(crate) fn next_range<S: TextStore>(
 
 // Whether all characters from a place on have a tag, up to one that has it.
 fn all_tagged<S: TextStore>(view: &ViewRef<'_, S>, name: &str, from: usize, last: usize) -> bool
-    requires { Passes (is_tagged view.now.own name.now) (cells_shown view.now) last }
-    ensures { Decides result (PassThrough (is_tagged view.now.own name.now) (cells_shown view.now) from last) }
+    requires { Passes (shows_tag view.now.own name.now) (cells_shown view.now) last }
+    ensures { Decides result (PassThrough (shows_tag view.now.own name.now) (cells_shown view.now) from last) }
 {
     match view.next_untagged(name, from) {
         Some(at) => last < at,
@@ -90,9 +90,9 @@ fn all_tagged<S: TextStore>(view: &ViewRef<'_, S>, name: &str, from: usize, last
 // A place that the range of another, which has the tag, doesn't begin before. It is looked for in steps that double, so
 // it isn't much farther away than where the range begins.
 fn begin_from<S: TextStore>(view: &ViewRef<'_, S>, name: &str, place: usize) -> usize
-    requires { Passes (is_tagged view.now.own name.now) (cells_shown view.now) place }
+    requires { Passes (shows_tag view.now.own name.now) (cells_shown view.now) place }
     ensures within { result ≤ place }
-    ensures begin { BeginFrom (is_tagged view.now.own name.now) (cells_shown view.now) place result }
+    ensures begin { BeginFrom (shows_tag view.now.own name.now) (cells_shown view.now) place result }
 {
     let mut low = place;
     let mut step: usize = 1;
@@ -108,8 +108,8 @@ fn begin_from<S: TextStore>(view: &ViewRef<'_, S>, name: &str, place: usize) -> 
 
 // Where the range begins that holds a place.
 fn range_begin<S: TextStore>(view: &ViewRef<'_, S>, name: &str, place: usize) -> usize
-    requires { Passes (is_tagged view.now.own name.now) (cells_shown view.now) place }
-    ensures { IsBegin (is_tagged view.now.own name.now) (cells_shown view.now) place result }
+    requires { Passes (shows_tag view.now.own name.now) (cells_shown view.now) place }
+    ensures { IsBegin (shows_tag view.now.own name.now) (cells_shown view.now) place result }
 {
     let mut low = begin_from(view, name, place);
     let mut high = place;
@@ -131,7 +131,7 @@ pub(crate) fn previous_range<S: TextStore>(
     to: usize,
     from: usize,
 ) -> Option<Range>
-    ensures { result ≡ previous_range to from (passing_ranges (is_tagged view.now.own name.now) (cells_shown view.now)) }
+    ensures { result ≡ previous_range to from (passing_ranges (shows_tag view.now.own name.now) (cells_shown view.now)) }
 {
     let last = view.previous_tagged(name, to)?;
     let begin = range_begin(view, name, last);

@@ -2,7 +2,7 @@
 ghost use Rattle.std.specs.Prelude.{◌≡◌, ℕ, ◌+◌, ◌-◌, ◌<◌, ◌≤◌, List, IsOkUnless, IfOk, encode_utf8_all, false, length, slice_index_or, true};
 ghost use Rattle.std.specs.List.{list_any};
 ghost use Rattle.std.specs.List.Sorted.{IsNonDecreasingBy};
-ghost use Rattle.rt_tagcmd.specs.Elements.{ends_text, placed, is_at_place, text_values};
+ghost use Rattle.rt_tagcmd.specs.Elements.{ends_text, element_at, is_at_place, text_values};
 ghost use Rattle.rt_tagcmd.specs.Stretches.{EndsWhere};
 ghost use Rattle.rt_stamps.specs.Places.{is_newline};
 ghost use Rattle.rt_text.specs.Ranges.{text_between};
@@ -56,7 +56,7 @@ fn text_end(chars: &[char], from: usize, to: usize, others: &[Placed], start: us
 
 /// A text value of some characters that begins at a place.
 fn text_value(alloc: Global, chars: &[char], place: usize) -> Result<Placed, Fault>
-    ensures ok { IfOk result (λ value. value ≡ placed Key.Text (encode_utf8_all chars.now) place) }
+    ensures ok { IfOk result (λ value. value ≡ element_at Key.Text (encode_utf8_all chars.now) place) }
     ensures err { IsOkUnless result Fault.NoMemory }
 {
     let mut text = String::new(alloc);

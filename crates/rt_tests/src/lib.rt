@@ -37,6 +37,8 @@ mod rga_orders;
 #[cfg(test)]
 mod rga_sites;
 #[cfg(test)]
+mod rows;
+#[cfg(test)]
 mod spans;
 #[cfg(test)]
 mod store;

@@ -263,3 +263,28 @@ fn joins(rt: HostRuntime) -> Result<(), Fail> {
     }
     join_goes_on(&rt, rt.alloc())
 }
+
+// One character of each of 300 sites, the greatest site first, each on its site's known end.
+fn push_of_each(alloc: Global, log: &mut Log, again: bool) -> Result<(), Fault> {
+    let first = if again { 301 } else { 1 };
+    for back in 0..300u32 {
+        let site = 300 - back;
+        let count = first + u64::from(back);
+        let prev = log.log.known(site);
+        let op = typed(alloc, Stamp { count, site }, prev, ROOT, &['x'])?;
+        log.log.push(op)?;
+    }
+    Ok(())
+}
+
+#[test]
+fn knows_the_ends_of_many_sites(rt: HostRuntime) -> Result<(), Fail> {
+    let mut log = Log::of(rt.alloc(), &[])?;
+    push_of_each(rt.alloc(), &mut log, false)?;
+    push_of_each(rt.alloc(), &mut log, true)?;
+    for back in 0..300u32 {
+        same(&rt, log.log.known(300 - back), 301 + u64::from(back));
+    }
+    same(&rt, (log.log.known(301), log.log.len()), (0, 600));
+    Ok(())
+}

@@ -2,7 +2,7 @@
 ghost use Rattle.std.specs.Prelude.{◌≡◌, false, true, is_some};
 ghost use Rattle.rt_stamps.specs.declared.stamp.Stamp.{Stamp};
 ghost use Rattle.rt_undo.specs.Renames.{is_moved};
-ghost use Rattle.rt_undo.specs.Undo.{added, next_redo, next_undo, no_history, redo_done, undo_done};
+ghost use Rattle.rt_undo.specs.Undo.{next_redo, next_undo, no_history, redo_done, undo_done, with_action};
 
 use crate::checks::same;
 use rt_stamps::{Fault, Span, Stamp};

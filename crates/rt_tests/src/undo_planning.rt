@@ -5,7 +5,7 @@ ghost use Rattle.rt_store.specs.Cells.{final_cell};
 ghost use Rattle.rt_store.specs.ListStore.{cells_of};
 ghost use Rattle.rt_undo.specs.Actions.{group_of};
 ghost use Rattle.rt_revert.specs.Plans.{AreGiven, named_group};
-ghost use Rattle.rt_revert.specs.ReversionLaws.{AreSound};
+ghost use Rattle.rt_revert.specs.ReversionLaws.{AllMayRevert};
 
 use crate::checks::same;
 use rt_plans::Author;
@@ -97,7 +97,7 @@ fn cut(alloc: Global, number: u64, first: u64, last: u64) -> Result<Action, Faul
 // `ab` was typed, and `b` removed.
 fn typing_and_cutting(alloc: Global) -> Result<Vec<Action>, Fault>
     ensures given { IfOk result (λ group. AreGiven (record { names = []; states = [] ∷ [] }) (group_of group.items)) }
-    ensures sound { IfOk result (λ group. AreSound (named_group (record { names = []; states = [] ∷ [] }) (group_of group.items))) }
+    ensures sound { IfOk result (λ group. AllMayRevert (named_group (record { names = []; states = [] ∷ [] }) (group_of group.items))) }
 {
     let mut group = Vec::new(alloc);
     group.push(typed(alloc, 1, 2)?)?;
@@ -108,7 +108,7 @@ fn typing_and_cutting(alloc: Global) -> Result<Vec<Action>, Fault>
 // The plan of a group in `ab`, of which the `b` may be gone, by a site whose greatest count is 3.
 fn planned(alloc: Global, site: Site, gone: bool, group: &[Action]) -> Result<Reversal, Fault>
     requires given { AreGiven (record { names = []; states = [] ∷ [] }) (group_of group.now) }
-    requires sound { AreSound (named_group (record { names = []; states = [] ∷ [] }) (group_of group.now)) }
+    requires sound { AllMayRevert (named_group (record { names = []; states = [] ∷ [] }) (group_of group.now)) }
 {
     let states = StateTable::new(alloc)?;
     let store = text(alloc, &states, gone)?;

@@ -6,7 +6,7 @@ use Rattle.rt_stamps.specs.declared.stamp.TheConstants.{ROOT}
 use Rattle.rt_stamps.specs.Stamps.{is_before, is_same}
 use Rattle.rt_stamps.proofs.Order.{before_asym, before_irrefl}
 use Rattle.rt_ops.specs.Operations.{Operation}
-use Rattle.rt_oplog.specs.Logs.{Has}
+use Rattle.rt_oplog.specs.Logs.{HasOp}
 use Rattle.rt_rga.specs.Cells.{cell_in, cells_of}
 use Rattle.rt_rga.specs.Histories.{IsHistory, characters, final_character, inserted}
 use Rattle.rt_rga.specs.Orders.{AreIn}
@@ -85,7 +85,7 @@ with_all_in (n ∷ new) c cs h = elim (with_all_in new c (with_character n cs) h
 ]
 
 -- each is the final newline or one that an operation inserted
-inserted_in : (log : List Operation) (c : Character) → IsIn c (characters log) → (final_character ≡ c) ⊎ ((op : Operation) × Has log op × IsIn c (inserted op))
+inserted_in : (log : List Operation) (c : Character) → IsIn c (characters log) → (final_character ≡ c) ⊎ ((op : Operation) × HasOp log op × IsIn c (inserted op))
 inserted_in [] c h = elim h [ inl e ↦ inl e | inr i ↦ absurd i ]
 inserted_in (op ∷ older) c h = elim (with_all_in (inserted op) c (characters older) h) [
   | inl i ↦ inr (op, inl refl, i)
@@ -96,7 +96,7 @@ final_in : (log : List Operation) → IsIn final_character (characters log)
 final_in [] = inl refl
 final_in (op ∷ older) = in_with_all (inserted op) final_character (characters older) (inr (final_in older))
 
-in_inserted : (log : List Operation) (op : Operation) (c : Character) → Has log op → IsIn c (inserted op) → IsIn c (characters log)
+in_inserted : (log : List Operation) (op : Operation) (c : Character) → HasOp log op → IsIn c (inserted op) → IsIn c (characters log)
 in_inserted [] op c h i = absurd h
 in_inserted (q ∷ older) op c h i = elim h [
   | inl e ↦ in_with_all (inserted q) c (characters older) (inl (subst (λ (o : Operation). IsIn c (inserted o)) (sym e) i))

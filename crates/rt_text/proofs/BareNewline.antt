@@ -20,7 +20,7 @@ use Rattle.rt_tags.proofs.Commuting.{on_is_listed}
 use Rattle.rt_tags.proofs.Places.{same_name}
 use Rattle.rt_plans.specs.DocValue.{DocValue}
 use Rattle.rt_plans.specs.InsertionDrafts.{behind, insertion_drafts, pieces_drafts, text_drafts}
-use Rattle.rt_plans.specs.Insertions.{Insertion, Piece, all_listed, are_among, counts_for, inserts_for, insertion_of, last_of, selected_if, shared_names, tagged_cells, tags_between, with_listed, with_pieces, with_unlisted}
+use Rattle.rt_plans.specs.Insertions.{Insertion, Piece, all_listed, are_among, counts_for, inserts_for, insertion_of, on_left, selected_if, shared_names, tagged_cells, tags_between, with_listed, with_pieces, with_unlisted}
 use Rattle.rt_plans.specs.TagWrites.{bared, tag_write, tagged, with_tag}
 use Rattle.rt_plans.proofs.PlanLaws.{among_with}
 use Rattle.rt_plans.proofs.Putting.{tagged_state}
@@ -207,7 +207,7 @@ pub bare_insertion : (site : ℕ) (left : Option TaggedCell) (right : TaggedCell
     → insertion_of site left None pieces rest start ≡ insertion_of site left (Some right) pieces rest start
 bare_insertion site left right pieces rest start free off k o =
     let listed = with_pieces site pieces start in
-    same_unlisted site (last_of left listed.cells) right (chars rest) listed off (none_after right.stamp site start.count free pieces start (omega arith) k)
+    same_unlisted site (on_left left listed.cells) right (chars rest) listed off (none_after right.stamp site start.count free pieces start (omega arith) k)
     (subst (AllByRecursion (λ selection. is_among selection right.stamp ≡ false)) (sym (pieces_others site pieces start)) o)
 
 -- and so are its operations
@@ -216,4 +216,4 @@ pub bare_drafts : (site : ℕ) (after : Stamp) (left : Option TaggedCell) (right
 bare_drafts site after left right pieces rest start off =
     let listed = with_pieces site pieces start in
     ap (λ names. pieces_drafts MOST_CHARACTERS site after pieces start ++ text_drafts MOST_CHARACTERS site listed.count (behind after listed.cells) names (chars rest))
-    (sym (bare_between (last_of left listed.cells) right off))
+    (sym (bare_between (on_left left listed.cells) right off))

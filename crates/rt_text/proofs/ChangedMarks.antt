@@ -8,7 +8,7 @@ use Rattle.rt_marks.proofs.InOrder.{each_in_order}
 use Rattle.rt_plans.specs.Removals.{is_covered}
 use Rattle.rt_revert.specs.declared.plan.TextChange.{TextChange}
 use Rattle.rt_revert.specs.declared.plan.TextChange.TheVariants.{Inserted, Removed as Gone}
-use Rattle.rt_revert.specs.Plans.{IsChange, marks_after, marks_changed}
+use Rattle.rt_revert.specs.Plans.{IsTextChange, marks_after, marks_changed}
 use Rattle.rt_text.specs.Changes.{own_after, own_changed}
 use Rattle.rt_text.specs.Widgets.{WidgetValue, own_inserted, own_left}
 
@@ -86,8 +86,8 @@ current_room (Inserted place) n most own h = moved_within (is_moved_on place own
 pub changes_from : (changes : List TextChange) (i : ℕ) (change : TextChange) → i < length changes → change ≡ get_or changes i change → drop i changes ≡ change ∷ drop (i + 1) changes
 changes_from changes i change h e = drop_more changes i change h ∙ ap (λ t. t ∷ drop (i + 1) changes) (sym e)
 
-pub change_here : (changes : List TextChange) (i : ℕ) (change : TextChange) → i < length changes → change ≡ get_or changes i change → AllByRecursion IsChange changes → IsChange change
-change_here changes i change h e all = subst IsChange (sym e) (All-get_or IsChange changes i change h (All-from_recursion IsChange changes all))
+pub change_here : (changes : List TextChange) (i : ℕ) (change : TextChange) → i < length changes → change ≡ get_or changes i change → AllByRecursion IsTextChange changes → IsTextChange change
+change_here changes i change h e all = subst IsTextChange (sym e) (All-get_or IsTextChange changes i change h (All-from_recursion IsTextChange changes all))
 
 pub left_more : (changes : List TextChange) (i : ℕ) (change : TextChange) → i < length changes → change ≡ get_or changes i change → length (drop i changes) ≡ suc (length (drop (i + 1) changes))
 left_more changes i change h e = ap length (changes_from changes i change h e)

@@ -14,7 +14,7 @@ use Rattle.rt_tags.specs.States.{Write, is_on, names_on, write_of, written, says
 use Rattle.rt_tags.specs.Tags.{is_listed, sel}
 use Rattle.rt_tags.proofs.Greatest.{newer, write_of_written}
 use Rattle.rt_tags.proofs.Places.{same_name}
-use Rattle.rt_plans.specs.Deletions.{Loss, newline_of, without_places, without_text}
+use Rattle.rt_plans.specs.Deletions.{Loss, newline_left, without_places, without_text}
 use Rattle.rt_plans.specs.DocValue.{DocValue}
 use Rattle.rt_plans.specs.Listed.{AreListed, IsShared}
 use Rattle.rt_plans.specs.Removals.{gone_at}
@@ -124,7 +124,7 @@ bared_listed listed flat stamp (name ∷ names) others h =
     (listed_less listed (tagged flat.site flat.count name false stamps) flat.cells (off_seen flat.site flat.count name stamps) (off_on flat.site flat.count name stamps)
     (shared_tagged flat.site flat.count name false stamps (All-head (λ (n : Word). bytes_eq n sel ≡ false) name names others)) h)
 
-newline_shared : (flat : DocValue) (loss : Loss) (cell : TaggedCell) → All (λ cell. IsShared cell.state) flat.cells → newline_of flat loss ≡ Some cell → All (λ name. bytes_eq name sel ≡ false) (names_on cell.state)
+newline_shared : (flat : DocValue) (loss : Loss) (cell : TaggedCell) → All (λ cell. IsShared cell.state) flat.cells → newline_left flat loss ≡ Some cell → All (λ name. bytes_eq name sel ≡ false) (names_on cell.state)
 newline_shared flat loss cell h e =
     let w = newline_at flat loss cell e in
     let P : TaggedCell → Type 0 = λ c. IsShared c.state in

@@ -4,14 +4,14 @@ use Rattle.std.specs.Prelude.{is_some}
 use Rattle.rt_stamps.specs.declared.limits.TheConstants.{MOST_CHARACTERS, MOST_SPANS}
 use Rattle.rt_stamps.specs.declared.stamp.Stamp.{Stamp}
 use Rattle.rt_stamps.specs.Words.{Word}
-use Rattle.rt_oplog.specs.Logs.{Has, with_operation}
+use Rattle.rt_oplog.specs.Logs.{HasOp, with_operation}
 use Rattle.rt_oplog.proofs.Sets.{with_has}
 use Rattle.rt_ops.specs.Operations.{Body, Operation}
 use Rattle.rt_rga.specs.Drafts.{operations_of, with_drafts, with_operations}
 use Rattle.rt_rga.specs.Orders.{AreIn}
 use Rattle.rt_plans.specs.declared.range.Range.{Range}
 use Rattle.rt_plans.specs.Deletions.{delete_drafts, loss_in}
-use Rattle.rt_plans.specs.DocValue.{DocValue, left_of, logged}
+use Rattle.rt_plans.specs.DocValue.{DocValue, left_stamp, logged}
 use Rattle.rt_plans.specs.InsertionDrafts.{insertion_drafts}
 use Rattle.rt_plans.specs.Insertions.{Piece, insertion_of, left_neighbour}
 use Rattle.rt_text.specs.Accepted.{own_with_new, view_with_new}
@@ -25,7 +25,7 @@ abbrev pub Grows : List Operation → List Operation → Type 0
 Grows old new = AreIn old new
 
 pub grows_same : (old new : List Operation) → new ≡ old → Grows old new
-grows_same old new e op h = subst (λ (log : List Operation). Has log op) (sym e) h
+grows_same old new e op h = subst (λ (log : List Operation). HasOp log op) (sym e) h
 
 pub grows_by : (old mid new : List Operation) → Grows old mid → Grows mid new → Grows old new
 grows_by old mid new f g op h = g op (f op h)
@@ -70,7 +70,7 @@ put_grows view place pieces rest =
     let new = insertion_of view.doc.site left right pieces rest (none_inserted view) in
     let moves : WidgetValue → WidgetValue = own_inserted at (length new.cells) in
     record {
-      log = grows_drafts view.doc.site (insertion_drafts MOST_CHARACTERS view.doc.site (left_of view.doc.cells at) left right pieces rest (none_inserted view)) view.doc.log;
+      log = grows_drafts view.doc.site (insertion_drafts MOST_CHARACTERS view.doc.site (left_stamp view.doc.cells at) left right pieces rest (none_inserted view)) view.doc.log;
       limits = ap (λ l. view.own.limits ∷ l) (selected_too new.others (map moves view.others)) ∙ by_rule moves (λ own. refl) view.own view.others;
     }
 

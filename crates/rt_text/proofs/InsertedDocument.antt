@@ -25,10 +25,10 @@ use Rattle.rt_rga.proofs.Writes.{state_sorted}
 use Rattle.rt_plans.specs.DeletionLaws.{IsPiece}
 use Rattle.rt_plans.specs.declared.inserting.Plan.{Plan}
 use Rattle.rt_plans.specs.DraftLaws.{IsDocument, IsInsertion, IsText}
-use Rattle.rt_plans.specs.DocValue.{DocValue, left_of, logged, put_after}
+use Rattle.rt_plans.specs.DocValue.{DocValue, left_stamp, logged, put_after}
 use Rattle.rt_plans.specs.InsertionDrafts.{insertion_drafts}
 use Rattle.rt_plans.specs.InsertionPlans.{Plans}
-use Rattle.rt_plans.specs.Insertions.{Insertion, Piece, insertion_of, last_of, left_neighbour, tags_between, with_pieces}
+use Rattle.rt_plans.specs.Insertions.{Insertion, Piece, insertion_of, left_neighbour, on_left, tags_between, with_pieces}
 use Rattle.rt_plans.specs.Listed.{AreListed}
 use Rattle.rt_plans.proofs.CharacterCounts.{insertion_length}
 use Rattle.rt_plans.proofs.ListedLaws.{listed_more}
@@ -83,7 +83,7 @@ module _ (flat : DocValue) (own : WidgetValue) (others : List WidgetValue) (plac
   -- the document but for its log
   abbrev pub made_flat : DocValue
   made_flat = record flat {
-    cells = put_after flat.cells (left_of flat.cells place_in) made_new.cells;
+    cells = put_after flat.cells (left_stamp flat.cells place_in) made_new.cells;
     count = made_new.count;
     marks = marks_inserted place_in (length made_new.cells) flat.marks;
     tags = made_new.tags;
@@ -115,8 +115,8 @@ module _ (flat : DocValue) (own : WidgetValue) (others : List WidgetValue) (plac
     pub drafts_are : insertion_drafts MOST_CHARACTERS flat.site after l r pieces rest start ≡ made_drafts
     drafts_are =
         ap (λ a. insertion_drafts MOST_CHARACTERS flat.site a l r pieces rest start) f.element
-        ∙ drafts_any flat.site (left_of flat.cells place_in) l r right pieces rest start which
-        ∙ ap (λ o. insertion_drafts MOST_CHARACTERS flat.site (left_of flat.cells place_in) o right pieces rest start) f.before
+        ∙ drafts_any flat.site (left_stamp flat.cells place_in) l r right pieces rest start which
+        ∙ ap (λ o. insertion_drafts MOST_CHARACTERS flat.site (left_stamp flat.cells place_in) o right pieces rest start) f.before
 
 module _ (flat : DocValue) (own : WidgetValue) (others : List WidgetValue) (place : ℕ) (pieces : List Piece) (rest : Word) (is : IsPlace flat own others place) where
   abbrev seen : ViewValue
@@ -132,7 +132,7 @@ module _ (flat : DocValue) (own : WidgetValue) (others : List WidgetValue) (plac
   r = right_behind seen place pieces
 
   abbrev a : Stamp
-  a = left_of flat.cells at
+  a = left_stamp flat.cells at
 
   abbrev none_yet : Insertion
   none_yet = none_inserted seen
@@ -146,7 +146,7 @@ module _ (flat : DocValue) (own : WidgetValue) (others : List WidgetValue) (plac
       record {
         element = here.element;
         listed = here.listed;
-        unlisted = subst (λ (o : Option TaggedCell). IsText (tags_between (last_of o (with_pieces flat.site pieces none_yet).cells) r) (chars rest)) (sym (left_there flat own others place is)) there.unlisted;
+        unlisted = subst (λ (o : Option TaggedCell). IsText (tags_between (on_left o (with_pieces flat.site pieces none_yet).cells) r) (chars rest)) (sym (left_there flat own others place is)) there.unlisted;
         none = here.none;
         count = here.count;
       }

@@ -24,9 +24,9 @@ use Rattle.rt_rga.specs.Histories.{IsHistory}
 use Rattle.rt_rga.proofs.Corollaries.{cells_distinct, cells_older, root_absent}
 use Rattle.rt_rga.proofs.Final.{ends_final}
 use Rattle.rt_plans.specs.DraftLaws.{IsDocument}
-use Rattle.rt_plans.specs.DocValue.{DocValue, left_of, put_after}
+use Rattle.rt_plans.specs.DocValue.{DocValue, left_stamp, put_after}
 use Rattle.rt_plans.specs.InsertionDrafts.{behind, insertion_drafts, pieces_drafts, text_drafts}
-use Rattle.rt_plans.specs.Insertions.{Insertion, Piece, insertion_of, last_of, left_neighbour, right_neighbour, tags_between, with_pieces, with_unlisted}
+use Rattle.rt_plans.specs.Insertions.{Insertion, Piece, insertion_of, left_neighbour, on_left, right_neighbour, tags_between, with_pieces, with_unlisted}
 use Rattle.rt_plans.specs.Removals.{is_covered}
 use Rattle.rt_plans.proofs.RestLaws.{element_shown, left_shown}
 use Rattle.rt_lines.specs.declared.limits.Limits.{Limits}
@@ -145,9 +145,9 @@ element_is left behind place l =
 
 -- and of the text's left neighbour in any case
 pub element_found : (table : TagStates) (kept : List (Cell ℕ)) (flat : DocValue) (at place : ℕ) (behind : Option (Cell ℕ)) → map (shown table) kept ≡ flat.cells → at ≡ place → behind ≡ left_neighbour (visible_of kept) at
-    → unwrap_or (option_map (λ c. c.stamp) behind) ROOT ≡ left_of flat.cells place
+    → unwrap_or (option_map (λ c. c.stamp) behind) ROOT ≡ left_stamp flat.cells place
 element_found table kept flat at place behind e a b =
-    ap (λ o. unwrap_or (option_map (λ (c : Cell ℕ). c.stamp) o) ROOT) b ∙ element_shown table kept at ∙ (λ i. left_of (e i) (a i))
+    ap (λ o. unwrap_or (option_map (λ (c : Cell ℕ). c.stamp) o) ROOT) b ∙ element_shown table kept at ∙ (λ i. left_stamp (e i) (a i))
 
 -- states that were given out
 pub given_if : (P : Cell ℕ → Type 0) (b : Bool) (o x : Option (Cell ℕ)) → x ≡ cond b o None → IfSome o P → IfSome x P
@@ -234,7 +234,7 @@ put_at flat own others place new is fresh = record {
 -- both sides of the end of some new cells
 abbrev sides_of : DocValue → ℕ → List TaggedCell → Limits → Bool
 sides_of flat at new limits =
-    let stretch = stretch_of (put_after flat.cells (left_of flat.cells at) new) limits in
+    let stretch = stretch_of (put_after flat.cells (left_stamp flat.cells at) new) limits in
     nat_lt stretch.begin (at + length new) && nat_lt (at + length new) stretch.end
 
 sides_by : (flat : DocValue) (own : WidgetValue) (others : List WidgetValue) (place : ℕ) → IsPlace flat own others place → AreNewlines flat.cells own.limits → (new : List TaggedCell) (text : List ℕ) → text_of new ≡ text
@@ -252,7 +252,7 @@ sides_by flat own others (suc p) is known [] text t fresh =
     let low : (stretch_of flat.cells limits).begin < at + 0 = omega arith in
     let high : at + 0 < (stretch_of flat.cells limits).end = omega (arith, at_high flat own others (suc p) is) in
     let sides : sides_of flat at [] limits ≡ true =
-    ap (λ (l : List TaggedCell). nat_lt (stretch_of l limits).begin (at + 0) && nat_lt (at + 0) (stretch_of l limits).end) (none_put flat.cells (left_of flat.cells at))
+    ap (λ (l : List TaggedCell). nat_lt (stretch_of l limits).begin (at + 0) && nat_lt (at + 0) (stretch_of l limits).end) (none_put flat.cells (left_stamp flat.cells at))
     ∙ both_less (stretch_of flat.cells limits).begin (at + 0) (stretch_of flat.cells limits).end low high in
     inr (shown ∙ sym sides)
 sides_by flat own others place is known (x ∷ xs) text t fresh =
@@ -289,7 +289,7 @@ right_is flat own others place pieces is known =
 
 -- what the code finds beside the place
 pub record IsFound (flat : DocValue) (own : WidgetValue) (others : List WidgetValue) (place : ℕ) (pieces : List Piece) (after : Stamp) (left right : Option TaggedCell) : Type 0 where
-  pub element : after ≡ left_of flat.cells (in_text (viewed flat own others) place)
+  pub element : after ≡ left_stamp flat.cells (in_text (viewed flat own others) place)
   pub before : left ≡ left_neighbour (cells_shown (viewed flat own others)) place
   pub next : IsRight flat own others place pieces right
 
@@ -321,14 +321,14 @@ unlisted_any : (site : ℕ) (left r s : Option TaggedCell) (text : List ℕ) (so
 unlisted_any site left r s [] so_far e = refl
 unlisted_any site left r s (c ∷ text) so_far e = ap (λ o. with_unlisted site o r (c ∷ text) so_far) e ∙ sym (ap (λ o. with_unlisted site o s (c ∷ text) so_far) e)
 
-no_last : (left : Option TaggedCell) (cells : List TaggedCell) → left ≡ None → cells ≡ [] → last_of left cells ≡ None
-no_last left cells e h = λ i. last_of (e i) (h i)
+no_last : (left : Option TaggedCell) (cells : List TaggedCell) → left ≡ None → cells ≡ [] → on_left left cells ≡ None
+no_last left cells e h = λ i. on_left (e i) (h i)
 
 pub right_any : (site : ℕ) (left r s : Option TaggedCell) (pieces : List Piece) (rest : Word) (start : Insertion) → ((left ≡ None) × ((with_pieces site pieces start).cells ≡ [])) ⊎ (r ≡ s)
     → insertion_of site left r pieces rest start ≡ insertion_of site left s pieces rest start
 right_any site left r s pieces rest start (inl w) =
     let listed = with_pieces site pieces start in
-    unlisted_any site (last_of left listed.cells) r s (chars rest) listed (no_last left listed.cells w.0 w.1)
+    unlisted_any site (on_left left listed.cells) r s (chars rest) listed (no_last left listed.cells w.0 w.1)
 right_any site left r s pieces rest start (inr e) = ap (λ o. insertion_of site left o pieces rest start) e
 
 pub drafts_any : (site : ℕ) (after : Stamp) (left r s : Option TaggedCell) (pieces : List Piece) (rest : Word) (start : Insertion) → ((left ≡ None) × ((with_pieces site pieces start).cells ≡ [])) ⊎ (r ≡ s)
@@ -336,7 +336,7 @@ pub drafts_any : (site : ℕ) (after : Stamp) (left r s : Option TaggedCell) (pi
 drafts_any site after left r s pieces rest start (inl w) =
     let listed = with_pieces site pieces start in
     ap (λ names. pieces_drafts MOST_CHARACTERS site after pieces start ++ text_drafts MOST_CHARACTERS site listed.count (behind after listed.cells) names (chars rest))
-    (none (last_of left listed.cells) (no_last left listed.cells w.0 w.1))
+    (none (on_left left listed.cells) (no_last left listed.cells w.0 w.1))
   where
     none : (o : Option TaggedCell) → o ≡ None → tags_between o r ≡ tags_between o s
     none o e = ap (λ x. tags_between x r) e ∙ sym (ap (λ x. tags_between x s) e)

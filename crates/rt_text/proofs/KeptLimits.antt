@@ -32,8 +32,8 @@ use Rattle.rt_plans.specs.Insertions.{new_state}
 use Rattle.rt_plans.specs.RemovalDrafts.{removal_drafts}
 use Rattle.rt_undo.specs.Actions.{Action, Removed}
 use Rattle.rt_revert.specs.declared.plan.Return.{Return}
-use Rattle.rt_revert.specs.Reverting.{Reversion, are_at, as_it_is, gone_cell_of, next_in, reversion, reverted, stamp_after, with_character, with_each_reverted, with_gone, with_return, with_returns, with_reverted}
-use Rattle.rt_revert.specs.ReversionLaws.{AreSound, IsSound, MayReturn}
+use Rattle.rt_revert.specs.Reverting.{Reversion, are_at, as_it_is, gone_cell_of, next_in, reversion, reverted, stamp_after, with_each_reverted, with_insertion, with_removal, with_return, with_returns, with_reverted}
+use Rattle.rt_revert.specs.ReversionLaws.{AllMayRevert, MayReturn, MayRevert}
 use Rattle.rt_revert.proofs.Stamps.{all_apart, gone_found}
 use Rattle.rt_revert.proofs.Steps.{IsOnWay, action_step, all_grow, all_reversed, gone_step, return_step, returns_grow}
 use Rattle.rt_text.specs.declared.own_mark.OwnMark.{OwnMark}
@@ -96,11 +96,11 @@ order_made (Err e) view made new h cells k more grows is same o = order_same vie
 abbrev HasOrder : Reversion → Limits → Type 0
 HasOrder r limits = AreInOrder r.doc.cells (limits_after r.returns limits)
 
-gone_order : (site : ℕ) (log : List Operation) (stamps : List Stamp) (r : Reversion) (limits : Limits) → IsOnWay site log r → IsOnWay site log (with_gone stamps r) → HasOrder r limits
-    → HasOrder (with_gone stamps r) limits
+gone_order : (site : ℕ) (log : List Operation) (stamps : List Stamp) (r : Reversion) (limits : Limits) → IsOnWay site log r → IsOnWay site log (with_removal stamps r) → HasOrder r limits
+    → HasOrder (with_removal stamps r) limits
 gone_order site log stamps r limits h k o =
     let old = with_drafts site r.drafts log in
-    let new = with_drafts site (with_gone stamps r).drafts log in
+    let new = with_drafts site (with_removal stamps r).drafts log in
     let now = limits_after r.returns limits in
     let drafts = removal_drafts MOST_SPANS (are_at stamps r.doc.cells) r.doc.cells in
     let grows : Grows old new = subst (Grows old) (sym (drafts_append site r.drafts drafts log)) (grows_drafts site drafts old) in
@@ -136,7 +136,7 @@ below_on_way site log r h =
 
 -- a newline that comes back takes the place of its old cell as a limit
 character_order : (site : ℕ) (log : List Operation) (stamp : Stamp) (tags : List Word) (cell : TaggedCell) (r : Reversion) (limits : Limits) → 0 < site → IsOnWay site log r
-    → gone_cell_of r.doc.cells stamp ≡ Some cell → HasOrder r limits → HasOrder (with_character stamp tags cell.ch r) limits
+    → gone_cell_of r.doc.cells stamp ≡ Some cell → HasOrder r limits → HasOrder (with_insertion stamp tags cell.ch r) limits
 character_order site log stamp tags cell r limits p h e o =
     let cells = r.doc.cells in
     let this : TaggedCell = record { stamp = next_in r.doc; ch = cell.ch; gone = false; state = new_state r.doc.site (r.doc.count + 1) tags } in
@@ -159,7 +159,7 @@ return_order : (site : ℕ) (log : List Operation) (removed : Removed (List Word
 return_order site log removed r limits p h o = by (gone_cell_of r.doc.cells (stamp_after r.returns removed.stamp)) refl
   where
     by : (found : Option TaggedCell) → gone_cell_of r.doc.cells (stamp_after r.returns removed.stamp) ≡ found
-        → HasOrder (unwrap_or (option_map (λ (cell : TaggedCell). with_character (stamp_after r.returns removed.stamp) removed.tags cell.ch r) found) r) limits
+        → HasOrder (unwrap_or (option_map (λ (cell : TaggedCell). with_insertion (stamp_after r.returns removed.stamp) removed.tags cell.ch r) found) r) limits
     by None e = o
     by (Some cell) e = character_order site log (stamp_after r.returns removed.stamp) removed.tags cell r limits p h e o
 
@@ -171,16 +171,16 @@ returns_order site log (x ∷ more) r limits p h m l o =
     let few : next.doc.count ≤ GREATEST_COUNT = omega (arith, returns_grow more next, l) in
     returns_order site log more next limits p (return_step site log x r p h m.0 few) m.1 l (return_order site log x r limits p h o)
 
-action_order : (site : ℕ) (log : List Operation) (action : Action (List Word)) (r : Reversion) (limits : Limits) → 0 < site → IsOnWay site log r → IsSound action
+action_order : (site : ℕ) (log : List Operation) (action : Action (List Word)) (r : Reversion) (limits : Limits) → 0 < site → IsOnWay site log r → MayRevert action
     → (with_reverted action r).doc.count ≤ GREATEST_COUNT → HasOrder r limits → HasOrder (with_reverted action r) limits
 action_order site log action r limits p h c l o =
     let stamps = map (stamp_after r.returns) action.inserted in
-    let left = with_gone stamps r in
+    let left = with_removal stamps r in
     let few : left.doc.count ≤ GREATEST_COUNT = omega (arith, returns_grow action.removed left, l) in
     let way = gone_step site log stamps r p h (all_apart r.returns action.inserted h.apart c.inserted) few in
     returns_order site log action.removed left limits p way c.removed l (gone_order site log stamps r limits h way o)
 
-all_order : (site : ℕ) (log : List Operation) (actions : List (Action (List Word))) (r : Reversion) (limits : Limits) → 0 < site → IsOnWay site log r → AreSound actions
+all_order : (site : ℕ) (log : List Operation) (actions : List (Action (List Word))) (r : Reversion) (limits : Limits) → 0 < site → IsOnWay site log r → AllMayRevert actions
     → (with_each_reverted actions r).doc.count ≤ GREATEST_COUNT → HasOrder r limits → HasOrder (with_each_reverted actions r) limits
 all_order site log [] r limits p h c l o = o
 all_order site log (action ∷ actions) r limits p h c l o =
@@ -189,14 +189,14 @@ all_order site log (action ∷ actions) r limits p h c l o =
     all_order site log actions next limits p (action_step site log action r p h c.0 few) c.1 l (action_order site log action r limits p h c.0 few o)
 
 reversion_order : (site : ℕ) (log : List Operation) (flat : DocValue) (group : List (Action (List Word))) (limits : Limits) → 0 < site → IsHistory log → IsDocument site log flat
-    → AreSound group → (reversion flat group).doc.count ≤ GREATEST_COUNT → AreInOrder flat.cells limits
+    → AllMayRevert group → (reversion flat group).doc.count ≤ GREATEST_COUNT → AreInOrder flat.cells limits
     → AreInOrder (reversion flat group).doc.cells (limits_after (reversion flat group).returns limits)
 reversion_order site log flat group limits p h doc c l o =
-    all_order site log (reverse group) (as_it_is flat) limits p (record { may = tt; history = h; document = doc; apart = tt; sound = tt }) (all_reversed IsSound group c) l o
+    all_order site log (reverse group) (as_it_is flat) limits p (record { may = tt; history = h; document = doc; apart = tt; sound = tt }) (all_reversed MayRevert group c) l o
 
 -- each widget's limits, in the view after a group was reverted
 reverted_order : (site : ℕ) (log : List Operation) (view : ViewValue) (group : List (Action (List Word))) → 0 < site → IsHistory log → IsDocument site log view.doc
-    → AreSound group → (reversion view.doc group).doc.count ≤ GREATEST_COUNT → HaveOrder view → HaveOrder (view_reverted view group)
+    → AllMayRevert group → (reversion view.doc group).doc.count ≤ GREATEST_COUNT → HaveOrder view → HaveOrder (view_reverted view group)
 reverted_order site log view group p h doc c l o = each (view.own ∷ view.others) o
   where
     each : (widgets : List WidgetValue) → AllByRecursion (AreInOrder view.doc.cells) (map (λ (own : WidgetValue). own.limits) widgets)
@@ -217,7 +217,7 @@ fits flat group e = by (nat_lt GREATEST_COUNT count) refl e
     by false lt f = ltb-false GREATEST_COUNT count lt
 
 pub order_reverted : {T E : Type 0} (r : Result T E) (view new : ViewValue) (group : List (Action (List Word))) → 0 < view.doc.site → IsHistory view.doc.log → IsDocument view.doc.site view.doc.log view.doc
-    → AreSound group → OnOk r (new ≡ view_reverted view group) → OnOk r (reversion_check view.doc group ≡ None) → OnErr r (new ≡ view) → HaveOrder view → HaveOrder new
+    → AllMayRevert group → OnOk r (new ≡ view_reverted view group) → OnOk r (reversion_check view.doc group ≡ None) → OnErr r (new ≡ view) → HaveOrder view → HaveOrder new
 order_reverted (Ok x) view new group p h doc sound is checked same o =
     order_same (view_reverted view group) new is (reverted_order view.doc.site view.doc.log view group p h doc sound (fits view.doc group checked) o)
 order_reverted (Err e) view new group p h doc sound is checked same o = order_same view new same o

@@ -21,7 +21,7 @@ use Rattle.rt_tags.proofs.Places.{name_itself, same_name, split}
 use Rattle.rt_tags.proofs.Sorted.{written_sorted}
 use Rattle.rt_plans.specs.DocValue.{put_after}
 use Rattle.rt_store.specs.Shown.{TaggedCell}
-use Rattle.rt_plans.specs.Insertions.{Insertion, Piece, all_listed, cells_of_inserts, further_tags, inserts_for, insertion_of, last_of, left_neighbour, new_state, put_on, shared_names, tagged_cells, tags_between, with_listed, with_pieces, with_unlisted}
+use Rattle.rt_plans.specs.Insertions.{Insertion, Piece, all_listed, cells_of_inserts, further_tags, inserts_for, insertion_of, on_left, left_neighbour, new_state, put_on, shared_names, tagged_cells, tags_between, with_listed, with_pieces, with_unlisted}
 use Rattle.rt_text.specs.Commands.{names_in}
 use Rattle.rt_plans.specs.Listed.{AreListed, IsShared, listed_name}
 
@@ -236,7 +236,7 @@ unlisted_lists site left right (c ∷ text) so_far h k =
       names = all_named names so_far.tags (All-weaker (λ name. is_listed name so_far.tags ≡ true) IsName (λ name e. listed_name name so_far.tags k.names e) names listed) k.names;
     }
 
-last_among : (tags : List Word) (left : Option TaggedCell) (cells : List TaggedCell) → IfSome left (IsAmong tags) → All (IsAmong tags) cells → IfSome (last_of left cells) (IsAmong tags)
+last_among : (tags : List Word) (left : Option TaggedCell) (cells : List TaggedCell) → IfSome left (IsAmong tags) → All (IsAmong tags) cells → IfSome (on_left left cells) (IsAmong tags)
 last_among tags left [] h k = h
 last_among tags left (c ∷ cs) h k = last_among tags (Some c) cs (All-head (IsAmong tags) c cs k) (All-tail (IsAmong tags) c cs k)
 
@@ -262,13 +262,13 @@ pub insertion_lists : (site : ℕ) (left right : Option TaggedCell) (pieces : Li
 insertion_lists site left right pieces rest start h l k =
     let listed = with_pieces site pieces start in
     let lists = pieces_lists site pieces start h k in
-    unlisted_lists site (last_of left listed.cells) right (chars rest) listed (last_among listed.tags left listed.cells (left_still start.tags listed.tags left (λ n e. pieces_tags site pieces start n e) l) lists.cells) lists
+    unlisted_lists site (on_left left listed.cells) right (chars rest) listed (last_among listed.tags left listed.cells (left_still start.tags listed.tags left (λ n e. pieces_tags site pieces start n e) l) lists.cells) lists
 
 -- and keeps what was listed
 pub insertion_tags : (site : ℕ) (left right : Option TaggedCell) (pieces : List Piece) (rest : Word) (start : Insertion) (n : Word) → is_listed n start.tags ≡ true → is_listed n (insertion_of site left right pieces rest start).tags ≡ true
 insertion_tags site left right pieces rest start n h =
     let listed = with_pieces site pieces start in
-    unlisted_tags site (last_of left listed.cells) right (chars rest) listed n (pieces_tags site pieces start n h)
+    unlisted_tags site (on_left left listed.cells) right (chars rest) listed n (pieces_tags site pieces start n h)
 
 -- all of its characters are there
 pub text_among : (tags : List Word) (cells : List TaggedCell) → All (IsAmong tags) cells → length (text_of cells) ≡ length cells

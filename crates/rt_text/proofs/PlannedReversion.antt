@@ -19,7 +19,7 @@ use Rattle.rt_revert.specs.declared.plan.Reversal.{Reversal}
 use Rattle.rt_revert.specs.PlannedGroups.{IsPlanOf}
 use Rattle.rt_revert.specs.Plans.{IsOf}
 use Rattle.rt_revert.specs.Reverting.{reversion}
-use Rattle.rt_revert.specs.ReversionLaws.{AreSound}
+use Rattle.rt_revert.specs.ReversionLaws.{AllMayRevert}
 use Rattle.rt_text.specs.Changes.{limits_after, own_after, own_renamed}
 use Rattle.rt_text.specs.Reversions.{own_reverted, reversion_check}
 use Rattle.rt_text.specs.Widgets.{IsOwnOf, WidgetValue}
@@ -44,7 +44,7 @@ pub record IsPlanned (states table : TagStates) (store : List (Cell ℕ)) (numbe
   pub real : 0 < flat.site
   pub history : IsHistory flat.log
   pub document : IsDocument flat.site flat.log flat
-  pub sound : AreSound group
+  pub sound : AllMayRevert group
   pub is : IsOf states store number count flat
   pub plans : (f : DocValue) → IsOf states store number count f → IsPlanOf table f group plan
   pub fits : (f : DocValue) → IsOf states store number count f → (reversion f group).doc.count ≤ GREATEST_COUNT

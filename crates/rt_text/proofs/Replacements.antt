@@ -27,9 +27,9 @@ use Rattle.rt_rga.proofs.Corollaries.{all_states, cells_distinct}
 use Rattle.rt_rga.proofs.Requests.{all_count_on}
 use Rattle.rt_rga.proofs.Writes.{state_sorted}
 use Rattle.rt_plans.specs.declared.range.Range.{Range}
-use Rattle.rt_plans.specs.Deletions.{Loss, delete_drafts, newline_of, without_places, without_text}
+use Rattle.rt_plans.specs.Deletions.{Loss, delete_drafts, newline_left, without_places, without_text}
 use Rattle.rt_plans.specs.DraftLaws.{IsDocument}
-use Rattle.rt_plans.specs.DocValue.{DocValue, left_of}
+use Rattle.rt_plans.specs.DocValue.{DocValue, left_stamp}
 use Rattle.rt_plans.specs.Insertions.{Insertion, Piece, insertion_of, left_neighbour, right_neighbour, with_pieces}
 use Rattle.rt_plans.specs.InsertionDrafts.{insertion_drafts}
 use Rattle.rt_plans.specs.RemovalDrafts.{removal_drafts}
@@ -80,7 +80,7 @@ both_one (x ∷ xs) ys h k = (h.0, both_one xs ys h.1 k)
 
 delete_one : (flat : DocValue) (loss : Loss) → AllByRecursion (λ draft. (n : ℕ) → last_of n draft ≡ n) (delete_drafts MOST_SPANS flat loss)
 delete_one flat loss =
-    both_one (removal_drafts MOST_SPANS loss.places flat.cells) _ (deletes_one (λ spans. Delete spans) _ (λ x n. refl)) (by (newline_of flat loss))
+    both_one (removal_drafts MOST_SPANS loss.places flat.cells) _ (deletes_one (λ spans. Delete spans) _ (λ x n. refl)) (by (newline_left flat loss))
   where
     by : (o : Option TaggedCell) → AllByRecursion (λ draft. (n : ℕ) → last_of n draft ≡ n) (unwrap_or (option_map (λ (cell : TaggedCell). newline_drafts cell.stamp (names_on cell.state)) o) [])
     by None = tt
@@ -135,7 +135,7 @@ apart_rest [] x rest d = first_apart x.stamp (stamps_of rest) d
 apart_rest (y ∷ ys) x rest d = apart_rest ys x rest (others_distinct y.stamp (stamps_of (ys ++ x ∷ rest)) d)
 
 -- the element behind which text goes, by the left neighbour
-pub element_left : (cells : List TaggedCell) (p : ℕ) → left_of cells p ≡ unwrap_or (option_map (λ cell. cell.stamp) (left_neighbour (visible_of cells) p)) ROOT
+pub element_left : (cells : List TaggedCell) (p : ℕ) → left_stamp cells p ≡ unwrap_or (option_map (λ cell. cell.stamp) (left_neighbour (visible_of cells) p)) ROOT
 element_left cells zero = refl
 element_left cells (suc p) = refl
 
@@ -357,7 +357,7 @@ module _ (flat : DocValue) (own : WidgetValue) (others : List WidgetValue) (rang
         a ∙ ap (λ v. left_neighbour v at) was ∙ left_front (visible_of first) (cell ∷ visible_of later) at few
         ∙ sym (ap (λ v. left_neighbour v at) seen ∙ left_front (visible_of first) (new ∷ visible_of later) at few) ∙ ap (left_neighbour (visible_of after_all.doc.cells)) (sym in_left) in
         let left_is : l ≡ left_neighbour (cells_shown after_all) place = b ∙ left_side after_all.doc after_all.own after_all.others place before is near in
-        let element : after ≡ left_of after_all.doc.cells (in_text after_all place) =
+        let element : after ≡ left_stamp after_all.doc.cells (in_text after_all place) =
         c ∙ ap (λ o. unwrap_or (option_map (λ (x : TaggedCell). x.stamp) o) ROOT) near ∙ sym (element_left after_all.doc.cells (in_text after_all place)) in
         let right_new : right_neighbour (cells_shown after_all) place ≡ Some new =
         right_there after_all.doc after_all.own after_all.others place is ∙ ap (slice_get (visible_of after_all.doc.cells)) in_left ∙ ap (λ v. slice_get v at) seen

@@ -44,7 +44,7 @@ use Rattle.rt_plans.proofs.NamedSpanLaws.{cut}
 use Rattle.rt_undo.specs.Actions.{Action}
 use Rattle.rt_revert.specs.Plans.{AreUpTo, IsUpTo}
 use Rattle.rt_revert.specs.Reverting.{reversion, reverted, with_copy}
-use Rattle.rt_revert.specs.ReversionLaws.{AreSound}
+use Rattle.rt_revert.specs.ReversionLaws.{AllMayRevert}
 use Rattle.rt_revert.proofs.CellCounts.{reversion_cells}
 use Rattle.rt_revert.proofs.Induction.{reversion_keeps}
 use Rattle.rt_revert.proofs.Steps.{reversion_made, reversion_may}
@@ -183,7 +183,7 @@ pub record IsReverted (flat : DocValue) (group : List (Action (List Word))) : Ty
   pub real : 0 < flat.site
   pub history : IsHistory flat.log
   pub document : IsDocument flat.site flat.log flat
-  pub sound : AreSound group
+  pub sound : AllMayRevert group
   pub fits : (reversion flat group).doc.count ≤ GREATEST_COUNT
 
 -- what is too much for the counts is refused

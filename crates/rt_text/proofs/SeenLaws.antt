@@ -19,7 +19,7 @@ use Rattle.rt_tags.specs.Tags.{is_listed}
 use Rattle.rt_store.specs.Shown.{TaggedCell, shown}
 use Rattle.rt_text.specs.Proper.{ends_by, tag_by, ends_in}
 use Rattle.rt_text.specs.Grounds.{widget_over}
-use Rattle.rt_text.specs.Widgets.{WidgetValue, ViewValue, is_tagged, is_tagged_in, length_shown, mark_among, mark_seen, marks_shown, own_mark_of, own_or, own_seen, own_shown, cells_shown, stretch_by, tag_ends, tags_shown, text_shown, widget_of}
+use Rattle.rt_text.specs.Widgets.{WidgetValue, ViewValue, shows_tag, is_tagged_in, length_shown, mark_among, mark_seen, marks_shown, own_mark_of, own_or, own_seen, own_shown, cells_shown, stretch_by, tag_ends, tags_shown, text_shown, widget_of}
 use Rattle.rt_lines.specs.declared.stretch.Stretch.{Stretch}
 use Rattle.rt_lines.specs.Stretches.{part, seen_place, stretch_of}
 use Rattle.rt_lines.specs.declared.limits.Limits.{Limits}
@@ -125,7 +125,7 @@ pub begins_by : (table : TagStates) (kept : List (Cell ℕ)) (stretch : Stretch)
 begins_by table kept stretch marks tags stamps own name s h =
     let chars : List TaggedCell = part stretch (visible_of (map (shown table) kept)) in
     next_found table kept (map (shown table) kept) stretch stamps own (λ selection. is_tagged_in selection name) 0 refl s
-    ∙ sym (first_is (is_listed name tags) (next_place (is_tagged own name) chars 0) (last_place (is_tagged own name) chars) h (no_next (is_tagged own name) chars))
+    ∙ sym (first_is (is_listed name tags) (next_place (shows_tag own name) chars 0) (last_place (shows_tag own name) chars) h (no_next (shows_tag own name) chars))
 
 -- and where it ends
 pub stops_by : (table : TagStates) (kept : List (Cell ℕ)) (stretch : Stretch) (marks : List Mark) (tags : List Word) (stamps : List Stamp) (own : WidgetValue) (name : Word) → stamps ≡ own.sel → is_listed name tags ≡ true
@@ -135,7 +135,7 @@ stops_by table kept stretch marks tags stamps own name s h =
     ap (option_map (λ q. q + 1))
     (sym (ap (last_place (is_tagged_in stamps name)) (part_shown table stretch kept) ∙ last_map (is_tagged_in stamps name) (shown table) (part stretch (visible_of kept)))
     ∙ (λ i. last_place (is_tagged_in (s i) name) chars))
-    ∙ sym (last_is (is_listed name tags) (next_place (is_tagged own name) chars 0) (last_place (is_tagged own name) chars) h (no_last (is_tagged own name) chars))
+    ∙ sym (last_is (is_listed name tags) (next_place (shows_tag own name) chars 0) (last_place (shows_tag own name) chars) h (no_last (shows_tag own name) chars))
 
 -- THE TEXT THAT A WIDGET SHOWS
 

@@ -15,7 +15,7 @@ use Rattle.rt_store.specs.Written.{AreBelowNext}
 use Rattle.rt_store.proofs.Distinct.{first_apart, others_distinct}
 use Rattle.rt_store.proofs.Finding.{place_found, stamp_held}
 use Rattle.rt_rga.proofs.PlacesAt.{position_at}
-use Rattle.rt_plans.specs.DocValue.{left_of, put_after}
+use Rattle.rt_plans.specs.DocValue.{left_stamp, put_after}
 use Rattle.rt_plans.proofs.InsertedText.{text_inserted}
 use Rattle.rt_lines.specs.declared.limits.Limits.{Limits}
 use Rattle.rt_lines.specs.Limits.{first_line, is_gone, last_line, line_at, line_behind, place_of}
@@ -88,7 +88,7 @@ first_by cells limits = λ i. min (start_by cells limits.start i) (last_by cells
 
 -- NEW CELLS BEHIND A VISIBLE ONE
 
-cut_at : (cells : List TaggedCell) (at : ℕ) → IsDistinct is_same (ROOT ∷ stamps_of cells) → at < length (visible_of cells) → IsCut (take (after_element cells (left_of cells at)) cells) at
+cut_at : (cells : List TaggedCell) (at : ℕ) → IsDistinct is_same (ROOT ∷ stamps_of cells) → at < length (visible_of cells) → IsCut (take (after_element cells (left_stamp cells at)) cells) at
 cut_at cells zero d l = cut_none
 cut_at cells (suc p) d l = by (slice_get_cases (visible_of cells) p).1
   where
@@ -106,15 +106,15 @@ cut_at cells (suc p) d l = by (slice_get_cases (visible_of cells) p).1
         rest false k = k
 
     by : ((x : TaggedCell) × (p < length (visible_of cells)) × (slice_get (visible_of cells) p ≡ Some x) × (get_or (visible_of cells) p x ≡ x)) ⊎ ((length (visible_of cells) ≤ p) × (slice_get (visible_of cells) p ≡ None))
-        → IsCut (take (after_element cells (left_of cells (suc p))) cells) (suc p)
+        → IsCut (take (after_element cells (left_stamp cells (suc p))) cells) (suc p)
     by (inl w) =
         let x = w.0 in
         let c = cut_behind cells p x w.2 in
-        let left : left_of cells (suc p) ≡ x.stamp = ap (λ o. unwrap_or (option_map (λ (cell : TaggedCell). cell.stamp) o) ROOT) w.2 in
+        let left : left_stamp cells (suc p) ≡ x.stamp = ap (λ o. unwrap_or (option_map (λ (cell : TaggedCell). cell.stamp) o) ROOT) w.2 in
         let root : is_same x.stamp ROOT ≡ false = absent cells c.0 x (first_apart ROOT (stamps_of cells) d) c.1 in
         let found = position_at cells c.0 x (others_distinct ROOT (stamps_of cells) d) c.1 in
         let next : unwrap_or (Some c.0) 0 + 1 ≡ suc c.0 = omega arith in
-        let after : after_element cells (left_of cells (suc p)) ≡ suc c.0 =
+        let after : after_element cells (left_stamp cells (suc p)) ≡ suc c.0 =
         ap (after_element cells) left ∙ ap (λ b. cond b 0 (unwrap_or (position_of cells x.stamp) 0 + 1)) root ∙ ap (λ o. unwrap_or o 0 + 1) found ∙ next in
         subst (λ n. IsCut (take n cells) (suc p)) (sym after) c.2
     by (inr w) = absurd (omega (arith, w.0, l))
@@ -130,15 +130,15 @@ pub record ArePut (cells new : List TaggedCell) (count site at : ℕ) : Type 0 w
 
 module _ (cells new : List TaggedCell) (count site at : ℕ) (put : ArePut cells new count site at) where
   abbrev cells' : List TaggedCell
-  cells' = put_after cells (left_of cells at) new
+  cells' = put_after cells (left_stamp cells at) new
 
   abbrev k : ℕ
   k = length new
 
   n : ℕ
-  n = after_element cells (left_of cells at)
+  n = after_element cells (left_stamp cells at)
 
-  cut : IsCut (take (after_element cells (left_of cells at)) cells) at
+  cut : IsCut (take (after_element cells (left_stamp cells at)) cells) at
   cut = cut_at cells at put.distinct (omega (arith, put.within, length-map (visible_of cells) (λ (cell : TaggedCell). cell.ch)))
 
   pub text_put : text_of cells' ≡ put_in at (text_of new) (text_of cells)
@@ -151,16 +151,16 @@ module _ (cells new : List TaggedCell) (count site at : ℕ) (put : ArePut cells
   place_put None h = refl
   place_put (Some s) h =
       let none = none_new count site cells new s put.below put.real put.fresh (newline_among cells s h) in
-      place_moved (take (after_element cells (left_of cells at)) cells) new (drop (after_element cells (left_of cells at)) cells) s at k cut.seen size none (cut.before s)
-      ∙ ap (λ (l : List TaggedCell). option_map (moved_by at k) (place_of l s)) (take-append-drop (after_element cells (left_of cells at)) cells)
+      place_moved (take (after_element cells (left_stamp cells at)) cells) new (drop (after_element cells (left_stamp cells at)) cells) s at k cut.seen size none (cut.before s)
+      ∙ ap (λ (l : List TaggedCell). option_map (moved_by at k) (place_of l s)) (take-append-drop (after_element cells (left_stamp cells at)) cells)
 
   gone_put : (limit : Option Stamp) → IfSome limit (IsNewline cells) → gone_by cells' limit ≡ gone_by cells limit
   gone_put None h = refl
   gone_put (Some s) h =
       let none = none_new count site cells new s put.below put.real put.fresh (newline_among cells s h) in
       ap (λ (o : Option TaggedCell). unwrap_or (option_map (λ cell. cell.gone) o) false)
-      (cell_more (take (after_element cells (left_of cells at)) cells) new (drop (after_element cells (left_of cells at)) cells) s none
-      ∙ ap (λ (l : List TaggedCell). cell_of l s) (take-append-drop (after_element cells (left_of cells at)) cells))
+      (cell_more (take (after_element cells (left_stamp cells at)) cells) new (drop (after_element cells (left_stamp cells at)) cells) s none
+      ∙ ap (λ (l : List TaggedCell). cell_of l s) (take-append-drop (after_element cells (left_stamp cells at)) cells))
 
   -- both sides of the end of the new characters are shown as the places of the limits say
   pub sides_put : (limits : Limits) → AreNewlines cells limits → 1 ≤ k → (stretch_of cells limits).begin ≤ at → at < (stretch_of cells limits).end

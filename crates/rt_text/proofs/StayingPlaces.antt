@@ -11,7 +11,7 @@ use Rattle.rt_store.specs.declared.cell.Cell.{Cell}
 use Rattle.rt_store.specs.Cells.{map_state, visible_of}
 use Rattle.rt_store.proofs.Distinct.{split}
 use Rattle.rt_plans.specs.declared.range.Range.{Range}
-use Rattle.rt_plans.specs.Removals.{AreInOrder, gone_at, is_covered, is_in}
+use Rattle.rt_plans.specs.Removals.{RangesFollow, gone_at, is_covered, is_in}
 use Rattle.rt_plans.proofs.StampLaws.{before_all, in_after, order_weaker}
 
 -- CHARACTERS THAT STAY
@@ -126,7 +126,7 @@ passing_not range p h = cond-false (nat_le range.from p) (p + (range.to - range.
 pub passing_all : (range : Range) (p : ℕ) → range.from ≤ p → passing range p ≡ p + (range.to - range.from)
 passing_all range p h = cond-true (nat_le range.from p) (p + (range.to - range.from)) p (grind (arith, nat_tests, h))
 
-before_same : (start : ℕ) (ranges : List Range) (p : ℕ) → AreInOrder start ranges → p < start → before_of ranges p ≡ p
+before_same : (start : ℕ) (ranges : List Range) (p : ℕ) → RangesFollow start ranges → p < start → before_of ranges p ≡ p
 before_same start [] p h l = refl
 before_same start (range ∷ ranges) p h l =
     ap (before_of ranges) (passing_not range p (omega (arith, h.0, l))) ∙ before_same range.to ranges p h.2 (omega (arith, h.0, h.1, l))
@@ -145,7 +145,7 @@ back_in range p h = split (nat_le range.from p)
     stayed from n p l = grind (arith, nat_tests, l)
 
 -- the character there comes to stand at the place
-pub before_left : (start : ℕ) (ranges : List Range) (p : ℕ) → AreInOrder start ranges → place_left (is_covered ranges) (before_of ranges p) ≡ p
+pub before_left : (start : ℕ) (ranges : List Range) (p : ℕ) → RangesFollow start ranges → place_left (is_covered ranges) (before_of ranges p) ≡ p
 before_left start [] p h = place_kept (is_covered []) (λ q. refl) p
 before_left start (range ∷ ranges) p h =
     sym (place_then (is_covered ranges) range.from range.to (λ q l. before_all range.to ranges q h.2 l) (before_of ranges (passing range p)))
@@ -153,7 +153,7 @@ before_left start (range ∷ ranges) p h =
     ∙ back_in range p h.1
 
 -- and stays
-pub before_free : (start : ℕ) (ranges : List Range) (p : ℕ) → AreInOrder start ranges → is_covered ranges (before_of ranges p) ≡ false
+pub before_free : (start : ℕ) (ranges : List Range) (p : ℕ) → RangesFollow start ranges → is_covered ranges (before_of ranges p) ≡ false
 before_free start [] p h = refl
 before_free start (range ∷ ranges) p h =
     or_from (is_in range (before_of ranges (passing range p))) _ first (before_free range.to ranges (passing range p) h.2)
@@ -184,9 +184,9 @@ pub passed_all : (ranges : List Range) (i before place : ℕ) → length ranges 
 passed_all ranges i before place h e = sym (ap (λ l. before_of l before) (drop_all i ranges h)) ∙ e
 
 -- the ranges from one on stand no earlier than what was passed over
-pub passed_order : (ranges : List Range) (i p : ℕ) (d : Range) → i < length ranges → AreInOrder p (drop i ranges) → (n : ℕ) → n ≤ p + ((get_or ranges i d).to - (get_or ranges i d).from) → AreInOrder n (drop (i + 1) ranges)
+pub passed_order : (ranges : List Range) (i p : ℕ) (d : Range) → i < length ranges → RangesFollow p (drop i ranges) → (n : ℕ) → n ≤ p + ((get_or ranges i d).to - (get_or ranges i d).from) → RangesFollow n (drop (i + 1) ranges)
 passed_order ranges i p d h k n l =
-    let o : AreInOrder p (get_or ranges i d ∷ drop (i + 1) ranges) = subst (AreInOrder p) (drop_more ranges i d h) k in
+    let o : RangesFollow p (get_or ranges i d ∷ drop (i + 1) ranges) = subst (RangesFollow p) (drop_more ranges i d h) k in
     order_weaker (get_or ranges i d).to n (drop (i + 1) ranges) (omega (arith, o.0, o.1, l)) o.2
 
 -- one range more is passed

@@ -18,7 +18,7 @@ use Rattle.rt_store.specs.Shown.{TaggedCell}
 use Rattle.rt_tags.specs.Tags.{sel}
 use Rattle.rt_plans.specs.declared.range.Range.{Range}
 use Rattle.rt_plans.specs.Deletions.{delete_drafts, loss_in, without_text}
-use Rattle.rt_plans.specs.DocValue.{left_of, logged, put_after}
+use Rattle.rt_plans.specs.DocValue.{left_stamp, logged, put_after}
 use Rattle.rt_plans.specs.InsertionDrafts.{insertion_drafts}
 use Rattle.rt_plans.specs.Insertions.{Insertion, Piece, insertion_of, left_neighbour, right_neighbour, with_pieces}
 use Rattle.rt_index.specs.declared.comparison.Comparison.{Comparison}
@@ -59,7 +59,7 @@ abbrev pub stretch_with : ViewValue → ℕ → List Piece → Stretch
 stretch_with view place pieces =
     let flat = view.doc in
     let new = with_pieces flat.site pieces (none_inserted view) in
-    stretch_of (put_after flat.cells (left_of flat.cells (in_text view place)) new.cells) view.own.limits
+    stretch_of (put_after flat.cells (left_stamp flat.cells (in_text view place)) new.cells) view.own.limits
 
 -- the right neighbour of characters without a list, behind the pieces: none where the widget then no longer shows both neighbours
 abbrev pub right_behind : ViewValue → ℕ → List Piece → Option TaggedCell
@@ -76,7 +76,7 @@ with_pieces_at view place pieces rest =
     let at = in_text view place in
     let left = left_neighbour (cells_shown view) place in
     let right = right_behind view place pieces in
-    let after = left_of flat.cells at in
+    let after = left_stamp flat.cells at in
     let start = none_inserted view in
     let new = insertion_of flat.site left right pieces rest start in
     let moved = each_widget (own_inserted at (length new.cells)) view in

@@ -17,7 +17,7 @@ use Rattle.rt_stamps.specs.Places.{EndsWithNewline}
 use Rattle.rt_text.specs.declared.own_mark.OwnMark.TheVariants.{Insert, Current}
 use Rattle.rt_text.specs.Lines.{AreLines}
 use Rattle.rt_text.specs.Grounds.{widget_over}
-use Rattle.rt_text.specs.Widgets.{WidgetValue, own_or, own_seen, mark_seen, ends_of, is_tagged}
+use Rattle.rt_text.specs.Widgets.{WidgetValue, own_or, own_seen, mark_seen, ends_of, shows_tag}
 use Rattle.rt_lines.specs.declared.stretch.Stretch.{Stretch}
 use Rattle.rt_lines.specs.Stretches.{part, seen_cursor, seen_place}
 
@@ -195,15 +195,15 @@ proper_over stretch cells marks tags own lines few names listed =
         place_within size (bytes_eq name (codes "insert")) (bytes_eq name (codes "current")) seen (found name)
             (cursor_within stretch own.insert.place) (seen_within stretch own.current.place order) (all_seen stretch name marks order) place e,
       );
-      first_within = λ name place e. first_by n (is_listed name tags) (next_place (is_tagged own name) chars 0) (last_place (is_tagged own name) chars)
-          (λ p q. omega (arith, long, same, next_within (is_tagged own name) chars p q)) place e;
-      last_within = λ name place e. last_by n (is_listed name tags) (next_place (is_tagged own name) chars 0) (last_place (is_tagged own name) chars)
-          (λ p q. omega (arith, long, same, last_within (is_tagged own name) chars p q)) place e;
+      first_within = λ name place e. first_by n (is_listed name tags) (next_place (shows_tag own name) chars 0) (last_place (shows_tag own name) chars)
+          (λ p q. omega (arith, long, same, next_within (shows_tag own name) chars p q)) place e;
+      last_within = λ name place e. last_by n (is_listed name tags) (next_place (shows_tag own name) chars 0) (last_place (shows_tag own name) chars)
+          (λ p q. omega (arith, long, same, last_within (shows_tag own name) chars p q)) place e;
       mark_names =
           λ name h. mark_named name (bytes_eq name (codes "insert")) (bytes_eq name (codes "current")) seen (found name) refl refl
           (λ s. names name (names_seen stretch name marks s)) h;
-      tag_names = λ name h. listed_name name tags listed.names (is_tag (is_listed name tags) (ends_of (is_tagged own name) chars) h);
+      tag_names = λ name h. listed_name name tags listed.names (is_tag (is_listed name tags) (ends_of (shows_tag own name) chars) h);
       insert = refl;
       current = refl;
-      sel = some_tag (is_listed sel tags) (ends_of (is_tagged own sel) chars) listed.sel;
+      sel = some_tag (is_listed sel tags) (ends_of (shows_tag own sel) chars) listed.sel;
     }

@@ -6,7 +6,7 @@ use Rattle.rt_ops.specs.Edits.{body_of}
 use Rattle.rt_ops.specs.Operations.{Body}
 use Rattle.rt_plans.specs.declared.range.Range.{Range}
 use Rattle.rt_plans.specs.Deletions.{Loss, delete_drafts, loss_in}
-use Rattle.rt_plans.specs.DocValue.{left_of}
+use Rattle.rt_plans.specs.DocValue.{left_stamp}
 use Rattle.rt_plans.specs.InsertionDrafts.{insertion_drafts}
 use Rattle.rt_plans.specs.InsertionPlans.{Plans}
 use Rattle.rt_plans.specs.Insertions.{Insertion, Piece, insertion_of, left_neighbour}
@@ -25,7 +25,7 @@ insertion_at view place pieces rest =
 
 abbrev pub drafts_at : ViewValue → ℕ → List Piece → Word → List Body
 drafts_at view place pieces rest =
-    insertion_drafts MOST_CHARACTERS view.doc.site (left_of view.doc.cells (in_text view place)) (left_neighbour (cells_shown view) place)
+    insertion_drafts MOST_CHARACTERS view.doc.site (left_stamp view.doc.cells (in_text view place)) (left_neighbour (cells_shown view) place)
     (right_behind view place pieces) pieces rest (none_inserted view)
 
 -- what the deletion of a range leaves

@@ -239,12 +239,12 @@ marks_of view = with_mark (own_shown view).insert (with_mark (own_shown view).cu
 abbrev pub is_tagged_in : List Stamp → Word → TaggedCell → Bool
 is_tagged_in selection name cell = if bytes_eq name sel then is_among selection cell.stamp else is_on name cell.state
 
-abbrev pub is_tagged : WidgetValue → Word → TaggedCell → Bool
-is_tagged own name cell = is_tagged_in own.sel name cell
+abbrev pub shows_tag : WidgetValue → Word → TaggedCell → Bool
+shows_tag own name cell = is_tagged_in own.sel name cell
 
 -- the listed tags on a character, lowest priority first
 abbrev pub tags_shown : WidgetValue → List Word → TaggedCell → List Word
-tags_shown own tags cell = filter (λ name. is_tagged own name cell) tags
+tags_shown own tags cell = filter (λ name. shows_tag own name cell) tags
 
 -- where characters that pass a test begin and end, if there are any
 abbrev pub ends_of : (TaggedCell → Bool) → List TaggedCell → Option TagEnds
@@ -253,7 +253,7 @@ ends_of test characters =
 
 -- a listed tag, and its ends where some of the characters has it
 abbrev pub tag_ends : WidgetValue → List TaggedCell → List Word → Word → Option (Option TagEnds)
-tag_ends own characters tags name = if is_listed name tags then Some (ends_of (is_tagged own name) characters) else None
+tag_ends own characters tags name = if is_listed name tags then Some (ends_of (shows_tag own name) characters) else None
 
 -- WHAT INDEX EXPRESSIONS SEE
 

@@ -1,7 +1,7 @@
 // Marks after changes of the text, and limits after newlines came back.
 ghost use Rattle.std.specs.Prelude.{◌≡◌, ◌+◌, ◌≤◌, All, length, map};
 ghost use Rattle.std.specs.List.{AllByRecursion};
-ghost use Rattle.rt_revert.specs.Plans.{IsChange, marks_after, marks_changed};
+ghost use Rattle.rt_revert.specs.Plans.{IsTextChange, marks_after, marks_changed};
 ghost use Rattle.rt_text.specs.Changes.{own_after, own_changed, own_renamed};
 ghost use Rattle.rt_text.specs.Owned.{own_of};
 
@@ -13,7 +13,7 @@ use rt_revert::{Return, TextChange};
 
 // Moves the marks of a site for a change of the text. It takes no memory.
 fn move_for(marks: &mut Marks, change: &TextChange)
-    requires change { IsChange change.now }
+    requires change { IsTextChange change.now }
     requires fits { AllByRecursion (λ m. m.place + 1 ≤ usize.MAX) marks.old }
     ensures { marks.new ≡ marks_changed change.now marks.old }
 {
@@ -25,7 +25,7 @@ fn move_for(marks: &mut Marks, change: &TextChange)
 
 // Moves the marks of a site for changes of the text, one after the other. It takes no memory.
 fn move_for_all(marks: &mut Marks, changes: &[TextChange])
-    requires changes { AllByRecursion IsChange changes.now }
+    requires changes { AllByRecursion IsTextChange changes.now }
     requires fits { AllByRecursion (λ m. m.place + length changes.now ≤ usize.MAX) marks.old }
     ensures { marks.new ≡ marks_after changes.now marks.old }
 {
@@ -37,7 +37,7 @@ fn move_for_all(marks: &mut Marks, changes: &[TextChange])
 impl Widget {
     // Moves its marks for a change of the text.
     fn change(&mut self, change: &TextChange)
-        requires change { IsChange change.now }
+        requires change { IsTextChange change.now }
         requires insert { self.old.insert.place + 1 ≤ usize.MAX }
         requires current { self.old.current.place + 1 ≤ usize.MAX }
         ensures { own_of self.new ≡ own_changed change.now (own_of self.old) }
@@ -50,7 +50,7 @@ impl Widget {
 
     // Moves its marks for changes of the text, one after the other.
     fn change_all(&mut self, changes: &[TextChange])
-        requires changes { AllByRecursion IsChange changes.now }
+        requires changes { AllByRecursion IsTextChange changes.now }
         requires insert { self.old.insert.place + length changes.now ≤ usize.MAX }
         requires current { self.old.current.place + length changes.now ≤ usize.MAX }
         ensures { own_of self.new ≡ own_after changes.now (own_of self.old) }
@@ -72,7 +72,7 @@ impl Widget {
     /// Moves its marks for changes of the text, one after the other, and has its limits follow the
     /// characters that came back.
     pub(crate) fn revert(&mut self, changes: &[TextChange], returns: &[Return])
-        requires changes { AllByRecursion IsChange changes.now }
+        requires changes { AllByRecursion IsTextChange changes.now }
         requires insert { self.old.insert.place + length changes.now ≤ usize.MAX }
         requires current { self.old.current.place + length changes.now ≤ usize.MAX }
         ensures { own_of self.new ≡ own_renamed returns.now (own_after changes.now (own_of self.old)) }
@@ -91,7 +91,7 @@ pub(crate) fn revert_all(
     changes: &[TextChange],
     returns: &[Return],
 )
-    requires changes { AllByRecursion IsChange changes.now }
+    requires changes { AllByRecursion IsTextChange changes.now }
     requires marks { AllByRecursion (λ m. m.place + length changes.now ≤ usize.MAX) marks.old }
     requires insert { widget.old.insert.place + length changes.now ≤ usize.MAX }
     requires current { widget.old.current.place + length changes.now ≤ usize.MAX }

@@ -1,7 +1,7 @@
 // What a removal of text leaves of marks and selections.
 ghost use Rattle.std.specs.Prelude.{◌≡◌, ◌≤◌, ◌∷◌, [], false, if◌then◌else◌, map};
 ghost use Rattle.rt_marks.specs.Marks.{marks_left};
-ghost use Rattle.rt_plans.specs.Removals.{is_covered, AreInOrder};
+ghost use Rattle.rt_plans.specs.Removals.{is_covered, RangesFollow};
 ghost use Rattle.rt_plans.specs.Selected.{room_in, selected_stamps};
 ghost use Rattle.rt_plans.specs.Selections.{unselected};
 ghost use Rattle.rt_text.specs.Owned.{own_of};
@@ -16,7 +16,7 @@ use rt_stamps::Stamp;
 /// Moves the marks of a site for ranges that are removed. The last range goes first, so that the places
 /// of the others still count. It takes no memory.
 pub(crate) fn move_back(marks: &mut Marks, removed: &[Range])
-    requires { AreInOrder 0 removed.now }
+    requires { RangesFollow 0 removed.now }
     ensures { marks.new ≡ marks_left (is_covered removed.now) marks.old }
 {
     marks.order();
@@ -31,7 +31,7 @@ pub(crate) fn move_back(marks: &mut Marks, removed: &[Range])
 impl Widget {
     /// Moves its marks for ranges that are removed, the last range first.
     pub(crate) fn leave(&mut self, removed: &[Range])
-        requires { AreInOrder 0 removed.now }
+        requires { RangesFollow 0 removed.now }
         ensures { own_of self.new ≡ own_left (is_covered removed.now) (own_of self.old) }
     {
         let mut i = removed.len();
@@ -50,7 +50,7 @@ pub(crate) fn leave_all(
     others: &mut [Widget],
     removed: &[Range],
 )
-    requires { AreInOrder 0 removed.now }
+    requires { RangesFollow 0 removed.now }
     ensures marks { marks.new ≡ marks_left (is_covered removed.now) marks.old }
     ensures own { own_of widget.new ≡ own_left (is_covered removed.now) (own_of widget.old) }
     ensures others { map own_of others.new ≡ map (own_left (is_covered removed.now)) (map own_of others.old) }

@@ -10,7 +10,7 @@ ghost use Rattle.rt_store.specs.Cells.{visible_of};
 ghost use Rattle.rt_store.specs.Tagged.{AreStates};
 ghost use Rattle.rt_tags.specs.States.{IsState, TagStates};
 ghost use Rattle.rt_plans.specs.Insertions.{left_neighbour, right_neighbour};
-ghost use Rattle.rt_plans.specs.Removals.{AreInOrder, gone_at, is_covered};
+ghost use Rattle.rt_plans.specs.Removals.{RangesFollow, gone_at, is_covered};
 ghost use Rattle.rt_text.specs.Neighbours.{are_sides_shown, ends_behind, ends_with_newline, is_ahead, stands_behind, limit_left, pieces_text};
 
 use crate::staying::{place_after, right_after};
@@ -46,7 +46,7 @@ pub(crate) fn stamp_or_root(left: &Option<Cell<StateId>>) -> Stamp
 
 // The place of a limit's newline in what is left once ranges are removed, if there is one.
 fn limit_left<S: TextStore>(store: &S, removed: &[Range], limit: Option<Stamp>) -> Option<usize>
-    requires { AreInOrder 0 removed.now }
+    requires { RangesFollow 0 removed.now }
     ensures { result ≡ limit_left (is_covered removed.now) (S.list store.now) limit }
 {
     let place = store.place_of(limit?)?;
@@ -125,7 +125,7 @@ pub(crate) fn shows_both<S: TextStore>(
     at: usize,
     pieces: &[Piece],
 ) -> bool
-    requires { AreInOrder 0 removed.now }
+    requires { RangesFollow 0 removed.now }
     ensures { result ≡ are_sides_shown (limit_left (is_covered removed.now) (S.list store.now) limits.start)
         (limit_left (is_covered removed.now) (S.list store.now) limits.end) at (pieces_text pieces.now) }
 {
@@ -175,7 +175,7 @@ pub(crate) fn shown_after<S: TextStore>(
     at: usize,
     pieces: &[Piece],
 ) -> Option<Cell<StateId>>
-    requires order { AreInOrder 0 removed.now }
+    requires order { RangesFollow 0 removed.now }
     requires place { at < place_left (is_covered removed.now) (length (visible_of (S.list store.now))) }
     requires within { All (λ range. range.to ≤ length (visible_of (S.list store.now))) removed.now }
     requires few { length (visible_of (S.list store.now)) ≤ MOST_CELLS }

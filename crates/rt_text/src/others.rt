@@ -2,10 +2,10 @@
 ghost use Rattle.std.specs.Prelude.{ℕ, ◌≡◌, ◌+◌, ◌≤◌, ◌∷◌, [], true, All, IsOkUnless, OnOk, length, map};
 ghost use Rattle.std.specs.List.{AllByRecursion};
 ghost use Rattle.rt_plans.specs.Insertions.{selected_with};
-ghost use Rattle.rt_plans.specs.Removals.{AreInOrder, is_covered};
+ghost use Rattle.rt_plans.specs.Removals.{RangesFollow, is_covered};
 ghost use Rattle.rt_plans.specs.Selected.{room_in};
 ghost use Rattle.rt_plans.specs.Selections.{unselected};
-ghost use Rattle.rt_revert.specs.Plans.{IsChange};
+ghost use Rattle.rt_revert.specs.Plans.{IsTextChange};
 ghost use Rattle.rt_rga.specs.Taken.{AreFallingRuns, is_in_runs};
 ghost use Rattle.rt_text.specs.Changes.{own_after, own_renamed};
 ghost use Rattle.rt_text.specs.Owned.{own_of, selects_both};
@@ -67,7 +67,7 @@ pub(crate) fn insert_each(others: &mut [Widget], place: usize, n: usize)
 
 /// Moves the marks of each for ranges that are removed.
 pub(crate) fn leave_each(others: &mut [Widget], removed: &[Range])
-    requires { AreInOrder 0 removed.now }
+    requires { RangesFollow 0 removed.now }
     ensures { map own_of others.new ≡ map (own_left (is_covered removed.now)) (map own_of others.old) }
 {
     for i in 0..others.len() {
@@ -91,7 +91,7 @@ pub(crate) fn follow_each(others: &mut [Widget], change: &Change)
 /// Moves the marks of each for changes of the text, one after the other, and has its limits follow the
 /// characters that came back.
 pub(crate) fn revert_each(others: &mut [Widget], changes: &[TextChange], returns: &[Return])
-    requires changes { AllByRecursion IsChange changes.now }
+    requires changes { AllByRecursion IsTextChange changes.now }
     requires fits { All (λ other. (other.insert.place + length changes.now ≤ usize.MAX)
         × (other.current.place + length changes.now ≤ usize.MAX)) others.old }
     ensures { map own_of others.new ≡ map (λ own. own_renamed returns.now (own_after changes.now own)) (map own_of others.old) }

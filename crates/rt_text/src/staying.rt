@@ -6,7 +6,7 @@ ghost use Rattle.rt_store.specs.Cells.{visible_of};
 ghost use Rattle.rt_store.specs.Tagged.{AreStates};
 ghost use Rattle.rt_tags.specs.States.{IsState, TagStates};
 ghost use Rattle.rt_plans.specs.Insertions.{left_neighbour, right_neighbour};
-ghost use Rattle.rt_plans.specs.Removals.{AreInOrder, gone_at, is_covered};
+ghost use Rattle.rt_plans.specs.Removals.{RangesFollow, gone_at, is_covered};
 
 use rt_marks::place::place_removed;
 use rt_plans::Range;
@@ -16,7 +16,7 @@ use rt_tags::StateId;
 /// Where a place is after ranges are removed. The last range goes first, so that the places of the others
 /// still count.
 pub(crate) fn place_after(removed: &[Range], place: usize) -> usize
-    requires { AreInOrder 0 removed.now }
+    requires { RangesFollow 0 removed.now }
     ensures { result ≡ place_left (is_covered removed.now) place }
 {
     let mut after = place;
@@ -31,7 +31,7 @@ pub(crate) fn place_after(removed: &[Range], place: usize) -> usize
 
 // The place of a character that stays when ranges are removed, and then comes to stand at a place.
 fn place_before(removed: &[Range], place: usize) -> usize
-    requires order { AreInOrder 0 removed.now }
+    requires order { RangesFollow 0 removed.now }
     requires fits { All (λ range. place + range.to ≤ usize.MAX) removed.now }
     ensures stays { is_covered removed.now result ≡ false }
     ensures place { place_left (is_covered removed.now) result ≡ place }
@@ -47,7 +47,7 @@ fn place_before(removed: &[Range], place: usize) -> usize
 
 // The character that comes to stand at a place when ranges are removed.
 fn cell_after<S: TextStore>(store: &S, removed: &[Range], place: usize) -> Cell<StateId>
-    requires order { AreInOrder 0 removed.now }
+    requires order { RangesFollow 0 removed.now }
     requires place { place < place_left (is_covered removed.now) (length (visible_of (S.list store.now))) }
     requires within { All (λ range. range.to ≤ length (visible_of (S.list store.now))) removed.now }
     requires few { length (visible_of (S.list store.now)) ≤ MOST_CELLS }
@@ -63,7 +63,7 @@ pub(crate) fn left_after<S: TextStore>(
     removed: &[Range],
     place: usize,
 ) -> Option<Cell<StateId>>
-    requires order { AreInOrder 0 removed.now }
+    requires order { RangesFollow 0 removed.now }
     requires place { place < place_left (is_covered removed.now) (length (visible_of (S.list store.now))) }
     requires within { All (λ range. range.to ≤ length (visible_of (S.list store.now))) removed.now }
     requires few { length (visible_of (S.list store.now)) ≤ MOST_CELLS }
@@ -85,7 +85,7 @@ pub(crate) fn right_after<S: TextStore>(
     held: bool,
     place: usize,
 ) -> Option<Cell<StateId>>
-    requires order { AreInOrder 0 removed.now }
+    requires order { RangesFollow 0 removed.now }
     requires place { place < place_left (is_covered removed.now) (length (visible_of (S.list store.now))) }
     requires within { All (λ range. range.to ≤ length (visible_of (S.list store.now))) removed.now }
     requires few { length (visible_of (S.list store.now)) ≤ MOST_CELLS }

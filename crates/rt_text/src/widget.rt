@@ -1,7 +1,7 @@
 // A widget: its own marks, what it has selected, and which lines it shows.
 ghost use Rattle.std.specs.Prelude.{◌≡◌, ◌+◌, ◌≤◌, ◌∷◌, [], true, All, IsOkUnless, OnErr, OnOk, length};
 ghost use Rattle.rt_plans.specs.Insertions.{selected_with};
-ghost use Rattle.rt_plans.specs.Removals.{AreInOrder, is_covered, stamps_at};
+ghost use Rattle.rt_plans.specs.Removals.{RangesFollow, is_covered, stamps_at};
 ghost use Rattle.rt_plans.specs.Selected.{room_in, selected_stamps};
 ghost use Rattle.rt_plans.specs.Selections.{selection_with, unselected};
 ghost use Rattle.rt_store.specs.Cells.{visible_of};
@@ -143,7 +143,7 @@ impl Widget {
         ranges: &[Range],
         on: bool,
     ) -> Result<(), Fault>
-        requires order { AreInOrder 0 ranges.now }
+        requires order { RangesFollow 0 ranges.now }
         requires within { All (λ range. range.to ≤ length (visible_of (S.list store.now))) ranges.now }
         ensures ok { OnOk result (own_of self.new
             ≡ reselected (selection_with on (stamps_at (is_covered ranges.now) 0 (S.list store.now))) (own_of self.old)) }

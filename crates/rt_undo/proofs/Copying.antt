@@ -8,7 +8,7 @@ use Rattle.rt_stamps.specs.declared.stamp.Span.{Span}
 use Rattle.rt_stamps.specs.declared.stamp.Stamp.{Stamp}
 use Rattle.rt_ops.specs.Operations.{stamps_from, stamps_in, stamps_of_span}
 use Rattle.rt_undo.specs.declared.action.RemovedSpan.{RemovedSpan}
-use Rattle.rt_undo.specs.Actions.{Removed, removed_in, removed_of, removed_with, with_stamp}
+use Rattle.rt_undo.specs.Actions.{Removed, removed_in, removed_of, removed_with, restamped_one}
 use Rattle.rt_undo.specs.Copies.{is_next}
 
 at : ℕ → ℕ → Stamp
@@ -77,18 +77,18 @@ from_step f done site count last l =
     ∙ sym (append_assoc done (f (record { count = count; site = site }) ∷ []) (map f (stamps_from site (count + 1) (last + 1 - (count + 1)))))
 
 -- removed characters of a span, under other stamps
-removed_under : (f : Stamp → Stamp) (tags : ℕ) (stamps : List Stamp) → map (removed_with tags) (map f stamps) ≡ map (with_stamp {T = ℕ} f) (map (removed_with tags) stamps)
+removed_under : (f : Stamp → Stamp) (tags : ℕ) (stamps : List Stamp) → map (removed_with tags) (map f stamps) ≡ map (restamped_one {T = ℕ} f) (map (removed_with tags) stamps)
 removed_under f tags stamps =
-    map-map (removed_with tags) f stamps ∙ sym (map-map (with_stamp {T = ℕ} f) (removed_with tags) stamps)
+    map-map (removed_with tags) f stamps ∙ sym (map-map (restamped_one {T = ℕ} f) (removed_with tags) stamps)
 
 pub removed_step : (f : Stamp → Stamp) (old new : List (Removed ℕ)) (removed : List RemovedSpan) (i : ℕ) (part : RemovedSpan) → i < length removed
     → part ≡ get_or removed i part → new ≡ old ++ map (removed_with part.state) (map f (stamps_of_span part.span))
-    → new ++ map (with_stamp {T = ℕ} f) (removed_in (drop (i + 1) removed)) ≡ old ++ map (with_stamp {T = ℕ} f) (removed_in (drop i removed))
+    → new ++ map (restamped_one {T = ℕ} f) (removed_in (drop (i + 1) removed)) ≡ old ++ map (restamped_one {T = ℕ} f) (removed_in (drop i removed))
 removed_step f old new removed i part l is e =
     let rest = removed_in (drop (i + 1) removed) in
     let here : drop i removed ≡ part ∷ drop (i + 1) removed = drop-cons removed i part l ∙ (λ j. sym is j ∷ drop (sym (add-one i) j) removed) in
-    (λ j. e j ++ map (with_stamp {T = ℕ} f) rest)
-    ∙ append_assoc old (map (removed_with part.state) (map f (stamps_of_span part.span))) (map (with_stamp {T = ℕ} f) rest)
-    ∙ ap (λ l. old ++ (l ++ map (with_stamp {T = ℕ} f) rest)) (removed_under f part.state (stamps_of_span part.span))
-    ∙ ap (λ l. old ++ l) (sym (map-append (with_stamp {T = ℕ} f) (removed_of part) rest))
-    ∙ ap (λ l. old ++ map (with_stamp {T = ℕ} f) (removed_in l)) (sym here)
+    (λ j. e j ++ map (restamped_one {T = ℕ} f) rest)
+    ∙ append_assoc old (map (removed_with part.state) (map f (stamps_of_span part.span))) (map (restamped_one {T = ℕ} f) rest)
+    ∙ ap (λ l. old ++ (l ++ map (restamped_one {T = ℕ} f) rest)) (removed_under f part.state (stamps_of_span part.span))
+    ∙ ap (λ l. old ++ l) (sym (map-append (restamped_one {T = ℕ} f) (removed_of part) rest))
+    ∙ ap (λ l. old ++ map (restamped_one {T = ℕ} f) (removed_in l)) (sym here)

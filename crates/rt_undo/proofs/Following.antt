@@ -6,7 +6,7 @@ use Rattle.rt_stamps.specs.declared.stamp.Span.{Span}
 use Rattle.rt_stamps.specs.declared.stamp.Stamp.{Stamp}
 use Rattle.rt_stamps.specs.declared.limits.TheConstants.{GREATEST_COUNT}
 use Rattle.rt_undo.specs.declared.renames.Move.{Move}
-use Rattle.rt_undo.specs.Renames.{Shown, AreRising, LeadsOn, follow, is_in_span, is_moved, is_same, now_of, renamed, replaced, target, value_of}
+use Rattle.rt_undo.specs.Renames.{Shown, AllLeadOn, LeadsOn, follow, is_in_span, is_moved, is_same, now_of, renamed, replaced, target, value_of}
 
 pub follow_ends : (n : ℕ) (moves : Shown Move) (s : Stamp) → value_of moves s ≡ None → follow n moves s ≡ s
 unfolding follow
@@ -27,7 +27,7 @@ by_look None none some = none refl
 by_look (Some m) none some = some m refl
 
 -- more steps than there are lead no further
-pub follow_more : (n : ℕ) (moves : Shown Move) (s : Stamp) → AreRising moves → GREATEST_COUNT ≤ n + s.count → follow (suc n) moves s ≡ follow n moves s
+pub follow_more : (n : ℕ) (moves : Shown Move) (s : Stamp) → AllLeadOn moves → GREATEST_COUNT ≤ n + s.count → follow (suc n) moves s ≡ follow n moves s
 follow_more zero moves s rising far =
     by_look (value_of moves s)
     (λ none. follow_ends (suc zero) moves s none ∙ sym (follow_ends zero moves s none))
@@ -39,7 +39,7 @@ follow_more (suc n) moves s rising far =
     follow_on (suc n) moves s m some ∙ follow_more n moves (target m s) rising (omega arith) ∙ sym (follow_on n moves s m some))
 
 -- a step of a walk
-pub now_on : (moves : Shown Move) (s : Stamp) (m : Move) → AreRising moves → value_of moves s ≡ Some m → now_of moves s ≡ now_of moves (target m s)
+pub now_on : (moves : Shown Move) (s : Stamp) (m : Move) → AllLeadOn moves → value_of moves s ≡ Some m → now_of moves s ≡ now_of moves (target m s)
 unfolding now_of
 now_on moves s m rising some =
     let far : GREATEST_COUNT ≤ GREATEST_COUNT + s.count = omega arith in
@@ -74,7 +74,7 @@ pub record Renaming (former : Span) (newer : Stamp) (step : Move) (old new : Sho
   pub bound : newer.count + (former.last - former.first) ≤ GREATEST_COUNT
   pub first_time : (s : Stamp) → is_in_span former s ≡ true → is_moved old s ≡ false
   pub fresh : (s : Stamp) → is_in_span former s ≡ true → is_moved old (renamed former newer s) ≡ false
-  pub rising : AreRising old
+  pub rising : AllLeadOn old
 
 value_in : (former : Span) (newer : Stamp) (step : Move) (old new : Shown Move) → Renaming former newer step old new
     → (s : Stamp) → is_in_span former s ≡ true → value_of new s ≡ Some step
@@ -137,7 +137,7 @@ now_renamed former newer step old new r s =
     let far : GREATEST_COUNT ≤ GREATEST_COUNT + s.count = omega arith in
     follow_renamed former newer step old new r GREATEST_COUNT s far
 
-pub rising_renamed : (former : Span) (newer : Stamp) (step : Move) (old new : Shown Move) → Renaming former newer step old new → AreRising new
+pub rising_renamed : (former : Span) (newer : Stamp) (step : Move) (old new : Shown Move) → Renaming former newer step old new → AllLeadOn new
 rising_renamed former newer step old new r s m some =
     by_test (is_in_span former s)
     (λ yes. let same : step ≡ m = inner step m (sym (value_in former newer step old new r s yes) ∙ some) in
@@ -159,7 +159,7 @@ pub now_same : (old new : Shown Move) → ((s : Stamp) → value_of new s ≡ va
 unfolding now_of
 now_same old new e s = follow_same old new e GREATEST_COUNT s
 
-pub rising_same : (old new : Shown Move) → ((s : Stamp) → value_of new s ≡ value_of old s) → AreRising old → AreRising new
+pub rising_same : (old new : Shown Move) → ((s : Stamp) → value_of new s ≡ value_of old s) → AllLeadOn old → AllLeadOn new
 rising_same old new e rising s m some = rising s m (sym (e s) ∙ some)
 
 -- ONE STAMP
@@ -188,7 +188,7 @@ renamed_one old new s =
 
 -- AT THE END
 
-follow_still : (n : ℕ) (moves : Shown Move) (s : Stamp) → AreRising moves → GREATEST_COUNT ≤ n + s.count → is_moved moves (follow n moves s) ≡ false
+follow_still : (n : ℕ) (moves : Shown Move) (s : Stamp) → AllLeadOn moves → GREATEST_COUNT ≤ n + s.count → is_moved moves (follow n moves s) ≡ false
 follow_still zero moves s rising far =
     by_look (value_of moves s)
     (λ none. ap (is_moved moves) (now_zero moves s) ∙ ap is_some none)
@@ -200,7 +200,7 @@ follow_still (suc n) moves s rising far =
     ap (is_moved moves) (follow_on n moves s m some) ∙ follow_still n moves (target m s) rising (omega arith))
 
 -- the stamp that a character has now leads no further
-pub now_still : (moves : Shown Move) → AreRising moves → (s : Stamp) → is_moved moves (now_of moves s) ≡ false
+pub now_still : (moves : Shown Move) → AllLeadOn moves → (s : Stamp) → is_moved moves (now_of moves s) ≡ false
 unfolding now_of
 now_still moves rising s =
     let far : GREATEST_COUNT ≤ GREATEST_COUNT + s.count = omega arith in

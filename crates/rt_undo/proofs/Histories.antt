@@ -15,18 +15,18 @@ use Rattle.rt_stamps.specs.declared.stamp.Stamp.{Stamp}
 use Rattle.rt_undo.specs.declared.action.Action.{Action as KeptAction}
 use Rattle.rt_undo.specs.declared.action.Kind.{Kind}
 use Rattle.rt_undo.specs.declared.renames.Move.{Move}
-use Rattle.rt_undo.specs.Actions.{Action, Removed, group_of, is_replace, with_stamp, with_stamps}
-use Rattle.rt_undo.specs.Groups.{AreStill, IsStill, groups_of, numbers_of, numbers_of_groups}
+use Rattle.rt_undo.specs.Actions.{Action, Removed, group_of, is_replace, restamped, restamped_one}
+use Rattle.rt_undo.specs.Groups.{IsStill, NoneMoves, groups_of, numbers_of, numbers_of_groups}
 use Rattle.rt_undo.specs.Renames.{Shown, is_moved, now_of, renamed, value_of}
 use Rattle.rt_undo.specs.Undo.{History, as_group, asks_separator, but_last, renamed_span, differs_from, last, next_redo, next_undo, numbers, numbers_in, recorded, renamed_by, rest_after, separated, to_undo, undo_done, with_stamps_in, same_numbers}
 use Rattle.rt_undo.proofs.Following.{by_test, none_of, now_ends}
 
 -- TWICE
 
-stamps_twice : (g f : Stamp → Stamp) (a : Action ℕ) → with_stamps g (with_stamps f a) ≡ with_stamps (λ s. g (f s)) a
+stamps_twice : (g f : Stamp → Stamp) (a : Action ℕ) → restamped g (restamped f a) ≡ restamped (λ s. g (f s)) a
 stamps_twice g f a = λ i. record a {
   inserted = map-map g f a.inserted i;
-  removed = map-map (with_stamp {T = ℕ} g) (with_stamp {T = ℕ} f) a.removed i;
+  removed = map-map (restamped_one {T = ℕ} g) (restamped_one {T = ℕ} f) a.removed i;
 }
 
 group_twice : (g f : Stamp → Stamp) (group : List (Action ℕ)) → with_stamps_in g (with_stamps_in f group) ≡ with_stamps_in (λ s. g (f s)) group
@@ -62,18 +62,18 @@ stamps_still moves (s ∷ stamps) still =
     λ i. now_ends moves s (none_of (value_of moves s) still.0) i ∷ stamps_still moves stamps still.1 i
 
 removed_still : (moves : Shown Move) (removed : List (Removed ℕ)) → AllByRecursion (λ r. is_moved moves r.stamp ≡ false) removed
-    → map (with_stamp {T = ℕ} (now_of moves)) removed ≡ removed
+    → map (restamped_one {T = ℕ} (now_of moves)) removed ≡ removed
 removed_still moves [] still = refl
 removed_still moves (r ∷ removed) still =
     λ i. record r { stamp = now_ends moves r.stamp (none_of (value_of moves r.stamp) still.0) i } ∷ removed_still moves removed still.1 i
 
-pub action_still : (moves : Shown Move) (a : Action ℕ) → IsStill moves a → with_stamps (now_of moves) a ≡ a
+pub action_still : (moves : Shown Move) (a : Action ℕ) → IsStill moves a → restamped (now_of moves) a ≡ a
 action_still moves a still = λ i. record a {
   inserted = stamps_still moves a.inserted still.inserted i;
   removed = removed_still moves a.removed still.removed i;
 }
 
-pub group_still : (moves : Shown Move) (group : List (Action ℕ)) → AreStill moves group → with_stamps_in (now_of moves) group ≡ group
+pub group_still : (moves : Shown Move) (group : List (Action ℕ)) → NoneMoves moves group → with_stamps_in (now_of moves) group ≡ group
 group_still moves [] still = refl
 group_still moves (a ∷ group) still = λ i. action_still moves a still.0 i ∷ group_still moves group still.1 i
 
@@ -126,20 +126,20 @@ separated_renamed f h = λ i. record h {
   undone = map (with_stamps_in {T = ℕ} f) h.undone;
 }
 
-recorded_renamed : (f : Stamp → Stamp) (a : Action ℕ) (h : History ℕ) → with_stamps f a ≡ a → renamed_by f (recorded a h) ≡ recorded a (renamed_by f h)
+recorded_renamed : (f : Stamp → Stamp) (a : Action ℕ) (h : History ℕ) → restamped f a ≡ a → renamed_by f (recorded a h) ≡ recorded a (renamed_by f h)
 recorded_renamed f a h still = λ i. record h {
   closed = map (with_stamps_in {T = ℕ} f) h.closed;
-  current = (map-append (with_stamps {T = ℕ} f) h.current (a ∷ []) ∙ ap (λ x. with_stamps_in f h.current ++ x ∷ []) still) i;
+  current = (map-append (restamped {T = ℕ} f) h.current (a ∷ []) ∙ ap (λ x. with_stamps_in f h.current ++ x ∷ []) still) i;
   undone = [];
 }
 
-differs_renamed : (f : Stamp → Stamp) (kind : Kind) (o : Option (Action ℕ)) → differs_from kind (option_map (with_stamps {T = ℕ} f) o) ≡ differs_from kind o
+differs_renamed : (f : Stamp → Stamp) (kind : Kind) (o : Option (Action ℕ)) → differs_from kind (option_map (restamped {T = ℕ} f) o) ≡ differs_from kind o
 differs_renamed f kind None = refl
 differs_renamed f kind (Some a) = refl
 
 asks_renamed : (f : Stamp → Stamp) (kind : Kind) (h : History ℕ) → asks_separator kind (renamed_by f h) ≡ asks_separator kind h
 asks_renamed f kind h =
-    ap (λ o. is_replace kind || differs_from kind o) (last_map (with_stamps {T = ℕ} f) h.current)
+    ap (λ o. is_replace kind || differs_from kind o) (last_map (restamped {T = ℕ} f) h.current)
     ∙ ap (λ b. is_replace kind || b) (differs_renamed f kind (last h.current))
 
 begun_renamed : (f : Stamp → Stamp) (b : Bool) (h : History ℕ) → renamed_by f (if b then separated h else h) ≡ (if b then separated (renamed_by f h) else renamed_by f h)
@@ -150,7 +150,7 @@ begun_renamed f false h = refl
 abbrev pub recorded_with : Bool → Action ℕ → History ℕ → History ℕ
 recorded_with auto a h = recorded a (if auto && asks_separator a.kind h then separated h else h)
 
-pub recorded_with_renamed : (f : Stamp → Stamp) (auto : Bool) (a : Action ℕ) (h : History ℕ) → with_stamps f a ≡ a
+pub recorded_with_renamed : (f : Stamp → Stamp) (auto : Bool) (a : Action ℕ) (h : History ℕ) → restamped f a ≡ a
     → renamed_by f (recorded_with auto a h) ≡ recorded_with auto a (renamed_by f h)
 recorded_with_renamed f auto a h still =
     recorded_renamed f a (if auto && asks_separator a.kind h then separated h else h) still

@@ -32,14 +32,14 @@ is_replace Replace = true
 is_replace _ = false
 
 -- a removed character with another stamp in the place of its own
-abbrev pub with_stamp : {T : Type 0} → (Stamp → Stamp) → Removed T → Removed T
-with_stamp f r = record r { stamp = f r.stamp }
+abbrev pub restamped_one : {T : Type 0} → (Stamp → Stamp) → Removed T → Removed T
+restamped_one f r = record r { stamp = f r.stamp }
 
 -- an action with other stamps in the place of its own
-abbrev pub with_stamps : {T : Type 0} → (Stamp → Stamp) → Action T → Action T
-with_stamps {T} f action = record action {
+abbrev pub restamped : {T : Type 0} → (Stamp → Stamp) → Action T → Action T
+restamped {T} f action = record action {
   inserted = map f action.inserted;
-  removed = map {A = Removed T} {B = Removed T} (with_stamp f) action.removed;
+  removed = map {A = Removed T} {B = Removed T} (restamped_one f) action.removed;
 }
 
 -- removed characters with the same tags

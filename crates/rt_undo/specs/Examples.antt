@@ -3,7 +3,7 @@ use Rattle.std.specs.Prelude.{ℕ, ◌+◌, [], ◌∷◌, true}
 use Rattle.rt_stamps.specs.declared.stamp.Stamp.{Stamp}
 use Rattle.rt_undo.specs.declared.action.Kind.TheVariants.{Insert, Delete, Replace}
 use Rattle.rt_undo.specs.Actions.{Action}
-use Rattle.rt_undo.specs.Undo.{History, added, no_history, separated, undo_done, unmodified, with_most}
+use Rattle.rt_undo.specs.Undo.{History, no_history, separated, undo_done, unmodified, with_action, with_most}
 
 -- a stamp of site 1
 abbrev pub at : ℕ → Stamp
@@ -31,15 +31,15 @@ at_first = no_history
 
 -- two characters are typed in one go
 abbrev pub two_typed : History ℕ
-two_typed = added true (typed 2) (added true (typed 1) no_history)
+two_typed = with_action true (typed 2) (with_action true (typed 1) no_history)
 
 -- a character is typed and removed
 abbrev pub typed_and_cut : History ℕ
-typed_and_cut = added true (cut 2 1) (added true (typed 1) no_history)
+typed_and_cut = with_action true (cut 2 1) (with_action true (typed 1) no_history)
 
 -- a character is typed, the text said to be unmodified, and the character undone
 abbrev pub undone_after : History ℕ
-undone_after = undo_done (untyped 1 1 ∷ []) (unmodified (added true (typed 1) no_history))
+undone_after = undo_done (untyped 1 1 ∷ []) (unmodified (with_action true (typed 1) no_history))
 
 -- a character is typed and removed, and both are undone
 abbrev pub both_undone : History ℕ
@@ -47,7 +47,7 @@ both_undone = undo_done (untyped 1 3 ∷ []) (undo_done (typed 3 ∷ []) typed_a
 
 -- at most one group may be: a character is typed and removed
 abbrev pub one_at_most : History ℕ
-one_at_most = added true (cut 2 1) (added true (typed 1) (with_most 1 no_history))
+one_at_most = with_action true (cut 2 1) (with_action true (typed 1) (with_most 1 no_history))
 
 -- a character is typed and removed, the text said to be unmodified, and then at most one group may be
 abbrev pub lowered : History ℕ
@@ -56,4 +56,5 @@ lowered = with_most 1 (unmodified typed_and_cut)
 -- three characters are typed with separators between them, the text said to be unmodified, and the last one undone
 abbrev pub last_undone : History ℕ
 last_undone =
-    undo_done (untyped 3 3 ∷ []) (unmodified (added true (typed 3) (separated (added true (typed 2) (separated (added true (typed 1) no_history))))))
+    undo_done (untyped 3 3 ∷ [])
+    (unmodified (with_action true (typed 3) (separated (with_action true (typed 2) (separated (with_action true (typed 1) no_history))))))

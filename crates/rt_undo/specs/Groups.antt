@@ -14,8 +14,8 @@ pub record IsStill (moves : Shown Move) (action : Action ℕ) : Type 0 where
   pub removed : AllByRecursion (λ r. is_moved moves r.stamp ≡ false) action.removed
 
 -- no action of a group does
-abbrev pub AreStill : Shown Move → List (Action ℕ) → Type 0
-AreStill moves group = AllByRecursion (IsStill moves) group
+abbrev pub NoneMoves : Shown Move → List (Action ℕ) → Type 0
+NoneMoves moves group = AllByRecursion (IsStill moves) group
 
 -- groups as they are kept
 abbrev pub groups_of : List (Vec KeptAction Global) → List (List (Action ℕ))

@@ -35,5 +35,5 @@ pub record LeadsOn (m : Move) (s : Stamp) : Type 0 where
   pub later : s.count < (target m s).count
   pub bounded : (target m s).count ≤ GREATEST_COUNT
 
-abbrev pub AreRising : Shown Move → Type 0
-AreRising moves = (s : Stamp) (m : Move) → value_of moves s ≡ Some m → LeadsOn m s
+abbrev pub AllLeadOn : Shown Move → Type 0
+AllLeadOn moves = (s : Stamp) (m : Move) → value_of moves s ≡ Some m → LeadsOn m s

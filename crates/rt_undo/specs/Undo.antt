@@ -4,7 +4,7 @@ use Rattle.std.specs.List.{flat_map}
 use Rattle.rt_stamps.specs.declared.stamp.Stamp.{Stamp}
 use Rattle.rt_stamps.specs.declared.stamp.Span.{Span}
 use Rattle.rt_undo.specs.declared.action.Kind.{Kind}
-use Rattle.rt_undo.specs.Actions.{Action, with_stamps, same_kind, is_replace}
+use Rattle.rt_undo.specs.Actions.{Action, restamped, same_kind, is_replace}
 use Rattle.rt_undo.specs.Renames.{renamed, replaced}
 
 -- The actions between two separators are undone and redone as one: a group, oldest action first. A separator closes the group that
@@ -92,8 +92,8 @@ abbrev pub recorded : {T : Type 0} → Action T → History T → History T
 recorded action h = record h { current = h.current ++ action ∷ []; undone = [] }
 
 -- an action is recorded, with automatic separators or without, and with at most as many groups as may be
-abbrev pub added : {T : Type 0} → Bool → Action T → History T → History T
-added auto action h = limited (recorded action (if auto && asks_separator action.kind h then separated h else h))
+abbrev pub with_action : {T : Type 0} → Bool → Action T → History T → History T
+with_action auto action h = limited (recorded action (if auto && asks_separator action.kind h then separated h else h))
 
 -- UNDO AND REDO
 
@@ -142,7 +142,7 @@ emptied h = record h { closed = []; current = []; undone = []; kept = []; forced
 
 -- other stamps in the place of those of every action
 abbrev pub with_stamps_in : {T : Type 0} → (Stamp → Stamp) → List (Action T) → List (Action T)
-with_stamps_in f group = map (with_stamps f) group
+with_stamps_in f group = map (restamped f) group
 
 abbrev pub renamed_by : {T : Type 0} → (Stamp → Stamp) → History T → History T
 renamed_by f h = record h {

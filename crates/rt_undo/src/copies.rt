@@ -1,8 +1,8 @@
 // Copies of actions, with the stamps that their characters have now.
 ghost use Rattle.std.specs.Prelude.{◌≡◌, [], ◌∷◌, ◌++◌, ◌&&◌, map, IsOkUnless, IfOk, OnErr, OnOk};
 ghost use Rattle.rt_ops.specs.Operations.{stamps_in, stamps_of_span};
-ghost use Rattle.rt_undo.specs.Actions.{action_of, group_of, removed_in, removed_with, with_stamp, with_stamps};
-ghost use Rattle.rt_undo.specs.Groups.{AreStill};
+ghost use Rattle.rt_undo.specs.Actions.{action_of, group_of, removed_in, removed_with, restamped, restamped_one};
+ghost use Rattle.rt_undo.specs.Groups.{NoneMoves};
 ghost use Rattle.rt_undo.specs.Renames.{now_of};
 ghost use Rattle.rt_undo.specs.Undo.{with_stamps_in};
 ghost use Rattle.rt_undo.specs.Copies.{is_next};
@@ -93,7 +93,7 @@ fn removed_now(
     renames: &Renames,
     removed: &[RemovedSpan],
 ) -> Result<Vec<RemovedSpan>, Fault>
-    ensures ok { IfOk result (λ copy. removed_in copy.items ≡ map (with_stamp (now_of renames.now)) (removed_in removed.now)) }
+    ensures ok { IfOk result (λ copy. removed_in copy.items ≡ map (restamped_one (now_of renames.now)) (removed_in removed.now)) }
     ensures fault { IsOkUnless result Fault.NoMemory }
 {
     let mut copy = Vec::new(alloc);
@@ -108,7 +108,7 @@ fn removed_now(
 impl Action {
     /// The action by the stamps that its characters have now. Want of memory.
     pub fn renamed(&self, alloc: Global, renames: &Renames) -> Result<Action, Fault>
-        ensures ok { IfOk result (λ copy. action_of copy ≡ with_stamps (now_of renames.now) (action_of self.now)) }
+        ensures ok { IfOk result (λ copy. action_of copy ≡ restamped (now_of renames.now) (action_of self.now)) }
         ensures fault { IsOkUnless result Fault.NoMemory }
     {
         Ok(Action {
@@ -123,7 +123,7 @@ impl Action {
 /// A group, by the stamps that its characters have now, none of which is moved. Want of memory.
 pub fn group_now(alloc: Global, renames: &Renames, group: &[Action]) -> Result<Vec<Action>, Fault>
     ensures ok { IfOk result (λ copy. group_of copy.items ≡ with_stamps_in (now_of renames.now) (group_of group.now)) }
-    ensures still { IfOk result (λ copy. AreStill renames.now (group_of copy.items)) }
+    ensures still { IfOk result (λ copy. NoneMoves renames.now (group_of copy.items)) }
     ensures fault { IsOkUnless result Fault.NoMemory }
 {
     renames.ends();

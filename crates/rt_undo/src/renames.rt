@@ -44,11 +44,11 @@ impl Model for Renames {
 
     ghost Value = { Shown Move };
 
-    ghost use Rattle.rt_undo.specs.Renames.{AreRising};
+    ghost use Rattle.rt_undo.specs.Renames.{AllLeadOn};
 
     ghost view = { λ r. r.map };
 
-    ghost invariant = { λ r. AreRising r.map };
+    ghost invariant = { λ r. AllLeadOn r.map };
 }
 
 impl Renames {

@@ -3,7 +3,7 @@ ghost use Rattle.std.specs.Prelude.{◌≡◌, ◌↔◌, ℕ, ◌+◌, ◌-◌,
 ghost use Rattle.rt_stamps.specs.declared.stamp.Stamp.{Stamp};
 ghost use Rattle.rt_undo.specs.Actions.{action_of, group_of};
 ghost use Rattle.rt_undo.specs.Renames.{is_in_span, is_moved, is_same, renamed};
-ghost use Rattle.rt_undo.specs.Undo.{added, renamed_span, emptied, forced_on, is_modified, limited, next_redo, next_undo, no_history, redo_done, replaced_in, separated, undo_done, unmodified, with_most};
+ghost use Rattle.rt_undo.specs.Undo.{with_action, renamed_span, emptied, forced_on, is_modified, limited, next_redo, next_undo, no_history, redo_done, replaced_in, separated, undo_done, unmodified, with_most};
 
 use crate::action::Action;
 use crate::copies::group_now;
@@ -78,7 +78,7 @@ impl Model for Stacks {
 }
 
 impl Stacks {
-    ghost use Rattle.rt_undo.specs.Groups.{AreStill, IsStill};
+    ghost use Rattle.rt_undo.specs.Groups.{IsStill, NoneMoves};
 
     /// No actions. It takes no memory.
     pub fn new(alloc: Global) -> Stacks
@@ -125,7 +125,7 @@ impl Stacks {
     pub fn add(&mut self, action: Action, auto_separators: bool)
         requires ready { self.old.ready ≡ true }
         requires still { IsStill self.old.moves (action_of action) }
-        ensures history { self.new.history ≡ added auto_separators (action_of action) self.old.history }
+        ensures history { self.new.history ≡ with_action auto_separators (action_of action) self.old.history }
         ensures moves { self.new.moves ≡ self.old.moves }
         ensures used { self.new.ready ≡ false }
     {
@@ -196,7 +196,7 @@ impl Stacks {
     /// `NothingToUndo` just where there is none, and else only `NoMemory`.
     pub fn undo(&self) -> Result<Vec<Action>, Fault>
         ensures ok { IfOk result (λ group. next_undo self.now.history ≡ Some (group_of group.items)) }
-        ensures still { IfOk result (λ group. AreStill self.now.moves (group_of group.items)) }
+        ensures still { IfOk result (λ group. NoneMoves self.now.moves (group_of group.items)) }
         ensures none { (result ≡ Err Fault.NothingToUndo) ↔ (next_undo self.now.history ≡ None) }
         ensures fault { IfErr result (λ fault. (fault ≡ Fault.NothingToUndo) ⊎ (fault ≡ Fault.NoMemory)) }
     {
@@ -210,7 +210,7 @@ impl Stacks {
     /// stamp that is moved. `NothingToRedo` just where there is none, and else only `NoMemory`.
     pub fn redo(&self) -> Result<Vec<Action>, Fault>
         ensures ok { IfOk result (λ group. next_redo self.now.history ≡ Some (group_of group.items)) }
-        ensures still { IfOk result (λ group. AreStill self.now.moves (group_of group.items)) }
+        ensures still { IfOk result (λ group. NoneMoves self.now.moves (group_of group.items)) }
         ensures none { (result ≡ Err Fault.NothingToRedo) ↔ (next_redo self.now.history ≡ None) }
         ensures fault { IfErr result (λ fault. (fault ≡ Fault.NothingToRedo) ⊎ (fault ≡ Fault.NoMemory)) }
     {
@@ -225,7 +225,7 @@ impl Stacks {
     pub fn undone(&mut self, reverted: Vec<Action>)
         requires ready { self.old.ready ≡ true }
         requires some { is_some (next_undo self.old.history) ≡ true }
-        requires still { AreStill self.old.moves (group_of reverted.items) }
+        requires still { NoneMoves self.old.moves (group_of reverted.items) }
         ensures history { self.new.history ≡ undo_done (group_of reverted.items) self.old.history }
         ensures moves { self.new.moves ≡ self.old.moves }
         ensures used { self.new.ready ≡ false }
@@ -241,7 +241,7 @@ impl Stacks {
     pub fn redone(&mut self, reverted: Vec<Action>)
         requires ready { self.old.ready ≡ true }
         requires some { is_some (next_redo self.old.history) ≡ true }
-        requires still { AreStill self.old.moves (group_of reverted.items) }
+        requires still { NoneMoves self.old.moves (group_of reverted.items) }
         ensures history { self.new.history ≡ redo_done (group_of reverted.items) self.old.history }
         ensures moves { self.new.moves ≡ self.old.moves }
         ensures used { self.new.ready ≡ false }

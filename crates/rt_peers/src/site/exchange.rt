@@ -1,6 +1,8 @@
 // Operations of other sites, and those of the site itself for them.
 ghost use Rattle.std.specs.Prelude.{◌≡◌, ℕ, ◌<◌, ◌≤◌, IfOk, IsOkUnless, None, OnOk, length, reverse};
+ghost use Rattle.std.specs.BTreeMap.{get};
 ghost use Rattle.std.specs.List.{AllByRecursion};
+ghost use Rattle.std.specs.Ordering.{nat_cmp};
 ghost use Rattle.rt_stamps.specs.declared.limits.TheConstants.{MOST_BYTES};
 ghost use Rattle.rt_ops.specs.File.{spelling};
 ghost use Rattle.rt_ops.specs.Reading.{Reads, offsets_of};
@@ -90,10 +92,11 @@ impl SiteState {
         export(self.alloc, self.log())
     }
 
-    /// The last count that the site knows of each site of which it has operations; it knows all of that site up to
-    /// there. Want of memory.
+    /// The last count that the site knows of each site of which it has operations, and of no other; it knows all of
+    /// that site up to there. Want of memory.
     pub fn ends(&self) -> Result<BTreeMap<u32, u64>, Fault>
         ensures ok { IfOk result (λ ends. (site : ℕ) → known_in ends site ≡ known_end self.now.text.view.doc.log site) }
+        ensures only { IfOk result (λ ends. (site : ℕ) → known_end self.now.text.view.doc.log site ≡ 0 → get nat_cmp ends site ≡ None) }
         ensures err { IsOkUnless result Fault.NoMemory }
     {
         ends_of(self.alloc, self.log())

@@ -7,7 +7,7 @@ ghost use Rattle.rt_store.specs.Cells.{final_cell};
 ghost use Rattle.rt_tags.specs.States.{KeepsIds};
 ghost use Rattle.rt_undo.specs.Actions.{group_of};
 ghost use Rattle.rt_revert.specs.Reverting.{reversion, reverted_group};
-ghost use Rattle.rt_revert.specs.ReversionLaws.{AreSound};
+ghost use Rattle.rt_revert.specs.ReversionLaws.{AllMayRevert};
 ghost use Rattle.rt_text.specs.Reversions.{reversion_check, view_reverted};
 ghost use Rattle.rt_recording.specs.Naming.{AreGiven, named_group};
 ghost use Rattle.rt_recording.specs.Recordings.{HaveStayed, came_back};
@@ -33,7 +33,7 @@ impl Recorder {
     ) -> Result<Reverted, Fault>
         requires empty { C.list copy ≡ final_cell ∷ [] }
         requires given { AreGiven self.old.table (group_of group.now) }
-        requires sound { AreSound (named_group self.old.table (group_of group.now)) }
+        requires sound { AllMayRevert (named_group self.old.table (group_of group.now)) }
         requires stay { HaveStayed (came_back self.old) (named_group self.old.table (group_of group.now)) }
         requires gone { (stamp : Stamp) → came_back self.old stamp ≡ true → is_gone view.old.doc.cells stamp ≡ true }
         ensures view { OnOk result (view.new ≡ view_reverted view.old (named_group self.old.table (group_of group.now))) }
@@ -44,7 +44,7 @@ impl Recorder {
         ensures actions { IfOk result (λ r. named_group self.new.table (group_of r.actions.items)
             ≡ reverted_group view.old.doc (named_group self.old.table (group_of group.now))) }
         ensures given { IfOk result (λ r. AreGiven self.new.table (group_of r.actions.items)) }
-        ensures sound { IfOk result (λ r. AreSound (named_group self.new.table (group_of r.actions.items))) }
+        ensures sound { IfOk result (λ r. AllMayRevert (named_group self.new.table (group_of r.actions.items))) }
         ensures stay { IfOk result (λ r. HaveStayed (back_after r.returns.items (came_back self.new))
             (named_group self.new.table (group_of r.actions.items))) }
         ensures gone { IfOk result (λ r. (stamp : Stamp) → back_after r.returns.items (came_back self.new) stamp ≡ true

@@ -7,7 +7,7 @@ ghost use Rattle.rt_text.specs.Replacements.{PlansReplacement, loss_at};
 ghost use Rattle.rt_text.specs.Widgets.{IsOwnOf, WidgetValue, ViewValue};
 ghost use Rattle.rt_plans.specs.DeletionLaws.{IsPiece};
 ghost use Rattle.rt_plans.specs.Deletions.{without_text};
-ghost use Rattle.rt_plans.specs.Removals.{AreInOrder, is_covered};
+ghost use Rattle.rt_plans.specs.Removals.{RangesFollow, is_covered};
 ghost use Rattle.rt_text.specs.Editing.{IsEdit, edit_check};
 ghost use Rattle.rt_text.specs.Owned.{own_of, view_of};
 ghost use Rattle.std.specs.List.{AllByRecursion};
@@ -67,7 +67,7 @@ impl<S: TextStore> Doc<S> {
             → PlansReplacement (record { doc = self.now; own = own_of widget.now; others = others }) range pieces.now rest.now r) }
         ensures removed { let view : ViewValue = record { doc = self.now; own = own_of widget.now; others = [] } in
             IfOk result (λ r. (place : ℕ) → is_covered r.removed.items place ≡ (loss_at view range).places place) }
-        ensures order { IfOk result (λ r. AreInOrder 0 r.removed.items) }
+        ensures order { IfOk result (λ r. RangesFollow 0 r.removed.items) }
         ensures held { let view : ViewValue = record { doc = self.now; own = own_of widget.now; others = [] } in
             IfOk result (λ r. r.held ≡ is_some (loss_at view range).newline) }
         ensures alone { IfOk result (λ r. r.held ≡ true → r.plan.between ≡ None) }

@@ -7,7 +7,7 @@ ghost use Rattle.rt_tags.specs.States.{KeepsIds};
 ghost use Rattle.rt_undo.specs.Actions.{group_of};
 ghost use Rattle.rt_revert.specs.Plans.{AreGiven, named_group};
 ghost use Rattle.rt_revert.specs.Reverting.{reversion, reverted, reverted_group};
-ghost use Rattle.rt_revert.specs.ReversionLaws.{AreSound};
+ghost use Rattle.rt_revert.specs.ReversionLaws.{AllMayRevert};
 ghost use Rattle.rt_text.specs.Reversions.{own_reverted, reversion_check};
 ghost use Rattle.rt_text.specs.Widgets.{IsOwnOf};
 
@@ -34,7 +34,7 @@ impl<S: TextStore> Doc<S> {
     ) -> Result<Reverted, Fault>
         requires empty { C.list copy ≡ final_cell ∷ [] }
         requires given { AreGiven kept.old (group_of group.now) }
-        requires sound { AreSound (named_group kept.old (group_of group.now)) }
+        requires sound { AllMayRevert (named_group kept.old (group_of group.now)) }
         requires own { IsOwnOf (length (text_of self.old.cells)) (own_of widget.old) }
         requires others { AllByRecursion (IsOwnOf (length (text_of self.old.cells))) (map own_of others.old) }
         ensures doc { OnOk result (self.new ≡ reverted self.old (named_group kept.old (group_of group.now))) }
@@ -46,7 +46,7 @@ impl<S: TextStore> Doc<S> {
         ensures actions { IfOk result (λ r. named_group kept.new (group_of r.actions.items)
             ≡ reverted_group self.old (named_group kept.old (group_of group.now))) }
         ensures given { IfOk result (λ r. AreGiven kept.new (group_of r.actions.items)) }
-        ensures sound { IfOk result (λ r. AreSound (named_group kept.new (group_of r.actions.items))) }
+        ensures sound { IfOk result (λ r. AllMayRevert (named_group kept.new (group_of r.actions.items))) }
         ensures ids { KeepsIds kept.old kept.new }
         ensures err { IfErr result (λ fault. (fault ≡ Fault.NoMemory)
             ⊎ (reversion_check self.old (named_group kept.old (group_of group.now)) ≡ Some fault)) }

@@ -5,9 +5,9 @@ ghost use Rattle.rt_marks.specs.Marks.{IsName};
 ghost use Rattle.rt_stamps.specs.declared.limits.TheConstants.{GREATEST_COUNT, MOST_SPANS};
 ghost use Rattle.rt_stamps.specs.Words.{as_words};
 ghost use Rattle.rt_store.specs.Cells.{AreDistinct, text_of, visible_of};
-ghost use Rattle.rt_plans.specs.Removals.{is_covered, AreInOrder};
+ghost use Rattle.rt_plans.specs.Removals.{is_covered, RangesFollow};
 ghost use Rattle.rt_text.specs.Owned.{own_of};
-ghost use Rattle.rt_text.specs.Widgets.{is_tagged, is_tagged_in, tags_shown};
+ghost use Rattle.rt_text.specs.Widgets.{is_tagged_in, shows_tag, tags_shown};
 ghost use Rattle.rt_store.specs.Tagged.{next_place, previous_place};
 ghost use Rattle.rt_tags.specs.States.{IsState};
 ghost use Rattle.rt_tags.specs.Tags.{is_listed, is_place, lowered, raised, sel};
@@ -71,7 +71,7 @@ impl<S: TextStore> Doc<S> {
     /// The least place from one up whose character has a tag on the widget; none if there is none. It
     /// takes no memory.
     pub(crate) fn next_tagged(&self, widget: &Widget, name: &str, place: usize) -> Option<usize>
-        ensures { result ≡ next_place (is_tagged (own_of widget.now) name.now) (shown_part self.now.cells widget.now.limits) place }
+        ensures { result ≡ next_place (shows_tag (own_of widget.now) name.now) (shown_part self.now.cells widget.now.limits) place }
     {
         let (store, states) = self.kept();
         let stretch = widget.limits().stretch(store);
@@ -82,7 +82,7 @@ impl<S: TextStore> Doc<S> {
     /// The least place from one up whose character hasn't a tag on the widget; none if there is none.
     /// It takes no memory.
     pub(crate) fn next_untagged(&self, widget: &Widget, name: &str, place: usize) -> Option<usize>
-        ensures { result ≡ next_place (λ cell. not (is_tagged (own_of widget.now) name.now cell)) (shown_part self.now.cells widget.now.limits) place }
+        ensures { result ≡ next_place (λ cell. not (shows_tag (own_of widget.now) name.now cell)) (shown_part self.now.cells widget.now.limits) place }
     {
         let (store, states) = self.kept();
         let stretch = widget.limits().stretch(store);
@@ -93,7 +93,7 @@ impl<S: TextStore> Doc<S> {
     /// The greatest place below one whose character has a tag on the widget; none if there is none. It
     /// takes no memory.
     pub(crate) fn previous_tagged(&self, widget: &Widget, name: &str, place: usize) -> Option<usize>
-        ensures { result ≡ previous_place (is_tagged (own_of widget.now) name.now) (shown_part self.now.cells widget.now.limits) place }
+        ensures { result ≡ previous_place (shows_tag (own_of widget.now) name.now) (shown_part self.now.cells widget.now.limits) place }
     {
         let (store, states) = self.kept();
         let stretch = widget.limits().stretch(store);
@@ -126,7 +126,7 @@ impl<S: TextStore> Doc<S> {
     ) -> Result<(), Fault>
         requires name { IsName name.now }
         requires shared { bytes_eq name.now sel ≡ false }
-        requires order { AreInOrder 0 ranges.now }
+        requires order { RangesFollow 0 ranges.now }
         requires within { All (λ range. range.to ≤ length (visible_of self.old.cells)) ranges.now }
         ensures ok { OnOk result (self.new ≡ logged self.old (tag_drafts_at MOST_SPANS (is_covered ranges.now) on name.now self.old.cells)
             (listed_if on name.now (with_tag_at self.old (is_covered ranges.now) on name.now))) }

@@ -5,7 +5,7 @@ ghost use Rattle.rt_tags.specs.States.{KeepsIds};
 ghost use Rattle.rt_undo.specs.Actions.{group_of};
 ghost use Rattle.rt_revert.specs.Plans.{AreGiven, named_group};
 ghost use Rattle.rt_revert.specs.Reverting.{reversion, reverted_group};
-ghost use Rattle.rt_revert.specs.ReversionLaws.{AreSound};
+ghost use Rattle.rt_revert.specs.ReversionLaws.{AllMayRevert};
 ghost use Rattle.rt_text.specs.Reversions.{reversion_check, view_reverted};
 
 use super::View;
@@ -33,14 +33,14 @@ impl<S: TextStore> View<S> {
     ) -> Result<Reverted, Fault>
         requires empty { C.list copy ≡ final_cell ∷ [] }
         requires given { AreGiven kept.old (group_of group.now) }
-        requires sound { AreSound (named_group kept.old (group_of group.now)) }
+        requires sound { AllMayRevert (named_group kept.old (group_of group.now)) }
         ensures ok { OnOk result (self.new ≡ view_reverted self.old (named_group kept.old (group_of group.now))) }
         ensures checked { OnOk result (reversion_check self.old.doc (named_group kept.old (group_of group.now)) ≡ None) }
         ensures returns { IfOk result (λ r. r.returns.items ≡ (reversion self.old.doc (named_group kept.old (group_of group.now))).returns) }
         ensures actions { IfOk result (λ r. named_group kept.new (group_of r.actions.items)
             ≡ reverted_group self.old.doc (named_group kept.old (group_of group.now))) }
         ensures given { IfOk result (λ r. AreGiven kept.new (group_of r.actions.items)) }
-        ensures sound { IfOk result (λ r. AreSound (named_group kept.new (group_of r.actions.items))) }
+        ensures sound { IfOk result (λ r. AllMayRevert (named_group kept.new (group_of r.actions.items))) }
         ensures ids { KeepsIds kept.old kept.new }
         ensures err { IfErr result (λ fault. (fault ≡ Fault.NoMemory)
             ⊎ (reversion_check self.old.doc (named_group kept.old (group_of group.now)) ≡ Some fault)) }

@@ -3,7 +3,7 @@ ghost use Rattle.std.specs.Prelude.{◌≡◌, ◌⊎◌, if◌then◌else◌, �
 ghost use Rattle.rt_stamps.specs.Words.{as_words};
 ghost use Rattle.rt_tags.specs.Tags.{IsName, is_listed, is_place, lowered, raised};
 ghost use Rattle.rt_text.specs.Commands.{clock_check, with_tag_in, with_tags_deleted};
-ghost use Rattle.rt_text.specs.Widgets.{is_tagged, cells_shown, tags_shown, with_tags};
+ghost use Rattle.rt_text.specs.Widgets.{shows_tag, cells_shown, tags_shown, with_tags};
 
 use super::View;
 use rt_plans::Range;

@@ -2,7 +2,7 @@
 ghost use Rattle.std.specs.Prelude.{◌≡◌, ◌<◌, Some, IfOk, IsOkUnless, length, not, option_map, slice_get};
 ghost use Rattle.rt_stamps.specs.Words.{as_words};
 ghost use Rattle.rt_store.specs.Tagged.{next_place, previous_place};
-ghost use Rattle.rt_text.specs.Widgets.{is_tagged, cells_shown, tags_shown};
+ghost use Rattle.rt_text.specs.Widgets.{shows_tag, cells_shown, tags_shown};
 
 use super::ViewRef;
 use rt_stamps::Fault;
@@ -12,7 +12,7 @@ impl<'a, S: TextStore> ViewRef<'a, S> {
     /// The least place from one up whose character has a tag; none if there is none. Places are those of what the
     /// widget shows, from 0. It takes no memory.
     pub fn next_tagged(&self, name: &str, place: usize) -> Option<usize>
-        ensures { result ≡ next_place (is_tagged self.now.own name.now) (cells_shown self.now) place }
+        ensures { result ≡ next_place (shows_tag self.now.own name.now) (cells_shown self.now) place }
     {
         self.doc.next_tagged(self.widget, name, place)
     }
@@ -20,7 +20,7 @@ impl<'a, S: TextStore> ViewRef<'a, S> {
     /// The least place from one up whose character hasn't a tag; none if there is none. Places are those of what the
     /// widget shows, from 0. It takes no memory.
     pub fn next_untagged(&self, name: &str, place: usize) -> Option<usize>
-        ensures { result ≡ next_place (λ cell. not (is_tagged self.now.own name.now cell)) (cells_shown self.now) place }
+        ensures { result ≡ next_place (λ cell. not (shows_tag self.now.own name.now cell)) (cells_shown self.now) place }
     {
         self.doc.next_untagged(self.widget, name, place)
     }
@@ -28,7 +28,7 @@ impl<'a, S: TextStore> ViewRef<'a, S> {
     /// The greatest place below one whose character has a tag; none if there is none. Places are those of what the
     /// widget shows, from 0. It takes no memory.
     pub fn previous_tagged(&self, name: &str, place: usize) -> Option<usize>
-        ensures { result ≡ previous_place (is_tagged self.now.own name.now) (cells_shown self.now) place }
+        ensures { result ≡ previous_place (shows_tag self.now.own name.now) (cells_shown self.now) place }
     {
         self.doc.previous_tagged(self.widget, name, place)
     }

@@ -1,6 +1,6 @@
 use Rattle.std.proofs.Common.{◌≡◌, None, Some, refl, subst}
 use Rattle.rt_ops.specs.Operations.{Operation}
-use Rattle.rt_holding.specs.Kept.{IsAt}
+use Rattle.rt_holding.specs.Kept.{IsHeldAt}
 use Rattle.rt_holding.proofs.Standing.{updated}
 use Rattle.rt_holding.proofs.Places.{was_there}
 use Rattle.rt_holding.proofs.trying.take_out.Goals as goal
@@ -26,7 +26,7 @@ pub returns-clause-there : goal.returns-clause-there
 returns-clause-there c =
     let is = was_there c.insert-was.result c.args.ops.now c.args.place c.requires.0 c.requires.1 c.insert-was.ensures.old c.insert-was.ensures.absent in
     let same : c.requires.0 ≡ c.unwrap-3.result = cc in
-    subst (λ (op : Operation). IsAt c.args.place op c.args.ops.now.entries) same c.requires.1
+    subst (λ (op : Operation). IsHeldAt c.args.place op c.args.ops.now.entries) same c.requires.1
 
 pub returns-clause-others : goal.returns-clause-others
 returns-clause-others c =

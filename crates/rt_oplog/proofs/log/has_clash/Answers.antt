@@ -17,7 +17,7 @@ returns-then-prev-get c =
     let op = c.args.op.now in
     let set = newest_first c.args.ops.now c.args.order.now.items in
     let known = c.requires.kept.known op.site in
-    let past : known_end set op.site ≤ op.prev = omega (arith, known, ap (end_in c.args.ends.now.ends.items) c.site.ensures, c.get.ensures, c.if-prev-get.true, c.prev.ensures) in
+    let past : known_end set op.site ≤ op.prev = omega (arith, known, ap (end_in c.args.ends.now) c.site.ensures, c.get.ensures, c.if-prev-get.true, c.prev.ensures) in
     sym (none_from (clash op) set (free_past set op c.requires.sound past))
 
 pub returns-in-None : goal.returns-in-None
@@ -25,7 +25,7 @@ returns-in-None c =
     let op = c.args.op.now in
     let ops = c.args.ops.now in
     let order = c.args.order.now.items in
-    let ends = c.args.ends.now.ends.items in
+    let ends = c.args.ends.now in
     let at = leading (is_earlier ops (stamp_of op)) order in
     let find = rw c.stamp.ensures at c.find.ensures in
     let told : slice_get order at ≡ None = cc (find, c.in-None.is) in

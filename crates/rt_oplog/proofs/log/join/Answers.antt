@@ -23,7 +23,7 @@ pub returns : goal.returns
 returns c =
     let merged = rw (c.deref_mut.ensures.value, c.deref.ensures.value, c.in_ok-flat.ensures, c.deref-2.ensures.value, c.in_ok-flat-2.ensures) at c.in_ok-places.ensures in
     let kept = rw (c.deref-3.ensures.value, c.deref-4.ensures.value) at c.in_ok-ends.ensures in
-    rw (← c.one.view_is, ← c.other.view_is, c.in_ok-order.ensures, c.deref-5.ensures.value) (joined_merged c.merge.new.ops.items _ _ c.in_ok-places.places.items c.in_ok-ends.ends.ends.items merged kept c.one.invariant.log c.other.invariant.log)
+    rw (← c.one.view_is, ← c.other.view_is, c.in_ok-order.ensures, c.deref-5.ensures.value) (joined_merged c.merge.new.ops.items _ _ c.in_ok-places.places.items c.in_ok-ends.ends merged kept c.one.invariant.log c.other.invariant.log)
 
 pub returns-in_err-flat : goal.returns-in_err-flat
 returns-in_err-flat c =

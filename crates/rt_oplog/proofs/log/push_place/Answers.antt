@@ -23,9 +23,9 @@ returns c =
     let new : holds set op ≡ false = sym c.is_held.ensures ∙ c.if-is_held.false in
     let free : list_any (clash op) set ≡ false = sym c.has_clash.ensures ∙ c.if-has_clash.false in
     let put : c.insert.new.self.items ≡ insert order (leading (is_earlier ops (stamp_of op)) order) place = rw (c.in_ok-reserve.ensures.same, c.stamp.ensures) at c.insert.ensures.items in
-    let known : (s : ℕ) → end_in c.raise.new.self.ends.items s ≡ known_end (op ∷ set) s = λ s. c.raise.ensures.ends s ∙ rw (c.site.ensures, c.last_count.ensures, c.in_ok-reserve-2.ensures.same, c.requires.kept.known s) refl in
+    let known : (s : ℕ) → end_in c.raise.new.self s ≡ known_end (op ∷ set) s = λ s. c.raise.ensures.ends s ∙ rw (c.site.ensures, c.last_count.ensures, c.in_ok-reserve-2.ensures.same s, c.requires.kept.known s) refl in
     let wrap : List Operation → Result (List Operation) Fault = λ log. Ok log in (
-      rw put (kept_at ops order c.args.ends.now.ends.items c.raise.new.self.ends.items op place c.requires.kept (sym read) c.requires.place sound new free known),
+      rw put (kept_at ops order c.args.ends.now c.raise.new.self op place c.requires.kept (sym read) c.requires.place sound new free known),
       ap (λ y. pushed y set) (sym read) ∙ push_new op set sound new free ∙ ap wrap (sym (inserted ops op place order (sym read) c.requires.kept.log.falling)) ∙ ap (λ o. wrap (newest_first ops o)) (sym put),
     )
 

@@ -10,7 +10,7 @@ use Rattle.rt_oplog.proofs.Merges.{within_at, kept_step, clash_step, kept_none}
 use Rattle.rt_oplog.proofs.merge.ends_of.Goals as goal
 
 pub loop-place-init : goal.loop-place-init
-loop-place-init c = kept_none c.args.ops.now c.new-ends.result.ends.items c.new-ends.ensures
+loop-place-init c = kept_none c.args.ops.now c.new-ends.result c.new-ends.ensures
 
 pub returns-then-prev-get : goal.returns-then-prev-get
 returns-then-prev-get c =
@@ -19,9 +19,9 @@ returns-then-prev-get c =
     let i = c.loop-place.place-index in
     let fits = within_at (length ops) i order c.loop-place-test.true c.requires.within in
     let read = get_or_read ops (get_or order i 0) c.index-ops-place.result fits c.index-ops-place.is nothing in
-    let below : c.index-ops-place.result.prev < end_in c.loop-place.ends.ends.items c.index-ops-place.result.site =
-    omega (arith, c.prev.ensures, c.get.ensures, c.if-prev-get.true, ap (end_in c.loop-place.ends.ends.items) c.site.ensures) in
-    inr (refl, clash_step ops order i c.loop-place.ends.ends.items c.index-ops-place.result c.loop-place-test.true read c.requires.falling c.loop-place.invariant below)
+    let below : c.index-ops-place.result.prev < end_in c.loop-place.ends c.index-ops-place.result.site =
+    omega (arith, c.prev.ensures, c.get.ensures, c.if-prev-get.true, ap (end_in c.loop-place.ends) c.site.ensures) in
+    inr (refl, clash_step ops order i c.loop-place.ends c.index-ops-place.result c.loop-place-test.true read c.requires.falling c.loop-place.invariant below)
 
 pub last_count-requires : goal.last_count-requires
 last_count-requires c =
@@ -39,15 +39,15 @@ loop-place-preserved c =
     let order = c.args.order.now in
     let i = c.loop-place.place-index in
     let op = c.index-ops-place.result in
-    let ends = c.loop-place.ends.ends.items in
+    let ends = c.loop-place.ends in
     let fits = within_at (length ops) i order c.loop-place-test.true c.requires.within in
     let read = get_or_read ops (get_or order i 0) op fits c.index-ops-place.is nothing in
     let past : end_in ends op.site ≤ op.prev = omega (arith, c.prev.ensures, c.get.ensures, c.if-prev-get.false, ap (end_in ends) c.site.ensures) in
-    let raised : (s : ℕ) → end_in c.raise.new.self.ends.items s ≡ cond (op.site == s) (max (last_count op) (end_in ends s)) (end_in ends s) = λ s. c.raise.ensures.ends s ∙ rw (c.site-in-loop-place.ensures, c.last_count.ensures, c.in_ok-reserve.ensures.same) refl in
-    kept_step ops order i ends c.raise.new.self.ends.items op c.loop-place-test.true read c.requires.within c.requires.falling c.requires.sound c.loop-place.invariant past raised
+    let raised : (s : ℕ) → end_in c.raise.new.self s ≡ cond (op.site == s) (max (last_count op) (end_in ends s)) (end_in ends s) = λ s. c.raise.ensures.ends s ∙ rw (c.site-in-loop-place.ensures, c.last_count.ensures, c.in_ok-reserve.ensures.same s) refl in
+    kept_step ops order i ends c.raise.new.self op c.loop-place-test.true read c.requires.within c.requires.falling c.requires.sound c.loop-place.invariant past raised
 
 pub returns : goal.returns
-returns c = subst (λ xs. IsKept c.args.ops.now xs c.loop-place.ends.ends.items) (take_all _ _ (omega arith)) c.loop-place.invariant
+returns c = subst (λ xs. IsKept c.args.ops.now xs c.loop-place.ends) (take_all _ _ (omega arith)) c.loop-place.invariant
 
 pub returns-in_err-reserve : goal.returns-in_err-reserve
 returns-in_err-reserve c =

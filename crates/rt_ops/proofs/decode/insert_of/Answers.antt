@@ -1,10 +1,11 @@
-use Rattle.std.proofs.Common.{inr, refl, ◌∙◌, ap, ◌++◌, arith, length, ◌≡◌, ◌≤◌, string_bytes, Global, map}
+use Rattle.std.proofs.Common.{inr, refl, ◌∙◌, ap, ◌++◌, arith, length, ◌≡◌, ◌≤◌, string_bytes, Global}
 use Rattle.std.proofs.lemmas.List.{length-map}
 use Rattle.std.proofs.lemmas.Result.{err_from_is_err_and}
 use Rattle.rt_stamps.specs.Words.{as_words}
 use Rattle.rt_ops.specs.Operations.{Insert}
 use Rattle.rt_ops.specs.Versions.{layout}
 use Rattle.rt_ops.specs.File.{stamp_bytes, tags_bytes}
+use Rattle.rt_ops.proofs.Rooms.{insert_fits}
 use Rattle.rt_ops.proofs.Parts.{refused_as, decided, no_insert, no_tags_of, no_text_of, too_many_tags}
 use Rattle.rt_ops.proofs.decode.insert_of.Goals as goal
 
@@ -43,5 +44,5 @@ returns c =
     let names = as_words c.in_ok-tags.tags.items in
     let size : length names ≡ length c.in_ok-tags.tags.items = length-map c.in_ok-tags.tags.items (string_bytes {Z = Global}) in
     let few : length names ≤ (layout c.args.version).most_tags = omega (arith, size, c.if-len-most_tags.false, c.most_tags.ensures, c.len.ensures, c.in_ok-tags.tags.ok.0) in
-    rw c.insert.ensures (decided c.args.version 1 c.args.stamp c.args.prev (Insert c.in-Some.found.0 names c.in_ok-text.text.items) c.args.bytes.now refl (after.fits, few) (after.fits, tags.0)
+    rw c.insert.ensures (decided c.args.version 1 c.args.stamp c.args.prev (Insert c.in-Some.found.0 names c.in_ok-text.text.items) c.args.bytes.now refl (insert_fits c.args.version c.in-Some.found.0 names c.in_ok-text.text.items after.fits few) (after.fits, tags.0)
     (after.bytes ∙ ap (λ v. stamp_bytes c.args.version c.in-Some.found.0 ++ v) (tags.1 ∙ ap (λ v. tags_bytes names ++ v) text.1)))

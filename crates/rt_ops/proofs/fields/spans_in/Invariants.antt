@@ -2,7 +2,8 @@ use Rattle.std.proofs.Common.{◌≡◌, ◌+◌, ◌*◌, ◌++◌, length}
 use Rattle.std.specs.List.{flat_map, AllByRecursion}
 use Rattle.std.specs.Int.{byte_len}
 use Rattle.rt_ops.specs.Versions.{layout}
-use Rattle.rt_ops.specs.File.{span_bytes, SpanFits}
+use Rattle.rt_ops.specs.File.{span_bytes}
+use Rattle.rt_ops.specs.Decoding.{SpanFits}
 use Rattle.rt_ops.proofs.fields.spans_in.Given as goal
 
 abbrev pub invariant-loop : goal.invariant-loop

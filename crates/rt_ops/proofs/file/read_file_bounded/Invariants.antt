@@ -1,7 +1,7 @@
 use Rattle.std.proofs.Common.{◌≡◌}
 use Rattle.rt_ops.specs.File.{file_of, AreInFile}
 use Rattle.rt_ops.specs.Intake.{GaveSome, Takes}
-use Rattle.rt_ops.specs.Reading.{offsets_from, last_stamp}
+use Rattle.rt_ops.specs.Reading.{offsets_from, stamp_of_last}
 use Rattle.rt_ops.proofs.file.read_file_bounded.Given as goal
 
 abbrev pub invariant-records : goal.invariant-records
@@ -11,7 +11,7 @@ invariant-records g l = record {
   gave : GaveSome g.R.Source.stream l.fn.reader l.reader;
   are : AreInFile l.version l.ops.items;
   offsets : l.offsets.items ≡ offsets_from l.version 8 l.ops.items;
-  last : l.last ≡ last_stamp l.ops.items;
+  last : l.last ≡ stamp_of_last l.ops.items;
 }
 
 abbrev pub decreases-records : goal.decreases-records

@@ -1,4 +1,4 @@
-use Rattle.std.proofs.Common.{sym, arith}
+use Rattle.std.proofs.Common.{arith}
 use Rattle.std.proofs.lemmas.Result.{err_from_is_err_and}
 use Rattle.rt_ops.proofs.Taken.{head_not_gathered}
 use Rattle.rt_ops.proofs.Readings.{got_head, gave_head, unseen_head}

@@ -2,7 +2,6 @@ use Rattle.std.proofs.Common.{◌≤◌, ◌<◌, length, sym, ◌∙◌, arith}
 use Rattle.std.proofs.lemmas.Result.{err_from_is_err_and}
 use Rattle.std.specs.Int.{w32}
 use Rattle.rt_ops.specs.File.{number}
-use Rattle.rt_ops.proofs.Lengths.{fewest_bytes}
 use Rattle.rt_ops.proofs.Taken.{not_gathered, short_content, cut_content, refused_content, got_content}
 use Rattle.rt_ops.proofs.Unseen.{gave_then, unseen_then}
 use Rattle.rt_ops.proofs.intake.next_op.Goals as goal
@@ -49,6 +48,6 @@ pub returns-clause-gave : goal.returns-clause-gave
 returns-clause-gave g c =
     let n = c.in-Some.length in
     let field = rw c.in-Some.is at c.in_ok-length.ensures.gets in
-    let some : 0 < n = omega (arith, field.1, fewest_bytes c.args.version) in
+    let some : 0 < n = omega (arith, field.1) in
     let all : n ≤ length c.gather.new.buffer.items = omega (arith, c.if-len-length.false, c.len.ensures, c.gather.new.buffer.ok.0) in
     gave_then g.R.Source.stream _ _ _ (number w32 n) field.0.consumed (c.in_ok-gather.ensures.gave some all)

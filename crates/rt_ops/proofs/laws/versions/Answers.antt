@@ -1,4 +1,4 @@
-use Rattle.rt_ops.proofs.Rooms.{chosen, record_first, record_more, record_room}
+use Rattle.rt_ops.proofs.Rooms.{chosen, record_first, record_more}
 use Rattle.rt_ops.proofs.Unique.{spelled_is_read}
 use Rattle.rt_ops.proofs.laws.versions.Goals as goal
 
@@ -9,7 +9,7 @@ pub returns-clause-first : goal.returns-clause-first
 returns-clause-first c = record_first
 
 pub returns-clause-only : goal.returns-clause-only
-returns-clause-only c = record_room
+returns-clause-only c = λ op has. has.room
 
 pub returns-clause-chosen : goal.returns-clause-chosen
 returns-clause-chosen c = chosen

@@ -1,6 +1,7 @@
 use Rattle.std.proofs.Common.{refl}
 use Rattle.std.proofs.lemmas.Result.{err_from_is_err_and}
 use Rattle.rt_ops.proofs.Lengths.{names_fit}
+use Rattle.rt_ops.proofs.Rooms.{deletion_fits, tagging_fits}
 use Rattle.rt_ops.proofs.spell.push_body.Goals as goal
 
 pub push_tags-requires-clause-names : goal.push_tags-requires-clause-names
@@ -25,3 +26,13 @@ pub returns-in_err-push_name-in-Tag : goal.returns-in_err-push_name-in-Tag
 returns-in_err-push_name-in-Tag c =
     let (y, is, gives) = err_from_is_err_and c.from_residual-in_err-push_name-in-Tag.result c.from_residual-in_err-push_name-in-Tag.ensures.1 in
     rw (is, gives) (record { ok = tt; fits = tt; fault = c.in_err-push_name-in-Tag.ensures.fault })
+
+pub returns-in-Delete-clause-fits : goal.returns-in-Delete-clause-fits
+returns-in-Delete-clause-fits c =
+    let written = rw c.deref-in-Delete.ensures.value at c.push_spans.ensures.fits in
+    rw c.in-Delete.is (deletion_fits c.args.version c.in-Delete.spans.items c.push_spans.result written)
+
+pub returns-in_ok-push_name-in-Tag-clause-fits : goal.returns-in_ok-push_name-in-Tag-clause-fits
+returns-in_ok-push_name-in-Tag-clause-fits c =
+    let written = rw c.deref-in-Tag-2.ensures.value at c.push_spans-in-Tag.ensures.fits in
+    rw c.in-Tag.is (tagging_fits c.args.version c.in-Tag.on _ c.in-Tag.spans.items c.push_spans-in-Tag.result written)

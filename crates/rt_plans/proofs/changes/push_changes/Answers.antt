@@ -7,12 +7,12 @@ use Rattle.rt_ops.specs.Operations.{Tag}
 use Rattle.rt_store.specs.Cells.{visible_of}
 use Rattle.rt_plans.specs.declared.range.Range.{Range}
 use Rattle.rt_plans.specs.NamedSpans.{parts_of, spans_in}
-use Rattle.rt_plans.specs.Removals.{AreInOrder, is_covered, stamps_at}
+use Rattle.rt_plans.specs.Removals.{RangesFollow, is_covered, stamps_at}
 use Rattle.rt_plans.proofs.ChangedPlaces.{changed_within, stamps_changed}
 use Rattle.rt_plans.proofs.changes.push_changes.Goals as goal
 
 pub spans_in-requires-clause-order : goal.spans_in-requires-clause-order
-spans_in-requires-clause-order g c = subst (AreInOrder 0) (sym c.deref.ensures.value) c.in_ok-changed.ensures.order
+spans_in-requires-clause-order g c = subst (RangesFollow 0) (sym c.deref.ensures.value) c.in_ok-changed.ensures.order
 
 pub spans_in-requires-clause-within : goal.spans_in-requires-clause-within
 spans_in-requires-clause-within g c =

@@ -2,7 +2,7 @@ use Rattle.std.proofs.Common.{◌≡◌, ◌∙◌, ◌≤◌, ◌++◌, ◌&&�
 use Rattle.rt_store.specs.Cells.{visible_of}
 use Rattle.rt_store.specs.Tagged.{tag_is}
 use Rattle.rt_plans.specs.declared.range.Range.{Range}
-use Rattle.rt_plans.specs.Removals.{AreInOrder, is_covered, is_in}
+use Rattle.rt_plans.specs.Removals.{RangesFollow, is_covered, is_in}
 use Rattle.rt_plans.specs.TagWrites.{passes_at}
 use Rattle.rt_plans.proofs.PassingPlaces.{ends_later, ends_put, order_put, places_so_far}
 use Rattle.rt_plans.proofs.changes.push_with.Goals as goal
@@ -20,7 +20,7 @@ loop-next-preserved g c =
     record {
       within = w.2;
       to = known.to;
-      order = subst (AreInOrder 0) (sym items) (order_put done next 0 known.order (ends_later done rest.from next.from known.ends w.0) (omega arith) w.1);
+      order = subst (RangesFollow 0) (sym items) (order_put done next 0 known.order (ends_later done rest.from next.from known.ends w.0) (omega arith) w.1);
       ends = subst (All (λ (range : Range). range.to ≤ next.to)) (sym items) (ends_put done next rest.from known.ends later);
       places = λ place.
           ap (λ (l : List Range). is_covered l place || (is_in (record rest { from = next.to }) place && passes place)) items

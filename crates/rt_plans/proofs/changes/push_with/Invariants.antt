@@ -1,7 +1,7 @@
 use Rattle.std.proofs.Common.{◌≡◌, ◌-◌, ◌≤◌, ◌&&◌, ◌||◌, ℕ, All}
 use Rattle.rt_store.specs.Cells.{visible_of}
 use Rattle.rt_store.specs.Tagged.{tag_is}
-use Rattle.rt_plans.specs.Removals.{AreInOrder, is_covered, is_in}
+use Rattle.rt_plans.specs.Removals.{RangesFollow, is_covered, is_in}
 use Rattle.rt_plans.specs.TagWrites.{passes_at}
 use Rattle.rt_plans.proofs.changes.push_with.Given as goal
 
@@ -9,7 +9,7 @@ abbrev pub invariant-loop-next : goal.invariant-loop-next
 invariant-loop-next g l = record {
   within : l.rest.from ≤ l.rest.to;
   to : l.rest.to ≡ l.fn.range.to;
-  order : AreInOrder 0 l.found.items;
+  order : RangesFollow 0 l.found.items;
   ends : All (λ range. range.to ≤ l.rest.from) l.found.items;
   places : (place : ℕ)
       → (is_covered l.found.items place || (is_in l.rest place && passes_at (tag_is l.states l.tag l.on) (visible_of (g.S.TextStore.list l.store)) place))

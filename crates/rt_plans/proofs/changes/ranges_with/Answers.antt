@@ -3,7 +3,7 @@ use Rattle.std.proofs.lemmas.List.{drop_all, drop_more}
 use Rattle.rt_store.specs.Cells.{visible_of}
 use Rattle.rt_store.specs.Tagged.{tag_is}
 use Rattle.rt_plans.specs.declared.range.Range.{Range}
-use Rattle.rt_plans.specs.Removals.{AreInOrder, is_covered, is_in}
+use Rattle.rt_plans.specs.Removals.{RangesFollow, is_covered, is_in}
 use Rattle.rt_plans.specs.TagWrites.{passes_at}
 use Rattle.rt_plans.proofs.PassingPlaces.{ends_later, range_so_far}
 use Rattle.rt_plans.proofs.changes.ranges_with.Goals as goal
@@ -14,7 +14,7 @@ push_with-requires-clause-range g c =
     let i = c.loop-range.range-index in
     let d : Range = record { from = 0; to = 0 } in
     let ahead = c.loop-range.invariant.ahead in
-    let next : AreInOrder ahead.0 (get_or ranges i d ∷ drop (i + 1) ranges) = subst (AreInOrder ahead.0) (drop_more ranges i d c.loop-range-test.true) ahead.2 in
+    let next : RangesFollow ahead.0 (get_or ranges i d ∷ drop (i + 1) ranges) = subst (RangesFollow ahead.0) (drop_more ranges i d c.loop-range-test.true) ahead.2 in
     omega (arith, next.1)
 
 pub push_with-requires-clause-ends : goal.push_with-requires-clause-ends
@@ -23,7 +23,7 @@ push_with-requires-clause-ends g c =
     let i = c.loop-range.range-index in
     let d : Range = record { from = 0; to = 0 } in
     let ahead = c.loop-range.invariant.ahead in
-    let next : AreInOrder ahead.0 (get_or ranges i d ∷ drop (i + 1) ranges) = subst (AreInOrder ahead.0) (drop_more ranges i d c.loop-range-test.true) ahead.2 in
+    let next : RangesFollow ahead.0 (get_or ranges i d ∷ drop (i + 1) ranges) = subst (RangesFollow ahead.0) (drop_more ranges i d c.loop-range-test.true) ahead.2 in
     ends_later c.loop-range.found.items ahead.0 (get_or ranges i d).from ahead.1 next.0
 
 pub loop-range-preserved : goal.loop-range-preserved
@@ -37,7 +37,7 @@ loop-range-preserved g c =
     let done = c.loop-range.found.items in
     let known = c.loop-range.invariant in
     let is : drop i ranges ≡ range ∷ left = drop_more ranges i d c.loop-range-test.true in
-    let next : AreInOrder known.ahead.0 (range ∷ left) = subst (AreInOrder known.ahead.0) is known.ahead.2 in
+    let next : RangesFollow known.ahead.0 (range ∷ left) = subst (RangesFollow known.ahead.0) is known.ahead.2 in
     record {
       order = c.in_ok-push_with.ensures.order;
       ahead = (range.to, c.in_ok-push_with.ensures.ends, next.2);

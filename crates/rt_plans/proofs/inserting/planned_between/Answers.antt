@@ -8,7 +8,7 @@ use Rattle.rt_store.specs.Shown.{shown}
 use Rattle.rt_plans.specs.declared.inserting.Plan.{Plan}
 use Rattle.rt_plans.specs.InsertionDrafts.{behind, text_drafts}
 use Rattle.rt_plans.specs.InsertionPlans.{Plans}
-use Rattle.rt_plans.specs.Insertions.{Insertion, insertion_of, last_of, tags_between, with_pieces, with_unlisted}
+use Rattle.rt_plans.specs.Insertions.{Insertion, insertion_of, on_left, tags_between, with_pieces, with_unlisted}
 use Rattle.rt_plans.specs.Selected.{selected_stamps}
 use Rattle.rt_plans.proofs.PlanLaws.{spent, unlisted_count}
 use Rattle.rt_plans.proofs.RestLaws.{pieces_others}
@@ -29,7 +29,7 @@ returns-in_err-between-clause-err c =
     (λ k sel others tags same.
     let start : Insertion = record { cells = []; count = c.args.author.count; sel = sel; others = others; tags = tags } in
     let so_far = with_pieces site c.args.pieces.now start in
-    let left = last_of (option_map (shown t) c.args.gap.now.left) so_far.cells in
+    let left = on_left (option_map (shown t) c.args.gap.now.left) so_far.cells in
     subst (λ (n : ℕ). GREATEST_COUNT < n) (sym (unlisted_count site left (option_map (shown t) c.args.gap.now.right) (chars c.args.rest.now) so_far))
     (k c.args.gap.now.after sel tags so_far same (c.in-Ok.ensures.so_far sel others tags)))
     c.in_err-between.ensures.err)
@@ -44,7 +44,7 @@ returns-clause-drafts c = λ sel others tags same.
     let left = option_map (shown t) c.args.gap.now.left in
     let right = option_map (shown t) c.args.gap.now.right in
     c.in_ok-between.ensures.drafts after sel tags so_far same (c.in-Ok.ensures.so_far sel others tags)
-    ∙ ap (λ l. l ++ text_drafts MOST_CHARACTERS site so_far.count (behind after so_far.cells) (tags_between (last_of left so_far.cells) right) (chars c.args.rest.now))
+    ∙ ap (λ l. l ++ text_drafts MOST_CHARACTERS site so_far.count (behind after so_far.cells) (tags_between (on_left left so_far.cells) right) (chars c.args.rest.now))
     (c.in-Ok.ensures.drafts sel others tags)
 
 pub returns-clause-plans : goal.returns-clause-plans
@@ -55,7 +55,7 @@ returns-clause-plans c = λ sel others tags same.
     let so_far = with_pieces site c.args.pieces.now start in
     let new = c.add_unlisted.new.self in
     let plan : Plan = record { drafts = new.texts.drafts; characters = new.characters; selected = new.selected; names = new.names; between = c.in_ok-between.between } in
-    let all = with_unlisted site (last_of (option_map (shown t) c.args.gap.now.left) so_far.cells) (option_map (shown t) c.args.gap.now.right) (chars c.args.rest.now) so_far in
+    let all = with_unlisted site (on_left (option_map (shown t) c.args.gap.now.left) so_far.cells) (option_map (shown t) c.args.gap.now.right) (chars c.args.rest.now) so_far in
     subst (λ o. Plans plan sel o tags all) (pieces_others site c.args.pieces.now start)
     (c.in_ok-between.ensures.plans plan c.args.gap.now.after sel tags so_far same (c.in-Ok.ensures.so_far sel others tags) c.requires.after
     (record { characters = refl; selected = refl; names = refl; others = refl }))

@@ -1,5 +1,5 @@
 use Rattle.std.proofs.Common.{◌≡◌, ◌∙◌, ap, subst, sym, arith, refl}
-use Rattle.rt_plans.specs.Merging.{AreApart}
+use Rattle.rt_plans.specs.Merging.{AreSpaced}
 use Rattle.rt_plans.specs.Removals.{is_covered}
 use Rattle.rt_plans.proofs.MergingLaws.{merged_from, merged_done, merged_covers, merged_stand_apart}
 use Rattle.std.proofs.lemmas.Result.{err_from_is_err_and}
@@ -15,7 +15,7 @@ pub returns-clause-apart : goal.returns-clause-apart
 returns-clause-apart c =
     let all : c.push-2.new.self.items ≡ merged_from c.args.first c.args.rest.now =
     c.in_ok-push-2.ensures.items ∙ merged_done c.loop-range.current c.args.rest.now c.loop-range.merged.items (merged_from c.args.first c.args.rest.now) c.loop-range.range-index c.loop-range-test.false c.loop-range.invariant in
-    subst (AreApart 0) (sym all) (merged_stand_apart 0 c.args.first c.args.rest.now (omega arith) c.requires.some c.requires.rising)
+    subst (AreSpaced 0) (sym all) (merged_stand_apart 0 c.args.first c.args.rest.now (omega arith) c.requires.some c.requires.rising)
 
 pub returns-in_err-push : goal.returns-in_err-push
 returns-in_err-push c =

@@ -4,7 +4,7 @@ use Rattle.std.proofs.lemmas.Bool.{and_parts}
 use Rattle.rt_plans.specs.declared.range.Range.{Range}
 use Rattle.rt_plans.specs.Deletions.{places_from}
 use Rattle.rt_plans.specs.Merging.{range_from}
-use Rattle.rt_plans.specs.Removals.{AreInOrder, is_covered}
+use Rattle.rt_plans.specs.Removals.{RangesFollow, is_covered}
 use Rattle.rt_plans.proofs.StampLaws.{order_weaker}
 use Rattle.rt_plans.proofs.StretchLaws.{moved_covered, moved_fit, moved_in_order, moved_up_to}
 use Rattle.rt_plans.proofs.WithinLaws.{all_within, apart_in_order, less_from}
@@ -15,7 +15,7 @@ moved_on-requires c =
     let stretch = c.args.stretch in
     let n = stretch.end - stretch.begin in
     let merged = c.in_ok-merged.merged.items in
-    let order : AreInOrder 0 merged = apart_in_order 0 merged c.in_ok-merged.ensures.apart in
+    let order : RangesFollow 0 merged = apart_in_order 0 merged c.in_ok-merged.ensures.apart in
     let covered : (place : ℕ) → is_covered merged place ≡ (nat_lt place n && is_covered c.args.ranges.now place) =
     λ place. c.in_ok-merged.ensures.covered place ∙ ap (λ ranges. is_covered ranges place) c.deref.ensures.value ∙ c.in_ok-sorted.ensures.covered place in
     let within : All (λ (range : Range). range.to ≤ n) merged =
@@ -26,7 +26,7 @@ pub returns-clause-order : goal.returns-clause-order
 returns-clause-order c =
     let begin = c.args.stretch.begin in
     let merged = c.in_ok-merged.merged.items in
-    subst (AreInOrder 0) (sym c.moved_on.ensures)
+    subst (RangesFollow 0) (sym c.moved_on.ensures)
     (order_weaker (begin + 0) 0 (map (range_from begin) merged) (omega arith) (moved_in_order begin 0 merged (apart_in_order 0 merged c.in_ok-merged.ensures.apart)))
 
 pub returns-clause-within : goal.returns-clause-within
@@ -34,7 +34,7 @@ returns-clause-within c =
     let stretch = c.args.stretch in
     let n = stretch.end - stretch.begin in
     let merged = c.in_ok-merged.merged.items in
-    let order : AreInOrder 0 merged = apart_in_order 0 merged c.in_ok-merged.ensures.apart in
+    let order : RangesFollow 0 merged = apart_in_order 0 merged c.in_ok-merged.ensures.apart in
     let covered : (place : ℕ) → is_covered merged place ≡ (nat_lt place n && is_covered c.args.ranges.now place) =
     λ place. c.in_ok-merged.ensures.covered place ∙ ap (λ ranges. is_covered ranges place) c.deref.ensures.value ∙ c.in_ok-sorted.ensures.covered place in
     let within : All (λ (range : Range). range.to ≤ n) merged =

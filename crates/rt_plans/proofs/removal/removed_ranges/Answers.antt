@@ -6,7 +6,7 @@ use Rattle.rt_lines.proofs.Parts.{part_length}
 use Rattle.rt_plans.specs.declared.range.Range.{Range}
 use Rattle.rt_plans.specs.Deletions.{places_from}
 use Rattle.rt_plans.specs.Merging.{range_from}
-use Rattle.rt_plans.specs.Removals.{AreInOrder, is_covered}
+use Rattle.rt_plans.specs.Removals.{RangesFollow, is_covered}
 use Rattle.rt_plans.proofs.SparingLaws.{removed_same}
 use Rattle.rt_plans.proofs.StampLaws.{order_weaker}
 use Rattle.rt_plans.proofs.StretchLaws.{all_weaker, moved_before, moved_covered, moved_fit, moved_in_order}
@@ -28,7 +28,7 @@ returns-clause-places g c =
 pub returns-clause-ok : goal.returns-clause-ok
 returns-clause-ok g c =
     let begin = c.args.stretch.begin in
-    subst (AreInOrder 0) (sym c.moved_on.ensures)
+    subst (RangesFollow 0) (sym c.moved_on.ensures)
     (order_weaker (begin + 0) 0 (map (range_from begin) c.sparing.result.items) (omega arith) (moved_in_order begin 0 c.sparing.result.items c.sparing.ensures.order))
 
 pub moved_on-requires : goal.moved_on-requires

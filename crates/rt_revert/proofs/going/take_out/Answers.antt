@@ -6,7 +6,7 @@ use Rattle.rt_ops.specs.Operations.{stamps_in}
 use Rattle.rt_store.specs.Spans.{gone_in_any, is_in_spans}
 use Rattle.rt_plans.proofs.PlanLaws.{spent}
 use Rattle.rt_plans.specs.declared.range.Range.{Range}
-use Rattle.rt_plans.specs.Removals.{AreInOrder, is_covered, stamps_at}
+use Rattle.rt_plans.specs.Removals.{RangesFollow, is_covered, stamps_at}
 use Rattle.rt_revert.specs.Portions.{whole_ranges}
 use Rattle.rt_revert.specs.Progress.{spans_of}
 use Rattle.rt_revert.proofs.Went.{Took, lost_count, spared, took_copy, took_going, took_so_far, took_still}
@@ -30,7 +30,7 @@ returns-clause-copy g c =
       drafts = c.in_ok-losses.ensures.drafts;
       places = c.in_ok-losses.ensures.places;
       covered = λ place. c.in_ok-whole.ensures.covered place ∙ ap (λ l. is_covered (whole_ranges before.offsets old (stamps_at (is_covered l) 0 old)) place) c.deref.ensures.value;
-      order = subst (λ (l : List Range). AreInOrder 0 (whole_ranges before.offsets old (stamps_at (is_covered l) 0 old)) → AreInOrder 0 whole.items) c.deref.ensures.value c.in_ok-whole.ensures.order;
+      order = subst (λ (l : List Range). RangesFollow 0 (whole_ranges before.offsets old (stamps_at (is_covered l) 0 old)) → RangesFollow 0 whole.items) c.deref.ensures.value c.in_ok-whole.ensures.order;
       new_drafts = c.in_ok-lose.ensures.drafts;
       count = c.in_ok-lose.ensures.count;
       most = c.in_ok-lose.ensures.within;
@@ -56,7 +56,7 @@ returns-clause-going g c =
       drafts = c.in_ok-losses.ensures.drafts;
       places = c.in_ok-losses.ensures.places;
       covered = λ place. c.in_ok-whole.ensures.covered place ∙ ap (λ l. is_covered (whole_ranges before.offsets old (stamps_at (is_covered l) 0 old)) place) c.deref.ensures.value;
-      order = subst (λ (l : List Range). AreInOrder 0 (whole_ranges before.offsets old (stamps_at (is_covered l) 0 old)) → AreInOrder 0 whole.items) c.deref.ensures.value c.in_ok-whole.ensures.order;
+      order = subst (λ (l : List Range). RangesFollow 0 (whole_ranges before.offsets old (stamps_at (is_covered l) 0 old)) → RangesFollow 0 whole.items) c.deref.ensures.value c.in_ok-whole.ensures.order;
       new_drafts = c.in_ok-lose.ensures.drafts;
       count = c.in_ok-lose.ensures.count;
       most = c.in_ok-lose.ensures.within;
@@ -82,7 +82,7 @@ returns-clause-so_far g c =
       drafts = c.in_ok-losses.ensures.drafts;
       places = c.in_ok-losses.ensures.places;
       covered = λ place. c.in_ok-whole.ensures.covered place ∙ ap (λ l. is_covered (whole_ranges before.offsets old (stamps_at (is_covered l) 0 old)) place) c.deref.ensures.value;
-      order = subst (λ (l : List Range). AreInOrder 0 (whole_ranges before.offsets old (stamps_at (is_covered l) 0 old)) → AreInOrder 0 whole.items) c.deref.ensures.value c.in_ok-whole.ensures.order;
+      order = subst (λ (l : List Range). RangesFollow 0 (whole_ranges before.offsets old (stamps_at (is_covered l) 0 old)) → RangesFollow 0 whole.items) c.deref.ensures.value c.in_ok-whole.ensures.order;
       new_drafts = c.in_ok-lose.ensures.drafts;
       count = c.in_ok-lose.ensures.count;
       most = c.in_ok-lose.ensures.within;

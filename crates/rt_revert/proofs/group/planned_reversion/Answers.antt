@@ -11,8 +11,8 @@ use Rattle.rt_plans.specs.DocValue.{DocValue, new_doc}
 use Rattle.rt_plans.specs.Insertions.{all_listed}
 use Rattle.rt_plans.proofs.PlanLaws.{spent}
 use Rattle.rt_undo.specs.Actions.{Action, group_of}
-use Rattle.rt_revert.specs.Named.{AreAt, is_named}
-use Rattle.rt_revert.specs.Plans.{IsChange, IsOf, marks_after, named_group}
+use Rattle.rt_revert.specs.Named.{AreAt, is_in_group}
+use Rattle.rt_revert.specs.Plans.{IsOf, IsTextChange, marks_after, named_group}
 use Rattle.rt_revert.specs.Portions.{only}
 use Rattle.rt_revert.specs.Progress.{IsSoFar, LookAlike}
 use Rattle.rt_revert.specs.Reverting.{as_it_is, reversion}
@@ -24,14 +24,14 @@ fill-requires-clause-few g c =
     let store = g.S.TextStore.list c.args.store.now in
     let group = group_of c.args.group.now in
     (ready_cells c.kept_cells.new.kept c.args.states.now store group c.in_ok-cells.cells.items (g.met.S.TextStore.ends c.args.store.now)
-    (c.in_ok-cells.ensures.alike (only (is_named group) store) (subst (λ (l : List ℕ). AreAt store l (only (is_named group) store)) (sym c.deref.ensures.value) c.in_ok-positions.ensures.cells)) c.requires.few).0
+    (c.in_ok-cells.ensures.alike (only (is_in_group group) store) (subst (λ (l : List ℕ). AreAt store l (only (is_in_group group) store)) (sym c.deref.ensures.value) c.in_ok-positions.ensures.cells)) c.requires.few).0
 
 pub fill-requires-clause-ends : goal.fill-requires-clause-ends
 fill-requires-clause-ends g c =
     let store = g.S.TextStore.list c.args.store.now in
     let group = group_of c.args.group.now in
     (ready_cells c.kept_cells.new.kept c.args.states.now store group c.in_ok-cells.cells.items (g.met.S.TextStore.ends c.args.store.now)
-    (c.in_ok-cells.ensures.alike (only (is_named group) store) (subst (λ (l : List ℕ). AreAt store l (only (is_named group) store)) (sym c.deref.ensures.value) c.in_ok-positions.ensures.cells)) c.requires.few).1
+    (c.in_ok-cells.ensures.alike (only (is_in_group group) store) (subst (λ (l : List ℕ). AreAt store l (only (is_in_group group) store)) (sym c.deref.ensures.value) c.in_ok-positions.ensures.cells)) c.requires.few).1
 
 pub offsets_of-requires-clause-few : goal.offsets_of-requires-clause-few
 offsets_of-requires-clause-few g c =
@@ -41,7 +41,7 @@ offsets_of-requires-clause-few g c =
       arith,
       ap length c.in_ok-fill.ensures.list,
       (ready_cells c.kept_cells.new.kept c.args.states.now store group c.in_ok-cells.cells.items (g.met.S.TextStore.ends c.args.store.now)
-          (c.in_ok-cells.ensures.alike (only (is_named group) store) (subst (λ (l : List ℕ). AreAt store l (only (is_named group) store)) (sym c.deref.ensures.value) c.in_ok-positions.ensures.cells)) c.requires.few).0,
+          (c.in_ok-cells.ensures.alike (only (is_in_group group) store) (subst (λ (l : List ℕ). AreAt store l (only (is_in_group group) store)) (sym c.deref.ensures.value) c.in_ok-positions.ensures.cells)) c.requires.few).0,
     )
 
 pub offsets_of-requires-clause-older : goal.offsets_of-requires-clause-older
@@ -49,8 +49,8 @@ offsets_of-requires-clause-older g c =
     let store = g.S.TextStore.list c.args.store.now in
     let group = group_of c.args.group.now in
     older_named c.kept_cells.new.kept c.args.states.now (g.C.TextStore.list c.fill.new.copy) store c.args.author.count group
-    (subst (λ (l : List (Cell ℕ)). LookAlike (map (shown c.kept_cells.new.kept) l) (map (shown c.args.states.now) (only (is_named group) store))) (sym c.in_ok-fill.ensures.list)
-    (c.in_ok-cells.ensures.alike (only (is_named group) store) (subst (λ (l : List ℕ). AreAt store l (only (is_named group) store)) (sym c.deref.ensures.value) c.in_ok-positions.ensures.cells)))
+    (subst (λ (l : List (Cell ℕ)). LookAlike (map (shown c.kept_cells.new.kept) l) (map (shown c.args.states.now) (only (is_in_group group) store))) (sym c.in_ok-fill.ensures.list)
+    (c.in_ok-cells.ensures.alike (only (is_in_group group) store) (subst (λ (l : List ℕ). AreAt store l (only (is_in_group group) store)) (sym c.deref.ensures.value) c.in_ok-positions.ensures.cells)))
     c.requires.older c.requires.count
 
 pub revert_all-requires-clause-copy : goal.revert_all-requires-clause-copy
@@ -77,8 +77,8 @@ revert_all-requires-clause-copy g c =
         actions = c.new-plan.ensures.actions;
         offsets = c.new-plan.ensures.offsets;
       };
-      alike = subst (λ (l : List (Cell ℕ)). LookAlike (map (shown kept) l) (map (shown states) (only (is_named group) store))) (sym c.in_ok-fill.ensures.list)
-          (c.in_ok-cells.ensures.alike (only (is_named group) store) (subst (λ (l : List ℕ). AreAt store l (only (is_named group) store)) (sym c.deref.ensures.value) c.in_ok-positions.ensures.cells));
+      alike = subst (λ (l : List (Cell ℕ)). LookAlike (map (shown kept) l) (map (shown states) (only (is_in_group group) store))) (sym c.in_ok-fill.ensures.list)
+          (c.in_ok-cells.ensures.alike (only (is_in_group group) store) (subst (λ (l : List ℕ). AreAt store l (only (is_in_group group) store)) (sym c.deref.ensures.value) c.in_ok-positions.ensures.cells));
       given = subst (AreStates kept) (sym c.in_ok-fill.ensures.list) c.in_ok-cells.ensures.states;
       distinct = c.requires.distinct;
       few = c.requires.few;
@@ -113,8 +113,8 @@ revert_all-requires-clause-going g c =
         actions = c.new-plan.ensures.actions;
         offsets = c.new-plan.ensures.offsets;
       };
-      alike = subst (λ (l : List (Cell ℕ)). LookAlike (map (shown kept) l) (map (shown states) (only (is_named group) store))) (sym c.in_ok-fill.ensures.list)
-          (c.in_ok-cells.ensures.alike (only (is_named group) store) (subst (λ (l : List ℕ). AreAt store l (only (is_named group) store)) (sym c.deref.ensures.value) c.in_ok-positions.ensures.cells));
+      alike = subst (λ (l : List (Cell ℕ)). LookAlike (map (shown kept) l) (map (shown states) (only (is_in_group group) store))) (sym c.in_ok-fill.ensures.list)
+          (c.in_ok-cells.ensures.alike (only (is_in_group group) store) (subst (λ (l : List ℕ). AreAt store l (only (is_in_group group) store)) (sym c.deref.ensures.value) c.in_ok-positions.ensures.cells));
       given = subst (AreStates kept) (sym c.in_ok-fill.ensures.list) c.in_ok-cells.ensures.states;
       distinct = c.requires.distinct;
       few = c.requires.few;
@@ -156,8 +156,8 @@ returns-in_err-revert_all-clause-err g c =
         actions = c.new-plan.ensures.actions;
         offsets = c.new-plan.ensures.offsets;
       };
-      alike = subst (λ (l : List (Cell ℕ)). LookAlike (map (shown kept) l) (map (shown states) (only (is_named group) store))) (sym c.in_ok-fill.ensures.list)
-          (c.in_ok-cells.ensures.alike (only (is_named group) store) (subst (λ (l : List ℕ). AreAt store l (only (is_named group) store)) (sym c.deref.ensures.value) c.in_ok-positions.ensures.cells));
+      alike = subst (λ (l : List (Cell ℕ)). LookAlike (map (shown kept) l) (map (shown states) (only (is_in_group group) store))) (sym c.in_ok-fill.ensures.list)
+          (c.in_ok-cells.ensures.alike (only (is_in_group group) store) (subst (λ (l : List ℕ). AreAt store l (only (is_in_group group) store)) (sym c.deref.ensures.value) c.in_ok-positions.ensures.cells));
       given = subst (AreStates kept) (sym c.in_ok-fill.ensures.list) c.in_ok-cells.ensures.states;
       distinct = c.requires.distinct;
       few = c.requires.few;
@@ -196,8 +196,8 @@ returns-clause-plan g c flat of =
         actions = c.new-plan.ensures.actions;
         offsets = c.new-plan.ensures.offsets;
       };
-      alike = subst (λ (l : List (Cell ℕ)). LookAlike (map (shown kept) l) (map (shown states) (only (is_named group) store))) (sym c.in_ok-fill.ensures.list)
-          (c.in_ok-cells.ensures.alike (only (is_named group) store) (subst (λ (l : List ℕ). AreAt store l (only (is_named group) store)) (sym c.deref.ensures.value) c.in_ok-positions.ensures.cells));
+      alike = subst (λ (l : List (Cell ℕ)). LookAlike (map (shown kept) l) (map (shown states) (only (is_in_group group) store))) (sym c.in_ok-fill.ensures.list)
+          (c.in_ok-cells.ensures.alike (only (is_in_group group) store) (subst (λ (l : List ℕ). AreAt store l (only (is_in_group group) store)) (sym c.deref.ensures.value) c.in_ok-positions.ensures.cells));
       given = subst (AreStates kept) (sym c.in_ok-fill.ensures.list) c.in_ok-cells.ensures.states;
       distinct = c.requires.distinct;
       few = c.requires.few;
@@ -245,8 +245,8 @@ returns-clause-fits g c flat of =
         actions = c.new-plan.ensures.actions;
         offsets = c.new-plan.ensures.offsets;
       };
-      alike = subst (λ (l : List (Cell ℕ)). LookAlike (map (shown kept) l) (map (shown states) (only (is_named group) store))) (sym c.in_ok-fill.ensures.list)
-          (c.in_ok-cells.ensures.alike (only (is_named group) store) (subst (λ (l : List ℕ). AreAt store l (only (is_named group) store)) (sym c.deref.ensures.value) c.in_ok-positions.ensures.cells));
+      alike = subst (λ (l : List (Cell ℕ)). LookAlike (map (shown kept) l) (map (shown states) (only (is_in_group group) store))) (sym c.in_ok-fill.ensures.list)
+          (c.in_ok-cells.ensures.alike (only (is_in_group group) store) (subst (λ (l : List ℕ). AreAt store l (only (is_in_group group) store)) (sym c.deref.ensures.value) c.in_ok-positions.ensures.cells));
       given = subst (AreStates kept) (sym c.in_ok-fill.ensures.list) c.in_ok-cells.ensures.states;
       distinct = c.requires.distinct;
       few = c.requires.few;
@@ -291,8 +291,8 @@ returns-clause-changes g c =
         actions = c.new-plan.ensures.actions;
         offsets = c.new-plan.ensures.offsets;
       };
-      alike = subst (λ (l : List (Cell ℕ)). LookAlike (map (shown kept) l) (map (shown states) (only (is_named group) store))) (sym c.in_ok-fill.ensures.list)
-          (c.in_ok-cells.ensures.alike (only (is_named group) store) (subst (λ (l : List ℕ). AreAt store l (only (is_named group) store)) (sym c.deref.ensures.value) c.in_ok-positions.ensures.cells));
+      alike = subst (λ (l : List (Cell ℕ)). LookAlike (map (shown kept) l) (map (shown states) (only (is_in_group group) store))) (sym c.in_ok-fill.ensures.list)
+          (c.in_ok-cells.ensures.alike (only (is_in_group group) store) (subst (λ (l : List ℕ). AreAt store l (only (is_in_group group) store)) (sym c.deref.ensures.value) c.in_ok-positions.ensures.cells));
       given = subst (AreStates kept) (sym c.in_ok-fill.ensures.list) c.in_ok-cells.ensures.states;
       distinct = c.requires.distinct;
       few = c.requires.few;
@@ -310,4 +310,4 @@ returns-clause-changes g c =
     let so_far : IsSoFar kept number late done part (reversion flat (named_group old group)) =
     subst (λ (l : List (Action (List Word))). IsSoFar kept number late done part (reversion flat l)) same
     (c.in_ok-revert_all.ensures.so_far part (as_it_is flat) (group_had flat group) (begun_so_far kept states work store number count offsets group plan begun flat of)) in
-    subst (AllByRecursion IsChange) (sym c.in_ok-reversal.ensures.changes) so_far.changes
+    subst (AllByRecursion IsTextChange) (sym c.in_ok-reversal.ensures.changes) so_far.changes

@@ -1,7 +1,7 @@
 use Rattle.std.proofs.Common.{◌≡◌, ◌∙◌, ◌+◌, ◌++◌, ◌||◌, List, Some, ap, append_assoc, append-nil, drop, subst, sym}
 use Rattle.rt_store.specs.Cells.{stamps_of}
 use Rattle.rt_plans.specs.declared.range.Range.{Range}
-use Rattle.rt_plans.specs.Removals.{AreInOrder, is_covered, stamps_at}
+use Rattle.rt_plans.specs.Removals.{RangesFollow, is_covered, stamps_at}
 use Rattle.rt_revert.specs.Planning.{range_at}
 use Rattle.rt_revert.specs.Portions.{whole_ranges}
 use Rattle.rt_revert.proofs.OffsetLaws.{chosen_stamps}
@@ -14,7 +14,7 @@ loop-cell-init g c =
     let rest = whole_ranges c.args.offsets.now (g.S.TextStore.list c.args.copy.now) (stamps_of c.deref-cell-items.result.now) in
     record {
       covered = λ at. ap (λ l. is_covered l at || is_covered rest at) c.new-ranges.ensures.items;
-      order = λ h. subst (λ (l : List Range). AreInOrder 0 (l ++ rest)) (sym c.new-ranges.ensures.items) h;
+      order = λ h. subst (λ (l : List Range). RangesFollow 0 (l ++ rest)) (sym c.new-ranges.ensures.items) h;
     }
 
 pub loop-cell-preserved : goal.loop-cell-preserved
@@ -34,7 +34,7 @@ loop-cell-preserved g c =
       covered = λ at. covered_step old c.push_place.new.ranges.items (range_at (Some place)) rest at (c.in_ok-push_place.ensures.ok at)
           ∙ ap (λ l. is_covered old at || is_covered l at) (sym next) ∙ c.loop-cell.invariant.covered at;
       order = λ h. c.in_ok-push_place.ensures.order rest
-          (subst (AreInOrder 0) (ap (λ l. old ++ l) next ∙ sym (append_assoc old (range_at (Some place)) rest)) (c.loop-cell.invariant.order h));
+          (subst (RangesFollow 0) (ap (λ l. old ++ l) next ∙ sym (append_assoc old (range_at (Some place)) rest)) (c.loop-cell.invariant.order h));
     }
 
 pub returns-clause-covered : goal.returns-clause-covered
@@ -55,5 +55,5 @@ returns-clause-order g c h =
     let cells = c.deref-cell-items.result.now in
     let ranges = c.loop-cell.ranges.items in
     let stamps : stamps_of cells ≡ stamps_at (is_covered c.args.places.now) 0 copy = ap stamps_of (c.deref-cell-items.ensures.value ∙ c.in_ok-cells.ensures.ok) ∙ chosen_stamps (is_covered c.args.places.now) 0 copy in
-    subst (AreInOrder 0) (ap (λ l. ranges ++ whole_ranges offsets copy (stamps_of l)) (none_left cells c.loop-cell.cell-index c.loop-cell-test.false) ∙ append-nil ranges)
-    (c.loop-cell.invariant.order (subst (λ l. AreInOrder 0 (whole_ranges offsets copy l)) (sym stamps) h))
+    subst (RangesFollow 0) (ap (λ l. ranges ++ whole_ranges offsets copy (stamps_of l)) (none_left cells c.loop-cell.cell-index c.loop-cell-test.false) ∙ append-nil ranges)
+    (c.loop-cell.invariant.order (subst (λ l. RangesFollow 0 (whole_ranges offsets copy l)) (sym stamps) h))

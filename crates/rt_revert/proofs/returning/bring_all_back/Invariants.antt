@@ -3,7 +3,7 @@ use Rattle.std.specs.List.{AllByRecursion}
 use Rattle.rt_undo.specs.Actions.{removed_in}
 use Rattle.rt_revert.specs.Plans.{RemovedAreGiven, named_removed}
 use Rattle.rt_revert.specs.Portions.{HasRemoved, Portion}
-use Rattle.rt_revert.specs.Progress.{IsCopy, IsGoing, IsSoFar, Reaches}
+use Rattle.rt_revert.specs.Progress.{IsCopy, IsSoFar, IsUnderWay, Reaches}
 use Rattle.rt_revert.specs.Reverting.{Reversion, with_returns}
 use Rattle.rt_revert.specs.ReversionLaws.{MayReturn}
 use Rattle.rt_revert.proofs.returning.bring_all_back.Given as goal
@@ -12,7 +12,7 @@ abbrev pub invariant-loop-part : goal.invariant-loop-part
 invariant-loop-part g l = record {
   copy : IsCopy l.kept (g.S.TextStore.list l.copy) l.plan.texts.count;
   agrees : g.S.TextStore.agrees l.copy l.kept;
-  going : IsGoing l.kept l.plan;
+  going : IsUnderWay l.kept l.plan;
   actions : l.plan.actions ≡ l.initial.plan.actions;
   given : RemovedAreGiven l.kept (removed_in (drop l.part-index l.removed));
   may : AllByRecursion MayReturn (map (named_removed l.kept) (removed_in (drop l.part-index l.removed)));

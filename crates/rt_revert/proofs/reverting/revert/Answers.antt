@@ -10,9 +10,9 @@ use Rattle.rt_undo.specs.Actions.{removed_in}
 use Rattle.rt_undo.specs.Renames.{now_of}
 use Rattle.rt_revert.specs.declared.plan.Return.{Return}
 use Rattle.rt_revert.specs.Plans.{named_removed}
-use Rattle.rt_revert.specs.Portions.{Has, HasRemoved}
+use Rattle.rt_revert.specs.Portions.{HasEach, HasRemoved}
 use Rattle.rt_revert.specs.Progress.{IsSoFar}
-use Rattle.rt_revert.specs.Reverting.{stamp_after, with_gone, with_returns}
+use Rattle.rt_revert.specs.Reverting.{stamp_after, with_removal, with_returns}
 use Rattle.rt_revert.proofs.Acted.{acted, early_back, early_gone, gone_had, stamps_after, stays}
 use Rattle.rt_revert.proofs.reverting.revert.Goals as goal
 
@@ -48,8 +48,8 @@ returns-in_err-bring_all_back-clause-err g c =
     ∙ stamps_after table before (stamps_in action.inserted.items) c.requires.going in
     rw (p.1, p.2) (spent
     (λ k part r had s. early_back table c.args.site.number (g.S.TextStore.list c.args.copy.now) before part r action stamps s stamps_are
-    (subst (λ (l : List RemovedSpan). GREATEST_COUNT < (with_returns (map (named_removed table) (removed_in l)) (with_gone stamps r)).doc.count) c.deref-3.ensures.value
-    (k part (with_gone stamps r) (subst (λ (l : List RemovedSpan). HasRemoved part (removed_in l)) (sym c.deref-3.ensures.value) had.1)
+    (subst (λ (l : List RemovedSpan). GREATEST_COUNT < (with_returns (map (named_removed table) (removed_in l)) (with_removal stamps r)).doc.count) c.deref-3.ensures.value
+    (k part (with_removal stamps r) (subst (λ (l : List RemovedSpan). HasRemoved part (removed_in l)) (sym c.deref-3.ensures.value) had.1)
     (c.in_ok-removed.ensures.so_far c.args.site.number part r (gone_had table c.args.site.number (g.S.TextStore.list c.args.copy.now) before part r action stamps s stamps_are had) s))))
     c.in_err-bring_all_back.ensures.err)
 
@@ -65,10 +65,10 @@ returns-clause-so_far g c part r had s =
     ∙ stamps_after table before (stamps_in action.inserted.items) c.requires.going in
     let new = g.S.TextStore.list c.bring_all_back.new.copy in
     let late = c.bring_all_back.new.plan in
-    let has : Has part stamps = gone_had table number (g.S.TextStore.list c.args.copy.now) before part r action stamps s stamps_are had in
+    let has : HasEach part stamps = gone_had table number (g.S.TextStore.list c.args.copy.now) before part r action stamps s stamps_are had in
     acted table number (g.S.TextStore.list c.args.copy.now) before part r action stamps new late c.push.new.self c.in_ok-inserted.inserted c.in_ok-removed.removed s stamps_are
-    (subst (λ (l : List RemovedSpan). IsSoFar table number new late part (with_returns (map (named_removed table) (removed_in l)) (with_gone stamps r))) c.deref-3.ensures.value
-    (c.in_ok-bring_all_back.ensures.so_far part (with_gone stamps r) (subst (λ (l : List RemovedSpan). HasRemoved part (removed_in l)) (sym c.deref-3.ensures.value) had.1)
+    (subst (λ (l : List RemovedSpan). IsSoFar table number new late part (with_returns (map (named_removed table) (removed_in l)) (with_removal stamps r))) c.deref-3.ensures.value
+    (c.in_ok-bring_all_back.ensures.so_far part (with_removal stamps r) (subst (λ (l : List RemovedSpan). HasRemoved part (removed_in l)) (sym c.deref-3.ensures.value) had.1)
     (c.in_ok-removed.ensures.so_far number part r has s)))
     (c.in_ok-bring_all_back.ensures.actions ∙ c.in_ok-removed.ensures.actions)
     c.in_ok-push.ensures.items

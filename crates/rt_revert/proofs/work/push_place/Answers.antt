@@ -1,6 +1,6 @@
 use Rattle.std.proofs.Common.{◌≡◌, ◌∙◌, ◌++◌, ◌||◌, List, Some, ap, subst, sym, append-nil}
 use Rattle.rt_plans.specs.declared.range.Range.{Range}
-use Rattle.rt_plans.specs.Removals.{AreInOrder, is_covered}
+use Rattle.rt_plans.specs.Removals.{RangesFollow, is_covered}
 use Rattle.rt_revert.specs.Planning.{range_at}
 use Rattle.rt_revert.proofs.SpansCovered.{order_joined, placed_alone, placed_behind}
 use Rattle.rt_revert.proofs.work.push_place.Goals as goal
@@ -16,9 +16,9 @@ returns-then-is_behind-clause-ok c at =
 pub returns-then-is_behind-clause-order : goal.returns-then-is_behind-clause-order
 returns-then-is_behind-clause-order c more h =
     let place = c.args.place in
-    subst (λ (l : List Range). AreInOrder 0 (l ++ more)) (sym c.push_reserved.ensures.items)
+    subst (λ (l : List Range). RangesFollow 0 (l ++ more)) (sym c.push_reserved.ensures.items)
     (order_joined c.pop.new.self.items c.in-Some.last place more 0 (sym c.is_behind.ensures ∙ c.if-is_behind.true)
-    (subst (λ (l : List Range). AreInOrder 0 ((l ++ range_at (Some place)) ++ more)) c.in-Some.ensures.items h))
+    (subst (λ (l : List Range). RangesFollow 0 ((l ++ range_at (Some place)) ++ more)) c.in-Some.ensures.items h))
 
 pub returns-clause-ok : goal.returns-clause-ok
 returns-clause-ok c at =
@@ -38,5 +38,5 @@ returns-clause-order c more h =
       | in-Some+else-is_behind w ↦ (λ i. (w.ranges-is i).items) ∙ w.push_reserved-in-Some.ensures.items ∙ sym w.in-Some.ensures.items
       | in_default w ↦ (λ i. (w.ranges-is i).items) ∙ sym (append-nil c.pop.new.self.items) ∙ sym w.in_default.ensures.items
     ] in
-    subst (λ (l : List Range). AreInOrder 0 (l ++ more)) (sym c.in_ok-push.ensures.items)
-    (subst (λ (l : List Range). AreInOrder 0 ((l ++ range_at (Some place)) ++ more)) (sym same) h)
+    subst (λ (l : List Range). RangesFollow 0 (l ++ more)) (sym c.in_ok-push.ensures.items)
+    (subst (λ (l : List Range). RangesFollow 0 ((l ++ range_at (Some place)) ++ more)) (sym same) h)

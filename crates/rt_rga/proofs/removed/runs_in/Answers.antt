@@ -3,14 +3,14 @@ use Rattle.std.proofs.lemmas.Result.{IfOk-weaker}
 use Rattle.rt_ops.specs.Operations.{Delete}
 use Rattle.rt_store.specs.declared.cell.CellRun.{CellRun}
 use Rattle.rt_store.specs.Cells.{visible_of}
-use Rattle.rt_rga.specs.NamedRuns.{IsRun, names_at, spans_of_runs}
+use Rattle.rt_rga.specs.NamedRuns.{IsCellRun, names_at, spans_of_runs}
 use Rattle.rt_rga.specs.Taken.{takes_away}
 use Rattle.rt_rga.proofs.NamedRuns.{names_alike}
 use Rattle.rt_rga.proofs.RemovedPlaces.{taken_before}
 use Rattle.rt_rga.proofs.removed.runs_in.Goals as goal
 
 pub places_of-requires-clause-runs : goal.places_of-requires-clause-runs
-places_of-requires-clause-runs g c = subst (All (IsRun (g.S.TextStore.list c.args.store.now))) (sym c.deref.ensures.value) c.in_ok-runs.ensures.runs
+places_of-requires-clause-runs g c = subst (All (IsCellRun (g.S.TextStore.list c.args.store.now))) (sym c.deref.ensures.value) c.in_ok-runs.ensures.runs
 
 pub returns-clause-removed : goal.returns-clause-removed
 returns-clause-removed g c =

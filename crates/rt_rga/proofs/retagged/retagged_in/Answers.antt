@@ -14,7 +14,7 @@ use Rattle.rt_store.specs.Shown.{shown}
 use Rattle.rt_store.proofs.GivenStates.{kept_states}
 use Rattle.rt_store.proofs.Shown.{shown_later}
 use Rattle.rt_tags.specs.States.{IsState, KeepsIds, TagStates, name_at, write_at}
-use Rattle.rt_rga.specs.NamedRuns.{IsRun, changes_kept, names_at, spans_of_runs}
+use Rattle.rt_rga.specs.NamedRuns.{IsCellRun, changes_kept, names_at, spans_of_runs}
 use Rattle.rt_rga.specs.Taken.{retags}
 use Rattle.rt_rga.proofs.NamedRuns.{named_within}
 use Rattle.rt_rga.proofs.RetaggedPlaces.{places_retagged}
@@ -30,7 +30,7 @@ changed_runs-requires-clause-states g c =
 
 -- the places that are found are those that are tagged
 module _ (old mid : TagStates) (kept : List (Cell ℕ)) (named runs changed : List CellRun) (spans : List Span) (name : Name) (tag : ℕ) (writer : Stamp) (on : Bool)
-    (distinct : AreDistinct kept) (keeps : KeepsIds old mid) (given : AreStates old kept) (called : name_at mid tag ≡ name) (are_runs : All (IsRun kept) named)
+    (distinct : AreDistinct kept) (keeps : KeepsIds old mid) (given : AreStates old kept) (called : name_at mid tag ≡ name) (are_runs : All (IsCellRun kept) named)
     (are_named : (stamp : Stamp) → is_among (stamps_of kept) stamp ≡ true → is_in_spans (spans_of_runs named) stamp ≡ is_in_spans spans stamp)
     (is : runs ≡ named) (is_changed : changed ≡ filter (λ run. changes_kept mid (write_at mid tag writer on) run.cell) runs) where
   are_retagged : (place : ℕ) → names_at (spans_of_runs changed) kept place ≡ retags writer (Tag on name spans) (map (shown old) kept) place
@@ -43,7 +43,7 @@ module _ (old mid : TagStates) (kept : List (Cell ℕ)) (named runs changed : Li
 pub places_of-requires-clause-runs : goal.places_of-requires-clause-runs
 places_of-requires-clause-runs g c =
     let list = g.S.TextStore.list c.args.store.now in
-    let P : CellRun → Type 0 = IsRun list in
+    let P : CellRun → Type 0 = IsCellRun list in
     subst (All P) (sym (c.deref-2.ensures.value ∙ c.in_ok-changed.ensures.runs ∙ ap (filter _) c.deref.ensures.value)) (All-filter _ P c.in_ok-named.named.items c.in_ok-named.ensures.runs)
 
 pub returns-clause-retagged : goal.returns-clause-retagged

@@ -10,7 +10,7 @@ use Rattle.rt_store.specs.Cells.{AreDistinct, stamps_of, visible_of}
 use Rattle.rt_store.specs.Shown.{shown}
 use Rattle.rt_store.specs.Spans.{is_among, is_in_spans}
 use Rattle.rt_tags.specs.States.{IsState, TagStates}
-use Rattle.rt_rga.specs.NamedRuns.{IsRun, names_at, spans_of_runs}
+use Rattle.rt_rga.specs.NamedRuns.{IsCellRun, names_at, spans_of_runs}
 use Rattle.rt_rga.specs.Noted.{switches_at}
 use Rattle.rt_rga.proofs.NamedRuns.{named_within}
 use Rattle.rt_rga.proofs.RetaggedPlaces.{is_switched, places_switched}
@@ -29,7 +29,7 @@ switched_runs-requires g c =
 
 -- the places that are found are those that are switched
 module _ (table : TagStates) (kept : List (Cell ℕ)) (named runs switched : List CellRun) (spans : List Span) (name : Name) (on : Bool)
-    (distinct : AreDistinct kept) (are_runs : All (IsRun kept) named)
+    (distinct : AreDistinct kept) (are_runs : All (IsCellRun kept) named)
     (are_named : (stamp : Stamp) → is_among (stamps_of kept) stamp ≡ true → is_in_spans (spans_of_runs named) stamp ≡ is_in_spans spans stamp)
     (is : runs ≡ named) (is_found : switched ≡ filter (λ run. is_switched table on name run.cell) runs) where
   are_switched : (place : ℕ) → names_at (spans_of_runs switched) kept place ≡ switches_at (Tag on name spans) (map (shown table) kept) place
@@ -41,7 +41,7 @@ module _ (table : TagStates) (kept : List (Cell ℕ)) (named runs switched : Lis
 pub places_of-requires-clause-runs : goal.places_of-requires-clause-runs
 places_of-requires-clause-runs g c =
     let list = g.S.TextStore.list c.args.store.now in
-    let P : CellRun → Type 0 = IsRun list in
+    let P : CellRun → Type 0 = IsCellRun list in
     subst (All P) (sym (c.deref-2.ensures.value ∙ c.in_ok-switched.ensures.runs ∙ ap (filter _) c.deref.ensures.value))
     (All-filter _ P c.in_ok-named.named.items c.in_ok-named.ensures.runs)
 

@@ -2,7 +2,7 @@ use Rattle.std.proofs.Common.{ℕ, ◌+◌, ◌<◌, ◌++◌, take, length, ap,
 use Rattle.std.proofs.lemmas.List.{take_all}
 use Rattle.std.proofs.lemmas.Result.{err_from_is_err_and}
 use Rattle.rt_script.specs.Lines.{rest_of}
-use Rattle.rt_script.specs.Pieces.{kept}
+use Rattle.rt_script.specs.Pieces.{kept_bytes}
 use Rattle.rt_script.proofs.LinesLaws.{complete_none}
 use Rattle.rt_script.proofs.RunLaws.{line_counted, line_within, newline_at, ran_start, ran_more, stopped_lines, kept_lines, kept_rest, bytes_newline, kept_newline}
 use Rattle.rt_script.proofs.engine.feed.Goals as goal
@@ -10,7 +10,7 @@ use Rattle.rt_script.proofs.engine.feed.Goals as goal
 pub loop-start-init : goal.loop-start-init
 loop-start-init g c = record {
   ran = λ rest none is. rw (append-nil rest) (ran_start _ _ rest (complete_none rest none));
-  rest = λ rest none is. is ∙ ap (λ v. kept v) (sym (ap (λ p. p.1) none) ∙ ap rest_of (sym (append-nil rest)));
+  rest = λ rest none is. is ∙ ap (λ v. kept_bytes v) (sym (ap (λ p. p.1) none) ∙ ap rest_of (sym (append-nil rest)));
   short = c.requires;
   failures = refl;
 }
@@ -75,4 +75,4 @@ returns-clause-ran g c = λ rest none is.
 pub returns-clause-rest : goal.returns-clause-rest
 returns-clause-rest g c = λ rest none is.
     let all = take_all c.loop-start.start c.args.piece.now (omega (arith, c.loop-start-test.false)) in
-    c.loop-start.invariant.rest rest none is ∙ ap (λ v. kept (rest_of (rest ++ v))) all
+    c.loop-start.invariant.rest rest none is ∙ ap (λ v. kept_bytes (rest_of (rest ++ v))) all

@@ -5,7 +5,7 @@ use Rattle.rt_store.specs.Tagged.{Passes}
 use Rattle.rt_tagcmd.specs.TagRanges.{PassUpTo}
 use Rattle.rt_tagcmd.proofs.FirstRange.{passing_end}
 use Rattle.rt_tagcmd.proofs.TagRangeLaws.{passing_within}
-use Rattle.rt_text.specs.Widgets.{is_tagged, cells_shown}
+use Rattle.rt_text.specs.Widgets.{shows_tag, cells_shown}
 use Rattle.rt_tagcmd.specs.Stretches.{RunsTo}
 use Rattle.rt_tagcmd.proofs.borders.end_within.Goals as goal
 
@@ -20,7 +20,7 @@ cut test cs begin end found behind h p l e = record {
 
 pub returns : goal.returns
 returns g c =
-    let test = is_tagged c.args.view.now.own c.args.name.now in
+    let test = shows_tag c.args.view.now.own c.args.name.now in
     let cs = cells_shown c.args.view.now in
     let within = passing_within test cs c.args.begin c.requires.tagged in
     cut test cs c.args.begin c.unwrap_or.result c.min.result c.args.behind

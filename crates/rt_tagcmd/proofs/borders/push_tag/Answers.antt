@@ -2,7 +2,7 @@ use Rattle.std.proofs.Common.{◌++◌, ap, refl}
 use Rattle.rt_tagcmd.specs.declared.element.Key.TheVariants.{TagOff, TagOn}
 use Rattle.rt_tagcmd.specs.Dumping.{tagoffs_of, tagons_of}
 use Rattle.rt_tagcmd.specs.Stretches.{within}
-use Rattle.rt_text.specs.Widgets.{is_tagged, cells_shown}
+use Rattle.rt_text.specs.Widgets.{shows_tag, cells_shown}
 use Rattle.rt_tagcmd.proofs.TagBorders.{end_more, ends_first, no_end_more, no_start_more, start_more, starts_first}
 use Rattle.rt_tagcmd.proofs.borders.push_tag.Goals as goal
 
@@ -11,8 +11,8 @@ loop-begin-init g c =
     let view = c.args.view.now in
     let name = c.args.name.now in
     record {
-      ends = ap (λ v. c.args.ends.now.items ++ v) (ends_first TagOff name (is_tagged view.own name) c.args.stretch (cells_shown view) c.saturating_sub-place.result c.saturating_sub-place.ensures);
-      starts = ap (λ v. c.args.starts.now.items ++ v) (starts_first TagOn name (is_tagged view.own name) c.args.stretch (cells_shown view) c.saturating_sub-place.result c.saturating_sub-place.ensures);
+      ends = ap (λ v. c.args.ends.now.items ++ v) (ends_first TagOff name (shows_tag view.own name) c.args.stretch (cells_shown view) c.saturating_sub-place.result c.saturating_sub-place.ensures);
+      starts = ap (λ v. c.args.starts.now.items ++ v) (starts_first TagOn name (shows_tag view.own name) c.args.stretch (cells_shown view) c.saturating_sub-place.result c.saturating_sub-place.ensures);
     }
 
 pub loop-begin-preserved : goal.loop-begin-preserved
@@ -21,9 +21,9 @@ loop-begin-preserved g c =
     let name = c.args.name.now in
     let s = c.args.stretch in
     record {
-      ends = end_more TagOff name (is_tagged view.own name) s (cells_shown view) c.loop-begin.place c.in-Some.begin c.end_within-end.result (c.args.ends.now.items ++ within s (tagoffs_of view name)) c.loop-begin.ends.items
+      ends = end_more TagOff name (shows_tag view.own name) s (cells_shown view) c.loop-begin.place c.in-Some.begin c.end_within-end.result (c.args.ends.now.items ++ within s (tagoffs_of view name)) c.loop-begin.ends.items
           c.push.new.elements.items c.in-Some.ensures.some.0 c.end_within-end.ensures c.loop-begin.invariant.ends c.in_ok-push.ensures.ok;
-      starts = start_more TagOn name (is_tagged view.own name) s (cells_shown view) c.loop-begin.place c.in-Some.begin c.end_within-end.result (c.args.starts.now.items ++ within s (tagons_of view name)) c.loop-begin.starts.items
+      starts = start_more TagOn name (shows_tag view.own name) s (cells_shown view) c.loop-begin.place c.in-Some.begin c.end_within-end.result (c.args.starts.now.items ++ within s (tagons_of view name)) c.loop-begin.starts.items
           c.push-in-Some.new.elements.items c.in-Some.ensures.some.0 c.end_within-end.ensures c.loop-begin.invariant.starts c.in_ok-push-2.ensures.ok;
     }
 
@@ -32,7 +32,7 @@ returns-clause-ends g c =
     let view = c.args.view.now in
     let name = c.args.name.now in
     let s = c.args.stretch in
-    no_end_more TagOff name (is_tagged view.own name) s (cells_shown view) c.loop-begin.place (c.args.ends.now.items ++ within s (tagoffs_of view name)) c.loop-begin.ends.items
+    no_end_more TagOff name (shows_tag view.own name) s (cells_shown view) c.loop-begin.place (c.args.ends.now.items ++ within s (tagoffs_of view name)) c.loop-begin.ends.items
     (c.in_default.ensures.none refl) c.loop-begin.invariant.ends
 
 pub returns-clause-starts : goal.returns-clause-starts
@@ -40,5 +40,5 @@ returns-clause-starts g c =
     let view = c.args.view.now in
     let name = c.args.name.now in
     let s = c.args.stretch in
-    no_start_more TagOn name (is_tagged view.own name) s (cells_shown view) c.loop-begin.place (c.args.starts.now.items ++ within s (tagons_of view name)) c.loop-begin.starts.items
+    no_start_more TagOn name (shows_tag view.own name) s (cells_shown view) c.loop-begin.place (c.args.starts.now.items ++ within s (tagons_of view name)) c.loop-begin.starts.items
     (c.in_default.ensures.none refl) c.loop-begin.invariant.starts

@@ -1,5 +1,5 @@
 use Rattle.std.proofs.Common.{arith, ◌+◌, ◌-◌, ◌/◌}
-use Rattle.rt_text.specs.Widgets.{is_tagged, cells_shown}
+use Rattle.rt_text.specs.Widgets.{shows_tag, cells_shown}
 use Rattle.rt_tagcmd.proofs.LastRange.{begin_behind, through_one}
 use Rattle.rt_tagcmd.proofs.tag_range.range_begin.Goals as goal
 
@@ -7,7 +7,7 @@ pub loop-low-init : goal.loop-low-init
 loop-low-init g c = record {
   order = c.begin_from-low.ensures.within;
   within = omega arith;
-  passes = through_one (is_tagged c.args.view.now.own c.args.name.now) (cells_shown c.args.view.now) c.args.place c.requires;
+  passes = through_one (shows_tag c.args.view.now.own c.args.name.now) (cells_shown c.args.view.now) c.args.place c.requires;
   least = c.begin_from-low.ensures.begin;
 }
 
@@ -24,7 +24,7 @@ loop-low-preserved g c = record {
   order = omega (arith, c.loop-low-test.true);
   within = c.loop-low.invariant.within;
   passes = c.loop-low.invariant.passes;
-  least = begin_behind (is_tagged c.args.view.now.own c.args.name.now) (cells_shown c.args.view.now) c.args.place (c.loop-low.low + (c.loop-low.high - c.loop-low.low) / 2) c.all_tagged.result c.all_tagged.ensures c.if-all_tagged.false;
+  least = begin_behind (shows_tag c.args.view.now.own c.args.name.now) (cells_shown c.args.view.now) c.args.place (c.loop-low.low + (c.loop-low.high - c.loop-low.low) / 2) c.all_tagged.result c.all_tagged.ensures c.if-all_tagged.false;
 }
 
 pub returns : goal.returns

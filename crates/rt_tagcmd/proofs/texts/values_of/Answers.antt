@@ -1,7 +1,7 @@
 use Rattle.std.proofs.Common.{◌<◌, ◌++◌, ◌∷◌, [], ◌∙◌, ap, sym, arith, append_assoc, append-nil}
 use Rattle.std.specs.Prelude.{encode_utf8_all}
 use Rattle.rt_tagcmd.specs.declared.element.Key.TheVariants.{Text}
-use Rattle.rt_tagcmd.specs.Elements.{placed}
+use Rattle.rt_tagcmd.specs.Elements.{element_at}
 use Rattle.rt_tagcmd.proofs.Values.{values_left, values_step, values_done, part_taken}
 use Rattle.rt_tagcmd.proofs.texts.values_of.Goals as goal
 
@@ -23,7 +23,7 @@ loop-start-preserved c =
       after = omega arith;
       whole = λ text e.
           let part = part_taken text c.args.chars.now c.args.from c.args.to c.loop-start.start c.text_end-end.result e after (omega arith) within in
-          let value = c.in_ok-text_value.ensures.ok ∙ ap (λ v. placed Text (encode_utf8_all v) c.loop-start.start) part in
+          let value = c.in_ok-text_value.ensures.ok ∙ ap (λ v. element_at Text (encode_utf8_all v) c.loop-start.start) part in
           c.loop-start.invariant.whole text e
           ∙ ap (λ v. c.loop-start.values.items ++ v) (values_step text c.args.others.now c.args.to c.loop-start.start c.text_end-end.result (omega arith) (c.text_end-end.ensures.ends text e))
           ∙ ap (λ v. c.loop-start.values.items ++ v ∷ values_left text c.args.others.now c.args.to c.text_end-end.result) (sym value)

@@ -4,7 +4,7 @@ use Rattle.std.specs.Prelude.{IfOk}
 use Rattle.rt_stamps.specs.declared.stamp.Stamp.{Stamp}
 use Rattle.rt_stamps.specs.Words.{Word}
 use Rattle.rt_undo.specs.Undo.{History, no_history}
-use Rattle.rt_revert.specs.ReversionLaws.{AreSound}
+use Rattle.rt_revert.specs.ReversionLaws.{AllMayRevert}
 use Rattle.rt_recording.specs.Recordings.{Recording, came_back}
 use Rattle.rt_recording.specs.Settled.{AreGoneOnce, removed_in_history}
 use Rattle.rt_tests_script.proofs.refused.recorded.Goals as goal
@@ -21,7 +21,7 @@ invariant_of-result g c =
     record {
       gone = λ s back. let stayed = never s in absurd (cc (stayed, back));
       taken = subst (λ (h : History (List Word)). AreGoneOnce c.args.view.doc.cells (removed_in_history h)) (sym none) (λ s. omega arith);
-      closed = subst (λ (h : History (List Word)). AllByRecursion AreSound h.closed) (sym none) tt;
-      current = subst (λ (h : History (List Word)). AreSound h.current) (sym none) tt;
-      undone = subst (λ (h : History (List Word)). AllByRecursion AreSound h.undone) (sym none) tt;
+      closed = subst (λ (h : History (List Word)). AllByRecursion AllMayRevert h.closed) (sym none) tt;
+      current = subst (λ (h : History (List Word)). AllMayRevert h.current) (sym none) tt;
+      undone = subst (λ (h : History (List Word)). AllByRecursion AllMayRevert h.undone) (sym none) tt;
     }

@@ -14,14 +14,14 @@ invariant_of-self c =
     let op = c.args.op in
     let ops = c.self.inside.ops.items in
     let order = c.self.inside.order.items in
-    let ends = c.self.inside.ends.ends.items in
+    let ends = c.self.inside.ends in
     let set = newest_first ops order in
     let seen : set ≡ c.args.self.now.operations = ap (λ log. log.operations) c.self.view_is in
     let before : Operation → Type 0 = λ q. is_before (stamp_of q) (stamp_of op) ≡ true in
     let newest : AllByRecursion before set = subst (AllByRecursion before) (sym seen) (recursion_from_All before c.args.self.now.operations c.requires.newest) in
     let past : known_end set op.site ≤ op.prev = rw seen c.requires.prev in
-    let known : (s : ℕ) → end_in c.raise.new.self.ends.items s ≡ known_end (op ∷ set) s = λ s. c.raise.ensures.ends s ∙ rw (c.site.ensures, c.last_count-last.ensures, c.self.invariant.known s) refl in
-    rw (c.push_newest.ensures.ops, c.push_newest.ensures.order) (kept_newest ops order ends c.raise.new.self.ends.items op c.self.invariant c.requires.sound newest past known)
+    let known : (s : ℕ) → end_in c.raise.new.self s ≡ known_end (op ∷ set) s = λ s. c.raise.ensures.ends s ∙ rw (c.site.ensures, c.last_count-last.ensures, c.self.invariant.known s) refl in
+    rw (c.push_newest.ensures.ops, c.push_newest.ensures.order) (kept_newest ops order ends c.raise.new.self op c.self.invariant c.requires.sound newest past known)
 
 pub returns-clause-operations : goal.returns-clause-operations
 returns-clause-operations c =

@@ -23,7 +23,7 @@ invariant_of-self c =
     let stamp = c.args.stamp in
     let ops = c.self.inside.ops.items in
     let order = c.self.inside.order.items in
-    let ends = c.self.inside.ends.ends.items in
+    let ends = c.self.inside.ends in
     let set = newest_first ops order in
     let op : Operation = going_on set stamp (body_of c.args.edit) in
     let seen : set ≡ c.args.self.now.operations = ap (λ log. log.operations) c.self.view_is in
@@ -32,8 +32,8 @@ invariant_of-self c =
     let newest : AllByRecursion before set = subst (AllByRecursion before) (sym seen) (recursion_from_All before c.args.self.now.operations c.requires.newest) in
     let sound : has_bad_stamp op ≡ false = rw seen c.requires.sound in
     let past : known_end set op.site ≤ op.prev = omega arith in
-    let known : (s : ℕ) → end_in c.raise-prev.new.self.ends.items s ≡ known_end (op ∷ set) s = λ s. c.raise-prev.ensures.ends s ∙ rw (c.last_count.ensures, c.of-op.ensures, c.self.invariant.known s) refl in
-    rw (c.push_newest.ensures.ops, c.push_newest.ensures.order, made) (kept_newest ops order ends c.raise-prev.new.self.ends.items op c.self.invariant sound newest past known)
+    let known : (s : ℕ) → end_in c.raise-prev.new.self s ≡ known_end (op ∷ set) s = λ s. c.raise-prev.ensures.ends s ∙ rw (c.last_count.ensures, c.of-op.ensures, c.self.invariant.known s) refl in
+    rw (c.push_newest.ensures.ops, c.push_newest.ensures.order, made) (kept_newest ops order ends c.raise-prev.new.self op c.self.invariant sound newest past known)
 
 pub returns-clause-operations : goal.returns-clause-operations
 returns-clause-operations c =

@@ -30,7 +30,7 @@ invariant_of-result c = c.loop-place.invariant.kept
 
 pub loop-place-init : goal.loop-place-init
 loop-place-init c =
-    let kept = kept_none c.args.ops.items c.new-ends.result.ends.items c.new-ends.ensures in
+    let kept = kept_none c.args.ops.items c.new-ends.result c.new-ends.ensures in
     rw c.new-order.ensures (record { kept = kept; are = record { is_log = kept.log; members = λ op. (λ i. i, λ i. i) } })
 
 pub push_place-requires : goal.push_place-requires

@@ -1,6 +1,7 @@
 use Rattle.std.proofs.Common.{ap, arith, sym, ◌≡◌, refl}
 use Rattle.std.proofs.lemmas.Result.{err_from_is_err_and}
 use Rattle.rt_oplog.specs.Outcomes.{Log}
+use Rattle.rt_oplog.proofs.SameEnds.{kept_same}
 use Rattle.rt_oplog.proofs.log.OpLog.reserve.Goals as goal
 
 pub invariant_of-self : goal.invariant_of-self
@@ -10,10 +11,10 @@ pub invariant_of-self-in_err-reserve-2 : goal.invariant_of-self-in_err-reserve-2
 invariant_of-self-in_err-reserve-2 c = rw (c.in_ok-reserve.ensures.items, c.in_err-reserve-2.ensures.same) c.self.invariant
 
 pub invariant_of-self-in_err-reserve-3 : goal.invariant_of-self-in_err-reserve-3
-invariant_of-self-in_err-reserve-3 c = rw (c.in_ok-reserve.ensures.items, c.in_ok-reserve-2.ensures.same, c.in_err-reserve-3.ensures.same) c.self.invariant
+invariant_of-self-in_err-reserve-3 c = rw (c.in_ok-reserve.ensures.items, c.in_ok-reserve-2.ensures.same) (kept_same _ _ c.self.inside.ends c.reserve-3.new.self c.in_err-reserve-3.ensures.same c.self.invariant)
 
 pub invariant_of-self-2 : goal.invariant_of-self-2
-invariant_of-self-2 c = rw (c.in_ok-reserve.ensures.items, c.in_ok-reserve-2.ensures.same, c.in_ok-reserve-3.ensures.same) c.self.invariant
+invariant_of-self-2 c = rw (c.in_ok-reserve.ensures.items, c.in_ok-reserve-2.ensures.same) (kept_same _ _ c.self.inside.ends c.reserve-3.new.self c.in_ok-reserve-3.ensures.same c.self.invariant)
 
 pub returns-in_err-reserve : goal.returns-in_err-reserve
 returns-in_err-reserve c =
@@ -46,7 +47,7 @@ returns-in_err-reserve-3 c =
     rw (is, gives) (record {
       same = rw (c.in_ok-reserve.ensures.items, c.in_ok-reserve-2.ensures.same) (ap (λ (l : Log). l.operations) c.self.view_is);
       ok = tt;
-      kept = omega (arith, room, c.in_ok-reserve.ensures.len, c.in_ok-reserve.ensures.capacity, c.in_ok-reserve-2.ensures.kept, c.in_err-reserve-3.ensures.len, c.in_err-reserve-3.ensures.capacity);
+      kept = omega (arith, room, c.in_ok-reserve.ensures.len, c.in_ok-reserve.ensures.capacity, c.in_ok-reserve-2.ensures.kept, c.in_err-reserve-3.ensures.kept);
       fault = refl;
       there = λ h. c.in_err-reserve-3.ensures.succeeds (omega (arith, room, h));
     })
@@ -57,7 +58,7 @@ returns c =
     record {
       same = rw (c.in_ok-reserve.ensures.items, c.in_ok-reserve-2.ensures.same) (ap (λ (l : Log). l.operations) c.self.view_is);
       ok = omega (arith, c.in_ok-reserve.ensures.ok, c.in_ok-reserve-2.ensures.ok, c.in_ok-reserve-3.ensures.ok);
-      kept = omega (arith, room, c.in_ok-reserve.ensures.len, c.in_ok-reserve.ensures.capacity, c.in_ok-reserve-2.ensures.kept, c.in_ok-reserve-3.ensures.len, c.in_ok-reserve-3.ensures.capacity);
+      kept = omega (arith, room, c.in_ok-reserve.ensures.len, c.in_ok-reserve.ensures.capacity, c.in_ok-reserve-2.ensures.kept, c.in_ok-reserve-3.ensures.kept);
       fault = tt;
       there = λ h. refl;
     }

@@ -13,7 +13,7 @@ use Rattle.rt_rga.specs.OneOrMany.{items_in}
 use Rattle.rt_plans.specs.declared.pieces.PlannedPieces.{PlannedPieces}
 use Rattle.rt_plans.specs.InsertionDrafts.{behind, text_drafts}
 use Rattle.rt_plans.specs.InsertionPlans.{selected_between}
-use Rattle.rt_plans.specs.Insertions.{are_among, counts_for, last_of, selected_if, tagged_cells, tags_between}
+use Rattle.rt_plans.specs.Insertions.{are_among, counts_for, on_left, selected_if, tagged_cells, tags_between}
 use Rattle.rt_plans.specs.Selected.{selected_stamps}
 use Rattle.rt_plans.specs.Selections.{with_stamps}
 use Rattle.rt_plans.proofs.PieceLaws.{IsMoreText, no_drafts, none_in}
@@ -26,13 +26,13 @@ returns-then-is_empty-clause-drafts c = λ after sel listed so_far same h.
     let t = c.args.states.now in
     let none : chars c.args.rest.now ≡ [] = sym c.in_ok-text.ensures.ok ∙ sym c.characters-characters.ensures ∙ none_in c.characters-characters.result.now (length c.characters-characters.result.now) c.is_empty.result refl c.is_empty.ensures c.if-is_empty.true in
     no_drafts (map body_of (items_in c.args.self.now.texts.drafts)) c.args.site.number so_far.count (behind after so_far.cells)
-    (tags_between (last_of (option_map (shown t) c.args.gap.now.left) so_far.cells) (option_map (shown t) c.args.gap.now.right)) (chars c.args.rest.now) none
+    (tags_between (on_left (option_map (shown t) c.args.gap.now.left) so_far.cells) (option_map (shown t) c.args.gap.now.right)) (chars c.args.rest.now) none
 
 pub returns-then-is_empty-clause-plans : goal.returns-then-is_empty-clause-plans
 returns-then-is_empty-clause-plans c = λ plan after sel listed so_far same h a p.
     let t = c.args.states.now in
     let none : chars c.args.rest.now ≡ [] = sym c.in_ok-text.ensures.ok ∙ sym c.characters-characters.ensures ∙ none_in c.characters-characters.result.now (length c.characters-characters.result.now) c.is_empty.result refl c.is_empty.ensures c.if-is_empty.true in
-    plans_nothing plan after sel listed c.args.self.now c.args.site.number (last_of (option_map (shown t) c.args.gap.now.left) so_far.cells) (option_map (shown t) c.args.gap.now.right) (chars c.args.rest.now) so_far none h p
+    plans_nothing plan after sel listed c.args.self.now c.args.site.number (on_left (option_map (shown t) c.args.gap.now.left) so_far.cells) (option_map (shown t) c.args.gap.now.right) (chars c.args.rest.now) so_far none h p
 
 pub returns-in_err-add_text-clause-err : goal.returns-in_err-add_text-clause-err
 returns-in_err-add_text-clause-err c =
@@ -41,7 +41,7 @@ returns-in_err-add_text-clause-err c =
     let text_is : c.characters-characters.result.now ≡ chars c.args.rest.now = c.characters-characters.ensures ∙ c.in_ok-text.ensures.ok in
     rw (r.1, r.2) (spent
     (λ k after sel listed so_far same h.
-    let names_are : as_words c.deref.result.now ≡ tags_between (last_of (option_map (shown t) c.args.gap.now.left) so_far.cells) (option_map (shown t) c.args.gap.now.right) =
+    let names_are : as_words c.deref.result.now ≡ tags_between (on_left (option_map (shown t) c.args.gap.now.left) so_far.cells) (option_map (shown t) c.args.gap.now.right) =
     ap as_words c.deref.ensures.value ∙ c.in_ok-names.ensures.ok so_far.cells h.last in
     subst (λ (n : ℕ). GREATEST_COUNT < n) (λ i. h.count i + counts_for (names_are i) (text_is i)) k)
     c.in_err-add_text.ensures.err)
@@ -65,7 +65,7 @@ pub returns-in_default-clause-drafts : goal.returns-in_default-clause-drafts
 returns-in_default-clause-drafts c = λ after sel listed so_far same h.
     let t = c.args.states.now in
     let text_is : c.characters-characters.result.now ≡ chars c.args.rest.now = c.characters-characters.ensures ∙ c.in_ok-text.ensures.ok in
-    let names_are : as_words c.deref.result.now ≡ tags_between (last_of (option_map (shown t) c.args.gap.now.left) so_far.cells) (option_map (shown t) c.args.gap.now.right) =
+    let names_are : as_words c.deref.result.now ≡ tags_between (on_left (option_map (shown t) c.args.gap.now.left) so_far.cells) (option_map (shown t) c.args.gap.now.right) =
     ap as_words c.deref.ensures.value ∙ c.in_ok-names.ensures.ok so_far.cells h.last in
     c.in_ok-add_text.ensures.drafts
     ∙ (λ i. map body_of (items_in c.args.self.now.texts.drafts) ++ text_drafts MOST_CHARACTERS c.args.site.number (h.count i) (h.element i) (names_are i) (text_is i))
@@ -77,7 +77,7 @@ returns-in_default-clause-plans c = λ plan after sel listed so_far same h a p.
     let next = c.add_text.new.self in
     let site = c.args.site.number in
     let text = chars c.args.rest.now in
-    let left = last_of (option_map (shown t) c.args.gap.now.left) so_far.cells in
+    let left = on_left (option_map (shown t) c.args.gap.now.left) so_far.cells in
     let right = option_map (shown t) c.args.gap.now.right in
     let e = c.in_ok-add_text.ensures in
     let text_is : c.characters-characters.result.now ≡ text = c.characters-characters.ensures ∙ c.in_ok-text.ensures.ok in
@@ -101,7 +101,7 @@ pub returns-clause-drafts : goal.returns-clause-drafts
 returns-clause-drafts c = λ after sel listed so_far same h.
     let t = c.args.states.now in
     let text_is : c.characters-characters.result.now ≡ chars c.args.rest.now = c.characters-characters.ensures ∙ c.in_ok-text.ensures.ok in
-    let names_are : as_words c.deref.result.now ≡ tags_between (last_of (option_map (shown t) c.args.gap.now.left) so_far.cells) (option_map (shown t) c.args.gap.now.right) =
+    let names_are : as_words c.deref.result.now ≡ tags_between (on_left (option_map (shown t) c.args.gap.now.left) so_far.cells) (option_map (shown t) c.args.gap.now.right) =
     ap as_words c.deref.ensures.value ∙ c.in_ok-names.ensures.ok so_far.cells h.last in
     c.in_ok-add_text.ensures.drafts
     ∙ (λ i. map body_of (items_in c.args.self.now.texts.drafts) ++ text_drafts MOST_CHARACTERS c.args.site.number (h.count i) (h.element i) (names_are i) (text_is i))
@@ -113,7 +113,7 @@ returns-clause-plans c = λ plan after sel listed so_far same h a p.
     let next : PlannedPieces = c.add_text.new.self in
     let site = c.args.site.number in
     let text = chars c.args.rest.now in
-    let left = last_of (option_map (shown t) c.args.gap.now.left) so_far.cells in
+    let left = on_left (option_map (shown t) c.args.gap.now.left) so_far.cells in
     let right = option_map (shown t) c.args.gap.now.right in
     let e = c.in_ok-add_text.ensures in
     let text_is : c.characters-characters.result.now ≡ text = c.characters-characters.ensures ∙ c.in_ok-text.ensures.ok in

@@ -1,7 +1,7 @@
 use Rattle.std.proofs.Common.{◌≡◌, ◌∙◌, ◌++◌, [], ◌∷◌, subst, sym}
 use Rattle.std.specs.Prelude.{IfSome}
 use Rattle.rt_stamps.specs.declared.stamp.Span.{Span}
-use Rattle.rt_undo.specs.Undo.{added}
+use Rattle.rt_undo.specs.Undo.{with_action}
 use Rattle.rt_recording.specs.Naming.{named_history}
 use Rattle.rt_recording.specs.Recordings.{HasStayed, Recording, came_back, made}
 use Rattle.rt_recording.specs.Seen.{IsPrepared}
@@ -27,7 +27,7 @@ returns-in-Some-clause-history c =
     let new = c.add.new.self.history in
     let is = sym c.take.ensures.value ∙ c.in-Some.is in
     let prepared : IsPrepared s.table s.stacks next = subst (λ o. IfSome o (IsPrepared s.table s.stacks)) is c.self.invariant.next in
-    subst (λ (v : Recording). IfSome v.pending (λ removed. named_history s.table new ≡ added v.auto (made c.args.kind span removed) v.history)) c.self.view_is
+    subst (λ (v : Recording). IfSome v.pending (λ removed. named_history s.table new ≡ with_action v.auto (made c.args.kind span removed) v.history)) c.self.view_is
     (prepared_history s.table s.auto_separators s.stacks.history new s.next next c.push_reserved.new.self c.args.kind span is
     (c.push_reserved.ensures.items ∙ (λ i. prepared.empty i ++ record { site = c.number.ensures.value i; first = c.args.first; last = c.args.last } ∷ []))
     c.add.ensures.history)

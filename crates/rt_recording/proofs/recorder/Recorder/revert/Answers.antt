@@ -8,7 +8,7 @@ use Rattle.rt_undo.specs.Actions.{Action, group_of}
 use Rattle.rt_undo.specs.Renames.{is_moved}
 use Rattle.rt_stamps.specs.Words.{Word}
 use Rattle.rt_revert.specs.Reverting.{reversion, reverted_group}
-use Rattle.rt_revert.specs.ReversionLaws.{AreSound}
+use Rattle.rt_revert.specs.ReversionLaws.{AllMayRevert}
 use Rattle.rt_text.specs.declared.reverted.Reverted.{Reverted}
 use Rattle.rt_text.specs.Reversions.{reversion_check, view_reverted}
 use Rattle.rt_text.specs.Widgets.{ViewValue}
@@ -35,7 +35,7 @@ told_here g c checked =
     (subst (λ (d : DocValue). IsHistory d.log) c.doc.ensures c.log.ensures.history)
     (subst (λ (d : DocValue). d.cells ≡ cells_of d.log) c.doc.ensures c.log.ensures.cells)
     (subst (λ (d : DocValue). d.count ≡ greatest_last_count d.log) c.doc.ensures c.log.ensures.count)
-    (subst (λ (v : Recording). AreSound (named_group v.table group)) (sym c.self.view_is) c.requires.sound)
+    (subst (λ (v : Recording). AllMayRevert (named_group v.table group)) (sym c.self.view_is) c.requires.sound)
     (subst (λ (v : Recording). (stamp : Stamp) → came_back v stamp ≡ true → is_gone flat.cells stamp ≡ true) (sym c.self.view_is) c.requires.gone)
     (subst (λ (v : Recording). HaveStayed (came_back v) (named_group v.table group)) (sym c.self.view_is) c.requires.stay)
     checked
@@ -55,7 +55,7 @@ once_here g c checked others once =
     (subst (λ (d : DocValue). IsHistory d.log) c.doc.ensures c.log.ensures.history)
     (subst (λ (d : DocValue). d.cells ≡ cells_of d.log) c.doc.ensures c.log.ensures.cells)
     (subst (λ (d : DocValue). d.count ≡ greatest_last_count d.log) c.doc.ensures c.log.ensures.count)
-    (subst (λ (v : Recording). AreSound (named_group v.table group)) (sym c.self.view_is) c.requires.sound)
+    (subst (λ (v : Recording). AllMayRevert (named_group v.table group)) (sym c.self.view_is) c.requires.sound)
     checked once
 
 pub invariant_of-self-2 : goal.invariant_of-self-2

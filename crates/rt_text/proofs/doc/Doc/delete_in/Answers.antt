@@ -17,7 +17,7 @@ use Rattle.rt_plans.specs.declared.range.Range.{Range}
 use Rattle.rt_plans.specs.Deletions.{Loss, delete_drafts, loss_in, without_text}
 use Rattle.rt_plans.specs.DocValue.{DocValue, logged}
 use Rattle.rt_plans.specs.Listed.{AreListed}
-use Rattle.rt_plans.specs.Removals.{is_covered, AreInOrder}
+use Rattle.rt_plans.specs.Removals.{is_covered, RangesFollow}
 use Rattle.rt_text.specs.Commands.{clock_check}
 use Rattle.rt_text.specs.Owned.{own_of}
 use Rattle.rt_stamps.specs.declared.stamp.Stamp.{Stamp}
@@ -37,7 +37,7 @@ which (inl e) s = inr (sym s ∙ e)
 which (inr p) s = inl p.0
 
 pub leave_all-requires : goal.leave_all-requires
-leave_all-requires g c = subst (AreInOrder 0) (sym c.deref.ensures.value) c.in_ok-deletion.ensures.order
+leave_all-requires g c = subst (RangesFollow 0) (sym c.deref.ensures.value) c.in_ok-deletion.ensures.order
 
 pub planned_deletion-requires-clause-distinct : goal.planned_deletion-requires-clause-distinct
 planned_deletion-requires-clause-distinct g c = c.kept.ensures.distinct

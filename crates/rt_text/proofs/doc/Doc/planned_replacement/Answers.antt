@@ -11,7 +11,7 @@ use Rattle.rt_rga.specs.OneOrMany.{items_in}
 use Rattle.rt_plans.specs.Deletions.{Loss, without_text}
 use Rattle.rt_plans.specs.DocValue.{DocValue}
 use Rattle.rt_plans.specs.Insertions.{left_neighbour, right_neighbour}
-use Rattle.rt_plans.specs.Removals.{gone_at, is_covered, AreInOrder}
+use Rattle.rt_plans.specs.Removals.{gone_at, is_covered, RangesFollow}
 use Rattle.rt_plans.specs.Selected.{selected_stamps}
 use Rattle.rt_lines.specs.Stretches.{stretch_of}
 use Rattle.rt_text.specs.Neighbours.{are_sides_shown, limit_left, pieces_text}
@@ -29,13 +29,13 @@ pub planned_deletion-requires-clause-states : goal.planned_deletion-requires-cla
 planned_deletion-requires-clause-states g c = c.kept.ensures.states
 
 pub left_after-behind-requires-clause-order : goal.left_after-behind-requires-clause-order
-left_after-behind-requires-clause-order g c = subst (AreInOrder 0) (sym c.deref-2.ensures.value) c.in_ok-deletion.ensures.order
+left_after-behind-requires-clause-order g c = subst (RangesFollow 0) (sym c.deref-2.ensures.value) c.in_ok-deletion.ensures.order
 
 pub shown_after-right-requires-clause-order : goal.shown_after-right-requires-clause-order
-shown_after-right-requires-clause-order g c = subst (AreInOrder 0) (sym c.deref-3.ensures.value) c.in_ok-deletion.ensures.order
+shown_after-right-requires-clause-order g c = subst (RangesFollow 0) (sym c.deref-3.ensures.value) c.in_ok-deletion.ensures.order
 
 pub place_after-last-requires : goal.place_after-last-requires
-place_after-last-requires g c = subst (AreInOrder 0) (sym c.deref.ensures.value) c.in_ok-deletion.ensures.order
+place_after-last-requires g c = subst (RangesFollow 0) (sym c.deref.ensures.value) c.in_ok-deletion.ensures.order
 
 pub planned_between-requires-clause-count : goal.planned_between-requires-clause-count
 planned_between-requires-clause-count g c = c.in_ok-count.ensures.ok.1

@@ -27,7 +27,7 @@ use Rattle.rt_plans.specs.Deletions.{delete_drafts}
 use Rattle.rt_plans.specs.DocValue.{DocValue, logged}
 use Rattle.rt_plans.specs.InsertionPlans.{selected_between}
 use Rattle.rt_plans.specs.Insertions.{Piece, all_listed}
-use Rattle.rt_plans.specs.Removals.{is_covered, AreInOrder}
+use Rattle.rt_plans.specs.Removals.{is_covered, RangesFollow}
 use Rattle.rt_plans.specs.Selected.{selected_stamps, room_in}
 use Rattle.rt_plans.specs.Selections.{with_stamps}
 use Rattle.rt_plans.proofs.PlaceLaws.{text_within}
@@ -373,7 +373,7 @@ select_all-requires-clause-between g c =
     room_kept c.in_ok-planned.planned.held c.in_ok-planned.planned.plan.between c.make_planned.new.others c.unselect.new.others c.in_ok-planned.ensures.alone c.unselect.ensures.kept c.in_ok-make_planned.ensures.between
 
 pub leave_all-requires : goal.leave_all-requires
-leave_all-requires g c = subst (AreInOrder 0) (sym c.deref-2.ensures.value) c.in_ok-planned.ensures.order
+leave_all-requires g c = subst (RangesFollow 0) (sym c.deref-2.ensures.value) c.in_ok-planned.ensures.order
 
 pub list_tags-requires-clause-ready : goal.list_tags-requires-clause-ready
 list_tags-requires-clause-ready g c = subst (All (λ w. is_ready (string_bytes w) c.make_planned.new.tags ≡ true)) (sym c.deref-3.ensures.value) c.in_ok-make_planned.ensures.ready

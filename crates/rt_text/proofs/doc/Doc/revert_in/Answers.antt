@@ -17,9 +17,9 @@ use Rattle.rt_plans.specs.DocValue.{DocValue}
 use Rattle.rt_plans.specs.Insertions.{all_listed}
 use Rattle.rt_plans.proofs.PlaceLaws.{text_within}
 use Rattle.rt_undo.specs.Actions.{group_of}
-use Rattle.rt_revert.specs.Plans.{IsChange, IsOf, marks_after, named_group}
+use Rattle.rt_revert.specs.Plans.{IsOf, IsTextChange, marks_after, named_group}
 use Rattle.rt_revert.specs.Reverting.{reversion, reverted}
-use Rattle.rt_revert.specs.ReversionLaws.{AreSound}
+use Rattle.rt_revert.specs.ReversionLaws.{AllMayRevert}
 use Rattle.rt_revert.proofs.Steps.{reversion_sound}
 use Rattle.rt_text.specs.Changes.{own_after, own_renamed}
 use Rattle.rt_text.specs.Kept.{IsDoc}
@@ -199,7 +199,7 @@ revert_all-requires g c =
     let changes : c.deref-2.result.now ≡ plan.changes.items = c.deref-2.ensures.value in
     let few : length c.deref-2.result.now ≤ 2 ^ 63 = omega (arith, ap length changes, plan.changes.ok.0, plan.changes.ok.1, plan.changes.small) in
     record {
-      changes = subst (AllByRecursion IsChange) (sym c.deref-2.ensures.value) c.in_ok-plan.ensures.changes;
+      changes = subst (AllByRecursion IsTextChange) (sym c.deref-2.ensures.value) c.in_ok-plan.ensures.changes;
       marks = site_fits n (length c.deref-2.result.now) (2 ^ 64 - 1) c.self.inside.marks (omega (arith, within, few)) c.self.invariant.placed;
       insert = omega (arith, text, within, few, c.requires.own.insert);
       current = omega (arith, text, within, few, c.requires.own.current);
@@ -289,7 +289,7 @@ returns g c =
       returns = plans.returns;
       actions = plans.actions;
       given = c.in_ok-plan.ensures.given;
-      sound = subst AreSound (sym plans.actions) (reversion_sound flat.site flat.log flat group i.real i.history i.document i.sound i.fits);
+      sound = subst AllMayRevert (sym plans.actions) (reversion_sound flat.site flat.log flat group i.real i.history i.document i.sound i.fits);
       ids = c.planned_reversion.ensures.ids;
       err = tt;
       unchanged = tt;

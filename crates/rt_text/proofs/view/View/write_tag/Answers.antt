@@ -8,7 +8,7 @@ use Rattle.rt_store.specs.Cells.{text_of, visible_of}
 use Rattle.rt_tags.specs.Tags.{sel}
 use Rattle.rt_plans.specs.declared.range.Range.{Range}
 use Rattle.rt_plans.specs.DocValue.{DocValue, logged}
-use Rattle.rt_plans.specs.Removals.{is_covered, stamps_at, AreInOrder}
+use Rattle.rt_plans.specs.Removals.{is_covered, stamps_at, RangesFollow}
 use Rattle.rt_plans.specs.Selections.{selection_with}
 use Rattle.rt_plans.specs.TagDrafts.{tag_drafts_at}
 use Rattle.rt_plans.specs.TagWrites.{listed_if, with_tag_at}
@@ -36,10 +36,10 @@ pub returns-clause-unchanged : goal.returns-clause-unchanged
 returns-clause-unchanged g c = on_err_weaker c.write_shared-done.result (λ e. ap (λ (f : DocValue). viewed f (own_of c.self.inside.widget) (map own_of c.self.inside.others.items)) e ∙ c.self.view_is) c.write_shared-done.ensures.unchanged
 
 pub select-requires-clause-order : goal.select-requires-clause-order
-select-requires-clause-order g c = subst (AreInOrder 0) (sym c.deref.ensures.value) c.in_ok-ranges.ensures.order
+select-requires-clause-order g c = subst (RangesFollow 0) (sym c.deref.ensures.value) c.in_ok-ranges.ensures.order
 
 pub write_shared-done-requires-clause-order : goal.write_shared-done-requires-clause-order
-write_shared-done-requires-clause-order g c = subst (AreInOrder 0) (sym c.deref-2.ensures.value) c.in_ok-ranges.ensures.order
+write_shared-done-requires-clause-order g c = subst (RangesFollow 0) (sym c.deref-2.ensures.value) c.in_ok-ranges.ensures.order
 
 pub write_shared-done-requires-clause-name : goal.write_shared-done-requires-clause-name
 write_shared-done-requires-clause-name g c = c.requires

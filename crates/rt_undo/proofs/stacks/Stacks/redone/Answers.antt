@@ -1,6 +1,6 @@
 use Rattle.std.proofs.Common.{◌∙◌, ◌++◌, [], ◌∷◌, ap, subst, sym}
 use Rattle.rt_undo.specs.Actions.{group_of}
-use Rattle.rt_undo.specs.Groups.{AreStill, groups_of}
+use Rattle.rt_undo.specs.Groups.{NoneMoves, groups_of}
 use Rattle.rt_undo.specs.Renames.{now_of}
 use Rattle.rt_undo.specs.Seen.{UndoStacks, history_kept}
 use Rattle.rt_undo.specs.Undo.{limited, renamed_by}
@@ -12,7 +12,7 @@ returns-clause-history c =
     let s = c.self.inside in
     let f = now_of s.renames in
     let reverted = group_of c.args.reverted.items in
-    let stays : UndoStacks → Type 0 = λ v. AreStill v.moves reverted in
+    let stays : UndoStacks → Type 0 = λ v. NoneMoves v.moves reverted in
     c.limit.ensures.history ∙ ap limited ((λ i. renamed_by f (record (history_kept s) {
       closed = (ap (λ l. groups_of l) c.push_group.ensures.items ∙ groups_more c.close.new.closed.items c.args.reverted
           ∙ ap (λ l. l ++ reverted ∷ []) c.close.ensures.groups) i;

@@ -1,6 +1,6 @@
 use Rattle.std.proofs.Common.{◌∙◌, ap, subst, sym}
 use Rattle.rt_undo.specs.Actions.{group_of}
-use Rattle.rt_undo.specs.Groups.{AreStill, groups_of}
+use Rattle.rt_undo.specs.Groups.{NoneMoves, groups_of}
 use Rattle.rt_undo.specs.Renames.{now_of}
 use Rattle.rt_undo.specs.Seen.{UndoStacks, history_kept}
 use Rattle.rt_undo.specs.Undo.{renamed_by, undo_done}
@@ -12,7 +12,7 @@ returns-clause-history c =
     let s = c.self.inside in
     let f = now_of s.renames in
     let reverted = group_of c.args.reverted.items in
-    let stays : UndoStacks → Type 0 = λ v. AreStill v.moves reverted in
+    let stays : UndoStacks → Type 0 = λ v. NoneMoves v.moves reverted in
     (λ i. renamed_by f (record (history_kept s) {
       closed = c.drop_last.ensures.groups i;
       current = group_of (c.drop_last.ensures.empty i);

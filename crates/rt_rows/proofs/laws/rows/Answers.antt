@@ -1,0 +1,11 @@
+use Rattle.rt_rows.proofs.TypedRows.{row_next, row_exact, typed_length}
+use Rattle.rt_rows.proofs.laws.rows.Goals as goal
+
+pub returns-clause-next : goal.returns-clause-next
+returns-clause-next c = row_next
+
+pub returns-clause-exact : goal.returns-clause-exact
+returns-clause-exact c = row_exact
+
+pub returns-clause-length : goal.returns-clause-length
+returns-clause-length c = λ row. typed_length row.start 0 row.text

@@ -1,0 +1,4 @@
+pub mod Stored
+pub mod TypedRows
+pub mod Typings
+pub mod Views
