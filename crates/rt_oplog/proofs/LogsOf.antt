@@ -1,5 +1,5 @@
 -- The log of operations that are pushed in turn.
-use Rattle.std.proofs.Common.{◌≡◌, ◌↔◌, ℕ, ◌+◌, ◌<◌, ◌⊎◌, inl, inr, List, length, take, sym, subst, Ok, Err}
+use Rattle.std.proofs.Common.{◌≡◌, ◌↔◌, ℕ, zero, suc, ◌+◌, ◌<◌, ◌⊎◌, ◌∷◌, [], inl, inr, List, length, take, drop, sym, subst, ap, refl, arith, Ok, Err}
 use Rattle.std.proofs.lemmas.List.{take_more}
 use Rattle.std.proofs.lemmas.Option.{slice_get-get_or}
 use Rattle.std.specs.List.{list_any}
@@ -42,3 +42,17 @@ log_of_more ops i log new h l n e = record {
 pub refused_at : (ops : List Operation) (i : ℕ) (log : List Operation) (fault : Fault) → i < length ops → IsLogOf (take i ops) log → (fault ≡ NoMemory) ⊎ (pushed (op_at ops i) log ≡ Err fault)
     → MakesLog ops (Err (record { fault = fault; place = i }))
 refused_at ops i log fault h l k = elim k [ inl e ↦ inr (e, h, (log, l)) | inr e ↦ inl (record { op = op_at ops i; log = log; there = slice_get-get_or ops i nothing h; before = l; refused = e }) ]
+
+-- the operations that are left, one after the other
+pub next_of : (ops rest : List Operation) (i : ℕ) (op : Operation) → drop i ops ≡ op ∷ rest → (i < length ops) × (op_at ops i ≡ op) × (drop (i + 1) ops ≡ rest)
+next_of [] rest zero op e = absurd (cc e)
+next_of [] rest (suc i) op e = absurd (cc e)
+next_of (x ∷ ops) rest zero op e = let p : x ≡ op = cc e in let q : ops ≡ rest = cc e in (omega arith, p, q)
+next_of (x ∷ ops) rest (suc i) op e = let r = next_of ops rest i op e in let one : suc (i + 1) ≡ suc i + 1 = omega arith in
+    (omega (arith, r.0), r.1, subst (λ n. drop n (x ∷ ops) ≡ rest) one r.2)
+
+pub all_of : (ops : List Operation) (i : ℕ) → drop i ops ≡ [] → take i ops ≡ ops
+all_of [] zero e = refl
+all_of [] (suc i) e = refl
+all_of (x ∷ ops) zero e = absurd (cc e)
+all_of (x ∷ ops) (suc i) e = ap (λ xs. x ∷ xs) (all_of ops i e)

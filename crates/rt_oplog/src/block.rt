@@ -7,7 +7,7 @@ ghost use Rattle.rt_oplog.specs.Logs.{IsFalling};
 ghost use Rattle.rt_oplog.specs.Kept.{op_at, newest_first, leading};
 ghost use Rattle.rt_oplog.specs.Spares.{IsSpare};
 
-use crate::Op;
+use rt_rows::Rows;
 use rt_stamps::{ROOT, Stamp};
 
 /// Places that stand next to each other, at least one and at most 512.
@@ -20,19 +20,20 @@ pub(crate) struct Block {
 }
 
 /// Whether the operation of a place is before a stamp.
-fn is_earlier(ops: &[Op], place: usize, stamp: Stamp) -> bool
-    ensures { result ≡ is_before (stamp_of (op_at ops.now place)) stamp }
+fn is_earlier(ops: &Rows, place: usize, stamp: Stamp) -> bool
+    ensures { result ≡ is_before (stamp_of (op_at ops.now.operations place)) stamp }
 {
-    match ops.get(place) {
-        Some(op) => op.stamp() < stamp,
-        None => ROOT < stamp,
+    if place < ops.len() {
+        ops.view(place).stamp() < stamp
+    } else {
+        ROOT < stamp
     }
 }
 
 /// How many operations are before a stamp.
-pub(crate) fn ops_before(ops: &[Op], order: &[usize], stamp: Stamp) -> usize
-    requires { IsFalling (newest_first ops.now order.now) }
-    ensures place { result ≡ leading (λ place. is_before (stamp_of (op_at ops.now place)) stamp) order.now }
+pub(crate) fn ops_before(ops: &Rows, order: &[usize], stamp: Stamp) -> usize
+    requires { IsFalling (newest_first ops.now.operations order.now) }
+    ensures place { result ≡ leading (λ place. is_before (stamp_of (op_at ops.now.operations place)) stamp) order.now }
     ensures within { result ≤ length order.now }
 {
     order.partition_point(|place| is_earlier(ops, *place, stamp))
@@ -50,8 +51,8 @@ impl Block {
     }
 
     /// Whether the operation of the last place is before a stamp.
-    pub(crate) fn is_before(&self, ops: &[Op], stamp: Stamp) -> bool
-        ensures { result ≡ is_before (stamp_of (op_at ops.now (slice_index_or self.now.places.items (length self.now.places.items - 1) 0))) stamp }
+    pub(crate) fn is_before(&self, ops: &Rows, stamp: Stamp) -> bool
+        ensures { result ≡ is_before (stamp_of (op_at ops.now.operations (slice_index_or self.now.places.items (length self.now.places.items - 1) 0))) stamp }
     {
         is_earlier(ops, self.places[self.places.len() - 1], stamp)
     }

@@ -10,24 +10,24 @@ ghost use Rattle.rt_oplog.specs.declared.block.Block.{Block};
 ghost use Rattle.rt_oplog.specs.Spares.{AreSpare, IsSpare};
 ghost use Rattle.rt_oplog.specs.Blocks.{AreHalfFull, IsFull, all_pass, in_blocks, places_before, room_of};
 
-use crate::Op;
 use crate::block::{Block, ops_before};
+use rt_rows::Rows;
 use rt_stamps::Stamp;
 use std::alloc::{AllocError, Global};
 
 /// How many blocks stand in front, all of whose operations are before a stamp.
-fn blocks_before(ops: &[Op], blocks: &[Block], stamp: Stamp) -> usize
-    requires { IsFalling (newest_first ops.now (in_blocks blocks.now)) }
-    ensures blocks { result ≡ leading (all_pass (λ place. is_before (stamp_of (op_at ops.now place)) stamp)) blocks.now }
+fn blocks_before(ops: &Rows, blocks: &[Block], stamp: Stamp) -> usize
+    requires { IsFalling (newest_first ops.now.operations (in_blocks blocks.now)) }
+    ensures blocks { result ≡ leading (all_pass (λ place. is_before (stamp_of (op_at ops.now.operations place)) stamp)) blocks.now }
     ensures within { result ≤ length blocks.now }
 {
     blocks.partition_point(|block| block.is_before(ops, stamp))
 }
 
 /// Whether the operations of all blocks are before a stamp, which that of the last place tells.
-fn are_earlier(ops: &[Op], blocks: &[Block], stamp: Stamp) -> bool
-    requires { IsFalling (newest_first ops.now (in_blocks blocks.now)) }
-    ensures { result ≡ list_all (all_pass (λ place. is_before (stamp_of (op_at ops.now place)) stamp)) blocks.now }
+fn are_earlier(ops: &Rows, blocks: &[Block], stamp: Stamp) -> bool
+    requires { IsFalling (newest_first ops.now.operations (in_blocks blocks.now)) }
+    ensures { result ≡ list_all (all_pass (λ place. is_before (stamp_of (op_at ops.now.operations place)) stamp)) blocks.now }
 {
     match blocks.last() {
         Some(block) => block.is_before(ops, stamp),
@@ -36,9 +36,9 @@ fn are_earlier(ops: &[Op], blocks: &[Block], stamp: Stamp) -> bool
 }
 
 /// The first place whose operation is not before a stamp.
-pub(crate) fn find(ops: &[Op], blocks: &[Block], stamp: Stamp) -> Option<usize>
-    requires { IsFalling (newest_first ops.now (in_blocks blocks.now)) }
-    ensures { result ≡ slice_get (in_blocks blocks.now) (leading (λ place. is_before (stamp_of (op_at ops.now place)) stamp) (in_blocks blocks.now)) }
+pub(crate) fn find(ops: &Rows, blocks: &[Block], stamp: Stamp) -> Option<usize>
+    requires { IsFalling (newest_first ops.now.operations (in_blocks blocks.now)) }
+    ensures { result ≡ slice_get (in_blocks blocks.now) (leading (λ place. is_before (stamp_of (op_at ops.now.operations place)) stamp) (in_blocks blocks.now)) }
 {
     if are_earlier(ops, blocks, stamp) {
         return None;
@@ -167,22 +167,22 @@ fn put_at(
 
 /// Puts a place into a block, behind those whose operations are before a stamp.
 fn insert_at(
-    ops: &[Op],
+    ops: &Rows,
     blocks: &mut Vec<Block>,
     spare: &mut Vec<Vec<usize>>,
     block: usize,
     stamp: Stamp,
     place: usize,
 )
-    requires falling { IsFalling (newest_first ops.now (in_blocks blocks.old.items)) }
-    requires block { block ≡ leading (all_pass (λ p. is_before (stamp_of (op_at ops.now p)) stamp)) blocks.old.items }
+    requires falling { IsFalling (newest_first ops.now.operations (in_blocks blocks.old.items)) }
+    requires block { block ≡ leading (all_pass (λ p. is_before (stamp_of (op_at ops.now.operations p)) stamp)) blocks.old.items }
     requires within { block < vec_len blocks.old }
     requires half { AreHalfFull blocks.old.items }
     requires spares { AreSpare spare.old.items }
     requires free { vec_len blocks.old + vec_len spare.old ≤ vec_capacity blocks.old }
     requires room { 0 < room_of (vec_len spare.old) (vec_len blocks.old) (length (in_blocks blocks.old.items)) }
     ensures items { in_blocks blocks.new.items
-        ≡ insert (in_blocks blocks.old.items) (leading (λ p. is_before (stamp_of (op_at ops.now p)) stamp) (in_blocks blocks.old.items)) place }
+        ≡ insert (in_blocks blocks.old.items) (leading (λ p. is_before (stamp_of (op_at ops.now.operations p)) stamp) (in_blocks blocks.old.items)) place }
     ensures half { AreHalfFull blocks.new.items }
     ensures spares { AreSpare spare.new.items }
     ensures left { vec_len spare.old ≤ vec_len spare.new + 1 }
@@ -230,19 +230,19 @@ fn is_full(blocks: &[Block]) -> bool
 
 /// Puts a place in behind those whose operations are before a stamp.
 pub(crate) fn insert_in(
-    ops: &[Op],
+    ops: &Rows,
     blocks: &mut Vec<Block>,
     spare: &mut Vec<Vec<usize>>,
     stamp: Stamp,
     place: usize,
 )
-    requires falling { IsFalling (newest_first ops.now (in_blocks blocks.old.items)) }
+    requires falling { IsFalling (newest_first ops.now.operations (in_blocks blocks.old.items)) }
     requires half { AreHalfFull blocks.old.items }
     requires spares { AreSpare spare.old.items }
     requires free { vec_len blocks.old + vec_len spare.old ≤ vec_capacity blocks.old }
     requires room { 0 < room_of (vec_len spare.old) (vec_len blocks.old) (length (in_blocks blocks.old.items)) }
     ensures items { in_blocks blocks.new.items
-        ≡ insert (in_blocks blocks.old.items) (leading (λ p. is_before (stamp_of (op_at ops.now p)) stamp) (in_blocks blocks.old.items)) place }
+        ≡ insert (in_blocks blocks.old.items) (leading (λ p. is_before (stamp_of (op_at ops.now.operations p)) stamp) (in_blocks blocks.old.items)) place }
     ensures half { AreHalfFull blocks.new.items }
     ensures spares { AreSpare spare.new.items }
     ensures left { vec_len spare.old ≤ vec_len spare.new + 1 }

@@ -3,6 +3,7 @@ ghost use Rattle.std.specs.Prelude.{◌≡◌, ℕ, ◌+◌, ◌-◌, ◌<◌, �
 ghost use Rattle.std.specs.List.{AllByRecursion, list_any};
 ghost use Rattle.rt_stamps.specs.declared.fault.Fault.TheVariants.{NoMemory};
 ghost use Rattle.rt_stamps.specs.Stamps.{is_before};
+ghost use Rattle.rt_rows.specs.Views.{operation_in};
 ghost use Rattle.rt_ops.specs.Edits.{body_of};
 ghost use Rattle.rt_ops.specs.Operations.{stamp_of, has_bad_stamp};
 ghost use Rattle.rt_ops.specs.Rules.{keeps_rules};
@@ -13,11 +14,12 @@ ghost use Rattle.rt_oplog.specs.Outcomes.{Pushes, MakesLog, Joins};
 
 use crate::block::Block;
 use crate::ends::Ends;
-use crate::merge::{ends_of, merge};
+use crate::merge::{ends_of, merge, op_in};
 use crate::order::Order;
-use crate::same::{is_clash, is_same};
+use crate::same::{is_clash, is_kept_as};
 use crate::{Edit, Op};
-use rt_stamps::{Fault, ROOT, Stamp};
+use rt_rows::{OpView, Rows};
+use rt_stamps::{Fault, Stamp};
 use std::alloc::Global;
 use std::marker::Model;
 
@@ -26,7 +28,7 @@ use std::marker::Model;
 pub struct OpLog {
     alloc: Global,
     /// As they came.
-    ops: Vec<Op>,
+    ops: Rows,
     /// Their places in `ops`, by rising stamp.
     order: Order,
     ends: Ends,
@@ -42,7 +44,7 @@ pub struct Refused {
 }
 
 impl Model for OpLog {
-    ghost use Rattle.std.specs.Prelude.{◌-◌, min, vec_len, vec_capacity};
+    ghost use Rattle.std.specs.Prelude.{min};
     ghost use Rattle.rt_oplog.specs.Ends.{room_for};
     ghost use Rattle.rt_oplog.specs.Outcomes.{Log};
 
@@ -51,26 +53,26 @@ impl Model for OpLog {
     ghost use Rattle.rt_oplog.specs.Kept.{newest_first, IsKept};
 
     ghost view = { λ log. record {
-      operations = newest_first log.ops.items log.order.items;
-      room = min (vec_capacity log.ops - vec_len log.ops) (min log.order.room (room_for log.ends));
+      operations = newest_first log.ops.operations log.order.items;
+      room = min log.ops.room (min log.order.room (room_for log.ends));
     } };
 
-    ghost invariant = { λ log. IsKept log.ops.items log.order.items log.ends };
+    ghost invariant = { λ log. IsKept log.ops.operations log.order.items log.ends };
 }
 
 /// Whether the operation of a place is this one.
-fn is_at(ops: &[Op], place: usize, op: &Op) -> bool
-    requires { place < length ops.now }
-    ensures { result ≡ same_operation (op_at ops.now place) op.now }
+fn is_at(ops: &Rows, place: usize, op: &Op) -> bool
+    requires { place < length ops.now.operations }
+    ensures { result ≡ same_operation (op_at ops.now.operations place) op.now }
 {
-    is_same(&ops[place], op)
+    is_kept_as(op_in(ops, place), op)
 }
 
 /// Whether this very operation is one of the places.
-fn is_held(ops: &[Op], order: &Order, op: &Op) -> bool
-    requires within { AllByRecursion (λ place. place < length ops.now) order.now.items }
-    requires falling { IsFalling (newest_first ops.now order.now.items) }
-    ensures { result ≡ holds (newest_first ops.now order.now.items) op.now }
+fn is_held(ops: &Rows, order: &Order, op: &Op) -> bool
+    requires within { AllByRecursion (λ place. place < length ops.now.operations) order.now.items }
+    requires falling { IsFalling (newest_first ops.now.operations order.now.items) }
+    ensures { result ≡ holds (newest_first ops.now.operations order.now.items) op.now }
 {
     match order.find(ops, op.stamp()) {
         Some(place) => is_at(ops, place, op),
@@ -79,14 +81,14 @@ fn is_held(ops: &[Op], order: &Order, op: &Op) -> bool
 }
 
 /// Whether an operation of the places clashes with this one.
-fn any_clash(ops: &[Op], order: &[usize], op: &Op) -> bool
-    requires within { AllByRecursion (λ place. place < length ops.now) order.now }
-    requires log { IsLog (newest_first ops.now order.now) }
+fn any_clash(ops: &Rows, order: &[usize], op: &Op) -> bool
+    requires within { AllByRecursion (λ place. place < length ops.now.operations) order.now }
+    requires log { IsLog (newest_first ops.now.operations order.now) }
     requires sound { has_bad_stamp op.now ≡ false }
-    ensures { result ≡ list_any (λ place. clash op.now (op_at ops.now place)) order.now }
+    ensures { result ≡ list_any (λ place. clash op.now (op_at ops.now.operations place)) order.now }
 {
     for place in order {
-        if is_clash(op, &ops[*place]) {
+        if is_clash(op, op_in(ops, *place)) {
             return true;
         }
     }
@@ -94,11 +96,11 @@ fn any_clash(ops: &[Op], order: &[usize], op: &Op) -> bool
 }
 
 /// Whether an operation of the places of blocks clashes with this one.
-fn any_clash_in(ops: &[Op], blocks: &[Block], op: &Op) -> bool
-    requires within { AllByRecursion (λ place. place < length ops.now) (in_blocks blocks.now) }
-    requires log { IsLog (newest_first ops.now (in_blocks blocks.now)) }
+fn any_clash_in(ops: &Rows, blocks: &[Block], op: &Op) -> bool
+    requires within { AllByRecursion (λ place. place < length ops.now.operations) (in_blocks blocks.now) }
+    requires log { IsLog (newest_first ops.now.operations (in_blocks blocks.now)) }
     requires sound { has_bad_stamp op.now ≡ false }
-    ensures { result ≡ list_any (λ place. clash op.now (op_at ops.now place)) (in_blocks blocks.now) }
+    ensures { result ≡ list_any (λ place. clash op.now (op_at ops.now.operations place)) (in_blocks blocks.now) }
 {
     for block in blocks {
         if any_clash(ops, &block.places, op) {
@@ -110,10 +112,10 @@ fn any_clash_in(ops: &[Op], blocks: &[Block], op: &Op) -> bool
 
 /// Whether an operation of the places clashes with this one. What goes on from its site's known end
 /// clashes with none; what is the newest and goes on from below it clashes.
-fn has_clash(ops: &[Op], order: &Order, ends: &Ends, op: &Op) -> bool
-    requires kept { IsKept ops.now order.now.items ends.now }
+fn has_clash(ops: &Rows, order: &Order, ends: &Ends, op: &Op) -> bool
+    requires kept { IsKept ops.now.operations order.now.items ends.now }
     requires sound { has_bad_stamp op.now ≡ false }
-    ensures { result ≡ list_any (clash op.now) (newest_first ops.now order.now.items) }
+    ensures { result ≡ list_any (clash op.now) (newest_first ops.now.operations order.now.items) }
 {
     if op.prev() >= ends.get(op.site()) {
         return false;
@@ -124,43 +126,18 @@ fn has_clash(ops: &[Op], order: &Order, ends: &Ends, op: &Op) -> bool
     }
 }
 
-/// Pushes the operation of a place to the log of those that have been put in order.
-fn push_place(ops: &[Op], order: &mut Order, ends: &mut Ends, place: usize) -> Result<(), Fault>
-    requires place { place < length ops.now }
-    requires kept { IsKept ops.now order.old.items ends.old }
-    ensures { MatchResult result
-        (λ _. IsKept ops.now order.new.items ends.new
-        × (pushed (op_at ops.now place) (newest_first ops.now order.old.items) ≡ Ok (newest_first ops.now order.new.items)))
-        (λ fault. (fault ≡ NoMemory) ⊎ (pushed (op_at ops.now place) (newest_first ops.now order.old.items) ≡ Err fault)) }
-{
-    let op = &ops[place];
-    op.check()?;
-    if is_held(ops, order, op) {
-        return Ok(());
-    }
-    if has_clash(ops, order, ends, op) {
-        return Err(Fault::Conflict);
-    }
-    order.reserve(1)?;
-    ends.reserve(1)?;
-    order.insert(ops, op.stamp(), place);
-    let _ = ends.raise(op.site(), op.last_count());
-    Ok(())
-}
-
 /// Puts an operation and its place behind all others, where there is room.
 #[inline(always)]
-fn push_newest(ops: &mut Vec<Op>, order: &mut Order, op: Op)
-    requires ops { vec_len ops.old < vec_capacity ops.old }
+fn push_newest(ops: &mut Rows, order: &mut Order, op: Op)
+    requires ops { 0 < ops.old.room }
     requires order { 0 < order.old.room }
-    ensures ops { ops.new.items ≡ ops.old.items ++ op ∷ [] }
-    ensures len { vec_len ops.new ≡ vec_len ops.old + 1 }
-    ensures capacity { vec_capacity ops.new ≡ vec_capacity ops.old }
-    ensures order { order.new.items ≡ order.old.items ++ length ops.old.items ∷ [] }
+    ensures ops { ops.new.operations ≡ ops.old.operations ++ op ∷ [] }
+    ensures left { ops.old.room ≤ ops.new.room + 1 }
+    ensures order { order.new.items ≡ order.old.items ++ length ops.old.operations ∷ [] }
     ensures room { order.old.room ≤ order.new.room + 1 }
 {
     order.push(ops.len());
-    ops.push_reserved(op);
+    ops.push(op);
 }
 
 impl OpLog {
@@ -170,31 +147,28 @@ impl OpLog {
     {
         OpLog {
             alloc,
-            ops: Vec::new(alloc),
+            ops: Rows::new(alloc),
             order: Order::new(alloc),
             ends: Ends::new(alloc),
         }
     }
 
-    /// The log of operations, each pushed in turn; they stay where they are. Else the first that a
-    /// push refuses, or `NoMemory` where a growth was refused.
+    /// The log of operations, each pushed in turn. Else the first that a push refuses, or `NoMemory` where a growth was
+    /// refused.
     pub fn from_ops(alloc: Global, ops: Vec<Op>) -> Result<OpLog, Refused>
         ensures { MakesLog ops.items result }
     {
-        let mut order = Order::new(alloc);
-        let mut ends = Ends::new(alloc);
-        for place in 0..ops.len() {
-            match push_place(&ops, &mut order, &mut ends, place) {
-                Ok(()) => {}
-                Err(fault) => return Err(Refused { fault, place }),
+        let mut log = OpLog::new(alloc);
+        let mut place = 0;
+        for op in ops {
+            if let Err(fault) = log.push(op) {
+                return Err(Refused { fault, place });
             }
+            // For its clauses alone.
+            log.soundness();
+            place += 1;
         }
-        Ok(OpLog {
-            alloc,
-            ops,
-            order,
-            ends,
-        })
+        Ok(log)
     }
 
     /// Makes room for `more` calls of `push`, which then take no memory. `NoMemory` where a growth
@@ -220,18 +194,18 @@ impl OpLog {
         self.order.len()
     }
 
-    /// The operation at a place by rising stamp.
-    pub fn get(&self, place: usize) -> &Op
+    /// The operation at a place by rising stamp, seen where it is kept.
+    pub fn get(&self, place: usize) -> OpView<'_>
         requires { place < length self.now.operations }
-        ensures { slice_get (reverse self.now.operations) place ≡ Some result.now }
+        ensures { slice_get (reverse self.now.operations) place ≡ Some (operation_in result) }
     {
-        &self.ops[self.order.get(place)]
+        op_in(&self.ops, self.order.get(place))
     }
 
     /// The operations as they came, and their places by rising stamp, in blocks.
-    pub(crate) fn blocks(&self) -> (&[Op], &[Block])
-        ensures within { AllByRecursion (λ place. place < length result.0.now) (in_blocks result.1.now) }
-        ensures operations { map (op_at result.0.now) (in_blocks result.1.now) ≡ reverse self.now.operations }
+    pub(crate) fn blocks(&self) -> (&Rows, &[Block])
+        ensures within { AllByRecursion (λ place. place < length result.0.now.operations) (in_blocks result.1.now) }
+        ensures operations { map (op_at result.0.now.operations) (in_blocks result.1.now) ≡ reverse self.now.operations }
         ensures log { IsLog self.now.operations }
     {
         (&self.ops, self.order.blocks())
@@ -244,15 +218,15 @@ impl OpLog {
         let _ = &self.ops;
     }
 
-    /// The operations by rising stamp, or want of memory.
-    pub fn in_order(&self) -> Result<Vec<&Op>, Fault>
-        ensures operations { IfOk result (λ ops. map (λ op. op.now) ops.items ≡ reverse self.now.operations) }
+    /// The operations by rising stamp, each seen where it is kept; or want of memory.
+    pub fn in_order(&self) -> Result<Vec<OpView<'_>>, Fault>
+        ensures operations { IfOk result (λ ops. map operation_in ops.items ≡ reverse self.now.operations) }
         ensures fault { IsOkUnless result NoMemory }
     {
         let places = self.order.flat()?;
         let mut ops = Vec::new(self.alloc);
         for place in &places {
-            ops.push(&self.ops[*place])?;
+            ops.push(op_in(&self.ops, *place))?;
         }
         Ok(ops)
     }
@@ -296,7 +270,7 @@ impl OpLog {
         let _ = self.ends.raise(op.site(), op.last_count());
         let place = self.ops.len();
         self.order.insert(&self.ops, op.stamp(), place);
-        self.ops.push_reserved(op);
+        self.ops.push(op);
         Ok(())
     }
 
@@ -347,11 +321,11 @@ pub fn join(one: OpLog, other: OpLog) -> Result<OpLog, Fault>
         ..
     } = one;
     let OpLog {
-        ops: mut more,
+        ops: more,
         order: theirs,
         ..
     } = other;
-    let places = merge(alloc, &mut ops, &mut more, &mine.flat()?, &theirs.flat()?)?;
+    let places = merge(alloc, &mut ops, &more, &mine.flat()?, &theirs.flat()?)?;
     let ends = ends_of(alloc, &ops, &places)?;
     let order = Order::of(alloc, &places)?;
     Ok(OpLog {

@@ -1,27 +1,34 @@
 // Two logs merged.
-ghost use Rattle.std.specs.Prelude.{◌≡◌, ℕ, ◌<◌, ◌⊎◌, [], ◌∷◌, ◌++◌, false, length, map, slice_index_or, slice_set, MatchResult, OnOk, IsOkUnless};
+ghost use Rattle.std.specs.Prelude.{◌≡◌, ℕ, ◌<◌, ◌≤◌, ◌⊎◌, [], ◌∷◌, ◌++◌, false, length, map, slice_index_or, slice_set, MatchResult, IfOk, OnOk, IsOkUnless};
 ghost use Rattle.std.specs.List.{AllByRecursion, range_with_len};
 ghost use Rattle.rt_stamps.specs.declared.fault.Fault.TheVariants.{NoMemory, Conflict};
 ghost use Rattle.rt_stamps.specs.Stamps.{is_before};
-ghost use Rattle.rt_stamps.specs.declared.stamp.TheConstants.{ROOT};
+ghost use Rattle.rt_rows.specs.Views.{operation_in};
 ghost use Rattle.rt_ops.specs.Operations.{Insert, Operation, stamp_of, has_bad_stamp};
 ghost use Rattle.rt_oplog.specs.Logs.{HasClashOf, HasOp, IsLog, IsFalling, same_operation};
 ghost use Rattle.rt_oplog.specs.Kept.{op_at, newest_first, IsKept};
 ghost use Rattle.rt_oplog.specs.Merged.{IsMerged};
 
 use crate::ends::Ends;
-use crate::same::is_same;
-use crate::{Edit, Op, Text};
-use rt_stamps::{FINAL, Fault, ROOT, Stamp};
+use crate::same::is_kept_as;
+use rt_rows::{OpView, Rows};
+use rt_stamps::{Fault, Stamp};
 use std::alloc::Global;
-use std::mem;
+
+/// The operation of a place, seen where it is kept.
+pub(crate) fn op_in(ops: &Rows, place: usize) -> OpView<'_>
+    requires { place < length ops.now.operations }
+    ensures { op_at ops.now.operations place ≡ operation_in result }
+{
+    ops.view(place)
+}
 
 /// The stamp of the operation of a place.
-fn stamp_at(ops: &[Op], place: usize) -> Stamp
-    requires { place < length ops.now }
-    ensures { result ≡ stamp_of (op_at ops.now place) }
+fn stamp_at(ops: &Rows, place: usize) -> Stamp
+    requires { place < length ops.now.operations }
+    ensures { result ≡ stamp_of (op_at ops.now.operations place) }
 {
-    ops[place].stamp()
+    op_in(ops, place).stamp()
 }
 
 /// Whether one stamp is before another.
@@ -31,70 +38,54 @@ fn is_before(one: Stamp, other: Stamp) -> bool
     one < other
 }
 
-/// Whether the operations of two places are the same.
-fn are_same(ops: &[Op], place: usize, more: &[Op], other: usize) -> bool
-    requires one { place < length ops.now }
-    requires other { other < length more.now }
-    ensures { result ≡ same_operation (op_at ops.now place) (op_at more.now other) }
+/// Whether the operations of two places are the same. Want of memory.
+fn are_same(
+    alloc: Global,
+    ops: &Rows,
+    place: usize,
+    more: &Rows,
+    other: usize,
+) -> Result<bool, Fault>
+    requires one { place < length ops.now.operations }
+    requires other { other < length more.now.operations }
+    ensures same { IfOk result (λ same. same ≡ same_operation (op_at ops.now.operations place) (op_at more.now.operations other)) }
+    ensures fault { IsOkUnless result NoMemory }
 {
-    is_same(&ops[place], &more[other])
+    let op = op_in(more, other).copied(alloc)?;
+    Ok(is_kept_as(op_in(ops, place), &op))
 }
 
-/// Puts an operation in the stead of another.
-fn exchange(ops: &mut [Op], place: usize, op: Op) -> Op
-    requires { place < length ops.old }
-    ensures value { result ≡ slice_index_or ops.old place result }
-    ensures after { ops.new ≡ slice_set ops.old place op }
-    ensures len { length ops.new ≡ length ops.old }
-{
-    mem::replace(&mut ops[place], op)
-}
-
-/// An operation that takes no memory, to stand where another was taken out.
-fn stand_in(alloc: Global) -> Op
-    ensures { result ≡ record { count = 1; site = 0; prev = 0; body = Insert ROOT [] (120 ∷ []) } }
-{
-    let edit = Edit::Insert {
-        after: ROOT,
-        tags: Vec::new(alloc),
-        text: Text::of('x'),
-    };
-    Op::of(FINAL, 0, edit)
-}
-
-/// Moves the operation of a place behind others, and names its new place.
+/// Puts a copy of the operation of a place behind others, and names its new place.
 fn take_over(
     alloc: Global,
-    ops: &mut Vec<Op>,
+    ops: &mut Rows,
     order: &mut Vec<usize>,
-    more: &mut [Op],
+    more: &Rows,
     place: usize,
 ) -> Result<(), Fault>
-    requires { place < length more.old }
-    ensures ops { OnOk result (ops.new.items ≡ ops.old.items ++ op_at more.old place ∷ []) }
-    ensures order { OnOk result (order.new.items ≡ order.old.items ++ length ops.old.items ∷ []) }
-    ensures others { (p : ℕ) → (p ≡ place → ⊥) → op_at more.new p ≡ op_at more.old p }
-    ensures len { length more.new ≡ length more.old }
+    requires { place < length more.now.operations }
+    ensures ops { OnOk result (ops.new.operations ≡ ops.old.operations ++ op_at more.now.operations place ∷ []) }
+    ensures order { OnOk result (order.new.items ≡ order.old.items ++ length ops.old.operations ∷ []) }
     ensures fault { IsOkUnless result NoMemory }
 {
     order.push(ops.len())?;
-    let op = exchange(more, place, stand_in(alloc));
-    ops.push(op)?;
+    let op = op_in(more, place).copied(alloc)?;
+    ops.reserve(1)?;
+    ops.push(op);
     Ok(())
 }
 
-/// Moves the operations of these places behind others, and names their new places.
+/// Puts copies of the operations of these places behind others, and names their new places.
 fn take_rest(
     alloc: Global,
-    ops: &mut Vec<Op>,
+    ops: &mut Rows,
     order: &mut Vec<usize>,
-    more: &mut [Op],
+    more: &Rows,
     places: &[usize],
 ) -> Result<(), Fault>
-    requires within { AllByRecursion (λ place. place < length more.old) places.now }
-    requires falling { IsFalling (newest_first more.old places.now) }
-    ensures ops { OnOk result (ops.new.items ≡ ops.old.items ++ map (op_at more.old) places.now) }
-    ensures order { OnOk result (order.new.items ≡ order.old.items ++ range_with_len (length ops.old.items) (length places.now)) }
+    requires { AllByRecursion (λ place. place < length more.now.operations) places.now }
+    ensures ops { OnOk result (ops.new.operations ≡ ops.old.operations ++ map (op_at more.now.operations) places.now) }
+    ensures order { OnOk result (order.new.items ≡ order.old.items ++ range_with_len (length ops.old.operations) (length places.now)) }
     ensures fault { IsOkUnless result NoMemory }
 {
     for place in places {
@@ -104,20 +95,20 @@ fn take_rest(
 }
 
 /// The places of the operations of both lists by rising stamp, those of one operation once. What is
-/// only in `more` is moved behind `ops`. `Conflict` where two different operations have one stamp.
+/// only in `more` is put behind `ops`. `Conflict` where two different operations have one stamp.
 pub(crate) fn merge(
     alloc: Global,
-    ops: &mut Vec<Op>,
-    more: &mut [Op],
+    ops: &mut Rows,
+    more: &Rows,
     mine: &[usize],
     theirs: &[usize],
 ) -> Result<Vec<usize>, Fault>
-    requires mine { AllByRecursion (λ place. place < length ops.old.items) mine.now }
-    requires theirs { AllByRecursion (λ place. place < length more.old) theirs.now }
-    requires one { IsLog (newest_first ops.old.items mine.now) }
-    requires other { IsLog (newest_first more.old theirs.now) }
-    ensures { MatchResult result (λ order. IsMerged ops.new.items (newest_first ops.old.items mine.now) (newest_first more.old theirs.now) order.items)
-        (λ fault. (fault ≡ NoMemory) ⊎ ((fault ≡ Conflict) × HasClashOf (newest_first ops.old.items mine.now) (newest_first more.old theirs.now))) }
+    requires mine { AllByRecursion (λ place. place < length ops.old.operations) mine.now }
+    requires theirs { AllByRecursion (λ place. place < length more.now.operations) theirs.now }
+    requires one { IsLog (newest_first ops.old.operations mine.now) }
+    requires other { IsLog (newest_first more.now.operations theirs.now) }
+    ensures { MatchResult result (λ order. IsMerged ops.new.operations (newest_first ops.old.operations mine.now) (newest_first more.now.operations theirs.now) order.items)
+        (λ fault. (fault ≡ NoMemory) ⊎ ((fault ≡ Conflict) × HasClashOf (newest_first ops.old.operations mine.now) (newest_first more.now.operations theirs.now))) }
 {
     let mut order = Vec::new(alloc);
     let mut left = 0;
@@ -131,7 +122,7 @@ pub(crate) fn merge(
         } else if is_before(other, one) {
             take_over(alloc, ops, &mut order, more, theirs[right])?;
             right += 1;
-        } else if are_same(ops, mine[left], more, theirs[right]) {
+        } else if are_same(alloc, ops, mine[left], more, theirs[right])? {
             order.push(mine[left])?;
             left += 1;
             right += 1;
@@ -145,16 +136,16 @@ pub(crate) fn merge(
 }
 
 /// The known ends of the operations of these places. `Conflict` where two of them clash.
-pub(crate) fn ends_of(alloc: Global, ops: &[Op], order: &[usize]) -> Result<Ends, Fault>
-    requires within { AllByRecursion (λ place. place < length ops.now) order.now }
-    requires falling { IsFalling (newest_first ops.now order.now) }
-    requires sound { (op : Operation) → HasOp (newest_first ops.now order.now) op → has_bad_stamp op ≡ false }
-    ensures { MatchResult result (λ ends. IsKept ops.now order.now ends)
-        (λ fault. (fault ≡ NoMemory) ⊎ ((fault ≡ Conflict) × HasClashOf (newest_first ops.now order.now) (newest_first ops.now order.now))) }
+pub(crate) fn ends_of(alloc: Global, ops: &Rows, order: &[usize]) -> Result<Ends, Fault>
+    requires within { AllByRecursion (λ place. place < length ops.now.operations) order.now }
+    requires falling { IsFalling (newest_first ops.now.operations order.now) }
+    requires sound { (op : Operation) → HasOp (newest_first ops.now.operations order.now) op → has_bad_stamp op ≡ false }
+    ensures { MatchResult result (λ ends. IsKept ops.now.operations order.now ends)
+        (λ fault. (fault ≡ NoMemory) ⊎ ((fault ≡ Conflict) × HasClashOf (newest_first ops.now.operations order.now) (newest_first ops.now.operations order.now))) }
 {
     let mut ends = Ends::new(alloc);
     for place in order {
-        let op = &ops[*place];
+        let op = op_in(ops, *place);
         if op.prev() < ends.get(op.site()) {
             return Err(Fault::Conflict);
         }

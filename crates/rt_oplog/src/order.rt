@@ -8,9 +8,9 @@ ghost use Rattle.rt_oplog.specs.Kept.{op_at, newest_first, leading};
 ghost use Rattle.rt_oplog.specs.Spares.{AreSpare};
 ghost use Rattle.rt_oplog.specs.Blocks.{in_blocks, room_of};
 
-use crate::Op;
 use crate::block::Block;
 use crate::blocks::{append, find, flat, get, insert_in};
+use rt_rows::Rows;
 use rt_stamps::Stamp;
 use std::alloc::{AllocError, Global};
 use std::marker::Model;
@@ -160,9 +160,9 @@ impl Order {
     }
 
     /// The first place whose operation is not before a stamp.
-    pub(crate) fn find(&self, ops: &[Op], stamp: Stamp) -> Option<usize>
-        requires { IsFalling (newest_first ops.now self.now.items) }
-        ensures { result ≡ slice_get self.now.items (leading (λ place. is_before (stamp_of (op_at ops.now place)) stamp) self.now.items) }
+    pub(crate) fn find(&self, ops: &Rows, stamp: Stamp) -> Option<usize>
+        requires { IsFalling (newest_first ops.now.operations self.now.items) }
+        ensures { result ≡ slice_get self.now.items (leading (λ place. is_before (stamp_of (op_at ops.now.operations place)) stamp) self.now.items) }
     {
         find(ops, &self.blocks, stamp)
     }
@@ -179,10 +179,10 @@ impl Order {
     }
 
     /// Puts a place in behind those whose operations are before a stamp.
-    pub(crate) fn insert(&mut self, ops: &[Op], stamp: Stamp, place: usize)
-        requires falling { IsFalling (newest_first ops.now self.old.items) }
+    pub(crate) fn insert(&mut self, ops: &Rows, stamp: Stamp, place: usize)
+        requires falling { IsFalling (newest_first ops.now.operations self.old.items) }
         requires room { 0 < self.old.room }
-        ensures items { self.new.items ≡ insert self.old.items (leading (λ p. is_before (stamp_of (op_at ops.now p)) stamp) self.old.items) place }
+        ensures items { self.new.items ≡ insert self.old.items (leading (λ p. is_before (stamp_of (op_at ops.now.operations p)) stamp) self.old.items) place }
         ensures room { self.old.room ≤ self.new.room + 1 }
     {
         insert_in(ops, &mut self.blocks, &mut self.spare, stamp, place);

@@ -1,15 +1,17 @@
 // Equality and clashes of operations.
-ghost use Rattle.std.specs.Prelude.{◌≡◌, ℕ, ◌≤◌, false, length};
+ghost use Rattle.std.specs.Prelude.{◌≡◌, ℕ, ◌≤◌, ◌∷◌, [], false, length};
 ghost use Rattle.std.specs.Cmp.Lexicographic.{pointwise};
 ghost use Rattle.std.specs.Str.{bytes_eq};
 ghost use Rattle.rt_stamps.specs.declared.limits.TheConstants.{GREATEST_COUNT};
 ghost use Rattle.rt_stamps.specs.Words.{as_words};
-ghost use Rattle.rt_ops.specs.Operations.{last_count, has_bad_stamp};
+ghost use Rattle.rt_ops.specs.Operations.{Insert, last_count, has_bad_stamp};
+ghost use Rattle.rt_rows.specs.Views.{operation_in};
 ghost use Rattle.rt_ops.specs.Edits.{body_of};
 ghost use Rattle.rt_oplog.specs.Logs.{same_span, same_body, same_operation, reaches_into, clash};
 
 use crate::{Edit, Op};
-use rt_stamps::Span;
+use rt_rows::OpView;
+use rt_stamps::{Span, Stamp};
 
 /// Whether names are the same, in the same order.
 fn are_same_names(one: &[String], other: &[String]) -> bool
@@ -62,20 +64,60 @@ pub fn is_same(one: &Op, other: &Op) -> bool
         && is_same_edit(one.edit(), other.edit())
 }
 
-/// Whether an operation goes on from below the last count of another of its site, which has no
-/// greater count.
-fn is_reached(one: &Op, other: &Op) -> bool
-    requires { last_count one.now ≤ GREATEST_COUNT }
-    ensures { result ≡ reaches_into one.now other.now }
+/// Whether an edit puts this character after an element, without tags.
+fn is_typed(after: Stamp, character: char, edit: &Edit) -> bool
+    ensures { result ≡ same_body (Insert after [] (character ∷ [])) (body_of edit.now) }
 {
-    one.site() == other.site() && one.count() <= other.count() && other.prev() < one.last_count()
+    match edit {
+        Edit::Insert {
+            after: left,
+            tags,
+            text,
+        } => match text.characters() {
+            [one] => after == *left && tags.is_empty() && character == *one,
+            _ => false,
+        },
+        Edit::Delete { spans: _ } => false,
+        Edit::Tag {
+            on: _,
+            name: _,
+            spans: _,
+        } => false,
+    }
 }
 
-/// Whether two operations clash.
-pub(crate) fn is_clash(one: &Op, other: &Op) -> bool
-    requires one { last_count one.now ≤ GREATEST_COUNT }
-    requires other { last_count other.now ≤ GREATEST_COUNT }
-    ensures { result ≡ clash one.now other.now }
+/// Whether an operation, seen where it is kept, is this one.
+pub(crate) fn is_kept_as(view: OpView<'_>, op: &Op) -> bool
+    ensures { result ≡ same_operation (operation_in view.entry) op.now }
 {
-    !is_same(one, other) && (is_reached(one, other) || is_reached(other, one))
+    match view {
+        OpView::Typed {
+            stamp,
+            prev,
+            after,
+            character,
+        } => { stamp == op.stamp() && prev == op.prev() && is_typed(after, character, op.edit()) }
+        OpView::Single { op: one } => is_same(one, op),
+    }
+}
+
+/// Whether an operation goes on from below the last count of another of its site, which has no
+/// greater count.
+fn is_reached(one: OpView<'_>, other: OpView<'_>) -> bool
+    requires { last_count (operation_in one) ≤ GREATEST_COUNT }
+    ensures { result ≡ reaches_into (operation_in one.entry) (operation_in other.entry) }
+{
+    one.site() == other.site()
+        && one.stamp().count <= other.stamp().count
+        && other.prev() < one.last_count()
+}
+
+/// Whether an operation clashes with one that is kept.
+pub(crate) fn is_clash(op: &Op, view: OpView<'_>) -> bool
+    requires one { last_count op.now ≤ GREATEST_COUNT }
+    requires other { last_count (operation_in view) ≤ GREATEST_COUNT }
+    ensures { result ≡ clash op.now (operation_in view.entry) }
+{
+    let one = OpView::Single { op };
+    !is_kept_as(view, op) && (is_reached(one, view) || is_reached(view, one))
 }

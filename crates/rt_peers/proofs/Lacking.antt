@@ -1,5 +1,5 @@
 -- What another site lacks of a log.
-use Rattle.std.proofs.Common.{◌≡◌, ◌⊎◌, ◌∙◌, inl, inr, refl, sym, ap, subst, arith, zero, suc, ℕ, ◌+◌, ◌<◌, ◌≤◌, ◌==◌, Bool, true, false, cond, ◌||◌, List, [], ◌∷◌, ◌++◌, take, map, reverse, length, get_or, Some, None, unwrap_or, Bor}
+use Rattle.std.proofs.Common.{◌≡◌, ◌⊎◌, ◌∙◌, inl, inr, refl, sym, ap, subst, arith, zero, suc, ℕ, ◌+◌, ◌<◌, ◌≤◌, ◌==◌, Bool, true, false, cond, ◌||◌, List, [], ◌∷◌, ◌++◌, take, map, reverse, length, get_or, Some, None, unwrap_or}
 use Rattle.std.specs.Option.{is_some}
 use mathlib.Core.List.{reverse-cons}
 use Rattle.std.specs.declared.alloc.Global.{Global}
@@ -13,7 +13,8 @@ use Rattle.std.proofs.lemmas.List.{map-append, take_more}
 use Rattle.std.proofs.lemmas.List.Folds.{list_any-append}
 use Rattle.rt_stamps.specs.Stamps.{is_before}
 use Rattle.rt_stamps.specs.declared.limits.TheConstants.{GREATEST_COUNT}
-use Rattle.rt_ops.specs.declared.op.Op.{Op}
+use Rattle.rt_rows.specs.declared.view.OpView.{OpView}
+use Rattle.rt_rows.specs.Views.{operation_in}
 use Rattle.rt_ops.specs.Operations.{Operation, has_bad_stamp, last_count, stamp_of}
 use Rattle.rt_oplog.specs.Logs.{HasOp, IsFalling, IsLog, known_end}
 use Rattle.rt_oplog.proofs.Joins.{end_ge}
@@ -104,12 +105,12 @@ pub only_there : (m : BTreeMap ℕ ℕ Global) (ops : List Operation) (op : Oper
 only_there m ops op q only h = only (seen_before ops op q h).0
 
 -- items of a list that are read one after the other
-pub items_more : {A : Type 0} (items : List (Bor A)) (i : ℕ) (item : Bor A) → i < length items → item ≡ get_or items i item
-    → map (λ x. x.now) (take (i + 1) items) ≡ map (λ x. x.now) (take i items) ++ item.now ∷ []
-items_more {A} items i item h e =
-    ap (map (λ (x : Bor A). x.now)) (take_more items i item h)
-    ∙ map-append (λ (x : Bor A). x.now) (take i items) (get_or items i item ∷ [])
-    ∙ ap (λ (x : Bor A). map (λ (y : Bor A). y.now) (take i items) ++ x.now ∷ []) (sym e)
+pub items_more : (items : List OpView) (i : ℕ) (item : OpView) → i < length items → item ≡ get_or items i item
+    → map operation_in (take (i + 1) items) ≡ map operation_in (take i items) ++ operation_in item ∷ []
+items_more items i item h e =
+    ap (map operation_in) (take_more items i item h)
+    ∙ map-append operation_in (take i items) (get_or items i item ∷ [])
+    ∙ ap (λ (x : OpView). map operation_in (take i items) ++ operation_in x ∷ []) (sym e)
 
 none_known : (log : List Operation) (site : ℕ) → ((op : Operation) → HasOp log op → (op.site == site) ≡ false) → known_end log site ≡ 0
 none_known [] site h = refl
@@ -209,14 +210,16 @@ has_at [] i op h e = absurd (omega (arith, h))
 has_at (x ∷ ops) zero op h e = inl (sym e)
 has_at (x ∷ ops) (suc i) op h e = inr (has_at ops i op (omega (arith, h)) e)
 
-now_at : {A : Type 0} (items : List (Bor A)) (i : ℕ) (item : Bor A) → item ≡ get_or items i item → i < length items → (i < length (map (λ (x : Bor A). x.now) items)) × (item.now ≡ get_or (map (λ (x : Bor A). x.now) items) i item.now)
+now_at : (items : List OpView) (i : ℕ) (item : OpView) → item ≡ get_or items i item → i < length items
+    → (i < length (map operation_in items)) × (operation_in item ≡ get_or (map operation_in items) i (operation_in item))
 now_at [] i item e h = absurd (omega (arith, h))
-now_at {A} (x ∷ items) zero item e h = (omega arith, ap (λ (y : Bor A). y.now) e)
+now_at (x ∷ items) zero item e h = (omega arith, ap operation_in e)
 now_at (x ∷ items) (suc i) item e h = let r = now_at items i item e (omega (arith, h)) in (omega (arith, r.0), r.1)
 
-pub within_counts : (log : List Operation) (items : List (Bor Op)) (i : ℕ) (item : Bor Op) → IsHistory log → map (λ x. x.now) items ≡ reverse log → i < length items → item ≡ get_or items i item
-    → last_count item.now ≤ GREATEST_COUNT
+pub within_counts : (log : List Operation) (items : List OpView) (i : ℕ) (item : OpView) → IsHistory log → map operation_in items ≡ reverse log
+    → i < length items → item ≡ get_or items i item → last_count (operation_in item) ≤ GREATEST_COUNT
 within_counts log items i item h same l e =
+    let op = operation_in item in
     let at = now_at items i item e l in
-    let there : HasOp (reverse log) item.now = subst (λ ops. HasOp ops item.now) same (has_at (map (λ x. x.now) items) i item.now at.0 at.1) in
-    sound_last item.now (sound_in log h item.now (of_reverse log item.now there))
+    let there : HasOp (reverse log) op = subst (λ ops. HasOp ops op) same (has_at (map operation_in items) i op at.0 at.1) in
+    sound_last op (sound_in log h op (of_reverse log op there))

@@ -5,11 +5,13 @@ ghost use Rattle.std.specs.Ordering.{nat_cmp};
 ghost use Rattle.rt_stamps.specs.declared.limits.TheConstants.{GREATEST_COUNT};
 ghost use Rattle.rt_stamps.specs.declared.fault.Fault.TheVariants.{NoMemory};
 ghost use Rattle.rt_ops.specs.Operations.{last_count};
+ghost use Rattle.rt_rows.specs.Views.{operation_in};
 ghost use Rattle.rt_oplog.specs.Logs.{known_end};
 ghost use Rattle.rt_rga.specs.Histories.{IsHistory};
 ghost use Rattle.rt_peers.specs.Lacking.{is_past, known_in, past_known};
 
-use rt_oplog::{Op, OpLog};
+use rt_oplog::OpLog;
+use rt_rows::OpView;
 use rt_stamps::Fault;
 use std::alloc::Global;
 use std::collections::BTreeMap;
@@ -33,9 +35,9 @@ pub(crate) fn ends_of(alloc: Global, log: &OpLog) -> Result<BTreeMap<u32, u64>, 
 }
 
 /// Whether an operation is past what is known of its site.
-fn is_past(op: &Op, ends: &BTreeMap<u32, u64>) -> bool
-    requires { last_count op.now ≤ GREATEST_COUNT }
-    ensures { result ≡ is_past (known_in ends.now) op.now }
+fn is_past(op: &OpView<'_>, ends: &BTreeMap<u32, u64>) -> bool
+    requires { last_count (operation_in op.now) ≤ GREATEST_COUNT }
+    ensures { result ≡ is_past (known_in ends.now) (operation_in op.now) }
 {
     let known = ends.get(&op.site()).copied().unwrap_or(0);
     known < op.last_count()

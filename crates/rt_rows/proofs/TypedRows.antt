@@ -1,14 +1,11 @@
 -- Rows of typed characters.
-use Rattle.std.proofs.Common.{◌≡◌, ℕ, zero, suc, ◌+◌, ◌-◌, ◌<◌, Bool, true, refl, sym, ap, ◌∙◌, subst, arith, List, [], ◌∷◌, ◌++◌, length, map, ◌&&◌, ◌==◌, get_or, Some, Option}
+use Rattle.std.proofs.Common.{◌≡◌, ℕ, zero, suc, ◌+◌, ◌-◌, ◌<◌, Bool, true, refl, sym, ap, ◌∙◌, subst, arith, List, [], ◌∷◌, ◌++◌, length, ◌&&◌, ◌==◌, get_or, Some, Option}
 use Rattle.std.proofs.lemmas.Bool.Decides.{nat_tests}
 use Rattle.std.specs.Prelude.{slice_get}
-use Rattle.std.proofs.lemmas.Slice.Eq.{bytes_eq-Decides}
-use Rattle.std.specs.Cmp.Lexicographic.{pointwise}
-use Rattle.std.specs.Str.{bytes_eq}
 use Rattle.rt_stamps.specs.declared.stamp.Stamp.{Stamp}
 use Rattle.rt_stamps.specs.Stamps.{is_same}
 use Rattle.rt_stamps.proofs.Order.{same_refl, same_from_true}
-use Rattle.rt_ops.specs.Operations.{Name, Body, Insert, Delete, Tag, Operation, stamp_of}
+use Rattle.rt_ops.specs.Operations.{Body, Insert, Delete, Tag, Operation, stamp_of}
 use Rattle.rt_rows.specs.TypedRows.{RowStart, TypedRow, nth, typed_from, operations_in_row, with_character, puts_one, is_next, character_of, one_of}
 
 -- one more character at the end
@@ -23,14 +20,6 @@ pub typed_length : (start : RowStart) (place : ℕ) (text : List ℕ) → length
 typed_length start place [] = refl
 typed_length start place (x ∷ text) = ap suc (typed_length start (suc place) text)
 
--- names as words
-
-pub pointwise_map : {X Y : Type 0} (e : Y → Y → Bool) (f : X → Y) (xs ys : List X) → pointwise e (map f xs) (map f ys) ≡ pointwise (λ x y. e (f x) (f y)) xs ys
-pointwise_map e f [] [] = refl
-pointwise_map e f [] (y ∷ ys) = refl
-pointwise_map e f (x ∷ xs) [] = refl
-pointwise_map e f (x ∷ xs) (y ∷ ys) = ap (λ b. e (f x) (f y) && b) (pointwise_map e f xs ys)
-
 -- what is put at the end of a list is known by the list
 
 last_same : (xs : List Operation) (a b : Operation) → xs ++ a ∷ [] ≡ xs ++ b ∷ [] → a ≡ b
@@ -39,58 +28,40 @@ last_same (x ∷ xs) a b h = last_same xs a b (cc h)
 
 -- the next operation
 
-name_true : (a b : Name) → bytes_eq a b ≡ true → a ≡ b
-name_true a b h = (bytes_eq-Decides a b).0 h
+puts_true : (last : Stamp) (body : Body) → puts_one last body ≡ true → body ≡ Insert last [] (character_of body ∷ [])
+puts_true last (Insert after [] []) h = absurd (cc h)
+puts_true last (Insert after [] (c ∷ [])) h = let p : after ≡ last = same_from_true after last h in λ i. Insert (p i) [] (c ∷ [])
+puts_true last (Insert after [] (c ∷ (d ∷ text))) h = absurd (cc h)
+puts_true last (Insert after (name ∷ names) text) h = absurd (cc h)
+puts_true last (Delete spans) h = absurd (cc h)
+puts_true last (Tag on name spans) h = absurd (cc h)
 
-names_true : (xs ys : List Name) → pointwise bytes_eq xs ys ≡ true → xs ≡ ys
-names_true [] [] h = refl
-names_true [] (y ∷ ys) h = absurd (cc h)
-names_true (x ∷ xs) [] h = absurd (cc h)
-names_true (x ∷ xs) (y ∷ ys) h =
-    let p : x ≡ y = name_true x y (grind (arith, h)) in
-    let q : xs ≡ ys = names_true xs ys (grind (arith, h)) in
-    cc
-
-names_refl : (xs : List Name) → pointwise bytes_eq xs xs ≡ true
-names_refl [] = refl
-names_refl (x ∷ xs) = let e : bytes_eq x x ≡ true = (bytes_eq-Decides x x).1 refl in rw (e, names_refl xs) refl
-
-puts_true : (last : Stamp) (tags : List Name) (body : Body) → puts_one last tags body ≡ true → body ≡ Insert last tags (character_of body ∷ [])
-puts_true last tags (Insert after names []) h = absurd (cc h)
-puts_true last tags (Insert after names (c ∷ [])) h =
-    let p : after ≡ last = same_from_true after last (grind (arith, h)) in
-    let q : names ≡ tags = names_true names tags (grind (arith, h)) in
-    cc
-puts_true last tags (Insert after names (c ∷ (d ∷ text))) h = absurd (cc h)
-puts_true last tags (Delete spans) h = absurd (cc h)
-puts_true last tags (Tag on name spans) h = absurd (cc h)
-
-puts_refl : (last : Stamp) (tags : List Name) (c : ℕ) → puts_one last tags (Insert last tags (c ∷ [])) ≡ true
-puts_refl last tags c = rw (same_refl last, names_refl tags) refl
+puts_refl : (last : Stamp) (c : ℕ) → puts_one last (Insert last [] (c ∷ [])) ≡ true
+puts_refl last c = same_refl last
 
 -- the test of the operation at a place that isn't the first
 abbrev test_at : RowStart → ℕ → Operation → Bool
 test_at start n op =
     is_same (stamp_of op) (record { count = start.count + n; site = start.site })
-    && ((op.prev == start.count + (n - 1)) && puts_one (record { count = start.count + (n - 1); site = start.site }) start.tags op.body)
+    && ((op.prev == start.count + (n - 1)) && puts_one (record { count = start.count + (n - 1); site = start.site }) op.body)
 
 next_true : (start : RowStart) (n : ℕ) (op : Operation) → 0 < n → test_at start n op ≡ true → op ≡ nth start n (character_of op.body)
 next_true start zero op h t = absurd (omega arith)
 next_true start (suc n) op h t =
     let e : suc n - 1 ≡ n = omega arith in
     let u : (is_same (stamp_of op) (record { count = start.count + suc n; site = start.site })
-    && ((op.prev == start.count + n) && puts_one (record { count = start.count + n; site = start.site }) start.tags op.body)) ≡ true = rw e at t in
+    && ((op.prev == start.count + n) && puts_one (record { count = start.count + n; site = start.site }) op.body)) ≡ true = rw e at t in
     let i : op.count ≡ start.count + suc n = grind (arith, nat_tests, u) in
     let j : op.site ≡ start.site = grind (arith, nat_tests, u) in
     let k : op.prev ≡ start.count + n = grind (arith, nat_tests, u) in
-    let l : op.body ≡ Insert (record { count = start.count + n; site = start.site }) start.tags (character_of op.body ∷ []) = puts_true (record { count = start.count + n; site = start.site }) start.tags op.body (grind (arith, u)) in
+    let l : op.body ≡ Insert (record { count = start.count + n; site = start.site }) [] (character_of op.body ∷ []) = puts_true (record { count = start.count + n; site = start.site }) op.body (grind (arith, u)) in
     λ t. record { count = i t; site = j t; prev = k t; body = l t }
 
 next_refl : (start : RowStart) (n c : ℕ) → 0 < n → test_at start n (nth start n c) ≡ true
 next_refl start zero c h = absurd (omega arith)
 next_refl start (suc n) c h =
     let e : suc n - 1 ≡ n = omega arith in
-    let q : puts_one (record { count = start.count + n; site = start.site }) start.tags (Insert (record { count = start.count + n; site = start.site }) start.tags (c ∷ [])) ≡ true = puts_refl (record { count = start.count + n; site = start.site }) start.tags c in
+    let q : puts_one (record { count = start.count + n; site = start.site }) (Insert (record { count = start.count + n; site = start.site }) [] (c ∷ [])) ≡ true = puts_refl (record { count = start.count + n; site = start.site }) c in
     rw e (grind (arith, nat_tests, q))
 
 pub row_next : (row : TypedRow) (op : Operation) → 0 < length row.text → is_next row op ≡ true
@@ -109,12 +80,22 @@ row_exact row op c h e =
     let same : nth row.start (length row.text) c ≡ op = last_same (operations_in_row row) (nth row.start (length row.text) c) op made in
     subst (λ x. test_at row.start (length row.text) x ≡ true) same (next_refl row.start (length row.text) c h)
 
-pub one_is : (body : Body) (c : ℕ) → one_of body ≡ Some c → character_of body ≡ c
-one_is (Insert after tags []) c h = absurd (cc h)
-one_is (Insert after tags (x ∷ [])) c h = cc h
-one_is (Insert after tags (x ∷ (y ∷ text))) c h = absurd (cc h)
-one_is (Delete spans) c h = absurd (cc h)
-one_is (Tag on name spans) c h = absurd (cc h)
+pub one_is : (body : Body) (found : Stamp × ℕ) → one_of body ≡ Some found → character_of body ≡ found.1
+one_is (Insert after [] []) found h = absurd (cc h)
+one_is (Insert after [] (x ∷ [])) found h = let e : (after, x) ≡ found = cc h in ap (λ (p : Stamp × ℕ). p.1) e
+one_is (Insert after [] (x ∷ (y ∷ text))) found h = absurd (cc h)
+one_is (Insert after (name ∷ names) text) found h = absurd (cc h)
+one_is (Delete spans) found h = absurd (cc h)
+one_is (Tag on name spans) found h = absurd (cc h)
+
+-- the body of an Insert of just one
+pub one_body : (body : Body) (found : Stamp × ℕ) → one_of body ≡ Some found → body ≡ Insert found.0 [] (found.1 ∷ [])
+one_body (Insert after [] []) found h = absurd (cc h)
+one_body (Insert after [] (x ∷ [])) found h = let e : (after, x) ≡ found = cc h in ap (λ (p : Stamp × ℕ). Insert p.0 [] (p.1 ∷ [])) e
+one_body (Insert after [] (x ∷ (y ∷ text))) found h = absurd (cc h)
+one_body (Insert after (name ∷ names) text) found h = absurd (cc h)
+one_body (Delete spans) found h = absurd (cc h)
+one_body (Tag on name spans) found h = absurd (cc h)
 
 pub typed_get : (start : RowStart) (place : ℕ) (text : List ℕ) (k : ℕ) → k < length text → slice_get (typed_from start place text) k ≡ Some (nth start (place + k) (get_or text k 0))
 typed_get start place [] k l = absurd (omega arith)

@@ -1,18 +1,15 @@
 -- Rows of typed characters, and the operations that they stand for, in the order of their counts.
 use Rattle.std.specs.Prelude.{ℕ, zero, suc, ◌+◌, ◌-◌, ◌==◌, ◌&&◌, Bool, false, List, [], ◌∷◌, ◌++◌, length, Option, Some, None}
-use Rattle.std.specs.Cmp.Lexicographic.{pointwise}
-use Rattle.std.specs.Str.{bytes_eq}
 use Rattle.rt_stamps.specs.declared.stamp.Stamp.{Stamp}
 use Rattle.rt_stamps.specs.Stamps.{is_same}
-use Rattle.rt_ops.specs.Operations.{Name, Body, Insert, Operation, stamp_of}
+use Rattle.rt_ops.specs.Operations.{Body, Insert, Operation, stamp_of}
 
--- where a row begins: the stamp, the previous count and the element after which its first character stands; and the tags of all
+-- where a row begins: the stamp, the previous count and the element after which its first character stands
 pub record RowStart : Type 0 where
   pub count : ℕ
   pub site : ℕ
   pub prev : ℕ
   pub after : Stamp
-  pub tags : List Name
 
 -- characters that a site typed in a row
 pub record TypedRow : Type 0 where
@@ -31,7 +28,7 @@ after_at start (suc place) = record { count = start.count + place; site = start.
 -- the operation of the character at a place of a row: an Insert of that one character
 abbrev pub nth : RowStart → ℕ → ℕ → Operation
 nth start place c =
-    record { count = start.count + place; site = start.site; prev = prev_at start place; body = Insert (after_at start place) start.tags (c ∷ []) }
+    record { count = start.count + place; site = start.site; prev = prev_at start place; body = Insert (after_at start place) [] (c ∷ []) }
 
 -- the operations of a text whose first character has a place
 abbrev pub typed_from : RowStart → ℕ → List ℕ → List Operation
@@ -53,22 +50,22 @@ last_stamp row = record { count = row.start.count + (length row.text - 1); site 
 abbrev pub next_stamp : TypedRow → Stamp
 next_stamp row = record { count = row.start.count + length row.text; site = row.start.site }
 
--- an Insert of one character after an element, under just these tags
-abbrev pub puts_one : Stamp → List Name → Body → Bool
-puts_one last tags (Insert after names (c ∷ [])) = is_same after last && pointwise bytes_eq names tags
-puts_one last tags _ = false
+-- an Insert of one character after an element, without tags
+abbrev pub puts_one : Stamp → Body → Bool
+puts_one last (Insert after [] (c ∷ [])) = is_same after last
+puts_one last _ = false
 
 -- the operation is the next one of the row
 abbrev pub is_next : TypedRow → Operation → Bool
 is_next row op =
-    is_same (stamp_of op) (next_stamp row) && ((op.prev == (last_stamp row).count) && puts_one (last_stamp row) row.start.tags op.body)
+    is_same (stamp_of op) (next_stamp row) && ((op.prev == (last_stamp row).count) && puts_one (last_stamp row) op.body)
 
 -- the first character of an Insert
 abbrev pub character_of : Body → ℕ
 character_of (Insert after tags (c ∷ text)) = c
 character_of _ = 0
 
--- the character of an Insert of just one
-abbrev pub one_of : Body → Option ℕ
-one_of (Insert after tags (c ∷ [])) = Some c
+-- the element and the character of an Insert of just one, without tags
+abbrev pub one_of : Body → Option (Stamp × ℕ)
+one_of (Insert after [] (c ∷ [])) = Some (after, c)
 one_of _ = None

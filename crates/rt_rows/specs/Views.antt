@@ -1,11 +1,10 @@
 -- Operations, seen where they are kept.
 use Rattle.std.specs.Prelude.{[], ◌∷◌}
-use Rattle.rt_stamps.specs.Words.{as_words}
 use Rattle.rt_ops.specs.Operations.{Operation, Insert}
 use Rattle.rt_rows.specs.declared.view.OpView.{OpView}
 use Rattle.rt_rows.specs.declared.view.OpView.TheVariants.{Typed, Single}
 
 abbrev pub operation_in : OpView → Operation
-operation_in (Typed stamp prev after tags character) =
-    record { count = stamp.count; site = stamp.site; prev = prev; body = Insert after (as_words tags.now) (character ∷ []) }
+operation_in (Typed stamp prev after character) =
+    record { count = stamp.count; site = stamp.site; prev = prev; body = Insert after [] (character ∷ []) }
 operation_in (Single op) = op.now

@@ -2,7 +2,6 @@
 #![tactic(auto)]
 
 pub mod laws;
-mod names;
 mod row;
 pub mod rows;
 mod stored;
@@ -10,4 +9,4 @@ mod typing;
 pub mod view;
 
 pub use rows::Rows;
-pub use view::OpView;
+pub use view::{OpView, typed_op};

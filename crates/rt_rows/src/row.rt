@@ -2,21 +2,19 @@
 ghost use Rattle.std.specs.Prelude.{◌≡◌, ℕ, ◌+◌, ◌-◌, ◌<◌, ◌≤◌, ◌∷◌, [], true, false, length, slice_index_or, IsOkUnless};
 ghost use Rattle.rt_stamps.specs.declared.fault.Fault.TheVariants.{NoMemory};
 ghost use Rattle.rt_stamps.specs.declared.limits.TheConstants.{GREATEST_COUNT};
-ghost use Rattle.rt_stamps.specs.Words.{as_words};
 ghost use Rattle.rt_ops.specs.Edits.{body_of};
 ghost use Rattle.rt_ops.specs.Operations.{stamp_of};
 ghost use Rattle.rt_rows.specs.Views.{operation_in};
 ghost use Rattle.rt_rows.specs.TypedRows.{TypedRow, nth, prev_at, after_at, with_character, is_next, puts_one, last_stamp};
 
 use crate::OpView;
-use crate::names::are_same_names;
 use crate::typing::{Typing, characters, make_room, push};
 use rt_ops::Edit;
 use rt_stamps::{Fault, Stamp};
 use std::alloc::Global;
 use std::marker::Model;
 
-/// Characters that a site typed in a row: the first one's stamp, previous count and left element, the tags of each, and the
+/// Characters without tags that a site typed in a row: the first one's stamp, previous count and left element, and the
 /// characters.
 #[derive(Drop)]
 pub(crate) struct Row {
@@ -24,38 +22,32 @@ pub(crate) struct Row {
     prev: u64,
     site: u32,
     after: Stamp,
-    tags: Vec<String>,
     text: Typing,
 }
 
 impl Model for Row {
     ghost use Rattle.std.specs.Prelude.{◌+◌, ◌<◌, ◌≤◌, length};
     ghost use Rattle.rt_stamps.specs.declared.limits.TheConstants.{GREATEST_COUNT};
-    ghost use Rattle.rt_stamps.specs.Words.{as_words};
     ghost use Rattle.rt_rows.specs.TypedRows.{TypedRow};
     ghost use Rattle.rt_rows.specs.Typings.{characters_in};
 
     ghost Value = { TypedRow };
 
     ghost view = { λ row. record {
-      start = record { count = row.count; site = row.site; prev = row.prev; after = row.after; tags = as_words row.tags.items };
+      start = record { count = row.count; site = row.site; prev = row.prev; after = row.after };
       text = characters_in row.text;
     } };
 
     ghost invariant = { λ row. (0 < length (characters_in row.text)) × (row.count + length (characters_in row.text) ≤ GREATEST_COUNT + 1) };
 }
 
-/// Whether an edit puts one character after an element, under these tags.
-fn puts_one(edit: &Edit, last: Stamp, tags: &[String]) -> bool
-    ensures { result ≡ puts_one last (as_words tags.now) (body_of edit.now) }
+/// Whether an edit puts one character without tags after an element.
+fn puts_one(edit: &Edit, last: Stamp) -> bool
+    ensures { result ≡ puts_one last (body_of edit.now) }
 {
     match edit {
-        Edit::Insert {
-            after,
-            tags: names,
-            text,
-        } => match text.characters() {
-            [_] => *after == last && are_same_names(names, tags),
+        Edit::Insert { after, tags, text } => match text.characters() {
+            [_] => *after == last && tags.is_empty(),
             _ => false,
         },
         Edit::Delete { spans: _ } => false,
@@ -69,16 +61,10 @@ fn puts_one(edit: &Edit, last: Stamp, tags: &[String]) -> bool
 
 impl Row {
     /// A row of one character so far. Takes no memory.
-    pub(crate) fn of(
-        stamp: Stamp,
-        prev: u64,
-        after: Stamp,
-        tags: Vec<String>,
-        character: char,
-    ) -> Row
+    pub(crate) fn of(stamp: Stamp, prev: u64, after: Stamp, character: char) -> Row
         requires { stamp.count ≤ GREATEST_COUNT }
         ensures { result ≡ record {
-          start = record { count = stamp.count; site = stamp.site; prev = prev; after = after; tags = as_words tags.items };
+          start = record { count = stamp.count; site = stamp.site; prev = prev; after = after };
           text = character ∷ [];
         } }
     {
@@ -87,7 +73,6 @@ impl Row {
             prev,
             site: stamp.site,
             after,
-            tags,
             text: Typing::One(character),
         }
     }
@@ -145,7 +130,6 @@ impl Row {
             stamp: self.stamp_at(place),
             prev: self.prev_at(place),
             after: self.after_at(place),
-            tags: &self.tags,
             character: characters(&self.text)[place],
         }
     }
@@ -154,6 +138,7 @@ impl Row {
     fn last(&self) -> Stamp
         ensures stamp { result ≡ last_stamp self.now }
         ensures count { result.count ≤ GREATEST_COUNT }
+        ensures next { result.count + 1 ≡ self.now.start.count + length self.now.text }
     {
         Stamp {
             count: self.count + (characters(&self.text).len() as u64 - 1),
@@ -166,10 +151,16 @@ impl Row {
         ensures { result ≡ is_next self.now (record { count = stamp.count; site = stamp.site; prev = prev; body = body_of edit.now }) }
     {
         let last = self.last();
-        stamp.count == last.count + 1
-            && stamp.site == last.site
-            && prev == last.count
-            && puts_one(edit, last, &self.tags)
+        if stamp.count != last.count + 1 {
+            return false;
+        }
+        if stamp.site != last.site {
+            return false;
+        }
+        if prev != last.count {
+            return false;
+        }
+        puts_one(edit, last)
     }
 
     /// One more character, where there is room for it; else the row stays. Takes no memory.

@@ -9,8 +9,8 @@ ghost use Rattle.rt_rows.specs.Views.{operation_in};
 
 use crate::OpView;
 use crate::stored::Stored;
-use rt_ops::Edit;
-use rt_stamps::{Fault, Stamp};
+use rt_ops::Op;
+use rt_stamps::Fault;
 use std::alloc::Global;
 use std::marker::Model;
 
@@ -21,15 +21,25 @@ pub(crate) struct Placed {
     pub stored: Stored,
 }
 
-/// Operations in the order in which they came. Inserts of one character by one site, each after the one before with the
-/// following count and the same tags, lie together as a text where they come one after the other: such a one takes 4 bytes, up
-/// to 8 where the text has grown, and else an operation takes some 120.
-#[derive(Drop)]
+/// Operations in the order in which they came. Inserts of one character without tags by one site, each after the one before
+/// with the following count, lie together as a text where they come one after the other: such a one takes 4 bytes, up to 8
+/// where the text has grown, and else an operation takes some 120.
 pub struct Rows {
     alloc: Global,
     placed: Vec<Placed>,
     /// How many operations there are.
     len: usize,
+}
+
+// Written out, so that where a log is let go its operations are one step for the crates above.
+impl Drop for Rows {
+    fn drop(self) {
+        let Rows {
+            alloc: _,
+            placed: _,
+            len: _,
+        } = self;
+    }
 }
 
 impl Model for Rows {
@@ -59,11 +69,9 @@ fn found(placed: &[Placed], place: usize) -> usize
 }
 
 /// Takes an operation into what was kept last, where that is a row which it goes on from, with room.
-fn take_last(placed: &mut Vec<Placed>, stamp: Stamp, prev: u64, edit: &Edit) -> bool
+fn take_last(placed: &mut Vec<Placed>, op: &Op) -> bool
     requires kept { ArePlacedFrom 0 placed.old.items }
-    requires count { stamp.count ≤ GREATEST_COUNT }
-    ensures more { result ≡ true → operations_in placed.new.items
-        ≡ operations_in placed.old.items ++ record { count = stamp.count; site = stamp.site; prev = prev; body = body_of edit.now } ∷ [] }
+    ensures more { result ≡ true → operations_in placed.new.items ≡ operations_in placed.old.items ++ op.now ∷ [] }
     ensures same { result ≡ false → placed.new.items ≡ placed.old.items }
     ensures kept { ArePlacedFrom 0 placed.new.items }
     ensures len { vec_len placed.new ≡ vec_len placed.old }
@@ -73,26 +81,23 @@ fn take_last(placed: &mut Vec<Placed>, stamp: Stamp, prev: u64, edit: &Edit) -> 
     if len == 0 {
         return false;
     }
-    placed[len - 1].stored.take(stamp, prev, edit)
+    placed[len - 1].stored.take(op)
 }
 
 /// Puts an operation behind all others, whose number is told, where there is room.
-fn put(placed: &mut Vec<Placed>, first: usize, stamp: Stamp, prev: u64, edit: Edit)
-    requires rules { keeps_rules (body_of edit) ≡ true }
+fn put(placed: &mut Vec<Placed>, first: usize, op: Op)
     requires kept { ArePlacedFrom 0 placed.old.items }
     requires first { first ≡ length (operations_in placed.old.items) }
-    requires count { stamp.count ≤ GREATEST_COUNT }
     requires room { vec_len placed.old < vec_capacity placed.old }
-    ensures more { operations_in placed.new.items
-        ≡ operations_in placed.old.items ++ record { count = stamp.count; site = stamp.site; prev = prev; body = body_of edit } ∷ [] }
+    ensures more { operations_in placed.new.items ≡ operations_in placed.old.items ++ op ∷ [] }
     ensures kept { ArePlacedFrom 0 placed.new.items }
     ensures len { vec_len placed.new ≤ vec_len placed.old + 1 }
     ensures capacity { vec_capacity placed.new ≡ vec_capacity placed.old }
 {
-    if take_last(placed, stamp, prev, &edit) {
+    if take_last(placed, &op) {
         return;
     }
-    let stored = Stored::of(stamp, prev, edit);
+    let stored = Stored::of(op);
     placed.push_reserved(Placed { first, stored });
 }
 
@@ -155,16 +160,13 @@ impl Rows {
 
     /// Puts an operation behind the others, where there is room. Takes no memory: a character that goes on from a row with
     /// room joins it.
-    pub fn push(&mut self, stamp: Stamp, prev: u64, edit: Edit)
-        requires rules { keeps_rules (body_of edit) ≡ true }
-        requires count { stamp.count ≤ GREATEST_COUNT }
+    pub fn push(&mut self, op: Op)
         requires room { 0 < self.old.room }
-        ensures operations { self.new.operations
-            ≡ self.old.operations ++ record { count = stamp.count; site = stamp.site; prev = prev; body = body_of edit } ∷ [] }
+        ensures operations { self.new.operations ≡ self.old.operations ++ op ∷ [] }
         ensures room { self.old.room ≤ self.new.room + 1 }
         ensures stored { self.new.stored ≤ self.old.stored + 1 }
     {
-        put(&mut self.placed, self.len, stamp, prev, edit);
+        put(&mut self.placed, self.len, op);
         self.len += 1;
     }
 }

@@ -11,6 +11,7 @@ ghost use Rattle.rt_rows.specs.Stored.{operations_of, HasSome};
 use crate::OpView;
 use crate::row::Row;
 use rt_ops::{Edit, Op};
+use rt_stamps::limits::GREATEST_COUNT;
 use rt_stamps::{Fault, Stamp};
 use std::alloc::Global;
 
@@ -21,17 +22,13 @@ pub(crate) enum Stored {
     Single(Op),
 }
 
-/// The character of an Insert of just one.
-fn one_of(edit: &Edit) -> Option<char>
+/// The element and the character of an Insert of just one, without tags.
+fn one_of(edit: &Edit) -> Option<(Stamp, char)>
     ensures { result ≡ one_of (body_of edit.now) }
 {
     match edit {
-        Edit::Insert {
-            after: _,
-            tags: _,
-            text,
-        } => match text.characters() {
-            [character] => Some(*character),
+        Edit::Insert { after, tags, text } => match text.characters() {
+            [character] if tags.is_empty() => Some((*after, *character)),
             _ => None,
         },
         Edit::Delete { spans: _ } => None,
@@ -44,24 +41,16 @@ fn one_of(edit: &Edit) -> Option<char>
 }
 
 impl Stored {
-    /// One operation. A single character begins a row. Takes no memory.
-    pub(crate) fn of(stamp: Stamp, prev: u64, edit: Edit) -> Stored
-        requires rules { keeps_rules (body_of edit) ≡ true }
-        requires count { stamp.count ≤ GREATEST_COUNT }
-        ensures operations { operations_of result ≡ record { count = stamp.count; site = stamp.site; prev = prev; body = body_of edit } ∷ [] }
+    /// One operation. A single character without tags begins a row. Takes no memory.
+    pub(crate) fn of(op: Op) -> Stored
+        ensures operations { operations_of result ≡ op ∷ [] }
         ensures some { HasSome result }
     {
-        let one = one_of(&edit);
-        match (one, edit) {
-            (
-                Some(character),
-                Edit::Insert {
-                    after,
-                    tags,
-                    text: _,
-                },
-            ) => Stored::Typed(Row::of(stamp, prev, after, tags, character)),
-            (_, edit) => Stored::Single(Op::of(stamp, prev, edit)),
+        match one_of(op.edit()) {
+            Some((after, character)) if op.stamp().count <= GREATEST_COUNT => {
+                Stored::Typed(Row::of(op.stamp(), op.prev(), after, character))
+            }
+            _ => Stored::Single(op),
         }
     }
 
@@ -99,18 +88,18 @@ impl Stored {
 
     /// Takes an operation in at the end, where it goes on from a row that has room; else the operations stay. Takes no
     /// memory.
-    pub(crate) fn take(&mut self, stamp: Stamp, prev: u64, edit: &Edit) -> bool
-        requires some { HasSome self.old }
-        requires count { stamp.count ≤ GREATEST_COUNT }
-        ensures more { result ≡ true
-            → operations_of self.new ≡ operations_of self.old ++ record { count = stamp.count; site = stamp.site; prev = prev; body = body_of edit.now } ∷ [] }
+    pub(crate) fn take(&mut self, op: &Op) -> bool
+        requires { HasSome self.old }
+        ensures more { result ≡ true → operations_of self.new ≡ operations_of self.old ++ op.now ∷ [] }
         ensures same { result ≡ false → self.new ≡ self.old }
         ensures some { HasSome self.new }
     {
         match self {
-            Stored::Typed(row) => match one_of(edit) {
-                Some(character) => {
-                    if row.goes_on(stamp, prev, edit) {
+            Stored::Typed(row) => match one_of(op.edit()) {
+                Some((_, character)) => {
+                    if op.stamp().count <= GREATEST_COUNT
+                        && row.goes_on(op.stamp(), op.prev(), op.edit())
+                    {
                         row.push(character)
                     } else {
                         false

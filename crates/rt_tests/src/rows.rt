@@ -1,7 +1,6 @@
 // Operations in rows: what was typed in a row is kept as one.
 use crate::checks::same;
-use rt_ops::{Edit, Text};
-use rt_rows::Rows;
+use rt_rows::{Rows, typed_op};
 use rt_stamps::{Fault, ROOT, Stamp};
 use std::alloc::Global;
 use std::process::Abort;
@@ -16,13 +15,8 @@ fn types(alloc: Global, rows: &mut Rows, first: u64, site: u32, prev: u64) -> Re
             count: first.saturating_add(more).min(1_000_000),
             site,
         };
-        let edit = Edit::Insert {
-            after,
-            tags: Vec::new(alloc),
-            text: Text::of('x'),
-        };
         rows.reserve(1)?;
-        rows.push(stamp, known, edit);
+        rows.push(typed_op(alloc, stamp, known, after, 'x'));
         after = stamp;
         known = stamp.count;
     }

@@ -32,7 +32,10 @@ fn told_from(
     let mut told = Vec::new(alloc);
     let mut place = from;
     for change in changes {
-        let Ok(to_tell) = ToTell::of(alloc, log.get(place)) else {
+        let Ok(op) = log.get(place).copied(alloc) else {
+            return None;
+        };
+        let Ok(to_tell) = ToTell::of(alloc, &op) else {
             return None;
         };
         let Ok(()) = told.push(to_tell.at(change)) else {

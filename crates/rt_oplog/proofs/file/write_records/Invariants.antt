@@ -7,7 +7,7 @@ use Rattle.rt_oplog.proofs.file.write_records.Given as goal
 
 abbrev pub invariant-loop-place : goal.invariant-loop-place
 invariant-loop-place g l = record {
-  wrote : Appends (g.W.Sink.stream l.fn.out).bytes (g.W.Sink.stream l.out).bytes (flat_map (record_of l.version) (map (op_at l.ops) (take l.place-index l.places)));
-  records : AllByRecursion (HasRecord l.version) (map (op_at l.ops) (take l.place-index l.places));
+  wrote : Appends (g.W.Sink.stream l.fn.out).bytes (g.W.Sink.stream l.out).bytes (flat_map (record_of l.version) (map (op_at l.ops.operations) (take l.place-index l.places)));
+  records : AllByRecursion (HasRecord l.version) (map (op_at l.ops.operations) (take l.place-index l.places));
   failures : (g.W.Sink.stream l.out).failures ≡ (g.W.Sink.stream l.fn.out).failures;
 }

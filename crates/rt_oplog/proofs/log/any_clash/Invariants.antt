@@ -5,4 +5,4 @@ use Rattle.rt_oplog.specs.Kept.{op_at}
 use Rattle.rt_oplog.proofs.log.any_clash.Given as goal
 
 abbrev pub invariant-loop-place : goal.invariant-loop-place
-invariant-loop-place l = list_any (λ place. clash l.op (op_at l.ops place)) (drop l.place-index l.order) ≡ list_any (λ place. clash l.op (op_at l.ops place)) l.order
+invariant-loop-place l = list_any (λ place. clash l.op (op_at l.ops.operations place)) (drop l.place-index l.order) ≡ list_any (λ place. clash l.op (op_at l.ops.operations place)) l.order

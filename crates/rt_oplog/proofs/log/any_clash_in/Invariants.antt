@@ -6,4 +6,4 @@ use Rattle.rt_oplog.specs.Blocks.{in_blocks}
 use Rattle.rt_oplog.proofs.log.any_clash_in.Given as goal
 
 abbrev pub invariant-loop-block : goal.invariant-loop-block
-invariant-loop-block l = list_any (λ place. clash l.op (op_at l.ops place)) (in_blocks (drop l.block-index l.blocks)) ≡ list_any (λ place. clash l.op (op_at l.ops place)) (in_blocks l.blocks)
+invariant-loop-block l = list_any (λ place. clash l.op (op_at l.ops.operations place)) (in_blocks (drop l.block-index l.blocks)) ≡ list_any (λ place. clash l.op (op_at l.ops.operations place)) (in_blocks l.blocks)

@@ -15,7 +15,7 @@ use Rattle.rt_oplog.proofs.log.has_clash.Goals as goal
 pub returns-then-prev-get : goal.returns-then-prev-get
 returns-then-prev-get c =
     let op = c.args.op.now in
-    let set = newest_first c.args.ops.now c.args.order.now.items in
+    let set = newest_first c.args.ops.now.operations c.args.order.now.items in
     let known = c.requires.kept.known op.site in
     let past : known_end set op.site ≤ op.prev = omega (arith, known, ap (end_in c.args.ends.now) c.site.ensures, c.get.ensures, c.if-prev-get.true, c.prev.ensures) in
     sym (none_from (clash op) set (free_past set op c.requires.sound past))
@@ -23,7 +23,7 @@ returns-then-prev-get c =
 pub returns-in-None : goal.returns-in-None
 returns-in-None c =
     let op = c.args.op.now in
-    let ops = c.args.ops.now in
+    let ops = c.args.ops.now.operations in
     let order = c.args.order.now.items in
     let ends = c.args.ends.now in
     let at = leading (is_earlier ops (stamp_of op)) order in
@@ -35,6 +35,6 @@ returns-in-None c =
 
 pub returns-in-Some : goal.returns-in-Some
 returns-in-Some c =
-    let ops = c.args.ops.now in
+    let ops = c.args.ops.now.operations in
     let op = c.args.op.now in
     c.any_clash_in.ensures ∙ ap (λ xs. list_any (λ place. clash op (op_at ops place)) xs) c.blocks-in-Some.ensures ∙ sym (any_seen (clash op) ops c.args.order.now.items)

@@ -10,7 +10,7 @@ use Rattle.rt_oplog.proofs.log.is_held.Goals as goal
 
 pub returns-in-Some : goal.returns-in-Some
 returns-in-Some c =
-    let ops = c.args.ops.now in
+    let ops = c.args.ops.now.operations in
     let order = c.args.order.now.items in
     let op = c.args.op.now in
     let at = leading (is_earlier ops (stamp_of op)) order in
@@ -24,7 +24,7 @@ returns-in-Some c =
 
 pub returns-in-None : goal.returns-in-None
 returns-in-None c =
-    let ops = c.args.ops.now in
+    let ops = c.args.ops.now.operations in
     let order = c.args.order.now.items in
     let op = c.args.op.now in
     let at = leading (is_earlier ops (stamp_of op)) order in

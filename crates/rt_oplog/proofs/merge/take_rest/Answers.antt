@@ -2,38 +2,33 @@ use Rattle.std.proofs.Common.{◌≡◌, ◌+◌, ◌<◌, ◌++◌, ◌∷◌, 
 use Rattle.std.specs.List.{range_with_len}
 use Rattle.std.proofs.lemmas.List.{take_all}
 use Rattle.rt_oplog.specs.Kept.{op_at}
-use Rattle.rt_oplog.proofs.Kept.{rest_start, rest_first, rest_stays, row_step, row_length, range_last}
+use Rattle.rt_oplog.proofs.Kept.{row_step, row_length, range_last}
 use Rattle.std.proofs.lemmas.Result.{err_from_is_err_and}
 use Rattle.rt_oplog.proofs.merge.take_rest.Goals as goal
 
 pub loop-place-init : goal.loop-place-init
 loop-place-init c = record {
-  len = refl;
-  rest = rest_start c.args.more.now c.args.places.now;
-  ops = sym (append-nil c.args.ops.now.items);
+  ops = sym (append-nil c.args.ops.now.operations);
   order = sym (append-nil c.args.order.now.items);
 }
 
 pub loop-place-preserved : goal.loop-place-preserved
 loop-place-preserved c =
-    let first = c.args.more.now in
-    let now = c.loop-place.more in
+    let first = c.args.more.now.operations in
     let places = c.args.places.now in
     let i = c.loop-place.place-index in
     let h : i < length places = c.loop-place-test.true in
-    let ops = c.args.ops.now.items in
+    let ops = c.args.ops.now.operations in
     let order = c.args.order.now.items in
-    let stood = rest_first first now places i h c.loop-place.invariant.rest in
+    let now = c.loop-place.ops.operations in
     let row = map (op_at first) (take i places) in
-    let len : length c.loop-place.ops.items ≡ length ops + length row = ap length c.loop-place.invariant.ops ∙ length-append ops row in
+    let len : length now ≡ length ops + length row = ap length c.loop-place.invariant.ops ∙ length-append ops row in
     let short : length row ≡ i = row_length first places i (omega arith) in
     record {
-      len = c.take_over.ensures.len ∙ c.loop-place.invariant.len;
-      rest = rest_stays first now c.take_over.new.more places i h c.requires.falling c.take_over.ensures.others c.loop-place.invariant.rest;
-      ops = c.in_ok-take_over.ensures.ops ∙ ap (λ xs. xs ++ op_at now (get_or places i 0) ∷ []) c.loop-place.invariant.ops ∙ append_assoc ops row (op_at now (get_or places i 0) ∷ [])
-          ∙ ap (λ xs. ops ++ xs) (row_step first row places i (op_at now (get_or places i 0)) h stood refl);
-      order = c.in_ok-take_over.ensures.order ∙ ap (λ xs. xs ++ length c.loop-place.ops.items ∷ []) c.loop-place.invariant.order ∙ append_assoc order (range_with_len (length ops) i) (length c.loop-place.ops.items ∷ [])
-          ∙ ap (λ xs. order ++ xs) (sym (range_last (length ops) i (length c.loop-place.ops.items) (omega (arith, len, short))) ∙ ap (range_with_len (length ops)) (sym (add-one i)));
+      ops = c.in_ok-take_over.ensures.ops ∙ ap (λ xs. xs ++ op_at first (get_or places i 0) ∷ []) c.loop-place.invariant.ops ∙ append_assoc ops row (op_at first (get_or places i 0) ∷ [])
+          ∙ ap (λ xs. ops ++ xs) (row_step first row places i (op_at first (get_or places i 0)) h refl refl);
+      order = c.in_ok-take_over.ensures.order ∙ ap (λ xs. xs ++ length now ∷ []) c.loop-place.invariant.order ∙ append_assoc order (range_with_len (length ops) i) (length now ∷ [])
+          ∙ ap (λ xs. order ++ xs) (sym (range_last (length ops) i (length now) (omega (arith, len, short))) ∙ ap (range_with_len (length ops)) (sym (add-one i)));
     }
 
 pub returns-in_err-take_over : goal.returns-in_err-take_over
@@ -45,7 +40,7 @@ pub returns : goal.returns
 returns c =
     let all = take_all c.loop-place.place-index c.args.places.now c.loop-place-test.false in
     record {
-      ops = c.loop-place.invariant.ops ∙ ap (λ xs. c.args.ops.now.items ++ map (op_at c.args.more.now) xs) all;
-      order = c.loop-place.invariant.order ∙ ap (λ n. c.args.order.now.items ++ range_with_len (length c.args.ops.now.items) n) (omega arith);
+      ops = c.loop-place.invariant.ops ∙ ap (λ xs. c.args.ops.now.operations ++ map (op_at c.args.more.now.operations) xs) all;
+      order = c.loop-place.invariant.order ∙ ap (λ n. c.args.order.now.items ++ range_with_len (length c.args.ops.now.operations) n) (omega arith);
       fault = tt;
     }

@@ -5,6 +5,7 @@ use Rattle.std.specs.BTreeMap.{get}
 use Rattle.std.specs.Ordering.{nat_cmp}
 use Rattle.rt_oplog.specs.Logs.{known_end}
 use Rattle.rt_peers.specs.Lacking.{known_in}
+use Rattle.rt_rows.specs.Views.{operation_in}
 use Rattle.rt_peers.proofs.Lacking.{all_known, is_of, is_there, items_more, known_more, known_there, none_seen, only_more, only_there, reached}
 use Rattle.rt_peers.proofs.sending.ends_of.Goals as goal
 use Rattle.rt_peers.proofs.sending.ends_of.Goals.{then-not-contains_key+in_ok-insert, else-not-contains_key}
@@ -12,8 +13,8 @@ use Rattle.rt_peers.proofs.sending.ends_of.Goals.{then-not-contains_key+in_ok-in
 pub loop-op-preserved : goal.loop-op-preserved
 loop-op-preserved c =
     let known = known_end c.args.log.now.operations in
-    let seen = map (λ op. op.now) (take c.loop-op.op-index c.deref-op-items.result.now) in
-    let op = c.op-item.result.now in
+    let seen = map operation_in (take c.loop-op.op-index c.deref-op-items.result.now) in
+    let op = operation_in c.op-item.result in
     let site = c.site-site.result in
     let of = sym c.site-site.ensures in
     let more = items_more c.deref-op-items.result.now c.loop-op.op-index c.op-item.result c.loop-op-test.true c.op-item.is in
@@ -37,7 +38,7 @@ pub returns-clause-ok : goal.returns-clause-ok
 returns-clause-ok c = λ q.
     let all = take_all c.loop-op.op-index c.deref-op-items.result.now c.loop-op-test.false in
     c.loop-op.invariant.known q
-    ∙ ap (λ items. reached (map (λ op. op.now) items) (known_end c.args.log.now.operations) q) (all ∙ c.deref-op-items.ensures.value)
+    ∙ ap (λ items. reached (map operation_in items) (known_end c.args.log.now.operations) q) (all ∙ c.deref-op-items.ensures.value)
     ∙ ap (λ ops. reached ops (known_end c.args.log.now.operations) q) c.in_ok-ops.ensures.operations
     ∙ all_known c.args.log.now.operations q
 
@@ -45,6 +46,6 @@ pub returns-clause-only : goal.returns-clause-only
 returns-clause-only c = λ q z.
     let all = take_all c.loop-op.op-index c.deref-op-items.result.now c.loop-op-test.false in
     c.loop-op.invariant.only q
-    (ap (λ items. list_any (is_of q) (map (λ op. op.now) items)) (all ∙ c.deref-op-items.ensures.value)
+    (ap (λ items. list_any (is_of q) (map operation_in items)) (all ∙ c.deref-op-items.ensures.value)
     ∙ ap (list_any (is_of q)) c.in_ok-ops.ensures.operations
     ∙ none_seen c.args.log.now.operations c.soundness.ensures.log q z)

@@ -1,15 +1,14 @@
 use Rattle.std.proofs.Common.{◌≡◌, ◌∙◌, ◌+◌, ◌-◌, ◌<◌, ◌++◌, ◌∷◌, [], sym, ap, subst, arith, length, get_or}
 use Rattle.std.proofs.Math.ListN.{set}
 use Rattle.std.proofs.lemmas.List.{set-get_or}
-use Rattle.rt_ops.specs.Edits.{body_of}
 use Rattle.rt_ops.specs.Operations.{Operation}
 use Rattle.rt_rows.specs.declared.rows.Placed.{Placed}
 use Rattle.rt_rows.specs.Stored.{ArePlacedFrom, HasSome, operations_of}
 use Rattle.rt_rows.proofs.Placing.{last_longer, some_at, split}
 use Rattle.rt_rows.proofs.rows.take_last.Goals as goal
 
-pub take-requires-clause-some : goal.take-requires-clause-some
-take-requires-clause-some c =
+pub take-requires : goal.take-requires
+take-requires c =
     let items = c.args.placed.now.items in
     let k = c.len-len.result - 1 in
     let within : k < length items = omega (arith, c.if-len-eq0.false, c.len-len.ensures, c.args.placed.now.ok.0) in
@@ -20,7 +19,7 @@ returns-clause-more c = λ taken.
     let items = c.args.placed.now.items in
     let k = c.len-len.result - 1 in
     let was = c.index_mut.result.now in
-    let op : Operation = record { count = c.args.stamp.count; site = c.args.stamp.site; prev = c.args.prev; body = body_of c.args.edit.now } in
+    let op : Operation = c.args.op.now in
     let now : Placed = record { first = was.first; stored = c.take.new.self } in
     let last : k + 1 ≡ length items = omega (arith, c.if-len-eq0.false, c.len-len.ensures, c.args.placed.now.ok.0) in
     let longer = c.take.ensures.more taken ∙ ap (λ (p : Placed). operations_of p.stored ++ op ∷ []) c.index_mut.ensures.value in
@@ -31,7 +30,7 @@ returns-clause-kept c =
     let items = c.args.placed.now.items in
     let k = c.len-len.result - 1 in
     let was = c.index_mut.result.now in
-    let op : Operation = record { count = c.args.stamp.count; site = c.args.stamp.site; prev = c.args.prev; body = body_of c.args.edit.now } in
+    let op : Operation = c.args.op.now in
     let now : Placed = record { first = was.first; stored = c.take.new.self } in
     split c.take.result
     (λ taken. let last : k + 1 ≡ length items = omega (arith, c.if-len-eq0.false, c.len-len.ensures, c.args.placed.now.ok.0) in

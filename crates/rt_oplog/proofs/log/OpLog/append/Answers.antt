@@ -12,7 +12,7 @@ use Rattle.rt_oplog.proofs.log.OpLog.append.Goals as goal
 pub invariant_of-self : goal.invariant_of-self
 invariant_of-self c =
     let op = c.args.op in
-    let ops = c.self.inside.ops.items in
+    let ops = c.self.inside.ops.operations in
     let order = c.self.inside.order.items in
     let ends = c.self.inside.ends in
     let set = newest_first ops order in
@@ -26,7 +26,7 @@ invariant_of-self c =
 pub returns-clause-operations : goal.returns-clause-operations
 returns-clause-operations c =
     let op = c.args.op in
-    let ops = c.self.inside.ops.items in
+    let ops = c.self.inside.ops.operations in
     let order = c.self.inside.order.items in
     let seen : newest_first ops order ≡ c.args.self.now.operations = ap (λ log. log.operations) c.self.view_is in
     rw (c.push_newest.ensures.ops, c.push_newest.ensures.order) (seen_newest ops order op c.self.invariant.within ∙ ap (λ set. op ∷ set) seen)

@@ -21,7 +21,7 @@ last_count-requires c =
 pub invariant_of-self : goal.invariant_of-self
 invariant_of-self c =
     let stamp = c.args.stamp in
-    let ops = c.self.inside.ops.items in
+    let ops = c.self.inside.ops.operations in
     let order = c.self.inside.order.items in
     let ends = c.self.inside.ends in
     let set = newest_first ops order in
@@ -38,7 +38,7 @@ invariant_of-self c =
 pub returns-clause-operations : goal.returns-clause-operations
 returns-clause-operations c =
     let stamp = c.args.stamp in
-    let ops = c.self.inside.ops.items in
+    let ops = c.self.inside.ops.operations in
     let order = c.self.inside.order.items in
     let set = newest_first ops order in
     let op : Operation = going_on set stamp (body_of c.args.edit) in

@@ -1,10 +1,10 @@
-use Rattle.std.proofs.Common.{take}
-use Rattle.rt_oplog.specs.Kept.{newest_first, IsKept}
+use Rattle.std.proofs.Common.{◌≡◌, take, drop}
+use Rattle.std.specs.Vec.Iter.{into_iter_items}
 use Rattle.rt_oplog.specs.Outcomes.{IsLogOf}
 use Rattle.rt_oplog.proofs.log.OpLog.from_ops.Given as goal
 
-abbrev pub invariant-loop-place : goal.invariant-loop-place
-invariant-loop-place l = record {
-  kept : IsKept l.ops.items l.order.items l.ends;
-  are : IsLogOf (take l.place l.ops.items) (newest_first l.ops.items l.order.items);
+abbrev pub invariant-loop-op : goal.invariant-loop-op
+invariant-loop-op l = record {
+  left : into_iter_items l.op-iterator ≡ drop l.place l.fn.ops.items;
+  are : IsLogOf (take l.place l.fn.ops.items) l.log.operations;
 }

@@ -9,19 +9,19 @@ use Rattle.rt_oplog.proofs.log.OpLog.in_order.Goals as goal
 
 pub returns-clause-operations : goal.returns-clause-operations
 returns-clause-operations c =
-    let ops = c.self.inside.ops.items in
+    let ops = c.self.inside.ops.operations in
     let list = c.deref-place-items.result.now in
     let same : list ≡ c.self.inside.order.items = c.deref-place-items.ensures.value ∙ c.in_ok-places.ensures in
     rw (← c.self.view_is) (c.loop-place.invariant ∙ ap (map (op_at ops)) (take_all c.loop-place.place-index list (omega (arith, c.loop-place-test.false)) ∙ same) ∙ sym (seen_reversed ops c.self.inside.order.items))
 
-pub index-requires : goal.index-requires
-index-requires c =
-    let ops = c.self.inside.ops.items in
+pub op_in-requires : goal.op_in-requires
+op_in-requires c =
+    let ops = c.self.inside.ops.operations in
     let list = c.deref-place-items.result.now in
     let same : list ≡ c.self.inside.order.items = c.deref-place-items.ensures.value ∙ c.in_ok-places.ensures in
     let within = subst (λ xs. AllByRecursion (λ place. place < length ops) xs) (sym same) c.self.invariant.within in
     let fits = All-from_recursion (λ place. place < length ops) list within c.loop-place.place-index 0 c.loop-place-test.true in
-    omega (arith, fits, c.self.inside.ops.ok.0)
+    fits
 
 pub returns-in_err-push : goal.returns-in_err-push
 returns-in_err-push c =

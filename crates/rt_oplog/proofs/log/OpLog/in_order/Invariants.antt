@@ -1,6 +1,7 @@
 use Rattle.std.proofs.Common.{◌≡◌, map, take}
+use Rattle.rt_rows.specs.Views.{operation_in}
 use Rattle.rt_oplog.specs.Kept.{op_at}
 use Rattle.rt_oplog.proofs.log.OpLog.in_order.Given as goal
 
 abbrev pub invariant-loop-place : goal.invariant-loop-place
-invariant-loop-place l = map (λ op. op.now) l.ops.items ≡ map (op_at l.self-inside.ops.items) (take l.place-index l.place-items)
+invariant-loop-place l = map operation_in l.ops.items ≡ map (op_at l.self-inside.ops.operations) (take l.place-index l.place-items)

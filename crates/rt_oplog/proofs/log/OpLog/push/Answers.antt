@@ -19,7 +19,7 @@ returns-in_err-check c =
 pub invariant_of-self : goal.invariant_of-self
 invariant_of-self c =
     let op = c.args.op in
-    let ops = c.self.inside.ops.items in
+    let ops = c.self.inside.ops.operations in
     let order = c.self.inside.order.items in
     let ends = c.self.inside.ends in
     let set = newest_first ops order in
@@ -27,15 +27,15 @@ invariant_of-self c =
     let sound : has_bad_stamp op ≡ false = sound_if_ok op c.in_ok-check.field-0 (sym c.in_ok-check.ensures) in
     let new : holds set op ≡ false = rw seen (sym c.contains.ensures ∙ c.if-contains.false) in
     let free : list_any (clash op) set ≡ false = rw seen (sym c.clashes.ensures ∙ c.if-clashes.false) in
-    let items = rw (c.deref.ensures.value, c.stamp.ensures) at c.insert.ensures.items in
-    let put : c.insert.new.self.items ≡ insert order (leading (is_earlier ops (stamp_of op)) order) (length ops) = cc (items, c.len-place.ensures, c.self.inside.ops.ok.0) in
+    let items = rw (c.stamp.ensures) at c.insert.ensures.items in
+    let put : c.insert.new.self.items ≡ insert order (leading (is_earlier ops (stamp_of op)) order) (length ops) = cc (items, c.len-place.ensures) in
     let known : (s : ℕ) → end_in c.raise.new.self s ≡ known_end (op ∷ set) s = λ s. c.raise.ensures.ends s ∙ rw (c.site.ensures, c.last_count.ensures, c.self.invariant.known s) refl in
-    rw (c.push_reserved.ensures.items, put) (kept_with ops order ends c.raise.new.self op c.self.invariant sound new free known)
+    rw (c.push.ensures.operations, put) (kept_with ops order ends c.raise.new.self op c.self.invariant sound new free known)
 
 pub returns : goal.returns
 returns c =
     let op = c.args.op in
-    let ops = c.self.inside.ops.items in
+    let ops = c.self.inside.ops.operations in
     let order = c.self.inside.order.items in
     let set = newest_first ops order in
     let seen : set ≡ c.args.self.now.operations = ap (λ log. log.operations) c.self.view_is ∙ c.in_ok-reserve.ensures.same in
@@ -44,12 +44,12 @@ returns c =
     let free : list_any (clash op) set ≡ false = rw seen (sym c.clashes.ensures ∙ c.if-clashes.false) in
     let one = rw (← c.self.view_is) at c.in_ok-reserve.ensures.ok in
     let kept = rw (← c.self.view_is) at c.in_ok-reserve.ensures.kept in
-    let items = rw (c.deref.ensures.value, c.stamp.ensures) at c.insert.ensures.items in
-    let put : c.insert.new.self.items ≡ insert order (leading (is_earlier ops (stamp_of op)) order) (length ops) = cc (items, c.len-place.ensures, c.self.inside.ops.ok.0) in
+    let items = rw (c.stamp.ensures) at c.insert.ensures.items in
+    let put : c.insert.new.self.items ≡ insert order (leading (is_earlier ops (stamp_of op)) order) (length ops) = cc (items, c.len-place.ensures) in
     let now = kept_seen ops order op c.self.invariant.within c.self.invariant.log.falling in
     let wrap : List Operation → Result (List Operation) Fault = λ log. Ok log in (
-      ap (pushed op) (sym seen) ∙ push_new op set sound new free ∙ ap wrap (rw (c.push_reserved.ensures.items, put) (sym now)),
-      omega (arith, kept, one, c.insert.ensures.room, c.push_reserved.ensures.len, c.push_reserved.ensures.capacity, c.raise.ensures.room),
+      ap (pushed op) (sym seen) ∙ push_new op set sound new free ∙ ap wrap (rw (c.push.ensures.operations, put) (sym now)),
+      omega (arith, kept, one, c.insert.ensures.room, c.push.ensures.room, c.raise.ensures.room),
     )
 
 -- what can't give one more has no room

@@ -1,6 +1,5 @@
 use Rattle.std.proofs.Common.{◌≡◌, ◌<◌, ◌∙◌, ◌∷◌, [], ap, get_or, length, arith}
 use Rattle.std.proofs.lemmas.List.{get_or_read}
-use Rattle.rt_stamps.specs.Words.{as_words}
 use Rattle.rt_ops.specs.Operations.{Insert}
 use Rattle.rt_rows.specs.TypedRows.{TypedRow}
 use Rattle.rt_rows.proofs.row.Row.view.Goals as goal
@@ -10,9 +9,8 @@ returns c =
     let row : TypedRow = c.args.self.now in
     let place = c.args.place in
     let text : c.characters.result.now ≡ row.text = c.characters.ensures ∙ ap (λ (r : TypedRow). r.text) c.self.view_is in
-    let tags : as_words c.deref.result.now ≡ row.start.tags = ap as_words c.deref.ensures.value ∙ ap (λ (r : TypedRow). r.start.tags) c.self.view_is in
     let within : place < length c.characters.result.now = omega (arith, c.requires, ap length text) in
     let letter : c.index-characters-place.result ≡ get_or row.text place 0 =
     get_or_read c.characters.result.now place c.index-characters-place.result within c.index-characters-place.is 0 ∙ ap (λ xs. get_or xs place 0) text in
     let stamp = c.stamp_at.ensures 0 in
-    λ i. record { count = (stamp i).count; site = (stamp i).site; prev = c.prev_at.ensures i; body = Insert (c.after_at.ensures i) (tags i) (letter i ∷ []) }
+    λ i. record { count = (stamp i).count; site = (stamp i).site; prev = c.prev_at.ensures i; body = Insert (c.after_at.ensures i) [] (letter i ∷ []) }

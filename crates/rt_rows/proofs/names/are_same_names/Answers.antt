@@ -1,7 +1,0 @@
-use Rattle.std.proofs.Common.{rules, string_bytes, Global}
-use Rattle.std.specs.Str.{bytes_eq}
-use Rattle.rt_rows.proofs.TypedRows.{pointwise_map}
-use Rattle.rt_rows.proofs.names.are_same_names.Goals as goal
-
-pub returns : goal.returns
-returns c = rw (pointwise_map bytes_eq (string_bytes {Z = Global}) c.args.one.now c.args.other.now) (search rules)
