@@ -61,8 +61,8 @@ class Peer:
 
     def prepare(self, work):
         """Makes the files of what comes before a work."""
-        for site, script, log, out in work.before:
-            self.run(self.lines(script), site, log, (), out)
+        for site, script, log, out, *files in work.before:
+            self.run(self.lines(script), site, log, *(files or [()]), out)
 
     def do(self, work):
         """Runs a work."""
@@ -137,7 +137,7 @@ def compared(name, work, peers):
         else:
             expect(f"{name}: text of {peer.name}", told.splitlines()[-1] == text)
         if peer.name == PLAIN:
-            for file in [*(out for *_, out in work.before), "log.out"]:
+            for file in [*(out for _, _, _, out, *_ in work.before), "log.out"]:
                 expect(f"{name}: file {file} of {peer.name}", peer.file(file) == ours.file(file))
 
 
@@ -158,7 +158,7 @@ def least(name, work, peers):
 
 def row(cells):
     """A row of the table."""
-    sizes = (34, 18, 12, 8, *[12] * (2 * len(NAMES) - 2))
+    sizes = (38, 18, 12, 8, *[12] * (2 * len(NAMES) - 2))
     print("| " + " | ".join(cell.ljust(size) for cell, size in zip(cells, sizes)) + " |", flush=True)
 
 

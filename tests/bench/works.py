@@ -48,7 +48,8 @@ class Script:
 @dataclasses.dataclass
 class Work:
     """What site 1 runs, the file of its log and those that it has by name, and what is run before that: for each file a site, its
-    script and the file of its log. `asked` is what tells more of a site than its text."""
+    script, the file of its log, and then perhaps the files that its script receives. `asked` is what tells more of a site than its
+    text."""
 
     script: Script
     log: str = ""
@@ -86,9 +87,9 @@ def edit(script, n, seed):
     return script
 
 
-def write(script, n):
+def write(script, n, seed=1):
     """A writer's session: bursts of typing at a cursor, backspaces, cuts, jumps, pastes; some 35 in 100 characters go again."""
-    chance, cursor, edits = random.Random(1), 0, 0
+    chance, cursor, edits = random.Random(seed), 0, 0
     while edits < n:
         what = chance.random()
         if what < 0.55:
@@ -169,6 +170,16 @@ def loading(writes):
     return lambda n: Work(Script(), "log", before=((1, write(Script(), n), "", "log"),), writes=writes)
 
 
+def four(n):
+    """A site that begins with the log of four, each of which wrote a part of n edits by itself: their operations stand in turn."""
+    names = tuple(f"site{site}" for site in range(2, 6))
+    before, gather = [], Script()
+    for site, name in enumerate(names, 2):
+        before.append((site, write(Script(), n // 4, site), "", name))
+        gather.receive(name)
+    return Work(Script(), "log", before=(*before, (6, gather, "", "log", names)))
+
+
 def tags(n):
     """Tags put on short ranges of a text of 2 n characters, and taken off others, twice as many on as off."""
     chance, script = random.Random(1), Script()
@@ -189,5 +200,6 @@ WORKS = [
     ("index, n times in 100 n characters", 100_000, indices, (PLAIN, TK)),
     ("loading a log of n edits", 250_000, loading(False), (PLAIN, YJS)),
     ("loading and writing that log", 250_000, loading(True), (PLAIN, YJS)),
+    ("loading a log of n edits of four sites", 250_000, four, (PLAIN,)),
     ("tags on n random ranges", 20_000, tags, (TK,)),
 ]

@@ -33,7 +33,7 @@ use Rattle.rt_rga.proofs.Histories.{history_with, inserted_new, inserted_range, 
 use Rattle.rt_rga.proofs.Merging.{cells_with}
 use Rattle.rt_rga.proofs.RetaggedPlaces.{changes_differ}
 use Rattle.rt_rga.proofs.Texts.{shared_on}
-use Rattle.rt_changes.specs.Exact.{EachChanges, IsPutAt, IsRetaggedAt, IsTakenAt}
+use Rattle.rt_changes.specs.Exact.{EachChanges, IsInsertedAt, IsRetaggedAt, IsTakenAt}
 use Rattle.rt_changes.specs.Replays.{Deleted, Inserted, Tagged, changed_at, runs_of, body_changes, changes_of, tagged_with}
 use Rattle.rt_changes.proofs.Listed.{tags_listed}
 use Rattle.rt_changes.proofs.Runs.{in_first, runs_fall, runs_have}
@@ -121,7 +121,7 @@ AreNew stamp body cells = (s : Stamp) → has_stamp (inserted_by stamp body) s �
 
 put_in_at : (stamp after : Stamp) (tags : List Name) (text : List ℕ) (cells : List TaggedCell) (q : ℕ) → AreNew stamp (Insert after tags text) cells
     → visible_before cells (skip_from cells after stamp) ≤ q → q < visible_before cells (skip_from cells after stamp) + length text
-    → IsPutAt cells (changed_by stamp (Insert after tags text) cells) q
+    → IsInsertedAt cells (changed_by stamp (Insert after tags text) cells) q
 put_in_at stamp after tags text cells q new low high =
     let n = skip_from cells after stamp in
     let front = take n cells in

@@ -167,18 +167,18 @@ module _ (stamp : Stamp) (on : Bool) (name : Name) (spans : List Span) where
 
 -- REPLAYED
 
-abbrev nothing : TaggedCharacter → List TaggedCharacter
-nothing x = []
+abbrev nothing_of : TaggedCharacter → List TaggedCharacter
+nothing_of x = []
 
-no_element : (xs : List TaggedCharacter) → flat_map nothing xs ≡ []
+no_element : (xs : List TaggedCharacter) → flat_map nothing_of xs ≡ []
 no_element [] = refl
 no_element (x ∷ xs) = no_element xs
 
-deleted_runs : (runs : List PlaceRun) (t : List TaggedCharacter) → replayed (map (λ run. Deleted run.from run.to) runs) t ≡ run_by_run nothing runs t
+deleted_runs : (runs : List PlaceRun) (t : List TaggedCharacter) → replayed (map (λ run. Deleted run.from run.to) runs) t ≡ run_by_run nothing_of runs t
 deleted_runs [] t = refl
 deleted_runs (run ∷ runs) t =
     ap (λ l. replayed (map (λ run. Deleted run.from run.to) runs) (take run.from t ++ (l ++ drop run.to t))) (sym (no_element (drop run.from (take run.to t))))
-    ∙ deleted_runs runs (take run.from t ++ (flat_map nothing (drop run.from (take run.to t)) ++ drop run.to t))
+    ∙ deleted_runs runs (take run.from t ++ (flat_map nothing_of (drop run.from (take run.to t)) ++ drop run.to t))
 
 tagged_runs : (on : Bool) (name : Name) (runs : List PlaceRun) (t : List TaggedCharacter) → replayed (map (λ run. Tagged on name run.from run.to) runs) t ≡ run_by_run (λ x. tagged_with on name x ∷ []) runs t
 tagged_runs on name [] t = refl

@@ -16,7 +16,7 @@ pub record IsTakenAt (old new : List TaggedCell) (place : ℕ) : Type 0 where
   pub after : is_among (stamps_of (visible_of new)) stamp ≡ false
 
 -- the character that is visible at a place now was not there before, visible or gone
-pub record IsPutAt (old new : List TaggedCell) (place : ℕ) : Type 0 where
+pub record IsInsertedAt (old new : List TaggedCell) (place : ℕ) : Type 0 where
   pub stamp : Stamp
   pub before : is_among (stamps_of old) stamp ≡ false
   pub after : slice_get (stamps_of (visible_of new)) place ≡ Some stamp
@@ -33,5 +33,5 @@ pub record IsRetaggedAt (on : Bool) (name : Name) (old new : List TaggedCell) (p
 -- runs come the last in the text first; places of what is inserted are those after it.
 abbrev pub EachChanges : List TaggedCell → List TaggedCell → VisibleChange → Type 0
 EachChanges old new (Deleted from to) = (place : ℕ) → from ≤ place → place < to → IsTakenAt old new place
-EachChanges old new (Inserted at text tags) = (place : ℕ) → at ≤ place → place < at + length text → IsPutAt old new place
+EachChanges old new (Inserted at text tags) = (place : ℕ) → at ≤ place → place < at + length text → IsInsertedAt old new place
 EachChanges old new (Tagged on name from to) = (place : ℕ) → from ≤ place → place < to → IsRetaggedAt on name old new place

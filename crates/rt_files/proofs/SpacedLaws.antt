@@ -11,7 +11,7 @@ use Rattle.rt_stamps.specs.Streams.{Stream}
 use Rattle.rt_stamps.specs.Written.{WritesText}
 use Rattle.rt_stamps.proofs.Writes.{writes_front, writes_then}
 use Rattle.rt_ops.specs.Operations.{Operation, stamp_of}
-use Rattle.rt_files.specs.Shown.{kind_of, shown_line, spaced, text_of_stamp, words_of}
+use Rattle.rt_files.specs.Shown.{kind_word, shown_line, spaced, text_of_stamp, words_of}
 
 -- a front of the first words was written
 pub words_front : {T U : Type 0} (a b : Stream) (e : Fault) (words more : List Word) → WritesText {T = T} a b (Err e) (spaced words)
@@ -35,10 +35,10 @@ names_then a b c x r words names one more =
     (subst (λ v. WritesText b c r v) (sym (flat_map-map (λ name. 32 ∷ text_of_word name) (λ name. string_bytes name) names)) more)
 
 -- the words of a line, in the three steps that write them
-pub line_is : (op : Operation) → shown_line op ≡ ((kind_of op.body ++ spaced (text_of_stamp (stamp_of op) ∷ codes "prev" ∷ decimal op.prev ∷ [])) ++ spaced (words_of op.body)) ++ (10 ∷ [])
+pub line_is : (op : Operation) → shown_line op ≡ ((kind_word op.body ++ spaced (text_of_stamp (stamp_of op) ∷ codes "prev" ∷ decimal op.prev ∷ [])) ++ spaced (words_of op.body)) ++ (10 ∷ [])
 line_is op =
     let head : List Word = text_of_stamp (stamp_of op) ∷ codes "prev" ∷ decimal op.prev ∷ [] in
-    let kind = kind_of op.body in
+    let kind = kind_word op.body in
     let rest = spaced (words_of op.body) in
     ap (λ v. kind ++ (v ++ (10 ∷ []))) (flat_map-append (λ word. 32 ∷ word) head (words_of op.body))
     ∙ ap (λ v. kind ++ v) (append_assoc (spaced head) rest (10 ∷ []))

@@ -16,10 +16,10 @@ abbrev pub text_of_span : Span → List ℕ
 text_of_span span = decimal span.site ++ (58 ∷ decimal span.first ++ (45 ∷ decimal span.last))
 
 -- the first word of a line
-abbrev pub kind_of : Body → Word
-kind_of (Insert after tags text) = codes "insert"
-kind_of (Delete spans) = codes "delete"
-kind_of (Tag on name spans) = codes "tag"
+abbrev pub kind_word : Body → Word
+kind_word (Insert after tags text) = codes "insert"
+kind_word (Delete spans) = codes "delete"
+kind_word (Tag on name spans) = codes "tag"
 
 -- What an operation does, word by word. Texts and names are written as the words of a script.
 abbrev pub words_of : Body → List Word
@@ -34,7 +34,7 @@ spaced words = flat_map (λ word. 32 ∷ word) words
 
 -- the line of an operation: its kind, its stamp, the count before it, and what it does
 abbrev pub shown_line : Operation → List ℕ
-shown_line op = kind_of op.body ++ (spaced (text_of_stamp (stamp_of op) ∷ codes "prev" ∷ decimal op.prev ∷ words_of op.body) ++ (10 ∷ []))
+shown_line op = kind_word op.body ++ (spaced (text_of_stamp (stamp_of op) ∷ codes "prev" ∷ decimal op.prev ∷ words_of op.body) ++ (10 ∷ []))
 
 abbrev pub shown_lines : List Operation → List ℕ
 shown_lines ops = flat_map shown_line ops

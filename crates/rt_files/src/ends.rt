@@ -13,7 +13,8 @@ use std::collections::BTreeMap;
 // The bytes of each.
 const END_BYTES: usize = 12;
 
-/// Of these counts, by the numbers of their sites. Want of memory.
+/// The bytes of these counts, by rising numbers of their sites: 12 of each, the number (4) and the count (8), the highest
+/// byte first. `NoMemory` is its only fault.
 pub fn bytes_of_ends(alloc: Global, ends: &BTreeMap<u32, u64>) -> Result<Vec<u8>, Fault>
     ensures ok { IfOk result (λ bytes. bytes.items ≡ ends_bytes ends.now.entries) }
     ensures order { AreBySite ends.now.entries }
@@ -40,8 +41,8 @@ fn end_of(bytes: &[u8]) -> (u32, u64)
     (site, count)
 }
 
-/// The counts that bytes spell: of one site the first counts. `Truncated` where they aren't 12 bytes each, or want of
-/// memory.
+/// The counts that bytes spell, as `bytes_of_ends` writes them, in any order of sites; of a site that stands twice the
+/// first count is taken. `Truncated` where the number of bytes is no multiple of 12, `NoMemory` where a growth was refused.
 pub fn ends_of_bytes(alloc: Global, bytes: &[u8]) -> Result<BTreeMap<u32, u64>, Fault>
     ensures ok { IfOk result (λ map. (ends : List (ℕ × ℕ)) × SpellEnds bytes.now ends
         × ((site : ℕ) → unwrap_or (get nat_cmp map site) 0 ≡ known_by ends site)) }

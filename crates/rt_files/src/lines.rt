@@ -5,7 +5,7 @@ ghost use Rattle.rt_stamps.specs.Written.{WritesText};
 ghost use Rattle.rt_stamps.specs.Words.{as_words};
 ghost use Rattle.rt_ops.specs.Edits.{body_of};
 ghost use Rattle.rt_ops.specs.Operations.{Insert, Delete, Tag, stamp_of};
-ghost use Rattle.rt_files.specs.Shown.{kind_of, shown_line, shown_lines, spaced, text_of_stamp, words_of};
+ghost use Rattle.rt_files.specs.Shown.{kind_word, shown_line, shown_lines, spaced, text_of_stamp, words_of};
 
 use crate::parts::{Part, write_names, write_parts, write_spans};
 use rt_ops::{Edit, Op};
@@ -30,7 +30,7 @@ fn write_line<W: Sink>(op: &Op, out: &mut W) -> Result<(), Fault>
 }
 
 fn write_op<W: Sink>(op: &Op, out: &mut W) -> Result<(), Fault>
-    ensures { WritesText (W.stream out.old) (W.stream out.new) result ((kind_of op.now.body
+    ensures { WritesText (W.stream out.old) (W.stream out.new) result ((kind_word op.now.body
         ++ spaced (text_of_stamp (stamp_of op.now) ∷ codes "prev" ∷ decimal op.now.prev ∷ [])) ++ spaced (words_of op.now.body)) }
 {
     write_head(op, out)?;
@@ -39,10 +39,10 @@ fn write_op<W: Sink>(op: &Op, out: &mut W) -> Result<(), Fault>
 
 // Kind, stamp, and the count before it.
 fn write_head<W: Sink>(op: &Op, out: &mut W) -> Result<(), Fault>
-    ensures { WritesText (W.stream out.old) (W.stream out.new) result (kind_of op.now.body
+    ensures { WritesText (W.stream out.old) (W.stream out.new) result (kind_word op.now.body
         ++ spaced (text_of_stamp (stamp_of op.now) ∷ codes "prev" ∷ decimal op.now.prev ∷ [])) }
 {
-    write_all(out, kind_of(op.edit()))?;
+    write_all(out, kind_word(op.edit()))?;
     let parts = [
         Part::Stamp(op.stamp()),
         Part::Letters(b"prev"),
@@ -51,8 +51,8 @@ fn write_head<W: Sink>(op: &Op, out: &mut W) -> Result<(), Fault>
     write_parts(&parts, out)
 }
 
-fn kind_of(edit: &Edit) -> &'static [u8]
-    ensures { result.now ≡ kind_of (body_of edit.now) }
+fn kind_word(edit: &Edit) -> &'static [u8]
+    ensures { result.now ≡ kind_word (body_of edit.now) }
 {
     match edit {
         Edit::Insert {

@@ -13,9 +13,13 @@ use rt_words::{write_text, write_word};
 /// A word of a line.
 #[derive(Clone, Copy)]
 pub enum Part<'a> {
+    /// Written as they are.
     Letters(&'a [u8]),
+    /// Written in decimal.
     Number(u64),
+    /// Written as `COUNT.SITE`.
     Stamp(Stamp),
+    /// Written as `SITE:FIRST-LAST`.
     Span(Span),
     /// Written as a word of a script.
     Name(&'a str),

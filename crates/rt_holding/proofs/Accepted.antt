@@ -8,7 +8,7 @@ use Rattle.rt_rga.specs.Histories.{IsHistory}
 use Rattle.rt_rga.specs.Requests.{Request}
 use Rattle.rt_rga.proofs.Accepting.{free, one_list, repeat_is}
 use Rattle.rt_rga.proofs.Room.{other_within}
-use Rattle.rt_holding.specs.Holding.{Holding, has_no_room, is_new, nothing, stays}
+use Rattle.rt_holding.specs.Holding.{Holding, has_no_room, is_new, new_holding, stays}
 use Rattle.rt_holding.specs.Runs.{AreFree, IsGreatestHistoryWithin, NoneCouldBeTaken, Runs}
 use Rattle.rt_holding.proofs.Greatest.{is_greatest}
 use Rattle.rt_holding.proofs.Arriving.{Keeps, from_nothing}
@@ -33,7 +33,7 @@ greatest_kept limit ops end k f n = is_greatest ops end.log k.kept.history k.kep
 ])
 
 pub greatest_accepted : (site limit : ℕ) (requests : List Request) (ops : List Operation) (end : Holding) → 0 < site
-    → Runs site limit requests nothing end ops → AreFree ops → NoneCouldBeTaken limit end → IsGreatestHistoryWithin ops end.log
+    → Runs site limit requests new_holding end ops → AreFree ops → NoneCouldBeTaken limit end → IsGreatestHistoryWithin ops end.log
 greatest_accepted site limit requests ops end p r f n = greatest_kept limit ops end (from_nothing site limit requests end ops p r) f n
 
 -- there is one greatest history
@@ -44,7 +44,7 @@ greatest_once ops more one two f g h = one_list one two g.history h.history (λ 
 ))
 
 pub sites_agree : (site other limit most : ℕ) (requests asked : List Request) (ops more : List Operation) (one two : Holding) → 0 < site → 0 < other
-    → Runs site limit requests nothing one ops → Runs other most asked nothing two more → AreOf ops more → AreFree ops
+    → Runs site limit requests new_holding one ops → Runs other most asked new_holding two more → AreOf ops more → AreFree ops
     → NoneCouldBeTaken limit one → NoneCouldBeTaken most two → cells_of one.log ≡ cells_of two.log
 sites_agree site other limit most requests asked ops more one two p q r s f free m n =
     ap cells_of (greatest_once ops more one.log two.log f
@@ -61,7 +61,7 @@ none_there [] f = refl
 none_there (q ∷ held) f = absurd (f q (inl refl))
 
 pub histories_accepted : (site limit : ℕ) (requests : List Request) (ops set : List Operation) (end : Holding) → 0 < site
-    → Runs site limit requests nothing end ops → IsHistory set → AreOf ops set → NoneCouldBeTaken limit end → (end.log ≡ set) × (end.held ≡ [])
+    → Runs site limit requests new_holding end ops → IsHistory set → AreOf ops set → NoneCouldBeTaken limit end → (end.log ≡ set) × (end.held ≡ [])
 histories_accepted site limit requests ops set end p r h f n =
     let k = from_nothing site limit requests end ops p r in
     let g = greatest_kept limit ops end k (λ x y i j. free set h x y ((f x).0 i) ((f y).0 j)) n in

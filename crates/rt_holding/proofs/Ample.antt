@@ -5,7 +5,7 @@ use Rattle.rt_oplog.specs.Logs.{HasOp, holds}
 use Rattle.rt_rga.specs.Answers.{Answer, answer_within}
 use Rattle.rt_rga.specs.Requests.{Make, Offer, Request}
 use Rattle.rt_rga.proofs.Skipping.{split}
-use Rattle.rt_holding.specs.Holding.{Holding, after_answer, has_no_room, hold, is_early, is_full, is_new, no_more_held, nothing, put_held, settled, stays, taken_then}
+use Rattle.rt_holding.specs.Holding.{Holding, after_answer, has_no_room, hold, is_early, is_full, is_new, no_more_held, new_holding, put_held, settled, stays, taken_then}
 use Rattle.rt_holding.specs.Runs.{AllMayBeAsked, AllStay, AreFree, IsGreatestHistoryWithin, Leads, Runs, accepts, after_request, after_requests, at_first, brought, next, none}
 use Rattle.rt_holding.proofs.Accepted.{greatest_accepted}
 use Rattle.rt_holding.proofs.Keeping.{has_put, none_next, without_has}
@@ -69,10 +69,10 @@ stay_new Rattle.rt_rga.specs.Answers.New e = absurd (cc e)
 stay_new Rattle.rt_rga.specs.Answers.Repeat e = refl
 stay_new (Rattle.rt_rga.specs.Answers.Refused fault) e = refl
 
-pub ample_greatest : (site limit : ℕ) (requests : List Request) → 0 < site → AllMayBeAsked site limit requests nothing → AreFree (brought site limit requests nothing)
-    → ((op : Operation) → HasOp (after_requests site limit requests nothing).held op → has_no_room (answer_within limit op (after_requests site limit requests nothing).log) ≡ false)
-    → IsGreatestHistoryWithin (brought site limit requests nothing) (after_requests site limit requests nothing).log
+pub ample_greatest : (site limit : ℕ) (requests : List Request) → 0 < site → AllMayBeAsked site limit requests new_holding → AreFree (brought site limit requests new_holding)
+    → ((op : Operation) → HasOp (after_requests site limit requests new_holding).held op → has_no_room (answer_within limit op (after_requests site limit requests new_holding).log) ≡ false)
+    → IsGreatestHistoryWithin (brought site limit requests new_holding) (after_requests site limit requests new_holding).log
 ample_greatest site limit requests p m f r =
-    let end = after_requests site limit requests nothing in
-    greatest_accepted site limit requests (brought site limit requests nothing) end p (ample_runs site limit requests nothing m) f
-    (λ x i. (stay_new (answer_within limit x end.log) (ample_stay site limit requests nothing (λ y j. absurd j) x i), r x i))
+    let end = after_requests site limit requests new_holding in
+    greatest_accepted site limit requests (brought site limit requests new_holding) end p (ample_runs site limit requests new_holding m) f
+    (λ x i. (stay_new (answer_within limit x end.log) (ample_stay site limit requests new_holding (λ y j. absurd j) x i), r x i))

@@ -18,17 +18,17 @@ use Rattle.rt_rga.proofs.Orders.{rules_in}
 use Rattle.rt_rga.proofs.Requests.{drafts_for}
 use Rattle.rt_holding.specs.Replies.{Reply}
 use Rattle.rt_holding.specs.Replies as replies
-use Rattle.rt_holding.specs.Holding.{Holding, after_answer, has_no_room, hold, is_early, is_full, is_new, no_more_held, nothing, put_held, reply_for, reply_to, stays, with_taken}
+use Rattle.rt_holding.specs.Holding.{Holding, after_answer, has_no_room, hold, is_early, is_full, is_new, no_more_held, new_holding, put_held, reply_for, reply_to, stays, with_taken}
 use Rattle.rt_holding.specs.Runs.{Leads, Runs, accepts, at_first, brought_by, finds_no_room, next, none}
 use Rattle.rt_holding.proofs.Greatest.{is_out}
-use Rattle.rt_holding.proofs.Keeping.{AreLate, IsKept, IsKeptBut, IsPlaced, all_with, append_has, dropped_is, dropped_kept, has_append, has_put, kept_but, out_more, kept_same, put_has, settles_kept, settles_late, taken_kept, with_all, without_has}
+use Rattle.rt_holding.proofs.Keeping.{AreLate, AccountsFor, AccountsForAllBut, IsPlaced, all_with, append_has, dropped_is, dropped_kept, has_append, has_put, kept_but, out_more, kept_same, put_has, settles_kept, settles_late, taken_kept, with_all, without_has}
 
 -- AN OFFER
 
 abbrev With : (Operation → Type 0) → Operation → Operation → Type 0
 With came op x = came x ⊎ (op ≡ x)
 
-came_with : (came : Operation → Type 0) (op : Operation) (s : Holding) → keeps_rules op.body ≡ true → IsKept came s → IsKeptBut op (With came op) s
+came_with : (came : Operation → Type 0) (op : Operation) (s : Holding) → keeps_rules op.body ≡ true → AccountsFor came s → AccountsForAllBut op (With came op) s
 came_with came op s r k = record {
   history = k.history;
   rules = λ x i. elim i [ inl j ↦ k.rules x j | inr e ↦ subst (λ (y : Operation). keeps_rules y.body ≡ true) e r ];
@@ -38,7 +38,7 @@ came_with came op s r k = record {
 }
 
 -- one that is placed already
-placed_kept : (came : Operation → Type 0) (op : Operation) (s : Holding) → IsPlaced s op → IsKeptBut op came s → IsKept came s
+placed_kept : (came : Operation → Type 0) (op : Operation) (s : Holding) → IsPlaced s op → AccountsForAllBut op came s → AccountsFor came s
 placed_kept came op s p k = record {
   history = k.history;
   rules = k.rules;
@@ -47,7 +47,7 @@ placed_kept came op s p k = record {
   each = λ x i. elim (k.each x i) [ inl e ↦ subst (IsPlaced s) e p | inr q ↦ q ];
 }
 
-held_kept : (came : Operation → Type 0) (op : Operation) (s : Holding) → came op → IsKeptBut op came s → IsKept came (record { log = s.log; held = put_held op s.held })
+held_kept : (came : Operation → Type 0) (op : Operation) (s : Holding) → came op → AccountsForAllBut op came s → AccountsFor came (record { log = s.log; held = put_held op s.held })
 held_kept came op s o k = record {
   history = k.history;
   rules = k.rules;
@@ -63,19 +63,19 @@ held_kept came op s o k = record {
 abbrev Brings : (Operation → Type 0) → Reply → Operation → Operation → Type 0
 Brings came reply op x = came x ⊎ HasOp (cond (finds_no_room reply) [] (op ∷ [])) x
 
-brings_none : (came : Operation → Type 0) (reply : Reply) (op : Operation) (s : Holding) → finds_no_room reply ≡ true → IsKept came s → IsKept (Brings came reply op) s
+brings_none : (came : Operation → Type 0) (reply : Reply) (op : Operation) (s : Holding) → finds_no_room reply ≡ true → AccountsFor came s → AccountsFor (Brings came reply op) s
 brings_none came reply op s e k = kept_same came (Brings came reply op) s (λ x. (
   λ i. inl i,
   λ i. elim i [ inl j ↦ j | inr j ↦ absurd (let n : HasOp [] x = rw e at j in n) ],
 )) k
 
-brings_one : (came : Operation → Type 0) (reply : Reply) (op : Operation) (s : Holding) → finds_no_room reply ≡ false → IsKept (With came op) s → IsKept (Brings came reply op) s
+brings_one : (came : Operation → Type 0) (reply : Reply) (op : Operation) (s : Holding) → finds_no_room reply ≡ false → AccountsFor (With came op) s → AccountsFor (Brings came reply op) s
 brings_one came reply op s e k = kept_same (With came op) (Brings came reply op) s (λ x. (
   λ i. elim i [ inl j ↦ inl j | inr j ↦ inr (rw e (inl j)) ],
   λ i. elim i [ inl j ↦ inl j | inr j ↦ inr (let n : HasOp (op ∷ []) x = rw e at j in elim n [ inl f ↦ f | inr f ↦ absurd f ]) ],
 )) k
 
-both_ways : (came : Operation → Type 0) (reply : Reply) (op : Operation) (s : Holding) → IsKept came s → IsKept (With came op) s → IsKept (Brings came reply op) s
+both_ways : (came : Operation → Type 0) (reply : Reply) (op : Operation) (s : Holding) → AccountsFor came s → AccountsFor (With came op) s → AccountsFor (Brings came reply op) s
 both_ways came reply op s k w = split (finds_no_room reply) (λ e. brings_none came reply op s e k) (λ e. brings_one came reply op s e w)
 
 early_not_new : (a : Answer) → is_early a ≡ true → is_new a ≡ false
@@ -106,19 +106,19 @@ early_reply a op held e = rw e refl
 neither : (a b : Bool) → a ≡ false → b ≡ false → (a || b) ≡ false
 neither a b e f = rw (e, f) refl
 
-offer_by : (a : Answer) (came : Operation → Type 0) (op : Operation) (s : Holding) → keeps_rules op.body ≡ true → IsKept came s
-    → (is_new a ≡ true → IsKept (With came op) (with_taken op s))
+offer_by : (a : Answer) (came : Operation → Type 0) (op : Operation) (s : Holding) → keeps_rules op.body ≡ true → AccountsFor came s
+    → (is_new a ≡ true → AccountsFor (With came op) (with_taken op s))
     → (is_new a ≡ false → stays a ≡ false → HasOp s.log op ⊎ (is_out (answer_to op s.log) ≡ true))
-    → IsKept (Brings came (reply_for a op s.held) op) (after_answer a op s)
+    → AccountsFor (Brings came (reply_for a op s.held) op) (after_answer a op s)
 offer_by a came op s r k n d =
     let w = came_with came op s r k in
     split (is_new a)
     (λ e. let q : after_answer a op s ≡ with_taken op s = rw e refl in
-    subst (IsKept (Brings came (reply_for a op s.held) op)) (sym q) (brings_one came (reply_for a op s.held) op (with_taken op s) (new_reply a op s.held e) (n e)))
+    subst (AccountsFor (Brings came (reply_for a op s.held) op)) (sym q) (brings_one came (reply_for a op s.held) op (with_taken op s) (new_reply a op s.held e) (n e)))
     (λ e. split (is_early a)
     (λ f. let q : after_answer a op s ≡ hold op s = rw (e, f) refl in
     let p = early_reply a op s.held f in
-    subst (IsKept (Brings came (reply_for a op s.held) op)) (sym q) (subst (λ reply. IsKept (Brings came reply op) (hold op s)) (sym p) (split (holds s.held op)
+    subst (AccountsFor (Brings came (reply_for a op s.held) op)) (sym q) (subst (λ reply. AccountsFor (Brings came reply op) (hold op s)) (sym p) (split (holds s.held op)
     (λ h. let u : hold op s ≡ s = rw h refl in
     let v : cond (holds s.held op) replies.Repeat (cond (is_full s.held) (replies.Refused WaitingFull) replies.Held) ≡ replies.Repeat = rw h refl in
     stay (sym u) (sym v) (brings_one came replies.Repeat op s refl (placed_kept (With came op) op s (inr (inl (has_held s.held op h))) w)))
@@ -131,17 +131,17 @@ offer_by a came op s r k n d =
     stay (sym u) (sym v) (brings_one came replies.Held op (record { log = s.log; held = put_held op s.held }) refl (held_kept (With came op) op s (inr refl) w)))))))
     (λ f. split (has_no_room a)
     (λ g. let q : after_answer a op s ≡ s = rw (e, f, g) refl in
-    subst (IsKept (Brings came (reply_for a op s.held) op)) (sym q) (brings_none came (reply_for a op s.held) op s (room_reply a op s.held f g) k))
+    subst (AccountsFor (Brings came (reply_for a op s.held) op)) (sym q) (brings_none came (reply_for a op s.held) op s (room_reply a op s.held f g) k))
     (λ g. let q : after_answer a op s ≡ no_more_held op s = rw (e, f, g) refl in
     let o = d e (neither (is_early a) (has_no_room a) f g) in
-    subst (IsKept (Brings came (reply_for a op s.held) op)) (sym q) (both_ways came (reply_for a op s.held) op (no_more_held op s)
+    subst (AccountsFor (Brings came (reply_for a op s.held) op)) (sym q) (both_ways came (reply_for a op s.held) op (no_more_held op s)
     (dropped_kept op came s o (kept_but op came s k)) (dropped_kept op (With came op) s o w)))))
   where
-    stay : {t u : Holding} {one two : Reply} → t ≡ u → one ≡ two → IsKept (Brings came one op) t → IsKept (Brings came two op) u
-    stay {t = t} {u = u} {one = one} {two = two} e f k = subst (λ reply. IsKept (Brings came reply op) u) f (subst (IsKept (Brings came one op)) e k)
+    stay : {t u : Holding} {one two : Reply} → t ≡ u → one ≡ two → AccountsFor (Brings came one op) t → AccountsFor (Brings came two op) u
+    stay {t = t} {u = u} {one = one} {two = two} e f k = subst (λ reply. AccountsFor (Brings came reply op) u) f (subst (AccountsFor (Brings came one op)) e k)
 
-offer_kept : (limit : ℕ) (came : Operation → Type 0) (op : Operation) (s : Holding) → keeps_rules op.body ≡ true → IsKept came s
-    → IsKept (Brings came (reply_to limit op s) op) (after_answer (answer_within limit op s.log) op s)
+offer_kept : (limit : ℕ) (came : Operation → Type 0) (op : Operation) (s : Holding) → keeps_rules op.body ≡ true → AccountsFor came s
+    → AccountsFor (Brings came (reply_to limit op s) op) (after_answer (answer_within limit op s.log) op s)
 offer_kept limit came op s r k = offer_by (answer_within limit op s.log) came op s r k
     (λ e. taken_kept limit op (With came op) s (inr refl) e (came_with came op s r k))
     (λ e f. dropped_is limit op s.log k.history e f)
@@ -149,8 +149,8 @@ offer_kept limit came op s r k = offer_by (answer_within limit op s.log) came op
 -- DRAFTS
 
 pub drafts_kept : (site limit : ℕ) (drafts : List Body) (came : Operation → Type 0) (s : Holding) → 0 < site → MayBeMade site s.log drafts
-    → last_count_after (greatest_last_count s.log) drafts ≤ GREATEST_COUNT → IsKept came s
-    → IsKept (λ x. came x ⊎ HasOp (operations_of site drafts s.log) x) (record { log = with_drafts site drafts s.log; held = s.held })
+    → last_count_after (greatest_last_count s.log) drafts ≤ GREATEST_COUNT → AccountsFor came s
+    → AccountsFor (λ x. came x ⊎ HasOp (operations_of site drafts s.log) x) (record { log = with_drafts site drafts s.log; held = s.held })
 drafts_kept site limit drafts came s p m l k =
     let h = (made site drafts s.log p k.history (drafts_for site s.log drafts m l)).history in
     let ops = operations_of site drafts s.log in
@@ -168,8 +168,8 @@ drafts_kept site limit drafts came s p m l k =
       ];
     }
 
-drafted : (b : Bool) (came : Operation → Type 0) (ops : List Operation) (s t : Holding) → (b ≡ true → IsKept (λ x. came x ⊎ HasOp ops x) t) → IsKept came s
-    → IsKept (λ x. came x ⊎ HasOp (cond b ops []) x) (cond b t s)
+drafted : (b : Bool) (came : Operation → Type 0) (ops : List Operation) (s t : Holding) → (b ≡ true → AccountsFor (λ x. came x ⊎ HasOp ops x) t) → AccountsFor came s
+    → AccountsFor (λ x. came x ⊎ HasOp (cond b ops []) x) (cond b t s)
 drafted true came ops s t f k = f refl
 drafted false came ops s t f k = kept_same came (λ x. came x ⊎ HasOp [] x) s (λ x. (λ i. inl i, λ i. elim i [ inl j ↦ j | inr j ↦ absurd j ])) k
 
@@ -182,8 +182,8 @@ both false b h = absurd (cc h)
 abbrev pub Bringing : (Operation → Type 0) → ℕ → ℕ → Request → Holding → Operation → Type 0
 Bringing came site limit request s x = came x ⊎ HasOp (brought_by site limit request s) x
 
-pub first_kept : (site limit : ℕ) (request : Request) (came : Operation → Type 0) (s : Holding) → 0 < site → MayBeAsked site s.log request → IsKept came s
-    → IsKept (Bringing came site limit request s) (at_first site limit request s)
+pub first_kept : (site limit : ℕ) (request : Request) (came : Operation → Type 0) (s : Holding) → 0 < site → MayBeAsked site s.log request → AccountsFor came s
+    → AccountsFor (Bringing came site limit request s) (at_first site limit request s)
 first_kept site limit (Offer op) came s p m k = offer_kept limit came op s m k
 first_kept site limit (Make drafts) came s p m k = drafted (fit site limit drafts s.log) came (operations_of site drafts s.log) s (record { log = with_drafts site drafts s.log; held = s.held })
     (λ e. drafts_kept site limit drafts came s p m
@@ -213,7 +213,7 @@ first_late site limit (Make drafts) s e l = rw e l
 
 -- a site keeps to this, whatever it is asked
 pub record Keeps (limit : ℕ) (came : Operation → Type 0) (s : Holding) : Type 0 where
-  pub kept : IsKept came s
+  pub kept : AccountsFor came s
   pub late : AreLate limit s
 
 pub leads_keeps : (site limit : ℕ) (request : Request) (came : Operation → Type 0) (s t : Holding) (more : List Operation) → 0 < site → MayBeAsked site s.log request
@@ -248,9 +248,9 @@ runs_keep site limit requests came s u ops p (next {request = request} {requests
       late = rest.late;
     }
 
-pub from_nothing : (site limit : ℕ) (requests : List Request) (u : Holding) (ops : List Operation) → 0 < site → Runs site limit requests nothing u ops → Keeps limit (HasOp ops) u
+pub from_nothing : (site limit : ℕ) (requests : List Request) (u : Holding) (ops : List Operation) → 0 < site → Runs site limit requests new_holding u ops → Keeps limit (HasOp ops) u
 from_nothing site limit requests u ops p r =
-    let k = runs_keep site limit requests (λ x. ⊥) nothing u ops p r (record {
+    let k = runs_keep site limit requests (λ x. ⊥) new_holding u ops p r (record {
       kept = record { history = tt; rules = λ x i. absurd i; log = λ x i. absurd i; held = λ x i. absurd i; each = λ x i. absurd i };
       late = λ x i. absurd i;
     }) in

@@ -17,7 +17,7 @@ use Rattle.rt_holding.specs.Receiving.{Behind, Offers, Receives, State}
 use Rattle.rt_holding.specs.Replies.{Reply}
 use Rattle.rt_holding.specs.Replies as replies
 use Rattle.rt_holding.specs.Runs.{IsHolding, Leads, Runs, at_first, brought_by, finds_no_room, next, none}
-use Rattle.rt_holding.specs.Taken.{IsOffered, IsRefused, all_after, holding, replied}
+use Rattle.rt_holding.specs.Taken.{IsOffered, IsRefused, all_after, site_holding, replied}
 use Rattle.rt_holding.proofs.Fronts.{read_rules}
 use Rattle.rt_holding.proofs.Sites.{refused_changes_nothing, repeat_changes_nothing, requests_keep}
 
@@ -116,7 +116,7 @@ brings site limit op s reply r e = let f : finds_no_room (reply_to limit op s) �
 
 module _ {Site : Type 0} (log : Site → List Operation) (limit : Site → ℕ) (after : Operation → Site → Site) (keeps : (op : Operation) (s : Site) → limit (after op s) ≡ limit s) where
   abbrev state_of : State Site → Holding
-  state_of s = holding log s.site s.held
+  state_of s = site_holding log s.site s.held
 
   all_keep : (ops : List Operation) (s : Site) → limit (all_after after ops s) ≡ limit s
   all_keep [] s = refl

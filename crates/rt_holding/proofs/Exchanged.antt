@@ -22,7 +22,7 @@ use Rattle.rt_holding.specs.Holding.{as_reply, reply_for, reply_to, with_taken}
 use Rattle.rt_holding.specs.Receiving.{Behind, Offers, Receives, State, one_more}
 use Rattle.rt_holding.specs.Replies.{Reply}
 use Rattle.rt_holding.specs.Replies as replies
-use Rattle.rt_holding.specs.Taken.{IsOffered, IsRefused, holding, replied}
+use Rattle.rt_holding.specs.Taken.{IsOffered, IsRefused, site_holding, replied}
 use Rattle.rt_holding.proofs.Fronts.{EndsWell, all_offered, front_read, well_told}
 use Rattle.rt_holding.proofs.Settling.{nothing_tried}
 
@@ -36,9 +36,9 @@ come_last set op (x ∷ xs) first t b = (
   come_last set op xs (x ∷ first) t.1 (λ base i u. elim (b base i u) [ inl j ↦ elim j [ inl e ↦ inr (inl e) | inr k ↦ inl k ] | inr j ↦ inr (inr j) ]),
 )
 
-behind : (xs ys : List Operation) (x : Operation) → HasOp ys x → HasOp (xs ++ ys) x
-behind [] ys x i = i
-behind (z ∷ xs) ys x i = inr (behind xs ys x i)
+has_behind : (xs ys : List Operation) (x : Operation) → HasOp ys x → HasOp (xs ++ ys) x
+has_behind [] ys x i = i
+has_behind (z ∷ xs) ys x i = inr (has_behind xs ys x i)
 
 pub before : (xs ys : List Operation) (x : Operation) → HasOp xs x → HasOp (xs ++ ys) x
 before [] ys x i = absurd i
@@ -47,7 +47,7 @@ before (z ∷ xs) ys x (inr i) = inr (before xs ys x i)
 
 pub in_reverse : (xs : List Operation) (x : Operation) → HasOp xs x → HasOp (reverse xs) x
 in_reverse [] x i = i
-in_reverse (z ∷ xs) x (inl e) = subst (λ l. HasOp l x) (sym (reverse-cons z xs)) (behind (reverse xs) (z ∷ []) x (inl e))
+in_reverse (z ∷ xs) x (inl e) = subst (λ l. HasOp l x) (sym (reverse-cons z xs)) (has_behind (reverse xs) (z ∷ []) x (inl e))
 in_reverse (z ∷ xs) x (inr i) = subst (λ l. HasOp l x) (sym (reverse-cons z xs)) (before (reverse xs) (z ∷ []) x (in_reverse xs x i))
 
 pub of_reverse : (xs : List Operation) (x : Operation) → HasOp (reverse xs) x → HasOp xs x
@@ -115,15 +115,15 @@ module _ {Site : Type 0} (log : Site → List Operation) (limit : Site → ℕ) 
   newly : (op : Operation) (o : Offered) (old new : State Site) (set : List Operation) → HasLog set old → replied (Ok o) ≡ replies.New
       → IsOffered log after (limit old.site) op o old.site old.held new.site new.held → HasLog (with_operation op set) new
   newly op (offerings.New more) old new set l e t =
-      let first = with_taken op (holding log old.site old.held) in
+      let first = with_taken op (site_holding log old.site old.held) in
       let none : first.held ≡ [] = ap (λ held. Rattle.rt_holding.specs.Holding.without op held) l.none in
-      let same = (nothing_tried (limit old.site) [] t.more first (holding log new.site new.held) none t.settles).0 in
+      let same = (nothing_tried (limit old.site) [] t.more first (site_holding log new.site new.held) none t.settles).0 in
       record { log_is = ap (λ s. s.log) same ∙ ap (with_operation op) l.log_is; none = ap (λ s. s.held) same ∙ none }
   newly op offerings.Repeat old new set l e t = absurd (cc e)
   newly op offerings.Held old new set l e t = absurd (cc e)
 
   one_goes : (op : Operation) (o : Offered) (all set : List Operation) (old new : State Site) → IsHistory all → IsHistory set → AreIn set all → HasOp all op → HasBasesIn all op set
-      → HasLog set old → reply_to (limit old.site) op (holding log old.site old.held) ≡ replied (Ok o)
+      → HasLog set old → reply_to (limit old.site) op (site_holding log old.site old.held) ≡ replied (Ok o)
       → IsOffered log after (limit old.site) op o old.site old.held new.site new.held → HasLog (taken op set) new
   one_goes op o all set old new h k sub i bases l r t =
       let here : reply_for (answer_within (limit old.site) op set) op [] ≡ replied (Ok o) =
@@ -156,7 +156,7 @@ module _ {Site : Type 0} (log : Site → List Operation) (limit : Site → ℕ) 
 
   -- and only want of memory or of room ends it early
   refused_goes : (op : Operation) (fault : Fault) (all set : List Operation) (old : State Site) → IsHistory all → IsHistory set → AreIn set all → HasOp all op → HasBasesIn all op set
-      → HasLog set old → IsRefused (reply_to (limit old.site) op (holding log old.site old.held)) fault → (fault ≡ NoMemory) ⊎ (fault ≡ TextFull)
+      → HasLog set old → IsRefused (reply_to (limit old.site) op (site_holding log old.site old.held)) fault → (fault ≡ NoMemory) ⊎ (fault ≡ TextFull)
   refused_goes op fault all set old h k sub i bases l (inr r) = inl r.0
   refused_goes op fault all set old h k sub i bases l (inl r) =
       let here : reply_for (answer_within (limit old.site) op set) op [] ≡ replies.Refused fault =

@@ -21,8 +21,8 @@ use Rattle.rt_holding.specs.Holding.{is_early, is_new, stays}
 use Rattle.rt_holding.specs.Kept.{Standing, by_stamp_and_arrival}
 use Rattle.rt_rga.specs.Kept.{goes_past}
 use Rattle.rt_holding.specs.Waiting.{WaitsAt, awaited_by, awaited_in, came_in, has_new_gap, targets}
-use Rattle.rt_holding.specs.Waits.{IfIsThere, are_kept, first_of, has_begun, has_key, is_due, is_noted, is_waited_for, key_at, last_of, sleeps}
-use Rattle.rt_holding.specs.Waking.{AreEndsPassed, IsAmong, IsLookedThrough, IsStillWaiting}
+use Rattle.rt_holding.specs.Waits.{IfIsThere, are_all_kept, first_in_span, has_begun, has_key, is_due, is_noted, is_waited_for, key_at, last_in_span, sleeps}
+use Rattle.rt_holding.specs.Waking.{AreEndsPassed, IsSpanAmong, IsLookedThrough, IsStillWaiting}
 use Rattle.rt_holding.proofs.Going.{both, or_left}
 use Rattle.rt_holding.proofs.Keeping.{is_new_true}
 use Rattle.rt_holding.proofs.Due.{stays_waits}
@@ -69,36 +69,36 @@ module _ (by : ℕ) (older log : List Operation) (ops : BTreeMap Standing (Optio
   -- a span of the site that has begun
   record IsLooked (span : Span) : Type 0 where
     gap : has_gap log (came_in older log span) ≡ false
-    begun : has_key mid.keys.begun p (last_of span) ≡ true
+    begun : has_key mid.keys.begun p (last_in_span span) ≡ true
     noted : is_noted new.keys.ends span.site (known_end log span.site) ≡ true
 
-  looked_here : (span : Span) → span.site ≡ by → has_key old.keys.begun p (last_of span) ≡ true → is_noted old.keys.ends span.site (known_end older span.site) ≡ true → IsLooked span
+  looked_here : (span : Span) → span.site ≡ by → has_key old.keys.begun p (last_in_span span) ≡ true → is_noted old.keys.ends span.site (known_end older span.site) ≡ true → IsLooked span
   looked_here span e k n = elim looked.here [
-    | inl gap ↦ not_due (ended.due p (gap.all (key_at (last_of span) p) e k))
+    | inl gap ↦ not_due (ended.due p (gap.all (key_at (last_in_span span) p) e k))
     | inr h ↦ (let (end, at, l) = noted_end old.keys.ends span.site (known_end older span.site) n in
         let m = end_stays older log grown.among span.site in
         let same = ap (known_end log) e in
         let (gap, noted) = h.noted end (subst (λ site. get nat_cmp old.keys.ends site ≡ Some end) e at) (omega (arith, l, m, same)) in
         record {
           gap = gap_within log (came_in older log span) (record { site = by; first = end + 1; last = known_end log by }) e (omega (arith, l)) (omega (arith, same)) gap;
-          begun = ap (λ keys. has_key keys p (last_of span)) h.begun ∙ k;
+          begun = ap (λ keys. has_key keys p (last_in_span span)) h.begun ∙ k;
           noted = ap (λ ends. is_noted ends span.site (known_end log span.site)) ended.ends ∙ subst (λ site. is_noted mid.keys.ends site (known_end log site) ≡ true) (sym e) noted;
         })
   ]
 
-  looked_other : (span : Span) → (by == span.site) ≡ false → goes_past older span ≡ true → has_key old.keys.begun p (last_of span) ≡ true
+  looked_other : (span : Span) → (by == span.site) ≡ false → goes_past older span ≡ true → has_key old.keys.begun p (last_in_span span) ≡ true
       → is_noted old.keys.ends span.site (known_end older span.site) ≡ true → IsLooked span
   looked_other span e g k n =
       let f = (goes_from older span g).end in
       let same = grown.others span.site e in
       record {
         gap = none_came log (came_in older log span) (omega (arith, f, same));
-        begun = looked.others (key_at (last_of span) p) e ∙ k;
+        begun = looked.others (key_at (last_in_span span) p) e ∙ k;
         noted = ap (λ ends. is_noted ends span.site (known_end log span.site)) ended.ends
             ∙ ap (is_noted mid.keys.ends span.site) same ∙ looked.noted span.site (known_end older span.site) e n;
       }
 
-  looked_at : (span : Span) → goes_past older span ≡ true → has_key old.keys.begun p (last_of span) ≡ true → is_noted old.keys.ends span.site (known_end older span.site) ≡ true → IsLooked span
+  looked_at : (span : Span) → goes_past older span ≡ true → has_key old.keys.begun p (last_in_span span) ≡ true → is_noted old.keys.ends span.site (known_end older span.site) ≡ true → IsLooked span
   looked_at span g k n = split (by == span.site)
       (λ e. looked_here span (let i : span.site ≡ by = grind (arith, nat_tests, e) in i) k n)
       (λ e. looked_other span e g k n)
@@ -108,7 +108,7 @@ module _ (by : ℕ) (older log : List Operation) (ops : BTreeMap Standing (Optio
   stays_begun span b = let l = begun_from older span b in let m = end_stays older log grown.among span.site in begun_to log span (omega (arith, l, m))
 
   looked_fine : (span : Span) → goes_past older span ≡ true → IsWaitedFor old.keys older p span → IsFine new.keys older log p span
-  looked_fine span g (inr a) = inl (λ h. (a.0, key_alone (first_of span) a.1))
+  looked_fine span g (inr a) = inl (λ h. (a.0, key_alone (first_in_span span) a.1))
   looked_fine span g (inl i) =
       let (b, k, n) = i in
       let l = looked_at span g k n in
@@ -116,7 +116,7 @@ module _ (by : ℕ) (older log : List Operation) (ops : BTreeMap Standing (Optio
         no_new_gap older log span l.gap,
         waited_to new.keys log p span (λ h. inl (
           stays_begun span b,
-          elim (ended.each (key_at (last_of span) p) l.begun) [
+          elim (ended.each (key_at (last_in_span span) p) l.begun) [
             | inl c ↦ c
             | inr d ↦ elim d [
               | inl c ↦ not_due c
@@ -136,7 +136,7 @@ module _ (by : ℕ) (older log : List Operation) (ops : BTreeMap Standing (Optio
   IsOn = (list_any (goes_past log) (targets x.body) ≡ true) ⊎ (list_any (pends new.keys older log p) (targets x.body) ≡ true)
 
   -- one that came to its end, when others are waited for
-  others_wait : (span : Span) → goes_past older span ≡ true → IsStillWaiting log mid.keys.alone (key_at (last_of span) p) (targets x.body) → IsOn
+  others_wait : (span : Span) → goes_past older span ≡ true → IsStillWaiting log mid.keys.alone (key_at (last_in_span span) p) (targets x.body) → IsOn
   others_wait span g (inl a) = inl a
   others_wait span g (inr c) =
       let f = goes_from older span g in
@@ -150,29 +150,29 @@ module _ (by : ℕ) (older log : List Operation) (ops : BTreeMap Standing (Optio
       let on = goes_to older c.later (record { site = ap (λ n. n == 0) s ∙ f.site; is = is; end = omega (arith, e, known, is, behind) }) in
       inr (any_of (pends new.keys older log p) (targets x.body) c.later c.among (pends_to new.keys older log p c.later on
       (none_begun older c.later (omega (arith, e, known, behind))) (begun_to log c.later (omega (arith, in_time, ends)))
-      (ap (λ keys. has_key keys p (first_of c.later)) ended.alone ∙ c.kept)))
+      (ap (λ keys. has_key keys p (first_in_span c.later)) ended.alone ∙ c.kept)))
 
-  ended_waits : (span : Span) → goes_past older span ≡ true → goes_past log span ≡ false → has_key mid.keys.begun p (last_of span) ≡ true → IsOn
+  ended_waits : (span : Span) → goes_past older span ≡ true → goes_past log span ≡ false → has_key mid.keys.begun p (last_in_span span) ≡ true → IsOn
   ended_waits span g h k =
       let f = goes_from older span g in
-      elim (ended.each (key_at (last_of span) p) k) [
+      elim (ended.each (key_at (last_in_span span) p) k) [
         | inl c ↦ absurd (split (by == span.site)
             (λ e. let i : span.site ≡ by = grind (arith, nat_tests, e) in
             let w = ap (known_end log) i in
             elim (cases_lt (known_end log span.site) span.last) [
               | inl l ↦ absurd (let t = goes_to log span (record { site = f.site; is = f.is; end = l }) in cc (t, h))
-              | inr l ↦ (let n = ended.left (key_at (last_of span) p) i (omega (arith, l, w)) in absurd (cc (c, n)))
+              | inr l ↦ (let n = ended.left (key_at (last_in_span span) p) i (omega (arith, l, w)) in absurd (cc (c, n)))
             ])
             (λ e. let m = grown.others span.site e in
             let l = f.end in
             let t = goes_to log span (record { site = f.site; is = f.is; end = omega (arith, l, m) }) in cc (t, h)))
         | inr d ↦ elim d [
           | inl c ↦ not_due c
-          | inr a ↦ others_wait span g (subst (IfIsThere (λ y. IsStillWaiting log mid.keys.alone (key_at (last_of span) p) (targets y.body))) found a.waits)
+          | inr a ↦ others_wait span g (subst (IfIsThere (λ y. IsStillWaiting log mid.keys.alone (key_at (last_in_span span) p) (targets y.body))) found a.waits)
         ]
       ]
 
-  open_waits : (span : Span) → IsAmong (targets x.body) span → goes_past older span ≡ true → IsWaitedFor old.keys older p span → IsOn
+  open_waits : (span : Span) → IsSpanAmong (targets x.body) span → goes_past older span ≡ true → IsWaitedFor old.keys older p span → IsOn
   open_waits span i g w = split (goes_past log span)
       (λ h. inl (any_of (goes_past log) (targets x.body) span i h))
       (λ h. elim w [
@@ -182,11 +182,11 @@ module _ (by : ℕ) (older log : List Operation) (ops : BTreeMap Standing (Optio
             elim (cases_lt (known_end log span.site) span.last) [
               | inl l ↦ absurd (let t = goes_to log span (record { site = f.site; is = is; end = l }) in cc (t, h))
               | inr l ↦ inr (any_of (pends new.keys older log p) (targets x.body) span i
-                  (pends_to new.keys older log p span g a.0 (begun_to log span (omega (arith, is, l))) (key_alone (first_of span) a.1)))
+                  (pends_to new.keys older log p span g a.0 (begun_to log span (omega (arith, is, l))) (key_alone (first_in_span span) a.1)))
             ])
       ])
 
-  falls_asleep : IsHistory older → is_early (answer_to x older) ≡ true → are_kept old.keys older p x ≡ true → IsAsleep new.keys older log p x
+  falls_asleep : IsHistory older → is_early (answer_to x older) ≡ true → are_all_kept old.keys older p x ≡ true → IsAsleep new.keys older log p x
   falls_asleep h e k = split (nat_lt (known_end older x.site) x.prev)
       (λ d. let m : has_key old.keys.alone p (stamp x.prev x.site) ≡ true = rw d at k in inl (d, key_alone (stamp x.prev x.site) m))
       (λ d. let m : (has_key old.keys.alone p (stamp (x.prev + 1) x.site) && list_all (is_waited_for old.keys older p) (targets x.body)) ≡ true = rw d at k in
@@ -200,7 +200,7 @@ module _ (by : ℕ) (older log : List Operation) (ops : BTreeMap Standing (Optio
         waits = open_waits o.span o.among o.is (waited_from old.keys older p o.span (each o.span o.among) o.is);
       }))
 
-  lacks_room : (limit : ℕ) → IsHistory older → keeps_rules x.body ≡ true → stays (answer_within limit x older) ≡ true → is_early (answer_to x older) ≡ false → are_kept old.keys older p x ≡ true
+  lacks_room : (limit : ℕ) → IsHistory older → keeps_rules x.body ≡ true → stays (answer_within limit x older) ≡ true → is_early (answer_to x older) ≡ false → are_all_kept old.keys older p x ≡ true
       → LacksRoom limit new.keys older p x
   lacks_room limit h r s i k =
       let w = stays_waits limit older x s in
@@ -231,7 +231,7 @@ module _ (by : ℕ) (older log : List Operation) (ops : BTreeMap Standing (Optio
 
   pub falls_to_rest : (limit : ℕ) → IsHistory older → keeps_rules x.body ≡ true → sleeps limit old.keys older p x ≡ true → IsResting limit new.keys older log p x
   falls_to_rest limit h r s =
-      let (e, k) = both (stays (answer_within limit x older)) (are_kept old.keys older p x) s in
+      let (e, k) = both (stays (answer_within limit x older)) (are_all_kept old.keys older p x) s in
       split (is_early (answer_to x older))
       (λ i. inl (i, falls_asleep h i k))
       (λ i. inr (lacks_room limit h r e i k))

@@ -18,7 +18,7 @@ use Rattle.rt_holding.specs.Receiving.{AtEnd, Offers, State, none_accepted, one_
 use Rattle.rt_holding.specs.Replies.{Reply}
 use Rattle.rt_holding.specs.Replies as replies
 use Rattle.rt_holding.specs.Runs.{AreTakenInTurn}
-use Rattle.rt_holding.specs.Taken.{AreTried, IsOffered, all_after, holding, replied}
+use Rattle.rt_holding.specs.Taken.{AreTried, IsOffered, all_after, site_holding, replied}
 use Rattle.rt_holding.proofs.Came.{new_if, told}
 use Rattle.rt_holding.proofs.Keeping.{is_new_true}
 use Rattle.rt_holding.proofs.Settling.{Finds, settled_finds, taken_in_turn}
@@ -104,13 +104,13 @@ module _ {Site : Type 0} (log : Site → List Operation) (limit : Site → ℕ) 
   abbrev Tries : Operation → State Site → Type 0
   Tries op old =
       (new : State Site) × (count : ℕ)
-      × (h : AreTried log after (limit old.site) (with_taken op (holding log old.site old.held)) (after op old.site) new.site new.held count)
+      × (h : AreTried log after (limit old.site) (with_taken op (site_holding log old.site old.held)) (after op old.site) new.site new.held count)
       × FoundMemory h.settles
 
   tries : TakesNew log limit after → (op : Operation) (old : State Site) → answer_within (limit old.site) op (log old.site) ≡ New → Tries op old
   tries t op old n =
       let most = limit old.site in
-      let s = with_taken op (holding log old.site old.held) in
+      let s = with_taken op (site_holding log old.site old.held) in
       let more = taken_then most s in
       let left = (settled most s).held in
       let found = settled_finds most s in
@@ -119,7 +119,7 @@ module _ {Site : Type 0} (log : Site → List Operation) (limit : Site → ℕ) 
       let new = all_after after more (after op old.site) in
       let g : log new ≡ with_operations more s.log =
       grown t most more (after op old.site) k.1 (subst (λ l. AreTakenInTurn most l more) (sym k.0) turn.1) ∙ ap (with_operations more) k.0 in
-      let same : settled most s ≡ holding log new left = λ i. record { log = (turn.0 ∙ sym g) i; held = left } in
+      let same : settled most s ≡ site_holding log new left = λ i. record { log = (turn.0 ∙ sym g) i; held = left } in
       let there = subst (λ u. Finds most s u more) same found in
       (record { site = new; held = left }, length more, record { more = more; settles = there.0; each = refl; counted = refl }, there.1)
 
@@ -141,7 +141,7 @@ module _ {Site : Type 0} (log : Site → List Operation) (limit : Site → ℕ) 
       inr (offered.New k.1, k.0, e, k.2, k.3)
   either t op old replies.Repeat e = inr (offered.Repeat, old, e, (refl, refl), tt)
   either t op old replies.Held e = inr (offered.Held, record { site = old.site; held = put_held op old.held }, e, (refl, refl), tt)
-  either t op old (replies.Refused fault) e = inl (fault, e, never_memory (limit old.site) op (holding log old.site old.held) fault e)
+  either t op old (replies.Refused fault) e = inl (fault, e, never_memory (limit old.site) op (site_holding log old.site old.held) fault e)
 
   pub offers_find : OffersFindMemory log limit after
   offers_find t op old n = elim (either t op old (reply_at log limit after op old) refl) [ inl r ↦ absurd (n r.0 r.1) | inr g ↦ g ]

@@ -15,7 +15,7 @@ use Rattle.rt_ops.proofs.Fronts.{front_of_read, head_begun, two_fronts}
 use Rattle.rt_ops.proofs.Unique.{one_reading}
 use Rattle.rt_oplog.specs.Logs.{HasOp}
 use Rattle.rt_holding.specs.declared.receiving.Received.{Received}
-use Rattle.rt_holding.specs.Receiving.{Behind, AtEnd, EndsWith, Offers, ReadsUpTo, State, Unread, Wanting}
+use Rattle.rt_holding.specs.Receiving.{Behind, AtEnd, IsToldOf, Offers, ReadsUpTo, State, Unread, Wanting}
 use Rattle.rt_holding.proofs.Receptions.{same_fault}
 
 -- ONE READING
@@ -122,7 +122,7 @@ EndsWell (Wanting offset) = Unit {0}
 EndsWell Unread = Unit {0}
 
 -- so nothing else is told than want of memory
-pub well_told : (P : Fault × ℕ → Type 0) (behind : Behind) (told : Option (Fault × ℕ)) → EndsWell behind → EndsWith behind told → ((offset : ℕ) → P (NoMemory, offset)) → IfSome told P
+pub well_told : (P : Fault × ℕ → Type 0) (behind : Behind) (told : Option (Fault × ℕ)) → EndsWell behind → IsToldOf behind told → ((offset : ℕ) → P (NoMemory, offset)) → IfSome told P
 well_told P (AtEnd ending) told w e n = subst (λ t. IfSome t P) (sym (e ∙ w)) tt
 well_told P (Wanting offset) told w e n = subst (λ t. IfSome t P) (sym e) (n offset)
 well_told P Unread told w e n = absurd e

@@ -16,7 +16,7 @@ use Rattle.rt_rga.proofs.Skipping.{split}
 use Rattle.rt_holding.specs.declared.waits.Waits.{Waits as Table}
 use Rattle.rt_holding.specs.Holding.{is_left, is_new, next_of, stays}
 use Rattle.rt_holding.specs.Kept.{Entry, Standing, by_stamp_and_arrival, ops_in, put_in_front}
-use Rattle.rt_holding.specs.Waits.{are_kept, are_tried_at, is_due, is_listed, is_tried_at, sleeps}
+use Rattle.rt_holding.specs.Waits.{are_all_kept, are_tried_at, is_due, is_place_in, is_tried_at, sleeps}
 use Rattle.rt_holding.proofs.Places.{places_total}
 use Rattle.rt_holding.proofs.Standing.{at_found, each_found, found_all, this_place}
 
@@ -59,7 +59,7 @@ left_if_stays limit wanting log x e = or_left (stays (answer_within limit x log)
 
 -- it is looked at again, or sleeps
 abbrev pub IsLeftAt : ℕ → List Operation → List Operation → Table → Standing → Operation → Type 0
-IsLeftAt limit wanting log waits p x = ((is_listed p waits.again.items ≡ true) × (is_left limit wanting log x ≡ true)) ⊎ (sleeps limit waits.keys log p x ≡ true)
+IsLeftAt limit wanting log waits p x = ((is_place_in p waits.again.items ≡ true) × (is_left limit wanting log x ≡ true)) ⊎ (sleeps limit waits.keys log p x ≡ true)
 
 -- all that isn't due is left
 abbrev pub AreReady : ℕ → List Operation → List Operation → BTreeMap Standing (Option Operation) → Table → Type 0
@@ -69,7 +69,7 @@ AreReady limit wanting log m waits =
 left_at : (limit : ℕ) (wanting log : List Operation) (waits : Table) (p : Standing) (x : Operation) → IsLeftAt limit wanting log waits p x → is_left limit wanting log x ≡ true
 left_at limit wanting log waits p x i = elim i [
   | inl j ↦ j.1
-  | inr s ↦ left_if_stays limit wanting log x (both (stays (answer_within limit x log)) (are_kept waits.keys log p x) s).0
+  | inr s ↦ left_if_stays limit wanting log x (both (stays (answer_within limit x log)) (are_all_kept waits.keys log p x) s).0
 ]
 
 -- WHICH IS NEXT
@@ -144,8 +144,8 @@ tried_now limit wanting log m waits r f s =
     one p (Some x) k h n = elim (k x h) [
       | inl d ↦ absurd (cc (n, d))
       | inr j ↦ elim j [
-        | inl i ↦ or_left (is_listed p waits.again.items) (sleeps limit waits.keys log p x) i.0
-        | inr i ↦ or_right (is_listed p waits.again.items) (sleeps limit waits.keys log p x) i
+        | inl i ↦ or_left (is_place_in p waits.again.items) (sleeps limit waits.keys log p x) i.0
+        | inr i ↦ or_right (is_place_in p waits.again.items) (sleeps limit waits.keys log p x) i
       ]
     ]
 

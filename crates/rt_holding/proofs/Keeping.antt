@@ -105,7 +105,7 @@ abbrev pub IsPlaced : Holding → Operation → Type 0
 IsPlaced s x = HasOp s.log x ⊎ (HasOp s.held x ⊎ IsOut s.log x)
 
 -- of the operations that came: one is accepted, or held, or was refused for good
-pub record IsKept (came : Operation → Type 0) (s : Holding) : Type 0 where
+pub record AccountsFor (came : Operation → Type 0) (s : Holding) : Type 0 where
   pub history : IsHistory s.log
   pub rules : (x : Operation) → came x → keeps_rules x.body ≡ true
   pub log : (x : Operation) → HasOp s.log x → came x
@@ -113,17 +113,17 @@ pub record IsKept (came : Operation → Type 0) (s : Holding) : Type 0 where
   pub each : (x : Operation) → came x → IsPlaced s x
 
 -- so is each of the operations that came but one
-pub record IsKeptBut (op : Operation) (came : Operation → Type 0) (s : Holding) : Type 0 where
+pub record AccountsForAllBut (op : Operation) (came : Operation → Type 0) (s : Holding) : Type 0 where
   pub history : IsHistory s.log
   pub rules : (x : Operation) → came x → keeps_rules x.body ≡ true
   pub log : (x : Operation) → HasOp s.log x → came x
   pub held : (x : Operation) → HasOp s.held x → came x
   pub each : (x : Operation) → came x → (op ≡ x) ⊎ IsPlaced s x
 
-pub kept_but : (op : Operation) (came : Operation → Type 0) (s : Holding) → IsKept came s → IsKeptBut op came s
+pub kept_but : (op : Operation) (came : Operation → Type 0) (s : Holding) → AccountsFor came s → AccountsForAllBut op came s
 kept_but op came s k = record { history = k.history; rules = k.rules; log = k.log; held = k.held; each = λ x i. inr (k.each x i) }
 
-pub kept_same : (came other : Operation → Type 0) (s : Holding) → ((x : Operation) → came x ↔ other x) → IsKept came s → IsKept other s
+pub kept_same : (came other : Operation → Type 0) (s : Holding) → ((x : Operation) → came x ↔ other x) → AccountsFor came s → AccountsFor other s
 kept_same came other s f k = record {
   history = k.history;
   rules = λ x i. k.rules x ((f x).1 i);
@@ -139,7 +139,7 @@ AreLate limit s = (x : Operation) → HasOp s.held x → (is_new (answer_within 
 pub out_more : (log more : List Operation) (x : Operation) → AreIn log more → IsOut log x → IsOut more x
 out_more log more x sub o = record { older = o.older; history = o.history; within = λ y i. sub y (o.within y i); out = o.out }
 
-pub taken_kept : (limit : ℕ) (op : Operation) (came : Operation → Type 0) (s : Holding) → came op → is_new (answer_within limit op s.log) ≡ true → IsKeptBut op came s → IsKept came (with_taken op s)
+pub taken_kept : (limit : ℕ) (op : Operation) (came : Operation → Type 0) (s : Holding) → came op → is_new (answer_within limit op s.log) ≡ true → AccountsForAllBut op came s → AccountsFor came (with_taken op s)
 taken_kept limit op came s o e k = record {
   history = history_if_new s.log op k.history (k.rules op o) (new_to limit op s.log e);
   rules = k.rules;
@@ -157,7 +157,7 @@ taken_kept limit op came s o e k = record {
   ];
 }
 
-pub dropped_kept : (op : Operation) (came : Operation → Type 0) (s : Holding) → HasOp s.log op ⊎ (is_out (answer_to op s.log) ≡ true) → IsKeptBut op came s → IsKept came (no_more_held op s)
+pub dropped_kept : (op : Operation) (came : Operation → Type 0) (s : Holding) → HasOp s.log op ⊎ (is_out (answer_to op s.log) ≡ true) → AccountsForAllBut op came s → AccountsFor came (no_more_held op s)
 dropped_kept op came s e k = record {
   history = k.history;
   rules = k.rules;
@@ -219,7 +219,7 @@ left_not a false h e = refl
 
 -- SETTLING
 
-pub settles_kept : (limit : ℕ) (came : Operation → Type 0) (wanting : List Operation) (s t : Holding) (more : List Operation) → Settles limit wanting s t more → IsKept came s → IsKept came t
+pub settles_kept : (limit : ℕ) (came : Operation → Type 0) (wanting : List Operation) (s t : Holding) (more : List Operation) → Settles limit wanting s t more → AccountsFor came s → AccountsFor came t
 settles_kept limit came wanting s t more (rest e) k = k
 settles_kept limit came wanting s t more (takes {more = later} {op = op} e n r) k =
     settles_kept limit came wanting (with_taken op s) t later r

@@ -9,12 +9,12 @@ use Rattle.rt_ops.specs.Operations.{Body, Insert, Delete, Tag}
 use Rattle.rt_ops.specs.Rules.{keeps_rules}
 use Rattle.rt_rga.proofs.Skipping.{split}
 use Rattle.rt_holding.specs.Waiting.{targets}
-use Rattle.rt_holding.specs.Waking.{IsAmong}
+use Rattle.rt_holding.specs.Waking.{IsSpanAmong}
 use Rattle.rt_holding.proofs.Going.{both, or_left, or_right}
 
 -- SPANS THAT ARE NAMED
 
-pub any_of : (p : Span → Bool) (spans : List Span) (span : Span) → IsAmong spans span → p span ≡ true → list_any p spans ≡ true
+pub any_of : (p : Span → Bool) (spans : List Span) (span : Span) → IsSpanAmong spans span → p span ≡ true → list_any p spans ≡ true
 any_of p [] span i h = absurd i
 any_of p (x ∷ spans) span i h = elim i [
   | inl e ↦ or_left (p x) (list_any p spans) (ap p e ∙ h)
@@ -23,7 +23,7 @@ any_of p (x ∷ spans) span i h = elim i [
 
 pub record IsOneOf (p : Span → Bool) (spans : List Span) : Type 0 where
   pub span : Span
-  pub among : IsAmong spans span
+  pub among : IsSpanAmong spans span
   pub is : p span ≡ true
 
 pub one_of : (p : Span → Bool) (spans : List Span) → list_any p spans ≡ true → IsOneOf p spans
@@ -32,17 +32,17 @@ one_of p (x ∷ spans) h = split (p x)
     (λ e. record { span = x; among = inl refl; is = e })
     (λ e. let o = one_of p spans (rw e at h) in record { span = o.span; among = inr o.among; is = o.is })
 
-pub none_of : (p : Span → Bool) (spans : List Span) → ((span : Span) → IsAmong spans span → p span ≡ false) → list_any p spans ≡ false
+pub none_of : (p : Span → Bool) (spans : List Span) → ((span : Span) → IsSpanAmong spans span → p span ≡ false) → list_any p spans ≡ false
 none_of p [] f = refl
 none_of p (x ∷ spans) f = let e = f x (inl refl) in rw e (none_of p spans (λ s i. f s (inr i)))
 
-pub each_of : (p : Span → Bool) (spans : List Span) → list_all p spans ≡ true → (span : Span) → IsAmong spans span → p span ≡ true
+pub each_of : (p : Span → Bool) (spans : List Span) → list_all p spans ≡ true → (span : Span) → IsSpanAmong spans span → p span ≡ true
 each_of p [] h span i = absurd i
 each_of p (x ∷ spans) h span i =
     let (a, b) = both (p x) (list_all p spans) h in
     elim i [ inl e ↦ ap p (sym e) ∙ a | inr j ↦ each_of p spans b span j ]
 
-pub of_each : (p : Span → Bool) (spans : List Span) → ((span : Span) → IsAmong spans span → p span ≡ true) → list_all p spans ≡ true
+pub of_each : (p : Span → Bool) (spans : List Span) → ((span : Span) → IsSpanAmong spans span → p span ≡ true) → list_all p spans ≡ true
 of_each p [] f = refl
 of_each p (x ∷ spans) f = let e = f x (inl refl) in rw e (of_each p spans (λ s i. f s (inr i)))
 
@@ -57,7 +57,7 @@ clear_behind a b h = split (nat_lt a.site b.site)
     (λ e. let k : ((a.site == b.site) && nat_lt (a.last + 1) b.first) ≡ true = rw e at h in
     let (i, j) = both (a.site == b.site) (nat_lt (a.last + 1) b.first) k in inr (grind (arith, nat_tests, i), grind (arith, nat_tests, j)))
 
-behind_all : (x : Span) (spans : List Span) → list_all is_span spans ≡ true → each_next is_clear_of (x ∷ spans) ≡ true → (y : Span) → IsAmong spans y → IsBehind x y
+behind_all : (x : Span) (spans : List Span) → list_all is_span spans ≡ true → each_next is_clear_of (x ∷ spans) ≡ true → (y : Span) → IsSpanAmong spans y → IsBehind x y
 behind_all x [] a h y i = absurd i
 behind_all x (z ∷ spans) a h y i =
     let (c, n) = both (is_clear_of x z) (each_next is_clear_of (z ∷ spans)) h in
@@ -86,7 +86,7 @@ not_both a b s h i j =
     elim h [ inl k ↦ omega (arith, p, q, k) | inr k ↦ (let n = k.1 in omega (arith, l, m, n)) ]
 
 -- spans that keep the rules have a stamp but once
-one_has : (spans : List Span) (a b : Span) (s : Stamp) → list_all is_span spans ≡ true → each_next is_clear_of spans ≡ true → IsAmong spans a → IsAmong spans b
+one_has : (spans : List Span) (a b : Span) (s : Stamp) → list_all is_span spans ≡ true → each_next is_clear_of spans ≡ true → IsSpanAmong spans a → IsSpanAmong spans b
     → is_in_span a s ≡ true → is_in_span b s ≡ true → a ≡ b
 one_has [] a b s w n i j k l = absurd i
 one_has (x ∷ spans) a b s w n i j k l =
@@ -106,7 +106,7 @@ one_has (x ∷ spans) a b s w n i j k l =
     later x [] n = refl
     later x (z ∷ spans) n = (both (is_clear_of x z) (each_next is_clear_of (z ∷ spans)) n).1
 
-pub target_has : (body : Body) (a b : Span) (s : Stamp) → keeps_rules body ≡ true → IsAmong (targets body) a → IsAmong (targets body) b → is_in_span a s ≡ true → is_in_span b s ≡ true → a ≡ b
+pub target_has : (body : Body) (a b : Span) (s : Stamp) → keeps_rules body ≡ true → IsSpanAmong (targets body) a → IsSpanAmong (targets body) b → is_in_span a s ≡ true → is_in_span b s ≡ true → a ≡ b
 target_has (Insert after tags text) a b s r i j k l = elim i [ inl e ↦ elim j [ inl f ↦ sym e ∙ f | inr f ↦ absurd f ] | inr e ↦ absurd e ]
 target_has (Delete spans) a b s r i j k l = let c = rules spans r in one_has spans a b s c.0 c.1 i j k l
   where
@@ -119,7 +119,7 @@ target_has (Tag on name spans) a b s r i j k l = let c = rules on name spans r i
 
 -- WHAT STANDS IN A LIST
 
-pub among_at : (spans : List Span) (i : ℕ) (span : Span) → i < length spans → span ≡ slice_index_or spans i span → IsAmong spans span
+pub among_at : (spans : List Span) (i : ℕ) (span : Span) → i < length spans → span ≡ slice_index_or spans i span → IsSpanAmong spans span
 among_at [] i span l e = absurd (omega (arith, l))
 among_at (x ∷ spans) zero span l e = inl (sym e)
 among_at (x ∷ spans) (suc i) span l e = inr (among_at spans i span (omega (arith, l)) e)

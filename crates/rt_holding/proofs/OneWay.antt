@@ -14,7 +14,7 @@ use Rattle.rt_holding.specs.Memory.{FilesGoOneWay, FoundMemory, OfferFoundMemory
 use Rattle.rt_holding.specs.Receiving.{Behind, AtEnd, Offers, State, Unread, Wanting, none_accepted, one_more, reply_at}
 use Rattle.rt_holding.specs.Replies.{Reply}
 use Rattle.rt_holding.specs.Replies as replies
-use Rattle.rt_holding.specs.Taken.{AreTried, IsOffered, IsRefused, all_after, holding, replied}
+use Rattle.rt_holding.specs.Taken.{AreTried, IsOffered, IsRefused, all_after, site_holding, replied}
 use Rattle.rt_holding.proofs.Fronts.{Agree, GoesNoFurther, offsets_are, one_or_other, version_in}
 use Rattle.rt_holding.proofs.Settling.{ample_settled}
 
@@ -44,8 +44,8 @@ module _ {Site : Type 0} (log : Site → List Operation) (limit : Site → ℕ) 
       (h : AreTried log after most s first new left count) (k : AreTried log after most s first other kept number)
       → FoundMemory h.settles → FoundMemory k.settles → (new ≡ other) × (left ≡ kept) × (count ≡ number)
   one_try most s first new other left kept count number h k f g =
-      let a = ample_settled most s (holding log new left) h.more h.settles f in
-      let b = ample_settled most s (holding log other kept) k.more k.settles g in
+      let a = ample_settled most s (site_holding log new left) h.more h.settles f in
+      let b = ample_settled most s (site_holding log other kept) k.more k.settles g in
       let same : h.more ≡ k.more = a.1 ∙ sym b.1 in (
         h.each ∙ ap (λ more. all_after after more first) same ∙ sym k.each,
         ap (λ (t : Holding). t.held) (a.0 ∙ sym b.0),
@@ -66,7 +66,7 @@ module _ {Site : Type 0} (log : Site → List Operation) (limit : Site → ℕ) 
       → OfferFoundMemory log limit after (limit old.site) op p old.site old.held mid.site mid.held k
       → (o ≡ p) × (next ≡ mid)
   one_offer op (offered.New more) (offered.New other) old next mid e h k f g =
-      let one = one_try (limit old.site) (with_taken op (holding log old.site old.held)) (after op old.site) next.site mid.site next.held mid.held more other h k f g in
+      let one = one_try (limit old.site) (with_taken op (site_holding log old.site old.held)) (after op old.site) next.site mid.site next.held mid.held more other h k f g in
       (ap offered.New one.2, same_state next mid one.0 one.1)
   one_offer op (offered.New more) offered.Repeat old next mid e h k f g = absurd (cc e)
   one_offer op (offered.New more) offered.Held old next mid e h k f g = absurd (cc e)

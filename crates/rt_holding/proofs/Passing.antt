@@ -19,7 +19,7 @@ use Rattle.rt_rga.proofs.Skipping.{split}
 use Rattle.rt_holding.specs.declared.waits.Key.{Key}
 use Rattle.rt_holding.specs.declared.waits.Keys.{Keys}
 use Rattle.rt_holding.specs.Kept.{Standing, by_stamp_and_arrival}
-use Rattle.rt_holding.specs.Waits.{HasLess, HasMore, KeepsOthers, by_key, by_later, least_key}
+use Rattle.rt_holding.specs.Waits.{HasLess, HasMore, KeepsOtherPlaces, by_key, by_later, least_key}
 use Rattle.rt_holding.proofs.Standing.{own_place, this_place}
 
 -- LISTS OF SPANS
@@ -36,7 +36,7 @@ none_on p spans i d h t r = ap (list_any p) (drop_more spans i d h) ∙ (rw t r)
 
 -- KEYS OF OTHER PLACES
 
-pub others_on : (p : Standing) (a b c : Keys) → KeepsOthers p a b → KeepsOthers p b c → KeepsOthers p a c
+pub others_on : (p : Standing) (a b c : Keys) → KeepsOtherPlaces p a b → KeepsOtherPlaces p b c → KeepsOtherPlaces p a c
 others_on p a b c f g = record {
   alone = λ k n. g.alone k n ∙ f.alone k n;
   begun = λ k n. g.begun k n ∙ f.begun k n;

@@ -8,7 +8,7 @@ use Rattle.rt_ops.specs.Operations.{Operation}
 use Rattle.rt_rga.proofs.Skipping.{split}
 use Rattle.rt_holding.specs.declared.waits.Keys.{Keys}
 use Rattle.rt_holding.specs.Kept.{Entry, IsInPlace, Standing, by_stamp_and_arrival}
-use Rattle.rt_holding.specs.Waits.{KeepsOthers, are_tried_at, is_listed, is_tried_at, sleeps}
+use Rattle.rt_holding.specs.Waits.{KeepsOtherPlaces, are_tried_at, is_place_in, is_tried_at, sleeps}
 use Rattle.rt_holding.proofs.Going.{both, either, or_left, or_right, tried_less}
 use Rattle.rt_holding.proofs.Standing.{this_place}
 use Rattle.rt_holding.proofs.Steps.{sleeps_still}
@@ -19,16 +19,16 @@ earlier n p e i a = split (is_at (by_stamp_and_arrival p) e.0)
     (λ t. absurd (let s = ap (λ (q : Standing). q.1) (this_place p e.0 t) in let l = a.came in omega (arith, s, l, i)))
     (λ t. t)
 
-entry_kept : (limit : ℕ) (log : List Operation) (p : Standing) (old new : Keys) (again more : List Standing) → KeepsOthers p old new → ((q : Standing) → is_listed q again ≡ true → is_listed q more ≡ true)
+entry_kept : (limit : ℕ) (log : List Operation) (p : Standing) (old new : Keys) (again more : List Standing) → KeepsOtherPlaces p old new → ((q : Standing) → is_place_in q again ≡ true → is_place_in q more ≡ true)
     → (q : Standing) (v : Option Operation) → is_at (by_stamp_and_arrival p) q ≡ false → is_tried_at limit log old again (q, v) ≡ true → is_tried_at limit log new more (q, v) ≡ true
 entry_kept limit log p old new again more k a q None n h = refl
-entry_kept limit log p old new again more k a q (Some x) n h = elim (either (is_listed q again) (sleeps limit old log q x) h) [
-  | inl i ↦ or_left (is_listed q more) (sleeps limit new log q x) (a q i)
-  | inr i ↦ or_right (is_listed q more) (sleeps limit new log q x) (sleeps_still limit log p old new k q x n i)
+entry_kept limit log p old new again more k a q (Some x) n h = elim (either (is_place_in q again) (sleeps limit old log q x) h) [
+  | inl i ↦ or_left (is_place_in q more) (sleeps limit new log q x) (a q i)
+  | inr i ↦ or_right (is_place_in q more) (sleeps limit new log q x) (sleeps_still limit log p old new k q x n i)
 ]
 
 -- where keys of a later place alone have changed, and more are looked at again
-pub tried_kept : (limit : ℕ) (log : List Operation) (n : ℕ) (p : Standing) (old new : Keys) (again more : List Standing) → p.1 ≡ n → KeepsOthers p old new → ((q : Standing) → is_listed q again ≡ true → is_listed q more ≡ true)
+pub tried_kept : (limit : ℕ) (log : List Operation) (n : ℕ) (p : Standing) (old new : Keys) (again more : List Standing) → p.1 ≡ n → KeepsOtherPlaces p old new → ((q : Standing) → is_place_in q again ≡ true → is_place_in q more ≡ true)
     → (entries : List Entry) → AllByRecursion (IsInPlace n) entries → are_tried_at limit log old again entries ≡ true → are_tried_at limit log new more entries ≡ true
 tried_kept limit log n p old new again more i k a [] c h = refl
 tried_kept limit log n p old new again more i k a (e ∷ entries) c h =

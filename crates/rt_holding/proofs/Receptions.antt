@@ -15,8 +15,8 @@ use Rattle.rt_holding.specs.declared.held.Offered.{Offered}
 use Rattle.rt_holding.specs.declared.held.Offered.TheVariants as offered
 use Rattle.rt_holding.specs.declared.receiving.Received.{Received}
 use Rattle.rt_holding.specs.Holding.{Holding, Settles, rest, takes, drops, lacks, with_taken, no_more_held}
-use Rattle.rt_holding.specs.Taken.{IsOffered, IsRefused, holding, replied}
-use Rattle.rt_holding.specs.Receiving.{Behind, AtEnd, EndsWith, Offers, ReadsUpTo, Receives, State, Unread, Wanting, counts_as, none_accepted, one_more, reply_at}
+use Rattle.rt_holding.specs.Taken.{IsOffered, IsRefused, site_holding, replied}
+use Rattle.rt_holding.specs.Receiving.{Behind, AtEnd, IsToldOf, Offers, ReadsUpTo, Receives, State, Unread, Wanting, counts_as, none_accepted, one_more, reply_at}
 use Rattle.rt_holding.proofs.Keeping.{next_is}
 use Rattle.rt_holding.proofs.Settling.{without_le, without_lt}
 use Rattle.rt_holding.proofs.Sites.{length_put}
@@ -82,7 +82,7 @@ module _ {Site : Type 0} (log : Site → List Operation) (limit : Site → ℕ) 
   pub offered_length : (most : ℕ) (op : Operation) (o : Offered) (old : Site) (held : List Operation) (new : Site) (left : List Operation)
       → IsOffered log after most op o old held new left → counts_as o + length left ≤ 1 + length held
   offered_length most op (offered.New count) old held new left t =
-      let i = settles_length most [] (with_taken op (holding log old held)) (holding log new left) t.more t.settles in
+      let i = settles_length most [] (with_taken op (site_holding log old held)) (site_holding log new left) t.more t.settles in
       let l = without_le op held in
       let c = t.counted in
       omega (arith, i, l, c)
@@ -160,7 +160,7 @@ module _ {Site : Type 0} (log : Site → List Operation) (limit : Site → ℕ) 
   -- HOW IT ENDS
 
   ends_so : (bytes : List ℕ) (left : Left) (start : State Site) (before : Received) (now : State Site) (behind : Behind) (told : Option (Fault × ℕ))
-      → (h : HasOffered left start before now) → EndsWith behind told → ReadsUpTo bytes h.ops (offsets_from left.version 8 h.ops) behind
+      → (h : HasOffered left start before now) → IsToldOf behind told → ReadsUpTo bytes h.ops (offsets_from left.version 8 h.ops) behind
       → Receives log limit after bytes start (record before { held = length now.held; fault = told }) now
   ends_so bytes left start before now behind told h is reads =
       let whole = h.past [] behind (none_accepted told now.held) now (record { told = told; ends = is; counted = refl; same = refl }) in record {

@@ -12,7 +12,7 @@ use Rattle.rt_holding.specs.Memory.{TakesNew}
 use Rattle.rt_holding.specs.Receiving.{Behind, Offers, State}
 use Rattle.rt_holding.specs.Runs.{AreTakenInTurn}
 use Rattle.rt_holding.specs.Seeing.{FilesAreSeen, FilesAreTaken, BecameByTaking, seen_as}
-use Rattle.rt_holding.specs.Taken.{AreTried, IsOffered, all_after, holding, replied}
+use Rattle.rt_holding.specs.Taken.{AreTried, IsOffered, all_after, site_holding, replied}
 use Rattle.rt_holding.proofs.Came.{new_if}
 use Rattle.rt_holding.proofs.Keeping.{is_new_true}
 use Rattle.rt_holding.proofs.Settling.{taken_in_turn}
@@ -38,8 +38,8 @@ module _ {Site Seen : Type 0} (see : Site → Seen) (log : Seen → List Operati
   offered_seen : (most : ℕ) (op : Operation) (o : Offered) (old : Site) (held : List Operation) (new : Site) (left : List Operation)
       → IsOffered log_of after most op o old held new left → IsOffered log seen_after most op o (see old) held (see new) left
   offered_seen most op (offered.New more) old held new left h =
-      subst (λ (s : Seen). AreTried log seen_after most (with_taken op (holding log (see old) held)) s (see new) left more) (same op old)
-      (tried_seen most (with_taken op (holding log (see old) held)) (after op old) new left more h)
+      subst (λ (s : Seen). AreTried log seen_after most (with_taken op (site_holding log (see old) held)) s (see new) left more) (same op old)
+      (tried_seen most (with_taken op (site_holding log (see old) held)) (after op old) new left more h)
   offered_seen most op offered.Repeat old held new left h = (ap see h.0, h.1)
   offered_seen most op offered.Held old held new left h = (ap see h.0, h.1)
 
@@ -113,14 +113,14 @@ module _ {Site : Type 0} (log : Site → List Operation) (limit : Site → ℕ) 
       }
 
   offered_took : (op : Operation) (o : Offered) (old : Site) (held : List Operation) (new : Site) (left : List Operation)
-      → Rattle.rt_holding.specs.Holding.reply_to (limit old) op (holding log old held) ≡ replied (Ok o)
+      → Rattle.rt_holding.specs.Holding.reply_to (limit old) op (site_holding log old held) ≡ replied (Ok o)
       → IsOffered log after (limit old) op o old held new left → Took old new
   offered_took op (offered.New more) old held new left e h =
       let a = answer_within (limit old) op (log old) in
       let now = is_new_true a (new_if (is_early a) (holds held op) (is_full held) a e) in
       record {
         ops = op ∷ h.more;
-        turn = (now, (taken_in_turn (limit old) [] h.more (with_taken op (holding log old held)) (holding log new left) h.settles).1);
+        turn = (now, (taken_in_turn (limit old) [] h.more (with_taken op (site_holding log old held)) (site_holding log new left) h.settles).1);
         each = h.each;
       }
   offered_took op offered.Repeat old held new left e h = took_none old new h.0

@@ -22,7 +22,7 @@ use Rattle.rt_holding.specs.Replies as replies
 use Rattle.rt_holding.specs.declared.held.TheConstants.{MOST_HELD}
 use Rattle.rt_holding.specs.Holding.{Holding, Settles, after_answer, has_no_room, hold, is_early, is_full, is_new, no_more_held, put_held, reply_for, reply_to, rest, takes, drops, lacks, stays, waits, with_taken, without}
 use Rattle.rt_holding.specs.Runs.{IsHolding, Leads, NoneFalls, NoneTwice, at_first}
-use Rattle.rt_holding.proofs.Keeping.{IsKept, dropped_is, dropped_kept, is_new_true, kept_but, left_not, next_is, taken_kept}
+use Rattle.rt_holding.proofs.Keeping.{AccountsFor, dropped_is, dropped_kept, is_new_true, kept_but, left_not, next_is, taken_kept}
 use Rattle.rt_holding.proofs.Arriving.{Bringing, Keeps, first_kept, leads_keeps}
 use Rattle.rt_holding.proofs.Settling.{without_le}
 
@@ -129,7 +129,7 @@ neat_dropped limit op s n = record {
   order = without_order op s.held n.order;
 }
 
-settles_neat : (limit : ℕ) (came : Operation → Type 0) (wanting : List Operation) (s t : Holding) (more : List Operation) → Settles limit wanting s t more → IsKept came s → IsNeat limit s → IsNeat limit t
+settles_neat : (limit : ℕ) (came : Operation → Type 0) (wanting : List Operation) (s t : Holding) (more : List Operation) → Settles limit wanting s t more → AccountsFor came s → IsNeat limit s → IsNeat limit t
 settles_neat limit came wanting s t more (rest e) k n = n
 settles_neat limit came wanting s t more (takes {more = later} {op = op} e m r) k n =
     let i = k.held op (next_is limit wanting s op e).0 in
@@ -182,7 +182,7 @@ first_neat site limit (Offer op) s h m n = neat_offer limit (answer_within limit
 first_neat site limit (Make drafts) s h m n = neat_drafts site limit drafts s n
 
 leads_neat : (site limit : ℕ) (request : Request) (came : Operation → Type 0) (s t : Holding) (more : List Operation) → 0 < site → MayBeAsked site s.log request
-    → Leads site limit request s t more → IsKept came s → IsNeat limit s → IsNeat limit t
+    → Leads site limit request s t more → AccountsFor came s → IsNeat limit s → IsNeat limit t
 leads_neat site limit request came s t more p m l k n =
     let f = first_neat site limit request s k.history m n in
     elim l [

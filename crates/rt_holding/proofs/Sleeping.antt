@@ -20,8 +20,8 @@ use Rattle.rt_holding.specs.Holding.{is_early, is_new, stays}
 use Rattle.rt_holding.specs.Kept.{Standing}
 use Rattle.rt_rga.specs.Kept.{goes_past}
 use Rattle.rt_holding.specs.Waiting.{WaitsAt, awaited_by, came_in, has_new_gap, is_passed, targets}
-use Rattle.rt_holding.specs.Waits.{IsMore, IsNotedMore, are_kept, first_of, has_begun, has_key, is_noted, is_waited_for, key_at, last_of, sleeps}
-use Rattle.rt_holding.specs.Waking.{HasComeIn, IsAmong, IsSeenTo, stamp_of_key}
+use Rattle.rt_holding.specs.Waits.{IsMore, IsNotedMore, are_all_kept, first_in_span, has_begun, has_key, is_noted, is_waited_for, key_at, last_in_span, sleeps}
+use Rattle.rt_holding.specs.Waking.{HasComeIn, IsSpanAmong, IsSeenTo, stamp_of_key}
 use Rattle.rt_holding.proofs.Going.{both, left_if_stays, or_left}
 use Rattle.rt_holding.proofs.Larger.{no_fewer_cells}
 use Rattle.rt_holding.proofs.Due.{left_ones_stay}
@@ -43,13 +43,13 @@ module _ (keys new : Keys) (older log : List Operation) (p : Standing) (x : Oper
     prev = s.prev;
     own = f (stamp (x.prev + 1) x.site) s.own;
     fine = λ span i. elim (s.fine span i) [
-      | inl k ↦ inl (λ g. let (b, a) = k g in (b, f (first_of span) a))
-      | inr k ↦ inr (k.0, waited_more keys new log p span (λ g b a. f (first_of span) a) (λ s. begun (key_at s p)) ends k.1)
+      | inl k ↦ inl (λ g. let (b, a) = k g in (b, f (first_in_span span) a))
+      | inr k ↦ inr (k.0, waited_more keys new log p span (λ g b a. f (first_in_span span) a) (λ s. begun (key_at s p)) ends k.1)
     ];
     waits = elim s.waits [
       | inl g ↦ inl g
       | inr g ↦ inr (any_more (pends keys older log p) (pends new older log p) (targets x.body)
-          (λ span h. let (a, b, n, k) = pends_from keys older log p span h in pends_to new older log p span a b n (f (first_of span) k)) g)
+          (λ span h. let (a, b, n, k) = pends_from keys older log p span h in pends_to new older log p span a b n (f (first_in_span span) k)) g)
     ];
   })
 
@@ -79,7 +79,7 @@ module _ (keys new : Keys) (older log : List Operation) (k : Key) (x : Operation
       other i n = grind (arith, nat_tests, i, n)
 
   -- the span of the key
-  this_span : (span : Span) → IsAmong (targets x.body) span → goes_past older span ≡ true → has_begun older span ≡ false → first_of span ≡ stamp_of_key k → IsFine new older log k.place span
+  this_span : (span : Span) → IsSpanAmong (targets x.body) span → goes_past older span ≡ true → has_begun older span ≡ false → first_in_span span ≡ stamp_of_key k → IsFine new older log k.place span
   this_span span i g b e =
       let f = goes_from older span g in
       let is = f.is in
@@ -96,7 +96,7 @@ module _ (keys new : Keys) (older log : List Operation) (k : Key) (x : Operation
         no_new_gap older log span (ap (has_gap log) came ∙ seen.came.whole),
         waited_to new log k.place span (λ on. let m = (goes_from log span on).end in
             let n = seen.next (omega (arith, m, last, known)) in
-            let at : last_of span ≡ stamp seen.span.last k.site = cc (site, last) in
+            let at : last_in_span span ≡ stamp seen.span.last k.site = cc (site, last) in
             inl (
               begun_to log span (omega (arith, count, known, passed)),
               ap (has_key new.begun k.place) at ∙ n.0,
@@ -105,17 +105,17 @@ module _ (keys new : Keys) (older log : List Operation) (k : Key) (x : Operation
       )
 
   -- the key isn't that of a span that hasn't begun
-  not_the_key : (span : Span) → has_begun log span ≡ false → has_key keys.alone k.place (first_of span) ≡ true → has_key new.alone k.place (first_of span) ≡ true
-  not_the_key span b a = elim (rest (first_of span) a) [
+  not_the_key : (span : Span) → has_begun log span ≡ false → has_key keys.alone k.place (first_in_span span) ≡ true → has_key new.alone k.place (first_in_span span) ≡ true
+  not_the_key span b a = elim (rest (first_in_span span) a) [
     | inl e ↦ absurd (let late = not_begun log span b in
         let known = ap (λ (s : Stamp). known_end log s.site) e in
         let count : span.first ≡ k.count = ap (λ (s : Stamp). s.count) e in omega (arith, late, known, count, passed))
     | inr j ↦ j
   ]
 
-  still_fine : (span : Span) → IsAmong (targets x.body) span → IsFine keys older log k.place span → IsFine new older log k.place span
+  still_fine : (span : Span) → IsSpanAmong (targets x.body) span → IsFine keys older log k.place span → IsFine new older log k.place span
   still_fine span i (inl a) = split (goes_past older span)
-      (λ g. let (b, h) = a g in elim (rest (first_of span) h) [
+      (λ g. let (b, h) = a g in elim (rest (first_in_span span) h) [
         | inl e ↦ this_span span i g b e
         | inr j ↦ inl (λ g. (b, j))
       ])
@@ -128,7 +128,7 @@ module _ (keys new : Keys) (older log : List Operation) (k : Key) (x : Operation
   still_waits (inr h) =
       let o = one_of (pends keys older log k.place) (targets x.body) h in
       let (g, b, n, a) = pends_from keys older log k.place o.span o.is in
-      elim (rest (first_of o.span) a) [
+      elim (rest (first_in_span o.span) a) [
         | inr j ↦ inr (any_of (pends new older log k.place) (targets x.body) o.span o.among (pends_to new older log k.place o.span g b n j))
         | inl e ↦ elim seen.waits [
           | inl w ↦ inl w
@@ -182,8 +182,8 @@ module _ (keys : Keys) (by : ℕ) (older log : List Operation) (p : Standing) (x
       (λ e. let i : s.site ≡ by = grind (arith, nat_tests, e) in let m = none s h i in let n = ap (known_end log) i in omega (arith, m, n))
       (λ e. let m = grown.others s.site e in omega (arith, l, m))
 
-  key_unpassed : (span : Span) → has_begun older span ≡ false → has_key keys.alone p (first_of span) ≡ true → known_end log span.site < span.first
-  key_unpassed span b h = unpassed (first_of span) h (not_begun older span b)
+  key_unpassed : (span : Span) → has_begun older span ≡ false → has_key keys.alone p (first_in_span span) ≡ true → known_end log span.site < span.first
+  key_unpassed span b h = unpassed (first_in_span span) h (not_begun older span b)
 
   no_gap : (span : Span) → IsFine keys older log p span → has_new_gap older log span ≡ false
   no_gap span (inr f) = f.0
@@ -215,7 +215,7 @@ module _ (keys : Keys) (by : ℕ) (older log : List Operation) (p : Standing) (x
       early : (a b : ℕ) → a ≤ b → b < a → ⊥
       early a b h l = omega (arith, h, l)
 
-  sleeps_on : is_early (answer_to x older) ≡ true → IsAsleep keys older log p x → (is_early (answer_to x log) && are_kept keys log p x) ≡ true
+  sleeps_on : is_early (answer_to x older) ≡ true → IsAsleep keys older log p x → (is_early (answer_to x log) && are_all_kept keys log p x) ≡ true
   sleeps_on e (inl b) =
       let d = b.0 in
       let k = b.1 in
@@ -225,7 +225,7 @@ module _ (keys : Keys) (by : ℕ) (older log : List Operation) (p : Standing) (x
       let same = unpassed_stay older log x grown.history history grown.among w n in
       let early : is_early (answer_to x log) ≡ true = ap is_early same.0 ∙ e in
       let now : nat_lt (known_end log x.site) x.prev ≡ true = is_lt (known_end log x.site) x.prev l in
-      let kept : are_kept keys log p x ≡ true = rw now k in
+      let kept : are_all_kept keys log p x ≡ true = rw now k in
       rw early kept
     where
       before : (a b : ℕ) → nat_lt b a ≡ true → b < a
@@ -250,7 +250,7 @@ module _ (keys : Keys) (by : ℕ) (older log : List Operation) (p : Standing) (x
       let early : is_early (answer_to x log) ≡ true = ap is_early answer ∙ (rw (gaps, on) refl) in
       let now : nat_lt (known_end log x.site) x.prev ≡ false = not_lt (known_end log x.site) x.prev is in
       let own = s.own in
-      let kept : are_kept keys log p x ≡ true = rw now (rw own (of_each (is_waited_for keys log p) (targets x.body) (λ span i. kept_now span (s.fine span i)))) in
+      let kept : are_all_kept keys log p x ≡ true = rw now (rw own (of_each (is_waited_for keys log p) (targets x.body) (λ span i. kept_now span (s.fine span i)))) in
       rw early kept
     where
       same : (a b : ℕ) → nat_lt a b ≡ false → nat_lt b a ≡ false → a ≡ b
@@ -261,7 +261,7 @@ module _ (keys : Keys) (by : ℕ) (older log : List Operation) (p : Standing) (x
 
   pub rests_on : (limit : ℕ) → IsResting limit keys older log p x → sleeps limit keys log p x ≡ true
   rests_on limit (inl a) =
-      let (e, k) = both (is_early (answer_to x log)) (are_kept keys log p x) (sleeps_on a.0 a.1) in
+      let (e, k) = both (is_early (answer_to x log)) (are_all_kept keys log p x) (sleeps_on a.0 a.1) in
       let s : stays (answer_within limit x log) ≡ true = early_stays (nat_lt limit (length (cells_of log) + length (inserted x))) (answer_to x log) e in
       rw s k
     where
@@ -279,10 +279,10 @@ module _ (keys : Keys) (by : ℕ) (older log : List Operation) (p : Standing) (x
       let s : stays (answer_within limit x log) ≡ true = stays_if_left (stays (answer_within limit x log)) (is_new (answer_within limit x log)) left in
       let m = end_stays older log grown.among x.site in
       let now : nat_lt (known_end log x.site) x.prev ≡ false = not_lt (known_end older x.site) (known_end log x.site) x.prev l.prev m in
-      let none : (span : Span) → IsAmong (targets x.body) span → is_waited_for keys log p span ≡ true = λ span i. waited_to keys log p span (λ g.
+      let none : (span : Span) → IsSpanAmong (targets x.body) span → is_waited_for keys log p span ≡ true = λ span i. waited_to keys log p span (λ g.
       let t = any_of (goes_past older) (targets x.body) span i (went_on older log grown.among span g) in
       let f = l.known in absurd (cc (t, f))) in
-      let kept : are_kept keys log p x ≡ true = rw now (rw own (of_each (is_waited_for keys log p) (targets x.body) none)) in
+      let kept : are_all_kept keys log p x ≡ true = rw now (rw own (of_each (is_waited_for keys log p) (targets x.body) none)) in
       rw s kept
     where
       not_lt : (old new prev : ℕ) → nat_lt old prev ≡ false → old ≤ new → nat_lt new prev ≡ false

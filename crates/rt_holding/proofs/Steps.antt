@@ -22,8 +22,8 @@ use Rattle.rt_holding.specs.declared.waits.Waits.{Waits as Table}
 use Rattle.rt_holding.specs.Grown.{HasGrownBy}
 use Rattle.rt_holding.specs.Holding.{Holding, is_left, is_new, stays}
 use Rattle.rt_holding.specs.Kept.{AreHeld, Entry, IsHeldAt, IsNewAt, Standing, by_stamp_and_arrival, ops_in, after_try_of}
-use Rattle.rt_holding.specs.Taken.{AreTried, holding}
-use Rattle.rt_holding.specs.Waits.{IfIsThere, IsFirstDue, IsSetAt, KeepsOthers, are_kept, are_tried_at, is_due, is_listed, key_at, after_try_there, sleeps}
+use Rattle.rt_holding.specs.Taken.{AreTried, site_holding}
+use Rattle.rt_holding.specs.Waits.{IfIsThere, IsFirstDue, IsSetAt, KeepsOtherPlaces, are_all_kept, are_tried_at, is_due, is_place_in, key_at, after_try_there, sleeps}
 use Rattle.rt_holding.specs.Waking.{IsWoken}
 use Rattle.rt_holding.proofs.Due.{stays_waits}
 use Rattle.rt_holding.proofs.Going.{AreReady, IsLeftAt, both, either, left_if_stays, next_due, none_due, or_left, or_right, tried_in, tried_now}
@@ -39,7 +39,7 @@ pub started : (limit by : ℕ) (wanting older log : List Operation) (m : BTreeMa
     → ((p : Standing) (x : Operation) → get by_stamp_and_arrival m p ≡ Some (Some x) → keeps_rules x.body ≡ true)
     → are_tried_at limit older old.keys old.again.items m.entries ≡ true → AreReady limit wanting log m new
 started limit by wanting older log m old new g w rules a p x f =
-    elim (either (is_listed p old.again.items) (sleeps limit old.keys older p x) (tried_in limit older old m.entries a p x f)) [
+    elim (either (is_place_in p old.again.items) (sleeps limit old.keys older p x) (tried_in limit older old m.entries a p x f)) [
       | inl j ↦ inl (w.again p j)
       | inr s ↦ elim (either (is_due p new.due) (sleeps limit new.keys log p x) (w.asleep limit older g p x f (rules p x f) s)) [ inl d ↦ inl d | inr k ↦ inr (inr k) ]
     ]
@@ -150,10 +150,10 @@ not_left false true found n s = absurd (cc s)
 not_left false false found n s = refl
 
 -- what is kept for another place stays
-pub sleeps_still : (limit : ℕ) (log : List Operation) (p : Standing) (old new : Keys) → KeepsOthers p old new → (q : Standing) (x : Operation) → is_at (by_stamp_and_arrival p) q ≡ false
+pub sleeps_still : (limit : ℕ) (log : List Operation) (p : Standing) (old new : Keys) → KeepsOtherPlaces p old new → (q : Standing) (x : Operation) → is_at (by_stamp_and_arrival p) q ≡ false
     → sleeps limit old log q x ≡ true → sleeps limit new log q x ≡ true
 sleeps_still limit log p old new k q x n h =
-    let (s, a) = both (stays (answer_within limit x log)) (are_kept old log q x) h in
+    let (s, a) = both (stays (answer_within limit x log)) (are_all_kept old log q x) h in
     let b = kept_more old new log q x (λ st i. k.alone (key_at st q) n ∙ i) (λ st i. k.begun (key_at st q) n ∙ i) k.ends a in
     rw s b
 
@@ -184,7 +184,7 @@ module _ {Site : Type 0} (log : Site → List Operation) (after : Operation → 
 
   pub going : (limit by arrivals : ℕ) (older : List Operation) (site : Site) (m : BTreeMap Standing (Option Operation)) (old new : Table) → HasGrownBy by older (log site)
       → IsWoken by (log site) m old new → AreHeld arrivals m.entries → IsOrdered by_stamp_and_arrival m
-      → are_tried_at limit older old.keys old.again.items m.entries ≡ true → IsGoing false limit (holding log site (ops_in m.entries)) site site m new 0
+      → are_tried_at limit older old.keys old.again.items m.entries ≡ true → IsGoing false limit (site_holding log site (ops_in m.entries)) site site m new 0
   going limit by arrivals older site m old new g w h s a = record {
     wanting = [];
     far = begins log after limit site (ops_in m.entries);
@@ -217,8 +217,8 @@ module _ {Site : Type 0} (log : Site → List Operation) (after : Operation → 
 
     -- it sleeps, or is looked at again
     pub slept : (o : AfterTry) → o ≡ Stays → o ≡ after_try_there lacks limit (log now) (get by_stamp_and_arrival m p)
-        → (new : Table) → KeepsOthers p old.keys new.keys → heap_items new.due ≡ heap_items due → ((q : Standing) → is_listed q old.again.items ≡ true → is_listed q new.again.items ≡ true)
-        → IfIsThere (λ x. (is_listed p new.again.items || are_kept new.keys (log now) p x) ≡ true) (get by_stamp_and_arrival m p)
+        → (new : Table) → KeepsOtherPlaces p old.keys new.keys → heap_items new.due ≡ heap_items due → ((q : Standing) → is_place_in q old.again.items ≡ true → is_place_in q new.again.items ≡ true)
+        → IfIsThere (λ x. (is_place_in p new.again.items || are_all_kept new.keys (log now) p x) ≡ true) (get by_stamp_and_arrival m p)
         → IsGoing lacks limit state then_site now m new count
     slept o i e new others same more asleep = record {
       wanting = g.wanting;
@@ -242,16 +242,16 @@ module _ {Site : Type 0} (log : Site → List Operation) (after : Operation → 
         here q x s f =
             let found : get by_stamp_and_arrival m p ≡ Some (Some x) = subst (λ (r : Standing). get by_stamp_and_arrival m r ≡ Some (Some x)) s f in
             let stay = stays_here lacks limit (log now) o x i (outcome_here lacks limit (log now) m p o x e found) in
-            let there : (is_listed p new.again.items || are_kept new.keys (log now) p x) ≡ true =
-            subst (IfIsThere (λ y. (is_listed p new.again.items || are_kept new.keys (log now) p y) ≡ true)) found asleep in
-            subst (λ (r : Standing). IsLeftAt limit g.wanting (log now) new r x) (sym s) (elim (either (is_listed p new.again.items) (are_kept new.keys (log now) p x) there) [
+            let there : (is_place_in p new.again.items || are_all_kept new.keys (log now) p x) ≡ true =
+            subst (IfIsThere (λ y. (is_place_in p new.again.items || are_all_kept new.keys (log now) p y) ≡ true)) found asleep in
+            subst (λ (r : Standing). IsLeftAt limit g.wanting (log now) new r x) (sym s) (elim (either (is_place_in p new.again.items) (are_all_kept new.keys (log now) p x) there) [
               | inl l ↦ inl (l, left_if_stays limit g.wanting (log now) x stay)
               | inr k ↦ inr (rw stay k)
             ])
 
     -- one that was left, or is the one that is tried, is looked at again
     ready_again : (later : List Operation) (new : Table) (x : Operation) → get by_stamp_and_arrival m p ≡ Some (Some x) → new.keys ≡ old.keys → new.due ≡ due
-        → ((q : Standing) → is_listed q new.again.items ≡ (is_listed q old.again.items || is_at (by_stamp_and_arrival q) p))
+        → ((q : Standing) → is_place_in q new.again.items ≡ (is_place_in q old.again.items || is_at (by_stamp_and_arrival q) p))
         → ((y : Operation) → is_left limit g.wanting (log now) y ≡ true → is_left limit later (log now) y ≡ true) → is_left limit later (log now) x ≡ true
         → AreReady limit later (log now) m new
     ready_again later new x there k d a on l q y f = elim (g.ready q y f) [
@@ -260,17 +260,17 @@ module _ {Site : Type 0} (log : Site → List Operation) (after : Operation → 
         | inr s ↦ (let same : Some (Some x) ≡ Some (Some y) = sym there ∙ ap (get by_stamp_and_arrival m) (sym s) ∙ f in
             let is : x ≡ y = cc in
             let here : is_at (by_stamp_and_arrival q) p ≡ true = subst (λ (r : Standing). is_at (by_stamp_and_arrival q) r ≡ true) s (own_place q) in
-            inr (inl (a q ∙ or_right (is_listed q old.again.items) (is_at (by_stamp_and_arrival q) p) here, subst (λ (z : Operation). is_left limit later (log now) z ≡ true) is l)))
+            inr (inl (a q ∙ or_right (is_place_in q old.again.items) (is_at (by_stamp_and_arrival q) p) here, subst (λ (z : Operation). is_left limit later (log now) z ≡ true) is l)))
       ]
       | inr j ↦ elim j [
-        | inl i ↦ inr (inl (a q ∙ or_left (is_listed q old.again.items) (is_at (by_stamp_and_arrival q) p) i.0, on y i.1))
+        | inl i ↦ inr (inl (a q ∙ or_left (is_place_in q old.again.items) (is_at (by_stamp_and_arrival q) p) i.0, on y i.1))
         | inr s ↦ inr (inr (subst (λ (t : Keys). sleeps limit t (log now) q y ≡ true) (sym k) s))
       ]
     ]
 
     -- it could be taken, but memory is wanting
     pub stayed : (lacking : Bool) (new : Table) (t : IsThere m p) → IsOrdered by_stamp_and_arrival m → new.keys ≡ old.keys → new.due ≡ due
-        → ((q : Standing) → is_listed q new.again.items ≡ (is_listed q old.again.items || is_at (by_stamp_and_arrival q) p))
+        → ((q : Standing) → is_place_in q new.again.items ≡ (is_place_in q old.again.items || is_at (by_stamp_and_arrival q) p))
         → (lacking ≡ false → lacks ≡ false)
         → (is_new (answer_within limit t.op (log now)) ≡ true) × (lacking ≡ true)
         → IsGoing lacking limit state then_site now m new count
@@ -300,7 +300,7 @@ module _ {Site : Type 0} (log : Site → List Operation) (after : Operation → 
       pub length : suc (length less.entries) ≡ length m.entries
 
     pub dropped : (o : AfterTry) → o ≡ Dropped → o ≡ after_try_there lacks limit (log now) (get by_stamp_and_arrival m p) → IsOrdered by_stamp_and_arrival m
-        → (arrivals : ℕ) (less : BTreeMap Standing (Option Operation)) (keys : Keys) → AreHeld arrivals m.entries → IsSetAt p None m less → KeepsOthers p old.keys keys
+        → (arrivals : ℕ) (less : BTreeMap Standing (Option Operation)) (keys : Keys) → AreHeld arrivals m.entries → IsSetAt p None m less → KeepsOtherPlaces p old.keys keys
         → less.entries ≡ remove_entry (is_at (by_stamp_and_arrival p)) m.entries → IsGone lacks now less (record { keys = keys; due = due; again = old.again }) arrivals count
     dropped o i e s arrivals less keys h set others r =
         let t = there_if lacks limit (log now) m p o e (λ j. let k : Absent ≡ Dropped = j ∙ i in cc k) in

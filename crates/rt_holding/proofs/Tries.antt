@@ -4,7 +4,7 @@ use Rattle.rt_ops.specs.Operations.{Operation}
 use Rattle.rt_oplog.specs.Logs.{with_operation}
 use Rattle.rt_rga.specs.Answers.{New, answer_within}
 use Rattle.rt_holding.specs.Holding.{Holding, Settles, is_new, next_of, rest, takes, drops, lacks, with_taken, without}
-use Rattle.rt_holding.specs.Taken.{AreTried, all_after, holding}
+use Rattle.rt_holding.specs.Taken.{AreTried, all_after, site_holding}
 
 -- ONE AFTER THE OTHER
 
@@ -20,11 +20,11 @@ module _ {Site : Type 0} (log : Site → List Operation) (after : Operation → 
   -- how far the tries have come: what settles from here settles from where they began
   pub record IsSettling (limit : ℕ) (wanting : List Operation) (state : Holding) (then_site now : Site) (left : List Operation) (count : ℕ) : Type 0 where
     pub done : List Operation
-    pub goes_past : (t : Holding) (more : List Operation) → Settles limit wanting (holding log now left) t more → Settles limit [] state t (done ++ more)
+    pub goes_past : (t : Holding) (more : List Operation) → Settles limit wanting (site_holding log now left) t more → Settles limit [] state t (done ++ more)
     pub each : now ≡ all_after after done then_site
     pub counted : length done ≡ count
 
-  pub begins : (limit : ℕ) (site : Site) (held : List Operation) → IsSettling limit [] (holding log site held) site site held 0
+  pub begins : (limit : ℕ) (site : Site) (held : List Operation) → IsSettling limit [] (site_holding log site held) site site held 0
   begins limit site held = record { done = []; goes_past = λ t more s. s; each = refl; counted = refl }
 
   after_one : (ops : List Operation) (op : Operation) (site : Site) → all_after after (ops ++ op ∷ []) site ≡ after op (all_after after ops site)
@@ -44,7 +44,7 @@ module _ {Site : Type 0} (log : Site → List Operation) (after : Operation → 
   }
     where
       same : (site : Site) (held : List Operation) → log site ≡ with_operation op (log now) → held ≡ without op left
-          → holding log site held ≡ with_taken op (holding log now left)
+          → site_holding log site held ≡ with_taken op (site_holding log now left)
       same site held l w = cc
 
   pub one_dropped : (limit : ℕ) (wanting : List Operation) (state : Holding) (then_site now : Site) (left less : List Operation) (count : ℕ) (op : Operation)
@@ -52,7 +52,7 @@ module _ {Site : Type 0} (log : Site → List Operation) (after : Operation → 
       → less ≡ without op left → IsSettling limit wanting state then_site now less count
   one_dropped limit wanting state then_site now left less count op k e n w = record {
     done = k.done;
-    goes_past = λ t more s. k.goes_past t more (drops e n (subst (λ held. Settles limit wanting (holding log now held) t more) w s));
+    goes_past = λ t more s. k.goes_past t more (drops e n (subst (λ held. Settles limit wanting (site_holding log now held) t more) w s));
     each = k.each;
     counted = k.counted;
   }
@@ -69,17 +69,17 @@ module _ {Site : Type 0} (log : Site → List Operation) (after : Operation → 
       → IsSettling limit wanting state then_site now left count → next_of limit wanting (log now) left ≡ None → AreTried log after limit state then_site now left count
   ends limit wanting state then_site now left count k e = record {
     more = k.done;
-    settles = subst (λ ops. Settles limit [] state (holding log now left) ops) (append_none k.done) (k.goes_past (holding log now left) [] (rest e));
+    settles = subst (λ ops. Settles limit [] state (site_holding log now left) ops) (append_none k.done) (k.goes_past (site_holding log now left) [] (rest e));
     each = k.each;
     counted = k.counted;
   }
 
   -- after one that was offered
   pub taken_state : (limit most : ℕ) (op : Operation) (old now : Site) (held less : List Operation) (new : Site) (left : List Operation) (count : ℕ) → most ≡ limit → now ≡ after op old
-      → log now ≡ with_operation op (log old) → less ≡ without op held → AreTried log after most (holding log now less) now new left count
-      → AreTried log after limit (with_taken op (holding log old held)) (after op old) new left count
+      → log now ≡ with_operation op (log old) → less ≡ without op held → AreTried log after most (site_holding log now less) now new left count
+      → AreTried log after limit (with_taken op (site_holding log old held)) (after op old) new left count
   taken_state limit most op old now held less new left count e a l w t =
-      let same : holding log now less ≡ with_taken op (holding log old held) = cc in
-      subst (λ (s : Site). AreTried log after limit (with_taken op (holding log old held)) s new left count) a
+      let same : site_holding log now less ≡ with_taken op (site_holding log old held) = cc in
+      subst (λ (s : Site). AreTried log after limit (with_taken op (site_holding log old held)) s new left count) a
       (subst (λ (h : Holding). AreTried log after limit h now new left count) same
-      (subst (λ m. AreTried log after m (holding log now less) now new left count) e t))
+      (subst (λ m. AreTried log after m (site_holding log now less) now new left count) e t))

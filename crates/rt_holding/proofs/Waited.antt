@@ -17,8 +17,8 @@ use Rattle.rt_holding.specs.Holding.{is_early, stays}
 use Rattle.rt_holding.specs.Kept.{Standing}
 use Rattle.rt_rga.specs.Kept.{goes_past}
 use Rattle.rt_holding.specs.Waiting.{WaitsAt, awaited_by, came_in, has_new_gap, targets}
-use Rattle.rt_holding.specs.Waits.{HasLess, HasMore, IsNotedMore, are_kept, first_of, has_begun, has_key, is_keyed, is_noted, is_waited_for, key_at, last_of}
-use Rattle.rt_holding.specs.Waking.{IsAmong}
+use Rattle.rt_holding.specs.Waits.{HasLess, HasMore, IsNotedMore, are_all_kept, first_in_span, has_begun, has_key, is_keyed, is_noted, is_waited_for, key_at, last_in_span}
+use Rattle.rt_holding.specs.Waking.{IsSpanAmong}
 use Rattle.rt_holding.proofs.Going.{both}
 use Rattle.rt_holding.proofs.Waiting.{end_stays}
 use Rattle.rt_holding.proofs.Named.{each_of, of_each}
@@ -28,12 +28,12 @@ use Rattle.rt_holding.proofs.Named.{each_of, of_each}
 -- one that has begun, at its last stamp; another at its first
 abbrev pub IsWaitedFor : Keys → List Operation → Standing → Span → Type 0
 IsWaitedFor keys log p span =
-    ((has_begun log span ≡ true) × (has_key keys.begun p (last_of span) ≡ true) × (is_noted keys.ends span.site (known_end log span.site) ≡ true))
-    ⊎ ((has_begun log span ≡ false) × (has_key keys.alone p (first_of span) ≡ true))
+    ((has_begun log span ≡ true) × (has_key keys.begun p (last_in_span span) ≡ true) × (is_noted keys.ends span.site (known_end log span.site) ≡ true))
+    ⊎ ((has_begun log span ≡ false) × (has_key keys.alone p (first_in_span span) ≡ true))
 
 pub waited_from : (keys : Keys) (log : List Operation) (p : Standing) (span : Span) → is_waited_for keys log p span ≡ true → goes_past log span ≡ true → IsWaitedFor keys log p span
 waited_from keys log p span w g =
-    tests (goes_past log span) (has_begun log span) (has_key keys.begun p (last_of span)) (has_key keys.alone p (first_of span)) (is_noted keys.ends span.site (known_end log span.site)) w g
+    tests (goes_past log span) (has_begun log span) (has_key keys.begun p (last_in_span span)) (has_key keys.alone p (first_in_span span)) (is_noted keys.ends span.site (known_end log span.site)) w g
   where
     tests : (g b kb ka n : Bool) → (not g || (cond b kb ka && (not b || n))) ≡ true → g ≡ true → ((b ≡ true) × (kb ≡ true) × (n ≡ true)) ⊎ ((b ≡ false) × (ka ≡ true))
     tests false b kb ka n w g = absurd (cc g)
@@ -45,7 +45,7 @@ waited_from keys log p span w g =
 
 pub waited_to : (keys : Keys) (log : List Operation) (p : Standing) (span : Span) → (goes_past log span ≡ true → IsWaitedFor keys log p span) → is_waited_for keys log p span ≡ true
 waited_to keys log p span f =
-    tests (goes_past log span) (has_begun log span) (has_key keys.begun p (last_of span)) (has_key keys.alone p (first_of span)) (is_noted keys.ends span.site (known_end log span.site)) f
+    tests (goes_past log span) (has_begun log span) (has_key keys.begun p (last_in_span span)) (has_key keys.alone p (first_in_span span)) (is_noted keys.ends span.site (known_end log span.site)) f
   where
     tests : (g b kb ka n : Bool) → (g ≡ true → ((b ≡ true) × (kb ≡ true) × (n ≡ true)) ⊎ ((b ≡ false) × (ka ≡ true))) → (not g || (cond b kb ka && (not b || n))) ≡ true
     tests false b kb ka n f = refl
@@ -56,15 +56,15 @@ waited_to keys log p span f =
 
 -- more is kept
 pub waited_more : (keys new : Keys) (log : List Operation) (p : Standing) (span : Span)
-    → (goes_past log span ≡ true → has_begun log span ≡ false → has_key keys.alone p (first_of span) ≡ true → has_key new.alone p (first_of span) ≡ true)
+    → (goes_past log span ≡ true → has_begun log span ≡ false → has_key keys.alone p (first_in_span span) ≡ true → has_key new.alone p (first_in_span span) ≡ true)
     → ((s : Stamp) → has_key keys.begun p s ≡ true → has_key new.begun p s ≡ true) → IsNotedMore keys.ends new.ends → is_waited_for keys log p span ≡ true → is_waited_for new log p span ≡ true
 waited_more keys new log p span alone begun ends w = waited_to new log p span (λ g. elim (waited_from keys log p span w g) [
-  | inl i ↦ (let (b, k, n) = i in inl (b, begun (last_of span) k, ends span.site (known_end log span.site) n))
+  | inl i ↦ (let (b, k, n) = i in inl (b, begun (last_in_span span) k, ends span.site (known_end log span.site) n))
   | inr i ↦ inr (i.0, alone g i.0 i.1)
 ])
 
 pub waited_grown : (keys new : Keys) (log : List Operation) (p : Standing) (span : Span) → HasMore keys new → is_waited_for keys log p span ≡ true → is_waited_for new log p span ≡ true
-waited_grown keys new log p span m w = waited_more keys new log p span (λ g b k. m.alone (key_at (first_of span) p) k) (λ s. m.begun (key_at s p)) m.ends w
+waited_grown keys new log p span m w = waited_more keys new log p span (λ g b k. m.alone (key_at (first_in_span span) p) k) (λ s. m.begun (key_at s p)) m.ends w
 
 -- a key that was taken out stays out
 pub keyed_less : (keys new : Keys) (log : List Operation) (p : Standing) (span : Span) → HasLess keys new → (goes_past log span && is_keyed keys log p span) ≡ false
@@ -77,19 +77,19 @@ keyed_less keys new log p span l n = split (goes_past log span && is_keyed new l
   where
     back : is_keyed new log p span ≡ true → is_keyed keys log p span ≡ true
     back k = split (has_begun log span)
-        (λ e. let m : has_key new.begun p (last_of span) ≡ true = rw e at k in let j = l.begun (key_at (last_of span) p) m in rw e j)
-        (λ e. let m : has_key new.alone p (first_of span) ≡ true = rw e at k in let j = l.alone (key_at (first_of span) p) m in rw e j)
+        (λ e. let m : has_key new.begun p (last_in_span span) ≡ true = rw e at k in let j = l.begun (key_at (last_in_span span) p) m in rw e j)
+        (λ e. let m : has_key new.alone p (first_in_span span) ≡ true = rw e at k in let j = l.alone (key_at (first_in_span span) p) m in rw e j)
 
 -- where more is kept for a place
 pub kept_more : (keys new : Keys) (log : List Operation) (p : Standing) (x : Operation) → ((s : Stamp) → has_key keys.alone p s ≡ true → has_key new.alone p s ≡ true)
-    → ((s : Stamp) → has_key keys.begun p s ≡ true → has_key new.begun p s ≡ true) → IsNotedMore keys.ends new.ends → are_kept keys log p x ≡ true → are_kept new log p x ≡ true
+    → ((s : Stamp) → has_key keys.begun p s ≡ true → has_key new.begun p s ≡ true) → IsNotedMore keys.ends new.ends → are_all_kept keys log p x ≡ true → are_all_kept new log p x ≡ true
 kept_more keys new log p x f begun ends h = split (nat_lt (known_end log x.site) x.prev)
     (λ d. let m : has_key keys.alone p (record { count = x.prev; site = x.site }) ≡ true = rw d at h in rw d (f (record { count = x.prev; site = x.site }) m))
     (λ d. let m : (has_key keys.alone p (record { count = x.prev + 1; site = x.site }) && list_all (is_waited_for keys log p) (targets x.body)) ≡ true = rw d at h in
     let (own, all) = both (has_key keys.alone p (record { count = x.prev + 1; site = x.site })) (list_all (is_waited_for keys log p) (targets x.body)) m in
     let on = f (record { count = x.prev + 1; site = x.site }) own in
     let each = each_of (is_waited_for keys log p) (targets x.body) all in
-    rw d (rw on (of_each (is_waited_for new log p) (targets x.body) (λ span i. waited_more keys new log p span (λ g b k. f (first_of span) k) begun ends (each span i)))))
+    rw d (rw on (of_each (is_waited_for new log p) (targets x.body) (λ span i. waited_more keys new log p span (λ g b k. f (first_in_span span) k) begun ends (each span i)))))
 
 -- up to where a site was looked through
 pub noted_end : (ends : BTreeMap ℕ ℕ) (site count : ℕ) → is_noted ends site count ≡ true → (end : ℕ) × (get nat_cmp ends site ≡ Some end) × (end ≤ count)
@@ -103,7 +103,7 @@ noted_end ends site count n = one (get nat_cmp ends site) refl n
 
 -- a span that goes on hasn't begun, and its key is kept
 abbrev pub IsAlone : Keys → List Operation → Standing → Span → Type 0
-IsAlone keys older p span = goes_past older span ≡ true → (has_begun older span ≡ false) × (has_key keys.alone p (first_of span) ≡ true)
+IsAlone keys older p span = goes_past older span ≡ true → (has_begun older span ≡ false) × (has_key keys.alone p (first_in_span span) ≡ true)
 
 -- it hasn't begun; or what became known of it has no gap, and what is left is waited for
 abbrev pub IsFine : Keys → List Operation → List Operation → Standing → Span → Type 0
@@ -111,12 +111,12 @@ IsFine keys older log p span = IsAlone keys older p span ⊎ ((has_new_gap older
 
 -- a span that hadn't begun has, and its key is kept still
 abbrev pub pends : Keys → List Operation → List Operation → Standing → Span → Bool
-pends keys older log p span = (goes_past older span && not (has_begun older span)) && (has_begun log span && has_key keys.alone p (first_of span))
+pends keys older log p span = (goes_past older span && not (has_begun older span)) && (has_begun log span && has_key keys.alone p (first_in_span span))
 
 pub record SleepsOn (keys : Keys) (older log : List Operation) (p : Standing) (x : Operation) : Type 0 where
   pub prev : nat_lt (known_end older x.site) x.prev ≡ false
   pub own : has_key keys.alone p (record { count = x.prev + 1; site = x.site }) ≡ true
-  pub fine : (span : Span) → IsAmong (targets x.body) span → IsFine keys older log p span
+  pub fine : (span : Span) → IsSpanAmong (targets x.body) span → IsFine keys older log p span
   pub waits : (list_any (goes_past log) (targets x.body) ≡ true) ⊎ (list_any (pends keys older log p) (targets x.body) ≡ true)
 
 -- it waits for the operation before it, or for what it names
@@ -187,8 +187,8 @@ pub none_begun : (log : List Operation) (span : Span) → known_end log span.sit
 none_begun log span l = grind (arith, nat_tests, l)
 
 pub pends_from : (keys : Keys) (older log : List Operation) (p : Standing) (span : Span) → pends keys older log p span ≡ true
-    → (goes_past older span ≡ true) × (has_begun older span ≡ false) × (has_begun log span ≡ true) × (has_key keys.alone p (first_of span) ≡ true)
-pends_from keys older log p span h = tests (goes_past older span) (has_begun older span) (has_begun log span) (has_key keys.alone p (first_of span)) h
+    → (goes_past older span ≡ true) × (has_begun older span ≡ false) × (has_begun log span ≡ true) × (has_key keys.alone p (first_in_span span) ≡ true)
+pends_from keys older log p span h = tests (goes_past older span) (has_begun older span) (has_begun log span) (has_key keys.alone p (first_in_span span)) h
   where
     tests : (g b n k : Bool) → ((g && not b) && (n && k)) ≡ true → (g ≡ true) × (b ≡ false) × (n ≡ true) × (k ≡ true)
     tests true false true true h = (refl, refl, refl, refl)
@@ -198,7 +198,7 @@ pends_from keys older log p span h = tests (goes_past older span) (has_begun old
     tests false b n k h = absurd (cc h)
 
 pub pends_to : (keys : Keys) (older log : List Operation) (p : Standing) (span : Span) → goes_past older span ≡ true → has_begun older span ≡ false → has_begun log span ≡ true
-    → has_key keys.alone p (first_of span) ≡ true → pends keys older log p span ≡ true
+    → has_key keys.alone p (first_in_span span) ≡ true → pends keys older log p span ≡ true
 pends_to keys older log p span g b n k = rw (g, b) (rw (n, k) refl)
 
 -- nothing new came in

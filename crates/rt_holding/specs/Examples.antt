@@ -11,13 +11,13 @@ use Rattle.rt_tags.specs.States.{is_on}
 use Rattle.rt_rga.specs.Cells.{cells_of}
 use Rattle.rt_rga.specs.Requests.{Offer}
 use Rattle.rt_rga.specs.Examples.{at}
-use Rattle.rt_holding.specs.Holding.{Holding, nothing, reply_to}
+use Rattle.rt_holding.specs.Holding.{Holding, new_holding, reply_to}
 use Rattle.rt_holding.specs.Replies.{Reply}
 use Rattle.rt_holding.specs.Runs.{after_request, after_requests}
 
 -- site 3, with room for a hundred cells
 abbrev pub after_offers : List Operation → Holding
-after_offers ops = after_requests 3 100 (map Offer ops) nothing
+after_offers ops = after_requests 3 100 (map Offer ops) new_holding
 
 abbrev pub text_in : Holding → List ℕ
 text_in s = text_of (cells_of s.log)

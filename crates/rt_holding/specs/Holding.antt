@@ -16,8 +16,8 @@ pub record Holding : Type 0 where
   pub log : List Operation
   pub held : List Operation
 
-abbrev pub nothing : Holding
-nothing = record { log = []; held = [] }
+abbrev pub new_holding : Holding
+new_holding = record { log = []; held = [] }
 
 -- WHAT IS ANSWERED
 

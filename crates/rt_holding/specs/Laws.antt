@@ -11,7 +11,7 @@ use Rattle.rt_rga.specs.Cells.{cells_of}
 use Rattle.rt_rga.specs.Histories.{IsHistory}
 use Rattle.rt_rga.specs.Requests.{MayBeAsked, Offer, Request}
 use Rattle.rt_holding.specs.Replies as replies
-use Rattle.rt_holding.specs.Holding.{Holding, Settles, has_no_room, next_held, nothing, reply_to, settled, taken_then}
+use Rattle.rt_holding.specs.Holding.{Holding, Settles, has_no_room, next_held, new_holding, reply_to, settled, taken_then}
 use Rattle.rt_holding.specs.Runs.{AllMayBeAsked, AllStay, AreFree, AreTakenInTurn, IsGreatestHistoryWithin, IsHolding, Leads, NoneCouldBeTaken, Runs, after_requests, brought}
 
 -- In whatever order operations come, and whichever tries found no memory: if no two clash, and in the end none is held that
@@ -19,14 +19,14 @@ use Rattle.rt_holding.specs.Runs.{AllMayBeAsked, AllStay, AreFree, AreTakenInTur
 abbrev pub GreatestIsAccepted : Type 0
 GreatestIsAccepted =
     (site limit : ℕ) (requests : List Request) (ops : List Operation) (end : Holding) → 0 < site
-    → Runs site limit requests nothing end ops → AreFree ops → NoneCouldBeTaken limit end
+    → Runs site limit requests new_holding end ops → AreFree ops → NoneCouldBeTaken limit end
     → IsGreatestHistoryWithin ops end.log
 
 -- Two sites to which the same operations came.
 abbrev pub SitesAgree : Type 0
 SitesAgree =
     (site other limit most : ℕ) (requests asked : List Request) (ops more : List Operation) (one two : Holding) → 0 < site → 0 < other
-    → Runs site limit requests nothing one ops → Runs other most asked nothing two more → AreOf ops more → AreFree ops
+    → Runs site limit requests new_holding one ops → Runs other most asked new_holding two more → AreOf ops more → AreFree ops
     → NoneCouldBeTaken limit one → NoneCouldBeTaken most two
     → cells_of one.log ≡ cells_of two.log
 
@@ -34,7 +34,7 @@ SitesAgree =
 abbrev pub HistoriesAreAccepted : Type 0
 HistoriesAreAccepted =
     (site limit : ℕ) (requests : List Request) (ops set : List Operation) (end : Holding) → 0 < site
-    → Runs site limit requests nothing end ops → IsHistory set → AreOf ops set → NoneCouldBeTaken limit end
+    → Runs site limit requests new_holding end ops → IsHistory set → AreOf ops set → NoneCouldBeTaken limit end
     → (end.log ≡ set) × (end.held ≡ [])
 
 -- STEP BY STEP
@@ -97,10 +97,10 @@ AmpleStay = (site limit : ℕ) (requests : List Request) (s : Holding) → AllSt
 -- If then none finds no room, the greatest history is accepted.
 abbrev pub AmpleIsGreatest : Type 0
 AmpleIsGreatest =
-    (site limit : ℕ) (requests : List Request) → 0 < site → AllMayBeAsked site limit requests nothing → AreFree (brought site limit requests nothing)
-    → ((op : Operation) → HasOp (after_requests site limit requests nothing).held op
-    → has_no_room (answer_within limit op (after_requests site limit requests nothing).log) ≡ false)
-    → IsGreatestHistoryWithin (brought site limit requests nothing) (after_requests site limit requests nothing).log
+    (site limit : ℕ) (requests : List Request) → 0 < site → AllMayBeAsked site limit requests new_holding → AreFree (brought site limit requests new_holding)
+    → ((op : Operation) → HasOp (after_requests site limit requests new_holding).held op
+    → has_no_room (answer_within limit op (after_requests site limit requests new_holding).log) ≡ false)
+    → IsGreatestHistoryWithin (brought site limit requests new_holding) (after_requests site limit requests new_holding).log
 
 -- Where nothing is held, nothing is tried.
 abbrev pub NothingIsTried : Type 0

@@ -11,7 +11,7 @@ use Rattle.rt_holding.specs.declared.held.Offered.TheVariants as offered
 use Rattle.rt_holding.specs.declared.receiving.Received.{Received}
 use Rattle.rt_holding.specs.Holding.{reply_to}
 use Rattle.rt_holding.specs.Replies.{Reply}
-use Rattle.rt_holding.specs.Taken.{IsOffered, IsRefused, holding, replied}
+use Rattle.rt_holding.specs.Taken.{IsOffered, IsRefused, site_holding, replied}
 
 -- HOW FAR A FILE IS READ
 
@@ -31,10 +31,10 @@ ReadsUpTo bytes ops offsets (Wanting offset) =
 ReadsUpTo bytes ops offsets Unread = (version : Version) × IsBegunIn version bytes ops × (offsets ≡ offsets_from version 8 ops)
 
 -- What is told where none of the operations was refused. It doesn't come to that where what is behind them stays unread.
-abbrev pub EndsWith : Behind → Option (Fault × ℕ) → Type 0
-EndsWith (AtEnd ending) told = told ≡ ending
-EndsWith (Wanting offset) told = told ≡ Some (NoMemory, offset)
-EndsWith Unread told = ⊥
+abbrev pub IsToldOf : Behind → Option (Fault × ℕ) → Type 0
+IsToldOf (AtEnd ending) told = told ≡ ending
+IsToldOf (Wanting offset) told = told ≡ Some (NoMemory, offset)
+IsToldOf Unread told = ⊥
 
 -- HOW ITS OPERATIONS ARE OFFERED
 
@@ -61,12 +61,12 @@ pub record State (Site : Type 0) : Type 0 where
 
 module _ {Site : Type 0} (log : Site → List Operation) (limit : Site → ℕ) (after : Operation → Site → Site) where
   abbrev pub reply_at : Operation → State Site → Reply
-  reply_at op s = reply_to (limit s.site) op (holding log s.site s.held)
+  reply_at op s = reply_to (limit s.site) op (site_holding log s.site s.held)
 
   -- None of the operations was refused: what came behind them is told.
   pub record AllAreOffered (behind : Behind) (old : State Site) (received : Received) (new : State Site) : Type 0 where
     pub told : Option (Fault × ℕ)
-    pub ends : EndsWith behind told
+    pub ends : IsToldOf behind told
     pub counted : received ≡ none_accepted told old.held
     pub same : new ≡ old
 

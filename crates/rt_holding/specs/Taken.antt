@@ -21,8 +21,8 @@ abbrev pub IsRefused : Reply → Fault → Type 0
 IsRefused reply fault = (reply ≡ replies.Refused fault) ⊎ ((fault ≡ NoMemory) × ((reply ≡ replies.New) ⊎ (reply ≡ replies.Held)))
 
 -- a site's log, and the operations that are held for it
-abbrev pub holding : {Site : Type 0} → (Site → List Operation) → Site → List Operation → Holding
-holding log site held = record { log = log site; held = held }
+abbrev pub site_holding : {Site : Type 0} → (Site → List Operation) → Site → List Operation → Holding
+site_holding log site held = record { log = log site; held = held }
 
 -- what operations make of a site that are taken one after the other
 abbrev pub all_after : {Site : Type 0} → (Operation → Site → Site) → List Operation → Site → Site
@@ -33,14 +33,14 @@ module _ {Site : Type 0} (log : Site → List Operation) (after : Operation → 
   -- Held operations were tried from a state on, and so many of them taken, after which the site is what it is.
   pub record AreTried (limit : ℕ) (state : Holding) (first new : Site) (left : List Operation) (count : ℕ) : Type 0 where
     pub more : List Operation
-    pub settles : Settles limit [] state (holding log new left) more
+    pub settles : Settles limit [] state (site_holding log new left) more
     pub each : new ≡ all_after after more first
     pub counted : length more ≡ count
 
   -- An operation was offered that wasn't refused. A new one is taken, and held ones are tried then. One that was there already
   -- changes nothing, and one that is held changes only what is held.
   abbrev pub IsOffered : ℕ → Operation → Offered → Site → List Operation → Site → List Operation → Type 0
-  IsOffered limit op (offered.New more) old held new left = AreTried limit (with_taken op (holding log old held)) (after op old) new left more
+  IsOffered limit op (offered.New more) old held new left = AreTried limit (with_taken op (site_holding log old held)) (after op old) new left more
   IsOffered limit op offered.Repeat old held new left = (new ≡ old) × (left ≡ held)
   IsOffered limit op offered.Held old held new left = (new ≡ old) × (left ≡ put_held op held)
 

@@ -38,11 +38,11 @@ key_at stamp place = record { site = stamp.site; count = stamp.count; place = pl
 abbrev pub has_key : BTreeSet Key → Standing → Stamp → Bool
 has_key keys place stamp = contains by_key keys (key_at stamp place)
 
-abbrev pub first_of : Span → Stamp
-first_of span = record { count = span.first; site = span.site }
+abbrev pub first_in_span : Span → Stamp
+first_in_span span = record { count = span.first; site = span.site }
 
-abbrev pub last_of : Span → Stamp
-last_of span = record { count = span.last; site = span.site }
+abbrev pub last_in_span : Span → Stamp
+last_in_span span = record { count = span.last; site = span.site }
 
 -- Of a site it is noted up to where it was looked through: no further than up to a count. What comes behind that is still to be
 -- looked through.
@@ -56,7 +56,7 @@ has_begun log span = nat_le span.first (known_end log span.site)
 -- the key of a span is kept: of one that has begun at its last stamp, of another at its first
 abbrev pub is_keyed : Keys → List Operation → Standing → Span → Bool
 is_keyed keys log place span =
-    if has_begun log span then has_key keys.begun place (last_of span) else has_key keys.alone place (first_of span)
+    if has_begun log span then has_key keys.begun place (last_in_span span) else has_key keys.alone place (first_in_span span)
 
 -- A span that goes past its site's known end is waited for. Once it has begun, a gap in what comes is looked for.
 abbrev pub is_waited_for : Keys → List Operation → Standing → Span → Bool
@@ -65,8 +65,8 @@ is_waited_for keys log place span =
 
 -- All keys of an operation at a place are kept: where the operation before it isn't there, that of it alone; else that of the next
 -- in its own place, and those of what it names.
-abbrev pub are_kept : Keys → List Operation → Standing → Operation → Bool
-are_kept keys log place op =
+abbrev pub are_all_kept : Keys → List Operation → Standing → Operation → Bool
+are_all_kept keys log place op =
     if nat_lt (known_end log op.site) op.prev then has_key keys.alone place (record { count = op.prev; site = op.site })
     else has_key keys.alone place (record { count = op.prev + 1; site = op.site }) && list_all (is_waited_for keys log place) (targets op.body)
 
@@ -84,21 +84,21 @@ by_later a b = by_stamp_and_arrival b.0 a.0
 abbrev pub is_due : {Z : Type 0} → Standing → BinaryHeap (Reverse Standing) Z → Bool
 is_due place due = list_any (λ r. is_at (by_stamp_and_arrival place) r.0) (heap_items due)
 
-abbrev pub is_listed : Standing → List Standing → Bool
-is_listed place places = list_any (is_at (by_stamp_and_arrival place)) places
+abbrev pub is_place_in : Standing → List Standing → Bool
+is_place_in place places = list_any (is_at (by_stamp_and_arrival place)) places
 
 abbrev pub key_count : Keys → ℕ
 key_count keys = length keys.alone.keys + length keys.begun.keys
 
 -- how many places and keys are kept
-abbrev pub all_listed : Waits → ℕ
-all_listed waits = heap_len waits.due + vec_len waits.again + key_count waits.keys
+abbrev pub place_and_key_count : Waits → ℕ
+place_and_key_count waits = heap_len waits.due + vec_len waits.again + key_count waits.keys
 
 -- There is room for all among those that are due, and among those that are looked at again, and for some more.
 pub record IsReady (more : ℕ) (waits : Waits) : Type 0 where
   pub heap : IsHeap by_later (heap_items waits.due)
-  pub due : all_listed waits + more ≤ heap_capacity waits.due
-  pub again : all_listed waits + more ≤ vec_capacity waits.again
+  pub due : place_and_key_count waits + more ≤ heap_capacity waits.due
+  pub again : place_and_key_count waits + more ≤ vec_capacity waits.again
 
 -- no place that is due goes before this one
 abbrev pub NoneIsBefore : {Z : Type 0} → Standing → BinaryHeap (Reverse Standing) Z → Type 0
@@ -148,7 +148,7 @@ abbrev pub IsNotedMore : BTreeMap ℕ ℕ → BTreeMap ℕ ℕ → Type 0
 IsNotedMore old new = (site count : ℕ) → is_noted old site count ≡ true → is_noted new site count ≡ true
 
 -- what is kept for other places stays
-pub record KeepsOthers (place : Standing) (old new : Keys) : Type 0 where
+pub record KeepsOtherPlaces (place : Standing) (old new : Keys) : Type 0 where
   pub alone : KeepOthers place old.alone new.alone
   pub begun : KeepOthers place old.begun new.begun
   pub ends : IsNotedMore old.ends new.ends
@@ -167,7 +167,7 @@ pub record HasLess (old new : Keys) : Type 0 where
 
 -- keys of a place may have been put in, and nothing else changed
 pub record IsKeyedMore (place : Standing) (old new : Waits) : Type 0 where
-  pub keys : KeepsOthers place old.keys new.keys
+  pub keys : KeepsOtherPlaces place old.keys new.keys
   pub more : HasMore old.keys new.keys
   pub due : heap_items new.due ≡ heap_items old.due
   pub again : new.again.items ≡ old.again.items
@@ -191,12 +191,12 @@ IfIsThere P (Some (Some op)) = P op
 
 -- an operation would stay, and all its keys are kept
 abbrev pub sleeps : ℕ → Keys → List Operation → Standing → Operation → Bool
-sleeps limit keys log place op = stays (answer_within limit op log) && are_kept keys log place op
+sleeps limit keys log place op = stays (answer_within limit op log) && are_all_kept keys log place op
 
 -- it sleeps, or is looked at again
 abbrev pub is_tried_at : ℕ → List Operation → Keys → List Standing → Entry → Bool
 is_tried_at limit log keys again (place, None) = true
-is_tried_at limit log keys again (place, Some op) = is_listed place again || sleeps limit keys log place op
+is_tried_at limit log keys again (place, Some op) = is_place_in place again || sleeps limit keys log place op
 
 -- all were last tried at a log, within a limit
 abbrev pub are_tried_at : ℕ → List Operation → Keys → List Standing → List Entry → Bool

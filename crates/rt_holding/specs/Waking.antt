@@ -22,12 +22,12 @@ use Rattle.rt_holding.specs.Grown.{HasGrownBy}
 use Rattle.rt_holding.specs.Kept.{Standing, by_stamp_and_arrival}
 use Rattle.rt_rga.specs.Kept.{goes_past}
 use Rattle.rt_holding.specs.Waiting.{came_behind, targets}
-use Rattle.rt_holding.specs.Waits.{IfIsThere, LeavesNone, by_key, first_of, has_key, is_due, is_listed, is_noted, sleeps}
+use Rattle.rt_holding.specs.Waits.{IfIsThere, LeavesNone, by_key, first_in_span, has_key, is_due, is_place_in, is_noted, sleeps}
 
 -- a span is one of others
-abbrev pub IsAmong : List Span → Span → Type 0
-IsAmong [] span = ⊥
-IsAmong (x ∷ spans) span = (x ≡ span) ⊎ IsAmong spans span
+abbrev pub IsSpanAmong : List Span → Span → Type 0
+IsSpanAmong [] span = ⊥
+IsSpanAmong (x ∷ spans) span = (x ≡ span) ⊎ IsSpanAmong spans span
 
 abbrev pub stamp_of_key : Key → Stamp
 stamp_of_key key = record { count = key.count; site = key.site }
@@ -35,19 +35,19 @@ stamp_of_key key = record { count = key.count; site = key.site }
 -- What became known of a span from a key on has no gap.
 pub record HasComeIn (log : List Operation) (key : Key) (spans : List Span) (span : Span) : Type 0 where
   pub site : (key.site == 0) ≡ false
-  pub among : IsAmong spans span
+  pub among : IsSpanAmong spans span
   pub has : is_in_span span (stamp_of_key key) ≡ true
   pub whole : has_gap log (record { site = key.site; first = key.count; last = min span.last (known_end log key.site) }) ≡ false
 
 -- A later span, whose key is passed too, is still to be seen to.
 pub record IsToCome (known : ℕ) (keys : BTreeSet Key) (key : Key) (spans : List Span) : Type 0 where
   pub later : Span
-  pub among : IsAmong spans later
+  pub among : IsSpanAmong spans later
   pub site : later.site ≡ key.site
   pub is : later.first ≤ later.last
   pub behind : key.count ≤ later.first
   pub passed : later.first ≤ known
-  pub kept : has_key keys key.place (first_of later) ≡ true
+  pub kept : has_key keys key.place (first_in_span later) ≡ true
 
 -- some span goes past its site's known end, or a later one is still to be seen to
 abbrev pub IsStillWaiting : List Operation → BTreeSet Key → Key → List Span → Type 0
@@ -116,7 +116,7 @@ pub record AreEndsPassed (by : ℕ) (log : List Operation) (ops : BTreeMap Stand
 -- or sleeps on.
 pub record IsWoken (made_by : ℕ) (log : List Operation) (ops : BTreeMap Standing (Option Operation)) (old new : Waits) : Type 0 where
   pub due : (place : Standing) → is_due place old.due ≡ true → is_due place new.due ≡ true
-  pub again : (place : Standing) → is_listed place old.again.items ≡ true → is_due place new.due ≡ true
+  pub again : (place : Standing) → is_place_in place old.again.items ≡ true → is_due place new.due ≡ true
   pub asleep : (limit : ℕ) (older : List Operation) → HasGrownBy made_by older log → (place : Standing) (op : Operation)
       → get by_stamp_and_arrival ops place ≡ Some (Some op) → keeps_rules op.body ≡ true → sleeps limit old.keys older place op ≡ true
       → (is_due place new.due || sleeps limit new.keys log place op) ≡ true

@@ -3,7 +3,7 @@ ghost use Rattle.std.specs.Prelude.{◌≡◌, true, false, List, [], ◌∷◌,
 ghost use Rattle.rt_stamps.specs.declared.fault.Fault.TheVariants.{Conflict, TextFull};
 ghost use Rattle.rt_rga.specs.Requests.{Make, Offer};
 ghost use Rattle.rt_rga.specs.Examples.{delete_b, insert_ab, insert_q, insert_tagged_ab, insert_xx, insert_y, insert_z, tag_off_by_1, tag_off_by_2, tag_off_by_2_later, tag_on_by_1};
-ghost use Rattle.rt_holding.specs.Holding.{nothing, reply_to};
+ghost use Rattle.rt_holding.specs.Holding.{new_holding, reply_to};
 ghost use Rattle.rt_holding.specs.Replies as replies;
 ghost use Rattle.rt_holding.specs.Runs.{after_requests};
 ghost use Rattle.rt_holding.specs.Examples.{after_offers, gives_tags, gives_text, insert_other, inserts, own_later, replies_from, text_in};
@@ -11,11 +11,11 @@ ghost use Rattle.rt_holding.specs.Examples.{after_offers, gives_tags, gives_text
 /// An insertion that comes before the text that it goes into is held, and taken after that. Of two under one
 /// stamp the one held first is taken, and the other dropped.
 pub fn early()
-    ensures replies { replies_from nothing (insert_y ∷ insert_y ∷ insert_ab ∷ insert_y ∷ [])
+    ensures replies { replies_from new_holding (insert_y ∷ insert_y ∷ insert_ab ∷ insert_y ∷ [])
         ≡ replies.Held ∷ replies.Repeat ∷ replies.New ∷ replies.Repeat ∷ [] }
     ensures text { text_in (after_offers (insert_y ∷ insert_y ∷ insert_ab ∷ insert_y ∷ [])) ≡ codes "aYb\n" }
     ensures held { (after_offers (insert_y ∷ insert_y ∷ [])).held ≡ insert_y ∷ [] }
-    ensures both_held { replies_from nothing (insert_y ∷ insert_other ∷ insert_ab ∷ insert_other ∷ [])
+    ensures both_held { replies_from new_holding (insert_y ∷ insert_other ∷ insert_ab ∷ insert_other ∷ [])
         ≡ replies.Held ∷ replies.Held ∷ replies.New ∷ replies.Refused Conflict ∷ [] }
     ensures first_taken { text_in (after_offers (insert_y ∷ insert_other ∷ insert_ab ∷ [])) ≡ codes "aYb\n" }
     ensures other_dropped { (after_offers (insert_y ∷ insert_other ∷ insert_ab ∷ [])).held ≡ [] }
@@ -33,9 +33,9 @@ pub fn every_order()
 /// A held one that finds no room stays held, and is refused for that when it is offered again. One of the site's own number is
 /// taken in its place, and dropped when the site's own operations have gone past that.
 pub fn corners()
-    ensures full { (after_requests 3 3 (Offer insert_y ∷ Offer insert_ab ∷ []) nothing).held ≡ insert_y ∷ [] }
-    ensures full_again { reply_to 3 insert_y (after_requests 3 3 (Offer insert_y ∷ Offer insert_ab ∷ []) nothing) ≡ replies.Refused TextFull }
-    ensures own_taken { text_in (after_requests 1 100 (Offer own_later ∷ Make (inserts (codes "abc")) ∷ []) nothing) ≡ codes "xabc\n" }
-    ensures own_dropped { (after_requests 1 100 (Offer own_later ∷ Make (inserts (codes "abcd")) ∷ []) nothing).held ≡ [] }
-    ensures own_passed { text_in (after_requests 1 100 (Offer own_later ∷ Make (inserts (codes "abcd")) ∷ []) nothing) ≡ codes "abcd\n" }
+    ensures full { (after_requests 3 3 (Offer insert_y ∷ Offer insert_ab ∷ []) new_holding).held ≡ insert_y ∷ [] }
+    ensures full_again { reply_to 3 insert_y (after_requests 3 3 (Offer insert_y ∷ Offer insert_ab ∷ []) new_holding) ≡ replies.Refused TextFull }
+    ensures own_taken { text_in (after_requests 1 100 (Offer own_later ∷ Make (inserts (codes "abc")) ∷ []) new_holding) ≡ codes "xabc\n" }
+    ensures own_dropped { (after_requests 1 100 (Offer own_later ∷ Make (inserts (codes "abcd")) ∷ []) new_holding).held ≡ [] }
+    ensures own_passed { text_in (after_requests 1 100 (Offer own_later ∷ Make (inserts (codes "abcd")) ∷ []) new_holding) ≡ codes "abcd\n" }
 {}

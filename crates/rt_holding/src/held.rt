@@ -70,7 +70,7 @@ impl Held {
     ghost use Rattle.rt_rga.specs.Histories.{IsHistory};
     ghost use Rattle.rt_holding.specs.Replies as replies;
     ghost use Rattle.rt_holding.specs.Runs.{NoneFalls, NoneTwice};
-    ghost use Rattle.rt_holding.specs.Taken.{AreTried, IsOffered, IsRefused, held_after, holding, replied};
+    ghost use Rattle.rt_holding.specs.Taken.{AreTried, IsOffered, IsRefused, held_after, site_holding, replied};
 
     /// Nothing is held. It takes no memory.
     pub fn new(alloc: Global) -> Held
@@ -108,7 +108,7 @@ impl Held {
         standing_of(&self.ops, self.arrivals, op).is_some()
     }
 
-    /// Holds one more. Want of memory.
+    /// Holds one more. `NoMemory` is its only fault.
     fn put<T: Taking>(&mut self, site: &T, op: Op) -> Result<(), Fault>
         requires sound { has_bad_stamp op ≡ false }
         requires new { holds self.old.held op ≡ false }
@@ -143,11 +143,12 @@ impl Held {
         }
     }
 
-    /// The log has grown by operations of a site: tries held ones, the least stamp first, until none is left that can be
-    /// taken. One that is refused for good is dropped; any may find no memory, and stays. Answers how many were taken.
+    /// The log has grown by operations of the site of number `made_by`: tries held ones, the least stamp first, until none
+    /// is left that can be taken. One that is refused for good is dropped; any may find no memory, and stays. Answers how
+    /// many were taken.
     pub fn settle<T: Taking>(&mut self, site: &mut T, made_by: u32) -> usize
         requires { AreTriedBefore (T.limit site.old) made_by self.old (T.log site.old) }
-        ensures tried { AreTried T.log T.after (T.limit site.old) (holding T.log site.old self.old.held) site.old
+        ensures tried { AreTried T.log T.after (T.limit site.old) (site_holding T.log site.old self.old.held) site.old
             site.new self.new.held result }
         ensures limit { T.limit site.new ≡ T.limit site.old }
         ensures log { AreTriedAt (T.limit site.new) (T.log site.new) self.new }
@@ -187,8 +188,8 @@ impl Held {
     /// Then site and held ones are as before.
     pub fn offer<T: Taking>(&mut self, site: &mut T, op: Op) -> Result<Offered, Fault>
         requires { AreTriedAt (T.limit site.old) (T.log site.old) self.old }
-        ensures reply { IfOk result (λ offered. reply_to (T.limit site.old) op (holding T.log site.old self.old.held) ≡ replied (Ok offered)) }
-        ensures refused { IfErr result (IsRefused (reply_to (T.limit site.old) op (holding T.log site.old self.old.held))) }
+        ensures reply { IfOk result (λ offered. reply_to (T.limit site.old) op (site_holding T.log site.old self.old.held) ≡ replied (Ok offered)) }
+        ensures refused { IfErr result (IsRefused (reply_to (T.limit site.old) op (site_holding T.log site.old self.old.held))) }
         ensures offered { IfOk result (λ offered. IsOffered T.log T.after (T.limit site.old) op offered site.old self.old.held
             site.new self.new.held) }
         ensures same_site { OnErr result (site.new ≡ site.old) }

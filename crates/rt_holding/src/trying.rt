@@ -8,7 +8,7 @@ ghost use Rattle.rt_ops.specs.Operations.{Operation, has_bad_stamp};
 ghost use Rattle.rt_oplog.specs.Logs.{holds, with_operation};
 ghost use Rattle.rt_rga.specs.Answers.{answer_within};
 ghost use Rattle.rt_holding.specs.Kept.{IsHeldAt, IsInPlace, IsNewAt, Standing, by_stamp_and_arrival, ops_in, after_try_of};
-ghost use Rattle.rt_holding.specs.Waits.{HasLess, IfIsThere, IsReady, IsSetAt, KeepsOthers, are_kept, is_any_kept, is_listed, key_count, after_try_there};
+ghost use Rattle.rt_holding.specs.Waits.{HasLess, IfIsThere, IsReady, IsSetAt, KeepsOtherPlaces, are_all_kept, is_any_kept, is_place_in, key_count, after_try_there};
 
 use crate::taking::Taking;
 use crate::waits::{Keys, Waits, forget, keep, put_keys};
@@ -73,10 +73,10 @@ pub(crate) fn sleep<T: Taking>(site: &T, ops: &Ops, waits: &mut Waits, place: St
     requires ready { IsReady 1 waits.old }
     requires sound { IfIsThere (λ op. has_bad_stamp op ≡ false) (get by_stamp_and_arrival ops.now place) }
     ensures ready { IsReady 0 waits.new }
-    ensures keys { KeepsOthers place waits.old.keys waits.new.keys }
+    ensures keys { KeepsOtherPlaces place waits.old.keys waits.new.keys }
     ensures due { heap_items waits.new.due ≡ heap_items waits.old.due }
-    ensures again { (p : Standing) → is_listed p waits.old.again.items ≡ true → is_listed p waits.new.again.items ≡ true }
-    ensures asleep { IfIsThere (λ op. (is_listed place waits.new.again.items || are_kept waits.new.keys (T.log site.now) place op) ≡ true)
+    ensures again { (p : Standing) → is_place_in p waits.old.again.items ≡ true → is_place_in p waits.new.again.items ≡ true }
+    ensures asleep { IfIsThere (λ op. (is_place_in place waits.new.again.items || are_all_kept waits.new.keys (T.log site.now) place op) ≡ true)
         (get by_stamp_and_arrival ops.now place) }
 {
     if let Some(Some(op)) = ops.get(&place) {
@@ -120,7 +120,7 @@ pub(crate) fn drop_at<T: Taking>(site: &T, ops: &mut Ops, keys: &mut Keys, place
     ensures entries { ops.new.entries ≡ remove_entry (is_at (by_stamp_and_arrival place)) ops.old.entries }
     ensures others { IsSetAt place None ops.old ops.new }
     ensures ordered { IsOrdered by_stamp_and_arrival ops.new }
-    ensures keys { KeepsOthers place keys.old keys.new }
+    ensures keys { KeepsOtherPlaces place keys.old keys.new }
     ensures gone { IfIsThere (λ op. has_bad_stamp op ≡ false → is_any_kept keys.new (T.log site.now) place op ≡ false)
         (get by_stamp_and_arrival ops.old place) }
     ensures less { HasLess keys.old keys.new }

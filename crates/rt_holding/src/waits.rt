@@ -7,8 +7,8 @@ ghost use Rattle.std.specs.BTreeSet.{contains};
 ghost use Rattle.rt_ops.specs.Operations.{has_bad_stamp};
 ghost use Rattle.rt_holding.specs.Kept.{Standing, by_stamp_and_arrival};
 ghost use Rattle.rt_rga.specs.Kept.{goes_past};
-ghost use Rattle.rt_holding.specs.Waits.{HasLess, HasMore, HasNoneOf, IsFirstDue, IsFirstOf, IsKeyedMore, IsLess, IsNotedMore, IsPassedIn, IsReady, KeepOthers, KeepsOthers, LeavesNone, NoneIsBefore};
-ghost use Rattle.rt_holding.specs.Waits.{are_kept, by_key, by_later, has_key, is_any_kept, is_due, is_keyed, is_listed, is_noted, is_waited_for, key_count, least_key};
+ghost use Rattle.rt_holding.specs.Waits.{HasLess, HasMore, HasNoneOf, IsFirstDue, IsFirstOf, IsKeyedMore, IsLess, IsNotedMore, IsPassedIn, IsReady, KeepOthers, KeepsOtherPlaces, LeavesNone, NoneIsBefore};
+ghost use Rattle.rt_holding.specs.Waits.{are_all_kept, by_key, by_later, has_key, is_any_kept, is_due, is_keyed, is_place_in, is_noted, is_waited_for, key_count, least_key};
 
 use crate::taking::Taking;
 use crate::trying::Standing;
@@ -38,7 +38,7 @@ pub(crate) struct Keys {
     pub(crate) alone: KeySet,
     /// At the last stamp of a span that has begun, and goes past its site's known end.
     pub(crate) begun: KeySet,
-    /// What comes behind it is still to be looked through for a gap, for all whose span of the site has begun.
+    /// For each site of which a span has begun: the count up to which its stamps were looked through for gaps.
     pub(crate) ends: Ends,
 }
 
@@ -127,7 +127,7 @@ pub(crate) fn pop_first(due: &mut Due) -> Option<Standing>
 pub(crate) fn keep(waits: &mut Waits, place: Standing)
     requires { IsReady 1 waits.old }
     ensures ready { IsReady 0 waits.new }
-    ensures listed { (p : Standing) → is_listed p waits.new.again.items ≡ is_listed p waits.old.again.items || is_at (by_stamp_and_arrival p) place }
+    ensures listed { (p : Standing) → is_place_in p waits.new.again.items ≡ is_place_in p waits.old.again.items || is_at (by_stamp_and_arrival p) place }
     ensures keys { waits.new.keys ≡ waits.old.keys }
     ensures due { waits.new.due ≡ waits.old.due }
 {
@@ -178,7 +178,7 @@ pub(crate) fn look_again(waits: &mut Waits)
     ensures ready { IsReady 0 waits.new }
     ensures keys { waits.new.keys ≡ waits.old.keys }
     ensures due { (p : Standing) → is_due p waits.old.due ≡ true → is_due p waits.new.due ≡ true }
-    ensures again { (p : Standing) → is_listed p waits.old.again.items ≡ true → is_due p waits.new.due ≡ true }
+    ensures again { (p : Standing) → is_place_in p waits.old.again.items ≡ true → is_due p waits.new.due ≡ true }
 {
     while let Some(place) = waits.again.pop() {
         push_due(&mut waits.due, place);
@@ -270,7 +270,7 @@ pub(crate) fn put_begun(keys: &mut Keys, key: Key, known: u64) -> Result<(), All
     ensures kept { OnOk result (contains by_key keys.new.begun key ≡ true) }
     ensures noted { OnOk result (is_noted keys.new.ends key.site known ≡ true) }
     ensures alone { keys.new.alone ≡ keys.old.alone }
-    ensures others { KeepsOthers key.place keys.old keys.new }
+    ensures others { KeepsOtherPlaces key.place keys.old keys.new }
     ensures more { HasMore keys.old keys.new }
     ensures len { key_count keys.new ≤ key_count keys.old + 1 }
     ensures same { OnErr result (key_count keys.new ≡ key_count keys.old) }
@@ -362,7 +362,7 @@ pub(crate) fn put_keys<T: Taking>(
     requires ready { IsReady 1 waits.old }
     ensures ready { IsReady 1 waits.new }
     ensures keyed { IsKeyedMore place waits.old waits.new }
-    ensures kept { OnOk result (are_kept waits.new.keys (T.log site.now) place op.now ≡ true) }
+    ensures kept { OnOk result (are_all_kept waits.new.keys (T.log site.now) place op.now ≡ true) }
 {
     let own = op.site();
     let prev = op.prev();
@@ -402,7 +402,7 @@ pub(crate) fn prepare<T: Taking>(
     requires ready { IsReady 0 waits.old }
     ensures ready { IsReady 0 waits.new }
     ensures room { OnOk result (IsReady 1 waits.new) }
-    ensures others { KeepsOthers place waits.old.keys waits.new.keys }
+    ensures others { KeepsOtherPlaces place waits.old.keys waits.new.keys }
     ensures due { heap_items waits.new.due ≡ heap_items waits.old.due }
     ensures again { waits.new.again.items ≡ waits.old.again.items }
 {
@@ -432,7 +432,7 @@ fn drop_key(keys: &mut KeySet, stamp: Stamp, place: Standing)
 fn drop_span<T: Taking>(site: &T, keys: &mut Keys, span: Span, place: Standing)
     ensures gone { (goes_past (T.log site.now) span && is_keyed keys.new (T.log site.now) place span) ≡ false }
     ensures less { HasLess keys.old keys.new }
-    ensures others { KeepsOthers place keys.old keys.new }
+    ensures others { KeepsOtherPlaces place keys.old keys.new }
     ensures fewer { key_count keys.new ≤ key_count keys.old }
 {
     if !is_open(site, span) {
@@ -456,7 +456,7 @@ fn drop_span<T: Taking>(site: &T, keys: &mut Keys, span: Span, place: Standing)
 fn drop_spans<T: Taking>(site: &T, keys: &mut Keys, spans: &[Span], place: Standing)
     ensures gone { list_any (λ span. goes_past (T.log site.now) span && is_keyed keys.new (T.log site.now) place span) spans.now ≡ false }
     ensures less { HasLess keys.old keys.new }
-    ensures others { KeepsOthers place keys.old keys.new }
+    ensures others { KeepsOtherPlaces place keys.old keys.new }
     ensures fewer { key_count keys.new ≤ key_count keys.old }
 {
     for span in spans {
@@ -483,7 +483,7 @@ fn drop_own(keys: &mut KeySet, op: &Op, place: Standing)
 pub(crate) fn forget<T: Taking>(site: &T, keys: &mut Keys, op: &Op, place: Standing)
     ensures gone { has_bad_stamp op.now ≡ false → is_any_kept keys.new (T.log site.now) place op.now ≡ false }
     ensures less { HasLess keys.old keys.new }
-    ensures others { KeepsOthers place keys.old keys.new }
+    ensures others { KeepsOtherPlaces place keys.old keys.new }
     ensures fewer { key_count keys.new ≤ key_count keys.old }
 {
     drop_own(&mut keys.alone, op, place);

@@ -1,4 +1,5 @@
 -- A place put into blocks.
+use Rattle.rt_rows.specs.declared.rows.RowPlace.{RowPlace}
 use Rattle.std.proofs.Common.{◌≡◌, ℕ, zero, suc, ◌+◌, ◌-◌, ◌*◌, ◌<◌, ◌≤◌, List, [], ◌∷◌, ◌++◌, length, get_or, take, set, refl, sym, ap, subst, ◌∙◌, arith, vec_len, append_assoc, length-append}
 use Rattle.std.specs.List.{AllByRecursion, insert}
 use Rattle.std.proofs.lemmas.List.{length-set}
@@ -8,7 +9,7 @@ use Rattle.rt_oplog.specs.Blocks.{AreHalfFull, IsFull, in_blocks, places_before,
 use Rattle.rt_oplog.proofs.InBlocks.{any_default}
 
 -- a place put into one block
-pub put_blocks : (bs : List Block) (i : ℕ) (b new : Block) (at place : ℕ) → i < length bs → b ≡ get_or bs i b → at ≤ length b.places.items → new.places.items ≡ insert b.places.items at place
+pub put_blocks : (bs : List Block) (i : ℕ) (b new : Block) (at : ℕ) (place : RowPlace) → i < length bs → b ≡ get_or bs i b → at ≤ length b.places.items → new.places.items ≡ insert b.places.items at place
     → in_blocks (set bs i new) ≡ insert (in_blocks bs) (places_before bs i + at) place
 put_blocks [] i b new at place l e w n = absurd (omega arith)
 put_blocks (c ∷ bs) zero b new at place l e w n =

@@ -1,4 +1,6 @@
 -- For which operations of a log the first version of the file has room.
+use Rattle.rt_rows.specs.Places.{op_at}
+use Rattle.rt_rows.specs.declared.rows.RowPlace.{RowPlace}
 use Rattle.std.proofs.Common.{◌≡◌, ℕ, ◌+◌, ◌<◌, Bool, true, false, ◌&&◌, refl, sym, ap, ◌∙◌, List, ◌++◌, length, get_or, take, drop, take-append-drop}
 use Rattle.std.specs.List.{list_all}
 use Rattle.std.proofs.lemmas.List.{map-append}
@@ -8,35 +10,34 @@ use Rattle.rt_ops.specs.declared.version.Version.TheVariants.{One}
 use Rattle.rt_ops.specs.Operations.{Operation}
 use Rattle.rt_ops.specs.File.{fits, version_of}
 use Rattle.rt_oplog.specs.declared.block.Block.{Block}
-use Rattle.rt_oplog.specs.Kept.{op_at}
 use Rattle.rt_oplog.specs.Blocks.{in_blocks}
 use Rattle.rt_oplog.proofs.InBlocks.{places_next}
 use Rattle.rt_oplog.proofs.Merges.{ops_at}
 
 -- the first version has room for the operations of places
-abbrev pub fit : List Operation → List ℕ → Bool
+abbrev pub fit : List (List Operation) → List RowPlace → Bool
 fit ops places = list_all (fits One) (ops_at ops places)
 
-fit_append : (ops : List Operation) (xs ys : List ℕ) → fit ops (xs ++ ys) ≡ (fit ops xs && fit ops ys)
+fit_append : (ops : List (List Operation)) (xs ys : List RowPlace) → fit ops (xs ++ ys) ≡ (fit ops xs && fit ops ys)
 fit_append ops xs ys = ap (list_all (fits One)) (map-append (op_at ops) xs ys) ∙ list_all-append (fits One) (ops_at ops xs) (ops_at ops ys)
 
-by_places : (ops : List Operation) (places : List ℕ) → fit ops places ≡ list_all (λ place. fits One (op_at ops place)) places
+by_places : (ops : List (List Operation)) (places : List RowPlace) → fit ops places ≡ list_all (λ place. fits One (op_at ops place)) places
 by_places ops places = list_all-map (fits One) (op_at ops) places
 
 -- ---- the next place
 
-pub fits_next : (ops : List Operation) (places : List ℕ) (i : ℕ) (op : Operation) → i < length places → op ≡ op_at ops (get_or places i 0)
+pub fits_next : (ops : List (List Operation)) (places : List RowPlace) (i : ℕ) (op : Operation) → i < length places → op ≡ op_at ops (get_or places i (record { row = 0; at = 0 }))
     → fit ops (take i places) ≡ true → fits One op ≡ true → fit ops (take (i + 1) places) ≡ true
 fits_next ops places i op l e before here =
     let front = sym (by_places ops (take i places)) ∙ before in
     let next = ap (fits One) (sym e) ∙ here in
-    by_places ops (take (i + 1) places) ∙ list_all_more (λ place. fits One (op_at ops place)) places i 0 l ∙ (λ j. front j && next j)
+    by_places ops (take (i + 1) places) ∙ list_all_more (λ place. fits One (op_at ops place)) places i (record { row = 0; at = 0 }) l ∙ (λ j. front j && next j)
 
-pub fits_not : (ops : List Operation) (places : List ℕ) (i : ℕ) (op : Operation) → i < length places → op ≡ op_at ops (get_or places i 0)
+pub fits_not : (ops : List (List Operation)) (places : List RowPlace) (i : ℕ) (op : Operation) → i < length places → op ≡ op_at ops (get_or places i (record { row = 0; at = 0 }))
     → fits One op ≡ false → fit ops places ≡ false
-fits_not ops places i op l e here = by_places ops places ∙ list_all_at (λ place. fits One (op_at ops place)) places i 0 l (ap (fits One) (sym e) ∙ here)
+fits_not ops places i op l e here = by_places ops places ∙ list_all_at (λ place. fits One (op_at ops place)) places i (record { row = 0; at = 0 }) l (ap (fits One) (sym e) ∙ here)
 
-pub fits_at : (ops : List Operation) (places : List ℕ) (i : ℕ) (op : Operation) → i < length places → op ≡ op_at ops (get_or places i 0)
+pub fits_at : (ops : List (List Operation)) (places : List RowPlace) (i : ℕ) (op : Operation) → i < length places → op ≡ op_at ops (get_or places i (record { row = 0; at = 0 }))
     → fit ops places ≡ true → fits One op ≡ true
 fits_at ops places i op l e all = by (fits One op) refl
   where
@@ -46,13 +47,13 @@ fits_at ops places i op l e all = by (fits One op) refl
 
 -- ---- the next block
 
-pub block_fits : (ops : List Operation) (bs : List Block) (i : ℕ) (b : Block) → i < length bs → b ≡ get_or bs i b
+pub block_fits : (ops : List (List Operation)) (bs : List Block) (i : ℕ) (b : Block) → i < length bs → b ≡ get_or bs i b
     → fit ops (in_blocks (take i bs)) ≡ true → fit ops b.places.items ≡ true → fit ops (in_blocks (take (i + 1) bs)) ≡ true
 block_fits ops bs i b l e before here =
     ap (fit ops) (places_next bs i b l e) ∙ fit_append ops (in_blocks (take i bs)) b.places.items ∙ (λ j. before j && here j)
 
 -- a block among all
-split_at : (ops : List Operation) (bs : List Block) (i : ℕ) (b : Block) → i < length bs → b ≡ get_or bs i b
+split_at : (ops : List (List Operation)) (bs : List Block) (i : ℕ) (b : Block) → i < length bs → b ≡ get_or bs i b
     → fit ops (in_blocks bs) ≡ ((fit ops (in_blocks (take i bs)) && fit ops b.places.items) && fit ops (in_blocks (drop (i + 1) bs)))
 split_at ops bs i b l e =
     ap (λ xs. fit ops (in_blocks xs)) (sym (take-append-drop (i + 1) bs))
@@ -64,13 +65,13 @@ middle_not : (a c : Bool) → ((a && false) && c) ≡ false
 middle_not true c = refl
 middle_not false c = refl
 
-pub block_not : (ops : List Operation) (bs : List Block) (i : ℕ) (b : Block) → i < length bs → b ≡ get_or bs i b
+pub block_not : (ops : List (List Operation)) (bs : List Block) (i : ℕ) (b : Block) → i < length bs → b ≡ get_or bs i b
     → fit ops b.places.items ≡ false → fit ops (in_blocks bs) ≡ false
 block_not ops bs i b l e here =
     split_at ops bs i b l e ∙ ap (λ m. (fit ops (in_blocks (take i bs)) && m) && fit ops (in_blocks (drop (i + 1) bs))) here
     ∙ middle_not (fit ops (in_blocks (take i bs))) (fit ops (in_blocks (drop (i + 1) bs)))
 
-pub block_at : (ops : List Operation) (bs : List Block) (i : ℕ) (b : Block) → i < length bs → b ≡ get_or bs i b
+pub block_at : (ops : List (List Operation)) (bs : List Block) (i : ℕ) (b : Block) → i < length bs → b ≡ get_or bs i b
     → fit ops (in_blocks bs) ≡ true → fit ops b.places.items ≡ true
 block_at ops bs i b l e all = by (fit ops b.places.items) refl
   where

@@ -1,4 +1,5 @@
 -- Places in blocks, as one list.
+use Rattle.rt_rows.specs.declared.rows.RowPlace.{RowPlace}
 use Rattle.std.proofs.Common.{◌≡◌, ℕ, zero, suc, ◌+◌, ◌-◌, ◌<◌, ◌≤◌, Bool, true, false, List, [], ◌∷◌, ◌++◌, length, get_or, take, refl, sym, ap, subst, ◌∙◌, arith, append-nil, length-append, None, inl, inr}
 use Rattle.std.specs.Prelude.{slice_get, Some}
 use Rattle.std.specs.List.{AllByRecursion, list_all}
@@ -12,10 +13,10 @@ use Rattle.rt_stamps.specs.Stamps.{is_before}
 use Rattle.rt_oplog.specs.declared.block.Block.{Block}
 use Rattle.rt_ops.specs.Operations.{Operation, stamp_of}
 use Rattle.rt_oplog.specs.Logs.{HasOp, IsFalling, IsLog}
-use Rattle.rt_oplog.specs.Kept.{newest_first, leading}
+use Rattle.rt_oplog.specs.Kept.{newest_first, leading, is_earlier}
 use Rattle.rt_oplog.specs.Blocks.{all_pass, in_blocks, places_before}
 use Rattle.rt_oplog.proofs.Sets.{split}
-use Rattle.rt_oplog.proofs.Places.{is_earlier, partitioned}
+use Rattle.rt_oplog.proofs.Places.{partitioned}
 use Rattle.rt_oplog.proofs.Merges.{falling_after, has_after, seen_append}
 
 -- tests on places
@@ -58,7 +59,7 @@ leading_fails p (x ∷ xs) h = split (p x)
 
 -- the first place that fails a test stands in the first block of which not all pass
 
-pub leading_at : (p : ℕ → Bool) (bs : List Block) (i : ℕ) (b : Block) → i ≡ leading (all_pass p) bs → i < length bs → b ≡ get_or bs i b
+pub leading_at : (p : RowPlace → Bool) (bs : List Block) (i : ℕ) (b : Block) → i ≡ leading (all_pass p) bs → i < length bs → b ≡ get_or bs i b
     → leading p (in_blocks bs) ≡ places_before bs i + leading p b.places.items
 leading_at p [] i b e l g = absurd (omega arith)
 leading_at p (c ∷ bs) zero b e l g = split (all_pass p c)
@@ -75,7 +76,7 @@ leading_at p (c ∷ bs) (suc i) b e l g = split (all_pass p c)
     omega (arith, r, a, n))
     (λ h. let k = rw h at e in absurd (omega (arith, k)))
 
-pub leading_within : (p : ℕ → Bool) (bs : List Block) (i : ℕ) (b : Block) → i ≡ leading (all_pass p) bs → i < length bs → b ≡ get_or bs i b
+pub leading_within : (p : RowPlace → Bool) (bs : List Block) (i : ℕ) (b : Block) → i ≡ leading (all_pass p) bs → i < length bs → b ≡ get_or bs i b
     → leading p b.places.items < length b.places.items
 leading_within p [] i b e l g = absurd (omega arith)
 leading_within p (c ∷ bs) zero b e l g = split (all_pass p c)
@@ -85,7 +86,7 @@ leading_within p (c ∷ bs) (suc i) b e l g = split (all_pass p c)
     (λ h. let k = rw h at e in leading_within p bs i b (omega (arith, k)) (omega arith) g)
     (λ h. let k = rw h at e in absurd (omega (arith, k)))
 
-leading_none : (p : ℕ → Bool) (bs : List Block) → leading (all_pass p) bs ≡ length bs → leading p (in_blocks bs) ≡ length (in_blocks bs)
+leading_none : (p : RowPlace → Bool) (bs : List Block) → leading (all_pass p) bs ≡ length bs → leading p (in_blocks bs) ≡ length (in_blocks bs)
 leading_none p [] e = refl
 leading_none p (c ∷ bs) e = split (all_pass p c)
     (λ h. let k = rw h at e in
@@ -109,7 +110,7 @@ pub places_next : (bs : List Block) (i : ℕ) (b : Block) → i < length bs → 
 places_next bs i b l e =
     ap in_blocks (take_more bs i b l ∙ ap (λ x. take i bs ++ x ∷ []) (sym e)) ∙ flat_map-append (λ (x : Block). x.places.items) (take i bs) (b ∷ []) ∙ ap (λ xs. in_blocks (take i bs) ++ xs) (append-nil b.places.items)
 
-pub falling_block : (ops : List Operation) (bs : List Block) (i : ℕ) (b : Block) → i < length bs → b ≡ get_or bs i b → IsFalling (newest_first ops (in_blocks bs)) → IsFalling (newest_first ops b.places.items)
+pub falling_block : (ops : List (List Operation)) (bs : List Block) (i : ℕ) (b : Block) → i < length bs → b ≡ get_or bs i b → IsFalling (newest_first ops (in_blocks bs)) → IsFalling (newest_first ops b.places.items)
 falling_block ops [] i b l e f = absurd (omega arith)
 falling_block ops (c ∷ bs) zero b l e f =
     let g = subst IsFalling (seen_append ops c.places.items (in_blocks bs)) f in
@@ -119,14 +120,14 @@ falling_block ops (c ∷ bs) (suc i) b l e f =
     falling_block ops bs i b (omega arith) e (falling_back (newest_first ops (in_blocks bs)) (newest_first ops c.places.items) g)
 
 -- the first place of a block, in the one list
-first_at : (bs : List Block) (j : ℕ) (e : Block) (d : ℕ) → j < length bs → (places_before bs j < length (in_blocks bs)) × (get_or (in_blocks bs) (places_before bs j) d ≡ get_or (get_or bs j e).places.items 0 d)
+first_at : (bs : List Block) (j : ℕ) (e : Block) (d : RowPlace) → j < length bs → (places_before bs j < length (in_blocks bs)) × (get_or (in_blocks bs) (places_before bs j) d ≡ get_or (get_or bs j e).places.items 0 d)
 first_at [] j e d l = absurd (omega arith)
 first_at (b ∷ bs) zero e d l = (
   (let n = length-append b.places.items (in_blocks bs) in omega (arith, n, b.some, b.places.ok.0)),
   front_of b.places.items (in_blocks bs) d (omega (arith, b.some, b.places.ok.0)),
 )
   where
-    front_of : (xs ys : List ℕ) (d : ℕ) → 0 < length xs → get_or (xs ++ ys) 0 d ≡ get_or xs 0 d
+    front_of : (xs ys : List RowPlace) (d : RowPlace) → 0 < length xs → get_or (xs ++ ys) 0 d ≡ get_or xs 0 d
     front_of [] ys d h = absurd (omega arith)
     front_of (x ∷ xs) ys d h = refl
 first_at (b ∷ bs) (suc j) e d l =
@@ -137,11 +138,11 @@ first_at (b ∷ bs) (suc j) e d l =
       ap (λ k. get_or (b.places.items ++ in_blocks bs) k d) n ∙ behind b.places.items (in_blocks bs) (places_before bs j) d ∙ r.1,
     )
   where
-    behind : (xs ys : List ℕ) (k d : ℕ) → get_or (xs ++ ys) (length xs + k) d ≡ get_or ys k d
+    behind : (xs ys : List RowPlace) (k : ℕ) (d : RowPlace) → get_or (xs ++ ys) (length xs + k) d ≡ get_or ys k d
     behind [] ys k d = let e : 0 + k ≡ k = omega arith in ap (λ n. get_or ys n d) e
     behind (x ∷ xs) ys k d = let e : suc (length xs) + k ≡ suc (length xs + k) = omega arith in ap (λ n. get_or (x ∷ (xs ++ ys)) n d) e ∙ behind xs ys k d
 
-pub blocks_parted : (ops : List Operation) (stamp : Stamp) (bs : List Block) → IsFalling (newest_first ops (in_blocks bs)) → IsPartitionedBy (all_pass (is_earlier ops stamp)) bs
+pub blocks_parted : (ops : List (List Operation)) (stamp : Stamp) (bs : List Block) → IsFalling (newest_first ops (in_blocks bs)) → IsPartitionedBy (all_pass (is_earlier ops stamp)) bs
 blocks_parted ops stamp [] f i j d h k e = absurd (omega arith)
 blocks_parted ops stamp (b ∷ bs) f zero zero d h k e = e
 blocks_parted ops stamp (b ∷ bs) f (suc i) zero d h k e = absurd (omega arith)
@@ -161,11 +162,11 @@ blocks_parted ops stamp (b ∷ bs) f zero (suc j) d h k e =
     let here = partitioned ops stamp all f i (places_before (b ∷ bs) (suc j)) x (omega (arith, l, m)) at.0 there in
     ap p (sym (get_or-front b.places.items (in_blocks bs) i x l)) ∙ here)
   where
-    all_first : (p : ℕ → Bool) (xs : List ℕ) (d : ℕ) → 0 < length xs → list_all p xs ≡ true → p (get_or xs 0 d) ≡ true
+    all_first : (p : RowPlace → Bool) (xs : List RowPlace) (d : RowPlace) → 0 < length xs → list_all p xs ≡ true → p (get_or xs 0 d) ≡ true
     all_first p [] d l h = absurd (omega arith)
     all_first p (x ∷ xs) d l h = split (p x) (λ e. e) (λ e. let k = rw e at h in absurd (cc k))
 
-    get_or-front : (xs ys : List ℕ) (i d : ℕ) → i < length xs → get_or (xs ++ ys) i d ≡ get_or xs i d
+    get_or-front : (xs ys : List RowPlace) (i : ℕ) (d : RowPlace) → i < length xs → get_or (xs ++ ys) i d ≡ get_or xs i d
     get_or-front [] ys i d h = absurd (omega arith)
     get_or-front (x ∷ xs) ys zero d h = refl
     get_or-front (x ∷ xs) ys (suc i) d h = get_or-front xs ys i d (omega arith)
@@ -173,15 +174,15 @@ blocks_parted ops stamp (b ∷ bs) f zero (suc j) d h k e =
 -- the search among blocks goes by their last places
 
 -- the operation of a block's last place is before a stamp
-abbrev pub last_earlier : List Operation → Stamp → Block → Bool
-last_earlier ops stamp b = is_earlier ops stamp (get_or b.places.items (length b.places.items - 1) 0)
+abbrev pub last_earlier : List (List Operation) → Stamp → Block → Bool
+last_earlier ops stamp b = is_earlier ops stamp (get_or b.places.items (length b.places.items - 1) (record { row = 0; at = 0 }))
 
-last_tells : (ops : List Operation) (stamp : Stamp) (bs : List Block) → IsFalling (newest_first ops (in_blocks bs)) → (i : ℕ) (d : Block) → i < length bs
+last_tells : (ops : List (List Operation)) (stamp : Stamp) (bs : List Block) → IsFalling (newest_first ops (in_blocks bs)) → (i : ℕ) (d : Block) → i < length bs
     → last_earlier ops stamp (get_or bs i d) ≡ all_pass (is_earlier ops stamp) (get_or bs i d)
 last_tells ops stamp bs f i d l =
     let b = get_or bs i d in
     let g = falling_block ops bs i b l (any_default bs i d b l) f in
-    all_if_last (is_earlier ops stamp) b.places.items 0 (omega (arith, b.some, b.places.ok.0)) (partitioned ops stamp b.places.items g)
+    all_if_last (is_earlier ops stamp) b.places.items (record { row = 0; at = 0 }) (omega (arith, b.some, b.places.ok.0)) (partitioned ops stamp b.places.items g)
 
 leading_same : {X : Type 0} (p q : X → Bool) (xs : List X) → ((i : ℕ) (d : X) → i < length xs → p (get_or xs i d) ≡ q (get_or xs i d)) → leading p xs ≡ leading q xs
 leading_same p q [] h = refl
@@ -190,15 +191,15 @@ leading_same p q (x ∷ xs) h =
     let r = leading_same p q xs (λ i d l. h (suc i) d (omega arith)) in
     split (q x) (λ k. rw (e, k, r) refl) (λ k. rw (e, k) refl)
 
-pub last_leading : (ops : List Operation) (stamp : Stamp) (bs : List Block) → IsFalling (newest_first ops (in_blocks bs)) → leading (last_earlier ops stamp) bs ≡ leading (all_pass (is_earlier ops stamp)) bs
+pub last_leading : (ops : List (List Operation)) (stamp : Stamp) (bs : List Block) → IsFalling (newest_first ops (in_blocks bs)) → leading (last_earlier ops stamp) bs ≡ leading (all_pass (is_earlier ops stamp)) bs
 last_leading ops stamp bs f = leading_same (last_earlier ops stamp) (all_pass (is_earlier ops stamp)) bs (last_tells ops stamp bs f)
 
-pub last_parted : (ops : List Operation) (stamp : Stamp) (bs : List Block) → IsFalling (newest_first ops (in_blocks bs)) → IsPartitionedBy (last_earlier ops stamp) bs
+pub last_parted : (ops : List (List Operation)) (stamp : Stamp) (bs : List Block) → IsFalling (newest_first ops (in_blocks bs)) → IsPartitionedBy (last_earlier ops stamp) bs
 last_parted ops stamp bs f i j d h k e =
     last_tells ops stamp bs f i d (omega (arith, h, k)) ∙ blocks_parted ops stamp bs f i j d h k (sym (last_tells ops stamp bs f j d k) ∙ e)
 
 -- the last block's last place tells whether all operations are before a stamp
-pub last_of_all : (ops : List Operation) (stamp : Stamp) (bs : List Block) (b : Block) → IsFalling (newest_first ops (in_blocks bs)) → slice_get bs (length bs - 1) ≡ Some b
+pub last_of_all : (ops : List (List Operation)) (stamp : Stamp) (bs : List Block) (b : Block) → IsFalling (newest_first ops (in_blocks bs)) → slice_get bs (length bs - 1) ≡ Some b
     → last_earlier ops stamp b ≡ list_all (all_pass (is_earlier ops stamp)) bs
 last_of_all ops stamp bs b f e =
     let l = slice_get_within bs (length bs - 1) b e in
@@ -206,11 +207,11 @@ last_of_all ops stamp bs b f e =
     ∙ last_tells ops stamp bs f (length bs - 1) b l
     ∙ all_if_last (all_pass (is_earlier ops stamp)) bs b (omega (arith, l)) (blocks_parted ops stamp bs f)
 
-pub not_all_earlier : (ops : List Operation) (stamp : Stamp) (bs : List Block) (i : ℕ) → list_all (all_pass (is_earlier ops stamp)) bs ≡ false
+pub not_all_earlier : (ops : List (List Operation)) (stamp : Stamp) (bs : List Block) (i : ℕ) → list_all (all_pass (is_earlier ops stamp)) bs ≡ false
     → i ≡ leading (all_pass (is_earlier ops stamp)) bs → i < length bs
 not_all_earlier ops stamp bs i h e = omega (arith, e, leading_fails (all_pass (is_earlier ops stamp)) bs h)
 
-pub all_earlier : (ops : List Operation) (stamp : Stamp) (bs : List Block) → list_all (all_pass (is_earlier ops stamp)) bs ≡ true
+pub all_earlier : (ops : List (List Operation)) (stamp : Stamp) (bs : List Block) → list_all (all_pass (is_earlier ops stamp)) bs ≡ true
     → leading (is_earlier ops stamp) (in_blocks bs) ≡ length (in_blocks bs)
 all_earlier ops stamp bs h =
     let p = all_pass (is_earlier ops stamp) in
@@ -231,7 +232,7 @@ places_within (c ∷ bs) (suc i) at b l e w =
     let r = places_within bs i at b (omega arith) e w in
     omega (arith, n, m, r)
 
-pub place_at : (bs : List Block) (i at place : ℕ) (b : Block) → i < length bs → b ≡ get_or bs i b → at < length b.places.items → place ≡ get_or b.places.items at place
+pub place_at : (bs : List Block) (i at : ℕ) (place : RowPlace) (b : Block) → i < length bs → b ≡ get_or bs i b → at < length b.places.items → place ≡ get_or b.places.items at place
     → slice_get (in_blocks bs) (places_before bs i + at) ≡ Some place
 place_at bs i at place b l e w r =
     let there : at < length (get_or bs i b).places.items = subst (λ (x : Block). at < length x.places.items) e w in
@@ -253,20 +254,20 @@ none_past (x ∷ xs) (suc i) e = let r = none_past xs i e in omega (arith, r)
 
 -- what holds of all places, of one block
 
-pub all_block : (P : ℕ → Type 0) (bs : List Block) (i : ℕ) (b : Block) → i < length bs → b ≡ get_or bs i b → AllByRecursion P (in_blocks bs) → AllByRecursion P b.places.items
+pub all_block : (P : RowPlace → Type 0) (bs : List Block) (i : ℕ) (b : Block) → i < length bs → b ≡ get_or bs i b → AllByRecursion P (in_blocks bs) → AllByRecursion P b.places.items
 all_block P [] i b l e h = absurd (omega arith)
 all_block P (c ∷ bs) zero b l e h = subst (λ (x : Block). AllByRecursion P x.places.items) (sym e) (parts P c.places.items (in_blocks bs) h).0
   where
-    parts : (P : ℕ → Type 0) (xs ys : List ℕ) → AllByRecursion P (xs ++ ys) → AllByRecursion P xs × AllByRecursion P ys
+    parts : (P : RowPlace → Type 0) (xs ys : List RowPlace) → AllByRecursion P (xs ++ ys) → AllByRecursion P xs × AllByRecursion P ys
     parts P [] ys h = (tt, h)
     parts P (x ∷ xs) ys h = let r = parts P xs ys h.1 in ((h.0, r.0), r.1)
 all_block P (c ∷ bs) (suc i) b l e h = all_block P bs i b (omega arith) e (rest P c.places.items (in_blocks bs) h)
   where
-    rest : (P : ℕ → Type 0) (xs ys : List ℕ) → AllByRecursion P (xs ++ ys) → AllByRecursion P ys
+    rest : (P : RowPlace → Type 0) (xs ys : List RowPlace) → AllByRecursion P (xs ++ ys) → AllByRecursion P ys
     rest P [] ys h = h
     rest P (x ∷ xs) ys h = rest P xs ys h.1
 
-has_block : (ops : List Operation) (bs : List Block) (i : ℕ) (b : Block) (x : Operation) → i < length bs → b ≡ get_or bs i b → HasOp (newest_first ops b.places.items) x → HasOp (newest_first ops (in_blocks bs)) x
+has_block : (ops : List (List Operation)) (bs : List Block) (i : ℕ) (b : Block) (x : Operation) → i < length bs → b ≡ get_or bs i b → HasOp (newest_first ops b.places.items) x → HasOp (newest_first ops (in_blocks bs)) x
 has_block ops [] i b x l e h = absurd (omega arith)
 has_block ops (c ∷ bs) zero b x l e h =
     let same = subst (λ (y : Block). HasOp (newest_first ops y.places.items) x) e h in
@@ -278,7 +279,7 @@ has_block ops (c ∷ bs) (suc i) b x l e h =
     has_before [] ys x h = absurd h
     has_before (y ∷ xs) ys x h = elim h [ inl d ↦ inl d | inr j ↦ inr (has_before xs ys x j) ]
 
-pub log_block : (ops : List Operation) (bs : List Block) (i : ℕ) (b : Block) → i < length bs → b ≡ get_or bs i b → IsLog (newest_first ops (in_blocks bs)) → IsLog (newest_first ops b.places.items)
+pub log_block : (ops : List (List Operation)) (bs : List Block) (i : ℕ) (b : Block) → i < length bs → b ≡ get_or bs i b → IsLog (newest_first ops (in_blocks bs)) → IsLog (newest_first ops b.places.items)
 log_block ops bs i b l e h = record {
   falling = falling_block ops bs i b l e h.falling;
   sound = λ op j. h.sound op (has_block ops bs i b op l e j);

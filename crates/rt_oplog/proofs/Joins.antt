@@ -7,7 +7,7 @@ use Rattle.rt_stamps.specs.declared.fault.Fault.TheVariants.{Conflict}
 use Rattle.rt_stamps.specs.Stamps.{is_before, is_same}
 use Rattle.rt_ops.specs.Operations.{Operation, stamp_of, last_count, has_bad_stamp}
 use Rattle.rt_oplog.specs.Logs.{HasOp, same_operation, holds, reaches_into, clash, IsFalling, IsLog, with_operation, known_end, added, union, has_clash, IsUnion, HasClashOf, joined, joins}
-use Rattle.rt_oplog.proofs.Sets.{split, operation_true, clash_self, clash_sym, last_ge, apart, has_with, held_from, added_has, has_union, union_has, none_at, clash_in, clash_from, free_from, falling_with, same_set}
+use Rattle.rt_oplog.proofs.Sets.{split, operation_true, clash_self, clash_sym, last_ge, apart, has_with, held_from, added_has, has_union, union_has, none_at, clash_in, clash_from, free_from, falling_with, same_set, has_held, sound_prev}
 
 -- a set that has another operation, with its stamp apart from theirs, is a log
 pub log_with : (op : Operation) (set : List Operation) → IsLog set → has_bad_stamp op ≡ false → holds set op ≡ false → list_any (clash op) set ≡ false → IsLog (with_operation op set)
@@ -205,3 +205,13 @@ end_with op (q ∷ older) site = elim (is_before (stamp_of q) (stamp_of op)) as 
   where
     swapped : (s t : Bool) (a b n : ℕ) → cond s (max a (cond t (max b n) n)) (cond t (max b n) n) ≡ cond t (max b (cond s (max a n) n)) (cond s (max a n) n)
     swapped s t a b n = grind arith
+
+-- what goes on from no lower than its site's known end isn't there
+pub later_new : (set : List Operation) (op : Operation) → IsLog set → known_end set op.site ≤ op.prev → holds set op ≡ false
+later_new set op l h = split (holds set op)
+    (λ e. let i = has_held set op e in
+    let below = sound_prev op (l.sound op i) in
+    let last = last_ge op.count op.body in
+    let end = end_ge set op i in
+    absurd (omega (arith, h, below, last, end)))
+    (λ e. e)

@@ -1,5 +1,5 @@
 -- The log of operations that are pushed in turn.
-use Rattle.std.proofs.Common.{◌≡◌, ◌↔◌, ℕ, zero, suc, ◌+◌, ◌<◌, ◌⊎◌, ◌∷◌, [], inl, inr, List, length, take, drop, sym, subst, ap, refl, arith, Ok, Err}
+use Rattle.std.proofs.Common.{◌≡◌, ◌↔◌, ℕ, zero, suc, ◌+◌, ◌<◌, ◌⊎◌, ◌∷◌, [], inl, inr, List, length, get_or, take, drop, sym, subst, ap, refl, arith, Ok, Err}
 use Rattle.std.proofs.lemmas.List.{take_more}
 use Rattle.std.proofs.lemmas.Option.{slice_get-get_or}
 use Rattle.std.specs.List.{list_any}
@@ -7,10 +7,14 @@ use Rattle.rt_stamps.specs.declared.fault.Fault.{Fault}
 use Rattle.rt_stamps.specs.declared.fault.Fault.TheVariants.{NoMemory}
 use Rattle.rt_ops.specs.Operations.{Operation, has_bad_stamp}
 use Rattle.rt_oplog.specs.Logs.{HasOp, IsLog, holds, clash, with_operation, pushed}
-use Rattle.rt_oplog.specs.Kept.{nothing, op_at}
+use Rattle.rt_rows.specs.Places.{nothing}
 use Rattle.rt_oplog.specs.Outcomes.{IsLogOf, MakesLog}
 use Rattle.rt_oplog.proofs.Sets.{split, has_with, with_has, has_held}
 use Rattle.rt_oplog.proofs.Merges.{has_end, end_has}
+
+-- the operation at a place of a list
+abbrev pub op_of : List Operation → ℕ → Operation
+op_of ops i = get_or ops i nothing
 
 -- what a push leaves has the operation, and what was there
 pushed_has : (op : Operation) (log new : List Operation) → pushed op log ≡ Ok new → (x : Operation) → HasOp new x ↔ (HasOp log x ⊎ (op ≡ x))
@@ -28,23 +32,23 @@ pushed_has op log new e x = split (has_bad_stamp op)
     turned h = elim h [ inl a ↦ inr a | inr b ↦ inl b ]
 
 -- one more is pushed
-pub log_of_more : (ops : List Operation) (i : ℕ) (log new : List Operation) → i < length ops → IsLogOf (take i ops) log → IsLog new → pushed (op_at ops i) log ≡ Ok new → IsLogOf (take (i + 1) ops) new
+pub log_of_more : (ops : List Operation) (i : ℕ) (log new : List Operation) → i < length ops → IsLogOf (take i ops) log → IsLog new → pushed (op_of ops i) log ≡ Ok new → IsLogOf (take (i + 1) ops) new
 log_of_more ops i log new h l n e = record {
   is_log = n;
-  members = λ x. let p = pushed_has (op_at ops i) log new e x in let m = l.members x in
+  members = λ x. let p = pushed_has (op_of ops i) log new e x in let m = l.members x in
       subst (λ set. HasOp new x ↔ HasOp set x) (sym (take_more ops i nothing h)) (
-        λ k. has_end (take i ops) (op_at ops i) x (elim (p.0 k) [ inl j ↦ inl (m.0 j) | inr d ↦ inr d ]),
-        λ k. p.1 (elim (end_has (take i ops) (op_at ops i) x k) [ inl j ↦ inl (m.1 j) | inr d ↦ inr d ]),
+        λ k. has_end (take i ops) (op_of ops i) x (elim (p.0 k) [ inl j ↦ inl (m.0 j) | inr d ↦ inr d ]),
+        λ k. p.1 (elim (end_has (take i ops) (op_of ops i) x k) [ inl j ↦ inl (m.1 j) | inr d ↦ inr d ]),
       );
 }
 
 -- the first that is refused
-pub refused_at : (ops : List Operation) (i : ℕ) (log : List Operation) (fault : Fault) → i < length ops → IsLogOf (take i ops) log → (fault ≡ NoMemory) ⊎ (pushed (op_at ops i) log ≡ Err fault)
+pub refused_at : (ops : List Operation) (i : ℕ) (log : List Operation) (fault : Fault) → i < length ops → IsLogOf (take i ops) log → (fault ≡ NoMemory) ⊎ (pushed (op_of ops i) log ≡ Err fault)
     → MakesLog ops (Err (record { fault = fault; place = i }))
-refused_at ops i log fault h l k = elim k [ inl e ↦ inr (e, h, (log, l)) | inr e ↦ inl (record { op = op_at ops i; log = log; there = slice_get-get_or ops i nothing h; before = l; refused = e }) ]
+refused_at ops i log fault h l k = elim k [ inl e ↦ inr (e, h, (log, l)) | inr e ↦ inl (record { op = op_of ops i; log = log; there = slice_get-get_or ops i nothing h; before = l; refused = e }) ]
 
 -- the operations that are left, one after the other
-pub next_of : (ops rest : List Operation) (i : ℕ) (op : Operation) → drop i ops ≡ op ∷ rest → (i < length ops) × (op_at ops i ≡ op) × (drop (i + 1) ops ≡ rest)
+pub next_of : (ops rest : List Operation) (i : ℕ) (op : Operation) → drop i ops ≡ op ∷ rest → (i < length ops) × (op_of ops i ≡ op) × (drop (i + 1) ops ≡ rest)
 next_of [] rest zero op e = absurd (cc e)
 next_of [] rest (suc i) op e = absurd (cc e)
 next_of (x ∷ ops) rest zero op e = let p : x ≡ op = cc e in let q : ops ≡ rest = cc e in (omega arith, p, q)

@@ -1,5 +1,7 @@
 -- Two ordered lists of operations, merged.
-use Rattle.std.proofs.Common.{◌≡◌, ◌↔◌, ℕ, zero, suc, ◌+◌, ◌<◌, ◌≤◌, true, false, ◌==◌, nat_lt, ◌⊎◌, inl, inr, List, [], ◌∷◌, ◌++◌, length, map, get_or, take, drop, cond, max, refl, ap, ◌∙◌, sym, subst, arith, append_assoc, append-nil, take-append-drop, drop-cons, add-one, reverse}
+use Rattle.rt_rows.specs.Places.{HasPlace, op_at}
+use Rattle.rt_rows.specs.declared.rows.RowPlace.{RowPlace}
+use Rattle.std.proofs.Common.{◌≡◌, ◌↔◌, ℕ, zero, suc, ◌+◌, ◌-◌, ◌<◌, ◌≤◌, true, false, ◌==◌, nat_lt, ◌⊎◌, inl, inr, List, [], ◌∷◌, ◌++◌, length, map, get_or, take, drop, cond, max, refl, ap, ◌∙◌, sym, subst, arith, append_assoc, append-nil, take-append-drop, drop-cons, add-one, reverse}
 use Rattle.std.proofs.lemmas.Bool.Decides.{nat_tests}
 use Rattle.std.specs.List.{AllByRecursion}
 use Rattle.rt_stamps.specs.Stamps.{is_before}
@@ -8,15 +10,15 @@ use Rattle.rt_oplog.specs.declared.ends.Ends.{Ends}
 use Rattle.rt_oplog.specs.Ends.{end_in}
 use Rattle.rt_ops.specs.Operations.{Operation, stamp_of, has_bad_stamp, last_count}
 use Rattle.rt_oplog.specs.Logs.{HasClashOf, HasOp, same_operation, reaches_into, clash, IsFalling, IsLog, known_end}
-use Rattle.rt_oplog.specs.Kept.{op_at, newest_first, IsKept}
+use Rattle.rt_oplog.specs.Kept.{newest_first, IsKept}
 use Rattle.rt_oplog.proofs.Sets.{split, operation_true, clash_self, clash_sym, member_before}
 use Rattle.rt_oplog.proofs.Joins.{free_past}
-use Rattle.std.proofs.lemmas.List.{take_more, reverse-append}
+use Rattle.std.proofs.lemmas.List.{take_more, take_all, length-drop, reverse-append}
 use Rattle.std.proofs.Math.ListN.{set}
 use Rattle.rt_oplog.proofs.Places.{oldest_before, falling_front, at_has}
 
 -- the operations of places, the first one first
-abbrev pub ops_at : List Operation → List ℕ → List Operation
+abbrev pub ops_at : List (List Operation) → List RowPlace → List Operation
 ops_at ops order = map (op_at ops) order
 
 -- each is before those behind it
@@ -103,7 +105,7 @@ take_both one other merged x y left right m e = take_left one other merged x lef
 
 -- places
 
-pub seen_push : (ops : List Operation) (order : List ℕ) (place : ℕ) → newest_first ops (order ++ place ∷ []) ≡ op_at ops place ∷ newest_first ops order
+pub seen_push : (ops : List (List Operation)) (order : List RowPlace) (place : RowPlace) → newest_first ops (order ++ place ∷ []) ≡ op_at ops place ∷ newest_first ops order
 seen_push ops [] place = refl
 seen_push ops (first ∷ order) place = ap (λ xs. xs ++ op_at ops first ∷ []) (seen_push ops order place)
 
@@ -115,21 +117,21 @@ pub end_has : (set : List Operation) (q x : Operation) → HasOp (set ++ q ∷ [
 end_has [] q x h = elim h [ inl e ↦ inr e | inr i ↦ absurd i ]
 end_has (y ∷ set) q x h = elim h [ inl e ↦ inl (inl e) | inr i ↦ elim (end_has set q x i) [ inl j ↦ inl (inr j) | inr e ↦ inr e ] ]
 
-pub seen_has : (ops : List Operation) (order : List ℕ) (x : Operation) → HasOp (newest_first ops order) x ↔ HasOp (ops_at ops order) x
+pub seen_has : (ops : List (List Operation)) (order : List RowPlace) (x : Operation) → HasOp (newest_first ops order) x ↔ HasOp (ops_at ops order) x
 seen_has ops [] x = (λ h. h, λ h. h)
 seen_has ops (place ∷ order) x = (
   λ h. elim (end_has (newest_first ops order) (op_at ops place) x h) [ inl i ↦ inr ((seen_has ops order x).0 i) | inr e ↦ inl e ],
   λ h. has_end (newest_first ops order) (op_at ops place) x (elim h [ inl e ↦ inr e | inr i ↦ inl ((seen_has ops order x).1 i) ]),
 )
 
-pub rising_seen : (ops : List Operation) (order : List ℕ) → IsFalling (newest_first ops order) → IsRising (ops_at ops order)
+pub rising_seen : (ops : List (List Operation)) (order : List RowPlace) → IsFalling (newest_first ops order) → IsRising (ops_at ops order)
 rising_seen ops [] f = tt
 rising_seen ops (place ∷ order) f = (
   λ y i. oldest_before (newest_first ops order) (op_at ops place) y f ((seen_has ops order y).1 i),
   rising_seen ops order (falling_front (newest_first ops order) (op_at ops place) f),
 )
 
-pub merging_start : (ops more : List Operation) (mine theirs : List ℕ) → IsFalling (newest_first ops mine) → IsFalling (newest_first more theirs)
+pub merging_start : (ops more : List (List Operation)) (mine theirs : List RowPlace) → IsFalling (newest_first ops mine) → IsFalling (newest_first more theirs)
     → Merging (newest_first ops mine) (newest_first more theirs) [] (ops_at ops mine) (ops_at more theirs)
 merging_start ops more mine theirs f g = record {
   falling = tt;
@@ -143,7 +145,7 @@ merging_start ops more mine theirs f g = record {
 }
 
 -- the rest of one side goes behind
-pub merging_rest : (one other : List Operation) (ops : List Operation) (order rest : List ℕ) → Merging one other (newest_first ops order) (ops_at ops rest) []
+pub merging_rest : (one other : List Operation) (ops : List (List Operation)) (order rest : List RowPlace) → Merging one other (newest_first ops order) (ops_at ops rest) []
     → Merging one other (newest_first ops (order ++ rest)) [] []
 merging_rest one other ops order [] m = subst (λ xs. Merging one other (newest_first ops xs) [] []) (sym (append-nil order)) m
 merging_rest one other ops order (place ∷ rest) m =
@@ -195,7 +197,7 @@ log_newer set op l s f h = record {
 
 -- fronts of the places
 
-pub seen_append : (ops : List Operation) (xs ys : List ℕ) → newest_first ops (xs ++ ys) ≡ newest_first ops ys ++ newest_first ops xs
+pub seen_append : (ops : List (List Operation)) (xs ys : List RowPlace) → newest_first ops (xs ++ ys) ≡ newest_first ops ys ++ newest_first ops xs
 seen_append ops [] ys = sym (append-nil (newest_first ops ys))
 seen_append ops (place ∷ xs) ys = ap (λ s. s ++ op_at ops place ∷ []) (seen_append ops xs ys) ∙ append_assoc (newest_first ops ys) (newest_first ops xs) (op_at ops place ∷ [])
 
@@ -207,66 +209,66 @@ pub has_after : (xs ys : List Operation) (x : Operation) → HasOp ys x → HasO
 has_after [] ys x h = h
 has_after (y ∷ xs) ys x h = inr (has_after xs ys x h)
 
-pub seen_parts : (ops : List Operation) (order : List ℕ) (i : ℕ) → newest_first ops order ≡ newest_first ops (drop i order) ++ newest_first ops (take i order)
+pub seen_parts : (ops : List (List Operation)) (order : List RowPlace) (i : ℕ) → newest_first ops order ≡ newest_first ops (drop i order) ++ newest_first ops (take i order)
 seen_parts ops order i = ap (newest_first ops) (sym (take-append-drop i order)) ∙ seen_append ops (take i order) (drop i order)
 
-falling_take : (ops : List Operation) (order : List ℕ) (i : ℕ) → IsFalling (newest_first ops order) → IsFalling (newest_first ops (take i order))
+falling_take : (ops : List (List Operation)) (order : List RowPlace) (i : ℕ) → IsFalling (newest_first ops order) → IsFalling (newest_first ops (take i order))
 falling_take ops order i f = falling_after (newest_first ops (drop i order)) (newest_first ops (take i order)) (subst IsFalling (seen_parts ops order i) f)
 
-has_take : (ops : List Operation) (order : List ℕ) (i : ℕ) (x : Operation) → HasOp (newest_first ops (take i order)) x → HasOp (newest_first ops order) x
+has_take : (ops : List (List Operation)) (order : List RowPlace) (i : ℕ) (x : Operation) → HasOp (newest_first ops (take i order)) x → HasOp (newest_first ops order) x
 has_take ops order i x h = subst (λ s. HasOp s x) (sym (seen_parts ops order i)) (has_after (newest_first ops (drop i order)) (newest_first ops (take i order)) x h)
 
-pub within_push : (n place : ℕ) (order : List ℕ) → AllByRecursion (λ k. k < n) order → place < n → AllByRecursion (λ k. k < n) (order ++ place ∷ [])
-within_push n place [] h l = (l, tt)
-within_push n place (first ∷ order) h l = (h.0, within_push n place order h.1 l)
+pub within_push : (P : RowPlace → Type 0) (place : RowPlace) (order : List RowPlace) → AllByRecursion P order → P place → AllByRecursion P (order ++ place ∷ [])
+within_push P place [] h l = (l, tt)
+within_push P place (first ∷ order) h l = (h.0, within_push P place order h.1 l)
 
-pub within_append : (n : ℕ) (order rest : List ℕ) → AllByRecursion (λ k. k < n) order → AllByRecursion (λ k. k < n) rest → AllByRecursion (λ k. k < n) (order ++ rest)
-within_append n [] rest h l = l
-within_append n (first ∷ order) rest h l = (h.0, within_append n order rest h.1 l)
+pub within_append : (P : RowPlace → Type 0) (order rest : List RowPlace) → AllByRecursion P order → AllByRecursion P rest → AllByRecursion P (order ++ rest)
+within_append P [] rest h l = l
+within_append P (first ∷ order) rest h l = (h.0, within_append P order rest h.1 l)
 
-pub within_drop : (n i : ℕ) (order : List ℕ) → AllByRecursion (λ k. k < n) order → AllByRecursion (λ k. k < n) (drop i order)
-within_drop n zero order h = h
-within_drop n (suc i) [] h = tt
-within_drop n (suc i) (first ∷ order) h = within_drop n i order h.1
+pub within_drop : (P : RowPlace → Type 0) (i : ℕ) (order : List RowPlace) → AllByRecursion P order → AllByRecursion P (drop i order)
+within_drop P zero order h = h
+within_drop P (suc i) [] h = tt
+within_drop P (suc i) (first ∷ order) h = within_drop P i order h.1
 
-pub within_at : (n i : ℕ) (order : List ℕ) → i < length order → AllByRecursion (λ k. k < n) order → get_or order i 0 < n
-within_at n i [] l h = absurd (omega arith)
-within_at n zero (first ∷ order) l h = h.0
-within_at n (suc i) (first ∷ order) l h = within_at n i order (omega arith) h.1
+pub within_at : (P : RowPlace → Type 0) (i : ℕ) (order : List RowPlace) → i < length order → AllByRecursion P order → P (get_or order i (record { row = 0; at = 0 }))
+within_at P i [] l h = absurd (omega arith)
+within_at P zero (first ∷ order) l h = h.0
+within_at P (suc i) (first ∷ order) l h = within_at P i order (omega arith) h.1
 
-seen_next : (ops : List Operation) (order : List ℕ) (i : ℕ) → i < length order → newest_first ops (take (i + 1) order) ≡ op_at ops (get_or order i 0) ∷ newest_first ops (take i order)
-seen_next ops order i h = ap (newest_first ops) (take_more order i 0 h) ∙ seen_push ops (take i order) (get_or order i 0)
+seen_next : (ops : List (List Operation)) (order : List RowPlace) (i : ℕ) → i < length order → newest_first ops (take (i + 1) order) ≡ op_at ops (get_or order i (record { row = 0; at = 0 })) ∷ newest_first ops (take i order)
+seen_next ops order i h = ap (newest_first ops) (take_more order i (record { row = 0; at = 0 }) h) ∙ seen_push ops (take i order) (get_or order i (record { row = 0; at = 0 }))
 
 -- one more operation, and its end
 
-pub kept_step : (ops : List Operation) (order : List ℕ) (i : ℕ) (ends more : Ends) (op : Operation) → i < length order → op ≡ op_at ops (get_or order i 0)
-    → AllByRecursion (λ place. place < length ops) order → IsFalling (newest_first ops order) → ((x : Operation) → HasOp (newest_first ops order) x → has_bad_stamp x ≡ false)
+pub kept_step : (ops : List (List Operation)) (order : List RowPlace) (i : ℕ) (ends more : Ends) (op : Operation) → i < length order → op ≡ op_at ops (get_or order i (record { row = 0; at = 0 }))
+    → AllByRecursion (HasPlace ops) order → IsFalling (newest_first ops order) → ((x : Operation) → HasOp (newest_first ops order) x → has_bad_stamp x ≡ false)
     → IsKept ops (take i order) ends → end_in ends op.site ≤ op.prev → ((s : ℕ) → end_in more s ≡ cond (op.site == s) (max (last_count op) (end_in ends s)) (end_in ends s))
     → IsKept ops (take (i + 1) order) more
 kept_step ops order i ends more op h e w f s k l m =
     let set = newest_first ops (take i order) in
     let seen : newest_first ops (take (i + 1) order) ≡ op ∷ set = seen_next ops order i h ∙ ap (λ y. y ∷ set) (sym e) in
-    let sound : has_bad_stamp op ≡ false = rw e (s (op_at ops (get_or order i 0)) (at_has ops order i 0 h)) in
+    let sound : has_bad_stamp op ≡ false = rw e (s (op_at ops (get_or order i (record { row = 0; at = 0 }))) (at_has ops order i (record { row = 0; at = 0 }) h)) in
     let past : known_end set op.site ≤ op.prev = let a = k.known op.site in omega arith in
     record {
-      within = subst (λ xs. AllByRecursion (λ place. place < length ops) xs) (sym (take_more order i 0 h)) (within_push (length ops) (get_or order i 0) (take i order) k.within (within_at (length ops) i order h w));
+      within = subst (λ xs. AllByRecursion (HasPlace ops) xs) (sym (take_more order i (record { row = 0; at = 0 }) h)) (within_push (HasPlace ops) (get_or order i (record { row = 0; at = 0 })) (take i order) k.within (within_at (HasPlace ops) i order h w));
       log = subst IsLog (sym seen) (log_newer set op k.log sound (subst IsFalling seen (falling_take ops order (i + 1) f)) past);
       known = λ site. m site ∙ ap (λ n. cond (op.site == site) (max (last_count op) n) n) (k.known site) ∙ ap (λ xs. known_end xs site) (sym seen);
     }
 
-pub clash_step : (ops : List Operation) (order : List ℕ) (i : ℕ) (ends : Ends) (op : Operation) → i < length order → op ≡ op_at ops (get_or order i 0)
+pub clash_step : (ops : List (List Operation)) (order : List RowPlace) (i : ℕ) (ends : Ends) (op : Operation) → i < length order → op ≡ op_at ops (get_or order i (record { row = 0; at = 0 }))
     → IsFalling (newest_first ops order) → IsKept ops (take i order) ends → op.prev < end_in ends op.site → HasClashOf (newest_first ops order) (newest_first ops order)
 clash_step ops order i ends op h e f k l =
     let set = newest_first ops (take i order) in
     let seen : newest_first ops (take (i + 1) order) ≡ op ∷ set = seen_next ops order i h ∙ ap (λ y. y ∷ set) (sym e) in
     let below : op.prev < known_end set op.site = let a = k.known op.site in omega arith in
     let (p, j, c) = clash_below set op (subst IsFalling seen (falling_take ops order (i + 1) f)) below in
-    (p, op, inl (has_take ops order i p j), inl (subst (λ y. HasOp (newest_first ops order) y) (sym e) (at_has ops order i 0 h)), c)
+    (p, op, inl (has_take ops order i p j), inl (subst (λ y. HasOp (newest_first ops order) y) (sym e) (at_has ops order i (record { row = 0; at = 0 }) h)), c)
 
-pub ops_drop : (ops : List Operation) (order : List ℕ) (i : ℕ) → i < length order → ops_at ops (drop i order) ≡ op_at ops (get_or order i 0) ∷ ops_at ops (drop (i + 1) order)
-ops_drop ops order i h = ap (ops_at ops) (drop-cons order i 0 h ∙ ap (λ n. get_or order i 0 ∷ drop n order) (sym (add-one i)))
+pub ops_drop : (ops : List (List Operation)) (order : List RowPlace) (i : ℕ) → i < length order → ops_at ops (drop i order) ≡ op_at ops (get_or order i (record { row = 0; at = 0 })) ∷ ops_at ops (drop (i + 1) order)
+ops_drop ops order i h = ap (ops_at ops) (drop-cons order i (record { row = 0; at = 0 }) h ∙ ap (λ n. get_or order i (record { row = 0; at = 0 }) ∷ drop n order) (sym (add-one i)))
 
-pub kept_none : (ops : List Operation) (ends : Ends) → ((s : ℕ) → end_in ends s ≡ 0) → IsKept ops [] ends
+pub kept_none : (ops : List (List Operation)) (ends : Ends) → ((s : ℕ) → end_in ends s ≡ 0) → IsKept ops [] ends
 kept_none ops ends e = record {
   within = tt;
   log = record { falling = tt; sound = λ op i. absurd i; free = λ p q i j. absurd i };
@@ -275,11 +277,15 @@ kept_none ops ends e = record {
 
 -- in the order of the places
 
-pub seen_reversed : (ops : List Operation) (order : List ℕ) → reverse (newest_first ops order) ≡ ops_at ops order
+pub seen_reversed : (ops : List (List Operation)) (order : List RowPlace) → reverse (newest_first ops order) ≡ ops_at ops order
 seen_reversed ops [] = refl
 seen_reversed ops (place ∷ order) = reverse-append (newest_first ops order) (op_at ops place ∷ []) ∙ ap (λ xs. op_at ops place ∷ xs) (seen_reversed ops order)
 
-pub at_map : (ops : List Operation) (order : List ℕ) (i : ℕ) (d : Operation) → i < length order → get_or (ops_at ops order) i d ≡ op_at ops (get_or order i 0)
+pub at_map : (ops : List (List Operation)) (order : List RowPlace) (i : ℕ) (d : Operation) → i < length order → get_or (ops_at ops order) i d ≡ op_at ops (get_or order i (record { row = 0; at = 0 }))
 at_map ops [] i d h = absurd (omega arith)
 at_map ops (place ∷ order) zero d h = refl
 at_map ops (place ∷ order) (suc i) d h = at_map ops order i d (omega arith)
+
+-- a list from a place on, as a slice has it
+pub rest_of : {X : Type 0} (n : ℕ) (xs : List X) → take (length xs - n) (drop n xs) ≡ drop n xs
+rest_of n xs = take_all _ _ (omega (arith, length-drop n xs))

@@ -1,10 +1,10 @@
 -- Places in a log as it is kept.
+use Rattle.rt_rows.specs.Places.{HasPlace, KeepsPlaces, op_at}
+use Rattle.rt_rows.specs.declared.rows.RowPlace.{RowPlace}
 use Rattle.std.proofs.Common.{◌≡◌, ℕ, zero, suc, ◌<◌, ◌≤◌, Bool, true, false, ◌&&◌, ◌||◌, ◌⊎◌, inl, inr, List, [], ◌∷◌, ◌++◌, length, get_or, refl, ap, ◌∙◌, sym, subst, arith, nat_lt, length-append}
 use Rattle.std.proofs.lemmas.Bool.Decides.{nat_tests}
 use Rattle.std.specs.List.{AllByRecursion, list_any, insert}
 use Rattle.std.specs.List.Sorted.{IsPartitionPoint, IsPartitionedBy}
-use Rattle.std.proofs.Math.ListN.{get_or-append}
-use Rattle.std.proofs.Math.Seq.{get_or-append_seam}
 use Rattle.std.proofs.lemmas.List.Folds.{list_any-append}
 use Rattle.rt_stamps.specs.declared.stamp.Stamp.{Stamp}
 use Rattle.rt_stamps.specs.Stamps.{is_before, is_same}
@@ -13,13 +13,9 @@ use Rattle.rt_oplog.specs.declared.ends.Ends.{Ends}
 use Rattle.rt_oplog.specs.Ends.{end_in}
 use Rattle.rt_ops.specs.Operations.{Operation, stamp_of, has_bad_stamp}
 use Rattle.rt_oplog.specs.Logs.{HasOp, same_operation, holds, clash, IsFalling, IsLog, with_operation, known_end}
-use Rattle.rt_oplog.specs.Kept.{nothing, op_at, newest_first, leading, IsKept}
+use Rattle.rt_oplog.specs.Kept.{newest_first, leading, IsKept, is_earlier, IsPutInOrder}
 use Rattle.rt_oplog.proofs.Sets.{split, operation_true, none_from}
 use Rattle.rt_oplog.proofs.Joins.{log_with, end_with}
-
--- whether the operation of a place is before a stamp
-abbrev pub is_earlier : List Operation → Stamp → ℕ → Bool
-is_earlier ops stamp place = is_before (stamp_of (op_at ops place)) stamp
 
 -- the front of a falling list, and its oldest
 
@@ -48,14 +44,14 @@ has_last (y ∷ set) q = inr (has_last set q)
 
 -- what a place of the order has
 
-pub at_has : (ops : List Operation) (order : List ℕ) (j d : ℕ) → j < length order → HasOp (newest_first ops order) (op_at ops (get_or order j d))
+pub at_has : (ops : List (List Operation)) (order : List RowPlace) (j : ℕ) (d : RowPlace) → j < length order → HasOp (newest_first ops order) (op_at ops (get_or order j d))
 at_has ops [] j d h = absurd (omega arith)
 at_has ops (place ∷ order) zero d h = has_last (newest_first ops order) (op_at ops place)
 at_has ops (place ∷ order) (suc j) d h = has_front (newest_first ops order) (op_at ops place) _ (at_has ops order j d (omega arith))
 
 -- the search for a place
 
-pub partitioned : (ops : List Operation) (stamp : Stamp) (order : List ℕ) → IsFalling (newest_first ops order) → IsPartitionedBy (is_earlier ops stamp) order
+pub partitioned : (ops : List (List Operation)) (stamp : Stamp) (order : List RowPlace) → IsFalling (newest_first ops order) → IsPartitionedBy (is_earlier ops stamp) order
 partitioned ops stamp [] f i j d h k e = absurd (omega arith)
 partitioned ops stamp (place ∷ order) f zero zero d h k e = e
 partitioned ops stamp (place ∷ order) f zero (suc j) d h k e =
@@ -103,7 +99,7 @@ earlier_none set q op f e x i = elim (front_or_last set q x i) [
     front_or_last [] q x h = elim h [ inl d ↦ inr d | inr j ↦ absurd j ]
     front_or_last (y ∷ set) q x h = elim h [ inl d ↦ inl (inl d) | inr j ↦ elim (front_or_last set q x j) [ inl k ↦ inl (inr k) | inr d ↦ inr d ] ]
 
-pub inserted : (ops : List Operation) (op : Operation) (new : ℕ) (order : List ℕ) → op_at ops new ≡ op → IsFalling (newest_first ops order)
+pub inserted : (ops : List (List Operation)) (op : Operation) (new : RowPlace) (order : List RowPlace) → op_at ops new ≡ op → IsFalling (newest_first ops order)
     → newest_first ops (insert order (leading (is_earlier ops (stamp_of op)) order) new) ≡ with_operation op (newest_first ops order)
 inserted ops op new [] e f = ap (λ x. x ∷ []) e
 inserted ops op new (place ∷ order) e f = split (is_earlier ops (stamp_of op) place)
@@ -114,30 +110,32 @@ inserted ops op new (place ∷ order) e f = split (is_earlier ops (stamp_of op) 
 
 -- more operations
 
-pub at_front : (ops more : List Operation) (place : ℕ) → place < length ops → op_at (ops ++ more) place ≡ op_at ops place
-at_front ops more place h = get_or-append ops more nothing place h
+pub seen_kept : (ops now : List (List Operation)) (order : List RowPlace) → KeepsPlaces ops now → AllByRecursion (HasPlace ops) order → newest_first now order ≡ newest_first ops order
+seen_kept ops now [] k h = refl
+seen_kept ops now (place ∷ order) k h = rw (seen_kept ops now order k h.1, (k place h.0).1) refl
 
-pub seen_more : (ops more : List Operation) (order : List ℕ) → AllByRecursion (λ place. place < length ops) order → newest_first (ops ++ more) order ≡ newest_first ops order
-seen_more ops more [] h = refl
-seen_more ops more (place ∷ order) h = rw (seen_more ops more order h.1, at_front ops more place h.0) refl
+pub within_kept : (ops now : List (List Operation)) (order : List RowPlace) → KeepsPlaces ops now → AllByRecursion (HasPlace ops) order → AllByRecursion (HasPlace now) order
+within_kept ops now [] k h = tt
+within_kept ops now (place ∷ order) k h = ((k place h.0).0, within_kept ops now order k h.1)
 
-pub leading_more : (ops more : List Operation) (stamp : Stamp) (order : List ℕ) → AllByRecursion (λ place. place < length ops) order
-    → leading (is_earlier (ops ++ more) stamp) order ≡ leading (is_earlier ops stamp) order
-leading_more ops more stamp [] h = refl
-leading_more ops more stamp (place ∷ order) h = rw (at_front ops more place h.0, leading_more ops more stamp order h.1) refl
+-- what was kept stays kept
+pub kept_on : (ops now : List (List Operation)) (order : List RowPlace) (ends : Ends) → KeepsPlaces ops now → IsKept ops order ends → IsKept now order ends
+kept_on ops now order ends m k =
+    let same = seen_kept ops now order m k.within in
+    record {
+      within = within_kept ops now order m k.within;
+      log = subst IsLog (sym same) k.log;
+      known = λ site. k.known site ∙ ap (λ set. known_end set site) (sym same);
+    }
 
-pub within_more : (n m : ℕ) (order : List ℕ) → n ≤ m → AllByRecursion (λ place. place < n) order → AllByRecursion (λ place. place < m) order
-within_more n m [] l h = tt
-within_more n m (place ∷ order) l h = (let a = h.0 in omega arith, within_more n m order l h.1)
-
-pub within_insert : (n new k : ℕ) (order : List ℕ) → k ≤ length order → new < n → AllByRecursion (λ place. place < n) order → AllByRecursion (λ place. place < n) (insert order k new)
-within_insert n new zero order l i h = (i, h)
-within_insert n new (suc k) [] l i h = absurd (omega arith)
-within_insert n new (suc k) (place ∷ order) l i h = (h.0, within_insert n new k order (omega arith) i h.1)
+pub within_insert : (P : RowPlace → Type 0) (new : RowPlace) (k : ℕ) (order : List RowPlace) → k ≤ length order → P new → AllByRecursion P order → AllByRecursion P (insert order k new)
+within_insert P new zero order l i h = (i, h)
+within_insert P new (suc k) [] l i h = absurd (omega arith)
+within_insert P new (suc k) (place ∷ order) l i h = (h.0, within_insert P new k order (omega arith) i h.1)
 
 -- the tests on the operations of the log, and on their places
 
-pub any_seen : (p : Operation → Bool) (ops : List Operation) (order : List ℕ) → list_any p (newest_first ops order) ≡ list_any (λ place. p (op_at ops place)) order
+pub any_seen : (p : Operation → Bool) (ops : List (List Operation)) (order : List RowPlace) → list_any p (newest_first ops order) ≡ list_any (λ place. p (op_at ops place)) order
 any_seen p ops [] = refl
 any_seen p ops (place ∷ order) =
     list_any-append p (newest_first ops order) (op_at ops place ∷ []) ∙ rw (any_seen p ops order) (or_turned (list_any (λ place. p (op_at ops place)) order) (p (op_at ops place)))
@@ -149,7 +147,7 @@ any_seen p ops (place ∷ order) =
     or_turned false false = refl
 
 -- the operation at the place of its stamp, if it is there
-pub found : (ops : List Operation) (op : Operation) (order : List ℕ) (d : ℕ) → IsFalling (newest_first ops order)
+pub found : (ops : List (List Operation)) (op : Operation) (order : List RowPlace) (d : RowPlace) → IsFalling (newest_first ops order)
     → holds (newest_first ops order) op ≡ (nat_lt (leading (is_earlier ops (stamp_of op)) order) (length order) && same_operation (op_at ops (get_or order (leading (is_earlier ops (stamp_of op)) order) d)) op)
 found ops op [] d f = refl
 found ops op (place ∷ order) d f =
@@ -180,41 +178,26 @@ found ops op (place ∷ order) d f =
         (λ s. s)
 
 -- what is seen of a log once an operation is put in
-pub kept_seen : (ops : List Operation) (order : List ℕ) (op : Operation) → AllByRecursion (λ place. place < length ops) order → IsFalling (newest_first ops order)
-    → newest_first (ops ++ op ∷ []) (insert order (leading (is_earlier ops (stamp_of op)) order) (length ops)) ≡ with_operation op (newest_first ops order)
-kept_seen ops order op w f =
-    let more = ops ++ op ∷ [] in
-    let same = seen_more ops (op ∷ []) order w in
-    ap (λ k. newest_first more (insert order k (length ops))) (sym (leading_more ops (op ∷ []) (stamp_of op) order w))
-    ∙ inserted more op (length ops) order (get_or-append_seam ops op [] nothing) (subst IsFalling (sym same) f)
-    ∙ ap (with_operation op) same
+pub put_seen : (ops now : List (List Operation)) (old new : List RowPlace) (op : Operation) → KeepsPlaces ops now → AllByRecursion (HasPlace ops) old → IsFalling (newest_first ops old)
+    → IsPutInOrder op now old new → newest_first now new ≡ with_operation op (newest_first ops old)
+put_seen ops now old new op m w f p =
+    let same = seen_kept ops now old m w in
+    ap (newest_first now) p.named ∙ inserted now op p.place old p.there.1 (subst IsFalling (sym same) f) ∙ ap (with_operation op) same
 
 -- an operation that a log can take, put in
-pub kept_with : (ops : List Operation) (order : List ℕ) (ends more : Ends) (op : Operation) → IsKept ops order ends → has_bad_stamp op ≡ false
-    → holds (newest_first ops order) op ≡ false → list_any (clash op) (newest_first ops order) ≡ false → ((s : ℕ) → end_in more s ≡ known_end (op ∷ newest_first ops order) s)
-    → IsKept (ops ++ op ∷ []) (insert order (leading (is_earlier ops (stamp_of op)) order) (length ops)) more
-kept_with ops order ends more op k s n f e =
-    let same = kept_seen ops order op k.within k.log.falling in
-    let len = length-append ops (op ∷ []) in
+pub kept_put : (ops now : List (List Operation)) (old new : List RowPlace) (ends more : Ends) (op : Operation) → KeepsPlaces ops now → IsKept ops old ends → IsPutInOrder op now old new
+    → has_bad_stamp op ≡ false → holds (newest_first ops old) op ≡ false → list_any (clash op) (newest_first ops old) ≡ false
+    → ((s : ℕ) → end_in more s ≡ known_end (op ∷ newest_first ops old) s) → IsKept now new more
+kept_put ops now old new ends more op m k p s n f e =
+    let seen = put_seen ops now old new op m k.within k.log.falling p in
+    let at = leading (is_earlier now (stamp_of op)) old in
     record {
-      within = within_insert (length (ops ++ op ∷ [])) (length ops) (leading (is_earlier ops (stamp_of op)) order) order (leading_le (is_earlier ops (stamp_of op)) order) (omega (arith, len))
-          (within_more (length ops) (length (ops ++ op ∷ [])) order (omega (arith, len)) k.within);
-      log = subst IsLog (sym same) (log_with op (newest_first ops order) k.log s n f);
-      known = λ site. e site ∙ sym (end_with op (newest_first ops order) site) ∙ ap (λ set. known_end set site) (sym same);
+      within = subst (AllByRecursion (HasPlace now)) (sym p.named)
+          (within_insert (HasPlace now) p.place at old (leading_le (is_earlier now (stamp_of op)) old) p.there.0 (within_kept ops now old m k.within));
+      log = subst IsLog (sym seen) (log_with op (newest_first ops old) k.log s n f);
+      known = λ site. e site ∙ sym (end_with op (newest_first ops old) site) ∙ ap (λ set. known_end set site) (sym seen);
     }
 
--- an operation that a log can take, and that stands at a place already
-pub kept_at : (ops : List Operation) (order : List ℕ) (ends more : Ends) (op : Operation) (place : ℕ) → IsKept ops order ends → op_at ops place ≡ op → place < length ops → has_bad_stamp op ≡ false
-    → holds (newest_first ops order) op ≡ false → list_any (clash op) (newest_first ops order) ≡ false → ((s : ℕ) → end_in more s ≡ known_end (op ∷ newest_first ops order) s)
-    → IsKept ops (insert order (leading (is_earlier ops (stamp_of op)) order) place) more
-kept_at ops order ends more op place k is here s n f e =
-    let same = inserted ops op place order is k.log.falling in
-    record {
-      within = within_insert (length ops) place (leading (is_earlier ops (stamp_of op)) order) order (leading_le (is_earlier ops (stamp_of op)) order) here k.within;
-      log = subst IsLog (sym same) (log_with op (newest_first ops order) k.log s n f);
-      known = λ site. e site ∙ sym (end_with op (newest_first ops order) site) ∙ ap (λ set. known_end set site) (sym same);
-    }
-
-pub length_seen : (ops : List Operation) (order : List ℕ) → length (newest_first ops order) ≡ length order
+pub length_seen : (ops : List (List Operation)) (order : List RowPlace) → length (newest_first ops order) ≡ length order
 length_seen ops [] = refl
 length_seen ops (place ∷ order) = omega (arith, length-append (newest_first ops order) (op_at ops place ∷ []), length_seen ops order)

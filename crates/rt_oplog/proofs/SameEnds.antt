@@ -1,4 +1,5 @@
 -- The known ends of sites: one of them set, and two ways to keep them that say the same.
+use Rattle.rt_rows.specs.declared.rows.RowPlace.{RowPlace}
 use Rattle.std.proofs.Common.{◌≡◌, ℕ, List, ◌∙◌, ◌==◌, true, false, Some, None, ap, refl, arith, if◌then◌else◌}
 use Rattle.std.proofs.lemmas.Bool.Decides.{nat_tests}
 use Rattle.rt_stamps.specs.declared.stamp.Stamp.{Stamp}
@@ -25,5 +26,5 @@ end_none ends h s = ap end_found (h (record { count = 0; site = s }))
 pub end_stays : (old new : Shown ℕ) → ((stamp : Stamp) → value_of new stamp ≡ value_of old stamp) → (s : ℕ) → end_kept new s ≡ end_kept old s
 end_stays old new h s = ap end_found (h (record { count = 0; site = s }))
 
-pub kept_same : (ops : List Operation) (order : List ℕ) (ends more : Ends) → ((s : ℕ) → end_in more s ≡ end_in ends s) → IsKept ops order ends → IsKept ops order more
+pub kept_same : (ops : List (List Operation)) (order : List RowPlace) (ends more : Ends) → ((s : ℕ) → end_in more s ≡ end_in ends s) → IsKept ops order ends → IsKept ops order more
 kept_same ops order ends more e k = record { within = k.within; log = k.log; known = λ site. e site ∙ k.known site }

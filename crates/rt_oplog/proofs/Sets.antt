@@ -117,7 +117,7 @@ last_ge count (Insert after tags text) = omega arith
 last_ge count (Delete spans) = omega arith
 last_ge count (Tag on name spans) = omega arith
 
-sound_prev : (op : Operation) → has_bad_stamp op ≡ false → op.prev < op.count
+pub sound_prev : (op : Operation) → has_bad_stamp op ≡ false → op.prev < op.count
 sound_prev op h = grind (arith, nat_tests)
 
 -- different operations that don't clash have different stamps

@@ -1,4 +1,6 @@
 -- A log's file, written block by block.
+use Rattle.rt_rows.specs.Places.{op_at}
+use Rattle.rt_rows.specs.declared.rows.RowPlace.{RowPlace}
 use Rattle.std.proofs.Common.{◌≡◌, ℕ, ◌+◌, ◌<◌, sym, ap, ◌∙◌, append_assoc, List, [], ◌∷◌, ◌++◌, length, get_or, take, drop, take-append-drop, Option}
 use Rattle.std.specs.Io.KnownBytes.{Appends}
 use Rattle.std.specs.List.{flat_map}
@@ -10,48 +12,47 @@ use Rattle.rt_ops.specs.declared.version.Version.{Version}
 use Rattle.rt_ops.specs.Operations.{Operation}
 use Rattle.rt_ops.specs.File.{magic, record_of, file_of}
 use Rattle.rt_oplog.specs.declared.block.Block.{Block}
-use Rattle.rt_oplog.specs.Kept.{op_at}
 use Rattle.rt_oplog.specs.Blocks.{in_blocks}
 use Rattle.rt_oplog.proofs.InBlocks.{places_next}
 use Rattle.rt_oplog.proofs.Merges.{ops_at}
 
 -- the records of the operations of places
-abbrev pub records_of : Version → List Operation → List ℕ → List ℕ
+abbrev pub records_of : Version → List (List Operation) → List RowPlace → List ℕ
 records_of ver ops places = flat_map (record_of ver) (ops_at ops places)
 
-records_append : (ver : Version) (ops : List Operation) (xs ys : List ℕ) → records_of ver ops (xs ++ ys) ≡ records_of ver ops xs ++ records_of ver ops ys
+records_append : (ver : Version) (ops : List (List Operation)) (xs ys : List RowPlace) → records_of ver ops (xs ++ ys) ≡ records_of ver ops xs ++ records_of ver ops ys
 records_append ver ops xs ys = ap (flat_map (record_of ver)) (map-append (op_at ops) xs ys) ∙ flat_map-append (record_of ver) (ops_at ops xs) (ops_at ops ys)
 
-spelling_append : (ver : Version) (ops : List Operation) (xs ys : List ℕ) → file_of ver (ops_at ops (xs ++ ys)) ≡ file_of ver (ops_at ops xs) ++ records_of ver ops ys
+spelling_append : (ver : Version) (ops : List (List Operation)) (xs ys : List RowPlace) → file_of ver (ops_at ops (xs ++ ys)) ≡ file_of ver (ops_at ops xs) ++ records_of ver ops ys
 spelling_append ver ops xs ys = ap (λ v. magic ver ++ v) (records_append ver ops xs ys) ∙ sym (append_assoc (magic ver) (records_of ver ops xs) (records_of ver ops ys))
 
 -- ---- the next place
 
-record_next : (ver : Version) (ops : List Operation) (places : List ℕ) (i : ℕ) (op : Operation) → i < length places → op ≡ op_at ops (get_or places i 0)
+record_next : (ver : Version) (ops : List (List Operation)) (places : List RowPlace) (i : ℕ) (op : Operation) → i < length places → op ≡ op_at ops (get_or places i (record { row = 0; at = 0 }))
     → records_of ver ops (take (i + 1) places) ≡ records_of ver ops (take i places) ++ record_of ver op
 record_next ver ops places i op h e =
-    ap (records_of ver ops) (take_more places i 0 h) ∙ records_append ver ops (take i places) (get_or places i 0 ∷ []) ∙ ap (λ v. records_of ver ops (take i places) ++ v) (append-nil _ ∙ ap (record_of ver) (sym e))
+    ap (records_of ver ops) (take_more places i (record { row = 0; at = 0 }) h) ∙ records_append ver ops (take i places) (get_or places i (record { row = 0; at = 0 }) ∷ []) ∙ ap (λ v. records_of ver ops (take i places) ++ v) (append-nil _ ∙ ap (record_of ver) (sym e))
 
-records_parts : (ver : Version) (ops : List Operation) (places : List ℕ) (i : ℕ) → records_of ver ops places ≡ records_of ver ops (take i places) ++ records_of ver ops (drop i places)
+records_parts : (ver : Version) (ops : List (List Operation)) (places : List RowPlace) (i : ℕ) → records_of ver ops places ≡ records_of ver ops (take i places) ++ records_of ver ops (drop i places)
 records_parts ver ops places i = ap (records_of ver ops) (sym (take-append-drop i places)) ∙ records_append ver ops (take i places) (drop i places)
 
 -- a front was written: no more than the records before, a part of the next one too
 
-pub before_wrote : (ver : Version) (a b : Option (List ℕ)) (ops : List Operation) (places : List ℕ) (i : ℕ) → Appends a b (records_of ver ops (take i places)) → AppendsPart a b (records_of ver ops places)
+pub before_wrote : (ver : Version) (a b : Option (List ℕ)) (ops : List (List Operation)) (places : List RowPlace) (i : ℕ) → Appends a b (records_of ver ops (take i places)) → AppendsPart a b (records_of ver ops places)
 before_wrote ver a b ops places i h = rw (records_parts ver ops places i) (part_of a b _ _ h)
 
-pub part_wrote : (ver : Version) (a b c : Option (List ℕ)) (ops : List Operation) (places : List ℕ) (i : ℕ) (op : Operation) → i < length places → op ≡ op_at ops (get_or places i 0)
+pub part_wrote : (ver : Version) (a b c : Option (List ℕ)) (ops : List (List Operation)) (places : List RowPlace) (i : ℕ) (op : Operation) → i < length places → op ≡ op_at ops (get_or places i (record { row = 0; at = 0 }))
     → Appends a b (records_of ver ops (take i places)) → AppendsPart b c (record_of ver op) → AppendsPart a c (records_of ver ops places)
 part_wrote ver a b c ops places i op l e h k =
     rw (records_parts ver ops places (i + 1), record_next ver ops places i op l e) (part_longer a c _ _ (part_then a b c _ _ h k))
 
 -- ---- the next block
 
-block_next : (ver : Version) (ops : List Operation) (bs : List Block) (i : ℕ) (b : Block) → i < length bs → b ≡ get_or bs i b
+block_next : (ver : Version) (ops : List (List Operation)) (bs : List Block) (i : ℕ) (b : Block) → i < length bs → b ≡ get_or bs i b
     → file_of ver (ops_at ops (in_blocks (take (i + 1) bs))) ≡ file_of ver (ops_at ops (in_blocks (take i bs))) ++ records_of ver ops b.places.items
 block_next ver ops bs i b l e = ap (λ places. file_of ver (ops_at ops places)) (places_next bs i b l e) ∙ spelling_append ver ops (in_blocks (take i bs)) b.places.items
 
-pub part_block : (ver : Version) (a b c : Option (List ℕ)) (ops : List Operation) (bs : List Block) (i : ℕ) (d : Block) → i < length bs → d ≡ get_or bs i d
+pub part_block : (ver : Version) (a b c : Option (List ℕ)) (ops : List (List Operation)) (bs : List Block) (i : ℕ) (d : Block) → i < length bs → d ≡ get_or bs i d
     → Appends a b (file_of ver (ops_at ops (in_blocks (take i bs)))) → AppendsPart b c (records_of ver ops d.places.items) → AppendsPart a c (file_of ver (ops_at ops (in_blocks bs)))
 part_block ver a b c ops bs i d l e h k =
     let parts = ap in_blocks (sym (take-append-drop (i + 1) bs)) ∙ flat_map-append (λ (x : Block). x.places.items) (take (i + 1) bs) (drop (i + 1) bs) in

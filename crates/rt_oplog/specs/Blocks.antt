@@ -1,18 +1,19 @@
 -- Places in blocks.
 use Rattle.std.specs.Prelude.{◌≡◌, ℕ, ◌+◌, ◌-◌, ◌*◌, ◌^◌, ◌<◌, ◌≤◌, max, min, Bool, List, [], ◌∷◌, length, take, slice_index_or, vec_len}
 use Rattle.std.specs.List.{flat_map, list_all}
+use Rattle.rt_rows.specs.declared.rows.RowPlace.{RowPlace}
 use Rattle.rt_oplog.specs.declared.block.Block.{Block}
 
 -- the places of all blocks, one block after another
-abbrev pub in_blocks : List Block → List ℕ
-in_blocks blocks = flat_map {X = Block} {A = ℕ} (λ b. b.places.items) blocks
+abbrev pub in_blocks : List Block → List RowPlace
+in_blocks blocks = flat_map {X = Block} {A = RowPlace} (λ b. b.places.items) blocks
 
 -- how many places stand in front of a block
 abbrev pub places_before : List Block → ℕ → ℕ
 places_before blocks block = length (in_blocks (take block blocks))
 
 -- all places of a block pass a test
-abbrev pub all_pass : (ℕ → Bool) → Block → Bool
+abbrev pub all_pass : (RowPlace → Bool) → Block → Bool
 all_pass p b = list_all p b.places.items
 
 -- each block but the last one is half full at least

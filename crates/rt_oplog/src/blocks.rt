@@ -2,23 +2,21 @@
 ghost use Rattle.std.specs.Prelude.{◌≡◌, ◌+◌, ◌-◌, ◌<◌, ◌≤◌, ◌∷◌, ◌++◌, [], length, take, slice_get, Some, slice_index_or, vec_len, vec_capacity, IfOk};
 ghost use Rattle.std.specs.Bool.{OnTrue, OnFalse};
 ghost use Rattle.std.specs.List.{insert, list_all};
-ghost use Rattle.rt_stamps.specs.Stamps.{is_before};
-ghost use Rattle.rt_ops.specs.Operations.{stamp_of};
 ghost use Rattle.rt_oplog.specs.Logs.{IsFalling};
-ghost use Rattle.rt_oplog.specs.Kept.{op_at, newest_first, leading};
+ghost use Rattle.rt_oplog.specs.Kept.{is_earlier, newest_first, leading};
 ghost use Rattle.rt_oplog.specs.declared.block.Block.{Block};
 ghost use Rattle.rt_oplog.specs.Spares.{AreSpare, IsSpare};
 ghost use Rattle.rt_oplog.specs.Blocks.{AreHalfFull, IsFull, all_pass, in_blocks, places_before, room_of};
 
 use crate::block::{Block, ops_before};
-use rt_rows::Rows;
+use rt_rows::{RowPlace, Rows};
 use rt_stamps::Stamp;
 use std::alloc::{AllocError, Global};
 
 /// How many blocks stand in front, all of whose operations are before a stamp.
 fn blocks_before(ops: &Rows, blocks: &[Block], stamp: Stamp) -> usize
-    requires { IsFalling (newest_first ops.now.operations (in_blocks blocks.now)) }
-    ensures blocks { result ≡ leading (all_pass (λ place. is_before (stamp_of (op_at ops.now.operations place)) stamp)) blocks.now }
+    requires { IsFalling (newest_first ops.now.rows (in_blocks blocks.now)) }
+    ensures blocks { result ≡ leading (all_pass (is_earlier ops.now.rows stamp)) blocks.now }
     ensures within { result ≤ length blocks.now }
 {
     blocks.partition_point(|block| block.is_before(ops, stamp))
@@ -26,8 +24,8 @@ fn blocks_before(ops: &Rows, blocks: &[Block], stamp: Stamp) -> usize
 
 /// Whether the operations of all blocks are before a stamp, which that of the last place tells.
 fn are_earlier(ops: &Rows, blocks: &[Block], stamp: Stamp) -> bool
-    requires { IsFalling (newest_first ops.now.operations (in_blocks blocks.now)) }
-    ensures { result ≡ list_all (all_pass (λ place. is_before (stamp_of (op_at ops.now.operations place)) stamp)) blocks.now }
+    requires { IsFalling (newest_first ops.now.rows (in_blocks blocks.now)) }
+    ensures { result ≡ list_all (all_pass (is_earlier ops.now.rows stamp)) blocks.now }
 {
     match blocks.last() {
         Some(block) => block.is_before(ops, stamp),
@@ -36,9 +34,9 @@ fn are_earlier(ops: &Rows, blocks: &[Block], stamp: Stamp) -> bool
 }
 
 /// The first place whose operation is not before a stamp.
-pub(crate) fn find(ops: &Rows, blocks: &[Block], stamp: Stamp) -> Option<usize>
-    requires { IsFalling (newest_first ops.now.operations (in_blocks blocks.now)) }
-    ensures { result ≡ slice_get (in_blocks blocks.now) (leading (λ place. is_before (stamp_of (op_at ops.now.operations place)) stamp) (in_blocks blocks.now)) }
+pub(crate) fn find(ops: &Rows, blocks: &[Block], stamp: Stamp) -> Option<RowPlace>
+    requires { IsFalling (newest_first ops.now.rows (in_blocks blocks.now)) }
+    ensures { result ≡ slice_get (in_blocks blocks.now) (leading (is_earlier ops.now.rows stamp) (in_blocks blocks.now)) }
 {
     if are_earlier(ops, blocks, stamp) {
         return None;
@@ -49,23 +47,26 @@ pub(crate) fn find(ops: &Rows, blocks: &[Block], stamp: Stamp) -> Option<usize>
     Some(block.places[at])
 }
 
-/// The place that stands at a number.
-pub(crate) fn get(blocks: &[Block], at: usize) -> usize
-    requires { at < length (in_blocks blocks.now) }
+/// The place that stands at a number, of so many. It goes from the last block to the first, as the newest is asked for most.
+pub(crate) fn get(blocks: &[Block], len: usize, at: usize) -> RowPlace
+    requires len { len ≡ length (in_blocks blocks.now) }
+    requires within { at < len }
     ensures { slice_get (in_blocks blocks.now) at ≡ Some result }
 {
-    let mut left = at;
-    for block in blocks {
-        if left < block.places.len() {
-            return block.places[left];
+    let mut before = len;
+    let mut block = blocks.len();
+    while block > 0 {
+        block -= 1;
+        before -= blocks[block].places.len();
+        if before <= at {
+            return blocks[block].places[at - before];
         }
-        left -= block.places.len();
     }
-    0
+    RowPlace { row: 0, at: 0 }
 }
 
 /// The places in one list, of which there are so many.
-pub(crate) fn flat(alloc: Global, blocks: &[Block], len: usize) -> Result<Vec<usize>, AllocError>
+pub(crate) fn flat(alloc: Global, blocks: &[Block], len: usize) -> Result<Vec<RowPlace>, AllocError>
     ensures { IfOk result (λ places. places.items ≡ in_blocks blocks.now) }
 {
     let mut places = Vec::with_capacity(alloc, len)?;
@@ -76,7 +77,7 @@ pub(crate) fn flat(alloc: Global, blocks: &[Block], len: usize) -> Result<Vec<us
 }
 
 /// A block to be.
-fn take_spare(spare: &mut Vec<Vec<usize>>) -> Vec<usize>
+fn take_spare(spare: &mut Vec<Vec<RowPlace>>) -> Vec<RowPlace>
     requires spares { AreSpare spare.old.items }
     requires left { 0 < vec_len spare.old }
     ensures spare { IsSpare result }
@@ -99,7 +100,7 @@ fn insert_block(blocks: &mut Vec<Block>, at: usize, block: Block)
 
 /// Puts a place into a block, where there is room.
 #[inline(always)]
-fn put_in(blocks: &mut Vec<Block>, block: usize, at: usize, place: usize)
+fn put_in(blocks: &mut Vec<Block>, block: usize, at: usize, place: RowPlace)
     requires block { block < vec_len blocks.old }
     requires within { (d : Block) → at ≤ vec_len (slice_index_or blocks.old.items block d).places }
     requires room { (d : Block) → vec_len (slice_index_or blocks.old.items block d).places < 512 }
@@ -113,7 +114,7 @@ fn put_in(blocks: &mut Vec<Block>, block: usize, at: usize, place: usize)
 }
 
 /// A full block becomes two.
-fn split(blocks: &mut Vec<Block>, block: usize, spare: Vec<usize>)
+fn split(blocks: &mut Vec<Block>, block: usize, spare: Vec<RowPlace>)
     requires block { block < vec_len blocks.old }
     requires full { (d : Block) → vec_len (slice_index_or blocks.old.items block d).places ≡ 512 }
     requires spare { IsSpare spare }
@@ -134,10 +135,10 @@ fn split(blocks: &mut Vec<Block>, block: usize, spare: Vec<usize>)
 /// Puts a place into a block. A full one becomes two first.
 fn put_at(
     blocks: &mut Vec<Block>,
-    spare: &mut Vec<Vec<usize>>,
+    spare: &mut Vec<Vec<RowPlace>>,
     block: usize,
     at: usize,
-    place: usize,
+    place: RowPlace,
 )
     requires block { block < vec_len blocks.old }
     requires within { (d : Block) → at ≤ vec_len (slice_index_or blocks.old.items block d).places }
@@ -169,20 +170,20 @@ fn put_at(
 fn insert_at(
     ops: &Rows,
     blocks: &mut Vec<Block>,
-    spare: &mut Vec<Vec<usize>>,
+    spare: &mut Vec<Vec<RowPlace>>,
     block: usize,
     stamp: Stamp,
-    place: usize,
+    place: RowPlace,
 )
-    requires falling { IsFalling (newest_first ops.now.operations (in_blocks blocks.old.items)) }
-    requires block { block ≡ leading (all_pass (λ p. is_before (stamp_of (op_at ops.now.operations p)) stamp)) blocks.old.items }
+    requires falling { IsFalling (newest_first ops.now.rows (in_blocks blocks.old.items)) }
+    requires block { block ≡ leading (all_pass (is_earlier ops.now.rows stamp)) blocks.old.items }
     requires within { block < vec_len blocks.old }
     requires half { AreHalfFull blocks.old.items }
     requires spares { AreSpare spare.old.items }
     requires free { vec_len blocks.old + vec_len spare.old ≤ vec_capacity blocks.old }
     requires room { 0 < room_of (vec_len spare.old) (vec_len blocks.old) (length (in_blocks blocks.old.items)) }
     ensures items { in_blocks blocks.new.items
-        ≡ insert (in_blocks blocks.old.items) (leading (λ p. is_before (stamp_of (op_at ops.now.operations p)) stamp) (in_blocks blocks.old.items)) place }
+        ≡ insert (in_blocks blocks.old.items) (leading (is_earlier ops.now.rows stamp) (in_blocks blocks.old.items)) place }
     ensures half { AreHalfFull blocks.new.items }
     ensures spares { AreSpare spare.new.items }
     ensures left { vec_len spare.old ≤ vec_len spare.new + 1 }
@@ -195,7 +196,7 @@ fn insert_at(
 
 /// Puts a place behind all others. Where the last block is full, it begins one.
 #[inline(always)]
-pub(crate) fn append(blocks: &mut Vec<Block>, spare: &mut Vec<Vec<usize>>, place: usize)
+pub(crate) fn append(blocks: &mut Vec<Block>, spare: &mut Vec<Vec<RowPlace>>, place: RowPlace)
     requires half { AreHalfFull blocks.old.items }
     requires spares { AreSpare spare.old.items }
     requires free { vec_len blocks.old + vec_len spare.old ≤ vec_capacity blocks.old }
@@ -232,17 +233,17 @@ fn is_full(blocks: &[Block]) -> bool
 pub(crate) fn insert_in(
     ops: &Rows,
     blocks: &mut Vec<Block>,
-    spare: &mut Vec<Vec<usize>>,
+    spare: &mut Vec<Vec<RowPlace>>,
     stamp: Stamp,
-    place: usize,
+    place: RowPlace,
 )
-    requires falling { IsFalling (newest_first ops.now.operations (in_blocks blocks.old.items)) }
+    requires falling { IsFalling (newest_first ops.now.rows (in_blocks blocks.old.items)) }
     requires half { AreHalfFull blocks.old.items }
     requires spares { AreSpare spare.old.items }
     requires free { vec_len blocks.old + vec_len spare.old ≤ vec_capacity blocks.old }
     requires room { 0 < room_of (vec_len spare.old) (vec_len blocks.old) (length (in_blocks blocks.old.items)) }
     ensures items { in_blocks blocks.new.items
-        ≡ insert (in_blocks blocks.old.items) (leading (λ p. is_before (stamp_of (op_at ops.now.operations p)) stamp) (in_blocks blocks.old.items)) place }
+        ≡ insert (in_blocks blocks.old.items) (leading (is_earlier ops.now.rows stamp) (in_blocks blocks.old.items)) place }
     ensures half { AreHalfFull blocks.new.items }
     ensures spares { AreSpare spare.new.items }
     ensures left { vec_len spare.old ≤ vec_len spare.new + 1 }

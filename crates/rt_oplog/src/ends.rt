@@ -60,7 +60,7 @@ impl Ends {
         }
     }
 
-    /// Room for so many more sites. An error where there are none so many, or a growth was refused.
+    /// Makes room for `more` further sites. An error where `more` is above 2^32 - 1, or a growth was refused.
     #[inline(always)]
     pub(crate) fn reserve(&mut self, more: usize) -> Result<(), AllocError>
         ensures same { (site : ℕ) → end_in self.new site ≡ end_in self.old site }

@@ -1,5 +1,5 @@
 // The operation file of a log.
-ghost use Rattle.std.specs.Prelude.{◌≡◌, ◌<◌, true, length, map, reverse, None, OnOk, IsOkUnless};
+ghost use Rattle.std.specs.Prelude.{◌≡◌, true, map, reverse, None, OnOk, IsOkUnless};
 ghost use Rattle.std.specs.List.{AllByRecursion, flat_map, list_all};
 ghost use Rattle.rt_stamps.specs.declared.fault.Fault.TheVariants.{NoMemory};
 ghost use Rattle.rt_stamps.specs.Written.{WritesBuffered, WritesText};
@@ -7,14 +7,14 @@ ghost use Rattle.rt_rows.specs.Views.{operation_in};
 ghost use Rattle.rt_ops.specs.declared.version.Version.TheVariants.{One};
 ghost use Rattle.rt_ops.specs.File.{spelling, magic, record_of, file_of, fits, version_of, HasRecord};
 ghost use Rattle.rt_ops.specs.Reading.{offsets_of, Reads};
-ghost use Rattle.rt_oplog.specs.Kept.{op_at};
+ghost use Rattle.rt_rows.specs.Places.{HasPlace, op_at};
 ghost use Rattle.rt_oplog.specs.Logs.{IsLog};
 
 use crate::OpLog;
 use crate::merge::op_in;
 use rt_ops::spell::spell;
 use rt_ops::{Version, fits, magic};
-use rt_rows::{OpView, Rows, typed_op};
+use rt_rows::{OpView, RowPlace, Rows, typed_op};
 use rt_stamps::{Fault, Sink, write_all};
 use std::alloc::Global;
 
@@ -37,9 +37,9 @@ fn first_fits(alloc: Global, view: OpView<'_>) -> bool
 }
 
 /// Whether the first version has room for the operations of these places.
-fn places_fit(alloc: Global, ops: &Rows, places: &[usize]) -> bool
-    requires { AllByRecursion (λ place. place < length ops.now.operations) places.now }
-    ensures { result ≡ list_all (fits One) (map (op_at ops.now.operations) places.now) }
+fn places_fit(alloc: Global, ops: &Rows, places: &[RowPlace]) -> bool
+    requires { AllByRecursion (HasPlace ops.now.rows) places.now }
+    ensures { result ≡ list_all (fits One) (map (op_at ops.now.rows) places.now) }
 {
     for place in places {
         if !first_fits(alloc, op_in(ops, *place)) {
@@ -111,13 +111,13 @@ fn write_records<W: Sink>(
     record: &mut Vec<u8>,
     version: Version,
     ops: &Rows,
-    places: &[usize],
+    places: &[RowPlace],
     out: &mut W,
 ) -> Result<(), Fault>
-    requires within { AllByRecursion (λ place. place < length ops.now.operations) places.now }
-    requires room { version ≡ One → list_all (fits One) (map (op_at ops.now.operations) places.now) ≡ true }
-    ensures writes { WritesBuffered (W.stream out.old) (W.stream out.new) result (flat_map (record_of version) (map (op_at ops.now.operations) places.now)) }
-    ensures records { OnOk result (AllByRecursion (HasRecord version) (map (op_at ops.now.operations) places.now)) }
+    requires within { AllByRecursion (HasPlace ops.now.rows) places.now }
+    requires room { version ≡ One → list_all (fits One) (map (op_at ops.now.rows) places.now) ≡ true }
+    ensures writes { WritesBuffered (W.stream out.old) (W.stream out.new) result (flat_map (record_of version) (map (op_at ops.now.rows) places.now)) }
+    ensures records { OnOk result (AllByRecursion (HasRecord version) (map (op_at ops.now.rows) places.now)) }
 {
     for place in places {
         spell_view(alloc, record, version, op_in(ops, *place))?;

@@ -1,24 +1,24 @@
 // Logs.
-ghost use Rattle.std.specs.Prelude.{◌≡◌, ℕ, ◌+◌, ◌-◌, ◌<◌, ◌≤◌, ◌∷◌, ◌++◌, All, List, [], true, false, length, reverse, map, min, vec_len, vec_capacity, IsOk, OnOk, IfOk, IsOkUnless, OnErr, MatchResult, ◌⊎◌, Ok, Err, slice_get, Some};
+ghost use Rattle.std.specs.Prelude.{◌≡◌, ◌+◌, ◌-◌, ◌<◌, ◌≤◌, ◌∷◌, All, [], true, false, length, reverse, map, min, IsOk, OnOk, IfOk, IsOkUnless, Ok, Err, slice_get, Some};
 ghost use Rattle.std.specs.List.{AllByRecursion, list_any};
 ghost use Rattle.rt_stamps.specs.declared.fault.Fault.TheVariants.{NoMemory};
 ghost use Rattle.rt_stamps.specs.Stamps.{is_before};
-ghost use Rattle.rt_rows.specs.Views.{operation_in};
-ghost use Rattle.rt_ops.specs.Edits.{body_of};
-ghost use Rattle.rt_ops.specs.Operations.{stamp_of, has_bad_stamp};
-ghost use Rattle.rt_ops.specs.Rules.{keeps_rules};
-ghost use Rattle.rt_oplog.specs.Logs.{IsLog, IsFalling, holds, same_operation, clash, going_on, known_end, pushed};
-ghost use Rattle.rt_oplog.specs.Kept.{op_at, newest_first, IsKept};
+ghost use Rattle.rt_rows.specs.Views.{operation_in, operation_typed};
+ghost use Rattle.rt_stamps.specs.declared.limits.TheConstants.{GREATEST_COUNT};
+ghost use Rattle.rt_ops.specs.Operations.{Insert, stamp_of, has_bad_stamp};
+ghost use Rattle.rt_oplog.specs.Logs.{IsLog, IsFalling, holds, same_operation, clash, going_on, known_end, pushed, with_operation};
+ghost use Rattle.rt_rows.specs.Places.{HasPlace, KeepsPlaces, op_at};
+ghost use Rattle.rt_oplog.specs.Kept.{newest_first, IsKept, IsPutBehind, IsPutInOrder};
 ghost use Rattle.rt_oplog.specs.Blocks.{in_blocks};
 ghost use Rattle.rt_oplog.specs.Outcomes.{Pushes, MakesLog, Joins};
 
+use crate::Op;
 use crate::block::Block;
 use crate::ends::Ends;
 use crate::merge::{ends_of, merge, op_in};
 use crate::order::Order;
 use crate::same::{is_clash, is_kept_as};
-use crate::{Edit, Op};
-use rt_rows::{OpView, Rows};
+use rt_rows::{OpView, RowPlace, Rows, TypedOp};
 use rt_stamps::{Fault, Stamp};
 use std::alloc::Global;
 use std::marker::Model;
@@ -27,7 +27,7 @@ use std::marker::Model;
 #[derive(Drop)]
 pub struct OpLog {
     alloc: Global,
-    /// As they came.
+    /// The operations, each of which keeps its place.
     ops: Rows,
     /// Their places in `ops`, by rising stamp.
     order: Order,
@@ -53,26 +53,26 @@ impl Model for OpLog {
     ghost use Rattle.rt_oplog.specs.Kept.{newest_first, IsKept};
 
     ghost view = { λ log. record {
-      operations = newest_first log.ops.operations log.order.items;
+      operations = newest_first log.ops.rows log.order.items;
       room = min log.ops.room (min log.order.room (room_for log.ends));
     } };
 
-    ghost invariant = { λ log. IsKept log.ops.operations log.order.items log.ends };
+    ghost invariant = { λ log. IsKept log.ops.rows log.order.items log.ends };
 }
 
 /// Whether the operation of a place is this one.
-fn is_at(ops: &Rows, place: usize, op: &Op) -> bool
-    requires { place < length ops.now.operations }
-    ensures { result ≡ same_operation (op_at ops.now.operations place) op.now }
+fn is_at(ops: &Rows, place: RowPlace, op: &Op) -> bool
+    requires { HasPlace ops.now.rows place }
+    ensures { result ≡ same_operation (op_at ops.now.rows place) op.now }
 {
     is_kept_as(op_in(ops, place), op)
 }
 
 /// Whether this very operation is one of the places.
 fn is_held(ops: &Rows, order: &Order, op: &Op) -> bool
-    requires within { AllByRecursion (λ place. place < length ops.now.operations) order.now.items }
-    requires falling { IsFalling (newest_first ops.now.operations order.now.items) }
-    ensures { result ≡ holds (newest_first ops.now.operations order.now.items) op.now }
+    requires within { AllByRecursion (HasPlace ops.now.rows) order.now.items }
+    requires falling { IsFalling (newest_first ops.now.rows order.now.items) }
+    ensures { result ≡ holds (newest_first ops.now.rows order.now.items) op.now }
 {
     match order.find(ops, op.stamp()) {
         Some(place) => is_at(ops, place, op),
@@ -81,11 +81,11 @@ fn is_held(ops: &Rows, order: &Order, op: &Op) -> bool
 }
 
 /// Whether an operation of the places clashes with this one.
-fn any_clash(ops: &Rows, order: &[usize], op: &Op) -> bool
-    requires within { AllByRecursion (λ place. place < length ops.now.operations) order.now }
-    requires log { IsLog (newest_first ops.now.operations order.now) }
+fn any_clash(ops: &Rows, order: &[RowPlace], op: &Op) -> bool
+    requires within { AllByRecursion (HasPlace ops.now.rows) order.now }
+    requires log { IsLog (newest_first ops.now.rows order.now) }
     requires sound { has_bad_stamp op.now ≡ false }
-    ensures { result ≡ list_any (λ place. clash op.now (op_at ops.now.operations place)) order.now }
+    ensures { result ≡ list_any (λ place. clash op.now (op_at ops.now.rows place)) order.now }
 {
     for place in order {
         if is_clash(op, op_in(ops, *place)) {
@@ -97,10 +97,10 @@ fn any_clash(ops: &Rows, order: &[usize], op: &Op) -> bool
 
 /// Whether an operation of the places of blocks clashes with this one.
 fn any_clash_in(ops: &Rows, blocks: &[Block], op: &Op) -> bool
-    requires within { AllByRecursion (λ place. place < length ops.now.operations) (in_blocks blocks.now) }
-    requires log { IsLog (newest_first ops.now.operations (in_blocks blocks.now)) }
+    requires within { AllByRecursion (HasPlace ops.now.rows) (in_blocks blocks.now) }
+    requires log { IsLog (newest_first ops.now.rows (in_blocks blocks.now)) }
     requires sound { has_bad_stamp op.now ≡ false }
-    ensures { result ≡ list_any (λ place. clash op.now (op_at ops.now.operations place)) (in_blocks blocks.now) }
+    ensures { result ≡ list_any (λ place. clash op.now (op_at ops.now.rows place)) (in_blocks blocks.now) }
 {
     for block in blocks {
         if any_clash(ops, &block.places, op) {
@@ -113,9 +113,9 @@ fn any_clash_in(ops: &Rows, blocks: &[Block], op: &Op) -> bool
 /// Whether an operation of the places clashes with this one. What goes on from its site's known end
 /// clashes with none; what is the newest and goes on from below it clashes.
 fn has_clash(ops: &Rows, order: &Order, ends: &Ends, op: &Op) -> bool
-    requires kept { IsKept ops.now.operations order.now.items ends.now }
+    requires kept { IsKept ops.now.rows order.now.items ends.now }
     requires sound { has_bad_stamp op.now ≡ false }
-    ensures { result ≡ list_any (clash op.now) (newest_first ops.now.operations order.now.items) }
+    ensures { result ≡ list_any (clash op.now) (newest_first ops.now.rows order.now.items) }
 {
     if op.prev() >= ends.get(op.site()) {
         return false;
@@ -126,18 +126,49 @@ fn has_clash(ops: &Rows, order: &Order, ends: &Ends, op: &Op) -> bool
     }
 }
 
-/// Puts an operation and its place behind all others, where there is room.
+/// Puts an operation in, and its place behind all others, where there is room.
 #[inline(always)]
 fn push_newest(ops: &mut Rows, order: &mut Order, op: Op)
     requires ops { 0 < ops.old.room }
     requires order { 0 < order.old.room }
-    ensures ops { ops.new.operations ≡ ops.old.operations ++ op ∷ [] }
+    ensures kept { KeepsPlaces ops.old.rows ops.new.rows }
+    ensures put { IsPutBehind op ops.new.rows order.old.items order.new.items }
     ensures left { ops.old.room ≤ ops.new.room + 1 }
-    ensures order { order.new.items ≡ order.old.items ++ length ops.old.operations ∷ [] }
     ensures room { order.old.room ≤ order.new.room + 1 }
 {
-    order.push(ops.len());
-    ops.push(op);
+    let place = ops.push(op);
+    order.push(place);
+}
+
+/// Puts a typed operation in, and its place behind all others, where there is room.
+#[inline(always)]
+fn push_newest_typed(ops: &mut Rows, order: &mut Order, typed: TypedOp)
+    requires count { typed.stamp.count ≤ GREATEST_COUNT }
+    requires ops { 0 < ops.old.room }
+    requires order { 0 < order.old.room }
+    ensures kept { KeepsPlaces ops.old.rows ops.new.rows }
+    ensures put { IsPutBehind (operation_typed typed) ops.new.rows order.old.items order.new.items }
+    ensures left { ops.old.room ≤ ops.new.room + 1 }
+    ensures room { order.old.room ≤ order.new.room + 1 }
+{
+    let place = ops.push_typed(typed);
+    order.push(place);
+}
+
+/// Puts an operation in, and its place behind those whose operations are before its stamp, where there is room.
+fn put_in_order(ops: &mut Rows, order: &mut Order, op: Op)
+    requires within { AllByRecursion (HasPlace ops.old.rows) order.old.items }
+    requires falling { IsFalling (newest_first ops.old.rows order.old.items) }
+    requires ops { 0 < ops.old.room }
+    requires order { 0 < order.old.room }
+    ensures kept { KeepsPlaces ops.old.rows ops.new.rows }
+    ensures put { IsPutInOrder op ops.new.rows order.old.items order.new.items }
+    ensures left { ops.old.room ≤ ops.new.room + 1 }
+    ensures room { order.old.room ≤ order.new.room + 1 }
+{
+    let stamp = op.stamp();
+    let place = ops.push(op);
+    order.insert(ops, stamp, place);
 }
 
 impl OpLog {
@@ -171,8 +202,8 @@ impl OpLog {
         Ok(log)
     }
 
-    /// Makes room for `more` calls of `push`, which then take no memory. `NoMemory` where a growth
-    /// was refused; the operations stay.
+    /// Makes room for `more` calls of `push`, which then take no memory. `NoMemory` where a growth was refused, `more` is
+    /// above 2^32 - 1, or there would be more than 2^32 rows (rt_rows); the operations stay.
     #[inline(always)]
     pub fn reserve(&mut self, more: usize) -> Result<(), Fault>
         ensures same { self.new.operations ≡ self.old.operations }
@@ -194,7 +225,7 @@ impl OpLog {
         self.order.len()
     }
 
-    /// The operation at a place by rising stamp, seen where it is kept.
+    /// The operation at a place by rising stamp, that of the oldest being 0, seen where it is kept.
     pub fn get(&self, place: usize) -> OpView<'_>
         requires { place < length self.now.operations }
         ensures { slice_get (reverse self.now.operations) place ≡ Some (operation_in result) }
@@ -202,10 +233,10 @@ impl OpLog {
         op_in(&self.ops, self.order.get(place))
     }
 
-    /// The operations as they came, and their places by rising stamp, in blocks.
+    /// The operations in rows, and their places by rising stamp, in blocks.
     pub(crate) fn blocks(&self) -> (&Rows, &[Block])
-        ensures within { AllByRecursion (λ place. place < length result.0.now.operations) (in_blocks result.1.now) }
-        ensures operations { map (op_at result.0.now.operations) (in_blocks result.1.now) ≡ reverse self.now.operations }
+        ensures within { AllByRecursion (HasPlace result.0.now.rows) (in_blocks result.1.now) }
+        ensures operations { map (op_at result.0.now.rows) (in_blocks result.1.now) ≡ reverse self.now.operations }
         ensures log { IsLog self.now.operations }
     {
         (&self.ops, self.order.blocks())
@@ -218,7 +249,7 @@ impl OpLog {
         let _ = &self.ops;
     }
 
-    /// The operations by rising stamp, each seen where it is kept; or want of memory.
+    /// The operations by rising stamp, each seen where it is kept. `NoMemory` is its only fault.
     pub fn in_order(&self) -> Result<Vec<OpView<'_>>, Fault>
         ensures operations { IfOk result (λ ops. map operation_in ops.items ≡ reverse self.now.operations) }
         ensures fault { IsOkUnless result NoMemory }
@@ -235,7 +266,8 @@ impl OpLog {
     pub fn contains(&self, op: &Op) -> bool
         ensures { result ≡ holds self.now.operations op.now }
     {
-        is_held(&self.ops, &self.order, op)
+        // What goes on from no lower than its site's known end isn't there.
+        op.prev() < self.ends.get(op.site()) && is_held(&self.ops, &self.order, op)
     }
 
     /// The greatest last count of a site's operations, 0 if it has none.
@@ -267,11 +299,21 @@ impl OpLog {
             return Err(Fault::Conflict);
         }
         self.reserve(1)?;
-        let _ = self.ends.raise(op.site(), op.last_count());
-        let place = self.ops.len();
-        self.order.insert(&self.ops, op.stamp(), place);
-        self.ops.push(op);
+        self.put(op);
         Ok(())
+    }
+
+    /// Adds an operation that isn't there and clashes with none, where there is room.
+    fn put(&mut self, op: Op)
+        requires sound { has_bad_stamp op ≡ false }
+        requires new { holds self.old.operations op ≡ false }
+        requires free { list_any (clash op) self.old.operations ≡ false }
+        requires room { 0 < self.old.room }
+        ensures operations { self.new.operations ≡ with_operation op self.old.operations }
+        ensures room { self.old.room ≤ self.new.room + 1 }
+    {
+        let _ = self.ends.raise(op.site(), op.last_count());
+        put_in_order(&mut self.ops, &mut self.order, op);
     }
 
     /// Adds an operation that is newer than all others and goes on from no lower than its site's
@@ -290,27 +332,29 @@ impl OpLog {
         push_newest(&mut self.ops, &mut self.order, op);
     }
 
-    /// Adds a site's next operation, which goes on from the site's known end and is newer than all
-    /// others, where there is room. Takes no memory, and looks at none of the others.
+    /// Adds a site's next operation, the Insert of one character without tags, which goes on from the site's known end and is
+    /// newer than all others, where there is room. Takes no memory, and looks at none of the others.
     #[inline(always)]
-    pub fn append_next(&mut self, stamp: Stamp, edit: Edit)
-        requires rules { keeps_rules (body_of edit) ≡ true }
-        requires sound { has_bad_stamp (going_on self.old.operations stamp (body_of edit)) ≡ false }
+    pub fn append_typed(&mut self, stamp: Stamp, after: Stamp, character: char)
+        requires sound { has_bad_stamp (going_on self.old.operations stamp (Insert after [] (character ∷ []))) ≡ false }
         requires newest { All (λ q. is_before (stamp_of q) stamp ≡ true) self.old.operations }
         requires room { 0 < self.old.room }
-        ensures operations { self.new.operations ≡ going_on self.old.operations stamp (body_of edit) ∷ self.old.operations }
+        ensures operations { self.new.operations ≡ going_on self.old.operations stamp (Insert after [] (character ∷ [])) ∷ self.old.operations }
         ensures room { self.old.room ≤ self.new.room + 1 }
     {
-        // Its last count is the same whatever it goes on from, so the site is looked up once.
-        let mut op = Op::of(stamp, 0, edit);
-        let prev = self.ends.raise(stamp.site, op.last_count());
-        op.go_on_from(prev);
-        push_newest(&mut self.ops, &mut self.order, op);
+        let prev = self.ends.raise(stamp.site, stamp.count);
+        let typed = TypedOp {
+            stamp,
+            prev,
+            after,
+            character,
+        };
+        push_newest_typed(&mut self.ops, &mut self.order, typed);
     }
 }
 
-/// The operations of both logs, each once. `Conflict` only where two of them clash, and then nothing
-/// else but `NoMemory`, which comes where a growth was refused. Both logs are used up.
+/// The operations of both logs, each once. `Conflict` exactly where two of them clash; or `NoMemory`, in place of either,
+/// where a growth was refused or there would be more than 2^32 rows (rt_rows). Both logs are used up.
 pub fn join(one: OpLog, other: OpLog) -> Result<OpLog, Fault>
     ensures { Joins one.operations other.operations result }
 {

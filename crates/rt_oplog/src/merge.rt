@@ -1,34 +1,27 @@
 // Two logs merged.
-ghost use Rattle.std.specs.Prelude.{◌≡◌, ℕ, ◌<◌, ◌≤◌, ◌⊎◌, [], ◌∷◌, ◌++◌, false, length, map, slice_index_or, slice_set, MatchResult, IfOk, OnOk, IsOkUnless};
-ghost use Rattle.std.specs.List.{AllByRecursion, range_with_len};
+ghost use Rattle.std.specs.Prelude.{◌≡◌, ◌⊎◌, [], ◌∷◌, false, MatchResult, OnOk, IsOkUnless};
+ghost use Rattle.std.specs.List.{AllByRecursion};
 ghost use Rattle.rt_stamps.specs.declared.fault.Fault.TheVariants.{NoMemory, Conflict};
 ghost use Rattle.rt_stamps.specs.Stamps.{is_before};
 ghost use Rattle.rt_rows.specs.Views.{operation_in};
-ghost use Rattle.rt_ops.specs.Operations.{Insert, Operation, stamp_of, has_bad_stamp};
+ghost use Rattle.rt_ops.specs.Operations.{Operation, has_bad_stamp};
 ghost use Rattle.rt_oplog.specs.Logs.{HasClashOf, HasOp, IsLog, IsFalling, same_operation};
-ghost use Rattle.rt_oplog.specs.Kept.{op_at, newest_first, IsKept};
-ghost use Rattle.rt_oplog.specs.Merged.{IsMerged};
+ghost use Rattle.rt_rows.specs.Places.{HasPlace, KeepsPlaces, op_at};
+ghost use Rattle.rt_oplog.specs.Kept.{newest_first, IsKept};
+ghost use Rattle.rt_oplog.specs.Merged.{IsTakenOver, Merges};
 
 use crate::ends::Ends;
-use crate::same::is_kept_as;
-use rt_rows::{OpView, Rows};
+use crate::same::are_alike;
+use rt_rows::{OpView, RowPlace, Rows};
 use rt_stamps::{Fault, Stamp};
 use std::alloc::Global;
 
 /// The operation of a place, seen where it is kept.
-pub(crate) fn op_in(ops: &Rows, place: usize) -> OpView<'_>
-    requires { place < length ops.now.operations }
-    ensures { op_at ops.now.operations place ≡ operation_in result }
+pub(crate) fn op_in(ops: &Rows, place: RowPlace) -> OpView<'_>
+    requires { HasPlace ops.now.rows place }
+    ensures { op_at ops.now.rows place ≡ operation_in result }
 {
     ops.view(place)
-}
-
-/// The stamp of the operation of a place.
-fn stamp_at(ops: &Rows, place: usize) -> Stamp
-    requires { place < length ops.now.operations }
-    ensures { result ≡ stamp_of (op_at ops.now.operations place) }
-{
-    op_in(ops, place).stamp()
 }
 
 /// Whether one stamp is before another.
@@ -38,54 +31,46 @@ fn is_before(one: Stamp, other: Stamp) -> bool
     one < other
 }
 
-/// Whether the operations of two places are the same. Want of memory.
-fn are_same(
-    alloc: Global,
-    ops: &Rows,
-    place: usize,
-    more: &Rows,
-    other: usize,
-) -> Result<bool, Fault>
-    requires one { place < length ops.now.operations }
-    requires other { other < length more.now.operations }
-    ensures same { IfOk result (λ same. same ≡ same_operation (op_at ops.now.operations place) (op_at more.now.operations other)) }
-    ensures fault { IsOkUnless result NoMemory }
+/// Whether the operations of two places are the same.
+fn are_same(ops: &Rows, place: RowPlace, more: &Rows, other: RowPlace) -> bool
+    requires one { HasPlace ops.now.rows place }
+    requires other { HasPlace more.now.rows other }
+    ensures { result ≡ same_operation (op_at ops.now.rows place) (op_at more.now.rows other) }
 {
-    let op = op_in(more, other).copied(alloc)?;
-    Ok(is_kept_as(op_in(ops, place), &op))
+    are_alike(op_in(ops, place), op_in(more, other))
 }
 
-/// Puts a copy of the operation of a place behind others, and names its new place.
+/// Puts a copy of the operation of a place into other rows, and names its new place. `NoMemory` is its only fault.
 fn take_over(
     alloc: Global,
     ops: &mut Rows,
-    order: &mut Vec<usize>,
+    order: &mut Vec<RowPlace>,
     more: &Rows,
-    place: usize,
+    place: RowPlace,
 ) -> Result<(), Fault>
-    requires { place < length more.now.operations }
-    ensures ops { OnOk result (ops.new.operations ≡ ops.old.operations ++ op_at more.now.operations place ∷ []) }
-    ensures order { OnOk result (order.new.items ≡ order.old.items ++ length ops.old.operations ∷ []) }
+    requires { HasPlace more.now.rows place }
+    ensures kept { KeepsPlaces ops.old.rows ops.new.rows }
+    ensures taken { OnOk result (IsTakenOver more.now.rows ops.new.rows (place ∷ []) order.old.items order.new.items) }
     ensures fault { IsOkUnless result NoMemory }
 {
-    order.push(ops.len())?;
     let op = op_in(more, place).copied(alloc)?;
     ops.reserve(1)?;
-    ops.push(op);
+    let new = ops.push(op);
+    order.push(new)?;
     Ok(())
 }
 
-/// Puts copies of the operations of these places behind others, and names their new places.
+/// Puts copies of the operations of these places into other rows, and names their new places. `NoMemory` is its only fault.
 fn take_rest(
     alloc: Global,
     ops: &mut Rows,
-    order: &mut Vec<usize>,
+    order: &mut Vec<RowPlace>,
     more: &Rows,
-    places: &[usize],
+    places: &[RowPlace],
 ) -> Result<(), Fault>
-    requires { AllByRecursion (λ place. place < length more.now.operations) places.now }
-    ensures ops { OnOk result (ops.new.operations ≡ ops.old.operations ++ map (op_at more.now.operations) places.now) }
-    ensures order { OnOk result (order.new.items ≡ order.old.items ++ range_with_len (length ops.old.operations) (length places.now)) }
+    requires { AllByRecursion (HasPlace more.now.rows) places.now }
+    ensures kept { KeepsPlaces ops.old.rows ops.new.rows }
+    ensures taken { OnOk result (IsTakenOver more.now.rows ops.new.rows places.now order.old.items order.new.items) }
     ensures fault { IsOkUnless result NoMemory }
 {
     for place in places {
@@ -95,34 +80,33 @@ fn take_rest(
 }
 
 /// The places of the operations of both lists by rising stamp, those of one operation once. What is
-/// only in `more` is put behind `ops`. `Conflict` where two different operations have one stamp.
+/// only in `more` is copied into `ops`. `Conflict` where two different operations have one stamp.
 pub(crate) fn merge(
     alloc: Global,
     ops: &mut Rows,
     more: &Rows,
-    mine: &[usize],
-    theirs: &[usize],
-) -> Result<Vec<usize>, Fault>
-    requires mine { AllByRecursion (λ place. place < length ops.old.operations) mine.now }
-    requires theirs { AllByRecursion (λ place. place < length more.now.operations) theirs.now }
-    requires one { IsLog (newest_first ops.old.operations mine.now) }
-    requires other { IsLog (newest_first more.now.operations theirs.now) }
-    ensures { MatchResult result (λ order. IsMerged ops.new.operations (newest_first ops.old.operations mine.now) (newest_first more.now.operations theirs.now) order.items)
-        (λ fault. (fault ≡ NoMemory) ⊎ ((fault ≡ Conflict) × HasClashOf (newest_first ops.old.operations mine.now) (newest_first more.now.operations theirs.now))) }
+    mine: &[RowPlace],
+    theirs: &[RowPlace],
+) -> Result<Vec<RowPlace>, Fault>
+    requires mine { AllByRecursion (HasPlace ops.old.rows) mine.now }
+    requires theirs { AllByRecursion (HasPlace more.now.rows) theirs.now }
+    requires one { IsLog (newest_first ops.old.rows mine.now) }
+    requires other { IsLog (newest_first more.now.rows theirs.now) }
+    ensures { Merges (newest_first ops.old.rows mine.now) (newest_first more.now.rows theirs.now) result ops.new.rows }
 {
     let mut order = Vec::new(alloc);
     let mut left = 0;
     let mut right = 0;
     while left < mine.len() && right < theirs.len() {
-        let one = stamp_at(ops, mine[left]);
-        let other = stamp_at(more, theirs[right]);
+        let one = ops.stamp_at(mine[left]);
+        let other = more.stamp_at(theirs[right]);
         if is_before(one, other) {
             order.push(mine[left])?;
             left += 1;
         } else if is_before(other, one) {
             take_over(alloc, ops, &mut order, more, theirs[right])?;
             right += 1;
-        } else if are_same(alloc, ops, mine[left], more, theirs[right])? {
+        } else if are_same(ops, mine[left], more, theirs[right]) {
             order.push(mine[left])?;
             left += 1;
             right += 1;
@@ -136,12 +120,12 @@ pub(crate) fn merge(
 }
 
 /// The known ends of the operations of these places. `Conflict` where two of them clash.
-pub(crate) fn ends_of(alloc: Global, ops: &Rows, order: &[usize]) -> Result<Ends, Fault>
-    requires within { AllByRecursion (λ place. place < length ops.now.operations) order.now }
-    requires falling { IsFalling (newest_first ops.now.operations order.now) }
-    requires sound { (op : Operation) → HasOp (newest_first ops.now.operations order.now) op → has_bad_stamp op ≡ false }
-    ensures { MatchResult result (λ ends. IsKept ops.now.operations order.now ends)
-        (λ fault. (fault ≡ NoMemory) ⊎ ((fault ≡ Conflict) × HasClashOf (newest_first ops.now.operations order.now) (newest_first ops.now.operations order.now))) }
+pub(crate) fn ends_of(alloc: Global, ops: &Rows, order: &[RowPlace]) -> Result<Ends, Fault>
+    requires within { AllByRecursion (HasPlace ops.now.rows) order.now }
+    requires falling { IsFalling (newest_first ops.now.rows order.now) }
+    requires sound { (op : Operation) → HasOp (newest_first ops.now.rows order.now) op → has_bad_stamp op ≡ false }
+    ensures { MatchResult result (λ ends. IsKept ops.now.rows order.now ends)
+        (λ fault. (fault ≡ NoMemory) ⊎ ((fault ≡ Conflict) × HasClashOf (newest_first ops.now.rows order.now) (newest_first ops.now.rows order.now))) }
 {
     let mut ends = Ends::new(alloc);
     for place in order {

@@ -1,16 +1,14 @@
 // Places in the order of their operations' stamps.
-ghost use Rattle.std.specs.Prelude.{◌≡◌, ℕ, ◌+◌, ◌^◌, ◌<◌, ◌≤◌, [], ◌∷◌, ◌++◌, length, slice_get, Some, vec_len, vec_capacity, IsOk, OnOk, IfOk};
+ghost use Rattle.std.specs.Prelude.{◌≡◌, ℕ, ◌+◌, ◌^◌, ◌<◌, ◌≤◌, [], ◌∷◌, ◌++◌, length, slice_get, Some, vec_len, IsOk, OnOk, IfOk};
 ghost use Rattle.std.specs.List.{insert};
-ghost use Rattle.rt_stamps.specs.Stamps.{is_before};
-ghost use Rattle.rt_ops.specs.Operations.{stamp_of};
 ghost use Rattle.rt_oplog.specs.Logs.{IsFalling};
-ghost use Rattle.rt_oplog.specs.Kept.{op_at, newest_first, leading};
+ghost use Rattle.rt_oplog.specs.Kept.{is_earlier, newest_first, leading};
 ghost use Rattle.rt_oplog.specs.Spares.{AreSpare};
 ghost use Rattle.rt_oplog.specs.Blocks.{in_blocks, room_of};
 
 use crate::block::Block;
 use crate::blocks::{append, find, flat, get, insert_in};
-use rt_rows::Rows;
+use rt_rows::{RowPlace, Rows};
 use rt_stamps::Stamp;
 use std::alloc::{AllocError, Global};
 use std::marker::Model;
@@ -21,7 +19,7 @@ pub(crate) struct Order {
     alloc: Global,
     blocks: Vec<Block>,
     /// Blocks to be: empty, with the room of a block.
-    spare: Vec<Vec<usize>>,
+    spare: Vec<Vec<RowPlace>>,
     /// How many places there are.
     len: usize,
 }
@@ -60,7 +58,7 @@ fn spares_for(more: usize, len: usize, blocks: usize) -> usize
 }
 
 /// One more block to be.
-fn push_spare(spare: &mut Vec<Vec<usize>>, alloc: Global) -> Result<(), AllocError>
+fn push_spare(spare: &mut Vec<Vec<RowPlace>>, alloc: Global) -> Result<(), AllocError>
     requires { AreSpare spare.old.items }
     ensures spares { AreSpare spare.new.items }
     ensures grows { vec_len spare.old ≤ vec_len spare.new }
@@ -74,7 +72,7 @@ fn push_spare(spare: &mut Vec<Vec<usize>>, alloc: Global) -> Result<(), AllocErr
 
 /// As many blocks to be.
 #[inline(always)]
-fn fill(spare: &mut Vec<Vec<usize>>, alloc: Global, count: usize) -> Result<(), AllocError>
+fn fill(spare: &mut Vec<Vec<RowPlace>>, alloc: Global, count: usize) -> Result<(), AllocError>
     requires spares { AreSpare spare.old.items }
     requires bound { vec_len spare.old ≤ count }
     ensures spares { AreSpare spare.new.items }
@@ -91,7 +89,7 @@ fn fill(spare: &mut Vec<Vec<usize>>, alloc: Global, count: usize) -> Result<(), 
 
 impl Order {
     /// These places.
-    pub(crate) fn of(alloc: Global, places: &[usize]) -> Result<Order, AllocError>
+    pub(crate) fn of(alloc: Global, places: &[RowPlace]) -> Result<Order, AllocError>
         ensures { IfOk result (λ order. order.items ≡ places.now) }
     {
         let mut order = Order::new(alloc);
@@ -145,31 +143,31 @@ impl Order {
     }
 
     /// The place that stands at a number.
-    pub(crate) fn get(&self, at: usize) -> usize
+    pub(crate) fn get(&self, at: usize) -> RowPlace
         requires { at < length self.now.items }
         ensures { slice_get self.now.items at ≡ Some result }
     {
-        get(&self.blocks, at)
+        get(&self.blocks, self.len, at)
     }
 
     /// The places in one list.
-    pub(crate) fn flat(&self) -> Result<Vec<usize>, AllocError>
+    pub(crate) fn flat(&self) -> Result<Vec<RowPlace>, AllocError>
         ensures { IfOk result (λ places. places.items ≡ self.now.items) }
     {
         flat(self.alloc, &self.blocks, self.len)
     }
 
     /// The first place whose operation is not before a stamp.
-    pub(crate) fn find(&self, ops: &Rows, stamp: Stamp) -> Option<usize>
-        requires { IsFalling (newest_first ops.now.operations self.now.items) }
-        ensures { result ≡ slice_get self.now.items (leading (λ place. is_before (stamp_of (op_at ops.now.operations place)) stamp) self.now.items) }
+    pub(crate) fn find(&self, ops: &Rows, stamp: Stamp) -> Option<RowPlace>
+        requires { IsFalling (newest_first ops.now.rows self.now.items) }
+        ensures { result ≡ slice_get self.now.items (leading (is_earlier ops.now.rows stamp) self.now.items) }
     {
         find(ops, &self.blocks, stamp)
     }
 
     /// Puts a place behind the others.
     #[inline(always)]
-    pub(crate) fn push(&mut self, place: usize)
+    pub(crate) fn push(&mut self, place: RowPlace)
         requires { 0 < self.old.room }
         ensures items { self.new.items ≡ self.old.items ++ place ∷ [] }
         ensures room { self.old.room ≤ self.new.room + 1 }
@@ -179,10 +177,10 @@ impl Order {
     }
 
     /// Puts a place in behind those whose operations are before a stamp.
-    pub(crate) fn insert(&mut self, ops: &Rows, stamp: Stamp, place: usize)
-        requires falling { IsFalling (newest_first ops.now.operations self.old.items) }
+    pub(crate) fn insert(&mut self, ops: &Rows, stamp: Stamp, place: RowPlace)
+        requires falling { IsFalling (newest_first ops.now.rows self.old.items) }
         requires room { 0 < self.old.room }
-        ensures items { self.new.items ≡ insert self.old.items (leading (λ p. is_before (stamp_of (op_at ops.now.operations p)) stamp) self.old.items) place }
+        ensures items { self.new.items ≡ insert self.old.items (leading (is_earlier ops.now.rows stamp) self.old.items) place }
         ensures room { self.old.room ≤ self.new.room + 1 }
     {
         insert_in(ops, &mut self.blocks, &mut self.spare, stamp, place);

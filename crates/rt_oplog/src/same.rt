@@ -1,10 +1,10 @@
 // Equality and clashes of operations.
-ghost use Rattle.std.specs.Prelude.{◌≡◌, ℕ, ◌≤◌, ◌∷◌, [], false, length};
+ghost use Rattle.std.specs.Prelude.{◌≡◌, ◌≤◌, ◌∷◌, [], false};
 ghost use Rattle.std.specs.Cmp.Lexicographic.{pointwise};
 ghost use Rattle.std.specs.Str.{bytes_eq};
 ghost use Rattle.rt_stamps.specs.declared.limits.TheConstants.{GREATEST_COUNT};
 ghost use Rattle.rt_stamps.specs.Words.{as_words};
-ghost use Rattle.rt_ops.specs.Operations.{Insert, last_count, has_bad_stamp};
+ghost use Rattle.rt_ops.specs.Operations.{Insert, last_count};
 ghost use Rattle.rt_rows.specs.Views.{operation_in};
 ghost use Rattle.rt_ops.specs.Edits.{body_of};
 ghost use Rattle.rt_oplog.specs.Logs.{same_span, same_body, same_operation, reaches_into, clash};
@@ -98,6 +98,30 @@ pub(crate) fn is_kept_as(view: OpView<'_>, op: &Op) -> bool
             character,
         } => { stamp == op.stamp() && prev == op.prev() && is_typed(after, character, op.edit()) }
         OpView::Single { op: one } => is_same(one, op),
+    }
+}
+
+/// Whether two operations, seen where they are kept, are the same.
+pub(crate) fn are_alike(one: OpView<'_>, other: OpView<'_>) -> bool
+    ensures { result ≡ same_operation (operation_in one.entry) (operation_in other.entry) }
+{
+    match (one, other) {
+        (
+            OpView::Typed {
+                stamp,
+                prev,
+                after,
+                character,
+            },
+            OpView::Typed {
+                stamp: label,
+                prev: before,
+                after: left,
+                character: letter,
+            },
+        ) => stamp == label && prev == before && after == left && character == letter,
+        (OpView::Single { op }, _) => is_kept_as(other, op),
+        (_, OpView::Single { op }) => is_kept_as(one, op),
     }
 }
 

@@ -47,7 +47,7 @@ fn insert_of(
         return Err(Fault::BadRecord);
     }
     let text = text_of(alloc, rest)?;
-    Op::insert(stamp, prev, after, tags, text)
+    Op::insert_text(stamp, prev, after, tags, text)
 }
 
 fn delete_of(

@@ -2,14 +2,13 @@
 ghost use Rattle.std.specs.Prelude.{◌≡◌, ◌+◌, ◌*◌, [], ◌∷◌, ◌++◌, ◌<◌, ◌^◌, length, string_bytes, encode_utf8_all, IfNone, IfSome, IfOk, IsOkUnless};
 ghost use Rattle.std.specs.List.{flat_map, AllByRecursion};
 ghost use Rattle.std.specs.Int.{w16, w32, w64, byte_len};
-ghost use Rattle.std.specs.Str.{chars};
 ghost use Rattle.rt_stamps.specs.declared.fault.Fault.TheVariants.{NoMemory};
 ghost use Rattle.rt_stamps.specs.Words.{as_words};
 ghost use Rattle.rt_ops.specs.Versions.{layout, sites};
 ghost use Rattle.rt_ops.specs.File.{number, stamp_bytes, span_bytes, spans_bytes, name_bytes, tags_bytes};
 ghost use Rattle.rt_ops.specs.Decoding.{Decodes, DecodesFront, NameFits, IsNameOf, AreNames, StampFits, SpanFits, TagsFit, SpansFit, AreScalars};
 
-use crate::Version;
+use crate::{Text, Version};
 use rt_stamps::{Fault, Span, Stamp};
 use std::alloc::Global;
 use std::str;
@@ -190,21 +189,27 @@ pub fn tags_at(alloc: Global, bytes: &[u8]) -> Result<(Vec<String>, &[u8]), Faul
     }
 }
 
-fn chars_of(alloc: Global, text: &str) -> Result<Vec<char>, Fault>
-    ensures ok { IfOk result (λ all. all.items ≡ chars text.now) }
-    ensures fault { IsOkUnless result NoMemory }
+/// The character that a single byte of ASCII spells.
+fn ascii_char(bytes: &[u8]) -> Option<char>
+    ensures bytes { IfSome result (λ character. bytes.now ≡ character ∷ []) }
+    ensures ascii { IfSome result (λ character. character < 128) }
 {
-    let all: Vec<char> = text.chars().collect(alloc)?;
-    Ok(all)
+    match bytes {
+        [byte] if byte.is_ascii() => Some(char::from(*byte)),
+        _ => None,
+    }
 }
 
-/// The characters that all of the bytes spell.
-pub fn text_of(alloc: Global, bytes: &[u8]) -> Result<Vec<char>, Fault>
-    ensures { Decodes (λ text. encode_utf8_all text) AreScalars (λ text. text.items) bytes.now result }
+/// The text that all of the bytes spell. A single character takes no memory.
+pub fn text_of(alloc: Global, bytes: &[u8]) -> Result<Text, Fault>
+    ensures { Decodes (λ text. encode_utf8_all text) AreScalars (λ text. text) bytes.now result }
 {
+    if let Some(character) = ascii_char(bytes) {
+        return Ok(Text::of(character));
+    }
     let text = match str::from_utf8(bytes) {
         Ok(text) => text,
         Err(_) => return Err(Fault::BadRecord),
     };
-    chars_of(alloc, text)
+    Text::of_str(alloc, text)
 }

@@ -7,7 +7,7 @@ ghost use Rattle.rt_ops.specs.Operations.{Insert, Delete, Tag, stamp_of, last_co
 ghost use Rattle.rt_ops.specs.Rules.{within_rules, keeps_rules};
 
 use crate::Text;
-use crate::rules::{are_spans, are_tags, is_name, is_text};
+use crate::rules::{are_spans, are_tags, is_name};
 use rt_stamps::limits::GREATEST_COUNT;
 use rt_stamps::{Fault, ROOT, Span, Stamp};
 use std::alloc::Global;
@@ -16,17 +16,18 @@ use std::marker::Model;
 /// What an operation does.
 #[derive(Drop)]
 pub enum Edit {
-    /// Puts a text in after an element, with the tags that it lists.
+    /// Puts a text in after an element, with the tags that it lists: 0 to 255 of them, each once, by the bytes of their
+    /// names.
     Insert {
         after: Stamp,
         tags: Vec<String>,
         text: Text,
     },
-    /// Takes characters away.
+    /// Takes the characters of spans away, of which there are 1 to 65,536.
     Delete {
         spans: Vec<Span>,
     },
-    /// Puts a tag on characters, or takes it off.
+    /// Puts a tag on the characters of spans, or takes it off; there are 1 to 65,536 of these.
     Tag {
         on: bool,
         name: String,
@@ -90,19 +91,28 @@ impl Op {
           body = Insert after (as_words tags.items) text.items;
         }) }
     {
-        if !are_tags(&tags) || !is_text(&text) {
+        Op::insert_text(stamp, prev, after, tags, Text::new(text))
+    }
+
+    /// An Insert, as `insert` has it, of a text that is kept as it is.
+    pub(crate) fn insert_text(
+        stamp: Stamp,
+        prev: u64,
+        after: Stamp,
+        tags: Vec<String>,
+        text: Text,
+    ) -> Result<Op, Fault>
+        ensures { result ≡ within_rules (record {
+          count = stamp.count;
+          site = stamp.site;
+          prev = prev;
+          body = Insert after (as_words tags.items) text;
+        }) }
+    {
+        if !are_tags(&tags) || !text.keeps_rules() {
             return Err(Fault::BadRecord);
         }
-        Ok(Op {
-            count: stamp.count,
-            prev,
-            site: stamp.site,
-            edit: Edit::Insert {
-                after,
-                tags,
-                text: Text::new(text),
-            },
-        })
+        Ok(Op::of(stamp, prev, Edit::Insert { after, tags, text }))
     }
 
     /// A Delete of the characters of `spans`. `BadRecord` exactly where these break a rule.
@@ -185,7 +195,7 @@ impl Op {
         self.prev
     }
 
-    /// Has it go on from this count of its site instead.
+    /// Sets its `prev` to this count. Nothing else changes.
     #[inline(always)]
     pub fn go_on_from(&mut self, prev: u64)
         ensures { self.new ≡ record { count = self.old.count; site = self.old.site; prev = prev; body = self.old.body } }
@@ -240,7 +250,7 @@ impl Op {
 
 ghost use Rattle.rt_ops.specs.Edits.{body_of as body_seen};
 
-/// Names once more. Want of memory.
+/// Names once more. `NoMemory` is its only fault.
 fn copies_of(alloc: Global, names: &[String]) -> Result<Vec<String>, Fault>
     ensures copy { IfOk result (λ copies. as_words copies.items ≡ as_words names.now) }
     ensures fault { IsOkUnless result NoMemory }
@@ -252,7 +262,7 @@ fn copies_of(alloc: Global, names: &[String]) -> Result<Vec<String>, Fault>
     Ok(copies)
 }
 
-/// An edit once more. Want of memory.
+/// An edit once more. `NoMemory` is its only fault.
 fn copy_of(alloc: Global, edit: &Edit) -> Result<Edit, Fault>
     ensures copy { IfOk result (λ copy. body_seen copy ≡ body_seen edit.now) }
     ensures fault { IsOkUnless result NoMemory }

@@ -1,7 +1,10 @@
 // The text of an Insert.
-ghost use Rattle.std.specs.Prelude.{◌≡◌, ℕ, ◌∷◌, [], length, IfOk, IsOkUnless};
+ghost use Rattle.std.specs.Prelude.{◌≡◌, ◌≢◌, ℕ, ◌∷◌, [], length, IfOk, IfNone, IfSome, IsOkUnless};
+ghost use Rattle.std.specs.Str.{chars};
+ghost use Rattle.rt_ops.specs.Rules.{is_text as is_text_of};
 ghost use Rattle.rt_stamps.specs.declared.fault.Fault.TheVariants.{NoMemory};
 
+use crate::rules::is_text;
 use rt_stamps::Fault;
 use std::alloc::Global;
 use std::marker::Model;
@@ -53,6 +56,18 @@ impl Text {
         }
     }
 
+    /// The characters of a string. A single one takes no memory. `NoMemory` is its only fault.
+    pub(crate) fn of_str(alloc: Global, string: &str) -> Result<Text, Fault>
+        ensures ok { IfOk result (λ text. text ≡ chars string.now) }
+        ensures fault { IsOkUnless result NoMemory }
+    {
+        if let Some(character) = only_char(string) {
+            return Ok(Text::of(character));
+        }
+        let characters: Vec<char> = string.chars().collect(alloc)?;
+        Ok(Text::new(characters))
+    }
+
     /// The text once more: a single character takes no memory. `NoMemory` is its only fault.
     pub fn copied(&self, alloc: Global) -> Result<Text, Fault>
         ensures copy { IfOk result (λ text. text ≡ self.now) }
@@ -66,6 +81,16 @@ impl Text {
         }
     }
 
+    /// Whether the text keeps its rules.
+    pub(crate) fn keeps_rules(&self) -> bool
+        ensures { result ≡ is_text_of self.now }
+    {
+        match &self.kept {
+            Kept::One(character) => is_text(slice::from_ref(character)),
+            Kept::Many(characters) => is_text(characters),
+        }
+    }
+
     /// The characters.
     pub fn characters(&self) -> &[char]
         ensures { result.now ≡ self.now }
@@ -74,5 +99,18 @@ impl Text {
             Kept::One(character) => slice::from_ref(character),
             Kept::Many(characters) => characters.as_slice(),
         }
+    }
+}
+
+/// The only character of a string, if it has one and no more.
+fn only_char(string: &str) -> Option<char>
+    ensures only { IfSome result (λ character. chars string.now ≡ character ∷ []) }
+    ensures none { IfNone result (length (chars string.now) ≢ 1) }
+{
+    let mut characters = string.chars();
+    let first = characters.next()?;
+    match characters.next() {
+        Some(_) => None,
+        None => Some(first),
     }
 }

@@ -22,7 +22,7 @@ use Rattle.rt_peers.specs.Peers.{text_led, with_widget, without_widget}
 use Rattle.rt_peers.specs.PeerStep.{created, destroyed, destroyed_at, last_check, path_check, peer_step, text_with_peer}
 use Rattle.rt_peers.specs.Reading.{reads}
 use Rattle.rt_peers.specs.SiteStep.{AnswersInTurn, Gives, KeepsOperations, MakesAndTries, SiteReceives, at_widget, by_widget, step_at}
-use Rattle.rt_peers.specs.SiteValue.{SiteValue, number_of}
+use Rattle.rt_peers.specs.SiteValue.{SiteValue, number_of_path}
 use Rattle.rt_peers.specs.ViewStep.{Outcome, as_outcome, changed_step, one_word}
 use Rattle.rt_peers.proofs.OptionLaws.{configured_is, limited_leaves, one_more}
 use Rattle.rt_peers.proofs.Coming.{file_of, made_of}
@@ -159,14 +159,14 @@ pub settings_kept : (path : Word) (settings : WidgetSettings) (old new : SiteVal
     → AnswersInTurn (step_at path old (Configure settings)) old result new → KeepsOperations old new
 settings_kept path settings old new result h =
     kept_in_turn (step_at path old (Configure settings)) old new result
-    (λ mid a. at_keeps (number_of path old.paths) (λ place. by_widget place old (λ text. settings_step text settings)) old mid result
+    (λ mid a. at_keeps (number_of_path path old.paths) (λ place. by_widget place old (λ text. settings_step text settings)) old mid result
     (λ place b. by_keeps place old mid (λ text. settings_step text settings) result (set_stays settings) b) a) h
 
 pub option_kept : (path : Word) (option : NamedOption) (old new : SiteValue) (result : Result (List Word) Fault)
     → AnswersInTurn (step_at path old (Cget option)) old result new → KeepsOperations old new
 option_kept path option old new result h =
     kept_in_turn (step_at path old (Cget option)) old new result
-    (λ mid a. at_keeps (number_of path old.paths) (λ place. by_widget place old (λ text. option_step text option)) old mid result
+    (λ mid a. at_keeps (number_of_path path old.paths) (λ place. by_widget place old (λ text. option_step text option)) old mid result
     (λ place b. by_keeps place old mid (λ text. option_step text option) result (told_stays option) b) a) h
 
 -- a request that only reads leaves the site as it was
@@ -181,11 +181,11 @@ pub peers_kept : (path : Word) (request : PeerRequest) (old new : SiteValue) (re
     → AnswersInTurn (step_at path old (Peer request)) old result new → KeepsOperations old new
 peers_kept path request old new result h =
     kept_in_turn (step_at path old (Peer request)) old new result
-    (λ mid a. at_keeps (number_of path old.paths) (λ place. peer_step path place old request) old mid result
+    (λ mid a. at_keeps (number_of_path path old.paths) (λ place. peer_step path place old request) old mid result
     (λ place b. peer_keeps path place old mid request result b) a) h
 
 pub destroyed_kept : (path : Word) (old new : SiteValue) → destroyed path old ≡ Ok new → KeepsOperations old new
-destroyed_kept path old new h = destroyed_keeps (number_of path old.paths) old new h
+destroyed_kept path old new h = destroyed_keeps (number_of_path path old.paths) old new h
 
 -- COMMANDS
 

@@ -28,7 +28,7 @@ use Rattle.rt_holding.specs.Holding.{reply_for, reply_to, with_taken, without}
 use Rattle.rt_holding.specs.Receiving.{Behind, Offers, Receives, State, one_more}
 use Rattle.rt_holding.specs.Replies.{Reply}
 use Rattle.rt_holding.specs.Replies as replies
-use Rattle.rt_holding.specs.Taken.{IsOffered, IsRefused, holding, replied}
+use Rattle.rt_holding.specs.Taken.{IsOffered, IsRefused, site_holding, replied}
 use Rattle.rt_holding.proofs.Exchanged.{HasLog, before, by_stamp, come_front, of_reverse}
 use Rattle.rt_holding.proofs.Fronts.{EndsWell, all_offered, front_read, well_told}
 use Rattle.rt_holding.proofs.Settling.{nothing_tried}
@@ -99,7 +99,7 @@ abbrev is_full_for : ℕ → Operation → List Operation → Bool
 is_full_for limit op set = nat_lt limit (length (cells_of set) + length (inserted op))
 
 -- a history of operations of two logs
-record IsAmong (one other set : List Operation) : Type 0 where
+record IsHistoryFrom (one other set : List Operation) : Type 0 where
   history : IsHistory set
   some : (x : Operation) → HasOp set x → HasOp one x ⊎ HasOp other x
 
@@ -108,7 +108,7 @@ module _ {Site : Type 0} (log : Site → List Operation) (limit : Site → ℕ) 
   Logs set s = HasLog log limit after set s
 
   reply_is : (a : Answer) (op : Operation) (set : List Operation) (old : State Site) → Logs set old → answer_to op set ≡ a
-      → reply_to (limit old.site) op (holding log old.site old.held) ≡ reply_for (refused_if_full (is_full_for (limit old.site) op set) a) op old.held
+      → reply_to (limit old.site) op (site_holding log old.site old.held) ≡ reply_for (refused_if_full (is_full_for (limit old.site) op set) a) op old.held
   reply_is a op set old l e =
       ap (λ s. reply_for (answer_within (limit old.site) op s) op old.held) l.log_is
       ∙ ap (λ b. reply_for (refused_if_full (is_full_for (limit old.site) op set) b) op old.held) e
@@ -124,9 +124,9 @@ module _ {Site : Type 0} (log : Site → List Operation) (limit : Site → ℕ) 
   newly : (op : Operation) (o : Offered) (old new : State Site) (set : List Operation) → Logs set old → replied (Ok o) ≡ replies.New
       → IsOffered log after (limit old.site) op o old.site old.held new.site new.held → Logs (with_operation op set) new
   newly op (offerings.New more) old new set l e t =
-      let first = with_taken op (holding log old.site old.held) in
+      let first = with_taken op (site_holding log old.site old.held) in
       let none : first.held ≡ [] = ap (λ held. without op held) l.none in
-      let same = (nothing_tried (limit old.site) [] t.more first (holding log new.site new.held) none t.settles).0 in
+      let same = (nothing_tried (limit old.site) [] t.more first (site_holding log new.site new.held) none t.settles).0 in
       record { log_is = ap (λ s. s.log) same ∙ ap (with_operation op) l.log_is; none = ap (λ s. s.held) same ∙ none }
   newly op offerings.Repeat old new set l e t = absurd (cc e)
   newly op offerings.Held old new set l e t = absurd (cc e)
@@ -140,7 +140,7 @@ module _ {Site : Type 0} (log : Site → List Operation) (limit : Site → ℕ) 
 
   -- one that isn't refused is there afterwards
   goes : (op : Operation) (o : Offered) (set : List Operation) (old new : State Site) → IsHistory set → IsAnswered set op → Logs set old
-      → reply_to (limit old.site) op (holding log old.site old.held) ≡ replied (Ok o)
+      → reply_to (limit old.site) op (site_holding log old.site old.held) ≡ replied (Ok o)
       → IsOffered log after (limit old.site) op o old.site old.held new.site new.held → HasOneMore set op new
   goes op o set old new k (there i a) l r t = record {
     result = set;
@@ -160,8 +160,8 @@ module _ {Site : Type 0} (log : Site → List Operation) (limit : Site → ℕ) 
   goes op o set old new k (clashes q i c a) l r t = absurd (refuses o Conflict (sym r ∙ reply_is (Refused Conflict) op set old l a))
 
   -- and one that is refused finds no memory or no room, or clashes with one of both logs
-  ended : (op : Operation) (fault : Fault) (one other set : List Operation) (old : State Site) → IsAmong one other set → IsAnswered set op → Logs set old → HasOp other op
-      → IsRefused (reply_to (limit old.site) op (holding log old.site old.held)) fault → IsWantOrConflict one other fault
+  ended : (op : Operation) (fault : Fault) (one other set : List Operation) (old : State Site) → IsHistoryFrom one other set → IsAnswered set op → Logs set old → HasOp other op
+      → IsRefused (reply_to (limit old.site) op (site_holding log old.site old.held)) fault → IsWantOrConflict one other fault
   ended op fault one other set old m is l i (inr r) = inl r.0
   ended op fault one other set old m (there j a) l i (inl r) =
       absurd (let q : ◌≡◌ {A = Reply} replies.Repeat (replies.Refused fault) = sym (reply_is Repeat op set old l a) ∙ r in let n : ⊥ = cc q in n)
@@ -184,7 +184,7 @@ module _ {Site : Type 0} (log : Site → List Operation) (limit : Site → ℕ) 
   Ends one other set ops received new = (received.fault ≡ None → HasAll one other set ops new) × IfSome received.fault (λ found. IsWantOrConflict one other found.0)
 
   offers_end : (one other : List Operation) → IsHistory other → (ops : List Operation) (offsets : List ℕ) (behind : Behind) (old : State Site) (received : Received) (new : State Site) (seen set : List Operation)
-      → Offers log limit after ops offsets behind old received new → EndsWell behind → Logs set old → IsAmong one other set → AreIn seen set → AreIn ops other → ComeInTime other seen ops
+      → Offers log limit after ops offsets behind old received new → EndsWell behind → Logs set old → IsHistoryFrom one other set → AreIn seen set → AreIn ops other → ComeInTime other seen ops
       → Ends one other set ops received new
   offers_end one other h [] offsets behind old received new seen set f w l m a o t = (
     λ e. record { result = set; has = subst (λ s. Logs set s) (sym f.same) l; history = m.history; some = m.some; all = λ x i. elim i [ inl j ↦ j | inr j ↦ absurd j ] },
@@ -201,7 +201,7 @@ module _ {Site : Type 0} (log : Site → List Operation) (limit : Site → ℕ) 
       let bases : HasBasesIn other op set = λ base i u. a base (t.0 base i u) in
       let is = answered other set op h m.history (o op (inl refl)) bases in
       let next = goes op f.offered set old f.next m.history is l f.reply f.is_offered in
-      let among : IsAmong one other next.result = record {
+      let among : IsHistoryFrom one other next.result = record {
         history = next.history;
         some = λ x j. elim ((next.members x).0 j) [ inl k ↦ m.some x k | inr e ↦ inr (subst (HasOp other) e (o op (inl refl))) ];
       } in

@@ -14,7 +14,7 @@ use Rattle.rt_lines.specs.Stretches.{seen_place, stretch_of}
 use Rattle.rt_text.specs.Cursors.{place_of_stamp, stamp_at}
 use Rattle.rt_text.specs.Widgets.{ViewValue, view_as}
 use Rattle.rt_peers.specs.Cursors.{stamp_place_by, stamp_by}
-use Rattle.rt_peers.specs.SiteValue.{SiteValue, number_of}
+use Rattle.rt_peers.specs.SiteValue.{SiteValue, number_of_path}
 
 seen_within : (stretch : Stretch) (place : ℕ) → place < stretch.end - stretch.begin → seen_place stretch (stretch.begin + place) ≡ place
 seen_within stretch place lt = omega (arith, lt)
@@ -44,7 +44,7 @@ stamp_found {T} cells limits place stamp d h =
     by stretch false e k = absurd (cc k)
 
 pub cursor_found : (path : Word) (place : ℕ) (stamp : Stamp) (state : SiteValue) → AreDistinct state.text.view.doc.cells → stamp_by path place state ≡ Some stamp → stamp_place_by path stamp state ≡ Some place
-cursor_found path place stamp state d h = by (number_of path state.paths) h
+cursor_found path place stamp state d h = by (number_of_path path state.paths) h
   where
     by : (o : Option ℕ) → option_and_then (λ (view : ViewValue). stamp_at view.own.limits place view.doc.cells) (option_map (λ number. view_as number state.text.view) o) ≡ Some stamp
         → option_and_then (λ (view : ViewValue). place_of_stamp view.own.limits stamp view.doc.cells) (option_map (λ number. view_as number state.text.view) o) ≡ Some place

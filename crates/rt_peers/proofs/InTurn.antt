@@ -14,7 +14,7 @@ use Rattle.rt_stamps.specs.Words.{Word}
 use Rattle.rt_recording.specs.EditedValue.{EditedValue}
 use Rattle.rt_peers.specs.Peers.{text_led}
 use Rattle.rt_peers.specs.SiteStep.{AnswersInTurn, Gives, KeepsOperations, MakesAndTries, at_widget, by_leading, by_widget, has_made, log_of, outcome_at, widget_step}
-use Rattle.rt_peers.specs.SiteValue.{SiteValue, number_of}
+use Rattle.rt_peers.specs.SiteValue.{SiteValue, number_of_path}
 use Rattle.rt_peers.specs.Step.{step}
 use Rattle.rt_peers.specs.ViewStep.{Outcome, as_outcome}
 use Rattle.rt_peers.proofs.Gaining.{gains_none}
@@ -32,9 +32,9 @@ pub not_less : (n m : ℕ) → m ≤ n → nat_lt n m ≡ false
 not_less n m h = grind (arith, nat_tests)
 
 -- where operations were made, held ones are tried
-pub made : (outcome : Outcome SiteValue) (old mid new : SiteValue) (result : Result (List Word) Fault) → Answers outcome old result mid
+pub made_in_turn : (outcome : Outcome SiteValue) (old mid new : SiteValue) (result : Result (List Word) Fault) → Answers outcome old result mid
     → length (log_of old) < length (log_of mid) → MakesAndTries old mid new → AnswersInTurn outcome old result new
-made outcome old mid new result answers more makes =
+made_in_turn outcome old mid new result answers more makes =
     let test = less (length (log_of old)) (length (log_of mid)) more in
     (mid, answers, subst (λ (b : Bool). MatchBool b (MakesAndTries old mid new) (KeepsOperations old mid × (new ≡ mid))) (sym test) makes)
 
@@ -108,12 +108,12 @@ of_text path place state (Peer request) other = absurd (other request refl)
 
 -- COMMANDS
 
-no_widget : (path : Word) (state : SiteValue) (asked : Asked) → number_of path state.paths ≡ None → outcome_at path state asked ≡ Err NoWidget
+no_widget : (path : Word) (state : SiteValue) (asked : Asked) → number_of_path path state.paths ≡ None → outcome_at path state asked ≡ Err NoWidget
 no_widget path state (Ok request) none = ap (λ o. at_widget o (λ place. widget_step path place state request)) none
 no_widget path state (Err fault) none = ap (λ o. at_widget o (λ place. Err fault)) none
 
 -- where there is no widget of the path
-pub nowhere : (path : Word) (words : List Word) (old : SiteValue) → number_of path old.paths ≡ None → Gives path words old (Err NoWidget) old
+pub nowhere : (path : Word) (words : List Word) (old : SiteValue) → number_of_path path old.paths ≡ None → Gives path words old (Err NoWidget) old
 nowhere path words old none =
     let reading = asked_some words in
     record {
@@ -124,7 +124,7 @@ nowhere path words old none =
     }
 
 -- words that are refused, and words that ask for something; where memory was wanting before that was known, they ask for something too
-pub refused_at : (path : Word) (place : ℕ) (words : List Word) (old : SiteValue) (asked : Asked) (fault : Fault) → number_of path old.paths ≡ Some place
+pub refused_at : (path : Word) (place : ℕ) (words : List Word) (old : SiteValue) (asked : Asked) (fault : Fault) → number_of_path path old.paths ≡ Some place
     → Asks words asked ⊎ (asked ≡ Err NoMemory) → asked ≡ Err fault → Gives path words old (Err fault) old
 refused_at path place words old asked fault found (inl asks) is = record {
   asked = Err fault;
@@ -143,7 +143,7 @@ refused_at path place words old asked fault found (inr none) is =
     }
 
 pub asked_at : (path : Word) (place : ℕ) (words : List Word) (old new : SiteValue) (asked : Asked) (request : Request) (result : Result (List Word) Fault)
-    → number_of path old.paths ≡ Some place → Asks words asked ⊎ (asked ≡ Err NoMemory) → asked ≡ Ok request
+    → number_of_path path old.paths ≡ Some place → Asks words asked ⊎ (asked ≡ Err NoMemory) → asked ≡ Ok request
     → AnswersInTurn (widget_step path place old request) old result new → Gives path words old result new
 asked_at path place words old new asked request result found (inl asks) is answers = record {
   asked = Ok request;

@@ -9,7 +9,7 @@ use Rattle.rt_rga.specs.Requests.{Make, Request}
 use Rattle.rt_recording.specs.EditedValue.{EditedValue}
 use Rattle.rt_recording.specs.Edits.{text_with_new}
 use Rattle.rt_holding.specs.declared.receiving.Received.{Received}
-use Rattle.rt_holding.specs.Holding.{Holding, Settles, nothing}
+use Rattle.rt_holding.specs.Holding.{Holding, Settles, new_holding}
 use Rattle.rt_holding.specs.Receiving.{State as Holder}
 use Rattle.rt_oplog.specs.Logs.{AreOf}
 use Rattle.rt_holding.specs.Runs.{AreFree, IsGreatestHistoryWithin, IsHolding, Leads, NoneCouldBeTaken, Runs, at_first, brought_by, next, none}
@@ -31,12 +31,12 @@ taken_of site limit op text h = h
 -- A site that lived so has run through requests that brought what came to it, and keeps to what a site does that holds operations.
 pub record HasRun (site limit : ℕ) (state : SiteValue) (came : List Operation) : Type 0 where
   pub requests : List Request
-  pub runs : Runs site limit requests nothing (holding_of state) came
+  pub runs : Runs site limit requests new_holding (holding_of state) came
   pub holding : IsHolding limit (holding_of state)
   pub of : IsOf site limit state.text
   pub some : 0 < site
 
-nothing_holds : (limit : ℕ) → 0 < limit → IsHolding limit nothing
+nothing_holds : (limit : ℕ) → 0 < limit → IsHolding limit new_holding
 nothing_holds limit p = record {
   history = tt;
   room = p;
@@ -54,7 +54,7 @@ kept_runs site limit old new came r k =
     let same : holding_of old ≡ holding_of new = λ i. record { log = sym k.log i; held = sym k.held i } in
     record {
       requests = r.requests;
-      runs = subst (λ t. Runs site limit r.requests nothing t came) same r.runs;
+      runs = subst (λ t. Runs site limit r.requests new_holding t came) same r.runs;
       holding = subst (IsHolding limit) same r.holding;
       of = (k.site ∙ r.of.0, k.limit ∙ r.of.1);
       some = r.some;
@@ -88,7 +88,7 @@ own_runs old mid new before h r =
     let after = tried_keep (IsOf (site_of mid) (cell_limit mid)) (taken_of (site_of mid) (cell_limit mid)) (text_limit mid.text) (holding_of mid) mid.text new.text new.held h.tries.count h.tries.tried (refl, refl) in
     record {
       requests = r.requests ++ Make h.drafts ∷ [];
-      runs = runs_on site limit r.requests (Make h.drafts ∷ []) nothing (holding_of old) (holding_of new) before (made_by h) r.runs one;
+      runs = runs_on site limit r.requests (Make h.drafts ∷ []) new_holding (holding_of old) (holding_of new) before (made_by h) r.runs one;
       holding = requests_keep site limit (Make h.drafts) (holding_of old) (holding_of new) h.tries.tried.more r.some r.holding h.makes.may leads;
       of = (after.0 ∙ h.makes.site, after.1 ∙ h.makes.limit);
       some = r.some;
@@ -113,7 +113,7 @@ file_runs bytes old new received before h r =
     let goes = file_goes text_log text_limit text_with_new (λ op text. refl) site bytes from received to h.text r.some r.holding in
     record {
       requests = r.requests ++ goes.requests;
-      runs = runs_on site limit r.requests goes.requests nothing (holding_of old) (holding_of new) before (came_to bytes old received new h) r.runs goes.runs;
+      runs = runs_on site limit r.requests goes.requests new_holding (holding_of old) (holding_of new) before (came_to bytes old received new h) r.runs goes.runs;
       holding = goes.holding;
       of = received_keep (IsOf site limit) (taken_of site limit) bytes from received to h.text (refl, refl);
       some = r.some;

@@ -15,7 +15,7 @@ use Rattle.rt_changes.specs.declared.change.ToTell.{ToTell}
 use Rattle.rt_changes.specs.Replays.{VisibleChange, changes_of}
 use Rattle.rt_changes.specs.Telling.{IsToTell, changes_in, placed}
 use Rattle.rt_changes.proofs.Telling.{placed_changes}
-use Rattle.rt_holding.specs.Taken.{holding}
+use Rattle.rt_holding.specs.Taken.{site_holding}
 use Rattle.rt_holding.proofs.Settling.{taken_in_turn}
 use Rattle.rt_recording.specs.EditedValue.{EditedValue}
 use Rattle.rt_peers.specs.SiteStep.{TextTries, text_limit, text_log}
@@ -198,6 +198,6 @@ none_left log from h = drop_all from (reverse (each_change log)) (let n = length
 pub no_shorter : (old : EditedValue) (held : List Operation) (new : EditedValue) (left : List Operation) → TextTries old held new left
     → length (text_log old) ≤ length (text_log new)
 no_shorter old held new left h =
-    let log = (taken_in_turn (text_limit old) [] h.1.more (holding text_log old held) (holding text_log new left) h.1.settles).0 in
+    let log = (taken_in_turn (text_limit old) [] h.1.more (site_holding text_log old held) (site_holding text_log new left) h.1.settles).0 in
     let more = operations_longer h.1.more (text_log old) in
     omega (arith, ap length log, more)

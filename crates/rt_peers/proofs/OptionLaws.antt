@@ -17,7 +17,7 @@ use Rattle.rt_lines.specs.Choices.{limits_chosen}
 use Rattle.rt_peers.specs.Options.{choice_of, text_configured}
 use Rattle.rt_peers.specs.Peers.{text_led, with_widget}
 use Rattle.rt_peers.specs.PeerStep.{created, path_check, text_with_peer}
-use Rattle.rt_peers.specs.SiteValue.{SiteValue, number_of}
+use Rattle.rt_peers.specs.SiteValue.{SiteValue, number_of_path}
 use Rattle.rt_peers.specs.ViewStep.{as_outcome, one_word}
 use Rattle.rt_peers.proofs.PeerLaws.{led_number, text_back}
 
@@ -104,7 +104,7 @@ made_doc place old new settings said =
     let end = choice_of settings.end_line in
     (one_more led.view (text_led place new).view start end (configured_is led (text_led place new) settings.shared (with_peer led.view start end) said)).0
 
-pub created_as : (place : ℕ) (path : Word) (state new : SiteValue) (settings : WidgetSettings) → is_some (number_of path state.paths) ≡ false
+pub created_as : (place : ℕ) (path : Word) (state new : SiteValue) (settings : WidgetSettings) → is_some (number_of_path path state.paths) ≡ false
     → text_with_peer (text_led place state.text) settings ≡ Ok (text_led place new.text) → new.paths ≡ state.paths ++ path ∷ [] → new.held ≡ state.held
     → created place path state settings (path_check path state.paths) ≡ Ok (one_word path, new)
 created_as place path state new settings free said paths held =
@@ -113,7 +113,7 @@ created_as place path state new settings free said paths held =
     ∙ ap (as_outcome (λ text. (one_word path, with_widget place path state text))) said
     ∙ (λ i. Ok (one, record { paths = sym paths i; text = text_back new.text place i; held = sym held i }))
 
-pub created_refused : (place : ℕ) (path : Word) (state : SiteValue) (settings : WidgetSettings) (fault : Fault) → is_some (number_of path state.paths) ≡ false
+pub created_refused : (place : ℕ) (path : Word) (state : SiteValue) (settings : WidgetSettings) (fault : Fault) → is_some (number_of_path path state.paths) ≡ false
     → Refuses (text_with_peer (text_led place state.text) settings) fault → Refuses (created place path state settings (path_check path state.paths)) fault
 created_refused place path state settings fault free (inl e) = inl e
 created_refused place path state settings fault free (inr e) = inr (

@@ -16,7 +16,7 @@ use Rattle.rt_recording.specs.EditedValue.{EditedValue}
 use Rattle.rt_text.specs.Widgets.{WidgetValue, ViewValue, widgets_of}
 use Rattle.rt_peers.specs.Peers.{HavePaths, text_led, view_led, view_without}
 use Rattle.rt_peers.specs.SiteStep.{by_leading, by_widget}
-use Rattle.rt_peers.specs.SiteValue.{SiteValue, new_view, number_of}
+use Rattle.rt_peers.specs.SiteValue.{SiteValue, new_view, number_of_path}
 use Rattle.rt_peers.specs.ViewStep.{Outcome, as_outcome}
 
 -- ONE LEADS
@@ -83,16 +83,16 @@ split : {A : Type 0} (b : Bool) → (b ≡ true → A) → (b ≡ false → A) �
 split true f g = f refl
 split false f g = g refl
 
-pub place_within : (path : Word) (paths : List Word) (place : ℕ) → number_of path paths ≡ Some place → place < length paths
+pub place_within : (path : Word) (paths : List Word) (place : ℕ) → number_of_path path paths ≡ Some place → place < length paths
 place_within path paths place e = (position-Some (λ other. bytes_eq other path) paths place [] e).0
 
 -- paths as strings
-pub place_of_strings : (path : Word) (paths : List (String Global)) → number_of path (as_words paths) ≡ position (λ w. bytes_eq (string_bytes w) path) paths
+pub place_of_strings : (path : Word) (paths : List (String Global)) → number_of_path path (as_words paths) ≡ position (λ w. bytes_eq (string_bytes w) path) paths
 place_of_strings path paths = position_map (λ other. bytes_eq other path) (λ w. string_bytes w) paths
 
-pub place_in : (path : Word) (strings items : List (String Global)) (paths : List Word) (found : Option ℕ) → found ≡ number_of path (as_words strings) → strings ≡ items
-    → as_words items ≡ paths → number_of path paths ≡ found
-place_in path strings items paths found e f g = sym (e ∙ ap (λ l. number_of path (as_words l)) f ∙ ap (number_of path) g)
+pub place_in : (path : Word) (strings items : List (String Global)) (paths : List Word) (found : Option ℕ) → found ≡ number_of_path path (as_words strings) → strings ≡ items
+    → as_words items ≡ paths → number_of_path path paths ≡ found
+place_in path strings items paths found e f g = sym (e ∙ ap (λ l. number_of_path path (as_words l)) f ∙ ap (number_of_path path) g)
 
 pub number_of_strings : (paths : List (String Global)) → length (as_words paths) ≡ length paths
 number_of_strings paths = length-map paths (λ w. string_bytes w)
@@ -129,7 +129,7 @@ pub first_path : (paths : List Word) (view : ViewValue) (path : Word) (site limi
 unfolding IsDistinct
 first_path paths view path site limit e f = record { each = ap length e ∙ sym (ap (λ v. length (widgets_of v)) f); differ = subst (IsDistinct bytes_eq) (sym e) (tt, tt) }
 
-pub one_more_path : (paths : List Word) (view new : ViewValue) (path : Word) → HavePaths paths view → number_of path paths ≡ None → length (widgets_of new) ≡ length (widgets_of view) + 1
+pub one_more_path : (paths : List Word) (view new : ViewValue) (path : Word) → HavePaths paths view → number_of_path path paths ≡ None → length (widgets_of new) ≡ length (widgets_of view) + 1
     → HavePaths (paths ++ path ∷ []) new
 one_more_path paths view new path h none more =
     let last = reached (position_or_len (λ other. bytes_eq other path) paths) (length paths) (none_first _ _ none) in

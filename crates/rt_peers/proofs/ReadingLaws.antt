@@ -28,7 +28,7 @@ use Rattle.rt_recording.specs.EditedValue.{EditedValue}
 use Rattle.rt_peers.specs.Options.{option_step}
 use Rattle.rt_peers.specs.Reading.{mark_reads, reads, tag_reads, edit_reads, text_as, told_at}
 use Rattle.rt_peers.specs.SiteStep.{at_widget, by_widget, step_at, widget_step}
-use Rattle.rt_peers.specs.SiteValue.{SiteValue, number_of}
+use Rattle.rt_peers.specs.SiteValue.{SiteValue, number_of_path}
 use Rattle.rt_peers.specs.Step.{edit_step, on_view, step}
 use Rattle.rt_peers.specs.ViewStep.{Outcome, as_outcome, element_words, get_step, mark_step, one_word, tag_step, told_step, word_or_none}
 use Rattle.rt_peers.proofs.PeerLaws.{text_back}
@@ -125,7 +125,7 @@ request_told path number state (requests.Cget option) h = option_told number sta
 
 -- where there is such a widget
 pub reads_told : (path : Word) (request : Request) (state : SiteValue) → reads request ≡ true → step_at path state request ≡ told_at path state request
-reads_told path request state h = by (number_of path state.paths)
+reads_told path request state h = by (number_of_path path state.paths)
   where
     by : (o : Option ℕ) → at_widget o (λ number. widget_step path number state request) ≡ at_widget o (λ number. told state (step (text_as number state.text) request))
     by None = refl
@@ -147,5 +147,5 @@ stays_at state mid (Some number) outcome words h = stays state mid (outcome numb
 pub told_leaves : (path : Word) (request : Request) (old mid : SiteValue) (result : Result (List Word) Fault) → reads request ≡ true
     → Answers (step_at path old request) old result mid → mid ≡ old
 told_leaves path request old mid (Ok words) r h =
-    stays_at old mid (number_of path old.paths) (λ number. step (text_as number old.text) request) words (sym (reads_told path request old r) ∙ h)
+    stays_at old mid (number_of_path path old.paths) (λ number. step (text_as number old.text) request) words (sym (reads_told path request old r) ∙ h)
 told_leaves path request old mid (Err fault) r h = h.0

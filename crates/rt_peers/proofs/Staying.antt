@@ -52,7 +52,7 @@ use Rattle.rt_holding.specs.declared.held.Offered.TheVariants as offerings
 use Rattle.rt_holding.specs.declared.receiving.Received.{Received}
 use Rattle.rt_holding.specs.Receiving.{Behind, Offers, Receives, State as Holder}
 use Rattle.rt_holding.specs.Holding.{Holding, with_taken}
-use Rattle.rt_holding.specs.Taken.{AreTried, IsOffered, all_after, holding}
+use Rattle.rt_holding.specs.Taken.{AreTried, IsOffered, all_after, site_holding}
 use Rattle.rt_peers.specs.SiteStep.{text_limit, text_log}
 use Rattle.rt_peers.specs.Options.{choice_of, text_set}
 use Rattle.rt_peers.proofs.OptionLaws.{configured_is, limited_leaves}
@@ -291,7 +291,7 @@ module _ (P : EditedValue → Type 0) (keeps : (op : Operation) (text : EditedVa
   offered_keeps : (limit : ℕ) (op : Operation) (offered : Offered) (old : EditedValue) (held : List Operation) (new : EditedValue) (left : List Operation)
       → IsOffered text_log text_with_new limit op offered old held new left → P old → P new
   offered_keeps limit op (offerings.New more) old held new left h p =
-      tried_keep limit (with_taken op (holding text_log old held)) (text_with_new op old) new left more h (keeps op old p)
+      tried_keep limit (with_taken op (site_holding text_log old held)) (text_with_new op old) new left more h (keeps op old p)
   offered_keeps limit op offerings.Repeat old held new left h p = subst P (sym h.0) p
   offered_keeps limit op offerings.Held old held new left h p = subst P (sym h.0) p
 

@@ -19,7 +19,7 @@ use Rattle.rt_holding.specs.declared.receiving.Received.{Received}
 use Rattle.rt_holding.specs.Receiving.{Receives, State as Holder}
 use Rattle.rt_holding.specs.Runs.{AreTakenInTurn}
 use Rattle.rt_holding.specs.Seeing.{BecameByTaking}
-use Rattle.rt_holding.specs.Taken.{AreTried, all_after, holding}
+use Rattle.rt_holding.specs.Taken.{AreTried, all_after, site_holding}
 use Rattle.rt_holding.proofs.Keeping.{with_all}
 use Rattle.rt_holding.proofs.Seen.{files_seen, files_taken}
 use Rattle.rt_holding.proofs.Settling.{taken_in_turn}
@@ -90,14 +90,14 @@ all_seen [] t = refl
 all_seen (op ∷ ops) t = all_seen ops (telling_with_new op t)
 
 module _ (held left : List Operation) (old new : TellingText) (count : ℕ)
-    (h : AreTried log_in telling_with_new (limit_in old) (holding log_in old held) old new left count) where
-  pub text_tries : AreTried text_log text_with_new (limit_in old) (holding text_log (text_in old) held) (text_in old) (text_in new) left count
+    (h : AreTried log_in telling_with_new (limit_in old) (site_holding log_in old held) old new left count) where
+  pub text_tries : AreTried text_log text_with_new (limit_in old) (site_holding text_log (text_in old) held) (text_in old) (text_in new) left count
   text_tries = record { more = h.more; settles = h.settles; each = ap text_in h.each ∙ all_seen h.more old; counted = h.counted }
 
   pub tried_told : HasToldMore (text_in old) (text_in new) (told_in old) (told_in new)
   tried_told = record {
     ops = h.more;
-    turn = (taken_in_turn (limit_in old) [] h.more (holding log_in old held) (holding log_in new left) h.settles).1;
+    turn = (taken_in_turn (limit_in old) [] h.more (site_holding log_in old held) (site_holding log_in new left) h.settles).1;
     log = ap log_in h.each ∙ all_logged h.more old;
     told = ap told_in h.each ∙ all_told h.more old;
   }

@@ -7,11 +7,11 @@ use Rattle.rt_stamps.specs.Words.{Word}
 use Rattle.rt_index.specs.Index.{index_of}
 use Rattle.rt_text.specs.Cursors.{place_of_stamp, stamp_at}
 use Rattle.rt_text.specs.Widgets.{ViewValue, view_as, widget_of}
-use Rattle.rt_peers.specs.SiteValue.{SiteValue, number_of}
+use Rattle.rt_peers.specs.SiteValue.{SiteValue, number_of_path}
 
 -- the text as the widget of a path shows it; none where there is no such widget
 abbrev pub widget_by : Word → SiteValue → Option ViewValue
-widget_by path state = option_map (λ number. view_as number state.text.view) (number_of path state.paths)
+widget_by path state = option_map (λ number. view_as number state.text.view) (number_of_path path state.paths)
 
 -- the place of an index in what a widget shows, where there is one
 abbrev pub index_in : Word → Option ViewValue → Result ℕ Fault

@@ -15,7 +15,9 @@ use Rattle.rt_peers.specs.SiteValue.{SiteValue}
 
 -- CALLS
 
--- a call that may change a site, with what it is given; `SiteState` has a call of each name, and `receive_telling` is a Receive
+-- A call that may change a site, with what it is given. `SiteState` has a call of each name; `receive_telling` is a Receive,
+-- `answer_telling` an Answer, `command_telling` a Command. What is asked of a number (`ask`, `ask_telling`, `undo`, `redo`) is an Answer of
+-- the path with that number (`laws::numbers`); where it is refused for its number, or as one of peers, the site is as it was.
 pub data Event : Type 0 where
   -- command words of the widget of a path
   Command : (path : Word) (words : List Word) → Event

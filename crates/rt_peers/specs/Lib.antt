@@ -12,6 +12,7 @@ pub mod Reading
 pub mod SiteStep
 pub mod SiteValue
 pub mod Step
+pub mod TakesNone
 pub mod Telling
 pub mod ViewStep
 pub mod WholeText

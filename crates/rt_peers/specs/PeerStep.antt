@@ -1,5 +1,5 @@
--- What is asked of the widgets of a site by a command of one of them, and by the line `destroy PATH` (Tk text manual, "PEER
--- WIDGETS"): the reply and the site after it, or why it is refused.
+-- What is asked of the widgets of a site by a command of one of them (Tk text manual, "PEER WIDGETS"), and by the line `destroy PATH`
+-- (Tk's command `destroy`): the reply and the site after it, or why it is refused.
 use Rattle.std.specs.Prelude.{◌≡◌, ℕ, not, nat_lt, List, [], filter, length, Option, Some, None, Result, Ok, Err, IfErr, IfOk, OnErr, OnOk, if◌then◌else◌}
 use Rattle.std.specs.Str.{bytes_eq}
 use Rattle.rt_stamps.specs.declared.fault.Fault.{Fault}
@@ -11,7 +11,7 @@ use Rattle.rt_requests.specs.declared.peers.PeerRequest.TheVariants.{Create, Nam
 use Rattle.rt_requests.specs.declared.settings.WidgetSettings.{WidgetSettings}
 use Rattle.rt_recording.specs.EditedValue.{EditedValue}
 use Rattle.rt_text.specs.Limited.{with_peer}
-use Rattle.rt_peers.specs.SiteValue.{SiteValue, is_widget, number_of}
+use Rattle.rt_peers.specs.SiteValue.{SiteValue, is_widget, number_of_path}
 use Rattle.rt_peers.specs.Options.{choice_of, text_configured}
 use Rattle.rt_peers.specs.ViewStep.{Outcome, as_outcome, one_word}
 use Rattle.rt_peers.specs.Peers.{text_led, with_widget, without_widget}
@@ -54,7 +54,7 @@ destroyed_at (Some number) state = unless (last_check state.paths) (without_widg
 
 -- the widget of a path is no longer there
 abbrev pub destroyed : Word → SiteValue → Result SiteValue Fault
-destroyed path state = destroyed_at (number_of path state.paths) state
+destroyed path state = destroyed_at (number_of_path path state.paths) state
 
 -- The widget of a path goes, and the reply has no words; or it is refused, and the site is as it was.
 pub record Destroys (path : Word) (old : SiteValue) (result : Result (List Word) Fault) (new : SiteValue) : Type 0 where

@@ -12,7 +12,7 @@ use Rattle.rt_requests.specs.declared.request.TagRequest.TheVariants as tags
 use Rattle.rt_recording.specs.EditedValue.{EditedValue}
 use Rattle.rt_text.specs.Widgets.{view_as}
 use Rattle.rt_peers.specs.SiteStep.{at_widget}
-use Rattle.rt_peers.specs.SiteValue.{SiteValue, number_of}
+use Rattle.rt_peers.specs.SiteValue.{SiteValue, number_of_path}
 use Rattle.rt_peers.specs.Step.{step}
 use Rattle.rt_peers.specs.ViewStep.{Outcome, as_outcome}
 
@@ -75,4 +75,4 @@ text_as number text = record text { view = view_as number text.view }
 -- what is replied of the text as the widget of a path shows it, by a site that stays as it is
 abbrev pub told_at : Word → SiteValue → Request → Outcome SiteValue
 told_at path state request =
-    at_widget (number_of path state.paths) (λ number. as_outcome (λ answer. (answer.0, state)) (step (text_as number state.text) request))
+    at_widget (number_of_path path state.paths) (λ number. as_outcome (λ answer. (answer.0, state)) (step (text_as number state.text) request))

@@ -11,12 +11,12 @@ use Rattle.rt_recording.specs.EditedValue.{EditedValue}
 use Rattle.rt_recording.specs.Edits.{text_with_new}
 use Rattle.rt_holding.specs.declared.receiving.Received.{Received}
 use Rattle.rt_holding.specs.Receiving.{Receives}
-use Rattle.rt_holding.specs.Taken.{AreTried, holding}
+use Rattle.rt_holding.specs.Taken.{AreTried, site_holding}
 use Rattle.rt_ops.specs.Operations.{Body, Operation}
 use Rattle.rt_rga.specs.Drafts.{with_drafts}
 use Rattle.rt_rga.specs.Requests.{MayBeMade, fit}
 use Rattle.rt_peers.specs.PeerStep.{peer_step}
-use Rattle.rt_peers.specs.SiteValue.{SiteValue, holding_of, number_of}
+use Rattle.rt_peers.specs.SiteValue.{SiteValue, holding_of, number_of_path}
 use Rattle.rt_peers.specs.Step.{step}
 use Rattle.rt_peers.specs.ViewStep.{Outcome, as_outcome}
 use Rattle.rt_peers.specs.Peers.{text_led}
@@ -41,12 +41,12 @@ widget_step path number state request = by_widget number state (λ text. step te
 
 -- a request to the widget of a path
 abbrev pub step_at : Word → SiteValue → Request → Outcome SiteValue
-step_at path state request = at_widget (number_of path state.paths) (λ number. widget_step path number state request)
+step_at path state request = at_widget (number_of_path path state.paths) (λ number. widget_step path number state request)
 
 -- words that ask it for something, or that are refused
 abbrev pub outcome_at : Word → SiteValue → Asked → Outcome SiteValue
 outcome_at path state (Ok request) = step_at path state request
-outcome_at path state (Err fault) = at_widget (number_of path state.paths) (λ number. Err fault)
+outcome_at path state (Err fault) = at_widget (number_of_path path state.paths) (λ number. Err fault)
 
 -- HELD OPERATIONS
 
@@ -59,7 +59,7 @@ text_limit text = text.view.doc.limit
 
 -- held operations are tried for a text, and some of them are taken
 abbrev pub TextTries : EditedValue → List Operation → EditedValue → List Operation → Type 0
-TextTries old held new left = (count : ℕ) × AreTried text_log text_with_new (text_limit old) (holding text_log old held) old new left count
+TextTries old held new left = (count : ℕ) × AreTried text_log text_with_new (text_limit old) (site_holding text_log old held) old new left count
 
 -- Held operations are tried: those that can be taken are, one after the other, and change the text as received ones do.
 pub record Tries (old new : SiteValue) : Type 0 where
@@ -119,7 +119,7 @@ pub record Gives (path : Word) (words : List Word) (old : SiteValue) (result : R
   pub asked : Asked
   pub asks : Asks words asked
   pub answers : AnswersInTurn (outcome_at path old asked) old result new
-  pub none : number_of path old.paths ≡ None → (result ≡ Err NoWidget) × (new ≡ old)
+  pub none : number_of_path path old.paths ≡ None → (result ≡ Err NoWidget) × (new ≡ old)
 
 -- OPERATIONS OF OTHER SITES
 

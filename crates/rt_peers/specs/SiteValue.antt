@@ -29,11 +29,11 @@ abbrev pub new_site : ℕ → ℕ → SiteValue
 new_site site limit = record { paths = codes ".t" ∷ []; text = new_text site limit; held = [] }
 
 -- which of some widgets has a path
-abbrev pub number_of : Word → List Word → Option ℕ
-number_of path paths = position (λ other. bytes_eq other path) paths
+abbrev pub number_of_path : Word → List Word → Option ℕ
+number_of_path path paths = position (λ other. bytes_eq other path) paths
 
 abbrev pub is_widget : Word → List Word → Bool
-is_widget path paths = is_some (number_of path paths)
+is_widget path paths = is_some (number_of_path path paths)
 
 -- the operations that it accepted, and those that it holds
 abbrev pub holding_of : SiteValue → Holding

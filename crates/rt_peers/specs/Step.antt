@@ -24,7 +24,8 @@ use Rattle.rt_peers.specs.ViewStep.{Outcome, as_outcome, as_piece, changed_step,
 abbrev pub on_view : EditedValue → Outcome ViewValue → Outcome EditedValue
 on_view text = as_outcome (λ answer. (answer.0, record text { view = answer.1 }))
 
--- whether edits are recorded and there is a group to undo, or one to redo (Tk text manual, "edit canundo", "edit canredo")
+-- whether edits are recorded and there is a group to undo, or one to redo (Tk text manual, "edit canundo", "edit canredo"; that `-undo`
+-- counts is by Tk's code)
 abbrev pub can_undo : EditedValue → Bool
 can_undo text = text.undo && is_some (next_undo text.history)
 
@@ -59,5 +60,6 @@ step text (Tag request) = on_view text (tag_step text.view request)
 step text (Edit request) = edit_step text request
 step text (Configure settings) = settings_step text settings
 step text (Cget option) = option_step text option
--- never asked: of peers the site answers
+-- a text by itself has no peers: a widget that is asked by its path has the site answer (`widget_step`), one that is asked by its number
+-- answers so (`step_by`)
 step text (Peer request) = Err BadCommand

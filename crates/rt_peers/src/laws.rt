@@ -24,7 +24,7 @@ ghost use Rattle.rt_peers.specs.Peers.{text_led};
 ghost use Rattle.rt_peers.specs.PeerStep.{destroyed};
 ghost use Rattle.rt_peers.specs.Reading.{reads, told_at};
 ghost use Rattle.rt_peers.specs.SiteStep.{AnswersInTurn, Gives, KeepsOperations, by_widget, log_of, step_at};
-ghost use Rattle.rt_peers.specs.SiteValue.{SiteValue, number_of};
+ghost use Rattle.rt_peers.specs.SiteValue.{SiteValue, number_of_path};
 ghost use Rattle.rt_peers.specs.ViewStep.{Outcome, one_word};
 ghost use Rattle.rt_peers.specs.WholeText.{ShowsAll, get_all};
 ghost use Rattle.rt_store.specs.Cells.{text_of};
@@ -46,9 +46,9 @@ pub fn telling()
 
 /// What the widget of a number is asked is what that of its path is asked, but for its peers; and both show the same.
 pub fn numbers()
-    ensures asked { (path : Word) (number : ℕ) (state : SiteValue) (request : Request) → number_of path state.paths ≡ Some number
+    ensures asked { (path : Word) (number : ℕ) (state : SiteValue) (request : Request) → number_of_path path state.paths ≡ Some number
         → ((peers : PeerRequest) → request ≢ Peer peers) → step_by number state request ≡ step_at path state request }
-    ensures shown { (path : Word) (number : ℕ) (state : SiteValue) → number_of path state.paths ≡ Some number
+    ensures shown { (path : Word) (number : ℕ) (state : SiteValue) → number_of_path path state.paths ≡ Some number
         → view_by number state ≡ widget_by path state }
 {}
 

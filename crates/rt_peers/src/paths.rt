@@ -4,7 +4,7 @@ ghost use Rattle.std.specs.List.{position};
 ghost use Rattle.std.specs.Str.{bytes_eq};
 ghost use Rattle.rt_stamps.specs.Words.{as_words};
 ghost use Rattle.rt_peers.specs.PeerStep.{other_paths};
-ghost use Rattle.rt_peers.specs.SiteValue.{number_of};
+ghost use Rattle.rt_peers.specs.SiteValue.{number_of_path};
 
 use rt_stamps::Fault;
 use std::alloc::Global;
@@ -26,7 +26,7 @@ fn position_of(strings: &[String], text: &str) -> Option<usize>
 /// Which of some paths is this one.
 #[inline(always)]
 pub(crate) fn number_of(paths: &[String], path: &str) -> Option<usize>
-    ensures { result ≡ number_of path.now (as_words paths.now) }
+    ensures { result ≡ number_of_path path.now (as_words paths.now) }
 {
     position_of(paths, path)
 }

@@ -1,11 +1,12 @@
 // A site, and what is asked of its widgets.
-ghost use Rattle.std.specs.Prelude.{◌≡◌, ◌<◌, ◌≤◌, Err, IfOk, IsOkUnless, None, length};
+ghost use Rattle.std.specs.Prelude.{◌≡◌, ◌<◌, ◌≤◌, Err, IfErr, IfOk, IsOkUnless, None, length, true};
 ghost use Rattle.rt_stamps.specs.declared.limits.TheConstants.{MOST_CELLS};
 ghost use Rattle.rt_stamps.specs.Words.{as_words};
 ghost use Rattle.rt_peers.specs.Peers.{HavePaths};
 ghost use Rattle.rt_peers.specs.SiteStep.{AnswersInTurn, Gives, by_widget, step_at, widget_step};
-ghost use Rattle.rt_peers.specs.SiteValue.{new_site, number_of};
+ghost use Rattle.rt_peers.specs.SiteValue.{new_site, number_of_path};
 ghost use Rattle.rt_peers.specs.Step.{step};
+ghost use Rattle.rt_peers.specs.TakesNone.{takes_none};
 
 mod cursors;
 mod exchange;
@@ -92,7 +93,8 @@ impl SiteState {
     // memory; then the site is as it was. Where it made operations, held ones are tried then.
     fn ask_text(&mut self, number: usize, request: &Request<'_>) -> Result<Reply, Fault>
         requires { number < length self.old.paths }
-        ensures { AnswersInTurn (by_widget number self.old (λ text. step text request.now)) self.old result self.new }
+        ensures answers { AnswersInTurn (by_widget number self.old (λ text. step text request.now)) self.old result self.new }
+        ensures memory { takes_none request.now ≡ true → IfErr result (λ fault. by_widget number self.old (λ text. step text request.now) ≡ Err fault) }
     {
         let before = self.text.log().len();
         let reply = self.text.ask(number, request);
@@ -106,7 +108,8 @@ impl SiteState {
     // What is asked of the widget of a path, which is the one of a number.
     fn request(&mut self, path: &str, number: usize, request: &Request<'_>) -> Result<Reply, Fault>
         requires { number < length self.old.paths }
-        ensures { AnswersInTurn (widget_step path.now number self.old request.now) self.old result self.new }
+        ensures answers { AnswersInTurn (widget_step path.now number self.old request.now) self.old result self.new }
+        ensures memory { takes_none request.now ≡ true → IfErr result (λ fault. widget_step path.now number self.old request.now ≡ Err fault) }
     {
         match request {
             Request::Peer(request) => self.peers(path, number, request),
@@ -114,13 +117,15 @@ impl SiteState {
         }
     }
 
-    /// What is asked of the widget of a path. Refused by the first of `NoWidget` and the request's own
-    /// faults (docs/WIDGET.md, docs/PEERS.md, by command), or for want of memory; then the site is as it was. Where the site made operations for it, those that
-    /// it holds are tried then, and those that can be taken change text, marks and tags as received ones do; the
-    /// reply speaks of the state before that.
+    /// What is asked of the widget of a path. Refused by the first of `NoWidget` and the request's own faults
+    /// (docs/WIDGET.md, docs/PEERS.md, by command), or for want of memory in place of any but `NoWidget`; then the site is
+    /// as it was. Requests that take no memory (`takes_none`) are refused by their own faults alone. Where the site made
+    /// operations for it, those that it holds are tried then, and those that can be taken change text, marks and tags as
+    /// received ones do; the reply speaks of the state before that.
     pub fn answer(&mut self, path: &str, request: &Request<'_>) -> Result<Reply, Fault>
         ensures answers { AnswersInTurn (step_at path.now self.old request.now) self.old result self.new }
-        ensures none { number_of path.now self.old.paths ≡ None → result ≡ Err Fault.NoWidget }
+        ensures none { number_of_path path.now self.old.paths ≡ None → result ≡ Err Fault.NoWidget }
+        ensures memory { takes_none request.now ≡ true → IfErr result (λ fault. step_at path.now self.old request.now ≡ Err fault) }
     {
         let Some(number) = number_of(&self.paths, path) else {
             return Err(Fault::NoWidget);

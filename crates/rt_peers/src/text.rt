@@ -1,11 +1,12 @@
 // The text of a site, and what is asked of the widget that commands.
-ghost use Rattle.std.specs.Prelude.{◌≡◌, ◌<◌, ◌≤◌, IfOk, IsOkUnless, length};
+ghost use Rattle.std.specs.Prelude.{◌≡◌, ◌<◌, ◌≤◌, Err, IfErr, IfOk, IsOkUnless, length, true};
 ghost use Rattle.rt_stamps.specs.declared.limits.TheConstants.{MOST_CELLS};
 ghost use Rattle.rt_stamps.specs.Outcomes.{Answers};
 ghost use Rattle.rt_text.specs.Widgets.{view_as, widgets_of};
 ghost use Rattle.rt_peers.specs.SiteStep.{by_leading};
 ghost use Rattle.rt_peers.specs.SiteValue.{new_text};
 ghost use Rattle.rt_peers.specs.Step.{step};
+ghost use Rattle.rt_peers.specs.TakesNone.{takes_none};
 
 mod editing;
 mod exchange;
@@ -84,7 +85,8 @@ impl EditedText {
     /// What is asked of the widget. Refused by the request's own faults, or for want of memory; then
     /// all is as it was. What is asked of its peers isn't the text's to answer.
     pub(crate) fn request(&mut self, request: &Request<'_>) -> Result<Reply, Fault>
-        ensures { Answers (step self.old request.now) self.old result self.new }
+        ensures answers { Answers (step self.old request.now) self.old result self.new }
+        ensures memory { takes_none request.now ≡ true → IfErr result (λ fault. step self.old request.now ≡ Err fault) }
     {
         match request {
             Request::Insert { index, texts } => self.insert(index, texts),
@@ -115,7 +117,8 @@ impl EditedText {
     /// What is asked of the widget of a number, as `request` of the one that commands.
     pub(crate) fn ask(&mut self, number: usize, request: &Request<'_>) -> Result<Reply, Fault>
         requires { number < length (widgets_of self.old.view) }
-        ensures { Answers (by_leading number self.old (λ text. step text request.now)) self.old result self.new }
+        ensures answers { Answers (by_leading number self.old (λ text. step text request.now)) self.old result self.new }
+        ensures memory { takes_none request.now ≡ true → IfErr result (λ fault. by_leading number self.old (λ text. step text request.now) ≡ Err fault) }
     {
         self.lead(number);
         let reply = self.request(request);

@@ -18,7 +18,7 @@ use Rattle.rt_rga.specs.Requests.{characters_in_all}
 use Rattle.rt_rga.proofs.Appending.{characters_append}
 use Rattle.rt_plans.specs.Deletions.{Loss, delete_drafts, newline_left}
 use Rattle.rt_plans.specs.DocValue.{DocValue}
-use Rattle.rt_plans.specs.InsertionDrafts.{behind, insertion_drafts, inserts_of, pieces_drafts, tags_on, text_drafts}
+use Rattle.rt_plans.specs.InsertionDrafts.{last_element, insertion_drafts, inserts_of, pieces_drafts, tags_put_on, text_drafts}
 use Rattle.rt_plans.specs.Insertions.{Insertion, Piece, cells_of_inserts, further_tags, insertion_of, inserts_for, new_state, on_left, shared_names, tagged_cells, tags_between, with_listed, with_pieces, with_unlisted}
 use Rattle.rt_plans.specs.NamedSpans.{first_parts, parts_of, spans_in}
 use Rattle.rt_plans.specs.RemovalDrafts.{removal_drafts}
@@ -42,7 +42,7 @@ newline_none : (stamp : Stamp) (names : List Word) → characters_in_all (newlin
 newline_none stamp [] = refl
 newline_none stamp (name ∷ names) = omega (arith, newline_none stamp names)
 
-tags_on_none : (span : Span) (names : List Word) → characters_in_all (tags_on span names) ≡ 0
+tags_on_none : (span : Span) (names : List Word) → characters_in_all (tags_put_on span names) ≡ 0
 tags_on_none span [] = refl
 tags_on_none span (name ∷ names) = omega (arith, tags_on_none span names)
 
@@ -91,7 +91,7 @@ inserts_characters (suc inserts) site count after names text c =
     let l = length-take MOST_CHARACTERS text in
     let m = length-drop MOST_CHARACTERS text in
     let more : IsCut inserts MOST_CHARACTERS (length others) = subst (IsCut inserts MOST_CHARACTERS) (sym m) (cut_more inserts MOST_CHARACTERS (length text) c) in
-    let tags = tags_on (record { site = site; first = count + 1; last = last }) further in
+    let tags = tags_put_on (record { site = site; first = count + 1; last = last }) further in
     let rest = inserts_of site (last + length further) (record { count = last; site = site }) names (first_parts inserts MOST_CHARACTERS others) in
     let all : characters_in_all (tags ++ rest) ≡ length others =
     omega (
@@ -140,10 +140,10 @@ pieces_length (piece ∷ pieces) site after so_far =
     let names = shared_names piece.tags in
     let text = chars piece.text in
     let next = with_listed site piece.tags text so_far in
-    let drafts = text_drafts MOST_CHARACTERS site so_far.count (behind after so_far.cells) names text in
+    let drafts = text_drafts MOST_CHARACTERS site so_far.count (last_element after so_far.cells) names text in
     let more = pieces_drafts MOST_CHARACTERS site after pieces next in
     let a = characters_append drafts more in
-    let t = text_characters site so_far.count (behind after so_far.cells) names text in
+    let t = text_characters site so_far.count (last_element after so_far.cells) names text in
     let m = more_length site so_far next names text (listed_more site so_far piece.tags text) in
     let r = pieces_length pieces site after next in
     omega (arith, a, t, m, r)
@@ -155,9 +155,9 @@ insertion_length site after left right pieces rest start =
     let neighbour = on_left left listed.cells in
     let names = tags_between neighbour right in
     let text = chars rest in
-    let drafts = text_drafts MOST_CHARACTERS site listed.count (behind after listed.cells) names text in
+    let drafts = text_drafts MOST_CHARACTERS site listed.count (last_element after listed.cells) names text in
     let a = characters_append (pieces_drafts MOST_CHARACTERS site after pieces start) drafts in
-    let t = text_characters site listed.count (behind after listed.cells) names text in
+    let t = text_characters site listed.count (last_element after listed.cells) names text in
     let m = more_length site listed (insertion_of site left right pieces rest start) names text (unlisted_more site neighbour right listed text) in
     let r = pieces_length pieces site after start in
     omega (arith, a, t, m, r)

@@ -13,7 +13,7 @@ use Rattle.rt_stamps.specs.Stamps.{is_same}
 use Rattle.rt_store.specs.Cells.{is_in_span}
 use Rattle.rt_store.specs.Spans.{each_next, is_among, is_clear_of, is_in_spans, is_span, last_stamp, next_stamp}
 use Rattle.rt_store.proofs.Distinct.{split}
-use Rattle.rt_plans.specs.NamedSpans.{by_site, first_stamp, spans_in}
+use Rattle.rt_plans.specs.NamedSpans.{by_site, first_in_span, spans_in}
 use Rattle.rt_plans.proofs.NamedSpanLaws.{by_site_sorted, spans_forward, spans_hold, tail_next}
 use Rattle.rt_plans.proofs.SpanLaws.{clear_runs}
 
@@ -47,7 +47,7 @@ none_behind x s (y ∷ ys) h r =
     let p = and_parts (is_clear_of x y) (list_all (is_clear_of x) ys) h in
     or_from (is_in_span y s) _ (not_there x y s p.0 r) (none_behind x s ys p.1 r)
 
-has_first : (x : Span) → is_span x ≡ true → is_in_span x (first_stamp x) ≡ true
+has_first : (x : Span) → is_span x ≡ true → is_in_span x (first_in_span x) ≡ true
 has_first x f = grind (arith, nat_tests)
 
 only_first : (b c : Bool) → c ≡ false → (b || c) ≡ true → b ≡ true
@@ -65,21 +65,21 @@ record Alike (y z : Span) (ys zs : List Span) : Type 0 where
 swapped : (y z : Span) (ys zs : List Span) → Alike y z ys zs → Alike z y zs ys
 swapped y z ys zs h = record { forward_y = h.forward_z; forward_z = h.forward_y; clear_y = h.clear_z; clear_z = h.clear_y; same = λ s. sym (h.same s) }
 
-comes_later : (y z : Span) → is_span y ≡ true → is_span z ≡ true → reached z (first_stamp y) ≡ false → reached y (first_stamp z) ≡ true
+comes_later : (y z : Span) → is_span y ≡ true → is_span z ≡ true → reached z (first_in_span y) ≡ false → reached y (first_in_span z) ≡ true
 comes_later y z f g r = grind (arith, nat_tests)
 
-not_before : (y z : Span) → is_span z ≡ true → reached z (first_stamp y) ≡ false → is_in_span y (first_stamp z) ≡ false
+not_before : (y z : Span) → is_span z ≡ true → reached z (first_in_span y) ≡ false → is_in_span y (first_in_span z) ≡ false
 not_before y z g r = grind (arith, nat_tests)
 
 -- the first span of one list begins in that of the other
-begins_in : (y z : Span) (ys zs : List Span) → Alike y z ys zs → is_in_span z (first_stamp y) ≡ true
-begins_in y z ys zs h = split (reached z (first_stamp y))
-    (λ r. only_first (is_in_span z (first_stamp y)) _ (none_behind z (first_stamp y) zs h.clear_z r) (sym (h.same (first_stamp y)) ∙ or_left (is_in_span y (first_stamp y)) _ (has_first y h.forward_y)))
+begins_in : (y z : Span) (ys zs : List Span) → Alike y z ys zs → is_in_span z (first_in_span y) ≡ true
+begins_in y z ys zs h = split (reached z (first_in_span y))
+    (λ r. only_first (is_in_span z (first_in_span y)) _ (none_behind z (first_in_span y) zs h.clear_z r) (sym (h.same (first_in_span y)) ∙ or_left (is_in_span y (first_in_span y)) _ (has_first y h.forward_y)))
     (λ r.
-    let none : is_in_spans (y ∷ ys) (first_stamp z) ≡ false =
-    or_from (is_in_span y (first_stamp z)) _ (not_before y z h.forward_z r) (none_behind y (first_stamp z) ys h.clear_y (comes_later y z h.forward_y h.forward_z r)) in
-    let some : is_in_spans (z ∷ zs) (first_stamp z) ≡ true = or_left (is_in_span z (first_stamp z)) _ (has_first z h.forward_z) in
-    let bad : false ≡ true = sym none ∙ h.same (first_stamp z) ∙ some in
+    let none : is_in_spans (y ∷ ys) (first_in_span z) ≡ false =
+    or_from (is_in_span y (first_in_span z)) _ (not_before y z h.forward_z r) (none_behind y (first_in_span z) ys h.clear_y (comes_later y z h.forward_y h.forward_z r)) in
+    let some : is_in_spans (z ∷ zs) (first_in_span z) ≡ true = or_left (is_in_span z (first_in_span z)) _ (has_first z h.forward_z) in
+    let bad : false ≡ true = sym none ∙ h.same (first_in_span z) ∙ some in
     absurd (cc bad))
 
 behind_it : (y : Span) → is_in_span y (next_stamp (last_stamp y)) ≡ false
@@ -92,7 +92,7 @@ or_first : (b c : Bool) → (b || c) ≡ false → b ≡ false
 or_first true c h = h
 or_first false c h = refl
 
-ends_there : (y z : Span) → is_span y ≡ true → is_in_span z (first_stamp y) ≡ true → is_in_span z (next_stamp (last_stamp y)) ≡ false → nat_le z.last y.last ≡ true
+ends_there : (y z : Span) → is_span y ≡ true → is_in_span z (first_in_span y) ≡ true → is_in_span z (next_stamp (last_stamp y)) ≡ false → nat_le z.last y.last ≡ true
 ends_there y z f h k = grind (arith, nat_tests)
 
 -- and that ends no later
@@ -102,7 +102,7 @@ ends_by y z ys zs h =
     let none : is_in_spans (y ∷ ys) s ≡ false = or_from (is_in_span y s) _ (behind_it y) (none_behind y s ys h.clear_y (just_reached y)) in
     ends_there y z h.forward_y (begins_in y z ys zs h) (or_first (is_in_span z s) (is_in_spans zs s) (sym (h.same s) ∙ none))
 
-same_span : (y z : Span) → is_in_span z (first_stamp y) ≡ true → is_in_span y (first_stamp z) ≡ true → nat_le z.last y.last ≡ true → nat_le y.last z.last ≡ true → y ≡ z
+same_span : (y z : Span) → is_in_span z (first_in_span y) ≡ true → is_in_span y (first_in_span z) ≡ true → nat_le z.last y.last ≡ true → nat_le y.last z.last ≡ true → y ≡ z
 same_span y z a b c d =
     let site : y.site ≡ z.site = grind (arith, nat_tests, a) in
     let first : y.first ≡ z.first = grind (arith, nat_tests, a, b) in
@@ -116,12 +116,12 @@ pub one_list : (ys zs : List Span) → list_all is_span ys ≡ true → each_nex
     → ((s : Stamp) → is_in_spans ys s ≡ is_in_spans zs s) → ys ≡ zs
 one_list [] [] f h g k e = refl
 one_list [] (z ∷ zs) f h g k e =
-    let some : is_in_spans (z ∷ zs) (first_stamp z) ≡ true = or_left (is_in_span z (first_stamp z)) _ (has_first z (and_parts (is_span z) (list_all is_span zs) g).0) in
-    let bad : false ≡ true = e (first_stamp z) ∙ some in
+    let some : is_in_spans (z ∷ zs) (first_in_span z) ≡ true = or_left (is_in_span z (first_in_span z)) _ (has_first z (and_parts (is_span z) (list_all is_span zs) g).0) in
+    let bad : false ≡ true = e (first_in_span z) ∙ some in
     absurd (cc bad)
 one_list (y ∷ ys) [] f h g k e =
-    let some : is_in_spans (y ∷ ys) (first_stamp y) ≡ true = or_left (is_in_span y (first_stamp y)) _ (has_first y (and_parts (is_span y) (list_all is_span ys) f).0) in
-    let bad : false ≡ true = sym (e (first_stamp y)) ∙ some in
+    let some : is_in_spans (y ∷ ys) (first_in_span y) ≡ true = or_left (is_in_span y (first_in_span y)) _ (has_first y (and_parts (is_span y) (list_all is_span ys) f).0) in
+    let bad : false ≡ true = sym (e (first_in_span y)) ∙ some in
     absurd (cc bad)
 one_list (y ∷ ys) (z ∷ zs) f h g k e =
     let p = and_parts (is_span y) (list_all is_span ys) f in

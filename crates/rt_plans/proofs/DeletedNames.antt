@@ -22,7 +22,7 @@ use Rattle.rt_plans.specs.DraftLaws.{IsDocument}
 use Rattle.rt_plans.specs.DocValue.{DocValue}
 use Rattle.rt_plans.specs.Removals.{cells_at}
 use Rattle.rt_plans.specs.TagDrafts.{tag_deletion_drafts, tag_drafts, tag_drafts_at}
-use Rattle.rt_plans.specs.TagWrites.{changed_stamps, is_changed, tagged, with_tag, with_tag_at, without_tags}
+use Rattle.rt_plans.specs.TagWrites.{changed_stamps, is_changed, cell_with_tag, with_tag, with_tag_at, without_tags}
 use Rattle.rt_plans.proofs.DraftSteps.{AreKnownCells, known_cells, known_later}
 use Rattle.rt_plans.proofs.TagDocuments.{known_tagged, one_made, one_may_be_made, tag_stamps}
 use Rattle.rt_plans.proofs.TagNames.{CellsNamed, IsNamed, all_tagged_named, every_named}
@@ -52,7 +52,7 @@ none_changed name (c ∷ cs) p n h =
 none_stamps : (name : Word) (cells : List TaggedCell) → is_name name ≡ false → CellsNamed cells → changed_stamps name false (cells_at everywhere 0 cells) ≡ []
 none_stamps name cells n h = ap (λ l. map (λ (c : TaggedCell). c.stamp) l) (none_changed name cells 0 n h)
 
-same_cells : (site count : ℕ) (name : Word) (on : Bool) (cells : List TaggedCell) → map (tagged site count name on []) cells ≡ cells
+same_cells : (site count : ℕ) (name : Word) (on : Bool) (cells : List TaggedCell) → map (cell_with_tag site count name on []) cells ≡ cells
 same_cells site count name on [] = refl
 same_cells site count name on (c ∷ cs) = ap (λ l. c ∷ l) (same_cells site count name on cs)
 

@@ -18,7 +18,7 @@ use Rattle.rt_plans.specs.DocValue.{DocValue}
 use Rattle.rt_plans.specs.Listed.{AreListed, IsShared}
 use Rattle.rt_plans.specs.Removals.{cells_at}
 use Rattle.rt_plans.specs.TagDrafts.{tag_deletion_drafts, tag_drafts}
-use Rattle.rt_plans.specs.TagWrites.{changed_stamps, is_changed, tagged, with_tag_at, without_tag}
+use Rattle.rt_plans.specs.TagWrites.{changed_stamps, is_changed, cell_with_tag, with_tag_at, without_tag}
 use Rattle.rt_plans.proofs.ListedWrites.{every_cell, everywhere, nowhere_on}
 use Rattle.rt_plans.proofs.Putting.{cells_at_changed, tagged_state}
 use Rattle.rt_plans.proofs.TagEffects.{other_tag, stamp_kept}
@@ -32,10 +32,10 @@ stamps_step false true x y xs ys h s t = absurd (cc h)
 stamps_step false false x y xs ys h s t = t
 
 other_changed : (site count : ℕ) (name : Word) (on : Bool) (stamps : List Stamp) (other : Word) → bytes_eq other name ≡ false → (cells : List TaggedCell)
-    → changed_stamps other false (map (tagged site count name on stamps) cells) ≡ changed_stamps other false cells
+    → changed_stamps other false (map (cell_with_tag site count name on stamps) cells) ≡ changed_stamps other false cells
 other_changed site count name on stamps other e [] = refl
 other_changed site count name on stamps other e (c ∷ cs) =
-    let g : TaggedCell → TaggedCell = tagged site count name on stamps in
+    let g : TaggedCell → TaggedCell = cell_with_tag site count name on stamps in
     stamps_step (is_on other (g c).state) (is_on other c.state) (g c) c (filter (is_changed other false) (map g cs)) (filter (is_changed other false) cs)
     (ap says_on (other_tag site count name on stamps other e c)) (stamp_kept site count name on stamps c) (other_changed site count name on stamps other e cs)
 
@@ -44,7 +44,7 @@ pub other_still : (flat : DocValue) (name other : Word) → bytes_eq other name 
     → changed_stamps other false (cells_at everywhere 0 (with_tag_at flat everywhere false name).cells) ≡ changed_stamps other false (cells_at everywhere 0 flat.cells)
 other_still flat name other e =
     let stamps = changed_stamps name false (cells_at everywhere 0 flat.cells) in
-    ap (changed_stamps other false) (cells_at_changed (tagged flat.site flat.count name false stamps) (tagged_state flat.site flat.count name false stamps) everywhere 0 flat.cells)
+    ap (changed_stamps other false) (cells_at_changed (cell_with_tag flat.site flat.count name false stamps) (tagged_state flat.site flat.count name false stamps) everywhere 0 flat.cells)
     ∙ other_changed flat.site flat.count name false stamps other e (cells_at everywhere 0 flat.cells)
 
 -- a tag that is on no visible character names none

@@ -28,7 +28,7 @@ use Rattle.rt_plans.specs.DraftLaws.{AreTagNames, HaveTexts, IsDocument, IsEleme
 use Rattle.rt_plans.specs.DocValue.{DocValue, left_stamp}
 use Rattle.rt_plans.specs.Insertions.{Insertion, Piece, left_neighbour, on_left, tags_between, with_pieces}
 use Rattle.rt_plans.specs.Removals.{gone_at}
-use Rattle.rt_plans.specs.TagWrites.{bared, tagged, with_tag}
+use Rattle.rt_plans.specs.TagWrites.{bared, cell_with_tag, with_tag}
 use Rattle.rt_plans.proofs.DeletionDraftLaws.{document_named, stamps_gone, still_ends}
 use Rattle.rt_plans.proofs.DraftSteps.{AreKnownCells, known_cells, known_later}
 use Rattle.rt_plans.proofs.NewlineDrafts.{EndsAs, bared_named, bared_stamps, document_ends, loss_has, newline_names}
@@ -104,7 +104,7 @@ SomeLast cells = (front : List TaggedCell) × (last : TaggedCell) × HasLast cel
 
 tag_end : (flat : DocValue) (name : Word) (stamps : List Stamp) → SomeLast flat.cells → SomeLast (with_tag flat name false stamps).cells
 tag_end flat name stamps w =
-    let g = tagged flat.site flat.count name false stamps in
+    let g = cell_with_tag flat.site flat.count name false stamps in
     let change = tagged_state flat.site flat.count name false stamps w.1 in (
       map g w.0,
       g w.1,

@@ -35,7 +35,7 @@ use Rattle.rt_rga.proofs.Drafting.{count_after}
 use Rattle.rt_rga.proofs.Requests.{all_count_on}
 use Rattle.rt_rga.proofs.Writes.{state_append}
 use Rattle.rt_plans.specs.DocValue.{put_after}
-use Rattle.rt_plans.specs.InsertionDrafts.{inserts_of, tags_on, text_drafts}
+use Rattle.rt_plans.specs.InsertionDrafts.{inserts_of, tags_put_on, text_drafts}
 use Rattle.rt_plans.specs.Insertions.{cells_of_inserts, counts_for, further_tags, inserts_for, new_state, put_on, tagged_cells}
 use Rattle.rt_plans.specs.NamedSpans.{first_parts}
 use Rattle.rt_plans.proofs.CellLaws.{known_from, known_later, known_put, skip_from_newest}
@@ -83,7 +83,7 @@ put_behind {T} front x rest new root h =
     λ i. left i ++ new ++ right i
 
 -- new cells, the last one apart
-record EndsWith (new init : List TaggedCell) (last : TaggedCell) (stamp : Stamp) : Type 0 where
+record EndsInStamp (new init : List TaggedCell) (last : TaggedCell) (stamp : Stamp) : Type 0 where
   pub is : new ≡ init ++ last ∷ []
   pub last_stamp : last.stamp ≡ stamp
   pub apart : is_among (stamps_of init) stamp ≡ false
@@ -92,7 +92,7 @@ not_last : (first last site : ℕ) → first < last → is_same (record { count 
 not_last first last site h = grind (arith, nat_tests)
 
 ends_from : (first site last : ℕ) (state : List Write) (c : ℕ) (cs : List ℕ) → last ≡ first + length cs
-    → (init : List TaggedCell) × (x : TaggedCell) × EndsWith (cells_from first site state (c ∷ cs)) init x (record { count = last; site = site })
+    → (init : List TaggedCell) × (x : TaggedCell) × EndsInStamp (cells_from first site state (c ∷ cs)) init x (record { count = last; site = site })
 ends_from first site last state c [] h =
     let x : TaggedCell = record { stamp = record { count = first; site = site }; ch = c; gone = false; state = state } in
     let same : first ≡ last = omega arith in
@@ -182,7 +182,7 @@ written_inside count site last w first state (c ∷ cs) h k =
 -- Tags on the characters of an Insert, one after the other
 tags_written : (site count last : ℕ) (names : List Word) (log : List Operation) (xs ys : List TaggedCell) (state : List Write) (text : List ℕ) → 1 ≤ site → AreBelowNext count xs → AreBelowNext count ys
     → count + 1 + length text ≤ last + 1
-    → all_changed (operations_of site (tags_on (record { site = site; first = count + 1; last = last }) names) log) (xs ++ cells_from (count + 1) site state text ++ ys)
+    → all_changed (operations_of site (tags_put_on (record { site = site; first = count + 1; last = last }) names) log) (xs ++ cells_from (count + 1) site state text ++ ys)
     ≡ xs ++ cells_from (count + 1) site (state_after state (put_on site (greatest_last_count log) names)) text ++ ys
 tags_written site count last [] log xs ys state text p h k l = refl
 tags_written site count last (name ∷ names) log xs ys state text p h k l =
@@ -196,13 +196,13 @@ tags_written site count last (name ∷ names) log xs ys state text p h k l =
     map_append g (xs ++ new) ys ∙ ap (λ l. l ++ map g ys) (map_append g xs new)
     ∙ (λ i. written_outside count site last w xs p h i ++ written_inside count site last w (count + 1) state text (omega arith) l i ++ written_outside count site last w ys p k i) in
     let later : greatest_last_count (with_operation op log) ≡ n + 1 = count_after op log (omega arith) in
-    ap (all_changed (operations_of site (tags_on span names) (with_operation op log))) one
+    ap (all_changed (operations_of site (tags_put_on span names) (with_operation op log))) one
     ∙ tags_written site count last names (with_operation op log) xs ys (written w state) text p h k l
     ∙ ap (λ m. xs ++ cells_from (count + 1) site (state_after (written w state) (put_on site m names)) text ++ ys) later
 
 -- HOW MANY TAGS
 
-pub tags_counted : (span : Span) (names : List Word) (count : ℕ) → last_count_after count (tags_on span names) ≡ count + length names
+pub tags_counted : (span : Span) (names : List Word) (count : ℕ) → last_count_after count (tags_put_on span names) ≡ count + length names
 tags_counted span [] count = omega arith
 tags_counted span (name ∷ names) count = omega (arith, tags_counted span names (count + 1))
 
@@ -224,7 +224,7 @@ inserts_counted (suc inserts) site count after names text c =
     let span : Span = record { site = site; first = count + 1; last = last } in
     let first : count + 1 + (length part - 1) ≡ last = omega (arith, l, some) in
     let rest = inserts_counted inserts site (last + length further) next names others more in
-    count_append (tags_on span further) (inserts_of site (last + length further) next names (first_parts inserts MOST_CHARACTERS others)) (count + 1 + (length part - 1))
+    count_append (tags_put_on span further) (inserts_of site (last + length further) next names (first_parts inserts MOST_CHARACTERS others)) (count + 1 + (length part - 1))
     ∙ ap (λ n. last_count_after n (inserts_of site (last + length further) next names (first_parts inserts MOST_CHARACTERS others)))
     (tags_counted span further (count + 1 + (length part - 1)) ∙ ap (λ n. n + length further) first)
     ∙ omega (arith, rest, l, m, suc-mul inserts (length further))
@@ -249,7 +249,7 @@ inserts_put (suc inserts) site count log cells after names text p g h c =
     let listed = listed_by ROOT (take MOST_TAGS names) in
     let draft = Insert after (take MOST_TAGS names) part in
     let op = next_operation site draft log in
-    let tags = tags_on span further in
+    let tags = tags_put_on span further in
     let rest = inserts_of site (last + length further) next names (first_parts inserts MOST_CHARACTERS others) in
     let some = cut_some inserts MOST_CHARACTERS (length text) c in
     let l = length-take MOST_CHARACTERS text in

@@ -32,7 +32,7 @@ use Rattle.rt_rga.proofs.Requests.{all_count_on, drafts_for}
 use Rattle.rt_rga.proofs.Writes.{spans_name}
 use Rattle.rt_plans.specs.DraftLaws.{AreTagNames, IsElement}
 use Rattle.rt_plans.specs.DocValue.{put_after}
-use Rattle.rt_plans.specs.InsertionDrafts.{inserts_of, tags_on, text_drafts}
+use Rattle.rt_plans.specs.InsertionDrafts.{inserts_of, tags_put_on, text_drafts}
 use Rattle.rt_plans.specs.Insertions.{counts_for, further_tags, inserts_for, tagged_cells}
 use Rattle.rt_plans.specs.NamedSpans.{first_parts}
 use Rattle.rt_plans.proofs.DraftSteps.{stays_character}
@@ -111,7 +111,7 @@ in_one span s h = by (is_in_span span s) h
     by false h = h
 
 tags_may : (site : ℕ) (span : Span) (names : List Word) (log : List Operation) → is_span span ≡ true → list_all is_name names ≡ true → ((s : Stamp) → is_in_span span s ≡ true → has_character log s ≡ true)
-    → MayBeMade site log (tags_on span names)
+    → MayBeMade site log (tags_put_on span names)
 tags_may site span [] log h n f = tt
 tags_may site span (name ∷ names) log h n f =
     let p = and_parts (is_name name) (list_all is_name names) n in
@@ -142,7 +142,7 @@ inserts_may (suc inserts) site count log after names text g n t e c =
     let draft = Insert after (take MOST_TAGS names) part in
     let op = next_operation site draft log in
     let with_insert = with_operation op log in
-    let tags = tags_on span further in
+    let tags = tags_put_on span further in
     let after_tags = with_drafts site tags with_insert in
     let some = cut_some inserts MOST_CHARACTERS (length text) c in
     let l = length-take MOST_CHARACTERS text in

@@ -11,7 +11,7 @@ use Rattle.rt_store.specs.declared.cell.Cell.{Cell}
 use Rattle.rt_store.specs.Cells.{cells_from, stamps_of}
 use Rattle.rt_store.specs.Shown.{TaggedCell}
 use Rattle.rt_store.proofs.Shown.{map_append}
-use Rattle.rt_plans.specs.InsertionDrafts.{behind, inserts_of, tags_on, text_drafts}
+use Rattle.rt_plans.specs.InsertionDrafts.{last_element, inserts_of, tags_put_on, text_drafts}
 use Rattle.rt_plans.specs.Insertions.{counts_for, further_tags, inserts_for, new_state, on_left, tagged_cells}
 use Rattle.rt_plans.specs.NamedSpans.{first_parts}
 use Rattle.rt_plans.proofs.Planning.{cells_more, counts_more, inserts_more}
@@ -21,13 +21,13 @@ use Rattle.rt_plans.proofs.Planning.{cells_more, counts_more, inserts_more}
 pub drafts_more : (site count : ℕ) (after : Stamp) (names : List Word) (text part more : List ℕ) → 1 ≤ length text → part ≡ take MOST_CHARACTERS text → more ≡ drop MOST_CHARACTERS text
     → text_drafts MOST_CHARACTERS site count after names text
     ≡ Insert after (take MOST_TAGS names) part
-    ∷ (tags_on (record { site = site; first = count + 1; last = count + length part }) (further_tags names)
+    ∷ (tags_put_on (record { site = site; first = count + 1; last = count + length part }) (further_tags names)
     ++ text_drafts MOST_CHARACTERS site (count + length part + length (further_tags names)) (record { count = count + length part; site = site }) names more)
 drafts_more site count after names text part more h p m =
     let rest : inserts_for (length text - MOST_CHARACTERS) ≡ inserts_for (length (drop MOST_CHARACTERS text)) = ap inserts_for (sym (length-drop MOST_CHARACTERS text)) in
     ap (λ n. inserts_of site count after names (first_parts n MOST_CHARACTERS text)) (inserts_more (length text) h ∙ ap suc rest)
     ∙ (λ i. Insert after (take MOST_TAGS names) (sym p i)
-    ∷ (tags_on (record { site = site; first = count + 1; last = count + length (sym p i) }) (further_tags names)
+    ∷ (tags_put_on (record { site = site; first = count + 1; last = count + length (sym p i) }) (further_tags names)
     ++ text_drafts MOST_CHARACTERS site (count + length (sym p i) + length (further_tags names)) (record { count = count + length (sym p i); site = site }) names (sym m i)))
 
 pub drafts_joined : (old new all : List Body) (first : Body) (tags rest : List Body) → new ≡ old ++ first ∷ tags → all ≡ first ∷ (tags ++ rest) → new ++ rest ≡ old ++ all
@@ -73,11 +73,11 @@ pub last_append : {T : Type 0} (left : Option (Cell T)) (xs ys : List (Cell T)) 
 last_append left [] ys = refl
 last_append left (x ∷ xs) ys = last_append (Some x) xs ys
 
-last_behind : (left : Option TaggedCell) (after : Stamp) (ys : List TaggedCell) → stamp_or (on_left left ys) after ≡ behind (stamp_or left after) ys
+last_behind : (left : Option TaggedCell) (after : Stamp) (ys : List TaggedCell) → stamp_or (on_left left ys) after ≡ last_element (stamp_or left after) ys
 last_behind left after [] = refl
 last_behind left after (y ∷ ys) = any_default y ys after (stamp_or left after)
 
-pub behind_append : (after : Stamp) (xs ys : List TaggedCell) → behind after (xs ++ ys) ≡ behind (behind after xs) ys
+pub behind_append : (after : Stamp) (xs ys : List TaggedCell) → last_element after (xs ++ ys) ≡ last_element (last_element after xs) ys
 behind_append after xs ys = ap (λ o. stamp_or o after) (last_append None xs ys) ∙ last_behind (on_left None xs) after ys
 
 last_from : (x : TaggedCell) (after : Stamp) (count site : ℕ) (state : List Write) (text : List ℕ) → x.stamp ≡ record { count = count; site = site }
@@ -88,7 +88,7 @@ last_from x after count site state (c ∷ text) e =
     last_from (record { stamp = record { count = count + 1; site = site }; ch = c; gone = false; state = state }) after (count + 1) site state text refl
     ∙ (λ i. record { count = n i; site = site })
 
-pub behind_cells : (after : Stamp) (count site : ℕ) (state : List Write) (text : List ℕ) → 1 ≤ length text → behind after (cells_from (count + 1) site state text) ≡ record { count = count + length text; site = site }
+pub behind_cells : (after : Stamp) (count site : ℕ) (state : List Write) (text : List ℕ) → 1 ≤ length text → last_element after (cells_from (count + 1) site state text) ≡ record { count = count + length text; site = site }
 behind_cells after count site state [] h = absurd (omega arith)
 behind_cells after count site state (c ∷ text) h =
     let n : count + 1 + length text ≡ count + suc (length text) = omega arith in
@@ -96,17 +96,17 @@ behind_cells after count site state (c ∷ text) h =
     ∙ (λ i. record { count = n i; site = site })
 
 pub behind_more : (site count : ℕ) (after : Stamp) (names : List Word) (text part more : List ℕ) → 1 ≤ length text → part ≡ take MOST_CHARACTERS text → more ≡ drop MOST_CHARACTERS text
-    → behind after (tagged_cells site count names text)
-    ≡ behind (record { count = count + length part; site = site }) (tagged_cells site (count + length part + length (further_tags names)) names more)
+    → last_element after (tagged_cells site count names text)
+    ≡ last_element (record { count = count + length part; site = site }) (tagged_cells site (count + length part + length (further_tags names)) names more)
 behind_more site count after names text part more h p m =
     let t = take MOST_CHARACTERS text in
     let state = new_state site (count + length t) names in
     let rest = tagged_cells site (count + length t + length (further_tags names)) names (drop MOST_CHARACTERS text) in
     let some : 1 ≤ length t = omega (arith, length-take MOST_CHARACTERS text) in
-    ap (behind after) (cells_more site count names text h)
+    ap (last_element after) (cells_more site count names text h)
     ∙ behind_append after (cells_from (count + 1) site state t) rest
-    ∙ ap (λ a. behind a rest) (behind_cells after count site state t some)
-    ∙ (λ i. behind (record { count = count + length (sym p i); site = site }) (tagged_cells site (count + length (sym p i) + length (further_tags names)) names (sym m i)))
+    ∙ ap (λ a. last_element a rest) (behind_cells after count site state t some)
+    ∙ (λ i. last_element (record { count = count + length (sym p i); site = site }) (tagged_cells site (count + length (sym p i) + length (further_tags names)) names (sym m i)))
 
 -- COUNTS
 

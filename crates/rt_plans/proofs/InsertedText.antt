@@ -97,10 +97,10 @@ behind_step y ys zero x false g apart e rest =
 behind_step y ys (suc q) x false g apart e rest =
     subst (λ n. Cut (y ∷ ys) (suc n) (suc (suc q))) (sym (later x y ys (differs_visible y.stamp ys q x apart e))) (cut_shown y ys (suc (first_with x ys)) (suc q) g (rest q e))
 
-behind : {T : Type 0} (cells : List (Cell T)) (p : ℕ) (x : Cell T) → IsDistinct is_same (stamps_of cells) → slice_get (visible_of cells) p ≡ Some x → Cut cells (suc (first_with x cells)) (suc p)
-behind [] p x h e = let bad : ⊥ = cc in absurd bad
-behind (y ∷ ys) p x h e =
-    behind_step y ys p x y.gone refl (IsDistinct-head is_same y.stamp (stamps_of ys) h) e (λ q d. behind ys q x (IsDistinct-tail is_same y.stamp (stamps_of ys) h) d)
+cut_after_cell : {T : Type 0} (cells : List (Cell T)) (p : ℕ) (x : Cell T) → IsDistinct is_same (stamps_of cells) → slice_get (visible_of cells) p ≡ Some x → Cut cells (suc (first_with x cells)) (suc p)
+cut_after_cell [] p x h e = let bad : ⊥ = cc in absurd bad
+cut_after_cell (y ∷ ys) p x h e =
+    behind_step y ys p x y.gone refl (IsDistinct-head is_same y.stamp (stamps_of ys) h) e (λ q d. cut_after_cell ys q x (IsDistinct-tail is_same y.stamp (stamps_of ys) h) d)
 
 after_visible : {T : Type 0} (cells : List (Cell T)) (p : ℕ) (x : Cell T) → is_same x.stamp ROOT ≡ false → slice_get (visible_of cells) p ≡ Some x → suc p < length (visible_of cells)
     → after_element cells x.stamp ≡ suc (first_with x cells)
@@ -118,7 +118,7 @@ behind_left {T} cells (suc p) h k = by_cell (slice_get_cases (visible_of cells) 
     by_cell (inl w) =
         let root : is_same w.0.stamp ROOT ≡ false = same_sym w.0.stamp ROOT ∙ differs_visible ROOT cells p w.0 (IsDistinct-head is_same ROOT (stamps_of cells) h) w.2 in
         let left : left_stamp cells (suc p) ≡ w.0.stamp = ap (λ o. unwrap_or (option_map (λ (cell : Cell T). cell.stamp) o) ROOT) w.2 in
-        subst (λ n. Cut cells n (suc p)) (sym (ap (after_element cells) left ∙ after_visible cells p w.0 root w.2 k)) (behind cells p w.0 (IsDistinct-tail is_same ROOT (stamps_of cells) h) w.2)
+        subst (λ n. Cut cells n (suc p)) (sym (ap (after_element cells) left ∙ after_visible cells p w.0 root w.2 k)) (cut_after_cell cells p w.0 (IsDistinct-tail is_same ROOT (stamps_of cells) h) w.2)
     by_cell (inr w) = absurd (omega (arith, w.0))
 
 -- the new characters stand before the one at the place

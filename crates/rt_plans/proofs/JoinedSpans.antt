@@ -11,7 +11,7 @@ use Rattle.rt_stamps.specs.declared.stamp.Stamp.{Stamp}
 use Rattle.rt_store.specs.Cells.{is_in_span}
 use Rattle.rt_store.specs.Spans.{each_next, is_clear_of, is_in_spans, is_span}
 use Rattle.rt_store.proofs.Distinct.{split}
-use Rattle.rt_plans.specs.NamedSpans.{begins_by, first_stamp}
+use Rattle.rt_plans.specs.NamedSpans.{begins_by, first_in_span}
 use Rattle.rt_plans.proofs.SpanLaws.{Begins, each_next_from}
 
 -- sorted spans after one that is still open: those that aren't clear of it become one with it
@@ -62,16 +62,16 @@ joined_forward span (next ∷ spans) f g =
       | false ↦ joined_forward (record span { last = last }) spans (longer_forward span next.last f) q.1
     ]
 
-begins_first : (span : Span) (spans : List Span) → Begins (first_stamp span) (joined_from span spans)
+begins_first : (span : Span) (spans : List Span) → Begins (first_in_span span) (joined_from span spans)
 begins_first span [] = (span, [], refl, refl, refl)
 begins_first span (next ∷ spans) =
     let last = max span.last next.last in
-    elim (is_clear_of span next) as (λ b. Begins (first_stamp span) (cond b (span ∷ joined_from next spans) (joined_from (record span { last = last }) spans))) [
+    elim (is_clear_of span next) as (λ b. Begins (first_in_span span) (cond b (span ∷ joined_from next spans) (joined_from (record span { last = last }) spans))) [
       | true ↦ (span, joined_from next spans, refl, refl, refl)
       | false ↦ begins_first (record span { last = last }) spans
     ]
 
-clear_more : (span next : Span) (spans : List Span) → Begins (first_stamp next) spans → is_clear_of span next ≡ true → each_next is_clear_of spans ≡ true → each_next is_clear_of (span ∷ spans) ≡ true
+clear_more : (span next : Span) (spans : List Span) → Begins (first_in_span next) spans → is_clear_of span next ≡ true → each_next is_clear_of spans ≡ true → each_next is_clear_of (span ∷ spans) ≡ true
 clear_more span next spans b h k =
     let rest : each_next is_clear_of (b.0 ∷ b.1) ≡ true = ap (each_next is_clear_of) (sym b.2) ∙ k in
     let clear : is_clear_of span b.0 ≡ true = (λ i. nat_lt span.site (b.3 i) || ((span.site == b.3 i) && nat_lt (span.last + 1) (b.4 i))) ∙ h in

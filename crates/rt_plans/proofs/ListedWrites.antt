@@ -13,7 +13,7 @@ use Rattle.rt_store.specs.Cells.{visible_of, with_state, stamps_of}
 use Rattle.rt_tags.specs.States.{Write, above, below, is_on, is_settled, names_on, written}
 use Rattle.rt_tags.specs.Tags.{IsName, sel, is_listed, with_name, without}
 use Rattle.rt_tags.proofs.Places.{split, same_name, name_itself}
-use Rattle.rt_plans.specs.TagWrites.{listed_if, without_tag, without_tags, is_changed, changed_stamps, tag_write, tagged, with_tag_at}
+use Rattle.rt_plans.specs.TagWrites.{listed_if, without_tag, without_tags, is_changed, changed_stamps, tag_write, cell_with_tag, with_tag_at}
 use Rattle.rt_plans.specs.DocValue.{DocValue}
 use Rattle.rt_store.specs.Shown.{TaggedCell}
 use Rattle.rt_store.specs.Written.{IsWritten, AreWritten}
@@ -63,7 +63,7 @@ shared_written w state e h = by (is_settled w state)
         let Q : Write → Type 0 = λ v. bytes_eq v.name sel ≡ false in
         All-append Q (below w.name state) (w ∷ above w.name state) (All-filter _ Q state h) (All-cons Q w (above w.name state) e (All-filter _ Q state h))
 
-pub shared_tagged : (site count : ℕ) (name : Word) (on : Bool) (stamps : List Stamp) → bytes_eq name sel ≡ false → (cell : TaggedCell) → IsShared cell.state → IsShared (tagged site count name on stamps cell).state
+pub shared_tagged : (site count : ℕ) (name : Word) (on : Bool) (stamps : List Stamp) → bytes_eq name sel ≡ false → (cell : TaggedCell) → IsShared cell.state → IsShared (cell_with_tag site count name on stamps cell).state
 shared_tagged site count name on stamps e cell h = by (is_among stamps cell.stamp)
   where
     by : (b : Bool) → IsShared (cond b (record cell { state = written (tag_write site count name on stamps cell.stamp) cell.state }) cell).state
@@ -73,7 +73,7 @@ shared_tagged site count name on stamps e cell h = by (is_among stamps cell.stam
 tag_shared : (flat : DocValue) (places : ℕ → Bool) (on : Bool) (name : Word) → bytes_eq name sel ≡ false → All (λ c. IsShared c.state) flat.cells → All (λ c. IsShared c.state) (with_tag_at flat places on name).cells
 tag_shared flat places on name e h =
     let stamps = changed_stamps name on (cells_at places 0 flat.cells) in
-    all_map (λ c. IsShared c.state) (λ c. IsShared c.state) (tagged flat.site flat.count name on stamps) (shared_tagged flat.site flat.count name on stamps e) flat.cells h
+    all_map (λ c. IsShared c.state) (λ c. IsShared c.state) (cell_with_tag flat.site flat.count name on stamps) (shared_tagged flat.site flat.count name on stamps e) flat.cells h
 
 -- so the tags that are on are others
 pub shared_names_on : (state : List Write) → IsShared state → All (λ name. bytes_eq name sel ≡ false) (names_on state)
@@ -81,11 +81,11 @@ shared_names_on state h = All-map (λ name. bytes_eq name sel ≡ false) (λ w. 
 
 -- what is so of the visible cells, after a tag was written
 pub visible_after : (P Q : TaggedCell → Type 0) (flat : DocValue) (places : ℕ → Bool) (on : Bool) (name : Word)
-    → ((cell : TaggedCell) → P cell → Q (tagged flat.site flat.count name on (changed_stamps name on (cells_at places 0 flat.cells)) cell))
+    → ((cell : TaggedCell) → P cell → Q (cell_with_tag flat.site flat.count name on (changed_stamps name on (cells_at places 0 flat.cells)) cell))
     → All P (visible_of flat.cells) → All Q (visible_of (with_tag_at flat places on name).cells)
 visible_after P Q flat places on name f h =
     let stamps = changed_stamps name on (cells_at places 0 flat.cells) in
-    let g : TaggedCell → TaggedCell = tagged flat.site flat.count name on stamps in
+    let g : TaggedCell → TaggedCell = cell_with_tag flat.site flat.count name on stamps in
     subst (All Q) (sym (visible_changed g (tagged_state flat.site flat.count name on stamps) flat.cells)) (All-map Q g (visible_of flat.cells) (λ k d lt. f (get_or (visible_of flat.cells) k d) (h k d lt)))
 
 -- a tag that is put on is listed

@@ -16,10 +16,10 @@ use Rattle.rt_store.specs.Cells.{is_in_span}
 use Rattle.rt_store.specs.Spans.{each_next, is_span, precedes, next_stamp, is_in_spans, is_among}
 use Rattle.rt_store.proofs.Distinct.{split, first_apart, others_distinct}
 use Rattle.rt_stamps.specs.Spans.{span_of}
-use Rattle.rt_plans.specs.NamedSpans.{put_by_site, by_site, first_stamp, attached, runs, spans_in, parts_for, first_parts}
+use Rattle.rt_plans.specs.NamedSpans.{put_by_site, by_site, first_in_span, attached, consecutive_spans, spans_in, parts_for, first_parts}
 use Rattle.rt_plans.specs.Removals.{span_count}
 use Rattle.rt_plans.specs.TagWrites.{spans_before}
-use Rattle.rt_plans.proofs.SpanLaws.{Begins, all_after, begins_attached, counted_alike, counted_runs, forward_runs, held_runs, joined, none_between, not_next, one_held, one_span, self_not_next}
+use Rattle.rt_plans.proofs.SpanLaws.{Begins, all_after, begins_attached, counted_alike, counted_runs, forward_runs, held_runs, joined_span, none_between, not_next, one_held, one_span, self_not_next}
 
 -- STAMPS BY SITE
 
@@ -89,19 +89,19 @@ or_true : (b c : Bool) → b ≡ true → b || c ≡ true
 or_true true c h = refl
 or_true false c h = absurd (cc h)
 
-first_step : (t s : Stamp) (y : Span) (ys : List Span) (b : Bool) → is_same (first_stamp y) (next_stamp t) ≡ b → is_span y ≡ true → is_same t s ≡ true
+first_step : (t s : Stamp) (y : Span) (ys : List Span) (b : Bool) → is_same (first_in_span y) (next_stamp t) ≡ b → is_span y ≡ true → is_same t s ≡ true
     → span_at (cond b (record y { first = t.count } ∷ ys) (span_of t ∷ y ∷ ys)) s ≡ 0
-first_step t s y ys true e h k = cond-true (is_in_span (record y { first = t.count }) s) _ _ (joined (span_of t) y s e (one_span t) h ∙ or_true _ _ (one_held t s ∙ k))
+first_step t s y ys true e h k = cond-true (is_in_span (record y { first = t.count }) s) _ _ (joined_span (span_of t) y s e (one_span t) h ∙ or_true _ _ (one_held t s ∙ k))
 first_step t s y ys false e h k = cond-true (is_in_span (span_of t) s) _ _ (one_held t s ∙ k)
 
 first_at : (t s : Stamp) (ys : List Span) → list_all is_span ys ≡ true → is_same t s ≡ true → span_at (attached (span_of t) ys) s ≡ 0
 first_at t s [] h k = cond-true (is_in_span (span_of t) s) _ _ (one_held t s ∙ k)
-first_at t s (y ∷ ys) h k = first_step t s y ys (is_same (first_stamp y) (next_stamp t)) refl (and_parts (is_span y) (list_all is_span ys) h).0 k
+first_at t s (y ∷ ys) h k = first_step t s y ys (is_same (first_in_span y) (next_stamp t)) refl (and_parts (is_span y) (list_all is_span ys) h).0 k
 
-other_step : (t s : Stamp) (y : Span) (ys : List Span) (b : Bool) → is_same (first_stamp y) (next_stamp t) ≡ b → is_span y ≡ true → is_same t s ≡ false
+other_step : (t s : Stamp) (y : Span) (ys : List Span) (b : Bool) → is_same (first_in_span y) (next_stamp t) ≡ b → is_span y ≡ true → is_same t s ≡ false
     → span_at (cond b (record y { first = t.count } ∷ ys) (span_of t ∷ y ∷ ys)) s ≡ cond b 0 1 + span_at (y ∷ ys) s
 other_step t s y ys true e h k =
-    let same : is_in_span (record y { first = t.count }) s ≡ is_in_span y s = joined (span_of t) y s e (one_span t) h ∙ ap (λ b. b || is_in_span y s) (one_held t s ∙ k) in
+    let same : is_in_span (record y { first = t.count }) s ≡ is_in_span y s = joined_span (span_of t) y s e (one_span t) h ∙ ap (λ b. b || is_in_span y s) (one_held t s ∙ k) in
     let n : cond (is_in_span (record y { first = t.count }) s) 0 (span_at ys s + 1) ≡ cond (is_in_span y s) 0 (span_at ys s + 1) = ap (λ b. cond b 0 (span_at ys s + 1)) same in
     omega (arith, n)
 other_step t s y ys false e h k =
@@ -113,10 +113,10 @@ other_at : (t u s : Stamp) (zs : List Span) → Begins u zs → list_all is_span
 other_at t u s zs b h k =
     let y = b.0 in
     let ys = b.1 in
-    let first : first_stamp y ≡ u = λ i. record { count = b.4 i; site = b.3 i } in
+    let first : first_in_span y ≡ u = λ i. record { count = b.4 i; site = b.3 i } in
     let forward : list_all is_span (y ∷ ys) ≡ true = ap (list_all is_span) (sym b.2) ∙ h in
     ap (λ l. span_at (attached (span_of t) l) s) b.2
-    ∙ other_step t s y ys (is_same (first_stamp y) (next_stamp t)) refl (and_parts (is_span y) (list_all is_span ys) forward).0 k
+    ∙ other_step t s y ys (is_same (first_in_span y) (next_stamp t)) refl (and_parts (is_span y) (list_all is_span ys) forward).0 k
     ∙ ap (λ q. cond (is_same q (next_stamp t)) 0 1 + span_at (y ∷ ys) s) first
     ∙ ap (λ l. cond (is_same u (next_stamp t)) 0 1 + span_at l s) (sym b.2)
 
@@ -160,7 +160,7 @@ one_more true true x l h = omega arith
 one_more true false x l h = omega arith
 one_more false d x l h = absurd (cc h)
 
-pub before_runs : (ss : List Stamp) (s : Stamp) → each_next precedes ss ≡ true → is_among ss s ≡ true → spans_before ss s ≡ span_at (runs ss) s
+pub before_runs : (ss : List Stamp) (s : Stamp) → each_next precedes ss ≡ true → is_among ss s ≡ true → spans_before ss s ≡ span_at (consecutive_spans ss) s
 before_runs [] s h k = absurd (cc k)
 before_runs (t ∷ []) s h k = split (is_same t s)
     (λ e. ap length (cond-false (precedes t s && not (is_among (t ∷ []) (next_stamp t))) (t ∷ []) [] (and_left _ _ (not_itself t s e))) ∙ sym (first_at t s [] refl e))
@@ -171,7 +171,7 @@ before_runs (t ∷ u ∷ ss) s h k =
     let p = and_parts (precedes t u) (each_next precedes (u ∷ ss)) h in
     split (is_same t s)
     (λ e. ap length (cond-false (precedes t s && not (is_among all (next_stamp t))) (t ∷ ends_before all s (u ∷ ss)) (ends_before all s (u ∷ ss)) (and_left _ _ (not_itself t s e))
-    ∙ none_before all (u ∷ ss) t s e after) ∙ sym (first_at t s (runs (u ∷ ss)) (forward_runs (u ∷ ss)) e))
+    ∙ none_before all (u ∷ ss) t s e after) ∙ sym (first_at t s (consecutive_spans (u ∷ ss)) (forward_runs (u ∷ ss)) e))
     (λ e.
     let there : is_among (u ∷ ss) s ≡ true = ap (λ b. b || is_among (u ∷ ss) s) (sym e) ∙ k in
     let next : is_among all (next_stamp t) ≡ is_same u (next_stamp t) =
@@ -179,7 +179,7 @@ before_runs (t ∷ u ∷ ss) s h k =
     one_more (precedes t s) (is_among all (next_stamp t)) t (ends_before all s (u ∷ ss)) (before_among t s (u ∷ ss) after there)
     ∙ (λ i. cond (next i) 0 1 + length (ends_same t s (u ∷ ss) (u ∷ ss) after i))
     ∙ ap (λ n. cond (is_same u (next_stamp t)) 0 1 + n) (before_runs (u ∷ ss) s p.1 there)
-    ∙ sym (other_at t u s (runs (u ∷ ss)) (begins_attached u (runs ss)) (forward_runs (u ∷ ss)) e))
+    ∙ sym (other_at t u s (consecutive_spans (u ∷ ss)) (begins_attached u (consecutive_spans ss)) (forward_runs (u ∷ ss)) e))
 
 before_moved : (xs ys : List Stamp) (s : Stamp) → IsPermutation xs ys → spans_before xs s ≡ spans_before ys s
 before_moved xs ys s h =

@@ -28,7 +28,7 @@ use Rattle.rt_plans.specs.DocValue.{DocValue}
 use Rattle.rt_stamps.specs.Spans.{span_of}
 use Rattle.rt_plans.specs.Removals.{operations_for, span_count}
 use Rattle.rt_plans.specs.TagDrafts.{newline_drafts, tag_drafts}
-use Rattle.rt_plans.specs.TagWrites.{bared, tagged, with_tag}
+use Rattle.rt_plans.specs.TagWrites.{bared, cell_with_tag, with_tag}
 use Rattle.rt_plans.proofs.DraftSteps.{stays_character}
 use Rattle.rt_plans.proofs.PlaceLaws.{length_text}
 use Rattle.rt_plans.proofs.Putting.{tagged_state}
@@ -117,7 +117,7 @@ pub bared_stamps : (names : List Word) (flat : DocValue) (stamp : Stamp) → sta
 bared_stamps [] flat stamp = refl
 bared_stamps (name ∷ names) flat stamp =
     bared_stamps names (with_tag flat name false (stamp ∷ [])) stamp
-    ∙ stamps_changed (tagged flat.site flat.count name false (stamp ∷ [])) (tagged_state flat.site flat.count name false (stamp ∷ [])) flat.cells
+    ∙ stamps_changed (cell_with_tag flat.site flat.count name false (stamp ∷ [])) (tagged_state flat.site flat.count name false (stamp ∷ [])) flat.cells
 
 pub bared_named : (names : List Word) (flat : DocValue) (stamp : Stamp) → list_all is_name names ≡ true → CellsNamed flat.cells → CellsNamed (bared flat stamp names).cells
 bared_named [] flat stamp n h = h

@@ -23,7 +23,7 @@ use Rattle.rt_plans.specs.DraftLaws.{IsDocument}
 use Rattle.rt_plans.specs.DocValue.{DocValue}
 use Rattle.rt_plans.specs.Removals.{cells_at}
 use Rattle.rt_plans.specs.TagDrafts.{newline_drafts, tag_drafts, tags_drafts_at}
-use Rattle.rt_plans.specs.TagWrites.{bared, changed_stamps, tag_write, tagged, with_tag, with_tag_at, with_tags_at}
+use Rattle.rt_plans.specs.TagWrites.{bared, changed_stamps, tag_write, cell_with_tag, with_tag, with_tag_at, with_tags_at}
 use Rattle.rt_plans.proofs.DeletionDraftLaws.{document_named}
 use Rattle.rt_plans.proofs.NewlineDrafts.{of_one}
 use Rattle.rt_plans.proofs.Putting.{cells_at_changed, tagged_state}
@@ -84,7 +84,7 @@ changed_one name cell e = ap stamps_of (cond-true (is_on name cell.state) (cell 
 stays_on : (q : Word) (w : Write) (state : List Write) → bytes_eq q w.name ≡ false → is_on q state ≡ true → is_on q (written w state) ≡ true
 stays_on q w state e h = ap says_on (write_of_written q w state ∙ cond-false (bytes_eq q w.name) (Some (newer (write_of w.name state) w)) (write_of q state) e) ∙ h
 
-still_on : (site count : ℕ) (name : Word) (on : Bool) (stamps : List Stamp) (q : Word) (cell : TaggedCell) → bytes_eq q name ≡ false → is_on q cell.state ≡ true → is_on q (tagged site count name on stamps cell).state ≡ true
+still_on : (site count : ℕ) (name : Word) (on : Bool) (stamps : List Stamp) (q : Word) (cell : TaggedCell) → bytes_eq q name ≡ false → is_on q cell.state ≡ true → is_on q (cell_with_tag site count name on stamps cell).state ≡ true
 still_on site count name on stamps q cell e h = by (is_among stamps cell.stamp)
   where
     by : (b : Bool) → is_on q (cond b (record cell { state = written (tag_write site count name on stamps cell.stamp) cell.state }) cell).state ≡ true
@@ -99,7 +99,7 @@ turned p q = split (bytes_eq p q)
     (λ f. e ∙ sym f))
 
 all_still_on : (site count : ℕ) (name : Word) (on : Bool) (stamps : List Stamp) (cell : TaggedCell) (names : List Word) → is_listed name names ≡ false
-    → AllByRecursion (λ q. is_on q cell.state ≡ true) names → AllByRecursion (λ q. is_on q (tagged site count name on stamps cell).state ≡ true) names
+    → AllByRecursion (λ q. is_on q cell.state ≡ true) names → AllByRecursion (λ q. is_on q (cell_with_tag site count name on stamps cell).state ≡ true) names
 all_still_on site count name on stamps cell [] n h = tt
 all_still_on site count name on stamps cell (q ∷ names) n h =
     let p = or_parts (bytes_eq name q) (is_listed name names) n in
@@ -114,7 +114,7 @@ one_each m (name ∷ names) flat cell h on once =
     let r : ℕ → Bool = λ p. p == m in
     let stamps = changed_stamps name false (cells_at r 0 flat.cells) in
     let named : stamps ≡ cell.stamp ∷ [] = ap (changed_stamps name false) h ∙ changed_one name cell on.0 in
-    let g = tagged flat.site flat.count name false stamps in
+    let g = cell_with_tag flat.site flat.count name false stamps in
     let change = tagged_state flat.site flat.count name false stamps in
     let after : cells_at r 0 (with_tag_at flat r false name).cells ≡ g cell ∷ [] = cells_at_changed g change r 0 flat.cells ∙ ap (map g) h in
     let same : (g cell).stamp ≡ cell.stamp = ap (λ (c : TaggedCell). c.stamp) (change cell) in

@@ -29,7 +29,7 @@ use Rattle.rt_rga.proofs.Drafting.{count_after}
 use Rattle.rt_rga.proofs.Requests.{all_count_on}
 use Rattle.rt_plans.specs.DraftLaws.{HaveTexts, IsElement, IsInserted, IsInsertion, IsText}
 use Rattle.rt_plans.specs.DocValue.{put_after}
-use Rattle.rt_plans.specs.InsertionDrafts.{behind, insertion_drafts, inserts_of, pieces_drafts, tags_on, text_drafts}
+use Rattle.rt_plans.specs.InsertionDrafts.{last_element, insertion_drafts, inserts_of, pieces_drafts, tags_put_on, text_drafts}
 use Rattle.rt_plans.specs.Insertions.{Insertion, Piece, cells_of_inserts, counts_for, further_tags, insertion_of, inserts_for, new_state, on_left, shared_names, tagged_cells, tags_between, with_listed, with_pieces, with_unlisted}
 use Rattle.rt_plans.specs.NamedSpans.{first_parts}
 use Rattle.rt_plans.proofs.DraftSteps.{stays_character}
@@ -47,7 +47,7 @@ last_apart : (c : TaggedCell) (cs : List TaggedCell) → (init : List TaggedCell
 last_apart c [] = ([], c, refl)
 last_apart c (d ∷ ds) = let w = last_apart d ds in (c ∷ w.0, w.1, ap (λ l. c ∷ l) w.2)
 
-behind_last : (after : Stamp) (cells init : List TaggedCell) (x : TaggedCell) → cells ≡ init ++ x ∷ [] → behind after cells ≡ x.stamp
+behind_last : (after : Stamp) (cells init : List TaggedCell) (x : TaggedCell) → cells ≡ init ++ x ∷ [] → last_element after cells ≡ x.stamp
 behind_last after cells init x e =
     ap (λ l. unwrap_or (option_map (λ (cell : TaggedCell). cell.stamp) (on_left None l)) after) e
     ∙ ap (λ o. unwrap_or (option_map (λ (cell : TaggedCell). cell.stamp) o) after) (last_some None init x)
@@ -69,7 +69,7 @@ put_none cells after =
 
 -- cells behind the last of those that were put in before
 put_more : (cells : List TaggedCell) (after : Stamp) (first more : List TaggedCell) → AreDistinct (put_after cells after first) → is_among (stamps_of (put_after cells after first)) ROOT ≡ false
-    → put_after (put_after cells after first) (behind after first) more ≡ put_after cells after (first ++ more)
+    → put_after (put_after cells after first) (last_element after first) more ≡ put_after cells after (first ++ more)
 put_more cells after [] more d r = ap (λ l. put_after l after more) (put_none cells after)
 put_more cells after (c ∷ cs) more d r =
     let at = after_element cells after in
@@ -85,7 +85,7 @@ put_more cells after (c ∷ cs) more d r =
     let root : is_same x.stamp ROOT ≡ false =
     same_sym x.stamp ROOT ∙ differs ROOT x.stamp (stamps_of ((xs ++ init) ++ x ∷ ys)) (ap (λ l. is_among (stamps_of l) ROOT) (sym whole) ∙ r) (in_middle (xs ++ init) x ys) in
     let last = behind_last after new init x w.2 in
-    let there : put_after (put_after cells after new) (behind after new) more ≡ put_after ((xs ++ init) ++ x ∷ ys) x.stamp more = λ i. put_after (whole i) (last i) more in
+    let there : put_after (put_after cells after new) (last_element after new) more ≡ put_after ((xs ++ init) ++ x ∷ ys) x.stamp more = λ i. put_after (whole i) (last i) more in
     let put : put_after ((xs ++ init) ++ x ∷ ys) x.stamp more ≡ ((xs ++ init) ++ x ∷ []) ++ more ++ ys = put_behind (xs ++ init) x ys more root none in
     let back : ((xs ++ init) ++ x ∷ []) ++ more ++ ys ≡ put_after cells after (new ++ more) = ap (λ l. l ++ more ++ ys) joined ∙ ap (λ l. l ++ ys) (append_assoc xs new more) in
     there ∙ put ∙ back
@@ -124,7 +124,7 @@ cells_known (suc inserts) site count log after names text s g c e =
     let span : Span = record { site = site; first = count + 1; last = last } in
     let op = next_operation site (Insert after (take MOST_TAGS names) part) log in
     let with_insert = with_operation op log in
-    let tags = tags_on span further in
+    let tags = tags_put_on span further in
     let after_tags = with_drafts site tags with_insert in
     let drafts = inserts_of site (last + length further) next names (first_parts inserts MOST_CHARACTERS others) in
     let some = cut_some inserts MOST_CHARACTERS (length text) c in
@@ -149,10 +149,10 @@ record HasSoFar (after : Stamp) (so_far : Insertion) (log : List Operation) : Ty
   pub known : (s : Stamp) → is_among (stamps_of so_far.cells) s ≡ true → has_character log s ≡ true
   pub element : IsElement log after
 
-behind_known : (after : Stamp) (so_far : Insertion) (log : List Operation) → HasSoFar after so_far log → IsElement log (behind after so_far.cells)
+behind_known : (after : Stamp) (so_far : Insertion) (log : List Operation) → HasSoFar after so_far log → IsElement log (last_element after so_far.cells)
 behind_known after so_far log h = by so_far.cells h.known
   where
-    by : (cells : List TaggedCell) → ((s : Stamp) → is_among (stamps_of cells) s ≡ true → has_character log s ≡ true) → IsElement log (behind after cells)
+    by : (cells : List TaggedCell) → ((s : Stamp) → is_among (stamps_of cells) s ≡ true → has_character log s ≡ true) → IsElement log (last_element after cells)
     by [] f = h.element
     by (c ∷ cs) f =
         let w = last_apart c cs in
@@ -165,14 +165,14 @@ pub record IsMore (site : ℕ) (so_far next : Insertion) (names : List Word) (te
   pub count : next.count ≡ so_far.count + counts_for names text
 
 abbrev next_drafts : ℕ → Stamp → Insertion → List Word → List ℕ → List Body
-next_drafts site after so_far names text = text_drafts MOST_CHARACTERS site so_far.count (behind after so_far.cells) names text
+next_drafts site after so_far names text = text_drafts MOST_CHARACTERS site so_far.count (last_element after so_far.cells) names text
 
 -- a text takes as many counts as it has
 next_counted : (site : ℕ) (after : Stamp) (so_far next : Insertion) (log : List Operation) (names : List Word) (text : List ℕ) → greatest_last_count log ≡ so_far.count → IsMore site so_far next names text
     → greatest_last_count (with_drafts site (next_drafts site after so_far names text) log) ≡ next.count
 next_counted site after so_far next log names text g m =
-    subst (λ n. greatest_last_count (with_drafts site (text_drafts MOST_CHARACTERS site n (behind after so_far.cells) names text) log) ≡ n + counts_for names text) g
-    (text_is_counted site log (behind after so_far.cells) names text)
+    subst (λ n. greatest_last_count (with_drafts site (text_drafts MOST_CHARACTERS site n (last_element after so_far.cells) names text) log) ≡ n + counts_for names text) g
+    (text_is_counted site log (last_element after so_far.cells) names text)
     ∙ sym m.count
 
 has_more : (site : ℕ) (after : Stamp) (so_far next : Insertion) (log : List Operation) (names : List Word) (text : List ℕ) → HasSoFar after so_far log → IsMore site so_far next names text
@@ -184,7 +184,7 @@ has_more site after so_far next log names text h m =
       count = next_counted site after so_far next log names text h.count m;
       known = λ s e. split (is_among (stamps_of so_far.cells) s)
           (λ f. stays_character site drafts log s (h.known s f))
-          (λ f. cells_known (inserts_for (length text)) site so_far.count log (behind after so_far.cells) names text s h.count (cut MOST_CHARACTERS (length text) (omega arith))
+          (λ f. cells_known (inserts_for (length text)) site so_far.count log (last_element after so_far.cells) names text s h.count (cut MOST_CHARACTERS (length text) (omega arith))
           (ap (λ b. b || is_among (stamps_of new) s) (sym f) ∙ sym (among_parts so_far.cells new s) ∙ ap (λ l. is_among (stamps_of l) s) (sym m.cells) ∙ e));
       element = split (has_character log after)
           (λ f. or_left (has_character (with_drafts site drafts log) after) _ (stays_character site drafts log after f))
@@ -194,8 +194,8 @@ has_more site after so_far next log names text h m =
 next_may : (site : ℕ) (after : Stamp) (so_far : Insertion) (log : List Operation) (names : List Word) (text : List ℕ) → HasSoFar after so_far log → IsText names text
     → MayBeMade site log (next_drafts site after so_far names text)
 next_may site after so_far log names text h t =
-    subst (λ n. MayBeMade site log (text_drafts MOST_CHARACTERS site n (behind after so_far.cells) names text)) h.count
-    (text_may site log (behind after so_far.cells) names text t.tags t.characters (behind_known after so_far log h))
+    subst (λ n. MayBeMade site log (text_drafts MOST_CHARACTERS site n (last_element after so_far.cells) names text)) h.count
+    (text_may site log (last_element after so_far.cells) names text t.tags t.characters (behind_known after so_far log h))
 
 -- the larger history has the cells so far
 record IsSoFar (first : List Operation) (after : Stamp) (so_far : Insertion) (log : List Operation) : Type 0 where
@@ -207,7 +207,7 @@ next_made : (site : ℕ) (first : List Operation) (after : Stamp) (so_far next :
     → IsText names text → IsMore site so_far next names text → next.count ≤ GREATEST_COUNT → IsSoFar first after next (with_drafts site (next_drafts site after so_far names text) log)
 next_made site first after so_far next log names text p h t m l =
     let has = h.has in
-    let element = behind after so_far.cells in
+    let element = last_element after so_far.cells in
     let count = greatest_last_count log in
     let new = tagged_cells site so_far.count names text in
     let fits : count + counts_for names text ≤ GREATEST_COUNT = omega (arith, has.count, m.count, l) in

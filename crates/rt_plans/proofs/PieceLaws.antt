@@ -11,7 +11,7 @@ use Rattle.rt_tags.specs.Tags.{is_listed, sel}
 use Rattle.rt_store.specs.Cells.{stamps_of}
 use Rattle.rt_store.specs.Shown.{TaggedCell}
 use Rattle.rt_plans.specs.declared.pieces.PlannedPieces.{PlannedPieces}
-use Rattle.rt_plans.specs.InsertionDrafts.{behind, pieces_drafts, text_drafts}
+use Rattle.rt_plans.specs.InsertionDrafts.{last_element, pieces_drafts, text_drafts}
 use Rattle.rt_plans.specs.Insertions.{Insertion, Piece, all_listed, counts_for, selected_if, shared_names, tagged_cells, with_listed, with_pieces}
 use Rattle.rt_plans.specs.PlannedPieces.{AreSoFar}
 use Rattle.rt_plans.specs.Selections.{with_stamps}
@@ -25,7 +25,7 @@ use Rattle.rt_plans.proofs.PlanLaws.{all_append, pieces_from, pieces_spent}
 pub record IsMoreText (site : ℕ) (names : List Word) (text : List ℕ) (old new : PlannedPieces) : Type 0 where
   pub characters : new.characters ≡ old.characters + length text
   pub count : new.texts.count ≡ old.texts.count + counts_for names text
-  pub element : new.texts.behind ≡ behind old.texts.behind (tagged_cells site old.texts.count names text)
+  pub element : new.texts.behind ≡ last_element old.texts.behind (tagged_cells site old.texts.count names text)
   pub tags : as_words new.names.items ≡ as_words old.names.items ++ names
 
 abbrev pub names_in : PlannedPieces → Option (List Word)
@@ -44,7 +44,7 @@ added_listed after selection listed old new site tags (c ∷ text) so_far some m
     record {
       characters = m.characters ∙ ap (λ n. n + length (c ∷ text)) h.characters ∙ sym (listed_length site tags (c ∷ text) so_far);
       count = m.count ∙ ap (λ n. n + counts_for shared (c ∷ text)) h.count;
-      element = m.element ∙ (λ i. behind (h.element i) (more (h.count i))) ∙ sym (behind_append after so_far.cells (more so_far.count));
+      element = m.element ∙ (λ i. last_element (h.element i) (more (h.count i))) ∙ sym (behind_append after so_far.cells (more so_far.count));
       sel = s ∙ (λ i. selected_if (is_listed sel tags) (stamps_of (more (h.count i))) (h.sel i));
       tags = ap (λ l. all_listed l listed) m.tags ∙ all_append (as_words old.names.items) shared listed ∙ ap (all_listed shared) h.tags;
       last = l ∙ sym (last_tagged site so_far.count so_far.cells shared (c ∷ text) (shared_rise tags) some);
@@ -80,7 +80,7 @@ abbrev next : ℕ → Piece → Insertion → Insertion
 next site piece so_far = with_listed site piece.tags (chars piece.text) so_far
 
 abbrev next_drafts : ℕ → Stamp → Piece → Insertion → List Body
-next_drafts site after piece so_far = text_drafts MOST_CHARACTERS site so_far.count (behind after so_far.cells) (shared_names piece.tags) (chars piece.text)
+next_drafts site after piece so_far = text_drafts MOST_CHARACTERS site so_far.count (last_element after so_far.cells) (shared_names piece.tags) (chars piece.text)
 
 last_piece : (site : ℕ) (pieces : List Piece) (piece : Piece) (so_far : Insertion) → with_pieces site (pieces ++ piece ∷ []) so_far ≡ next site piece (with_pieces site pieces so_far)
 last_piece site [] piece so_far = refl

@@ -15,7 +15,7 @@ use Rattle.rt_tags.specs.States.{Write, written}
 use Rattle.rt_store.specs.Shown.{TaggedCell}
 use Rattle.rt_plans.specs.Removals.{cells_at, stamps_at}
 use Rattle.rt_store.specs.Spans.{is_among}
-use Rattle.rt_plans.specs.TagWrites.{tag_write, tagged}
+use Rattle.rt_plans.specs.TagWrites.{tag_write, cell_with_tag}
 use Rattle.rt_plans.proofs.DistinctLaws.{distinct_at}
 use Rattle.rt_plans.proofs.StateChanges.{ChangesState}
 
@@ -25,7 +25,7 @@ state_step : (b : Bool) (s : List Write) (cell : TaggedCell) → cond b (with_st
 state_step true s cell = refl
 state_step false s cell = refl
 
-pub tagged_state : (site count : ℕ) (name : Word) (on : Bool) (stamps : List Stamp) → ChangesState (tagged site count name on stamps)
+pub tagged_state : (site count : ℕ) (name : Word) (on : Bool) (stamps : List Stamp) → ChangesState (cell_with_tag site count name on stamps)
 tagged_state site count name on stamps cell = state_step (is_among stamps cell.stamp) (written (tag_write site count name on stamps cell.stamp) cell.state) cell
 
 at_step : (g : TaggedCell → TaggedCell) (cell : TaggedCell) (here next before behind : List TaggedCell) (b d : Bool) → here ≡ map g before → next ≡ map g behind

@@ -17,7 +17,7 @@ use Rattle.rt_store.proofs.Shown.{visible_at_shown}
 use Rattle.rt_plans.specs.declared.inserting.Plan.{Plan}
 use Rattle.rt_plans.specs.declared.pieces.PlannedPieces.{PlannedPieces}
 use Rattle.rt_plans.specs.DocValue.{left_stamp}
-use Rattle.rt_plans.specs.InsertionDrafts.{behind}
+use Rattle.rt_plans.specs.InsertionDrafts.{last_element}
 use Rattle.rt_plans.specs.InsertionPlans.{Plans, selected_between}
 use Rattle.rt_plans.specs.Insertions.{Insertion, Piece, all_listed, are_among, left_neighbour, on_left, selected_if, tagged_cells, tags_between, with_listed, with_pieces, with_unlisted}
 use Rattle.rt_plans.specs.PlannedPieces.{ArePlanned, AreSoFar}
@@ -87,7 +87,7 @@ are_both after selection listed pieces so_far table left right stamps h a e = by
     first (Some x) k b = ap (λ s. is_among stamps s && is_among stamps right.stamp) (sym b)
 
     by : (cells : List TaggedCell) → option_map (λ names. as_words names.items) pieces.last ≡ tags_of (on_left None cells)
-        → are_among stamps (on_left (option_map (shown table) left) cells) (Some right) ≡ (is_among stamps (behind after cells) && is_among stamps right.stamp)
+        → are_among stamps (on_left (option_map (shown table) left) cells) (Some right) ≡ (is_among stamps (last_element after cells) && is_among stamps right.stamp)
     by [] k = first left (sym (ap (λ b. b || is_some left) (is_none (λ names. as_words names.items) pieces.last k)) ∙ e) a
     by (c ∷ cs) k = among_last stamps c cs right after
 

@@ -12,14 +12,14 @@ use Rattle.rt_stamps.specs.declared.stamp.Stamp.{Stamp}
 use Rattle.rt_stamps.specs.Stamps.{is_same}
 use Rattle.rt_store.specs.Cells.{is_in_span}
 use Rattle.rt_stamps.specs.Spans.{span_of}
-use Rattle.rt_plans.specs.NamedSpans.{first_stamp, attached, runs}
+use Rattle.rt_plans.specs.NamedSpans.{first_in_span, attached, consecutive_spans}
 use Rattle.rt_plans.specs.Removals.{span_count}
 use Rattle.rt_store.specs.Spans.{each_next, is_span, is_clear_of, precedes, next_stamp, last_stamp, is_in_spans, is_among}
 use Rattle.rt_store.proofs.Distinct.{split}
 
 -- WHAT THE RUNS HOLD
 
-forward_step : (b : Bool) (span next : Span) (spans : List Span) → is_same (first_stamp next) (next_stamp (last_stamp span)) ≡ b → is_span span ≡ true → is_span next && list_all is_span spans ≡ true
+forward_step : (b : Bool) (span next : Span) (spans : List Span) → is_same (first_in_span next) (next_stamp (last_stamp span)) ≡ b → is_span span ≡ true → is_span next && list_all is_span spans ≡ true
     → list_all is_span (cond b (record next { first = span.first } ∷ spans) (span ∷ next ∷ spans)) ≡ true
 forward_step true span next spans e h k =
     let p = and_parts (is_span next) (list_all is_span spans) k in
@@ -30,42 +30,42 @@ forward_step false span next spans e h k = and_from (is_span span) _ h k
 
 forward_attached : (span : Span) (spans : List Span) → is_span span ≡ true → list_all is_span spans ≡ true → list_all is_span (attached span spans) ≡ true
 forward_attached span [] h k = and_from (is_span span) _ h refl
-forward_attached span (next ∷ spans) h k = forward_step (is_same (first_stamp next) (next_stamp (last_stamp span))) span next spans refl h k
+forward_attached span (next ∷ spans) h k = forward_step (is_same (first_in_span next) (next_stamp (last_stamp span))) span next spans refl h k
 
 pub one_span : (s : Stamp) → is_span (span_of s) ≡ true
 one_span s = grind (arith, nat_tests)
 
 -- each run goes forward
-pub forward_runs : (ss : List Stamp) → list_all is_span (runs ss) ≡ true
+pub forward_runs : (ss : List Stamp) → list_all is_span (consecutive_spans ss) ≡ true
 forward_runs [] = refl
-forward_runs (s ∷ ss) = forward_attached (span_of s) (runs ss) (one_span s) (forward_runs ss)
+forward_runs (s ∷ ss) = forward_attached (span_of s) (consecutive_spans ss) (one_span s) (forward_runs ss)
 
 or_assoc : (a b c : Bool) → (a || b) || c ≡ a || (b || c)
 or_assoc true b c = refl
 or_assoc false b c = refl
 
 -- two spans as one
-pub joined : (span next : Span) (s : Stamp) → is_same (first_stamp next) (next_stamp (last_stamp span)) ≡ true → is_span span ≡ true → is_span next ≡ true
+pub joined_span : (span next : Span) (s : Stamp) → is_same (first_in_span next) (next_stamp (last_stamp span)) ≡ true → is_span span ≡ true → is_span next ≡ true
     → is_in_span (record next { first = span.first }) s ≡ is_in_span span s || is_in_span next s
-joined span next s e h k = grind (arith, nat_tests)
+joined_span span next s e h k = grind (arith, nat_tests)
 
-held_step : (b : Bool) (span next : Span) (spans : List Span) (s : Stamp) → is_same (first_stamp next) (next_stamp (last_stamp span)) ≡ b → is_span span ≡ true → is_span next ≡ true
+held_step : (b : Bool) (span next : Span) (spans : List Span) (s : Stamp) → is_same (first_in_span next) (next_stamp (last_stamp span)) ≡ b → is_span span ≡ true → is_span next ≡ true
     → is_in_spans (cond b (record next { first = span.first } ∷ spans) (span ∷ next ∷ spans)) s ≡ is_in_span span s || is_in_spans (next ∷ spans) s
-held_step true span next spans s e h k = ap (λ b. b || is_in_spans spans s) (joined span next s e h k) ∙ or_assoc (is_in_span span s) (is_in_span next s) (is_in_spans spans s)
+held_step true span next spans s e h k = ap (λ b. b || is_in_spans spans s) (joined_span span next s e h k) ∙ or_assoc (is_in_span span s) (is_in_span next s) (is_in_spans spans s)
 held_step false span next spans s e h k = refl
 
 held_attached : (span : Span) (spans : List Span) (s : Stamp) → is_span span ≡ true → list_all is_span spans ≡ true → is_in_spans (attached span spans) s ≡ is_in_span span s || is_in_spans spans s
 held_attached span [] s h k = refl
 held_attached span (next ∷ spans) s h k =
-    held_step (is_same (first_stamp next) (next_stamp (last_stamp span))) span next spans s refl h (and_parts (is_span next) (list_all is_span spans) k).0
+    held_step (is_same (first_in_span next) (next_stamp (last_stamp span))) span next spans s refl h (and_parts (is_span next) (list_all is_span spans) k).0
 
 pub one_held : (s t : Stamp) → is_in_span (span_of s) t ≡ is_same s t
 one_held s t = grind (arith, nat_tests)
 
 -- the runs hold the stamps and no others
-pub held_runs : (ss : List Stamp) (s : Stamp) → is_in_spans (runs ss) s ≡ is_among ss s
+pub held_runs : (ss : List Stamp) (s : Stamp) → is_in_spans (consecutive_spans ss) s ≡ is_among ss s
 held_runs [] s = refl
-held_runs (t ∷ ss) s = held_attached (span_of t) (runs ss) s (one_span t) (forward_runs ss) ∙ (λ i. one_held t s i || held_runs ss s i)
+held_runs (t ∷ ss) s = held_attached (span_of t) (consecutive_spans ss) s (one_span t) (forward_runs ss) ∙ (λ i. one_held t s i || held_runs ss s i)
 
 -- THE FIRST OF THE RUNS
 
@@ -75,7 +75,7 @@ Begins t spans = (y : Span) × (ys : List Span) × (spans ≡ y ∷ ys) × (y.si
 
 pub begins_attached : (t : Stamp) (spans : List Span) → Begins t (attached (span_of t) spans)
 begins_attached t [] = (span_of t, [], refl, refl, refl)
-begins_attached t (next ∷ spans) = split (is_same (first_stamp next) (next_stamp t))
+begins_attached t (next ∷ spans) = split (is_same (first_in_span next) (next_stamp t))
     (λ e. let site : next.site ≡ t.site = grind (arith, nat_tests) in (record next { first = t.count }, spans, cond-true _ _ _ e, site, refl))
     (λ e. (span_of t, next ∷ spans, cond-false _ _ _ e, refl, refl))
 
@@ -89,9 +89,9 @@ length_attached : (s t : Stamp) (zs : List Span) → Begins t zs → length (att
 length_attached s t zs h =
     let y = h.0 in
     let ys = h.1 in
-    let first : first_stamp y ≡ t = λ i. record { count = h.4 i; site = h.3 i } in
+    let first : first_in_span y ≡ t = λ i. record { count = h.4 i; site = h.3 i } in
     ap (λ l. length (attached (span_of s) l)) h.2
-    ∙ length_step (is_same (first_stamp y) (next_stamp s)) (record y { first = s.count }) y (span_of s) ys
+    ∙ length_step (is_same (first_in_span y) (next_stamp s)) (record y { first = s.count }) y (span_of s) ys
     ∙ ap (λ q. cond (is_same q (next_stamp s)) 0 1 + length (y ∷ ys)) first
     ∙ ap (λ l. cond (is_same t (next_stamp s)) 0 1 + length l) (sym h.2)
 
@@ -157,12 +157,12 @@ counted_one : (s : Stamp) → span_count (s ∷ []) ≡ 1
 counted_one s = ap (λ b. length (cond (not (b || false)) (s ∷ []) [])) (self_not_next s)
 
 -- there are as many runs as last stamps
-pub counted_runs : (ss : List Stamp) → each_next precedes ss ≡ true → length (runs ss) ≡ span_count ss
+pub counted_runs : (ss : List Stamp) → each_next precedes ss ≡ true → length (consecutive_spans ss) ≡ span_count ss
 counted_runs [] h = refl
 counted_runs (s ∷ []) h = sym (counted_one s)
 counted_runs (s ∷ t ∷ ss) h =
     let p = and_parts (precedes s t) (each_next precedes (t ∷ ss)) h in
-    length_attached s t (runs (t ∷ ss)) (begins_attached t (runs ss)) ∙ ap (λ n. cond (is_same t (next_stamp s)) 0 1 + n) (counted_runs (t ∷ ss) p.1) ∙ sym (counted_more s t ss h)
+    length_attached s t (consecutive_spans (t ∷ ss)) (begins_attached t (consecutive_spans ss)) ∙ ap (λ n. cond (is_same t (next_stamp s)) 0 1 + n) (counted_runs (t ∷ ss) p.1) ∙ sym (counted_more s t ss h)
 
 -- THEIR ORDER
 
@@ -170,7 +170,7 @@ next_alike : (y : Span) (ys : List Span) (first : ℕ) → each_next is_clear_of
 next_alike y [] first h = refl
 next_alike y (z ∷ zs) first h = h
 
-clear_first : (s t : Stamp) (y : Span) → y.site ≡ t.site → y.first ≡ t.count → precedes s t ≡ true → is_same (first_stamp y) (next_stamp s) ≡ false → is_clear_of (span_of s) y ≡ true
+clear_first : (s t : Stamp) (y : Span) → y.site ≡ t.site → y.first ≡ t.count → precedes s t ≡ true → is_same (first_in_span y) (next_stamp s) ≡ false → is_clear_of (span_of s) y ≡ true
 clear_first s t y e f h k = grind (arith, nat_tests)
 
 clear_attached : (s t : Stamp) (zs : List Span) → Begins t zs → precedes s t ≡ true → each_next is_clear_of zs ≡ true → each_next is_clear_of (attached (span_of s) zs) ≡ true
@@ -179,17 +179,17 @@ clear_attached s t zs h p k =
     let ys = h.1 in
     let rest : each_next is_clear_of (y ∷ ys) ≡ true = ap (each_next is_clear_of) (sym h.2) ∙ k in
     ap (λ l. each_next is_clear_of (attached (span_of s) l)) h.2
-    ∙ split (is_same (first_stamp y) (next_stamp s))
+    ∙ split (is_same (first_in_span y) (next_stamp s))
     (λ e. ap (each_next is_clear_of) (cond-true _ _ _ e) ∙ next_alike y ys s.count rest)
     (λ e. ap (each_next is_clear_of) (cond-false _ _ _ e) ∙ and_from (is_clear_of (span_of s) y) _ (clear_first s t y h.3 h.4 p e) rest)
 
 -- each run is clear of the next
-pub clear_runs : (ss : List Stamp) → each_next precedes ss ≡ true → each_next is_clear_of (runs ss) ≡ true
+pub clear_runs : (ss : List Stamp) → each_next precedes ss ≡ true → each_next is_clear_of (consecutive_spans ss) ≡ true
 clear_runs [] h = refl
 clear_runs (s ∷ []) h = refl
 clear_runs (s ∷ t ∷ ss) h =
     let p = and_parts (precedes s t) (each_next precedes (t ∷ ss)) h in
-    clear_attached s t (runs (t ∷ ss)) (begins_attached t (runs ss)) p.0 (clear_runs (t ∷ ss) p.1)
+    clear_attached s t (consecutive_spans (t ∷ ss)) (begins_attached t (consecutive_spans ss)) p.0 (clear_runs (t ∷ ss) p.1)
 
 -- SORTING
 

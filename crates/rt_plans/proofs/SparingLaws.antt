@@ -286,8 +286,8 @@ pub record Takes (text : List ℕ) (ranges taken : List Range) : Type 0 where
   pub within : All (λ range. range.to < length text) taken
   pub places : (place : ℕ) → is_covered taken place ≡ is_removed text ranges place
 
-last_of : (text : List ℕ) (front : List Range) (last : Range) → AreSpaced 0 (front ++ last ∷ []) → ((place : ℕ) → is_covered (front ++ last ∷ []) place ≡ true → place < length text) → last.to ≤ length text
-last_of text front last apart within = last_within front last (length text) (last_some 0 front last apart) within
+last_within_text : (text : List ℕ) (front : List Range) (last : Range) → AreSpaced 0 (front ++ last ∷ []) → ((place : ℕ) → is_covered (front ++ last ∷ []) place ≡ true → place < length text) → last.to ≤ length text
+last_within_text text front last apart within = last_within front last (length text) (last_some 0 front last apart) within
 
 taken_with : (text : List ℕ) (front : List Range) (last : Range) → AreSpaced 0 (front ++ last ∷ []) → last.to ≤ length text → (spared text last).from < (spared text last).to
     → Takes text (front ++ last ∷ []) (front ++ spared text last ∷ [])
@@ -309,7 +309,7 @@ pub last_ends : (text : List ℕ) (merged front : List Range) (last : Range) →
     → (last.from < last.to) × (last.to ≤ length text)
 last_ends text merged front last e apart within =
     let apart_here : AreSpaced 0 (front ++ last ∷ []) = subst (AreSpaced 0) e apart in
-    (last_some 0 front last apart_here, last_of text front last apart_here (λ place h. within place (ap (λ ranges. is_covered ranges place) e ∙ h)))
+    (last_some 0 front last apart_here, last_within_text text front last apart_here (λ place h. within place (ap (λ ranges. is_covered ranges place) e ∙ h)))
 
 pub with_last : (text : List ℕ) (merged front taken : List Range) (last kept : Range) → merged ≡ front ++ last ∷ [] → AreSpaced 0 merged → ((place : ℕ) → is_covered merged place ≡ true → place < length text)
     → kept ≡ spared text last → kept.from < kept.to → taken ≡ front ++ kept ∷ [] → Takes text merged taken

@@ -25,7 +25,7 @@ use Rattle.rt_plans.specs.DraftLaws.{IsDocument}
 use Rattle.rt_plans.specs.DocValue.{DocValue}
 use Rattle.rt_plans.specs.Removals.{cells_at, operations_for, span_count}
 use Rattle.rt_plans.specs.TagDrafts.{tag_deletion_drafts, tag_drafts, tag_drafts_at, tags_drafts_at}
-use Rattle.rt_plans.specs.TagWrites.{changed_stamps, is_changed, tagged, with_tag, with_tag_at, with_tags_at, without_tags}
+use Rattle.rt_plans.specs.TagWrites.{changed_stamps, is_changed, cell_with_tag, with_tag, with_tag_at, with_tags_at, without_tags}
 use Rattle.rt_plans.proofs.DistinctLaws.{stamps_within}
 use Rattle.rt_plans.proofs.DraftSteps.{AreKnownCells, known_cells, known_later}
 use Rattle.rt_plans.proofs.Putting.{distinct_cells_at, stamps_at_cells, tagged_state}
@@ -79,7 +79,7 @@ one_may_be_made site log places on name cells d f n =
 pub tag_stamps : (flat : DocValue) (places : ℕ → Bool) (on : Bool) (name : Word) → stamps_of (with_tag_at flat places on name).cells ≡ stamps_of flat.cells
 tag_stamps flat places on name =
     let stamps = changed_at places on name flat.cells in
-    stamps_changed (tagged flat.site flat.count name on stamps) (tagged_state flat.site flat.count name on stamps) flat.cells
+    stamps_changed (cell_with_tag flat.site flat.count name on stamps) (tagged_state flat.site flat.count name on stamps) flat.cells
 
 pub known_tagged : (log : List Operation) (flat : DocValue) (places : ℕ → Bool) (on : Bool) (name : Word) → AreKnownCells log flat.cells → AreKnownCells log (with_tag_at flat places on name).cells
 known_tagged log flat places on name f s k = f s (ap (λ l. is_among l s) (sym (tag_stamps flat places on name)) ∙ k)
@@ -97,7 +97,7 @@ stamps_made site log flat on name stamps p h doc n distinct may l =
     let all = made site drafts log p h (drafts_for site log drafts may fits) in (
       all.history,
       record {
-        cells = (λ i. map (tagged (doc.site i) (doc.count i) name on stamps) (doc.cells i)) ∙ sym (all.cells ∙ tags_as_flat site name on stamps distinct log (cells_of log));
+        cells = (λ i. map (cell_with_tag (doc.site i) (doc.count i) name on stamps) (doc.cells i)) ∙ sym (all.cells ∙ tags_as_flat site name on stamps distinct log (cells_of log));
         site = doc.site;
         count = ap (λ k. k + operations_for (span_count stamps)) doc.count ∙ sym (all_count_on site drafts log ∙ counts);
       },

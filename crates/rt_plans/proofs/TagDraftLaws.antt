@@ -30,7 +30,7 @@ use Rattle.rt_rga.proofs.Writes.{spans_name}
 use Rattle.rt_plans.specs.NamedSpans.{by_site, first_parts, parts_for, parts_of, spans_in}
 use Rattle.rt_plans.specs.Removals.{operations_for, span_count}
 use Rattle.rt_plans.specs.TagDrafts.{tag_drafts}
-use Rattle.rt_plans.specs.TagWrites.{spans_before, tagged}
+use Rattle.rt_plans.specs.TagWrites.{spans_before, cell_with_tag}
 use Rattle.rt_plans.proofs.NamedSpanLaws.{IsCut, by_site_sorted, cut, cut_more, length_parts, span_at, spans_counted, spans_ended, spans_forward, spans_hold}
 use Rattle.rt_plans.proofs.PartLaws.{AreSpans, in_first, in_more, more_spans, part_rules, rest_spans, still_character}
 use Rattle.rt_plans.proofs.SpanLaws.{clear_runs}
@@ -181,7 +181,7 @@ module _ (site : ℕ) (name : Word) (on : Bool) (stamps : List Stamp) (distinct 
   tag_spans : AreSpans (spans_in stamps)
   tag_spans = record { forward = spans_forward stamps; clear = clear_runs (by_site stamps) (by_site_sorted stamps distinct) }
 
-  tagged_cell : (count : ℕ) (cell : TaggedCell) → tagged_by MOST_SPANS site name on count (spans_in stamps) cell ≡ tagged site count name on stamps cell
+  tagged_cell : (count : ℕ) (cell : TaggedCell) → tagged_by MOST_SPANS site name on count (spans_in stamps) cell ≡ cell_with_tag site count name on stamps cell
   tagged_cell count cell =
       let s = cell.stamp in
       let spans = spans_in stamps in
@@ -192,13 +192,13 @@ module _ (site : ℕ) (name : Word) (on : Bool) (stamps : List Stamp) (distinct 
       ∙ sym (cond-true (is_among stamps s) (new (spans_before stamps s)) cell e))
       (λ e. cond-false (is_in_spans spans s) (new (span_at spans s)) cell (same ∙ e) ∙ sym (cond-false (is_among stamps s) (new (spans_before stamps s)) cell e))
 
-  tagged_cells : (count : ℕ) (cells : List TaggedCell) → map (tagged_by MOST_SPANS site name on count (spans_in stamps)) cells ≡ map (tagged site count name on stamps) cells
+  tagged_cells : (count : ℕ) (cells : List TaggedCell) → map (tagged_by MOST_SPANS site name on count (spans_in stamps)) cells ≡ map (cell_with_tag site count name on stamps) cells
   tagged_cells count [] = refl
   tagged_cells count (c ∷ cs) = λ i. tagged_cell count c i ∷ tagged_cells count cs i
 
   -- the operations do what the flat definition says
   pub tags_as_flat : (log : List Operation) (cells : List TaggedCell)
-      → all_changed (operations_of site (tag_drafts MOST_SPANS on name stamps) log) cells ≡ map (tagged site (greatest_last_count log) name on stamps) cells
+      → all_changed (operations_of site (tag_drafts MOST_SPANS on name stamps) log) cells ≡ map (cell_with_tag site (greatest_last_count log) name on stamps) cells
   tags_as_flat log cells =
       let spans = spans_in stamps in
       tags_write MOST_SPANS site name on (parts_for MOST_SPANS (length spans)) log cells spans (omega arith) (cut MOST_SPANS (length spans) (omega arith)).enough tag_spans

@@ -16,7 +16,7 @@ use Rattle.rt_tags.specs.States.{is_on, write_of, written}
 use Rattle.rt_tags.proofs.Greatest.{write_of_written}
 use Rattle.rt_plans.specs.DocValue.{DocValue}
 use Rattle.rt_plans.specs.Removals.{cells_at, stamps_at}
-use Rattle.rt_plans.specs.TagWrites.{AreTagged, cells_beside, cells_but, changed_stamps, is_changed, tag_write, tagged, with_tag_at, writes_of}
+use Rattle.rt_plans.specs.TagWrites.{AreTagged, cells_beside, cells_but, changed_stamps, is_changed, tag_write, cell_with_tag, with_tag_at, last_writes}
 use Rattle.rt_plans.proofs.DistinctLaws.{stamps_within}
 use Rattle.rt_plans.proofs.ListedWrites.{changed_among}
 use Rattle.rt_plans.proofs.Putting.{cells_at_changed, stamps_at_cells, tagged_state}
@@ -26,46 +26,46 @@ use Rattle.rt_plans.proofs.WriterLaws.{all_map, written_as}
 -- STAMPS
 
 module _ (site count : ℕ) (name : Word) (on : Bool) (stamps : List Stamp) where
-  pub stamp_kept : (cell : TaggedCell) → (tagged site count name on stamps cell).stamp ≡ cell.stamp
+  pub stamp_kept : (cell : TaggedCell) → (cell_with_tag site count name on stamps cell).stamp ≡ cell.stamp
   stamp_kept cell = ap (λ (c : TaggedCell). c.stamp) (tagged_state site count name on stamps cell)
 
-  here : (cell : TaggedCell) → is_among stamps cell.stamp ≡ true → tagged site count name on stamps cell ≡ with_state (written (tag_write site count name on stamps cell.stamp) cell.state) cell
+  here : (cell : TaggedCell) → is_among stamps cell.stamp ≡ true → cell_with_tag site count name on stamps cell ≡ with_state (written (tag_write site count name on stamps cell.stamp) cell.state) cell
   here cell t = cond-true (is_among stamps cell.stamp) (with_state (written (tag_write site count name on stamps cell.stamp) cell.state) cell) cell t
 
-  pub elsewhere : (cell : TaggedCell) → is_among stamps cell.stamp ≡ false → tagged site count name on stamps cell ≡ cell
+  pub elsewhere : (cell : TaggedCell) → is_among stamps cell.stamp ≡ false → cell_with_tag site count name on stamps cell ≡ cell
   elsewhere cell f = cond-false (is_among stamps cell.stamp) (with_state (written (tag_write site count name on stamps cell.stamp) cell.state) cell) cell f
 
-  pub says : (cell : TaggedCell) → IsWritten count cell.state → is_among stamps cell.stamp ≡ true → is_on name (tagged site count name on stamps cell).state ≡ on
+  pub says : (cell : TaggedCell) → IsWritten count cell.state → is_among stamps cell.stamp ≡ true → is_on name (cell_with_tag site count name on stamps cell).state ≡ on
   says cell known t = ap (λ (c : TaggedCell). is_on name c.state) (here cell t) ∙ written_as count (tag_write site count name on stamps cell.stamp) cell.state known (omega arith)
 
   -- on, or off, at each of the stamps
-  pub named_as_asked : (cells : List TaggedCell) → AreWritten count cells → AreTagged name on stamps (map (tagged site count name on stamps) cells)
+  pub named_as_asked : (cells : List TaggedCell) → AreWritten count cells → AreTagged name on stamps (map (cell_with_tag site count name on stamps) cells)
   named_as_asked cells h =
-      all_map (λ c. IsWritten count c.state) (λ c. is_among stamps c.stamp ≡ true → is_on name c.state ≡ on) (tagged site count name on stamps)
+      all_map (λ c. IsWritten count c.state) (λ c. is_among stamps c.stamp ≡ true → is_on name c.state ≡ on) (cell_with_tag site count name on stamps)
       (λ c p t. says c p (ap (is_among stamps) (sym (stamp_kept c)) ∙ t)) cells h
 
   -- other cells
-  pub others_stay : (cells : List TaggedCell) → cells_but stamps (map (tagged site count name on stamps) cells) ≡ cells_but stamps cells
+  pub others_stay : (cells : List TaggedCell) → cells_but stamps (map (cell_with_tag site count name on stamps) cells) ≡ cells_but stamps cells
   others_stay [] = refl
   others_stay (c ∷ cs) =
       split (is_among stamps c.stamp)
-      (λ t. (λ i. cond (not (is_among stamps (stamp_kept c i))) (tagged site count name on stamps c ∷ cells_but stamps (map (tagged site count name on stamps) cs)) (cells_but stamps (map (tagged site count name on stamps) cs)))
+      (λ t. (λ i. cond (not (is_among stamps (stamp_kept c i))) (cell_with_tag site count name on stamps c ∷ cells_but stamps (map (cell_with_tag site count name on stamps) cs)) (cells_but stamps (map (cell_with_tag site count name on stamps) cs)))
       ∙ cond-false (not (is_among stamps c.stamp)) _ _ (ap not t) ∙ others_stay cs ∙ sym (cond-false (not (is_among stamps c.stamp)) _ _ (ap not t)))
       (λ f. λ i. cond (not (is_among stamps (elsewhere c f i).stamp)) (elsewhere c f i ∷ others_stay cs i) (others_stay cs i))
 
   -- other tags
-  pub other_tag : (other : Word) → bytes_eq other name ≡ false → (cell : TaggedCell) → write_of other (tagged site count name on stamps cell).state ≡ write_of other cell.state
+  pub other_tag : (other : Word) → bytes_eq other name ≡ false → (cell : TaggedCell) → write_of other (cell_with_tag site count name on stamps cell).state ≡ write_of other cell.state
   other_tag other e cell =
       split (is_among stamps cell.stamp)
       (λ t. ap (λ (c : TaggedCell). write_of other c.state) (here cell t) ∙ write_of_written other (tag_write site count name on stamps cell.stamp) cell.state ∙ cond-false (bytes_eq other name) _ _ e)
       (λ f. ap (λ (c : TaggedCell). write_of other c.state) (elsewhere cell f))
 
-  pub other_tags_stay : (other : Word) → bytes_eq other name ≡ false → (cells : List TaggedCell) → writes_of other (map (tagged site count name on stamps) cells) ≡ writes_of other cells
+  pub other_tags_stay : (other : Word) → bytes_eq other name ≡ false → (cells : List TaggedCell) → last_writes other (map (cell_with_tag site count name on stamps) cells) ≡ last_writes other cells
   other_tags_stay other e [] = refl
   other_tags_stay other e (c ∷ cs) = λ i. other_tag other e c i ∷ other_tags_stay other e cs i
 
   -- what else a cell has
-  pub rest_stays : (cells : List TaggedCell) → map (with_state []) (map (tagged site count name on stamps) cells) ≡ map (with_state []) cells
+  pub rest_stays : (cells : List TaggedCell) → map (with_state []) (map (cell_with_tag site count name on stamps) cells) ≡ map (with_state []) cells
   rest_stays [] = refl
   rest_stays (c ∷ cs) = λ i. with_state [] (tagged_state site count name on stamps c i) ∷ rest_stays cs i
 
@@ -90,7 +90,7 @@ pub placed_as_asked : (flat : DocValue) (places : ℕ → Bool) (on : Bool) (nam
 placed_as_asked flat places on name known =
     let chosen : List TaggedCell = cells_at places 0 flat.cells in
     let stamps = changed_stamps name on chosen in
-    let g : TaggedCell → TaggedCell = tagged flat.site flat.count name on stamps in
+    let g : TaggedCell → TaggedCell = cell_with_tag flat.site flat.count name on stamps in
     let P : TaggedCell → Type 0 = λ c. IsWritten flat.count c.state × (is_changed name on c ≡ true → is_among stamps c.stamp ≡ true) in
     let each : All (λ (c : TaggedCell). IsWritten flat.count c.state) chosen = all_at (λ c. IsWritten flat.count c.state) places 0 flat.cells known in
     subst (All (λ (c : TaggedCell). is_on name c.state ≡ on)) (sym (cells_at_changed g (tagged_state flat.site flat.count name on stamps) places 0 flat.cells))
@@ -147,5 +147,5 @@ pub others_stay_at : (flat : DocValue) (places : ℕ → Bool) (on : Bool) (name
 others_stay_at flat places on name d =
     let chosen : List TaggedCell = cells_at places 0 flat.cells in
     let stamps = changed_stamps name on chosen in
-    beside_stay (is_among stamps) (tagged flat.site flat.count name on stamps) (tagged_state flat.site flat.count name on stamps) (elsewhere flat.site flat.count name on stamps) places 0 flat.cells d
+    beside_stay (is_among stamps) (cell_with_tag flat.site flat.count name on stamps) (tagged_state flat.site flat.count name on stamps) (elsewhere flat.site flat.count name on stamps) places 0 flat.cells d
     (λ s m t. ap (λ l. is_among l s) (sym (stamps_at_cells places 0 flat.cells)) ∙ some_among (is_changed name on) chosen s t)

@@ -33,7 +33,7 @@ use Rattle.rt_plans.specs.DraftLaws.{AreTagNames, HaveTexts}
 use Rattle.rt_plans.specs.Insertions.{Insertion, Piece, cells_of_inserts, further_tags, inserts_for, left_neighbour, new_state, on_left, put_on, shared_names, tagged_cells, tags_between, with_listed, with_pieces}
 use Rattle.rt_plans.specs.DocValue.{DocValue}
 use Rattle.rt_plans.specs.Removals.{cells_at, gone_at}
-use Rattle.rt_plans.specs.TagWrites.{changed_stamps, tag_write, tagged, with_tag_at, with_tags_at}
+use Rattle.rt_plans.specs.TagWrites.{changed_stamps, tag_write, cell_with_tag, with_tag_at, with_tags_at}
 use Rattle.rt_plans.proofs.PieceDraftLaws.{listed_more}
 
 -- NAMES IN STATES
@@ -238,7 +238,7 @@ tags_between_are site log place right pieces start h t none = tags_between_in si
 
 -- AFTER OTHER WRITES
 
-tagged_named : (site count : ℕ) (name : Word) (on : Bool) (stamps : List Stamp) (cell : TaggedCell) → is_name name ≡ true → AreNamed cell.state → AreNamed (tagged site count name on stamps cell).state
+tagged_named : (site count : ℕ) (name : Word) (on : Bool) (stamps : List Stamp) (cell : TaggedCell) → is_name name ≡ true → AreNamed cell.state → AreNamed (cell_with_tag site count name on stamps cell).state
 tagged_named site count name on stamps cell n h = by (is_among stamps cell.stamp)
   where
     by : (b : Bool) → AreNamed (cond b (record cell { state = written (tag_write site count name on stamps cell.stamp) cell.state }) cell).state
@@ -248,7 +248,7 @@ tagged_named site count name on stamps cell n h = by (is_among stamps cell.stamp
     }
     by false = h
 
-pub all_tagged_named : (site count : ℕ) (name : Word) (on : Bool) (stamps : List Stamp) (cells : List TaggedCell) → is_name name ≡ true → CellsNamed cells → CellsNamed (map (tagged site count name on stamps) cells)
+pub all_tagged_named : (site count : ℕ) (name : Word) (on : Bool) (stamps : List Stamp) (cells : List TaggedCell) → is_name name ≡ true → CellsNamed cells → CellsNamed (map (cell_with_tag site count name on stamps) cells)
 all_tagged_named site count name on stamps [] n h = tt
 all_tagged_named site count name on stamps (c ∷ cs) n h = (tagged_named site count name on stamps c n h.0, all_tagged_named site count name on stamps cs n h.1)
 

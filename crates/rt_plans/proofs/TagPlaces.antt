@@ -8,7 +8,7 @@ use Rattle.rt_store.specs.Cells.{visible_of, text_of}
 use Rattle.rt_tags.specs.States.{is_on}
 use Rattle.rt_tags.specs.Tags.{is_listed}
 use Rattle.rt_tags.proofs.Places.{split}
-use Rattle.rt_plans.specs.TagWrites.{listed_if, is_changed, changed_stamps, tagged, with_tag, with_tag_at, with_tags_at}
+use Rattle.rt_plans.specs.TagWrites.{listed_if, is_changed, changed_stamps, cell_with_tag, with_tag, with_tag_at, with_tags_at}
 use Rattle.rt_plans.specs.DocValue.{DocValue}
 use Rattle.rt_store.specs.Shown.{TaggedCell}
 use Rattle.rt_plans.specs.Listed.{AreListed}
@@ -27,7 +27,7 @@ tag_alike flat r s on name h = ap (λ l. with_tag flat name on (changed_stamps n
 as_many : (flat : DocValue) (s : ℕ → Bool) (on : Bool) (name : Word) → length (visible_of (with_tag_at flat s on name).cells) ≡ length (visible_of flat.cells)
 as_many flat s on name =
     let stamps = changed_stamps name on (cells_at s 0 flat.cells) in
-    let g : TaggedCell → TaggedCell = tagged flat.site flat.count name on stamps in
+    let g : TaggedCell → TaggedCell = cell_with_tag flat.site flat.count name on stamps in
     ap length (visible_changed g (tagged_state flat.site flat.count name on stamps) flat.cells) ∙ length-map (visible_of flat.cells) g
 
 pub tags_alike_at : (names : List Word) (flat : DocValue) (r s : ℕ → Bool) (on : Bool) → AreAlike r s 0 (length (visible_of flat.cells)) → with_tags_at flat r on names ≡ with_tags_at flat s on names
@@ -39,7 +39,7 @@ tags_alike_at (name ∷ names) flat r s on h =
 pub tag_text : (flat : DocValue) (s : ℕ → Bool) (on : Bool) (name : Word) → text_of (with_tag_at flat s on name).cells ≡ text_of flat.cells
 tag_text flat s on name =
     let stamps = changed_stamps name on (cells_at s 0 flat.cells) in
-    text_changed (tagged flat.site flat.count name on stamps) (tagged_state flat.site flat.count name on stamps) flat.cells
+    text_changed (cell_with_tag flat.site flat.count name on stamps) (tagged_state flat.site flat.count name on stamps) flat.cells
 
 pub listed_text : (on : Bool) (name : Word) (flat : DocValue) → text_of (listed_if on name flat).cells ≡ text_of flat.cells
 listed_text true name flat = refl
@@ -72,7 +72,7 @@ pub still_absent : (flat : DocValue) (name q : Word) → All (λ c. is_on q c.st
 still_absent flat name q h =
     let stamps = changed_stamps name false (cells_at everywhere 0 flat.cells) in
     visible_after (λ c. is_on q c.state ≡ false) (λ c. is_on q c.state ≡ false) flat everywhere false name
-    (λ cell k. split (is_on q (tagged flat.site flat.count name false stamps cell).state)
+    (λ cell k. split (is_on q (cell_with_tag flat.site flat.count name false stamps cell).state)
     (λ t. elim (tagged_on flat.site flat.count name false stamps q cell t) [
       | inl before ↦ absurd (both_ways (is_on q cell.state) k before)
       | inr put ↦ absurd (both_ways false refl put.1)

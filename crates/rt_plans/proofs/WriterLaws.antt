@@ -14,7 +14,7 @@ use Rattle.rt_stamps.specs.Words.{Word}
 use Rattle.rt_stamps.proofs.Order.{same_from_true}
 use Rattle.rt_store.specs.Cells.{with_state}
 use Rattle.rt_tags.specs.Tags.{sel}
-use Rattle.rt_plans.specs.TagWrites.{without_tag, without_tags, changed_stamps, spans_before, operation_of, tag_write, tagged, with_tag_at}
+use Rattle.rt_plans.specs.TagWrites.{without_tag, without_tags, changed_stamps, spans_before, operation_of, tag_write, cell_with_tag, with_tag_at}
 use Rattle.rt_store.specs.Shown.{TaggedCell}
 use Rattle.rt_tags.specs.States.{Write, is_on, says_on, write_of, written}
 use Rattle.rt_tags.proofs.Greatest.{newer, write_of_written}
@@ -183,7 +183,7 @@ written_as count w state known k =
 -- CELLS
 
 module _ (site count : ℕ) (name : Word) (on : Bool) (stamps : List Stamp) where
-  pub tagged_written : (cell : TaggedCell) → IsWritten count cell.state → IsWritten (count + operations_for (span_count stamps)) (tagged site count name on stamps cell).state
+  pub tagged_written : (cell : TaggedCell) → IsWritten count cell.state → IsWritten (count + operations_for (span_count stamps)) (cell_with_tag site count name on stamps cell).state
   tagged_written cell h =
       split (is_among stamps cell.stamp)
       (λ t. let l = operation_within count stamps cell.stamp t in
@@ -194,7 +194,7 @@ module _ (site count : ℕ) (name : Word) (on : Bool) (stamps : List Stamp) wher
       (sym (cond-false (is_among stamps cell.stamp) (with_state (written (tag_write site count name on stamps cell.stamp) cell.state) cell) cell f))
       (λ q v e. let l = h q v e in omega (arith, l)))
 
-  pub tagged_on : (q : Word) (cell : TaggedCell) → is_on q (tagged site count name on stamps cell).state ≡ true → (is_on q cell.state ≡ true) ⊎ ((bytes_eq q name ≡ true) × (on ≡ true))
+  pub tagged_on : (q : Word) (cell : TaggedCell) → is_on q (cell_with_tag site count name on stamps cell).state ≡ true → (is_on q cell.state ≡ true) ⊎ ((bytes_eq q name ≡ true) × (on ≡ true))
   tagged_on q cell h =
       split (is_among stamps cell.stamp)
       (λ t. written_on q (tag_write site count name on stamps cell.stamp) cell.state
@@ -209,7 +209,7 @@ all_map P Q g h (c ∷ cs) k = All-cons Q (g c) (map g cs) (h c (All-head P c cs
 pub tag_written : (flat : DocValue) (places : ℕ → Bool) (on : Bool) (name : Word) → AreWritten flat.count flat.cells → AreWritten (with_tag_at flat places on name).count (with_tag_at flat places on name).cells
 tag_written flat places on name h =
     let stamps = changed_stamps name on (cells_at places 0 flat.cells) in
-    all_map (λ c. IsWritten flat.count c.state) (λ c. IsWritten (flat.count + operations_for (span_count stamps)) c.state) (tagged flat.site flat.count name on stamps) (tagged_written flat.site flat.count name on stamps) flat.cells h
+    all_map (λ c. IsWritten flat.count c.state) (λ c. IsWritten (flat.count + operations_for (span_count stamps)) c.state) (cell_with_tag flat.site flat.count name on stamps) (tagged_written flat.site flat.count name on stamps) flat.cells h
 
 pub tag_grows : (flat : DocValue) (places : ℕ → Bool) (on : Bool) (name : Word) → flat.count ≤ (with_tag_at flat places on name).count
 tag_grows flat places on name = omega arith

@@ -24,7 +24,7 @@ use Rattle.rt_plans.specs.Insertions.{Insertion, Piece, counts_for, insertion_of
 use Rattle.rt_plans.specs.RemovalDrafts.{removal_drafts}
 use Rattle.rt_plans.specs.Removals.{gone_at, operations_for, span_count, stamps_at}
 use Rattle.rt_plans.specs.TagDrafts.{tag_deletion_drafts, newline_drafts, tag_drafts, tags_drafts_at}
-use Rattle.rt_plans.specs.TagWrites.{bared, tagged, with_tags_at, without_tags}
+use Rattle.rt_plans.specs.TagWrites.{bared, cell_with_tag, with_tags_at, without_tags}
 
 -- a document has the cells of its site's history, and its greatest count
 pub record IsDocument (number : ℕ) (log : List Operation) (flat : DocValue) : Type 0 where
@@ -66,7 +66,8 @@ RemovalIsMade =
 abbrev pub TagsWriteAsFlat : Type 0
 TagsWriteAsFlat =
     (site : ℕ) (log : List Operation) (cells : List TaggedCell) (on : Bool) (name : Word) (stamps : List Stamp) → IsDistinct is_same stamps
-    → all_changed (operations_of site (tag_drafts MOST_SPANS on name stamps) log) cells ≡ map (tagged site (greatest_last_count log) name on stamps) cells
+    → all_changed (operations_of site (tag_drafts MOST_SPANS on name stamps) log) cells
+    ≡ map (cell_with_tag site (greatest_last_count log) name on stamps) cells
 
 abbrev pub TagsAreCounted : Type 0
 TagsAreCounted =

@@ -17,19 +17,19 @@ abbrev pub by_site : List Stamp → List Stamp
 by_site [] = []
 by_site (stamp ∷ stamps) = put_by_site stamp (by_site stamps)
 
-abbrev pub first_stamp : Span → Stamp
-first_stamp span = record { count = span.first; site = span.site }
+abbrev pub first_in_span : Span → Stamp
+first_in_span span = record { count = span.first; site = span.site }
 
 -- a span before others: one span with the first of them where that goes on with the next count
 abbrev pub attached : Span → List Span → List Span
 attached span [] = span ∷ []
 attached span (next ∷ spans) =
-    if is_same (first_stamp next) (next_stamp (last_stamp span)) then record next { first = span.first } ∷ spans else span ∷ next ∷ spans
+    if is_same (first_in_span next) (next_stamp (last_stamp span)) then record next { first = span.first } ∷ spans else span ∷ next ∷ spans
 
 -- of stamps by site the longest runs of consecutive counts
-abbrev pub runs : List Stamp → List Span
-runs [] = []
-runs (s ∷ ss) = attached (span_of s) (runs ss)
+abbrev pub consecutive_spans : List Stamp → List Span
+consecutive_spans [] = []
+consecutive_spans (s ∷ ss) = attached (span_of s) (consecutive_spans ss)
 
 -- a span is of a lesser site than another one, or of the same site and begins no later
 abbrev pub begins_by : Span → Span → Bool
@@ -37,7 +37,7 @@ begins_by a b = nat_lt a.site b.site || ((a.site == b.site) && nat_le a.first b.
 
 -- the spans of stamps
 abbrev pub spans_in : List Stamp → List Span
-spans_in stamps = runs (by_site stamps)
+spans_in stamps = consecutive_spans (by_site stamps)
 
 -- PARTS
 

@@ -6,7 +6,7 @@ use Rattle.rt_tags.specs.States.{names_on}
 use Rattle.rt_plans.specs.declared.inserting.Between.{Between}
 use Rattle.rt_plans.specs.declared.inserting.Plan.{Plan}
 use Rattle.rt_plans.specs.declared.pieces.PlannedPieces.{PlannedPieces}
-use Rattle.rt_plans.specs.InsertionDrafts.{behind}
+use Rattle.rt_plans.specs.InsertionDrafts.{last_element}
 use Rattle.rt_plans.specs.Insertions.{Insertion, all_listed, on_left}
 use Rattle.rt_plans.specs.Selections.{with_stamps}
 
@@ -16,7 +16,7 @@ use Rattle.rt_plans.specs.Selections.{with_stamps}
 pub record AreSoFar (after : Stamp) (selection : List Stamp) (listed : List Word) (pieces : PlannedPieces) (so_far : Insertion) : Type 0 where
   pub characters : pieces.characters ≡ length so_far.cells
   pub count : pieces.texts.count ≡ so_far.count
-  pub element : pieces.texts.behind ≡ behind after so_far.cells
+  pub element : pieces.texts.behind ≡ last_element after so_far.cells
   pub sel : with_stamps pieces.selected.items selection ≡ so_far.sel
   pub tags : all_listed (as_words pieces.names.items) listed ≡ so_far.tags
   pub last : option_map (λ names. as_words names.items) pieces.last ≡ option_map (λ cell. names_on cell.state) (on_left None so_far.cells)

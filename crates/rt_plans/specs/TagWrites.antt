@@ -41,14 +41,14 @@ abbrev pub tag_write : ℕ → ℕ → Word → Bool → List Stamp → Stamp �
 tag_write site count name on stamps stamp = record { name = name; writer = record { count = count + 1 + operation_of stamps stamp; site = site }; on = on }
 
 -- a cell after the operations that name some stamps
-abbrev pub tagged : ℕ → ℕ → Word → Bool → List Stamp → TaggedCell → TaggedCell
-tagged site count name on stamps cell =
+abbrev pub cell_with_tag : ℕ → ℕ → Word → Bool → List Stamp → TaggedCell → TaggedCell
+cell_with_tag site count name on stamps cell =
     if is_among stamps cell.stamp then record cell { state = written (tag_write site count name on stamps cell.stamp) cell.state } else cell
 
 -- a document after a tag was put on the characters of some stamps, or taken off: each operation takes a count
 abbrev pub with_tag : DocValue → Word → Bool → List Stamp → DocValue
 with_tag flat name on stamps = record flat {
-  cells = map (tagged flat.site flat.count name on stamps) flat.cells;
+  cells = map (cell_with_tag flat.site flat.count name on stamps) flat.cells;
   count = flat.count + operations_for (span_count stamps);
 }
 
@@ -100,5 +100,5 @@ cells_beside places place (cell ∷ cells) =
     else cell ∷ cells_beside places (place + 1) cells
 
 -- the last write of a tag on each character, if there is one
-abbrev pub writes_of : Word → List TaggedCell → List (Option Write)
-writes_of name cells = map (λ cell. write_of name cell.state) cells
+abbrev pub last_writes : Word → List TaggedCell → List (Option Write)
+last_writes name cells = map (λ cell. write_of name cell.state) cells

@@ -5,7 +5,7 @@ ghost use Rattle.rt_stamps.specs.Words.{as_words};
 ghost use Rattle.rt_ops.specs.Edits.{body_of};
 ghost use Rattle.rt_ops.specs.Operations.{Insert, Tag};
 ghost use Rattle.rt_rga.specs.OneOrMany.{items_in};
-ghost use Rattle.rt_plans.specs.InsertionDrafts.{behind, tags_on, text_drafts};
+ghost use Rattle.rt_plans.specs.InsertionDrafts.{last_element, tags_put_on, text_drafts};
 ghost use Rattle.rt_plans.specs.Insertions.{counts_for, further_tags, tagged_cells};
 
 use crate::counts::{further, last_count};
@@ -96,7 +96,7 @@ fn push_tags(
     span: Span,
     names: &[String],
 ) -> Result<(), Fault>
-    ensures ok { OnOk result (map body_of (items_in drafts.new) ≡ map body_of (items_in drafts.old) ++ tags_on span (as_words names.now)) }
+    ensures ok { OnOk result (map body_of (items_in drafts.new) ≡ map body_of (items_in drafts.old) ++ tags_put_on span (as_words names.now)) }
     ensures err { IsOkUnless result Fault.NoMemory }
 {
     for name in names {
@@ -126,7 +126,7 @@ impl Inserts {
         requires { self.old.count + length part.now + (length names.now - MOST_TAGS) ≤ GREATEST_COUNT }
         ensures drafts { OnOk result (map body_of (items_in self.new.drafts) ≡ map body_of (items_in self.old.drafts)
             ++ Insert self.old.behind (take MOST_TAGS (as_words names.now)) part.now
-            ∷ tags_on (record { site = site.number; first = self.old.count + 1; last = self.old.count + length part.now })
+            ∷ tags_put_on (record { site = site.number; first = self.old.count + 1; last = self.old.count + length part.now })
             (further_tags (as_words names.now))) }
         ensures count { OnOk result (self.new.count ≡ self.old.count + length part.now + (length names.now - MOST_TAGS)) }
         ensures behind { OnOk result (self.new.behind ≡ record { count = self.old.count + length part.now; site = site.number }) }
@@ -169,7 +169,7 @@ impl Inserts {
             ≡ text_drafts MOST_CHARACTERS site.number count after (as_words names.now) text.now) }
         ensures count { IfOk result (λ texts. texts.count ≡ count + counts_for (as_words names.now) text.now) }
         ensures within { IfOk result (λ texts. texts.count ≤ GREATEST_COUNT) }
-        ensures behind { IfOk result (λ texts. texts.behind ≡ behind after (tagged_cells site.number count (as_words names.now) text.now)) }
+        ensures behind { IfOk result (λ texts. texts.behind ≡ last_element after (tagged_cells site.number count (as_words names.now) text.now)) }
         ensures err { IfErr result (λ fault. (fault ≡ Fault.NoMemory)
             ⊎ ((fault ≡ Fault.ClockSpent) × (GREATEST_COUNT < count + counts_for (as_words names.now) text.now))) }
     {
@@ -202,7 +202,7 @@ impl Inserts {
         ensures count { OnOk result (self.new.count ≡ self.old.count + counts_for (as_words names.now) text.now) }
         ensures within { OnOk result (self.new.count ≤ GREATEST_COUNT) }
         ensures behind { OnOk result (self.new.behind
-            ≡ behind self.old.behind (tagged_cells site.number self.old.count (as_words names.now) text.now)) }
+            ≡ last_element self.old.behind (tagged_cells site.number self.old.count (as_words names.now) text.now)) }
         ensures same { OnErr result ((items_in self.new.drafts ≡ items_in self.old.drafts)
             × (self.new.count ≡ self.old.count) × (self.new.behind ≡ self.old.behind)) }
         ensures err { IfErr result (λ fault. (fault ≡ Fault.NoMemory)

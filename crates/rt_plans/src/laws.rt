@@ -17,7 +17,7 @@ ghost use Rattle.rt_plans.specs.DeletionLaws.{CellsHaveTagNames, CharactersAreSc
 ghost use Rattle.rt_plans.specs.DraftLaws.{AllTagsAreCounted, DeletesAreCounted, DeletesMakeGone, DeletesMayBeMade, DeletionsAreCounted, DeletionsAreMade, DeletionsInsertNone, DeletionsMayBeMade, InsertionHasNewCells, InsertionIsCounted, InsertionIsMade, InsertionMayBeMade, NewlineHasOneTagEach, NewlineIsBared, RemovalIsMade, SharedNamesAreTags, TagsAreCounted, TagsAreMade, TagsBetweenAreTags, TagsInsertNone, TagsMayBeMade, TagsWriteAsFlat, TextIsCounted, TextIsMade, TextIsPutAsFlat, TextMayBeMade};
 ghost use Rattle.rt_plans.specs.NamedSpans.{spans_in};
 ghost use Rattle.rt_store.specs.Spans.{each_next, is_among, is_clear_of, is_in_spans, is_span};
-ghost use Rattle.rt_plans.specs.TagWrites.{AreTagged, cells_beside, cells_but, with_tag, with_tag_at, writes_of};
+ghost use Rattle.rt_plans.specs.TagWrites.{AreTagged, cells_beside, cells_but, with_tag, with_tag_at, last_writes};
 ghost use Rattle.rt_store.specs.Written.{AreWritten};
 ghost use Rattle.rt_tags.specs.States.{is_on, names_on};
 ghost use Rattle.rt_tags.specs.Tags.{is_listed, sel};
@@ -60,7 +60,7 @@ pub fn tags_of_stamps()
     ensures others { (flat : DocValue) (name : Word) (on : Bool) (stamps : List Stamp)
         → cells_but stamps (with_tag flat name on stamps).cells ≡ cells_but stamps flat.cells }
     ensures tags { (flat : DocValue) (name other : Word) (on : Bool) (stamps : List Stamp) → bytes_eq other name ≡ false
-        → writes_of other (with_tag flat name on stamps).cells ≡ writes_of other flat.cells }
+        → last_writes other (with_tag flat name on stamps).cells ≡ last_writes other flat.cells }
     ensures rest { (flat : DocValue) (name : Word) (on : Bool) (stamps : List Stamp)
         → map (with_state []) (with_tag flat name on stamps).cells ≡ map (with_state []) flat.cells }
 {}

@@ -7,7 +7,7 @@ ghost use Rattle.rt_stamps.specs.Words.{Word, as_words};
 ghost use Rattle.rt_ops.specs.Edits.{body_of};
 ghost use Rattle.rt_rga.specs.OneOrMany.{items_in};
 ghost use Rattle.rt_tags.specs.States.{IsTag, name_at};
-ghost use Rattle.rt_plans.specs.InsertionDrafts.{behind, pieces_drafts, text_drafts};
+ghost use Rattle.rt_plans.specs.InsertionDrafts.{last_element, pieces_drafts, text_drafts};
 ghost use Rattle.rt_plans.specs.Insertions.{Insertion, counts_for, shared_names, tagged_cells, with_listed, with_pieces};
 ghost use Rattle.rt_plans.specs.PlannedPieces.{AreSoFar};
 
@@ -99,7 +99,7 @@ impl PlannedPieces {
         ensures few { OnOk result (self.new.characters ≤ self.new.texts.count) }
         ensures count { OnOk result (self.new.texts.count ≡ self.old.texts.count + counts_for (as_words names.now) text.now) }
         ensures within { OnOk result (self.new.texts.count ≤ GREATEST_COUNT) }
-        ensures behind { OnOk result (self.new.texts.behind ≡ behind self.old.texts.behind
+        ensures behind { OnOk result (self.new.texts.behind ≡ last_element self.old.texts.behind
             (tagged_cells site.number self.old.texts.count (as_words names.now) text.now)) }
         ensures names { OnOk result (as_words self.new.names.items
             ≡ as_words self.old.names.items ++ as_words names.now) }

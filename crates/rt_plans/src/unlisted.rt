@@ -10,7 +10,7 @@ ghost use Rattle.rt_store.specs.Shown.{TaggedCell, shown};
 ghost use Rattle.rt_store.specs.Spans.{is_among};
 ghost use Rattle.rt_tags.specs.States.{IsState, is_on, names_on, state_at};
 ghost use Rattle.rt_plans.specs.declared.inserting.Plan.{Plan};
-ghost use Rattle.rt_plans.specs.InsertionDrafts.{behind, text_drafts};
+ghost use Rattle.rt_plans.specs.InsertionDrafts.{last_element, text_drafts};
 ghost use Rattle.rt_plans.specs.InsertionPlans.{Plans};
 ghost use Rattle.rt_plans.specs.Insertions.{Insertion, counts_for, on_left, tags_between, with_unlisted};
 ghost use Rattle.rt_plans.specs.PlannedPieces.{ArePlanned, AreSoFar};
@@ -168,7 +168,7 @@ impl PlannedPieces {
         ensures drafts { OnOk result ((after : Stamp) (sel : List Stamp) (listed : List Word) (so_far : Insertion)
             → IfSome gap.now.right (λ cell. sel ≡ selected_stamps selection.now) → AreSoFar after sel listed self.old so_far
             → map body_of (items_in self.new.texts.drafts)
-            ≡ map body_of (items_in self.old.texts.drafts) ++ text_drafts MOST_CHARACTERS site.number so_far.count (behind after so_far.cells)
+            ≡ map body_of (items_in self.old.texts.drafts) ++ text_drafts MOST_CHARACTERS site.number so_far.count (last_element after so_far.cells)
             (tags_between (on_left (option_map (shown states.now) gap.now.left) so_far.cells) (option_map (shown states.now) gap.now.right)) (chars rest.now)) }
         ensures plans { IfOk result (λ between. (plan : Plan) (after : Stamp) (sel : List Stamp) (listed : List Word) (so_far : Insertion)
             → IfSome gap.now.right (λ cell. sel ≡ selected_stamps selection.now) → AreSoFar after sel listed self.old so_far

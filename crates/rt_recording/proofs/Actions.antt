@@ -27,7 +27,7 @@ use Rattle.rt_plans.proofs.RemovalDraftLaws.{last_spared}
 use Rattle.rt_plans.proofs.TagNames.{cells_have_names}
 use Rattle.rt_revert.specs.Reverting.{as_removed}
 use Rattle.rt_revert.specs.ReversionLaws.{MayReturn, MayRevert}
-use Rattle.rt_recording.specs.Recordings.{HasStayed, made}
+use Rattle.rt_recording.specs.Recordings.{HasStayed, span_action}
 use Rattle.rt_recording.specs.Settled.{is_gone as has_gone}
 use Rattle.rt_text.specs.Commands.{lost_in}
 use Rattle.rt_text.specs.Widgets.{ViewValue, begin_of, text_shown}
@@ -108,7 +108,7 @@ module _ (flat : DocValue) (kept : IsOfLog flat) (back : Stamp → Bool) (gone :
       (taken_stay places 0 (cells_of flat.log) (tell_gone (reading (characters flat.log))))
 
   pub action_stays : (kind : Kind) (after : ℕ) (removed : List (Removed (List Word))) → AllByRecursion (λ (r : Removed (List Word)). back r.stamp ≡ false) removed
-      → HasStayed back (made kind (counts_between flat.site flat.count after) removed)
+      → HasStayed back (span_action kind (counts_between flat.site flat.count after) removed)
   action_stays kind after removed h = record { inserted = counts_stay after; removed = h }
 
 -- ITS TAGS, AND NO FINAL NEWLINE
@@ -151,7 +151,7 @@ lost_sound view ranges kept =
     last_spared flat.log places kept.history (subst (λ (cells : List TaggedCell). SparesLast places (text_of cells)) kept.cells stays) in
     taken_sound places 0 flat.cells names (subst (λ (cells : List TaggedCell). is_among (stamps_at places 0 cells) FINAL ≡ false) (sym kept.cells) here)
 
-pub action_sound : (kind : Kind) (site before after : ℕ) (removed : List (Removed (List Word))) → 0 < site → AllByRecursion MayReturn removed → MayRevert (made kind (counts_between site before after) removed)
+pub action_sound : (kind : Kind) (site before after : ℕ) (removed : List (Removed (List Word))) → 0 < site → AllByRecursion MayReturn removed → MayRevert (span_action kind (counts_between site before after) removed)
 action_sound kind site before after removed h k = record { inserted = counts_spare_final site before after h; removed = k }
 
 -- an edit's action, where it is the site's own

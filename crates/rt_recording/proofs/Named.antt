@@ -20,8 +20,8 @@ use Rattle.rt_undo.proofs.Histories.{last_map}
 use Rattle.rt_recording.specs.declared.recorder.Prepared.{Prepared}
 use Rattle.rt_recording.specs.declared.recorder.Recorder.TheInside.{Inside}
 use Rattle.rt_recording.specs.Naming.{AreGiven, HistoryIsGiven, RemovedAreGiven, named_action, named_group, named_history, named_removed}
-use Rattle.rt_recording.specs.Recordings.{HasStayed, Recording, made}
-use Rattle.rt_recording.specs.Seen.{IsKept, IsPrepared, shown}
+use Rattle.rt_recording.specs.Recordings.{HasStayed, Recording, span_action}
+use Rattle.rt_recording.specs.Seen.{IsRecorder, IsPrepared, shown}
 
 -- STACKS
 
@@ -208,13 +208,13 @@ prepared_ready t u k stacks now ready (Some next) is = record {
 }
 
 -- what a recorder keeps, where its table alone is another one
-pub still_kept : (s : Inside) (u : TagStates) → KeepsIds s.table u → IsKept s → (stacks : UndoStacks) → stacks ≡ s.stacks
+pub still_kept : (s : Inside) (u : TagStates) → KeepsIds s.table u → IsRecorder s → (stacks : UndoStacks) → stacks ≡ s.stacks
     → HistoryIsGiven u stacks.history × IfSome s.next (IsPrepared u stacks)
 still_kept s u k is stacks e =
     subst (λ (now : UndoStacks). HistoryIsGiven u now.history × IfSome s.next (IsPrepared u now)) (sym e)
     (history_stays s.table u k s.stacks.history is.given, prepared_stays s.table u k s.stacks s.next is.next)
 
-pub same_but_table : (s : Inside) (u : TagStates) → KeepsIds s.table u → IsKept s → (stacks : UndoStacks) → stacks ≡ s.stacks
+pub same_but_table : (s : Inside) (u : TagStates) → KeepsIds s.table u → IsRecorder s → (stacks : UndoStacks) → stacks ≡ s.stacks
     → (old : Recording) → shown s ≡ old
     → record {
       history = named_history u stacks.history;
@@ -245,11 +245,11 @@ one_span : (inserted : Vec Span Global) (span : Span) → inserted.items ≡ spa
 one_span inserted span e = ap (λ l. stamps_in l) e ∙ append-nil (stamps_of_span span)
 
 pub prepared_still : (t : TagStates) (moves : Shown Move) (o : Option Prepared) (next : Prepared) (inserted : Vec Span Global) (kind : Kind) (span : Span)
-    → o ≡ Some next → inserted.items ≡ span ∷ [] → IfSome (prepared_removed t o) (λ removed. HasStayed (is_moved moves) (made kind span removed))
+    → o ≡ Some next → inserted.items ≡ span ∷ [] → IfSome (prepared_removed t o) (λ removed. HasStayed (is_moved moves) (span_action kind span removed))
     → IsStill moves (action_of (record { number = span.first; kind = kind; inserted = inserted; removed = next.removed }))
 prepared_still t moves o next inserted kind span is one stays =
-    let here : HasStayed (is_moved moves) (made kind span (map (named_removed t) (removed_in next.removed.items)))
-    = subst (λ x. IfSome (prepared_removed t x) (λ removed. HasStayed (is_moved moves) (made kind span removed))) is stays in
+    let here : HasStayed (is_moved moves) (span_action kind span (map (named_removed t) (removed_in next.removed.items)))
+    = subst (λ x. IfSome (prepared_removed t x) (λ removed. HasStayed (is_moved moves) (span_action kind span removed))) is stays in
     record {
       inserted = subst (λ l. AllByRecursion (λ s. is_moved moves s ≡ false) l) (sym (one_span inserted span one)) here.inserted;
       removed = removed_still t moves (removed_in next.removed.items) here.removed;
@@ -258,11 +258,11 @@ prepared_still t moves o next inserted kind span is one stays =
 pub prepared_history : (t : TagStates) (auto : Bool) (h new : History ℕ) (o : Option Prepared) (next : Prepared) (inserted : Vec Span Global) (kind : Kind) (span : Span)
     → o ≡ Some next → inserted.items ≡ span ∷ []
     → new ≡ with_action auto (action_of (record { number = span.first; kind = kind; inserted = inserted; removed = next.removed })) h
-    → IfSome (prepared_removed t o) (λ removed. named_history t new ≡ with_action auto (made kind span removed) (named_history t h))
+    → IfSome (prepared_removed t o) (λ removed. named_history t new ≡ with_action auto (span_action kind span removed) (named_history t h))
 prepared_history t auto h new o next inserted kind span is one e =
     let removed = map (named_removed t) (removed_in next.removed.items) in
-    let here : named_history t new ≡ with_action auto (made kind span removed) (named_history t h)
+    let here : named_history t new ≡ with_action auto (span_action kind span removed) (named_history t h)
     = ap (named_history t) e
     ∙ added_named t auto (action_of (record { number = span.first; kind = kind; inserted = inserted; removed = next.removed })) h
     ∙ (λ i. with_action auto (record { number = span.first; kind = kind; inserted = one_span inserted span one i; removed = removed }) (named_history t h)) in
-    subst (λ x. IfSome (prepared_removed t x) (λ removed. named_history t new ≡ with_action auto (made kind span removed) (named_history t h))) (sym is) here
+    subst (λ x. IfSome (prepared_removed t x) (λ removed. named_history t new ≡ with_action auto (span_action kind span removed) (named_history t h))) (sym is) here

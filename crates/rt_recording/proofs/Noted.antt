@@ -9,7 +9,7 @@ use Rattle.rt_store.specs.Cells.{text_of}
 use Rattle.rt_store.specs.Shown.{TaggedCell}
 use Rattle.rt_revert.specs.Reverting.{as_removed}
 use Rattle.rt_revert.specs.ReversionLaws.{AllMayRevert, MayRevert}
-use Rattle.rt_recording.specs.Recordings.{HasStayed, Recording, came_back, made}
+use Rattle.rt_recording.specs.Recordings.{HasStayed, Recording, came_back, span_action}
 use Rattle.rt_recording.specs.Settled.{AreGoneOnce, IsSettled, removed_in_history, is_gone}
 use Rattle.rt_plans.specs.declared.range.Range.{Range}
 use Rattle.rt_plans.specs.Deletions.{loss_in}
@@ -114,11 +114,11 @@ keeps_itself old = record { history = refl; undo = refl; auto = refl; back = λ 
 module _ (kind : Kind) (lost : List TaggedCell) (view new : ViewValue) (old mid next : Recording) (cells visible count site : ℕ)
     (same_cells : cells ≡ length view.doc.cells) (same_visible : visible ≡ length (text_of view.doc.cells)) (same_count : count ≡ view.doc.count) (same_site : site ≡ view.doc.site)
     (keeps : Keeps old mid)
-    (history : next.history ≡ noted_by (has_changed cells visible new.doc) mid.undo mid.auto (made kind (counts_between site count new.doc.count) (map as_removed lost)) mid.history)
+    (history : next.history ≡ noted_by (has_changed cells visible new.doc) mid.undo mid.auto (span_action kind (counts_between site count new.doc.count) (map as_removed lost)) mid.history)
     (settings : (next.undo ≡ mid.undo) × (next.auto ≡ mid.auto)) where
   pub noted_history : next.history ≡ noted kind lost (edited view old) new.doc
   noted_history = history ∙ (λ i. noted_by (has_changed (same_cells i) (same_visible i) new.doc) (keeps.undo i) (keeps.auto i)
-      (made kind (counts_between (same_site i) (same_count i) new.doc.count) (map as_removed lost)) (keeps.history i))
+      (span_action kind (counts_between (same_site i) (same_count i) new.doc.count) (map as_removed lost)) (keeps.history i))
 
   pub edit_done : (said : Result ViewValue Fault) → said ≡ Ok new → recorded_edit kind lost (edited view old) said ≡ Ok (edited new next)
   edit_done said e =
@@ -141,11 +141,11 @@ module _ (kind : Kind) (lost : List TaggedCell) (view new : ViewValue) (old mid 
 -- who came back under another stamp is none of the edit's characters
 pub edit_stays : (kind : Kind) (view : ViewValue) (old mid : Recording) (count site after : ℕ) (removed : List (Removed (List Word)))
     → count ≡ view.doc.count → site ≡ view.doc.site → IsSettled view old → IsOfLog view.doc → Keeps old mid
-    → AllByRecursion (λ (r : Removed (List Word)). came_back mid r.stamp ≡ false) removed → HasStayed (came_back mid) (made kind (counts_between site count after) removed)
+    → AllByRecursion (λ (r : Removed (List Word)). came_back mid r.stamp ≡ false) removed → HasStayed (came_back mid) (span_action kind (counts_between site count after) removed)
 edit_stays kind view old mid count site after removed c s settled kept keeps h =
-    let stays : HasStayed (came_back mid) (made kind (counts_between view.doc.site view.doc.count after) removed) =
+    let stays : HasStayed (came_back mid) (span_action kind (counts_between view.doc.site view.doc.count after) removed) =
     action_stays view.doc kept (came_back mid) (λ t back. settled.gone t (sym (keeps.back t) ∙ back)) kind after removed h in
-    subst (λ (x : _). x) (λ i. HasStayed (came_back mid) (made kind (counts_between (sym s i) (sym c i) after) removed)) stays
+    subst (λ (x : _). x) (λ i. HasStayed (came_back mid) (span_action kind (counts_between (sym s i) (sym c i) after) removed)) stays
 
 pub lost_stay : (view : ViewValue) (old mid : Recording) (ranges : List Range) → IsSettled view old → IsOfLog view.doc → Keeps old mid
     → AllByRecursion (λ (r : Removed (List Word)). came_back mid r.stamp ≡ false) (map as_removed (lost_in view ranges))

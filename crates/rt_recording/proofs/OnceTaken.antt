@@ -19,7 +19,7 @@ use Rattle.rt_plans.specs.Deletions.{Loss, loss_in, newline_left, without_places
 use Rattle.rt_plans.specs.DocValue.{DocValue, left_stamp, put_after}
 use Rattle.rt_plans.specs.Insertions.{Piece, insertion_of, left_neighbour}
 use Rattle.rt_plans.specs.Removals.{cells_at, gone_at}
-use Rattle.rt_plans.specs.TagWrites.{bared, tag_write, tagged, with_tag}
+use Rattle.rt_plans.specs.TagWrites.{bared, tag_write, cell_with_tag, with_tag}
 use Rattle.rt_store.specs.Cells.{after_element}
 use Rattle.rt_tags.specs.States.{names_on, written}
 use Rattle.rt_text.specs.Commands.{view_deleted, lost_in, none_inserted, view_replaced, right_behind, with_range_replaced, without_ranges}
@@ -141,16 +141,16 @@ have_gone_on old mid new xs stay went = λ s. by s (is_gone mid s) refl (is_gone
 
 -- A NEWLINE THAT LOSES ITS TAGS
 
-tagged_gone : (site count : ℕ) (name : Word) (on : Bool) (stamps : List Stamp) (cells : List TaggedCell) (s : Stamp) → is_gone (map (tagged site count name on stamps) cells) s ≡ is_gone cells s
+tagged_gone : (site count : ℕ) (name : Word) (on : Bool) (stamps : List Stamp) (cells : List TaggedCell) (s : Stamp) → is_gone (map (cell_with_tag site count name on stamps) cells) s ≡ is_gone cells s
 tagged_gone site count name on stamps [] s = refl
 tagged_gone site count name on stamps (c ∷ cs) s =
-    gone_cons (tagged site count name on stamps c) (map (tagged site count name on stamps) cs) s
+    gone_cons (cell_with_tag site count name on stamps c) (map (cell_with_tag site count name on stamps) cs) s
     ∙ by (is_among stamps c.stamp)
     ∙ ap (cond (is_same c.stamp s) c.gone) (tagged_gone site count name on stamps cs s)
     ∙ sym (gone_cons c cs s)
   where
     rest : Bool
-    rest = is_gone (map (tagged site count name on stamps) cs) s
+    rest = is_gone (map (cell_with_tag site count name on stamps) cs) s
 
     with_tag_on : TaggedCell
     with_tag_on = record c { state = written (tag_write site count name on stamps c.stamp) c.state }

@@ -14,7 +14,7 @@ use Rattle.rt_undo.specs.declared.action.Kind.TheVariants.{Insert, Delete, Repla
 use Rattle.rt_undo.specs.Actions.{Action}
 use Rattle.rt_undo.specs.Undo.{History, forced_on, with_action}
 use Rattle.rt_revert.specs.Reverting.{as_removed}
-use Rattle.rt_recording.specs.Recordings.{made}
+use Rattle.rt_recording.specs.Recordings.{span_action}
 use Rattle.rt_text.specs.Accepted.{view_with_new}
 use Rattle.rt_text.specs.Commands.{view_deleted, view_inserted, lost_in, view_replaced}
 use Rattle.rt_text.specs.Index.{place_at_index}
@@ -37,7 +37,7 @@ counts_between site before after = record { site = site; first = before + 1; las
 -- The action of an edit: its number is the count of its first operation; it put in the characters that have its counts, some of
 -- which are those of operations alone; and it took some away.
 abbrev pub edit_action : Kind → DocValue → DocValue → List TaggedCell → Action (List Word)
-edit_action kind old new lost = made kind (counts_between old.site old.count new.count) (map as_removed lost)
+edit_action kind old new lost = span_action kind (counts_between old.site old.count new.count) (map as_removed lost)
 
 -- An edit that changed the text is recorded where edits are, with automatic separators or without, and takes away what could be
 -- redone; else it forces the modified flag. One that changed no text leaves the history as it is.

@@ -30,8 +30,8 @@ abbrev pub came_back : Recording → Stamp → Bool
 came_back recording stamp = is_moved recording.moves stamp
 
 -- an action that put in the characters of a span, the first of which has the count of its first operation
-abbrev pub made : Kind → Span → List (Removed (List Word)) → Action (List Word)
-made kind span removed = record { number = span.first; kind = kind; inserted = stamps_of_span span; removed = removed }
+abbrev pub span_action : Kind → Span → List (Removed (List Word)) → Action (List Word)
+span_action kind span removed = record { number = span.first; kind = kind; inserted = stamps_of_span span; removed = removed }
 
 -- no character of an action came back under another stamp
 pub record HasStayed (back : Stamp → Bool) (action : Action (List Word)) : Type 0 where

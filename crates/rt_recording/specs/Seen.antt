@@ -26,6 +26,6 @@ pub record IsPrepared (table : TagStates) (stacks : UndoStacks) (next : Prepared
   pub room : vec_len next.inserted < vec_capacity next.inserted
   pub ready : stacks.ready ≡ true
 
-pub record IsKept (s : Inside) : Type 0 where
+pub record IsRecorder (s : Inside) : Type 0 where
   pub given : HistoryIsGiven s.table s.stacks.history
   pub next : IfSome s.next (IsPrepared s.table s.stacks)

@@ -5,7 +5,7 @@ ghost use Rattle.rt_stamps.specs.Outcomes.{Refuses};
 ghost use Rattle.rt_stamps.specs.Words.{Word, as_words};
 ghost use Rattle.rt_undo.specs.Actions.{Removed};
 ghost use Rattle.rt_revert.specs.Reverting.{as_removed};
-ghost use Rattle.rt_recording.specs.Recordings.{HasStayed, came_back, made};
+ghost use Rattle.rt_recording.specs.Recordings.{HasStayed, came_back, span_action};
 ghost use Rattle.rt_text.specs.Commands.{view_deleted, lost_in};
 ghost use Rattle.rt_text.specs.Index.{index_check, place_at_index};
 ghost use Rattle.rt_text.specs.Widgets.{widget_of};
@@ -123,10 +123,10 @@ pub(crate) fn note<S: TextStore>(
     requires count { before.count ≤ GREATEST_COUNT }
     requires prepared { recorder.old.undo ≡ true → (lost : List (Removed (List Word))) × (recorder.old.pending ≡ Some lost) }
     requires stays { (lost : List (Removed (List Word))) → recorder.old.undo ≡ true → recorder.old.pending ≡ Some lost
-        → HasStayed (came_back recorder.old) (made kind (counts_between before.site.number before.count view.now.doc.count) lost) }
+        → HasStayed (came_back recorder.old) (span_action kind (counts_between before.site.number before.count view.now.doc.count) lost) }
     ensures history { (lost : List (Removed (List Word))) → (recorder.old.undo ≡ true → recorder.old.pending ≡ Some lost)
         → recorder.new.history ≡ noted_by (has_changed before.cells before.visible view.now.doc) recorder.old.undo recorder.old.auto
-        (made kind (counts_between before.site.number before.count view.now.doc.count) lost) recorder.old.history }
+        (span_action kind (counts_between before.site.number before.count view.now.doc.count) lost) recorder.old.history }
     ensures settings { (recorder.new.undo ≡ recorder.old.undo) × (recorder.new.auto ≡ recorder.old.auto) }
     ensures moves { recorder.new.moves ≡ recorder.old.moves }
     ensures kept { IsOfLog view.now.doc }

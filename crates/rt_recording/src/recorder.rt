@@ -8,7 +8,7 @@ ghost use Rattle.rt_tags.specs.States.{KeepsIds};
 ghost use Rattle.rt_undo.specs.Actions.{group_of};
 ghost use Rattle.rt_undo.specs.Undo.{emptied, forced_on, is_modified, next_redo, next_undo, no_history, redo_done, renamed_by, separated, undo_done, unmodified, with_action, with_most};
 ghost use Rattle.rt_recording.specs.Naming.{AreGiven, named_group};
-ghost use Rattle.rt_recording.specs.Recordings.{HasStayed, HaveStayed, came_back, made};
+ghost use Rattle.rt_recording.specs.Recordings.{HasStayed, HaveStayed, came_back, span_action};
 ghost use Rattle.rt_recording.specs.Returns.{AreReturns, back_after, stamp_after};
 
 mod reverting;
@@ -63,11 +63,11 @@ impl Model for Recorder {
 
     ghost Value = { Recording };
 
-    ghost use Rattle.rt_recording.specs.Seen.{IsKept, shown};
+    ghost use Rattle.rt_recording.specs.Seen.{IsRecorder, shown};
 
     ghost view = { shown };
 
-    ghost invariant = { IsKept };
+    ghost invariant = { IsRecorder };
 }
 
 impl Recorder {
@@ -162,9 +162,9 @@ impl Recorder {
     pub fn record(&mut self, kind: Kind, site: Site, first: u64, last: u64)
         requires prepared { is_some self.old.pending ≡ true }
         requires stays { IfSome self.old.pending (λ removed. HasStayed (came_back self.old)
-            (made kind (record { site = site.number; first = first; last = last }) removed)) }
+            (span_action kind (record { site = site.number; first = first; last = last }) removed)) }
         ensures history { IfSome self.old.pending (λ removed. self.new.history ≡ with_action self.old.auto
-            (made kind (record { site = site.number; first = first; last = last }) removed) self.old.history) }
+            (span_action kind (record { site = site.number; first = first; last = last }) removed) self.old.history) }
         ensures pending { self.new.pending ≡ None }
         ensures settings { (self.new.undo ≡ self.old.undo) × (self.new.auto ≡ self.old.auto) }
         ensures others { (self.new.moves ≡ self.old.moves) × (self.new.table ≡ self.old.table) }

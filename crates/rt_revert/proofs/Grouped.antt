@@ -178,15 +178,15 @@ pub group_had : (flat : DocValue) (group : List (Action ℕ)) → HasGroup (port
 group_had flat group = has_group (portion_of flat group) group (λ s e. or_left (is_in_group group s) _ (or_right (is_same FINAL s) _ e))
 
 module _ (kept states : TagStates) (copy store : List (Cell ℕ)) (number count : ℕ) (offsets : Shown ℕ) (group : List (Action ℕ)) (plan : Progress) where
-  abbrev named : List (Cell ℕ)
-  named = only (is_in_group group) store
+  abbrev group_cells : List (Cell ℕ)
+  group_cells = only (is_in_group group) store
 
   pub begun_copy : IsBegun kept states copy store count offsets group plan → IsCopy kept copy plan.texts.count
   begun_copy b = record {
     states = b.given;
-    distinct = subst (IsDistinct is_same) (sym (same_stamps kept states copy named b.alike)) (only_distinct (is_in_group group) store b.distinct);
-    few = omega (arith, same_length kept states copy named b.alike, only_fewer (is_in_group group) store, b.few);
-    older = subst (λ (m : ℕ). AreUpTo m copy) (sym b.new.greatest) (same_up_to kept states count copy named b.alike (only_up_to (is_in_group group) count store b.older));
+    distinct = subst (IsDistinct is_same) (sym (same_stamps kept states copy group_cells b.alike)) (only_distinct (is_in_group group) store b.distinct);
+    few = omega (arith, same_length kept states copy group_cells b.alike, only_fewer (is_in_group group) store, b.few);
+    older = subst (λ (m : ℕ). AreUpTo m copy) (sym b.new.greatest) (same_up_to kept states count copy group_cells b.alike (only_up_to (is_in_group group) count store b.older));
   }
 
   pub begun_going : IsBegun kept states copy store count offsets group plan → IsUnderWay kept plan
@@ -208,7 +208,7 @@ module _ (kept states : TagStates) (copy store : List (Cell ℕ)) (number count 
       let n = b.new in
       let has = has_of flat.count group in
       let stamps : stamps_of flat.cells ≡ stamps_of store = ap stamps_of of.cells ∙ stamps_shown (state_at states) store in
-      let ours : only has flat.cells ≡ map (shown states) named =
+      let ours : only has flat.cells ≡ map (shown states) group_cells =
       ap (only has) of.cells ∙ only_shown has (state_at states) store
       ∙ ap (map (shown states)) (ap (λ m. only (has_of m group) store) of.count ∙ only_named count group store b.older) in
       let like : LookAlike (map (shown kept) copy) (only has flat.cells) = subst (λ (l : List TaggedCell). LookAlike (map (shown kept) copy) l) (sym ours) b.alike in

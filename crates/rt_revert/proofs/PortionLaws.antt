@@ -182,9 +182,9 @@ after_found {T} front x rest root n =
     cond-false (is_same x.stamp ROOT) 0 (unwrap_or (position_of (front ++ x ∷ rest) x.stamp) 0 + 1) root
     ∙ omega (arith, ap (λ o. unwrap_or o 0) (found_behind front rest x n), length-append front (x ∷ []))
 
-behind : {T : Type 0} (front : List (Cell T)) (x : Cell T) (rest : List (Cell T)) → is_same x.stamp ROOT ≡ false → is_among (stamps_of front) x.stamp ≡ false
+visible_behind : {T : Type 0} (front : List (Cell T)) (x : Cell T) (rest : List (Cell T)) → is_same x.stamp ROOT ≡ false → is_among (stamps_of front) x.stamp ≡ false
     → visible_before (front ++ x ∷ rest) (after_element (front ++ x ∷ rest) x.stamp) ≡ length (visible_of (front ++ x ∷ []))
-behind {T} front x rest root n =
+visible_behind {T} front x rest root n =
     (λ i. visible_before (sym (append_assoc front (x ∷ []) rest) i) (after_found front x rest root n i))
     ∙ ap (λ (l : List (Cell T)). length (visible_of l)) (take_front (front ++ x ∷ []) rest)
 
@@ -206,11 +206,11 @@ spot_law {T} has cells s h a = split (is_same s ROOT)
     let one : only has (front ++ x ∷ []) ≡ only has front ++ x ∷ [] = only_parted has front x [] hx in
     let ours : visible_before (only has (front ++ x ∷ rest)) (after_element (only has (front ++ x ∷ rest)) x.stamp) ≡ length (visible_of (only has (front ++ x ∷ []))) =
     ap (λ (l : List (Cell T)). visible_before l (after_element l x.stamp)) (only_parted has front x rest hx)
-    ∙ behind (only has front) x (only has rest) root (only_none has front x.stamp n)
+    ∙ visible_behind (only has front) x (only has rest) root (only_none has front x.stamp n)
     ∙ ap (λ (l : List (Cell T)). length (visible_of l)) (sym one) in
     let all : visible_before (front ++ x ∷ rest) (after_element (front ++ x ∷ rest) x.stamp)
     ≡ visible_before (only has (front ++ x ∷ rest)) (after_element (only has (front ++ x ∷ rest)) x.stamp) + others_before has (front ++ x ∷ rest) x.stamp =
-    omega (arith, behind front x rest root n, ours, others_parted has front x rest n, visible_parts has (front ++ x ∷ []), others_append has front x hx) in
+    omega (arith, visible_behind front x rest root n, ours, others_parted has front x rest n, visible_parts has (front ++ x ∷ []), others_append has front x hx) in
     (λ i. visible_before (w.is i) (after_element (w.is i) (sym w.stamp i))) ∙ all
     ∙ (λ i. visible_before (only has (sym w.is i)) (after_element (only has (sym w.is i)) (w.stamp i)) + others_before has (sym w.is i) (w.stamp i))
     ∙ ap (λ n. visible_before (only has cells) (after_element (only has cells) s) + n) (sym (cond-false (is_same s ROOT) 0 (others_before has cells s) e)))

@@ -7,7 +7,7 @@ use Rattle.rt_stamps.specs.declared.stamp.Stamp.{Stamp}
 use Rattle.rt_ops.specs.Operations.{stamps_from, stamps_of_span}
 use Rattle.rt_undo.specs.declared.action.RemovedSpan.{RemovedSpan}
 use Rattle.rt_undo.specs.Actions.{Removed, removed_in, removed_of, removed_with}
-use Rattle.rt_revert.specs.Keeping.{follows}
+use Rattle.rt_revert.specs.Keeping.{continues_span}
 
 abbrev pub one : Stamp → ℕ → Removed ℕ
 one stamp state = record { stamp = stamp; tags = state }
@@ -32,8 +32,8 @@ record Behind (part : RemovedSpan) (stamp : Stamp) (state : ℕ) : Type 0 where
   site : stamp.site ≡ part.span.site
   count : stamp.count ≡ part.span.last + 1
 
-behind : (part : RemovedSpan) (stamp : Stamp) (state : ℕ) → follows part stamp state ≡ true → Behind part stamp state
-behind part stamp state e = record { same = grind (arith, nat_tests); order = grind (arith, nat_tests); site = grind (arith, nat_tests); count = grind (arith, nat_tests) }
+continues_behind : (part : RemovedSpan) (stamp : Stamp) (state : ℕ) → continues_span part stamp state ≡ true → Behind part stamp state
+continues_behind part stamp state e = record { same = grind (arith, nat_tests); order = grind (arith, nat_tests); site = grind (arith, nat_tests); count = grind (arith, nat_tests) }
 
 of_next : (part : RemovedSpan) (stamp : Stamp) (state : ℕ) → Behind part stamp state
     → stamps_of_span (record { site = stamp.site; first = part.span.first; last = stamp.count }) ≡ stamps_of_span part.span ++ stamp ∷ []
@@ -50,11 +50,11 @@ of_next part stamp state b =
 parts_more : (parts : List RemovedSpan) (part : RemovedSpan) → removed_in (parts ++ part ∷ []) ≡ removed_in parts ++ removed_of part
 parts_more parts part = flat_map-append removed_of parts (part ∷ []) ∙ ap (λ l. removed_in parts ++ l) (append-nil (removed_of part))
 
-pub pushed_behind : (parts : List RemovedSpan) (last : RemovedSpan) (stamp : Stamp) (state : ℕ) → follows last stamp state ≡ true
+pub pushed_behind : (parts : List RemovedSpan) (last : RemovedSpan) (stamp : Stamp) (state : ℕ) → continues_span last stamp state ≡ true
     → removed_in (parts ++ record { span = record { site = stamp.site; first = last.span.first; last = stamp.count }; state = state } ∷ [])
     ≡ removed_in (parts ++ last ∷ []) ++ one stamp state ∷ []
 pushed_behind parts last stamp state e =
-    let b = behind last stamp state e in
+    let b = continues_behind last stamp state e in
     parts_more parts (record { span = record { site = stamp.site; first = last.span.first; last = stamp.count }; state = state })
     ∙ ap (λ l. removed_in parts ++ map (removed_with state) l) (of_next last stamp state b)
     ∙ ap (λ l. removed_in parts ++ l) (map-append (removed_with state) (stamps_of_span last.span) (stamp ∷ []))

@@ -58,14 +58,14 @@ spans_more spans i d lt = ap stamps_in (drop_more spans i d lt)
 covered_last : (front : List Range) (range : Range) (at : ℕ) → is_covered (front ++ range ∷ []) at ≡ (is_covered front at || is_in range at)
 covered_last front range at = covered_append front (range ∷ []) at ∙ ap (λ b. is_covered front at || b) (or_nothing (is_in range at))
 
-joined : (last : Range) (place at : ℕ) → is_behind last place ≡ true → is_in (record { from = last.from; to = place + 1 }) at ≡ (is_in last at || is_in (record { from = place; to = place + 1 }) at)
-joined last place at e = grind (arith, nat_tests, e)
+joined_range : (last : Range) (place at : ℕ) → is_behind last place ≡ true → is_in (record { from = last.from; to = place + 1 }) at ≡ (is_in last at || is_in (record { from = place; to = place + 1 }) at)
+joined_range last place at e = grind (arith, nat_tests, e)
 
 pub placed_behind : (front : List Range) (last : Range) (place at : ℕ) → is_behind last place ≡ true
     → is_covered (front ++ record { from = last.from; to = place + 1 } ∷ []) at ≡ (is_covered (front ++ last ∷ []) at || is_covered (range_at (Some place)) at)
 placed_behind front last place at e =
     covered_last front (record { from = last.from; to = place + 1 }) at
-    ∙ ap (λ b. is_covered front at || b) (joined last place at e)
+    ∙ ap (λ b. is_covered front at || b) (joined_range last place at e)
     ∙ sym (or_left_assoc (is_covered front at) (is_in last at) (is_in (record { from = place; to = place + 1 }) at))
     ∙ (λ i. sym (covered_last front last at) i || sym (or_nothing (is_in (record { from = place; to = place + 1 }) at)) i)
 

@@ -11,6 +11,6 @@ pub record AreAlike (states table : TagStates) (alike : Alike) : Type 0 where
   pub names : names_on (state_at table alike.own) ≡ names_on (state_at states alike.theirs)
 
 -- a character that had the same tags as those of a span, with the stamp of the count after their last
-abbrev pub follows : RemovedSpan → Stamp → ℕ → Bool
-follows part stamp state =
+abbrev pub continues_span : RemovedSpan → Stamp → ℕ → Bool
+continues_span part stamp state =
     (part.state == state) && (nat_le part.span.first part.span.last && ((stamp.site == part.span.site) && (stamp.count == part.span.last + 1)))

@@ -67,7 +67,7 @@ pub record IsUnderWay (table : TagStates) (plan : Progress) : Type 0 where
   pub offsets : AreSmall plan.offsets
 
 -- The working copy has some of the document's cells, and all that are newer; the plan knows how many others stand before each.
-pub record IsWithin (plan : Progress) (part : Portion) (r : Reversion) : Type 0 where
+pub record KnowsPortion (plan : Progress) (part : Portion) (r : Reversion) : Type 0 where
   pub newer : (s : Stamp) → plan.texts.count < s.count → part.has s ≡ true
   pub back : AllByRecursion (λ (x : Return). part.has x.newer ≡ true) r.returns
   pub offsets : AreOffsets plan.offsets part.has r.doc.cells
@@ -78,7 +78,7 @@ pub record IsWithin (plan : Progress) (part : Portion) (r : Reversion) : Type 0 
 -- both are what a reversion in a document of a site has come to
 pub record IsSoFar (table : TagStates) (number : ℕ) (copy : List (Cell ℕ)) (plan : Progress) (part : Portion) (r : Reversion) : Type 0 where
   pub cells : LookAlike (map (shown table) copy) (only part.has r.doc.cells)
-  pub within : IsWithin plan part r
+  pub within : KnowsPortion plan part r
   pub site : r.doc.site ≡ number
   pub count : r.doc.count ≡ plan.texts.count
   pub drafts : r.drafts ≡ map body_of (items_in plan.texts.drafts)

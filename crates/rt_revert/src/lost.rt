@@ -1,7 +1,7 @@
 // Removed characters by spans.
 ghost use Rattle.std.specs.Prelude.{◌≡◌, ◌∷◌, ◌++◌, [], IfOk, IsOkUnless, OnErr, OnOk, map};
 ghost use Rattle.rt_undo.specs.Actions.{removed_in};
-ghost use Rattle.rt_revert.specs.Keeping.{follows};
+ghost use Rattle.rt_revert.specs.Keeping.{continues_span};
 ghost use Rattle.rt_revert.specs.Planning.{cell_removed};
 
 use rt_stamps::{Fault, Span, Stamp};
@@ -12,8 +12,8 @@ use std::alloc::Global;
 
 // Whether a removed character stands behind those of a span: its stamp is the next one, and it had the
 // same tags.
-fn follows(part: &RemovedSpan, stamp: Stamp, state: StateId) -> bool
-    ensures { result ≡ follows part.now stamp state }
+fn continues_span(part: &RemovedSpan, stamp: Stamp, state: StateId) -> bool
+    ensures { result ≡ continues_span part.now stamp state }
 {
     part.state == state
         && part.span.first <= part.span.last
@@ -39,7 +39,7 @@ pub fn push_removed(
         last: stamp.count,
     };
     if let Some(last) = removed.pop() {
-        if follows(&last, stamp, state) {
+        if continues_span(&last, stamp, state) {
             let first = last.span.first;
             let span = Span { first, ..span };
             removed.push_reserved(RemovedSpan { span, state });

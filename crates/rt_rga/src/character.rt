@@ -7,11 +7,10 @@ ghost use Rattle.rt_rga.specs.Making.{next_insert};
 ghost use Rattle.rt_rga.specs.Replicas.{IsReplica};
 
 use crate::new_cells::new_cell;
-use rt_oplog::{Edit, OpLog, Text};
+use rt_oplog::OpLog;
 use rt_stamps::{Clock, Fault, Stamp};
 use rt_store::TextStore;
 use rt_tags::{StateId, StateTable};
-use std::alloc::Global;
 use std::slice;
 
 /// Puts a new character behind an element, as the next operation of a log does. Want of memory, and then the cells stay.
@@ -46,7 +45,6 @@ pub(crate) fn put_character<S: TextStore>(
 /// Logs the next operation, which puts a character behind an element, where there is room.
 #[inline(always)]
 pub(crate) fn push_character(
-    alloc: Global,
     log: &mut OpLog,
     clock: &mut Clock,
     stamp: Stamp,
@@ -61,10 +59,5 @@ pub(crate) fn push_character(
     ensures seen { clock.new ≡ greatest_last_count log.new.operations }
 {
     clock.saw(stamp.count);
-    let insert = Edit::Insert {
-        after,
-        tags: Vec::new(alloc),
-        text: Text::of(character),
-    };
-    log.append_next(stamp, insert);
+    log.append_typed(stamp, after, character);
 }

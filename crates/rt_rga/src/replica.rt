@@ -388,14 +388,7 @@ impl<S: TextStore> Replica<S> {
             after,
             character,
         )?;
-        push_character(
-            self.alloc,
-            &mut self.log,
-            &mut self.clock,
-            stamp,
-            after,
-            character,
-        );
+        push_character(&mut self.log, &mut self.clock, stamp, after, character);
         self.notes.add(noted);
         Ok(())
     }

@@ -1,12 +1,12 @@
 -- Rows of typed characters.
-use Rattle.std.proofs.Common.{◌≡◌, ℕ, zero, suc, ◌+◌, ◌-◌, ◌<◌, Bool, true, refl, sym, ap, ◌∙◌, subst, arith, List, [], ◌∷◌, ◌++◌, length, ◌&&◌, ◌==◌, get_or, Some, Option}
+use Rattle.std.proofs.Common.{◌≡◌, ℕ, zero, suc, ◌+◌, ◌-◌, ◌<◌, ◌≤◌, Bool, true, refl, sym, ap, ◌∙◌, subst, arith, List, [], ◌∷◌, ◌++◌, length, ◌&&◌, ◌==◌, get_or, Some, Option}
 use Rattle.std.proofs.lemmas.Bool.Decides.{nat_tests}
 use Rattle.std.specs.Prelude.{slice_get}
 use Rattle.rt_stamps.specs.declared.stamp.Stamp.{Stamp}
 use Rattle.rt_stamps.specs.Stamps.{is_same}
 use Rattle.rt_stamps.proofs.Order.{same_refl, same_from_true}
 use Rattle.rt_ops.specs.Operations.{Body, Insert, Delete, Tag, Operation, stamp_of}
-use Rattle.rt_rows.specs.TypedRows.{RowStart, TypedRow, nth, typed_from, operations_in_row, with_character, puts_one, is_next, character_of, one_of}
+use Rattle.rt_rows.specs.TypedRows.{RowStart, TypedRow, nth, typed_from, operations_in_row, with_character, puts_one, is_next, character_of}
 
 -- one more character at the end
 
@@ -80,23 +80,6 @@ row_exact row op c h e =
     let same : nth row.start (length row.text) c ≡ op = last_same (operations_in_row row) (nth row.start (length row.text) c) op made in
     subst (λ x. test_at row.start (length row.text) x ≡ true) same (next_refl row.start (length row.text) c h)
 
-pub one_is : (body : Body) (found : Stamp × ℕ) → one_of body ≡ Some found → character_of body ≡ found.1
-one_is (Insert after [] []) found h = absurd (cc h)
-one_is (Insert after [] (x ∷ [])) found h = let e : (after, x) ≡ found = cc h in ap (λ (p : Stamp × ℕ). p.1) e
-one_is (Insert after [] (x ∷ (y ∷ text))) found h = absurd (cc h)
-one_is (Insert after (name ∷ names) text) found h = absurd (cc h)
-one_is (Delete spans) found h = absurd (cc h)
-one_is (Tag on name spans) found h = absurd (cc h)
-
--- the body of an Insert of just one
-pub one_body : (body : Body) (found : Stamp × ℕ) → one_of body ≡ Some found → body ≡ Insert found.0 [] (found.1 ∷ [])
-one_body (Insert after [] []) found h = absurd (cc h)
-one_body (Insert after [] (x ∷ [])) found h = let e : (after, x) ≡ found = cc h in ap (λ (p : Stamp × ℕ). Insert p.0 [] (p.1 ∷ [])) e
-one_body (Insert after [] (x ∷ (y ∷ text))) found h = absurd (cc h)
-one_body (Insert after (name ∷ names) text) found h = absurd (cc h)
-one_body (Delete spans) found h = absurd (cc h)
-one_body (Tag on name spans) found h = absurd (cc h)
-
 pub typed_get : (start : RowStart) (place : ℕ) (text : List ℕ) (k : ℕ) → k < length text → slice_get (typed_from start place text) k ≡ Some (nth start (place + k) (get_or text k 0))
 typed_get start place [] k l = absurd (omega arith)
 typed_get start place (x ∷ text) zero l =
@@ -107,3 +90,19 @@ typed_get start place (x ∷ text) (suc k) l =
     let z : suc place + k ≡ place + suc k = omega arith in
     let some : Operation → Option Operation = λ o. Some o in
     typed_get start (suc place) text k (omega arith) ∙ ap (λ n. some (nth start n (get_or text k 0))) z
+
+pub typed_or : (start : RowStart) (place : ℕ) (text : List ℕ) (k : ℕ) (d : Operation) → k < length text → get_or (typed_from start place text) k d ≡ nth start (place + k) (get_or text k 0)
+typed_or start place [] k d l = absurd (omega arith)
+typed_or start place (x ∷ text) zero d l = let z : place ≡ place + 0 = omega arith in ap (λ n. nth start n x) z
+typed_or start place (x ∷ text) (suc k) d l =
+    let z : suc place + k ≡ place + suc k = omega arith in
+    typed_or start (suc place) text k d (omega arith) ∙ ap (λ n. nth start n (get_or text k 0)) z
+
+pub typed_past : (start : RowStart) (place : ℕ) (text : List ℕ) (k : ℕ) (d : Operation) → length text ≤ k → get_or (typed_from start place text) k d ≡ d
+typed_past start place [] k d l = refl
+typed_past start place (x ∷ text) zero d l = absurd (omega arith)
+typed_past start place (x ∷ text) (suc k) d l = typed_past start (suc place) text k d (omega arith)
+
+-- the count of the next operation
+pub next_count : (row : TypedRow) (op : Operation) → is_next row op ≡ true → op.count ≡ row.start.count + length row.text
+next_count row op t = grind (arith, nat_tests, t)

@@ -1,5 +1,5 @@
 -- Rows of typed characters, and the operations that they stand for, in the order of their counts.
-use Rattle.std.specs.Prelude.{ℕ, zero, suc, ◌+◌, ◌-◌, ◌==◌, ◌&&◌, Bool, false, List, [], ◌∷◌, ◌++◌, length, Option, Some, None}
+use Rattle.std.specs.Prelude.{ℕ, zero, suc, ◌+◌, ◌-◌, ◌==◌, ◌&&◌, Bool, false, List, [], ◌∷◌, ◌++◌, length}
 use Rattle.rt_stamps.specs.declared.stamp.Stamp.{Stamp}
 use Rattle.rt_stamps.specs.Stamps.{is_same}
 use Rattle.rt_ops.specs.Operations.{Body, Insert, Operation, stamp_of}
@@ -64,8 +64,3 @@ is_next row op =
 abbrev pub character_of : Body → ℕ
 character_of (Insert after tags (c ∷ text)) = c
 character_of _ = 0
-
--- the element and the character of an Insert of just one, without tags
-abbrev pub one_of : Body → Option (Stamp × ℕ)
-one_of (Insert after [] (c ∷ [])) = Some (after, c)
-one_of _ = None

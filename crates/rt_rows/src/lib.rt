@@ -1,12 +1,13 @@
-//! Operations in the order in which they came, where what a site typed in a row is kept as one text.
+//! Operations in rows, where what a site typed one after the other is kept as one text.
 #![tactic(auto)]
 
 pub mod laws;
 mod row;
 pub mod rows;
 mod stored;
-mod typing;
+pub mod typed;
 pub mod view;
 
-pub use rows::Rows;
+pub use rows::{RowPlace, Rows};
+pub use typed::TypedOp;
 pub use view::{OpView, typed_op};

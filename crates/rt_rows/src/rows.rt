@@ -1,172 +1,240 @@
-// Operations in the order in which they came.
-ghost use Rattle.std.specs.Prelude.{◌≡◌, ℕ, ◌+◌, ◌<◌, ◌≤◌, ◌++◌, ◌∷◌, [], true, false, length, slice_get, slice_index_or, Some, vec_len, vec_capacity, IsOk, OnOk, IsOkUnless};
+// Operations in rows.
+ghost use Rattle.std.specs.Prelude.{◌≡◌, ◌+◌, ◌<◌, ◌^◌, ◌≤◌, ◌∷◌, [], IfNone, IfSome, length, vec_len, vec_capacity, IsOk, OnOk, IsOkUnless};
 ghost use Rattle.rt_stamps.specs.declared.fault.Fault.TheVariants.{NoMemory};
 ghost use Rattle.rt_stamps.specs.declared.limits.TheConstants.{GREATEST_COUNT};
-ghost use Rattle.rt_ops.specs.Edits.{body_of};
-ghost use Rattle.rt_ops.specs.Rules.{keeps_rules};
-ghost use Rattle.rt_rows.specs.Stored.{ArePlacedFrom, operations_in, operations_of};
-ghost use Rattle.rt_rows.specs.Views.{operation_in};
+ghost use Rattle.rt_ops.specs.Operations.{Operation, stamp_of};
+ghost use Rattle.rt_rows.specs.Places.{HasPlace, KeepsPlaces, op_at};
+ghost use Rattle.rt_rows.specs.Stored.{operations_of, rows_in};
+ghost use Rattle.rt_rows.specs.Views.{operation_in, operation_typed};
 
-use crate::OpView;
+use crate::row::Row;
 use crate::stored::Stored;
+use crate::typed::typed_in;
+use crate::{OpView, TypedOp};
 use rt_ops::Op;
-use rt_stamps::Fault;
+use rt_stamps::{Fault, ROOT, Stamp};
 use std::alloc::Global;
 use std::marker::Model;
 
-/// What is kept of some operations, and the place of the first of them among all.
-#[derive(Drop)]
-pub(crate) struct Placed {
-    pub first: usize,
-    pub stored: Stored,
+/// Where an operation is kept: a row, and its place in the row, from 0 on.
+#[derive(Clone, Copy)]
+pub struct RowPlace {
+    pub row: u32,
+    pub at: u32,
 }
 
-/// Operations in the order in which they came. Inserts of one character without tags by one site, each after the one before
-/// with the following count, lie together as a text where they come one after the other: such a one takes 4 bytes, up to 8
-/// where the text has grown, and else an operation takes some 120.
+/// Operations, each of which keeps its place. Inserts of one character without tags by one site, each after the one before
+/// with the following count, are kept as one text: a row, of 4,096 at most, also where other sites' operations come
+/// between. Each takes 4 bytes, up to 8 where the text has grown by doubling. Any other operation is a row by itself. A row
+/// takes some 110 bytes.
 pub struct Rows {
     alloc: Global,
-    placed: Vec<Placed>,
-    /// How many operations there are.
-    len: usize,
+    rows: Vec<Stored>,
+    /// The row of the newest operation.
+    latest: u32,
+    /// The last rows that were begun by characters, so that what some sites type at a time lies in rows.
+    recent: [u32; RECENT],
+    /// Which of them the next one takes the place of.
+    oldest: usize,
 }
+
+/// How many rows, beside that of the newest operation, a further character is looked for in.
+const RECENT: usize = 8;
 
 // Written out, so that where a log is let go its operations are one step for the crates above.
 impl Drop for Rows {
     fn drop(self) {
         let Rows {
             alloc: _,
-            placed: _,
-            len: _,
+            rows: _,
+            latest: _,
+            recent: _,
+            oldest: _,
         } = self;
     }
 }
 
 impl Model for Rows {
-    ghost use Rattle.std.specs.Prelude.{◌≡◌, ◌-◌, ◌^◌, length, min, vec_len, vec_capacity};
-    ghost use Rattle.rt_rows.specs.Stored.{ArePlacedFrom, RowsValue, operations_in};
+    ghost use Rattle.std.specs.Prelude.{◌-◌, ◌^◌, min, vec_len, vec_capacity};
+    ghost use Rattle.rt_rows.specs.Places.{RowsValue};
+    ghost use Rattle.rt_rows.specs.Stored.{rows_in};
 
     ghost Value = { RowsValue };
 
     ghost view = { λ rows. record {
-      operations = operations_in rows.placed.items;
-      room = min (vec_capacity rows.placed - vec_len rows.placed) (2 ^ 64 - 1 - rows.len);
-      stored = vec_len rows.placed;
+      rows = rows_in rows.rows.items;
+      room = min (vec_capacity rows.rows - vec_len rows.rows) (2 ^ 32 - vec_len rows.rows);
     } };
-
-    ghost invariant = { λ rows. ArePlacedFrom 0 rows.placed.items × (rows.len ≡ length (operations_in rows.placed.items)) };
 }
 
-/// Where the operation of a place is kept.
-fn found(placed: &[Placed], place: usize) -> usize
-    requires kept { ArePlacedFrom 0 placed.now }
-    requires within { place < length (operations_in placed.now) }
-    ensures within { result < length placed.now }
-    ensures first { (d : Placed) → (slice_index_or placed.now result d).first ≤ place }
-    ensures next { (d : Placed) → result + 1 < length placed.now → place < (slice_index_or placed.now (result + 1) d).first }
-{
-    placed.partition_point(|one| one.first <= place) - 1
-}
+/// The most rows, so that the place of one has 32 bits.
+const MOST_ROWS: usize = 1 << 32;
 
-/// Takes an operation into what was kept last, where that is a row which it goes on from, with room.
-fn take_last(placed: &mut Vec<Placed>, op: &Op) -> bool
-    requires kept { ArePlacedFrom 0 placed.old.items }
-    ensures more { result ≡ true → operations_in placed.new.items ≡ operations_in placed.old.items ++ op.now ∷ [] }
-    ensures same { result ≡ false → placed.new.items ≡ placed.old.items }
-    ensures kept { ArePlacedFrom 0 placed.new.items }
-    ensures len { vec_len placed.new ≡ vec_len placed.old }
-    ensures capacity { vec_capacity placed.new ≡ vec_capacity placed.old }
+/// Takes a typed operation into a row, where it goes on from that, with room, and tells its place there.
+fn take_at(rows: &mut Vec<Stored>, row: u32, typed: &TypedOp) -> Option<RowPlace>
+    requires { typed.now.stamp.count ≤ GREATEST_COUNT }
+    ensures there { IfSome result (λ place. HasPlace (rows_in rows.new.items) place × (op_at (rows_in rows.new.items) place ≡ operation_typed typed.now)) }
+    ensures kept { IfSome result (λ place. KeepsPlaces (rows_in rows.old.items) (rows_in rows.new.items)) }
+    ensures same { IfNone result (rows.new.items ≡ rows.old.items) }
+    ensures len { vec_len rows.new ≡ vec_len rows.old }
+    ensures capacity { vec_capacity rows.new ≡ vec_capacity rows.old }
 {
-    let len = placed.len();
-    if len == 0 {
-        return false;
+    let index = row as usize;
+    if index >= rows.len() {
+        return None;
     }
-    placed[len - 1].stored.take(op)
+    match rows[index].take(typed) {
+        Some(at) => Some(RowPlace { row, at }),
+        None => None,
+    }
 }
 
-/// Puts an operation behind all others, whose number is told, where there is room.
-fn put(placed: &mut Vec<Placed>, first: usize, op: Op)
-    requires kept { ArePlacedFrom 0 placed.old.items }
-    requires first { first ≡ length (operations_in placed.old.items) }
-    requires room { vec_len placed.old < vec_capacity placed.old }
-    ensures more { operations_in placed.new.items ≡ operations_in placed.old.items ++ op ∷ [] }
-    ensures kept { ArePlacedFrom 0 placed.new.items }
-    ensures len { vec_len placed.new ≤ vec_len placed.old + 1 }
-    ensures capacity { vec_capacity placed.new ≡ vec_capacity placed.old }
+/// Takes a typed operation into the first of some rows that it goes on from, with room, and tells its place there.
+fn take_any(rows: &mut Vec<Stored>, some: &[u32], typed: &TypedOp) -> Option<RowPlace>
+    requires { typed.now.stamp.count ≤ GREATEST_COUNT }
+    ensures there { IfSome result (λ place. HasPlace (rows_in rows.new.items) place × (op_at (rows_in rows.new.items) place ≡ operation_typed typed.now)) }
+    ensures kept { IfSome result (λ place. KeepsPlaces (rows_in rows.old.items) (rows_in rows.new.items)) }
+    ensures same { IfNone result (rows.new.items ≡ rows.old.items) }
+    ensures len { vec_len rows.new ≡ vec_len rows.old }
+    ensures capacity { vec_capacity rows.new ≡ vec_capacity rows.old }
 {
-    if take_last(placed, &op) {
-        return;
+    for row in some {
+        if let Some(place) = take_at(rows, *row, typed) {
+            return Some(place);
+        }
     }
-    let stored = Stored::of(op);
-    placed.push_reserved(Placed { first, stored });
+    None
+}
+
+/// Begins a row with an operation, where there is room.
+fn begin(rows: &mut Vec<Stored>, stored: Stored) -> RowPlace
+    requires room { vec_len rows.old < vec_capacity rows.old }
+    requires few { vec_len rows.old < 2 ^ 32 }
+    ensures there { (op : Operation) → operations_of stored ≡ op ∷ []
+        → HasPlace (rows_in rows.new.items) result × (op_at (rows_in rows.new.items) result ≡ op) }
+    ensures kept { (op : Operation) → operations_of stored ≡ op ∷ [] → KeepsPlaces (rows_in rows.old.items) (rows_in rows.new.items) }
+    ensures len { vec_len rows.new ≡ vec_len rows.old + 1 }
+    ensures capacity { vec_capacity rows.new ≡ vec_capacity rows.old }
+{
+    let row = rows.len() as u32;
+    rows.push_reserved(stored);
+    RowPlace { row, at: 0 }
 }
 
 impl Rows {
     /// No operations. Takes no memory.
     pub fn new(alloc: Global) -> Rows
-        ensures { result.operations ≡ [] }
+        ensures { result.rows ≡ [] }
     {
         Rows {
             alloc,
-            placed: Vec::new(alloc),
-            len: 0,
+            rows: Vec::new(alloc),
+            latest: 0,
+            recent: [0; RECENT],
+            oldest: 0,
         }
     }
 
-    /// How many operations there are.
-    pub fn len(&self) -> usize
-        ensures { result ≡ length self.now.operations }
+    /// How many rows there are: it tells what memory they take.
+    pub fn count(&self) -> usize
+        ensures { result ≡ length self.now.rows }
     {
-        self.len
+        self.rows.len()
     }
 
-    /// As how many they are kept: a row of characters counts once. It tells what memory they take.
-    pub fn stored(&self) -> usize
-        ensures { result ≡ self.now.stored }
-    {
-        self.placed.len()
-    }
-
-    /// Makes room for `more` calls of `push`, which then take no memory, and for a character of the row at the end.
-    /// `NoMemory` where a growth was refused, or there would be 2^64 operations; the operations stay.
+    /// Makes room for `more` calls of `push`, which then take no memory, and for a further character of the newest row.
+    /// `NoMemory` where a growth was refused, or there would be more than 2^32 rows; the operations stay.
     pub fn reserve(&mut self, more: usize) -> Result<(), Fault>
-        ensures same { self.new.operations ≡ self.old.operations }
+        ensures same { self.new.rows ≡ self.old.rows }
         ensures ok { OnOk result (more ≤ self.new.room) }
         ensures kept { self.old.room ≤ self.new.room }
         ensures fault { IsOkUnless result NoMemory }
         ensures there { more ≤ self.old.room → IsOk result }
     {
-        let Some(_) = self.len.checked_add(more) else {
+        let len = self.rows.len();
+        if more > MOST_ROWS.saturating_sub(len) {
             return Err(Fault::NoMemory);
-        };
-        self.placed.reserve(more)?;
-        let len = self.placed.len();
-        if len > 0 {
+        }
+        self.rows.reserve(more)?;
+        let latest = self.latest as usize;
+        if latest < len {
             // Where this is refused, the next character begins a row.
-            let _ = self.placed[len - 1].stored.make_room(self.alloc);
+            let _ = self.rows[latest].make_room();
         }
         Ok(())
     }
 
-    /// The operation at a place.
-    pub fn view(&self, place: usize) -> OpView<'_>
-        requires { place < length self.now.operations }
-        ensures { slice_get self.now.operations place ≡ Some (operation_in result) }
+    /// The operation at a place, seen where it is kept.
+    pub fn view(&self, place: RowPlace) -> OpView<'_>
+        requires { HasPlace self.now.rows place }
+        ensures { op_at self.now.rows place ≡ operation_in result }
     {
-        let at = found(&self.placed, place);
-        let one = &self.placed[at];
-        one.stored.view(place - one.first)
+        self.rows[place.row as usize].view(place.at as usize)
     }
 
-    /// Puts an operation behind the others, where there is room. Takes no memory: a character that goes on from a row with
-    /// room joins it.
-    pub fn push(&mut self, op: Op)
-        requires room { 0 < self.old.room }
-        ensures operations { self.new.operations ≡ self.old.operations ++ op ∷ [] }
-        ensures room { self.old.room ≤ self.new.room + 1 }
-        ensures stored { self.new.stored ≤ self.old.stored + 1 }
+    /// The stamp of the operation at a place, `ROOT` where none stands there.
+    pub fn stamp_at(&self, place: RowPlace) -> Stamp
+        ensures { result ≡ stamp_of (op_at self.now.rows place) }
     {
-        put(&mut self.placed, self.len, op);
-        self.len += 1;
+        match self.rows.get(place.row as usize) {
+            Some(row) => row.stamp_at(place.at as usize),
+            None => ROOT,
+        }
+    }
+
+    /// Takes a typed operation into the row of the newest one, or else into a recent row, where it goes on from that, with
+    /// room.
+    #[inline(always)]
+    fn join(&mut self, typed: &TypedOp) -> Option<RowPlace>
+        requires { typed.now.stamp.count ≤ GREATEST_COUNT }
+        ensures there { IfSome result (λ place. HasPlace self.new.rows place × (op_at self.new.rows place ≡ operation_typed typed.now)) }
+        ensures kept { IfSome result (λ place. KeepsPlaces self.old.rows self.new.rows) }
+        ensures same { IfNone result (self.new.rows ≡ self.old.rows) }
+        ensures room { self.new.room ≡ self.old.room }
+        ensures rows { length self.new.rows ≡ length self.old.rows }
+    {
+        if let Some(place) = take_at(&mut self.rows, self.latest, typed) {
+            return Some(place);
+        }
+        take_any(&mut self.rows, &self.recent, typed)
+    }
+
+    /// Puts a typed operation in, where there is room, and tells its place; all others keep theirs. Takes no memory: where it
+    /// goes on from the row of the newest operation or a recent row, with room, it joins that, else it begins a row.
+    pub fn push_typed(&mut self, typed: TypedOp) -> RowPlace
+        requires count { typed.stamp.count ≤ GREATEST_COUNT }
+        requires room { 0 < self.old.room }
+        ensures there { HasPlace self.new.rows result × (op_at self.new.rows result ≡ operation_typed typed) }
+        ensures kept { KeepsPlaces self.old.rows self.new.rows }
+        ensures room { self.old.room ≤ self.new.room + 1 }
+        ensures rows { length self.new.rows ≤ length self.old.rows + 1 }
+    {
+        if let Some(place) = self.join(&typed) {
+            self.latest = place.row;
+            return place;
+        }
+        let place = begin(&mut self.rows, Stored::Typed(Row::of(self.alloc, typed)));
+        self.latest = place.row;
+        let slot = self.oldest % RECENT;
+        self.recent[slot] = place.row;
+        self.oldest = (slot + 1) % RECENT;
+        place
+    }
+
+    /// Puts an operation in, where there is room, and tells its place; all others keep theirs. Takes no memory: a typed one
+    /// comes in as by `push_typed`, any other begins a row.
+    pub fn push(&mut self, op: Op) -> RowPlace
+        requires room { 0 < self.old.room }
+        ensures there { HasPlace self.new.rows result × (op_at self.new.rows result ≡ op) }
+        ensures kept { KeepsPlaces self.old.rows self.new.rows }
+        ensures room { self.old.room ≤ self.new.room + 1 }
+        ensures rows { length self.new.rows ≤ length self.old.rows + 1 }
+    {
+        if let Some(typed) = typed_in(&op) {
+            return self.push_typed(typed);
+        }
+        let place = begin(&mut self.rows, Stored::Single(op));
+        self.latest = place.row;
+        place
     }
 }

@@ -1,19 +1,16 @@
 // What is kept of operations that came one after the other.
-ghost use Rattle.std.specs.Prelude.{◌≡◌, ◌∷◌, [], ◌++◌, ◌≤◌, ◌<◌, true, false, length, slice_get, Some, IsOkUnless};
+ghost use Rattle.std.specs.Prelude.{◌≡◌, ◌∷◌, [], ◌++◌, ◌<◌, ◌≤◌, IfNone, IfSome, length, slice_get, slice_index_or, Some, IsOkUnless};
 ghost use Rattle.rt_stamps.specs.declared.fault.Fault.TheVariants.{NoMemory};
 ghost use Rattle.rt_stamps.specs.declared.limits.TheConstants.{GREATEST_COUNT};
-ghost use Rattle.rt_ops.specs.Edits.{body_of};
-ghost use Rattle.rt_ops.specs.Rules.{keeps_rules};
-ghost use Rattle.rt_rows.specs.TypedRows.{one_of};
-ghost use Rattle.rt_rows.specs.Views.{operation_in};
-ghost use Rattle.rt_rows.specs.Stored.{operations_of, HasSome};
+ghost use Rattle.rt_ops.specs.Operations.{stamp_of};
+ghost use Rattle.rt_rows.specs.Places.{nothing};
+ghost use Rattle.rt_rows.specs.Views.{operation_in, operation_typed};
+ghost use Rattle.rt_rows.specs.Stored.{operations_of};
 
-use crate::OpView;
 use crate::row::Row;
-use rt_ops::{Edit, Op};
-use rt_stamps::limits::GREATEST_COUNT;
-use rt_stamps::{Fault, Stamp};
-use std::alloc::Global;
+use crate::{OpView, TypedOp};
+use rt_ops::Op;
+use rt_stamps::{Fault, ROOT, Stamp};
 
 /// Characters typed in a row, each an operation of its own, or one operation.
 #[derive(Drop)]
@@ -22,48 +19,7 @@ pub(crate) enum Stored {
     Single(Op),
 }
 
-/// The element and the character of an Insert of just one, without tags.
-fn one_of(edit: &Edit) -> Option<(Stamp, char)>
-    ensures { result ≡ one_of (body_of edit.now) }
-{
-    match edit {
-        Edit::Insert { after, tags, text } => match text.characters() {
-            [character] if tags.is_empty() => Some((*after, *character)),
-            _ => None,
-        },
-        Edit::Delete { spans: _ } => None,
-        Edit::Tag {
-            on: _,
-            name: _,
-            spans: _,
-        } => None,
-    }
-}
-
 impl Stored {
-    /// One operation. A single character without tags begins a row. Takes no memory.
-    pub(crate) fn of(op: Op) -> Stored
-        ensures operations { operations_of result ≡ op ∷ [] }
-        ensures some { HasSome result }
-    {
-        match one_of(op.edit()) {
-            Some((after, character)) if op.stamp().count <= GREATEST_COUNT => {
-                Stored::Typed(Row::of(op.stamp(), op.prev(), after, character))
-            }
-            _ => Stored::Single(op),
-        }
-    }
-
-    /// How many operations there are.
-    pub(crate) fn len(&self) -> usize
-        ensures { result ≡ length (operations_of self.now) }
-    {
-        match self {
-            Stored::Typed(row) => row.len(),
-            Stored::Single(_) => 1,
-        }
-    }
-
     /// The operation at a place.
     pub(crate) fn view(&self, place: usize) -> OpView<'_>
         requires { place < length (operations_of self.now) }
@@ -75,39 +31,44 @@ impl Stored {
         }
     }
 
+    /// The stamp of the operation at a place, `ROOT` where none stands there.
+    pub(crate) fn stamp_at(&self, place: usize) -> Stamp
+        ensures { result ≡ stamp_of (slice_index_or (operations_of self.now) place nothing) }
+    {
+        match self {
+            Stored::Typed(row) => {
+                if place < row.len() {
+                    row.stamp_at(place)
+                } else {
+                    ROOT
+                }
+            }
+            Stored::Single(op) => { if place == 0 { op.stamp() } else { ROOT } }
+        }
+    }
+
     /// Room for one more character of a row. `NoMemory` is its only fault; the operations stay.
-    pub(crate) fn make_room(&mut self, alloc: Global) -> Result<(), Fault>
+    pub(crate) fn make_room(&mut self) -> Result<(), Fault>
         ensures same { self.new ≡ self.old }
         ensures fault { IsOkUnless result NoMemory }
     {
         match self {
-            Stored::Typed(row) => row.make_room(alloc),
+            Stored::Typed(row) => row.make_room(),
             Stored::Single(_) => Ok(()),
         }
     }
 
-    /// Takes an operation in at the end, where it goes on from a row that has room; else the operations stay. Takes no
-    /// memory.
-    pub(crate) fn take(&mut self, op: &Op) -> bool
-        requires { HasSome self.old }
-        ensures more { result ≡ true → operations_of self.new ≡ operations_of self.old ++ op.now ∷ [] }
-        ensures same { result ≡ false → self.new ≡ self.old }
-        ensures some { HasSome self.new }
+    /// Takes a typed operation in at the end, where it goes on from a row that has room, and tells its place; else the
+    /// operations stay. Takes no memory.
+    pub(crate) fn take(&mut self, typed: &TypedOp) -> Option<u32>
+        requires { typed.now.stamp.count ≤ GREATEST_COUNT }
+        ensures place { IfSome result (λ at. at ≡ length (operations_of self.old)) }
+        ensures more { IfSome result (λ at. operations_of self.new ≡ operations_of self.old ++ operation_typed typed.now ∷ []) }
+        ensures same { IfNone result (self.new ≡ self.old) }
     {
         match self {
-            Stored::Typed(row) => match one_of(op.edit()) {
-                Some((_, character)) => {
-                    if op.stamp().count <= GREATEST_COUNT
-                        && row.goes_on(op.stamp(), op.prev(), op.edit())
-                    {
-                        row.push(character)
-                    } else {
-                        false
-                    }
-                }
-                None => false,
-            },
-            Stored::Single(_) => false,
+            Stored::Typed(row) => row.take(typed),
+            Stored::Single(_) => None,
         }
     }
 }

@@ -12,12 +12,14 @@ use std::alloc::Global;
 /// An operation, seen where it is kept: the Insert of one character of a row, in its parts, or one that is kept whole.
 #[derive(Clone, Copy)]
 pub enum OpView<'a> {
+    /// A character of a row: its stamp, the count of its site's operation before it, the element after which it stands.
     Typed {
         stamp: Stamp,
         prev: u64,
         after: Stamp,
         character: char,
     },
+    /// Any other operation.
     Single {
         op: &'a Op,
     },

@@ -41,19 +41,19 @@ cut_other (c ∷ xs) b h = rw (cut_other xs b h) (
     ])
 
 -- a script goes on after its lines
-abbrev joined : List (List ℕ) × List ℕ → List ℕ → List (List ℕ) × List ℕ
-joined p ys = (p.0 ++ (split_lines (p.1 ++ ys)).0, (split_lines (p.1 ++ ys)).1)
+abbrev lines_continued : List (List ℕ) × List ℕ → List ℕ → List (List ℕ) × List ℕ
+lines_continued p ys = (p.0 ++ (split_lines (p.1 ++ ys)).0, (split_lines (p.1 ++ ys)).1)
 
-before_joined : (c : ℕ) (ls : List (List ℕ)) (r ys : List ℕ) → eqb c 10 ≡ false → before_all c (ls ++ (split_lines (r ++ ys)).0) (split_lines (r ++ ys)).1 ≡ joined (before_all c ls r) ys
+before_joined : (c : ℕ) (ls : List (List ℕ)) (r ys : List ℕ) → eqb c 10 ≡ false → before_all c (ls ++ (split_lines (r ++ ys)).0) (split_lines (r ++ ys)).1 ≡ lines_continued (before_all c ls r) ys
 before_joined c [] r ys e = rw e refl
 before_joined c (l ∷ ls) r ys e = refl
 
 cut_joined_one : (c : ℕ) (p : List (List ℕ) × List ℕ) (ys : List ℕ) (b : Bool) → eqb c 10 ≡ b
-    → cond b ([] ∷ (joined p ys).0, (joined p ys).1) (before_all c (joined p ys).0 (joined p ys).1) ≡ joined (cond b ([] ∷ p.0, p.1) (before_all c p.0 p.1)) ys
+    → cond b ([] ∷ (lines_continued p ys).0, (lines_continued p ys).1) (before_all c (lines_continued p ys).0 (lines_continued p ys).1) ≡ lines_continued (cond b ([] ∷ p.0, p.1) (before_all c p.0 p.1)) ys
 cut_joined_one c p ys true e = refl
 cut_joined_one c p ys false e = before_joined c p.0 p.1 ys e
 
-pub cut_append : (xs ys : List ℕ) → split_lines (xs ++ ys) ≡ joined (split_lines xs) ys
+pub cut_append : (xs ys : List ℕ) → split_lines (xs ++ ys) ≡ lines_continued (split_lines xs) ys
 cut_append [] ys = refl
 cut_append (c ∷ xs) ys = rw (cut_append xs ys) (cut_joined_one c (split_lines xs) ys (eqb c 10) refl)
 

@@ -45,12 +45,12 @@ none_after h m (x ∷ marks) t e =
     (λ g. ap (after h) (with_here m x marks g) ∙ after_here h m (x ∷ marks) t)
 
 -- what is found among marks that a mark comes before
-behind : (h x : Mark) (marks : List Mark) (y : Mark) → AllByRecursion (λ z. comes_before x z ≡ true) marks → after h marks ≡ Some y → comes_before x y ≡ true
-behind h x [] y o e = absurd (clash false (ap is_some e) refl)
-behind h x (z ∷ marks) y o e =
+mark_after_is_behind : (h x : Mark) (marks : List Mark) (y : Mark) → AllByRecursion (λ z. comes_before x z ≡ true) marks → after h marks ≡ Some y → comes_before x y ≡ true
+mark_after_is_behind h x [] y o e = absurd (clash false (ap is_some e) refl)
+mark_after_is_behind h x (z ∷ marks) y o e =
     split (comes_before h z)
     (λ t. subst (λ (v : Mark). comes_before x v ≡ true) (same_mark z y (sym (after_here h z marks t) ∙ e)) o.0)
-    (λ f. behind h x marks y o.1 (sym (after_there h z marks f) ∙ e))
+    (λ f. mark_after_is_behind h x marks y o.1 (sym (after_there h z marks f) ∙ e))
 
 -- the one that was found stays where it comes before one more
 pub nearer_after : (h m : Mark) (marks : List Mark) (y : Mark) → AreInOrder marks → after h marks ≡ Some y → comes_before y m ≡ true → after h (with_mark m marks) ≡ Some y
@@ -61,7 +61,7 @@ nearer_after h m (x ∷ marks) y o e l =
     let passes = subst (λ (v : Mark). comes_before v m ≡ true) (sym same) l in
     ap (after h) (with_passing m x marks passes) ∙ after_here h x (with_mark m marks) t ∙ ap (λ v. Some v) same)
     (λ f. let found = sym (after_there h x marks f) ∙ e in
-    let passes = before_trans x y m (behind h x marks y o.0 found) l in
+    let passes = before_trans x y m (mark_after_is_behind h x marks y o.0 found) l in
     ap (after h) (with_passing m x marks passes) ∙ after_there h x (with_mark m marks) f ∙ nearer_after h m marks y o.1 found l)
 
 -- and one more is found where it doesn't

@@ -48,9 +48,9 @@ same_places (suc n) a xs ys h =
     let rest = same_places n (a + 1) xs ys (λ p l k. h p (omega arith) (omega arith)) in
     λ i. first i ++ rest i
 
-nothing : (ps : List ℕ) → by_place ps [] ≡ []
-nothing [] = refl
-nothing (p ∷ ps) = nothing ps
+none_by_place : (ps : List ℕ) → by_place ps [] ≡ []
+none_by_place [] = refl
+none_by_place (p ∷ ps) = none_by_place ps
 
 -- ELEMENTS WHOSE PLACES RISE
 
@@ -64,7 +64,7 @@ spread zero from (y ∷ ys) r l h =
     let low : from ≤ y.place = All-head (λ e. from ≤ e.place) y ys l in
     let high : y.place < from + zero = All-head (λ e. e.place < from + zero) y ys h in
     absurd (omega arith)
-spread (suc n) from [] r l h = sym (nothing (range_with_len from (suc n)))
+spread (suc n) from [] r l h = sym (none_by_place (range_with_len from (suc n)))
 spread (suc n) from (y ∷ ys) r l h =
     let low : from ≤ y.place = All-head (λ e. from ≤ e.place) y ys l in
     let rest = range_with_len (from + 1) n in

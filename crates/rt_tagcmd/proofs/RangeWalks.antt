@@ -88,8 +88,8 @@ walk_here place b x r rs h f same =
     ∙ ap (λ y. y ∷ ranges_at y.to (x ∷ rs)) same
 
 -- a range found behind another begins and ends behind it
-behind : (test : Range → Bool) (b : ℕ) (x r : Range) (rs : List Range) → Ascend b (x ∷ rs) → find test rs ≡ Some r → x.from < r.to
-behind test b x r rs h e =
+next_is_behind : (test : Range → Bool) (b : ℕ) (x r : Range) (rs : List Range) → Ascend b (x ∷ rs) → find test rs ≡ Some r → x.from < r.to
+next_is_behind test b x r rs h e =
     let bounds = found_bounds test (x.to + 1) rs r h.2 e in
     let more = bounds.0 in
     let long = bounds.1 in
@@ -100,7 +100,7 @@ walk_on : (place b : ℕ) (rs : List Range) (r : Range) → Ascend b rs → firs
 walk_on place b [] r h e = let bad : ⊥ = cc in absurd bad
 walk_on place b (x ∷ rs) r h e = elim (found (λ s. nat_le place s.from) x rs (Some r) e) [
   | inl f ↦ walk_here place b x r rs h f.0 (same_some x r f.1)
-  | inr f ↦ cond-false _ _ _ f.0 ∙ walk_on place (x.to + 1) rs r h.2 f.1 ∙ ap (λ ys. r ∷ ys) (sym (skipped r.to x rs (behind (λ s. nat_le place s.from) b x r rs h f.1)))
+  | inr f ↦ cond-false _ _ _ f.0 ∙ walk_on place (x.to + 1) rs r h.2 f.1 ∙ ap (λ ys. r ∷ ys) (sym (skipped r.to x rs (next_is_behind (λ s. nat_le place s.from) b x r rs h f.1)))
 ]
 
 -- one range more of a walk

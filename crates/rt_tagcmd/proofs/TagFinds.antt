@@ -27,20 +27,20 @@ use Rattle.rt_tagcmd.proofs.TagRangeLaws.{each_maximal}
 text_length : (view : ViewValue) → length_shown view ≡ length (cells_shown view)
 text_length view = length-map (cells_shown view) (λ cell. cell.ch)
 
-abbrev pub IsWithin : ℕ → Range → Type 0
-IsWithin n range = (range.from ≤ n) × (range.to ≤ n)
+abbrev pub LiesWithin : ℕ → Range → Type 0
+LiesWithin n range = (range.from ≤ n) × (range.to ≤ n)
 
-maximal_within : {A : Type 0} (test : A → Bool) (cs : List A) (r : Range) → IsMaximal test cs r → IsWithin (length cs) r
+maximal_within : {A : Type 0} (test : A → Bool) (cs : List A) (r : Range) → IsMaximal test cs r → LiesWithin (length cs) r
 maximal_within test cs r h =
     let full : r.from < r.to = h.not_empty in
     let within : r.to ≤ length cs = h.within in
     (omega (arith, full, within), within)
 
-all_within : {A : Type 0} (test : A → Bool) (cs : List A) → All (IsWithin (length cs)) (passing_ranges test cs)
+all_within : {A : Type 0} (test : A → Bool) (cs : List A) → All (LiesWithin (length cs)) (passing_ranges test cs)
 all_within test cs = λ k d l. maximal_within test cs _ (each_maximal test cs k d l)
 
-pub tagged_within : (view : ViewValue) (name : Word) → All (IsWithin (length_shown view)) (tagged_ranges view name)
-tagged_within view name = subst (λ n. All (IsWithin n) (tagged_ranges view name)) (sym (text_length view)) (all_within (shows_tag view.own name) (cells_shown view))
+pub tagged_within : (view : ViewValue) (name : Word) → All (LiesWithin (length_shown view)) (tagged_ranges view name)
+tagged_within view name = subst (λ n. All (LiesWithin n) (tagged_ranges view name)) (sym (text_length view)) (all_within (shows_tag view.own name) (cells_shown view))
 
 all_found : {X : Type 0} (P : X → Type 0) (test : X → Bool) (xs : List X) → All P xs → All P (option_to_list (find test xs))
 all_found P test [] h = All-nil P
@@ -55,12 +55,12 @@ all_reversed P [] h = h
 all_reversed P (x ∷ xs) h =
     subst (All P) (sym (reverse-append (x ∷ []) xs)) (All-append P (reverse xs) (x ∷ []) (all_reversed P xs (All-tail P x xs h)) (All-cons P x [] (All-head P x xs h) (All-nil P)))
 
-pub next_within : (view : ViewValue) (name : Word) (from to : ℕ) → All (IsWithin (length_shown view)) (option_to_list (next_range from to (tagged_ranges view name)))
-next_within view name from to = all_found (IsWithin (length_shown view)) (begins_between from to) (tagged_ranges view name) (tagged_within view name)
+pub next_within : (view : ViewValue) (name : Word) (from to : ℕ) → All (LiesWithin (length_shown view)) (option_to_list (next_range from to (tagged_ranges view name)))
+next_within view name from to = all_found (LiesWithin (length_shown view)) (begins_between from to) (tagged_ranges view name) (tagged_within view name)
 
-pub previous_within : (view : ViewValue) (name : Word) (to from : ℕ) → All (IsWithin (length_shown view)) (option_to_list (previous_range to from (tagged_ranges view name)))
+pub previous_within : (view : ViewValue) (name : Word) (to from : ℕ) → All (LiesWithin (length_shown view)) (option_to_list (previous_range to from (tagged_ranges view name)))
 previous_within view name to from =
-    let within = IsWithin (length_shown view) in
+    let within = LiesWithin (length_shown view) in
     all_found within (begins_between from to) (reverse (tagged_ranges view name)) (all_reversed within (tagged_ranges view name) (tagged_within view name))
 
 -- A TAG THAT ISN'T LISTED

@@ -25,6 +25,8 @@ mod oplog_files;
 #[cfg(test)]
 mod oplog_logs;
 #[cfg(test)]
+mod oplog_random;
+#[cfg(test)]
 mod requests;
 #[cfg(test)]
 mod rga_every;

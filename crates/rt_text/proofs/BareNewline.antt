@@ -19,9 +19,9 @@ use Rattle.rt_tags.specs.Tags.{is_listed, sel}
 use Rattle.rt_tags.proofs.Commuting.{on_is_listed}
 use Rattle.rt_tags.proofs.Places.{same_name}
 use Rattle.rt_plans.specs.DocValue.{DocValue}
-use Rattle.rt_plans.specs.InsertionDrafts.{behind, insertion_drafts, pieces_drafts, text_drafts}
+use Rattle.rt_plans.specs.InsertionDrafts.{last_element, insertion_drafts, pieces_drafts, text_drafts}
 use Rattle.rt_plans.specs.Insertions.{Insertion, Piece, all_listed, are_among, counts_for, inserts_for, insertion_of, on_left, selected_if, shared_names, tagged_cells, tags_between, with_listed, with_pieces, with_unlisted}
-use Rattle.rt_plans.specs.TagWrites.{bared, tag_write, tagged, with_tag}
+use Rattle.rt_plans.specs.TagWrites.{bared, tag_write, cell_with_tag, with_tag}
 use Rattle.rt_plans.proofs.PlanLaws.{among_with}
 use Rattle.rt_plans.proofs.Putting.{tagged_state}
 use Rattle.rt_plans.proofs.RestLaws.{pieces_others}
@@ -33,7 +33,7 @@ use Rattle.rt_text.proofs.NewCells.{AreNew, inserts_new}
 
 module _ (stamp : Stamp) (site count : ℕ) (name : Word) where
   abbrev off : TaggedCell → TaggedCell
-  off cell = tagged site count name false (stamp ∷ []) cell
+  off cell = cell_with_tag site count name false (stamp ∷ []) cell
 
   -- the other cells stay
   others_stay : (cells : List TaggedCell) → is_among (stamps_of cells) stamp ≡ false → map off cells ≡ cells
@@ -109,11 +109,11 @@ module _ (stamp : Stamp) (front rest : List TaggedCell) (apart : is_among (stamp
       first false b h k = absurd (cc (h, k))
 
       known_after : (flat : DocValue) (name : Word) (last : TaggedCell) → is_among (stamp ∷ []) last.stamp ≡ true → IsWritten flat.count last.state
-          → IsWritten (with_tag flat name false (stamp ∷ [])).count (tagged flat.site flat.count name false (stamp ∷ []) last).state
+          → IsWritten (with_tag flat name false (stamp ∷ [])).count (cell_with_tag flat.site flat.count name false (stamp ∷ []) last).state
       known_after flat name last there known =
           let w : Write = tag_write flat.site flat.count name false (stamp ∷ []) last.stamp in
           let within : w.writer.count ≤ (with_tag flat name false (stamp ∷ [])).count = operation_within flat.count (stamp ∷ []) last.stamp there in
-          let here : (tagged flat.site flat.count name false (stamp ∷ []) last).state ≡ written w last.state = ap (λ b. (cond b (record last { state = written w last.state }) last).state) there in
+          let here : (cell_with_tag flat.site flat.count name false (stamp ∷ []) last).state ≡ written w last.state = ap (λ b. (cond b (record last { state = written w last.state }) last).state) there in
           subst (IsWritten (with_tag flat name false (stamp ∷ [])).count) (sym here) (written_known flat.count (with_tag flat name false (stamp ∷ [])).count w last.state (omega arith) within known)
 
 -- a cell between others, bare of all tags
@@ -215,5 +215,5 @@ pub bare_drafts : (site : ℕ) (after : Stamp) (left : Option TaggedCell) (right
     → insertion_drafts MOST_CHARACTERS site after left None pieces rest start ≡ insertion_drafts MOST_CHARACTERS site after left (Some right) pieces rest start
 bare_drafts site after left right pieces rest start off =
     let listed = with_pieces site pieces start in
-    ap (λ names. pieces_drafts MOST_CHARACTERS site after pieces start ++ text_drafts MOST_CHARACTERS site listed.count (behind after listed.cells) names (chars rest))
+    ap (λ names. pieces_drafts MOST_CHARACTERS site after pieces start ++ text_drafts MOST_CHARACTERS site listed.count (last_element after listed.cells) names (chars rest))
     (sym (bare_between (on_left left listed.cells) right off))

@@ -18,7 +18,7 @@ use Rattle.rt_plans.specs.Deletions.{Loss, newline_left, without_places, without
 use Rattle.rt_plans.specs.DocValue.{DocValue}
 use Rattle.rt_plans.specs.Listed.{AreListed, IsShared}
 use Rattle.rt_plans.specs.Removals.{gone_at}
-use Rattle.rt_plans.specs.TagWrites.{bared, tagged, tag_write, with_tag}
+use Rattle.rt_plans.specs.TagWrites.{bared, cell_with_tag, tag_write, with_tag}
 use Rattle.rt_plans.proofs.NewlineDrafts.{loss_has, newline_at}
 use Rattle.rt_plans.proofs.ListedWrites.{shared_names_on, shared_tagged}
 
@@ -101,14 +101,14 @@ listed_gone names removed cells h = record {
   shared = all_gone (λ (cell : TaggedCell). IsShared cell.state) removed 0 cells (λ cell b g k. k) h.shared;
 }
 
-off_seen : (site count : ℕ) (name : Word) (stamps : List Stamp) (cell : TaggedCell) → (tagged site count name false stamps cell).gone ≡ false → cell.gone ≡ false
+off_seen : (site count : ℕ) (name : Word) (stamps : List Stamp) (cell : TaggedCell) → (cell_with_tag site count name false stamps cell).gone ≡ false → cell.gone ≡ false
 off_seen site count name stamps cell h = by (is_among stamps cell.stamp) h
   where
     by : (b : Bool) → (cond b (record cell { state = written (tag_write site count name false stamps cell.stamp) cell.state }) cell).gone ≡ false → cell.gone ≡ false
     by true k = k
     by false k = k
 
-off_on : (site count : ℕ) (name : Word) (stamps : List Stamp) (cell : TaggedCell) (other : Word) → is_on other (tagged site count name false stamps cell).state ≡ true → is_on other cell.state ≡ true
+off_on : (site count : ℕ) (name : Word) (stamps : List Stamp) (cell : TaggedCell) (other : Word) → is_on other (cell_with_tag site count name false stamps cell).state ≡ true → is_on other cell.state ≡ true
 off_on site count name stamps cell other h = by (is_among stamps cell.stamp) h
   where
     by : (b : Bool) → is_on other (cond b (record cell { state = written (tag_write site count name false stamps cell.stamp) cell.state }) cell).state ≡ true → is_on other cell.state ≡ true
@@ -121,7 +121,7 @@ bared_listed listed flat stamp [] others h = h
 bared_listed listed flat stamp (name ∷ names) others h =
     let stamps = stamp ∷ [] in
     bared_listed listed (with_tag flat name false stamps) stamp names (All-tail (λ (n : Word). bytes_eq n sel ≡ false) name names others)
-    (listed_less listed (tagged flat.site flat.count name false stamps) flat.cells (off_seen flat.site flat.count name stamps) (off_on flat.site flat.count name stamps)
+    (listed_less listed (cell_with_tag flat.site flat.count name false stamps) flat.cells (off_seen flat.site flat.count name stamps) (off_on flat.site flat.count name stamps)
     (shared_tagged flat.site flat.count name false stamps (All-head (λ (n : Word). bytes_eq n sel ≡ false) name names others)) h)
 
 newline_shared : (flat : DocValue) (loss : Loss) (cell : TaggedCell) → All (λ cell. IsShared cell.state) flat.cells → newline_left flat loss ≡ Some cell → All (λ name. bytes_eq name sel ≡ false) (names_on cell.state)

@@ -39,7 +39,7 @@ use Rattle.rt_text.specs.Kept.{IsDoc}
 use Rattle.rt_text.specs.Replacements.{drafts_at, insertion_at}
 use Rattle.rt_text.specs.Widgets.{AreSiteMarks, IsOwnOf, WidgetValue, ViewValue, in_text, own_inserted, selections_of, cells_shown, with_selections}
 use Rattle.rt_text.proofs.InsertedSides.{IsFound, IsPlace, IsRight, at_text, drafts_any, left_there, near, near_within, right_any}
-use Rattle.rt_text.proofs.ListedText.{IsAmong, ListsAll, insertion_lists, insertion_tags, left_among, listed_put, names_of_all, text_among}
+use Rattle.rt_text.proofs.ListedText.{IsTaggedAmong, ListsAll, insertion_lists, insertion_tags, left_among, listed_put, names_of_all, text_among}
 use Rattle.rt_text.proofs.MadeDocument.{both_fit, refusal_is}
 use Rattle.rt_text.proofs.MarkLaws.{length_put, own_of_inserted, own_of_selecting, site_inserted}
 use Rattle.rt_text.proofs.PeerLaws.{each_by, each_selecting}
@@ -182,8 +182,8 @@ module _ (flat : DocValue) (own : WidgetValue) (others : List WidgetValue) (plac
       let sorted : All (λ (c : TaggedCell). IsByName c.state) flat.cells =
       subst (All (λ (c : TaggedCell). IsByName c.state)) (sym is.document.cells) (all_states flat.log is.history IsByName (λ s. state_sorted [] (writes_on flat.log s) tt)) in
       insertion_lists flat.site l r pieces rest none_yet names
-      (subst (λ (o : Option TaggedCell). IfSome o (IsAmong flat.tags)) (sym (left_there flat own others place is)) (left_among flat.cells flat.tags (near seen place) listed sorted))
-      (record { cells = All-nil (IsAmong flat.tags); names = listed.names })
+      (subst (λ (o : Option TaggedCell). IfSome o (IsTaggedAmong flat.tags)) (sym (left_there flat own others place is)) (left_among flat.cells flat.tags (near seen place) listed sorted))
+      (record { cells = All-nil (IsTaggedAmong flat.tags); names = listed.names })
 
   -- the text grows by the new characters
   pub text_more : All IsPiece pieces → AreListed flat.tags flat.cells → length (text_of (made_flat flat own others place pieces rest).cells) ≡ length (text_of flat.cells) + length (made_new flat own others place pieces rest).cells

@@ -25,7 +25,7 @@ use Rattle.rt_rga.proofs.Corollaries.{cells_distinct, cells_older, root_absent}
 use Rattle.rt_rga.proofs.Final.{ends_final}
 use Rattle.rt_plans.specs.DraftLaws.{IsDocument}
 use Rattle.rt_plans.specs.DocValue.{DocValue, left_stamp, put_after}
-use Rattle.rt_plans.specs.InsertionDrafts.{behind, insertion_drafts, pieces_drafts, text_drafts}
+use Rattle.rt_plans.specs.InsertionDrafts.{last_element, insertion_drafts, pieces_drafts, text_drafts}
 use Rattle.rt_plans.specs.Insertions.{Insertion, Piece, insertion_of, left_neighbour, on_left, right_neighbour, tags_between, with_pieces, with_unlisted}
 use Rattle.rt_plans.specs.Removals.{is_covered}
 use Rattle.rt_plans.proofs.RestLaws.{element_shown, left_shown}
@@ -335,7 +335,7 @@ pub drafts_any : (site : ℕ) (after : Stamp) (left r s : Option TaggedCell) (pi
     → insertion_drafts MOST_CHARACTERS site after left r pieces rest start ≡ insertion_drafts MOST_CHARACTERS site after left s pieces rest start
 drafts_any site after left r s pieces rest start (inl w) =
     let listed = with_pieces site pieces start in
-    ap (λ names. pieces_drafts MOST_CHARACTERS site after pieces start ++ text_drafts MOST_CHARACTERS site listed.count (behind after listed.cells) names (chars rest))
+    ap (λ names. pieces_drafts MOST_CHARACTERS site after pieces start ++ text_drafts MOST_CHARACTERS site listed.count (last_element after listed.cells) names (chars rest))
     (none (on_left left listed.cells) (no_last left listed.cells w.0 w.1))
   where
     none : (o : Option TaggedCell) → o ≡ None → tags_between o r ≡ tags_between o s

@@ -18,7 +18,7 @@ use Rattle.rt_plans.specs.Deletions.{Loss, without_places, without_text}
 use Rattle.rt_plans.specs.DraftLaws.{IsDocument}
 use Rattle.rt_plans.specs.DocValue.{DocValue}
 use Rattle.rt_plans.specs.Removals.{gone_at, is_removed}
-use Rattle.rt_plans.specs.TagWrites.{bared, tagged, with_tag}
+use Rattle.rt_plans.specs.TagWrites.{bared, cell_with_tag, with_tag}
 use Rattle.rt_plans.proofs.DeletionDraftLaws.{loss_history, loss_made}
 use Rattle.rt_plans.proofs.NewlineDrafts.{loss_has}
 use Rattle.rt_plans.proofs.Putting.{tagged_state}
@@ -51,7 +51,7 @@ plain_bared : (names : List Word) (flat : DocValue) (stamp : Stamp) → map plai
 plain_bared [] flat stamp = refl
 plain_bared (name ∷ names) flat stamp =
     plain_bared names (with_tag flat name false (stamp ∷ [])) stamp
-    ∙ plain_changed (tagged flat.site flat.count name false (stamp ∷ [])) (tagged_state flat.site flat.count name false (stamp ∷ [])) flat.cells
+    ∙ plain_changed (cell_with_tag flat.site flat.count name false (stamp ∷ [])) (tagged_state flat.site flat.count name false (stamp ∷ [])) flat.cells
 
 plain_left : (flat : DocValue) (loss : Loss) → map plain (without_text flat loss).cells ≡ map plain (gone_at loss.places 0 flat.cells)
 plain_left flat loss =

@@ -27,7 +27,7 @@ use Rattle.rt_plans.specs.Deletions.{Loss, delete_drafts, loss_in, without_place
 use Rattle.rt_plans.specs.DraftLaws.{IsDocument, SparesLast}
 use Rattle.rt_plans.specs.DocValue.{DocValue, logged}
 use Rattle.rt_plans.specs.Selections.{unselected}
-use Rattle.rt_plans.specs.TagWrites.{bared, tagged, with_tag}
+use Rattle.rt_plans.specs.TagWrites.{bared, cell_with_tag, with_tag}
 use Rattle.rt_plans.proofs.CharacterCounts.{loss_inserts_none}
 use Rattle.rt_plans.proofs.DeletionDraftLaws.{loss_counted, loss_made, loss_may, spares_last}
 use Rattle.rt_plans.proofs.NewlineDrafts.{loss_has}
@@ -93,7 +93,7 @@ bared_text : (names : List Word) (flat : DocValue) (stamp : Stamp) → text_of (
 bared_text [] flat stamp = refl
 bared_text (name ∷ names) flat stamp =
     bared_text names (with_tag flat name false (stamp ∷ [])) stamp
-    ∙ text_changed (tagged flat.site flat.count name false (stamp ∷ [])) (tagged_state flat.site flat.count name false (stamp ∷ [])) flat.cells
+    ∙ text_changed (cell_with_tag flat.site flat.count name false (stamp ∷ [])) (tagged_state flat.site flat.count name false (stamp ∷ [])) flat.cells
 
 -- what a deletion of ranges of what is shown takes
 abbrev pub loss_of : DocValue → Limits → List Range → Loss

@@ -88,7 +88,7 @@ shared_other names =
 -- NEW CELLS
 
 -- a character is there, its tags are among some names, and its state has one write of each
-pub record IsAmong (tags : List Word) (cell : TaggedCell) : Type 0 where
+pub record IsTaggedAmong (tags : List Word) (cell : TaggedCell) : Type 0 where
   pub each : (name : Word) → is_on name cell.state ≡ true → is_listed name tags ≡ true
   pub by_name : IsByName cell.state
   pub shared : IsShared cell.state
@@ -114,19 +114,19 @@ state_among tags site last names h k =
     (λ name on. named_on P name (new_state site last names) (state_named P site last names h) on, by_name_after writes [] tt, state_named IsOther site last names k)
 
 from_among : (tags : List Word) (count site : ℕ) (state : List Write) (text : List ℕ) → ((name : Word) → is_on name state ≡ true → is_listed name tags ≡ true) → IsByName state → IsShared state
-    → All (IsAmong tags) (cells_from count site state text)
-from_among tags count site state [] h k q = All-nil (IsAmong tags)
+    → All (IsTaggedAmong tags) (cells_from count site state text)
+from_among tags count site state [] h k q = All-nil (IsTaggedAmong tags)
 from_among tags count site state (c ∷ text) h k q =
-    All-cons (IsAmong tags) (record { stamp = record { count = count; site = site }; ch = c; gone = false; state = state }) (cells_from (count + 1) site state text) (record { each = h; by_name = k; shared = q; there = refl }) (from_among tags (count + 1) site state text h k q)
+    All-cons (IsTaggedAmong tags) (record { stamp = record { count = count; site = site }; ch = c; gone = false; state = state }) (cells_from (count + 1) site state text) (record { each = h; by_name = k; shared = q; there = refl }) (from_among tags (count + 1) site state text h k q)
 
 pub inserts_among : (tags : List Word) (inserts site count : ℕ) (names : List Word) (text : List ℕ) → All (λ name. is_listed name tags ≡ true) names → All IsOther names
-    → All (IsAmong tags) (cells_of_inserts inserts site count names text)
-inserts_among tags zero site count names text h q = All-nil (IsAmong tags)
+    → All (IsTaggedAmong tags) (cells_of_inserts inserts site count names text)
+inserts_among tags zero site count names text h q = All-nil (IsTaggedAmong tags)
 inserts_among tags (suc inserts) site count names text h q =
     let part = take MOST_CHARACTERS text in
     let last = count + length part in
     let s = state_among tags site last names h q in
-    All-append (IsAmong tags) (cells_from (count + 1) site (new_state site last names) part) (cells_of_inserts inserts site (last + length (further_tags names)) names (drop MOST_CHARACTERS text))
+    All-append (IsTaggedAmong tags) (cells_from (count + 1) site (new_state site last names) part) (cells_of_inserts inserts site (last + length (further_tags names)) names (drop MOST_CHARACTERS text))
     (from_among tags (count + 1) site (new_state site last names) part s.0 s.1 s.2) (inserts_among tags inserts site (last + length (further_tags names)) names (drop MOST_CHARACTERS text) h q)
 
 -- LISTS THAT GROW
@@ -171,11 +171,11 @@ all_named (name ∷ names) tags h k = all_named names (with_name name tags) (All
 
 -- what an insertion lists: the tags of its characters, and names
 pub record ListsAll (x : Insertion) : Type 0 where
-  pub cells : All (IsAmong x.tags) x.cells
+  pub cells : All (IsTaggedAmong x.tags) x.cells
   pub names : All IsName x.tags
 
-among_still : (names tags : List Word) (cells : List TaggedCell) → All (IsAmong tags) cells → All (IsAmong (all_listed names tags)) cells
-among_still names tags cells h = All-weaker (IsAmong tags) (IsAmong (all_listed names tags)) (λ cell a. record { each = λ name on. all_still name names tags (a.each name on); by_name = a.by_name; shared = a.shared; there = a.there }) cells h
+among_still : (names tags : List Word) (cells : List TaggedCell) → All (IsTaggedAmong tags) cells → All (IsTaggedAmong (all_listed names tags)) cells
+among_still names tags cells h = All-weaker (IsTaggedAmong tags) (IsTaggedAmong (all_listed names tags)) (λ cell a. record { each = λ name on. all_still name names tags (a.each name on); by_name = a.by_name; shared = a.shared; there = a.there }) cells h
 
 listed_lists : (site : ℕ) (names : List Word) (text : List ℕ) (so_far : Insertion) → All IsName names → ListsAll so_far → ListsAll (with_listed site names text so_far)
 listed_lists site names [] so_far h k = k
@@ -184,7 +184,7 @@ listed_lists site names (c ∷ text) so_far h k =
     let tags = all_listed shared so_far.tags in
     let new = tagged_cells site so_far.count shared (c ∷ text) in
     record {
-      cells = All-append (IsAmong tags) so_far.cells new (among_still shared so_far.tags so_far.cells k.cells)
+      cells = All-append (IsTaggedAmong tags) so_far.cells new (among_still shared so_far.tags so_far.cells k.cells)
           (inserts_among tags (inserts_for (length (c ∷ text))) site so_far.count shared (c ∷ text) (all_there shared so_far.tags) (shared_other names));
       names = all_named shared so_far.tags (shared_named IsName names h) k.names;
     }
@@ -203,7 +203,7 @@ pieces_lists site (piece ∷ pieces) so_far h k =
     pieces_lists site pieces (with_listed site piece.tags (chars piece.text) so_far) (all_rest IsName piece.tags (names_in pieces) h) (listed_lists site piece.tags (chars piece.text) so_far (all_front IsName piece.tags (names_in pieces) h) k)
 
 -- the tags of a character with one write of each are on
-names_among : (tags : List Word) (cell : TaggedCell) → IsAmong tags cell → All (λ name. is_listed name tags ≡ true) (names_on cell.state)
+names_among : (tags : List Word) (cell : TaggedCell) → IsTaggedAmong tags cell → All (λ name. is_listed name tags ≡ true) (names_on cell.state)
 names_among tags cell a = λ k d lt.
     let name = get_or (names_on cell.state) k d in
     a.each name (on_is_listed name cell.state a.by_name ∙ there (names_on cell.state) k d lt)
@@ -213,17 +213,17 @@ names_among tags cell a = λ k d lt.
     there (name ∷ names) zero d lt = or_left (bytes_eq name name) (is_listed name names) (name_itself name)
     there (name ∷ names) (suc k) d lt = or_right (bytes_eq (get_or names k d) name) (is_listed (get_or names k d) names) (there names k d (omega (arith, lt)))
 
-between_among : (tags : List Word) (left right : Option TaggedCell) → IfSome left (IsAmong tags) → All (λ name. is_listed name tags ≡ true) (tags_between left right)
+between_among : (tags : List Word) (left right : Option TaggedCell) → IfSome left (IsTaggedAmong tags) → All (λ name. is_listed name tags ≡ true) (tags_between left right)
 between_among tags None right h = All-nil (λ name. is_listed name tags ≡ true)
 between_among tags (Some left) None h = All-nil (λ name. is_listed name tags ≡ true)
 between_among tags (Some left) (Some right) h = All-filter (λ name. is_on name right.state) (λ name. is_listed name tags ≡ true) (names_on left.state) (names_among tags left h)
 
-between_other : (tags : List Word) (left right : Option TaggedCell) → IfSome left (IsAmong tags) → All IsOther (tags_between left right)
+between_other : (tags : List Word) (left right : Option TaggedCell) → IfSome left (IsTaggedAmong tags) → All IsOther (tags_between left right)
 between_other tags None right h = All-nil IsOther
 between_other tags (Some left) None h = All-nil IsOther
 between_other tags (Some left) (Some right) h = All-filter (λ name. is_on name right.state) IsOther (names_on left.state) (named_names IsOther left.state h.shared)
 
-unlisted_lists : (site : ℕ) (left right : Option TaggedCell) (text : List ℕ) (so_far : Insertion) → IfSome left (IsAmong so_far.tags) → ListsAll so_far → ListsAll (with_unlisted site left right text so_far)
+unlisted_lists : (site : ℕ) (left right : Option TaggedCell) (text : List ℕ) (so_far : Insertion) → IfSome left (IsTaggedAmong so_far.tags) → ListsAll so_far → ListsAll (with_unlisted site left right text so_far)
 unlisted_lists site left right [] so_far h k = k
 unlisted_lists site left right (c ∷ text) so_far h k =
     let names = tags_between left right in
@@ -231,14 +231,14 @@ unlisted_lists site left right (c ∷ text) so_far h k =
     let new = tagged_cells site so_far.count names (c ∷ text) in
     let listed : All (λ name. is_listed name so_far.tags ≡ true) names = between_among so_far.tags left right h in
     record {
-      cells = All-append (IsAmong tags) so_far.cells new (among_still names so_far.tags so_far.cells k.cells)
+      cells = All-append (IsTaggedAmong tags) so_far.cells new (among_still names so_far.tags so_far.cells k.cells)
           (inserts_among tags (inserts_for (length (c ∷ text))) site so_far.count names (c ∷ text) (all_there names so_far.tags) (between_other so_far.tags left right h));
       names = all_named names so_far.tags (All-weaker (λ name. is_listed name so_far.tags ≡ true) IsName (λ name e. listed_name name so_far.tags k.names e) names listed) k.names;
     }
 
-last_among : (tags : List Word) (left : Option TaggedCell) (cells : List TaggedCell) → IfSome left (IsAmong tags) → All (IsAmong tags) cells → IfSome (on_left left cells) (IsAmong tags)
+last_among : (tags : List Word) (left : Option TaggedCell) (cells : List TaggedCell) → IfSome left (IsTaggedAmong tags) → All (IsTaggedAmong tags) cells → IfSome (on_left left cells) (IsTaggedAmong tags)
 last_among tags left [] h k = h
-last_among tags left (c ∷ cs) h k = last_among tags (Some c) cs (All-head (IsAmong tags) c cs k) (All-tail (IsAmong tags) c cs k)
+last_among tags left (c ∷ cs) h k = last_among tags (Some c) cs (All-head (IsTaggedAmong tags) c cs k) (All-tail (IsTaggedAmong tags) c cs k)
 
 listed_tags : (site : ℕ) (names : List Word) (text : List ℕ) (so_far : Insertion) (n : Word) → is_listed n so_far.tags ≡ true → is_listed n (with_listed site names text so_far).tags ≡ true
 listed_tags site names [] so_far n h = h
@@ -252,12 +252,12 @@ unlisted_tags : (site : ℕ) (left right : Option TaggedCell) (text : List ℕ) 
 unlisted_tags site left right [] so_far n h = h
 unlisted_tags site left right (c ∷ text) so_far n h = all_still n (tags_between left right) so_far.tags h
 
-left_still : (tags more : List Word) (left : Option TaggedCell) → ((n : Word) → is_listed n tags ≡ true → is_listed n more ≡ true) → IfSome left (IsAmong tags) → IfSome left (IsAmong more)
+left_still : (tags more : List Word) (left : Option TaggedCell) → ((n : Word) → is_listed n tags ≡ true → is_listed n more ≡ true) → IfSome left (IsTaggedAmong tags) → IfSome left (IsTaggedAmong more)
 left_still tags more None h k = k
 left_still tags more (Some cell) h k = record { each = λ name on. h name (k.each name on); by_name = k.by_name; shared = k.shared; there = k.there }
 
 -- an insertion lists the tags of its characters
-pub insertion_lists : (site : ℕ) (left right : Option TaggedCell) (pieces : List Piece) (rest : Word) (start : Insertion) → All IsName (names_in pieces) → IfSome left (IsAmong start.tags) → ListsAll start
+pub insertion_lists : (site : ℕ) (left right : Option TaggedCell) (pieces : List Piece) (rest : Word) (start : Insertion) → All IsName (names_in pieces) → IfSome left (IsTaggedAmong start.tags) → ListsAll start
     → ListsAll (insertion_of site left right pieces rest start)
 insertion_lists site left right pieces rest start h l k =
     let listed = with_pieces site pieces start in
@@ -271,30 +271,30 @@ insertion_tags site left right pieces rest start n h =
     unlisted_tags site (on_left left listed.cells) right (chars rest) listed n (pieces_tags site pieces start n h)
 
 -- all of its characters are there
-pub text_among : (tags : List Word) (cells : List TaggedCell) → All (IsAmong tags) cells → length (text_of cells) ≡ length cells
+pub text_among : (tags : List Word) (cells : List TaggedCell) → All (IsTaggedAmong tags) cells → length (text_of cells) ≡ length cells
 text_among tags [] h = refl
 text_among tags (c ∷ cs) h =
-    let first = (All-head (IsAmong tags) c cs h).there in
-    ap (λ b. length (map (λ (cell : TaggedCell). cell.ch) (cond (not b) (c ∷ visible_of cs) (visible_of cs)))) first ∙ ap suc (text_among tags cs (All-tail (IsAmong tags) c cs h))
+    let first = (All-head (IsTaggedAmong tags) c cs h).there in
+    ap (λ b. length (map (λ (cell : TaggedCell). cell.ch) (cond (not b) (c ∷ visible_of cs) (visible_of cs)))) first ∙ ap suc (text_among tags cs (All-tail (IsTaggedAmong tags) c cs h))
 
 -- THE DOCUMENT AFTER IT
 
 pub visible_all : {T : Type 0} (P : Cell T → Type 0) (xs ys : List (Cell T)) → All P (visible_of xs) → All P (visible_of ys) → All P (visible_of (xs ++ ys))
 visible_all P xs ys h k = subst (All P) (sym (filter-append (λ cell. not cell.gone) xs ys)) (All-append P (visible_of xs) (visible_of ys) h k)
 
-pub listed_put : (tags : List Word) (cells : List TaggedCell) (left : Stamp) (new : List TaggedCell) → AreListed tags cells → All (IsAmong tags) new → AreListed tags (put_after cells left new)
+pub listed_put : (tags : List Word) (cells : List TaggedCell) (left : Stamp) (new : List TaggedCell) → AreListed tags cells → All (IsTaggedAmong tags) new → AreListed tags (put_after cells left new)
 listed_put tags cells left new h k =
     let at = after_element cells left in
     let P : TaggedCell → Type 0 = λ cell. (name : Word) → is_on name cell.state ≡ true → is_listed name tags ≡ true in
     let Q : TaggedCell → Type 0 = λ cell. IsShared cell.state in
     let parts : visible_of (take at cells) ++ visible_of (drop at cells) ≡ visible_of cells = sym (filter-append (λ cell. not cell.gone) (take at cells) (drop at cells)) ∙ ap visible_of (take-append-drop at cells) in
     let all : All P (visible_of (take at cells) ++ visible_of (drop at cells)) = subst (All P) (sym parts) h.each in
-    let added : All P (visible_of new) = All-filter (λ cell. not cell.gone) P new (All-weaker (IsAmong tags) P (λ cell a. a.each) new k) in
+    let added : All P (visible_of new) = All-filter (λ cell. not cell.gone) P new (All-weaker (IsTaggedAmong tags) P (λ cell a. a.each) new k) in
     record {
       each = visible_all P (take at cells ++ new) (drop at cells) (visible_all P (take at cells) new (all_front P (visible_of (take at cells)) (visible_of (drop at cells)) all) added) (all_rest P (visible_of (take at cells)) (visible_of (drop at cells)) all);
       sel = h.sel;
       names = h.names;
-      shared = All-append Q (take at cells ++ new) (drop at cells) (All-append Q (take at cells) new (All-take Q at cells h.shared) (All-weaker (IsAmong tags) Q (λ cell a. a.shared) new k)) (All-drop Q at cells h.shared);
+      shared = All-append Q (take at cells ++ new) (drop at cells) (All-append Q (take at cells) new (All-take Q at cells h.shared) (All-weaker (IsTaggedAmong tags) Q (λ cell a. a.shared) new k)) (All-drop Q at cells h.shared);
     }
 
 -- the names that are listed are names
@@ -303,7 +303,7 @@ names_of_all names tags h = All-weaker (λ n. is_listed n (all_listed names tags
 
 -- A LEFT NEIGHBOUR
 
-cell_among : (cells : List TaggedCell) (tags : List Word) (place : ℕ) (o : Option TaggedCell) → AreListed tags cells → All (λ (c : TaggedCell). IsByName c.state) cells → slice_get (visible_of cells) place ≡ o → IfSome o (IsAmong tags)
+cell_among : (cells : List TaggedCell) (tags : List Word) (place : ℕ) (o : Option TaggedCell) → AreListed tags cells → All (λ (c : TaggedCell). IsByName c.state) cells → slice_get (visible_of cells) place ≡ o → IfSome o (IsTaggedAmong tags)
 cell_among cells tags place None listed sorted e = tt
 cell_among cells tags place (Some cell) listed sorted e =
     let seen = visible_of cells in
@@ -317,6 +317,6 @@ cell_among cells tags place (Some cell) listed sorted e =
       there = not-true cell.gone passes;
     }
 
-pub left_among : (cells : List TaggedCell) (tags : List Word) (place : ℕ) → AreListed tags cells → All (λ (c : TaggedCell). IsByName c.state) cells → IfSome (left_neighbour (visible_of cells) place) (IsAmong tags)
+pub left_among : (cells : List TaggedCell) (tags : List Word) (place : ℕ) → AreListed tags cells → All (λ (c : TaggedCell). IsByName c.state) cells → IfSome (left_neighbour (visible_of cells) place) (IsTaggedAmong tags)
 left_among cells tags zero listed sorted = tt
 left_among cells tags (suc place) listed sorted = cell_among cells tags place (slice_get (visible_of cells) place) listed sorted refl

@@ -118,16 +118,16 @@ next_after test xs from at e = by (position test (drop from xs)) e
 -- THE LAST PLACE
 
 -- a place as one behind another
-abbrev pub behind : ℕ → ℕ → Option ℕ
-behind begin at = cond (nat_le begin at) (Some (at - begin)) None
+abbrev pub offset_from : ℕ → ℕ → Option ℕ
+offset_from begin at = cond (nat_le begin at) (Some (at - begin)) None
 
-last_behind : {A : Type 0} (test : A → Bool) (b : ℕ) (xs : List A) → option_and_then (behind b) (last_place test xs) ≡ last_place test (drop b xs)
+last_behind : {A : Type 0} (test : A → Bool) (b : ℕ) (xs : List A) → option_and_then (offset_from b) (last_place test xs) ≡ last_place test (drop b xs)
 last_behind test zero xs = by (last_place test xs)
   where
     always : (k : ℕ) → nat_le 0 k ≡ true
     always k = grind (arith, nat_tests)
 
-    by : (o : Option ℕ) → option_and_then (behind 0) o ≡ o
+    by : (o : Option ℕ) → option_and_then (offset_from 0) o ≡ o
     by None = refl
     by (Some k) = ap (λ b. cond b (Some (k - 0)) None) (always k) ∙ ap Some (omega arith)
 last_behind test (suc b) [] = refl
@@ -139,21 +139,21 @@ last_behind test (suc b) (x ∷ xs) = by (test x) (last_place test xs) ∙ last_
     never : nat_le (suc b) 0 ≡ false
     never = grind (arith, nat_tests)
 
-    by : (t : Bool) (o : Option ℕ) → option_and_then (behind (suc b)) (last_with t o) ≡ option_and_then (behind b) o
+    by : (t : Bool) (o : Option ℕ) → option_and_then (offset_from (suc b)) (last_with t o) ≡ option_and_then (offset_from b) o
     by t (Some k) = let e : k + 1 - suc b ≡ k - b = omega arith in (λ i. cond (more k i) (Some (e i)) None)
     by true None = ap (λ c. cond c (Some (0 - suc b)) None) never
     by false None = refl
 
 -- as the code tests it
-pub checked_behind : (begin at : ℕ) (o : Option ℕ) → SomeIff o (begin ≤ at) (at - begin) → o ≡ behind begin at
+pub checked_behind : (begin at : ℕ) (o : Option ℕ) → SomeIff o (begin ≤ at) (at - begin) → o ≡ offset_from begin at
 checked_behind begin at None h = by (cases_lt at begin)
   where
-    by : (at < begin) ⊎ (begin ≤ at) → None ≡ behind begin at
+    by : (at < begin) ⊎ (begin ≤ at) → None ≡ offset_from begin at
     by (inl lt) = ap (λ b. cond b (Some (at - begin)) None) (sym (lt-leb begin at lt))
     by (inr le) = absurd (h le)
 checked_behind begin at (Some x) h = ap Some h.1 ∙ ap (λ b. cond b (Some (at - begin)) None) (sym (le-leb begin at h.0))
 
-pub last_in_part : {A : Type 0} (test : A → Bool) (stretch : Stretch) (xs : List A) → option_and_then (behind stretch.begin) (last_place test (take stretch.end xs)) ≡ last_place test (part stretch xs)
+pub last_in_part : {A : Type 0} (test : A → Bool) (stretch : Stretch) (xs : List A) → option_and_then (offset_from stretch.begin) (last_place test (take stretch.end xs)) ≡ last_place test (part stretch xs)
 last_in_part test stretch xs = last_behind test stretch.begin (take stretch.end xs) ∙ ap (last_place test) (sym (part_behind stretch xs))
 
 -- the front of a front

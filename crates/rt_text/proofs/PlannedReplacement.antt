@@ -84,7 +84,7 @@ none_held b false o x e t = absurd (cc t)
 -- WHAT IS KEPT OF A DOCUMENT
 
 -- a document, what is kept of it, and the stretch that a widget shows
-pub record IsKept (table : TagStates) (kept : List (Cell ℕ)) (flat : DocValue) (own : WidgetValue) (stretch : Stretch) : Type 0 where
+pub record IsKeptDocument (table : TagStates) (kept : List (Cell ℕ)) (flat : DocValue) (own : WidgetValue) (stretch : Stretch) : Type 0 where
   pub cells : map (shown table) kept ≡ flat.cells
   pub history : IsHistory flat.log
   pub document : IsDocument flat.site flat.log flat
@@ -93,7 +93,7 @@ pub record IsKept (table : TagStates) (kept : List (Cell ℕ)) (flat : DocValue)
   pub shows : stretch ≡ stretch_of kept own.limits
   pub known : AreNewlines flat.cells own.limits
 
-module _ (table : TagStates) (kept : List (Cell ℕ)) (flat : DocValue) (own : WidgetValue) (stretch : Stretch) (is : IsKept table kept flat own stretch) where
+module _ (table : TagStates) (kept : List (Cell ℕ)) (flat : DocValue) (own : WidgetValue) (stretch : Stretch) (is : IsKeptDocument table kept flat own stretch) where
   same_stretch : stretch ≡ stretch_of flat.cells own.limits
   same_stretch = is.shows ∙ stretch_kept table kept flat.cells own.limits is.cells
 

@@ -55,7 +55,7 @@ use Rattle.rt_text.specs.Widgets.{AreSiteMarks, IsOwnOf, WidgetValue, own_insert
 use Rattle.rt_text.proofs.AcceptedDocument.{names_are}
 use Rattle.rt_text.proofs.DeletionLaws.{listed_gone}
 use Rattle.rt_text.proofs.KeptDocument.{clock_spent}
-use Rattle.rt_text.proofs.ListedText.{IsAmong, all_named, all_still, all_there, inserts_among, listed_put, text_among}
+use Rattle.rt_text.proofs.ListedText.{IsTaggedAmong, all_named, all_still, all_there, inserts_among, listed_put, text_among}
 use Rattle.rt_text.proofs.MadeDocument.{refusal_is, seen, seen_made}
 use Rattle.rt_text.proofs.MarkLaws.{length_gone, length_put, own_of_inserted, own_of_left, site_inserted, site_left}
 
@@ -96,7 +96,7 @@ others_than_sel (name ∷ names) h =
 
 -- A CHARACTER THAT COMES BACK
 
-new_among : (flat : DocValue) (tags : List Word) (ch : ℕ) → AreTagNames tags → All (IsAmong (all_listed tags flat.tags)) (tagged_cells flat.site flat.count tags (ch ∷ []))
+new_among : (flat : DocValue) (tags : List Word) (ch : ℕ) → AreTagNames tags → All (IsTaggedAmong (all_listed tags flat.tags)) (tagged_cells flat.site flat.count tags (ch ∷ []))
 new_among flat tags ch names =
     inserts_among (all_listed tags flat.tags) (inserts_for (length (ch ∷ []))) flat.site flat.count tags (ch ∷ []) (all_there tags flat.tags) (others_than_sel tags names.each)
 
@@ -114,16 +114,16 @@ place_of flat stamp = visible_before flat.cells (after_element flat.cells stamp)
 
 -- WHAT IS SO OF A DOCUMENT
 
-abbrev IsKept : DocValue → Type 0
-IsKept flat = IsDoc flat.cells flat.marks flat.tags
+abbrev MakesDoc : DocValue → Type 0
+MakesDoc flat = IsDoc flat.cells flat.marks flat.tags
 
-kept_goes : (flat : DocValue) (removed : ℕ → Bool) → SparesLast removed (text_of flat.cells) → IsKept flat → IsKept (without_places flat removed)
+kept_goes : (flat : DocValue) (removed : ℕ → Bool) → SparesLast removed (text_of flat.cells) → MakesDoc flat → MakesDoc (without_places flat removed)
 kept_goes flat removed spared h = record {
   placed = subst (λ (n : ℕ). AreSiteMarks n (marks_left removed flat.marks)) (sym (length_gone removed flat.cells)) (site_left (length (text_of flat.cells)) removed flat.marks h.placed);
   listed = listed_gone flat.tags removed flat.cells h.listed;
 }
 
-kept_comes : (flat : DocValue) (stamp : Stamp) (tags : List Word) (ch : ℕ) → AreTagNames tags → IsKept flat → IsKept (with_copy flat stamp tags ch)
+kept_comes : (flat : DocValue) (stamp : Stamp) (tags : List Word) (ch : ℕ) → AreTagNames tags → MakesDoc flat → MakesDoc (with_copy flat stamp tags ch)
 kept_comes flat stamp tags ch names h =
     let all = all_listed tags flat.tags in
     let more = listed_more flat.tags all flat.cells (λ n e. all_still n tags flat.tags e) (all_named tags flat.tags (names_are tags names.each) h.listed.names) h.listed in
@@ -222,7 +222,7 @@ module _ (flat : DocValue) (group : List (Action (List Word))) (i : IsReverted f
 
   -- it is a document
   pub left_kept : IsDoc flat.cells flat.marks flat.tags → IsDoc left.cells left.marks left.tags
-  left_kept kept = reversion_keeps IsKept kept_goes kept_comes flat.site flat.log flat group i.real i.history i.document i.sound i.fits kept
+  left_kept kept = reversion_keeps MakesDoc kept_goes kept_comes flat.site flat.log flat group i.real i.history i.document i.sound i.fits kept
 
   -- where the only mark of a document is a widget's
   insert_left : (own : WidgetValue) → flat.marks ≡ own.insert ∷ [] → IsOwnOf (length (text_of flat.cells)) own → HasInsert left

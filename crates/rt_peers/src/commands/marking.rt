@@ -1,9 +1,10 @@
 // What is asked of marks.
-ghost use Rattle.std.specs.Prelude.{◌≡◌, option_copied, IfOk, IsOkUnless};
+ghost use Rattle.std.specs.Prelude.{◌≡◌, Err, option_copied, true, IfErr, IfOk, IsOkUnless};
 ghost use Rattle.rt_stamps.specs.Outcomes.{Answers};
 ghost use Rattle.rt_marks.specs.Marks.{gravity_word};
 ghost use Rattle.rt_requests.specs.Parts.{all_of};
 ghost use Rattle.rt_tagcmd.specs.MarkCommands.{mark_set, mark_unset, mark_gravity, mark_gravity_set, mark_names, mark_next, mark_previous};
+ghost use Rattle.rt_peers.specs.TakesNone.{mark_takes_none};
 ghost use Rattle.rt_peers.specs.ViewStep.{changed_step, mark_step, one_word, told_step, word_or_none};
 
 use crate::replies::{changed, no_words, one_word};
@@ -42,9 +43,10 @@ fn set_mark(
     changed(alloc, set)
 }
 
-// Takes marks away.
+// Takes marks away. It takes no memory.
 fn unset_marks(alloc: Global, view: &mut View<TreeStore>, names: &Words<'_>) -> Result<Reply, Fault>
-    ensures { Answers (changed_step (mark_unset view.old (all_of names.now))) view.old result view.new }
+    ensures answers { Answers (changed_step (mark_unset view.old (all_of names.now))) view.old result view.new }
+    ensures err { IfErr result (λ fault. changed_step (mark_unset view.old (all_of names.now)) ≡ Err fault) }
 {
     let unset = mark_unset(view, names.all());
     changed(alloc, unset)
@@ -58,14 +60,15 @@ fn gravity(alloc: Global, view: &ViewRef<'_, TreeStore>, name: &Word<'_>) -> Res
     one_word(alloc, String::from_str(alloc, gravity.word())?)
 }
 
-// A mark gets a gravity.
+// A mark gets a gravity. It takes no memory.
 fn set_gravity(
     alloc: Global,
     view: &mut View<TreeStore>,
     name: &Word<'_>,
     gravity: Gravity,
 ) -> Result<Reply, Fault>
-    ensures { Answers (changed_step (mark_gravity_set view.old name.now gravity)) view.old result view.new }
+    ensures answers { Answers (changed_step (mark_gravity_set view.old name.now gravity)) view.old result view.new }
+    ensures err { IfErr result (λ fault. changed_step (mark_gravity_set view.old name.now gravity) ≡ Err fault) }
 {
     let set = set_mark_gravity(view, name.text(), gravity);
     changed(alloc, set)
@@ -105,7 +108,8 @@ pub(crate) fn mark(
     view: &mut View<TreeStore>,
     request: &MarkRequest<'_>,
 ) -> Result<Reply, Fault>
-    ensures { Answers (mark_step view.old request.now) view.old result view.new }
+    ensures answers { Answers (mark_step view.old request.now) view.old result view.new }
+    ensures memory { mark_takes_none request.now ≡ true → IfErr result (λ fault. mark_step view.old request.now ≡ Err fault) }
 {
     match request {
         MarkRequest::Set { name, index } => set_mark(alloc, view, name, index),

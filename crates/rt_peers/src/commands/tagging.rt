@@ -1,9 +1,10 @@
 // What is asked of tags.
-ghost use Rattle.std.specs.Prelude.{◌≡◌, map, option_copied, Ok};
+ghost use Rattle.std.specs.Prelude.{◌≡◌, Err, map, option_copied, true, IfErr, Ok};
 ghost use Rattle.rt_stamps.specs.Outcomes.{Answers};
 ghost use Rattle.rt_stamps.specs.Places.{text_of_position};
 ghost use Rattle.rt_requests.specs.Parts.{all_of};
 ghost use Rattle.rt_tagcmd.specs.TagCommands.{tag_added, tag_removed, tags_deleted, tag_raised, tag_lowered, tag_names, tag_names_at, tag_ranges, tag_nextrange, tag_prevrange};
+ghost use Rattle.rt_peers.specs.TakesNone.{tag_takes_none};
 ghost use Rattle.rt_peers.specs.ViewStep.{changed_step, tag_step, told_step};
 
 use crate::replies::{changed, positions_reply};
@@ -62,27 +63,29 @@ fn delete_tags(alloc: Global, view: &mut View<TreeStore>, names: &Words<'_>) -> 
     changed(alloc, deleted)
 }
 
-// A tag is put just above another, or highest.
+// A tag is put just above another, or highest. It takes no memory.
 fn raise(
     alloc: Global,
     view: &mut View<TreeStore>,
     name: &Word<'_>,
     above: &Option<Word<'_>>,
 ) -> Result<Reply, Fault>
-    ensures { Answers (changed_step (tag_raised view.old name.now above.now)) view.old result view.new }
+    ensures answers { Answers (changed_step (tag_raised view.old name.now above.now)) view.old result view.new }
+    ensures err { IfErr result (λ fault. changed_step (tag_raised view.old name.now above.now) ≡ Err fault) }
 {
     let raised = tag_raise(view, name.text(), text_of(above));
     changed(alloc, raised)
 }
 
-// A tag is put just below another, or lowest.
+// A tag is put just below another, or lowest. It takes no memory.
 fn lower(
     alloc: Global,
     view: &mut View<TreeStore>,
     name: &Word<'_>,
     below: &Option<Word<'_>>,
 ) -> Result<Reply, Fault>
-    ensures { Answers (changed_step (tag_lowered view.old name.now below.now)) view.old result view.new }
+    ensures answers { Answers (changed_step (tag_lowered view.old name.now below.now)) view.old result view.new }
+    ensures err { IfErr result (λ fault. changed_step (tag_lowered view.old name.now below.now) ≡ Err fault) }
 {
     let lowered = tag_lower(view, name.text(), text_of(below));
     changed(alloc, lowered)
@@ -146,7 +149,8 @@ pub(crate) fn tag(
     view: &mut View<TreeStore>,
     request: &TagRequest<'_>,
 ) -> Result<Reply, Fault>
-    ensures { Answers (tag_step view.old request.now) view.old result view.new }
+    ensures answers { Answers (tag_step view.old request.now) view.old result view.new }
+    ensures memory { tag_takes_none request.now ≡ true → IfErr result (λ fault. tag_step view.old request.now ≡ Err fault) }
 {
     match request {
         TagRequest::Add { name, indices } => add_tag(alloc, view, name, indices),

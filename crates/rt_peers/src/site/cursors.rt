@@ -1,7 +1,8 @@
 // What a widget of a site shows, by values; places by stamps, and stamps by places.
-ghost use Rattle.std.specs.Prelude.{◌≡◌, IfErr, IfOk, Ok};
+ghost use Rattle.std.specs.Prelude.{◌≡◌, Err, IfErr, IfOk, None, Ok};
 ghost use Rattle.rt_stamps.specs.Outcomes.{Refuses};
 ghost use Rattle.rt_peers.specs.Cursors.{index_by, stamp_place_by, stamp_by, widget_by};
+ghost use Rattle.rt_peers.specs.SiteValue.{number_of_path};
 
 use super::SiteState;
 use crate::paths::number_of;
@@ -24,10 +25,11 @@ impl SiteState {
 
     /// The place of an index (Tk text manual, "Indices") in what the widget of a path shows, counted from where that begins,
     /// from 0 to how many characters it shows. Refused by the first of `NoWidget` and the faults of an index, `BadIndex` and
-    /// `NoneTagged`, or for want of memory.
+    /// `NoneTagged`, or for want of memory in place of any but `NoWidget`.
     pub fn place_of_index(&self, path: &str, index: &str) -> Result<usize, Fault>
         ensures ok { IfOk result (λ place. index_by path.now index.now self.now ≡ Ok place) }
         ensures err { IfErr result (Refuses (index_by path.now index.now self.now)) }
+        ensures none { number_of_path path.now self.now.paths ≡ None → result ≡ Err Fault.NoWidget }
     {
         match self.widget(path) {
             Some(widget) => widget.place(index),

@@ -1,10 +1,11 @@
 // What is asked of the widget of a number, so that no path is looked for.
-ghost use Rattle.std.specs.Prelude.{◌≡◌, IfSome, IsSome};
+ghost use Rattle.std.specs.Prelude.{◌≡◌, ◌≤◌, Err, IfErr, IfSome, IsSome, length, true};
 ghost use Rattle.rt_requests.specs.declared.request.EditRequest.TheVariants.{Redo, Undo};
 ghost use Rattle.rt_requests.specs.declared.request.Request.TheVariants.{Edit};
 ghost use Rattle.rt_peers.specs.Numbered.{step_by, view_by};
 ghost use Rattle.rt_peers.specs.SiteStep.{AnswersInTurn, log_of};
-ghost use Rattle.rt_peers.specs.SiteValue.{number_of};
+ghost use Rattle.rt_peers.specs.SiteValue.{number_of_path};
+ghost use Rattle.rt_peers.specs.TakesNone.{takes_none};
 ghost use Rattle.rt_peers.specs.Telling.{AreToldOf};
 
 use super::SiteState;
@@ -21,7 +22,7 @@ impl SiteState {
     /// that widget's until it or one before it is destroyed; then numbers are to be asked anew. None where there is no such
     /// widget. It takes no memory.
     pub fn number_of(&self, path: &str) -> Option<usize>
-        ensures { result ≡ number_of path.now self.now.paths }
+        ensures { result ≡ number_of_path path.now self.now.paths }
     {
         number_of(&self.paths, path)
     }
@@ -38,10 +39,13 @@ impl SiteState {
     }
 
     /// What is asked of the widget of a number, as `answer` asks that of a path; of its peers a widget is asked by its path
-    /// alone, here with `BadCommand`. Refused by the first of `NoWidget` and the request's own faults, or for want of memory;
-    /// then the site is as it was.
+    /// alone, here with `BadCommand`. Refused by the first of `NoWidget` and the request's own faults, or for want of memory in
+    /// place of any but `NoWidget`; then the site is as it was. Requests that take no memory (`takes_none`) are refused by
+    /// their own faults alone.
     pub fn ask(&mut self, number: usize, request: &Request<'_>) -> Result<Reply, Fault>
-        ensures { AnswersInTurn (step_by number self.old request.now) self.old result self.new }
+        ensures answers { AnswersInTurn (step_by number self.old request.now) self.old result self.new }
+        ensures none { length self.old.paths ≤ number → result ≡ Err Fault.NoWidget }
+        ensures memory { takes_none request.now ≡ true → IfErr result (λ fault. step_by number self.old request.now ≡ Err fault) }
     {
         if number >= self.paths.len() {
             return Err(Fault::NoWidget);
@@ -53,6 +57,8 @@ impl SiteState {
     /// tells it. The faults are those of `ask`; then nothing changed.
     pub fn ask_telling(&mut self, number: usize, request: &Request<'_>) -> ToldAnswer
         ensures answers { AnswersInTurn (step_by number self.old request.now) self.old result.reply self.new }
+        ensures none { length self.old.paths ≤ number → result.reply ≡ Err Fault.NoWidget }
+        ensures memory { takes_none request.now ≡ true → IfErr result.reply (λ fault. step_by number self.old request.now ≡ Err fault) }
         ensures told { IfSome result.changes (λ changes. AreToldOf self.old.text self.new.text changes.items) }
         ensures known { log_of self.new ≡ log_of self.old → IsSome result.changes }
     {
@@ -69,9 +75,10 @@ impl SiteState {
     /// Undoes the last group of edits (Tk text manual, "edit undo"), and tells what changed in the visible text, as
     /// `answer_telling` does. The number is of the widget that is asked; all widgets share what is undone. Where
     /// `-undo` is off nothing is done. Refused by the first of `NoWidget`, `NothingToUndo`, `ClockSpent` and `TextFull`, or for
-    /// want of memory; then nothing changed.
+    /// want of memory in place of any but `NoWidget`; then nothing changed.
     pub fn undo(&mut self, number: usize) -> ToldAnswer
         ensures answers { AnswersInTurn (step_by number self.old (Edit Undo)) self.old result.reply self.new }
+        ensures none { length self.old.paths ≤ number → result.reply ≡ Err Fault.NoWidget }
         ensures told { IfSome result.changes (λ changes. AreToldOf self.old.text self.new.text changes.items) }
         ensures known { log_of self.new ≡ log_of self.old → IsSome result.changes }
     {
@@ -80,9 +87,10 @@ impl SiteState {
 
     /// Does the group of edits again that was undone last (Tk text manual, "edit redo"), and tells what changed in the
     /// visible text, as `undo` does. Where `-undo` is off nothing is done. Refused by the first of `NoWidget`, `NothingToRedo`,
-    /// `ClockSpent` and `TextFull`, or for want of memory; then nothing changed.
+    /// `ClockSpent` and `TextFull`, or for want of memory in place of any but `NoWidget`; then nothing changed.
     pub fn redo(&mut self, number: usize) -> ToldAnswer
         ensures answers { AnswersInTurn (step_by number self.old (Edit Redo)) self.old result.reply self.new }
+        ensures none { length self.old.paths ≤ number → result.reply ≡ Err Fault.NoWidget }
         ensures told { IfSome result.changes (λ changes. AreToldOf self.old.text self.new.text changes.items) }
         ensures known { log_of self.new ≡ log_of self.old → IsSome result.changes }
     {

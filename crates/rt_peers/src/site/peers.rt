@@ -3,7 +3,7 @@ ghost use Rattle.std.specs.Prelude.{◌≡◌, ◌∷◌, ◌++◌, ◌<◌, [],
 ghost use Rattle.rt_stamps.specs.Outcomes.{Answers, Refuses};
 ghost use Rattle.rt_peers.specs.Peers.{text_led};
 ghost use Rattle.rt_peers.specs.PeerStep.{Destroys, created, other_paths, path_check, peer_step, text_with_peer};
-ghost use Rattle.rt_peers.specs.SiteValue.{number_of};
+ghost use Rattle.rt_peers.specs.SiteValue.{number_of_path};
 
 use super::SiteState;
 use crate::paths::{number_of, other_paths};
@@ -22,7 +22,7 @@ impl SiteState {
         settings: &WidgetSettings,
     ) -> Result<(), Fault>
         requires number { number < length self.old.paths }
-        requires free { number_of path.now self.old.paths ≡ None }
+        requires free { number_of_path path.now self.old.paths ≡ None }
         ensures ok { OnOk result (text_with_peer (text_led number self.old.text) settings.now ≡ Ok (text_led number self.new.text)) }
         ensures path { OnOk result (self.new.paths ≡ self.old.paths ++ path.now ∷ []) }
         ensures held { self.new.held ≡ self.old.held }

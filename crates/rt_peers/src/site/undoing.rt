@@ -6,16 +6,16 @@ ghost use Rattle.rt_peers.specs.Step.{can_redo, can_undo};
 use super::SiteState;
 
 impl SiteState {
-    /// Whether there is something to undo (Tk text manual, "edit canundo"): edits are recorded (`-undo`), and there is a
-    /// group of them. Its widgets share it.
+    /// Whether there is something to undo (Tk text manual, "edit canundo"): edits are recorded (that `-undo` counts is by
+    /// Tk's code), and there is a group of them. Its widgets share it.
     pub fn can_undo(&self) -> bool
         ensures { result ≡ can_undo self.now.text }
     {
         self.text.can_undo()
     }
 
-    /// Whether there is something to redo (Tk text manual, "edit canredo"): edits are recorded, and there is a group of
-    /// them that was undone. Its widgets share it.
+    /// Whether there is something to redo (Tk text manual, "edit canredo"): edits are recorded (that `-undo` counts is by
+    /// Tk's code), and there is a group of them that was undone. Its widgets share it.
     pub fn can_redo(&self) -> bool
         ensures { result ≡ can_redo self.now.text }
     {

@@ -1,6 +1,8 @@
 // What is asked of marks and tags.
+ghost use Rattle.std.specs.Prelude.{◌≡◌, Err, true, IfErr};
 ghost use Rattle.rt_stamps.specs.Outcomes.{Answers};
 ghost use Rattle.rt_peers.specs.Step.{on_view};
+ghost use Rattle.rt_peers.specs.TakesNone.{mark_takes_none, tag_takes_none};
 ghost use Rattle.rt_peers.specs.ViewStep.{mark_step, tag_step};
 
 use super::EditedText;
@@ -12,7 +14,8 @@ use rt_stamps::Fault;
 impl EditedText {
     // What is asked of marks.
     pub(super) fn mark(&mut self, request: &MarkRequest<'_>) -> Result<Reply, Fault>
-        ensures { Answers (on_view self.old (mark_step self.old.view request.now)) self.old result self.new }
+        ensures answers { Answers (on_view self.old (mark_step self.old.view request.now)) self.old result self.new }
+        ensures memory { mark_takes_none request.now ≡ true → IfErr result (λ fault. on_view self.old (mark_step self.old.view request.now) ≡ Err fault) }
     {
         // For its clauses alone.
         let _ = self.view.doc().log();
@@ -24,7 +27,8 @@ impl EditedText {
 
     // What is asked of tags.
     pub(super) fn tag(&mut self, request: &TagRequest<'_>) -> Result<Reply, Fault>
-        ensures { Answers (on_view self.old (tag_step self.old.view request.now)) self.old result self.new }
+        ensures answers { Answers (on_view self.old (tag_step self.old.view request.now)) self.old result self.new }
+        ensures memory { tag_takes_none request.now ≡ true → IfErr result (λ fault. on_view self.old (tag_step self.old.view request.now) ≡ Err fault) }
     {
         // For its clauses alone.
         let _ = self.view.doc().log();

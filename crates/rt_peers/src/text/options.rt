@@ -1,5 +1,5 @@
 // The options of a widget: those that all widgets of a site share, and the limits of what this one shows.
-ghost use Rattle.std.specs.Prelude.{◌≡◌, Ok};
+ghost use Rattle.std.specs.Prelude.{◌≡◌, Err, Ok, IfErr};
 ghost use Rattle.std.specs.Fmt.{decimal};
 ghost use Rattle.rt_stamps.specs.Outcomes.{Answers};
 ghost use Rattle.rt_peers.specs.Options.{bounded, configured, option_step, option_value, settings_step};
@@ -35,9 +35,10 @@ impl EditedText {
         self.set_max_undo(settings.max_undo);
     }
 
-    // Options are set: the widget shows the lines that are asked for.
+    // Options are set: the widget shows the lines that are asked for. It takes no memory.
     pub(super) fn set(&mut self, settings: &WidgetSettings) -> Result<Reply, Fault>
-        ensures { Answers (settings_step self.old settings.now) self.old result self.new }
+        ensures answers { Answers (settings_step self.old settings.now) self.old result self.new }
+        ensures err { IfErr result (λ fault. settings_step self.old settings.now ≡ Err fault) }
     {
         let start = choice_of(settings.start_line);
         let end = choice_of(settings.end_line);

@@ -11,7 +11,7 @@ ghost use Rattle.rt_text.specs.Accepted.{answer_of};
 ghost use Rattle.rt_recording.specs.Edits.{text_with_new};
 ghost use Rattle.rt_holding.specs.Grown.{AreTriedAt, AreTriedBefore};
 ghost use Rattle.rt_holding.specs.Receiving.{Receives};
-ghost use Rattle.rt_holding.specs.Taken.{AreTried, holding};
+ghost use Rattle.rt_holding.specs.Taken.{AreTried, site_holding};
 ghost use Rattle.rt_peers.specs.SiteStep.{TextTries, text_limit, text_log};
 ghost use Rattle.rt_peers.specs.Telling.{AreToldBetween, AreToldInTurn, HasToldMore, telling_with_new};
 
@@ -161,7 +161,7 @@ fn receive_told(
 // A text that is lent tries held operations, and stays the one that was lent.
 fn settle_lent(telling: &mut TellingText<'_, '_>, held: &mut Held, made_by: u32) -> usize
     requires { AreTriedBefore (text_limit telling.old.text.now) made_by held.old (text_log telling.old.text.now) }
-    ensures tried { AreTried text_log text_with_new (text_limit telling.old.text.now) (holding text_log telling.old.text.now held.old.held)
+    ensures tried { AreTried text_log text_with_new (text_limit telling.old.text.now) (site_holding text_log telling.old.text.now held.old.held)
         telling.old.text.now telling.new.text.now held.new.held result }
     ensures log { AreTriedAt (text_limit telling.new.text.now) (text_log telling.new.text.now) held.new }
     ensures more { HasToldMore telling.old.text.now telling.new.text.now telling.old.told.now telling.new.told.now }
@@ -180,7 +180,7 @@ fn settle_told(
     made_by: u32,
 ) -> usize
     requires { AreTriedBefore (text_limit text.old) made_by held.old (text_log text.old) }
-    ensures tried { AreTried text_log text_with_new (text_limit text.old) (holding text_log text.old held.old.held) text.old text.new
+    ensures tried { AreTried text_log text_with_new (text_limit text.old) (site_holding text_log text.old held.old.held) text.old text.new
         held.new.held result }
     ensures log { AreTriedAt (text_limit text.new) (text_log text.new) held.new }
     ensures more { HasToldMore text.old text.new told.old told.new }

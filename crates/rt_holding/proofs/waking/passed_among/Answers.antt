@@ -7,14 +7,14 @@ use Rattle.rt_oplog.specs.Logs.{known_end}
 use Rattle.rt_rga.specs.Answers.{has_gap}
 use Rattle.rt_rga.proofs.Skipping.{split}
 use Rattle.rt_holding.specs.declared.waits.Key.{Key}
-use Rattle.rt_holding.specs.Waking.{HasComeIn, IsAmong, IsToCome, stamp_of_key}
+use Rattle.rt_holding.specs.Waking.{HasComeIn, IsSpanAmong, IsToCome, stamp_of_key}
 use Rattle.rt_holding.proofs.Named.{among_at}
 use Rattle.rt_holding.proofs.waking.passed_among.Goals as goal
 
 abbrev part : Key → ℕ → Span
 part key last = record { site = key.site; first = key.count; last = last }
 
-came : (log : List Operation) (key : Key) (spans : List Span) (span : Span) (last known : ℕ) → (key.site ≡ 0 → ⊥) → IsAmong spans span → is_in_span span (stamp_of_key key) ≡ true
+came : (log : List Operation) (key : Key) (spans : List Span) (span : Span) (last known : ℕ) → (key.site ≡ 0 → ⊥) → IsSpanAmong spans span → is_in_span span (stamp_of_key key) ≡ true
     → last ≡ min span.last known → known ≡ known_end log key.site → has_gap log (part key last) ≡ false → HasComeIn log key spans span
 came log key spans span last known z i h l k g = record {
   site = other key.site z;

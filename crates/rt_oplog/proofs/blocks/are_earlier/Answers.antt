@@ -8,4 +8,4 @@ returns-in-Some c =
     let bs = c.args.blocks.now in
     let b = c.in-Some.block.now in
     let told : slice_get bs (length bs - 1) ≡ Some b = sym (rw c.in-Some.is at c.last.ensures.value) in
-    c.is_before.ensures ∙ last_of_all c.args.ops.now.operations c.args.stamp bs b c.requires told
+    c.is_before.ensures ∙ last_of_all c.args.ops.now.rows c.args.stamp bs b c.requires told

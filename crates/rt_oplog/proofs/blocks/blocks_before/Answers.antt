@@ -6,7 +6,7 @@ use Rattle.rt_oplog.proofs.blocks.blocks_before.Goals as goal
 
 pub returns-clause-blocks : goal.returns-clause-blocks
 returns-clause-blocks c =
-    let ops = c.args.ops.now.operations in
+    let ops = c.args.ops.now.rows in
     let bs = c.args.blocks.now in
     let test = last_earlier ops c.args.stamp in
     leading_is test bs c.partition_point.result c.partition_point.ensures.bound

@@ -2,32 +2,31 @@ use Rattle.std.proofs.Common.{◌≡◌, ◌<◌, ◌∙◌, sym, ap, subst, len
 use Rattle.std.specs.Prelude.{slice_get}
 use Rattle.std.proofs.lemmas.Option.{slice_get_past}
 use Rattle.rt_oplog.specs.Logs.{IsFalling}
-use Rattle.rt_oplog.specs.Kept.{newest_first, leading}
+use Rattle.rt_oplog.specs.Kept.{newest_first, leading, is_earlier}
 use Rattle.rt_oplog.specs.Blocks.{in_blocks}
-use Rattle.rt_oplog.proofs.Places.{is_earlier}
 use Rattle.rt_oplog.proofs.InBlocks.{all_earlier, falling_block, leading_at, leading_within, not_all_earlier, place_at}
 use Rattle.rt_oplog.proofs.blocks.find.Goals as goal
 
 pub returns-then-are_earlier : goal.returns-then-are_earlier
 returns-then-are_earlier c =
     let bs = c.args.blocks.now in
-    let all = all_earlier c.args.ops.now.operations c.args.stamp bs (sym c.are_earlier.ensures ∙ c.if-are_earlier.true) in
+    let all = all_earlier c.args.ops.now.rows c.args.stamp bs (sym c.are_earlier.ensures ∙ c.if-are_earlier.true) in
     sym (ap (slice_get (in_blocks bs)) all ∙ slice_get_past (in_blocks bs) (length (in_blocks bs)) (omega arith))
 
 pub bounds-blocks-before : goal.bounds-blocks-before
-bounds-blocks-before c = not_all_earlier c.args.ops.now.operations c.args.stamp c.args.blocks.now c.blocks_before-before.result (sym c.are_earlier.ensures ∙ c.if-are_earlier.false) c.blocks_before-before.ensures.blocks
+bounds-blocks-before c = not_all_earlier c.args.ops.now.rows c.args.stamp c.args.blocks.now c.blocks_before-before.result (sym c.are_earlier.ensures ∙ c.if-are_earlier.false) c.blocks_before-before.ensures.blocks
 
 pub ops_before-at-requires : goal.ops_before-at-requires
 ops_before-at-requires c =
-    subst (λ xs. IsFalling (newest_first c.args.ops.now.operations xs)) (sym c.deref.ensures.value)
-    (falling_block c.args.ops.now.operations c.args.blocks.now c.blocks_before-before.result c.index-blocks-before.result (not_all_earlier c.args.ops.now.operations c.args.stamp c.args.blocks.now c.blocks_before-before.result (sym c.are_earlier.ensures ∙ c.if-are_earlier.false) c.blocks_before-before.ensures.blocks) c.index-blocks-before.is c.requires)
+    subst (λ xs. IsFalling (newest_first c.args.ops.now.rows xs)) (sym c.deref.ensures.value)
+    (falling_block c.args.ops.now.rows c.args.blocks.now c.blocks_before-before.result c.index-blocks-before.result (not_all_earlier c.args.ops.now.rows c.args.stamp c.args.blocks.now c.blocks_before-before.result (sym c.are_earlier.ensures ∙ c.if-are_earlier.false) c.blocks_before-before.ensures.blocks) c.index-blocks-before.is c.requires)
 
 pub index-requires : goal.index-requires
 index-requires c =
     let bs = c.args.blocks.now in
     let i = c.blocks_before-before.result in
-    let p = is_earlier c.args.ops.now.operations c.args.stamp in
-    let l : i < length bs = not_all_earlier c.args.ops.now.operations c.args.stamp bs i (sym c.are_earlier.ensures ∙ c.if-are_earlier.false) c.blocks_before-before.ensures.blocks in
+    let p = is_earlier c.args.ops.now.rows c.args.stamp in
+    let l : i < length bs = not_all_earlier c.args.ops.now.rows c.args.stamp bs i (sym c.are_earlier.ensures ∙ c.if-are_earlier.false) c.blocks_before-before.ensures.blocks in
     let at : c.ops_before-at.result ≡ leading p c.index-blocks-before.result.places.items = rw c.deref.ensures.value at c.ops_before-at.ensures.place in
     omega (arith, at, leading_within p bs i c.index-blocks-before.result c.blocks_before-before.ensures.blocks l c.index-blocks-before.is)
 
@@ -36,8 +35,8 @@ returns c =
     let bs = c.args.blocks.now in
     let i = c.blocks_before-before.result in
     let b = c.index-blocks-before.result in
-    let p = is_earlier c.args.ops.now.operations c.args.stamp in
-    let l : i < length bs = not_all_earlier c.args.ops.now.operations c.args.stamp bs i (sym c.are_earlier.ensures ∙ c.if-are_earlier.false) c.blocks_before-before.ensures.blocks in
+    let p = is_earlier c.args.ops.now.rows c.args.stamp in
+    let l : i < length bs = not_all_earlier c.args.ops.now.rows c.args.stamp bs i (sym c.are_earlier.ensures ∙ c.if-are_earlier.false) c.blocks_before-before.ensures.blocks in
     let at : c.ops_before-at.result ≡ leading p b.places.items = rw c.deref.ensures.value at c.ops_before-at.ensures.place in
     let within = leading_within p bs i b c.blocks_before-before.ensures.blocks l c.index-blocks-before.is in
     sym (ap (slice_get (in_blocks bs)) (leading_at p bs i b c.blocks_before-before.ensures.blocks l c.index-blocks-before.is ∙ omega (arith, at))

@@ -1,12 +1,26 @@
-use Rattle.std.proofs.Common.{◌∙◌, ap, arith}
+use Rattle.std.proofs.Common.{◌≡◌, ◌∙◌, ◌+◌, ◌-◌, ◌<◌, ap, sym, arith, length, get_or, vec_len}
 use Rattle.std.specs.Prelude.{slice_get}
-use Rattle.rt_oplog.specs.Blocks.{in_blocks}
-use Rattle.rt_oplog.proofs.InBlocks.{place_at}
+use Rattle.rt_oplog.specs.declared.block.Block.{Block}
+use Rattle.rt_oplog.specs.Blocks.{in_blocks, places_before}
+use Rattle.rt_oplog.proofs.InBlocks.{any_default, place_at, places_up_to}
 use Rattle.rt_oplog.proofs.blocks.get.Goals as goal
 
-pub returns-then-left-len : goal.returns-then-left-len
-returns-then-left-len c =
+pub returns-then-before-at : goal.returns-then-before-at
+returns-then-before-at c =
     let bs = c.args.blocks.now in
-    let b = c.block-item.result in
-    ap (slice_get (in_blocks bs)) c.loop-block.invariant
-    ∙ place_at bs c.loop-block.block-index c.loop-block.left c.index.result.now b (omega (arith, c.loop-block-test.true)) c.block-item.is (omega (arith, c.if-left-len.true, c.len.ensures, b.places.ok.0)) c.index.ensures
+    let i = c.loop-block.block - 1 in
+    let first = c.index-blocks-block.result in
+    let b = c.index-blocks-block-then-before-at.result in
+    let start = c.loop-block.before - c.len-before.result in
+    let one : i + 1 ≡ c.loop-block.block = omega (arith, c.loop-block-test.true) in
+    let l : i < length bs = omega (arith, one, c.loop-block.invariant.blocks) in
+    let up = places_up_to bs i first l c.index-blocks-block.is in
+    let all : places_before bs (i + 1) ≡ c.loop-block.before = ap (places_before bs) one ∙ sym c.loop-block.invariant.before in
+    let len = c.len-before.ensures ∙ ap (λ (x : Block). vec_len x.places) (sym c.index-blocks-block.is) in
+    let from : start ≡ places_before bs i = omega (arith, up, all, len, first.places.ok.0) in
+    let read = c.index.ensures ∙ ap (λ (x : Block). get_or x.places.items (c.args.at - start) c.index.result.now) (sym c.index-blocks-block-then-before-at.is) in
+    let same : first ≡ b = c.index-blocks-block.is ∙ any_default bs i first b l ∙ sym c.index-blocks-block-then-before-at.is in
+    let size = ap (λ (x : Block). length x.places.items) same in
+    let here : places_before bs i + (c.args.at - start) ≡ c.args.at = omega (arith, from, c.if-before-at.true) in
+    let within : c.args.at - start < length b.places.items = omega (arith, from, up, all, size, c.loop-block.invariant.within, c.if-before-at.true) in
+    ap (slice_get (in_blocks bs)) (sym here) ∙ place_at bs i (c.args.at - start) c.index.result.now b l c.index-blocks-block-then-before-at.is within read

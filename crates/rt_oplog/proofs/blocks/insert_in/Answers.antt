@@ -9,7 +9,7 @@ pub returns-then-are_earlier-clause-items : goal.returns-then-are_earlier-clause
 returns-then-are_earlier-clause-items c =
     let bs = c.args.blocks.now.items in
     let is = rw c.deref.ensures.value at c.are_earlier.ensures in
-    let all = all_earlier c.args.ops.now.operations c.args.stamp bs (sym is ∙ c.if-are_earlier.true) in
+    let all = all_earlier c.args.ops.now.rows c.args.stamp bs (sym is ∙ c.if-are_earlier.true) in
     c.append.ensures.items ∙ sym (ap (λ n. insert (in_blocks bs) n c.args.place) all ∙ insert_end (in_blocks bs) c.args.place)
 
 pub insert_at-requires-clause-within : goal.insert_at-requires-clause-within
@@ -17,4 +17,4 @@ insert_at-requires-clause-within c =
     let bs = c.args.blocks.now.items in
     let is = rw c.deref.ensures.value at c.are_earlier.ensures in
     let before = rw c.deref-else-are_earlier.ensures.value at c.blocks_before-block.ensures.blocks in
-    omega (arith, not_all_earlier c.args.ops.now.operations c.args.stamp bs c.blocks_before-block.result (sym is ∙ c.if-are_earlier.false) before, c.args.blocks.now.ok.0)
+    omega (arith, not_all_earlier c.args.ops.now.rows c.args.stamp bs c.blocks_before-block.result (sym is ∙ c.if-are_earlier.false) before, c.args.blocks.now.ok.0)

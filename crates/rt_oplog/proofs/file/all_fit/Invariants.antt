@@ -4,4 +4,4 @@ use Rattle.rt_oplog.proofs.Fitting.{fit}
 use Rattle.rt_oplog.proofs.file.all_fit.Given as goal
 
 abbrev pub invariant-loop-block : goal.invariant-loop-block
-invariant-loop-block l = fit l.ops.operations (in_blocks (take l.block-index l.blocks)) ≡ true
+invariant-loop-block l = fit l.ops.rows (in_blocks (take l.block-index l.blocks)) ≡ true

@@ -1,4 +1,5 @@
-use Rattle.std.proofs.Common.{◌<◌, ◌∙◌, ap, sym, get_or, length}
+use Rattle.rt_rows.specs.Places.{HasPlace}
+use Rattle.std.proofs.Common.{◌∙◌, ap, sym}
 use Rattle.std.proofs.lemmas.List.{take_all}
 use Rattle.std.proofs.lemmas.List.Elements.{All-from_recursion}
 use Rattle.rt_rows.specs.Views.{operation_in}
@@ -7,24 +8,20 @@ use Rattle.rt_oplog.proofs.file.places_fit.Goals as goal
 
 pub returns-then-not-first_fits : goal.returns-then-not-first_fits
 returns-then-not-first_fits c =
-    let ops = c.args.ops.now.operations in
+    let ops = c.args.ops.now.rows in
     let places = c.args.places.now in
-    let place = get_or places c.loop-place.place-index 0 in
-    let within = All-from_recursion (λ place. place < length ops) places c.requires c.loop-place.place-index 0 c.loop-place-test.true in
     let read = sym c.op_in.ensures in
     sym (fits_not ops places c.loop-place.place-index (operation_in c.op_in.result) c.loop-place-test.true read (sym c.first_fits.ensures ∙ c.if-not-first_fits.true))
 
 pub loop-place-preserved : goal.loop-place-preserved
 loop-place-preserved c =
-    let ops = c.args.ops.now.operations in
+    let ops = c.args.ops.now.rows in
     let places = c.args.places.now in
-    let place = get_or places c.loop-place.place-index 0 in
-    let within = All-from_recursion (λ place. place < length ops) places c.requires c.loop-place.place-index 0 c.loop-place-test.true in
     let read = sym c.op_in.ensures in
     fits_next ops places c.loop-place.place-index (operation_in c.op_in.result) c.loop-place-test.true read c.loop-place.invariant (sym c.first_fits.ensures ∙ c.if-not-first_fits.false)
 
 pub returns : goal.returns
-returns c = sym (ap (fit c.args.ops.now.operations) (sym (take_all c.loop-place.place-index c.args.places.now c.loop-place-test.false)) ∙ c.loop-place.invariant)
+returns c = sym (ap (fit c.args.ops.now.rows) (sym (take_all c.loop-place.place-index c.args.places.now c.loop-place-test.false)) ∙ c.loop-place.invariant)
 
 pub op_in-requires : goal.op_in-requires
-op_in-requires c = All-from_recursion (λ place. place < length c.args.ops.now.operations) c.args.places.now c.requires c.loop-place.place-index 0 c.loop-place-test.true
+op_in-requires c = All-from_recursion (HasPlace c.args.ops.now.rows) c.args.places.now c.requires c.loop-place.place-index (record { row = 0; at = 0 }) c.loop-place-test.true

@@ -1,4 +1,5 @@
-use Rattle.std.proofs.Common.{◌<◌, ◌+◌, inl, inr, ◌∙◌, ap, length, subst}
+use Rattle.rt_rows.specs.Places.{HasPlace}
+use Rattle.std.proofs.Common.{◌+◌, inl, inr, ◌∙◌, ap, subst}
 use Rattle.std.specs.List.{AllByRecursion, list_all}
 use Rattle.std.proofs.lemmas.List.{take_all}
 use Rattle.std.proofs.lemmas.Result.{err_from_is_err_and}
@@ -20,13 +21,13 @@ returns-in_err-write_magic-clause-writes g c =
 
 pub write_records-requires-clause-within : goal.write_records-requires-clause-within
 write_records-requires-clause-within g c =
-    let ops = c.blocks-2.result.0.now.operations in
+    let ops = c.blocks-2.result.0.now.rows in
     rw c.deref.ensures.value
-    (all_block (λ place. place < length ops) c.blocks-2.result.1.now c.loop-block.block-index c.block-item.result c.loop-block-test.true c.block-item.is c.blocks-2.ensures.within)
+    (all_block (HasPlace ops) c.blocks-2.result.1.now c.loop-block.block-index c.block-item.result c.loop-block-test.true c.block-item.is c.blocks-2.ensures.within)
 
 pub write_records-requires-clause-room : goal.write_records-requires-clause-room
 write_records-requires-clause-room g c = λ one.
-    let ops = c.blocks-2.result.0.now.operations in
+    let ops = c.blocks-2.result.0.now.rows in
     let room = ap (list_all (fits One)) c.blocks-2.ensures.operations ∙ c.requires one in
     rw c.deref.ensures.value (block_at ops c.blocks-2.result.1.now c.loop-block.block-index c.block-item.result c.loop-block-test.true c.block-item.is room)
 
@@ -36,7 +37,7 @@ returns-in_err-write_records-clause-writes g c =
     let written = c.in_err-write_records.ensures.writes in
     let before = c.loop-block.invariant.failures in
     rw (p.1, p.2, ← c.blocks-2.ensures.operations) (record {
-      wrote = part_block c.args.version _ _ _ c.blocks-2.result.0.now.operations c.blocks-2.result.1.now c.loop-block.block-index c.block-item.result c.loop-block-test.true c.block-item.is c.loop-block.invariant.wrote
+      wrote = part_block c.args.version _ _ _ c.blocks-2.result.0.now.rows c.blocks-2.result.1.now c.loop-block.block-index c.block-item.result c.loop-block-test.true c.block-item.is c.loop-block.invariant.wrote
           (rw c.deref.ensures.value at written.wrote);
       failures = elim written.failures [
         | inl memory ↦ inl (memory.0, memory.1 ∙ before)
@@ -46,5 +47,5 @@ returns-in_err-write_records-clause-writes g c =
 
 pub returns-clause-records : goal.returns-clause-records
 returns-clause-records g c =
-    let seen = ap (λ bs. ops_at c.blocks-2.result.0.now.operations (in_blocks bs)) (take_all c.loop-block.block-index c.blocks-2.result.1.now c.loop-block-test.false) ∙ c.blocks-2.ensures.operations in
+    let seen = ap (λ bs. ops_at c.blocks-2.result.0.now.rows (in_blocks bs)) (take_all c.loop-block.block-index c.blocks-2.result.1.now c.loop-block-test.false) ∙ c.blocks-2.ensures.operations in
     (c.blocks-2.ensures.log, subst (AllByRecursion (HasRecord c.args.version)) seen c.loop-block.invariant.records)

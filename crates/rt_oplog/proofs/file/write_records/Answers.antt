@@ -1,4 +1,5 @@
-use Rattle.std.proofs.Common.{◌<◌, ◌+◌, ◌∙◌, ap, inl, inr, get_or, length, sym}
+use Rattle.rt_rows.specs.Places.{HasPlace}
+use Rattle.std.proofs.Common.{◌+◌, ◌∙◌, ap, inl, inr, sym}
 use Rattle.std.proofs.lemmas.List.Elements.{All-from_recursion}
 use Rattle.std.proofs.lemmas.Result.{err_from_is_err_and}
 use Rattle.rt_rows.specs.Views.{operation_in}
@@ -10,16 +11,14 @@ pub returns-in_err-spell_view-clause-writes : goal.returns-in_err-spell_view-cla
 returns-in_err-spell_view-clause-writes g c =
     let p = err_from_is_err_and c.from_residual.result c.from_residual.ensures.1 in
     rw (p.1, p.2) (record {
-      wrote = before_wrote c.args.version _ _ c.args.ops.now.operations c.args.places.now c.loop-place.place-index c.loop-place.invariant.wrote;
+      wrote = before_wrote c.args.version _ _ c.args.ops.now.rows c.args.places.now c.loop-place.place-index c.loop-place.invariant.wrote;
       failures = inl (c.in_err-spell_view.ensures.fault, c.loop-place.invariant.failures);
     })
 
 pub returns-in_err-write_all-clause-writes : goal.returns-in_err-write_all-clause-writes
 returns-in_err-write_all-clause-writes g c =
-    let ops = c.args.ops.now.operations in
+    let ops = c.args.ops.now.rows in
     let places = c.args.places.now in
-    let place = get_or places c.loop-place.place-index 0 in
-    let fits = All-from_recursion (λ place. place < length ops) places c.requires.within c.loop-place.place-index 0 c.loop-place-test.true in
     let read = sym c.op_in.ensures in
     let p = err_from_is_err_and c.from_residual-in_err-write_all.result c.from_residual-in_err-write_all.ensures.1 in
     let written = c.in_err-write_all.ensures in
@@ -31,12 +30,10 @@ returns-in_err-write_all-clause-writes g c =
 
 pub spell_view-requires : goal.spell_view-requires
 spell_view-requires g c = λ one.
-    let ops = c.args.ops.now.operations in
+    let ops = c.args.ops.now.rows in
     let places = c.args.places.now in
-    let place = get_or places c.loop-place.place-index 0 in
-    let fits = All-from_recursion (λ place. place < length ops) places c.requires.within c.loop-place.place-index 0 c.loop-place-test.true in
     let read = sym c.op_in.ensures in
     fits_at ops places c.loop-place.place-index (operation_in c.op_in.result) c.loop-place-test.true read (c.requires.room one)
 
 pub op_in-requires : goal.op_in-requires
-op_in-requires g c = All-from_recursion (λ place. place < length c.args.ops.now.operations) c.args.places.now c.requires.within c.loop-place.place-index 0 c.loop-place-test.true
+op_in-requires g c = All-from_recursion (HasPlace c.args.ops.now.rows) c.args.places.now c.requires.within c.loop-place.place-index (record { row = 0; at = 0 }) c.loop-place-test.true

@@ -1,13 +1,13 @@
+use Rattle.rt_rows.specs.Places.{op_at}
 use Rattle.std.proofs.Common.{◌≡◌, map, take}
 use Rattle.std.specs.Io.KnownBytes.{Appends}
 use Rattle.std.specs.List.{AllByRecursion, flat_map}
 use Rattle.rt_ops.specs.File.{record_of, HasRecord}
-use Rattle.rt_oplog.specs.Kept.{op_at}
 use Rattle.rt_oplog.proofs.file.write_records.Given as goal
 
 abbrev pub invariant-loop-place : goal.invariant-loop-place
 invariant-loop-place g l = record {
-  wrote : Appends (g.W.Sink.stream l.fn.out).bytes (g.W.Sink.stream l.out).bytes (flat_map (record_of l.version) (map (op_at l.ops.operations) (take l.place-index l.places)));
-  records : AllByRecursion (HasRecord l.version) (map (op_at l.ops.operations) (take l.place-index l.places));
+  wrote : Appends (g.W.Sink.stream l.fn.out).bytes (g.W.Sink.stream l.out).bytes (flat_map (record_of l.version) (map (op_at l.ops.rows) (take l.place-index l.places)));
+  records : AllByRecursion (HasRecord l.version) (map (op_at l.ops.rows) (take l.place-index l.places));
   failures : (g.W.Sink.stream l.out).failures ≡ (g.W.Sink.stream l.fn.out).failures;
 }

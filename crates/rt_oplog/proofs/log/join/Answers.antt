@@ -17,13 +17,13 @@ returns-in_err-ends c =
     let (y, is, gives) = err_from_is_err_and c.from_residual-in_err-ends.result c.from_residual-in_err-ends.ensures.1 in
     let merged = rw (c.deref.ensures.value, c.in_ok-flat.ensures, c.deref-2.ensures.value, c.in_ok-flat-2.ensures) at c.in_ok-places.ensures in
     let told = rw (c.deref-3.ensures.value) at c.in_err-ends.ensures in
-    rw (is, gives, ← c.one.view_is, ← c.other.view_is) (told_of_merged c.merge.new.ops.operations _ _ c.in_ok-places.places.items c.in_err-ends.field-0.0 merged told)
+    rw (is, gives, ← c.one.view_is, ← c.other.view_is) (told_of_merged c.merge.new.ops.rows _ _ c.in_ok-places.places.items c.in_err-ends.field-0.0 merged told)
 
 pub returns : goal.returns
 returns c =
     let merged = rw (c.deref.ensures.value, c.in_ok-flat.ensures, c.deref-2.ensures.value, c.in_ok-flat-2.ensures) at c.in_ok-places.ensures in
     let kept = rw (c.deref-3.ensures.value) at c.in_ok-ends.ensures in
-    rw (← c.one.view_is, ← c.other.view_is, c.in_ok-order.ensures, c.deref-4.ensures.value) (joined_merged c.merge.new.ops.operations _ _ c.in_ok-places.places.items c.in_ok-ends.ends merged kept c.one.invariant.log c.other.invariant.log)
+    rw (← c.one.view_is, ← c.other.view_is, c.in_ok-order.ensures, c.deref-4.ensures.value) (joined_merged c.merge.new.ops.rows _ _ c.in_ok-places.places.items c.in_ok-ends.ends merged kept c.one.invariant.log c.other.invariant.log)
 
 pub returns-in_err-flat : goal.returns-in_err-flat
 returns-in_err-flat c =

@@ -3,4 +3,4 @@ use Rattle.rt_oplog.specs.Kept.{IsKept}
 use Rattle.rt_oplog.proofs.merge.ends_of.Given as goal
 
 abbrev pub invariant-loop-place : goal.invariant-loop-place
-invariant-loop-place l = IsKept l.ops.operations (take l.place-index l.order) l.ends
+invariant-loop-place l = IsKept l.ops.rows (take l.place-index l.order) l.ends

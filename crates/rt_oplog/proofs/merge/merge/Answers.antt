@@ -1,133 +1,119 @@
-use Rattle.std.proofs.Common.{◌≡◌, ◌≤◌, ◌<◌, ◌⊎◌, ◌∙◌, ap, sym, subst, refl, inl, inr, true, false, length, get_or, arith}
+use Rattle.std.proofs.Common.{◌≡◌, ◌∙◌, ◌+◌, ◌-◌, ◌≤◌, ◌++◌, ◌⊎◌, inl, inr, true, false, ap, sym, subst, refl, arith, length, get_or, take, drop}
+use Rattle.std.proofs.lemmas.Result.{err_from_is_err_and}
 use Rattle.std.specs.List.{AllByRecursion}
 use Rattle.rt_stamps.specs.Stamps.{is_before}
-use Rattle.rt_stamps.proofs.Writes.{slice_rest}
-use Rattle.std.proofs.lemmas.Result.{err_from_is_err_and}
 use Rattle.rt_ops.specs.Operations.{stamp_of}
+use Rattle.rt_rows.specs.Places.{HasPlace, op_at}
 use Rattle.rt_oplog.specs.Logs.{same_operation}
-use Rattle.rt_oplog.specs.Kept.{op_at}
+use Rattle.rt_oplog.specs.Merged.{IsTakenOver}
 use Rattle.rt_oplog.proofs.Sets.{operation_true}
-use Rattle.rt_oplog.proofs.Merges.{within_at, within_drop}
-use Rattle.rt_oplog.proofs.Kept.{rest_first}
-use Rattle.rt_oplog.proofs.Merging.{starts, stands, go_left, go_right, go_both, clash_at, ends}
+use Rattle.rt_oplog.proofs.Merges.{rest_of, within_at, within_drop}
+use Rattle.rt_oplog.proofs.Merging.{IsMerging, first_place, starts, go_left, go_right, go_both, clash_at, ends}
 use Rattle.rt_oplog.proofs.merge.merge.Goals as goal
 use Rattle.rt_oplog.proofs.merge.merge.Goals.{then-loop-left-test+else-right-theirs, else-loop-left-test}
 
 pub loop-left-init : goal.loop-left-init
-loop-left-init c = rw c.new-order.ensures.items (starts c.args.ops.now.operations c.args.more.now.operations c.args.mine.now c.args.theirs.now c.requires.one.falling c.requires.other.falling)
+loop-left-init c =
+    subst (λ order. IsMerging c.args.ops.now.rows c.args.more.now.rows c.args.mine.now c.args.theirs.now c.args.ops.now.rows order 0 0) (sym c.new-order.ensures.items)
+    (starts c.args.ops.now.rows c.args.more.now.rows c.args.mine.now c.args.theirs.now c.requires.one.falling c.requires.other.falling)
 
 pub loop-left-preserved-then-is_before : goal.loop-left-preserved-then-is_before
 loop-left-preserved-then-is_before c =
-    let ops = c.args.ops.now.operations in
-    let more = c.args.more.now.operations in
+    let ops = c.args.ops.now.rows in
+    let more = c.args.more.now.rows in
     let mine = c.args.mine.now in
     let theirs = c.args.theirs.now in
-    let now = c.loop-left.ops.operations in
-    let rest = c.args.more.now.operations in
+    let now = c.loop-left.ops.rows in
     let order = c.loop-left.order.items in
     let i = c.loop-left.left in
     let j = c.loop-left.right in
     let s = c.loop-left.invariant in
     let h = c.loop-left-test.true in
     let k = c.if-right-theirs.true in
-    let fits = within_at (length ops) i mine h c.requires.mine in
-    let one : op_at now (get_or mine i 0) ≡ op_at ops (get_or mine i 0) = stands ops s.moved now (get_or mine i 0) s.front fits in
-    let other : op_at rest (get_or theirs j 0) ≡ op_at more (get_or theirs j 0) = rest_first more rest theirs j k s.stay in
-    let x : c.stamp_at-one.result ≡ stamp_of (op_at ops (get_or mine i 0)) = c.stamp_at-one.ensures ∙ ap stamp_of one in
-    let y : c.stamp_at-other.result ≡ stamp_of (op_at more (get_or theirs j 0)) = c.stamp_at-other.ensures ∙ ap stamp_of other in
-    let e : is_before (stamp_of (op_at ops (get_or mine i 0))) (stamp_of (op_at more (get_or theirs j 0))) ≡ true = ap (λ z. is_before z (stamp_of (op_at more (get_or theirs j 0)))) (sym x) ∙ ap (is_before c.stamp_at-one.result) (sym y) ∙ sym c.is_before.ensures ∙ c.if-is_before.true in
-    rw c.in_ok-push.ensures.items (go_left ops more mine theirs now rest order i j s h k c.requires.mine e)
+    let one = (s.kept (get_or mine i first_place) (within_at (HasPlace ops) i mine h c.requires.mine)).1 in
+    let x : c.stamp_at-one.result ≡ stamp_of (op_at ops (get_or mine i first_place)) = c.stamp_at-one.ensures ∙ ap stamp_of one in
+    let y : c.stamp_at-other.result ≡ stamp_of (op_at more (get_or theirs j first_place)) = c.stamp_at-other.ensures in
+    let e : is_before (stamp_of (op_at ops (get_or mine i first_place))) (stamp_of (op_at more (get_or theirs j first_place))) ≡ true = ap (λ z. is_before z (stamp_of (op_at more (get_or theirs j first_place)))) (sym x) ∙ ap (is_before c.stamp_at-one.result) (sym y) ∙ sym c.is_before.ensures ∙ c.if-is_before.true in
+    subst (λ places. IsMerging ops more mine theirs now places (i + 1) j) (sym c.in_ok-push.ensures.items) (go_left ops more mine theirs now order i j s h k c.requires.mine e)
 
 pub loop-left-preserved-then-is_before-2 : goal.loop-left-preserved-then-is_before-2
 loop-left-preserved-then-is_before-2 c =
-    let ops = c.args.ops.now.operations in
-    let more = c.args.more.now.operations in
+    let ops = c.args.ops.now.rows in
+    let more = c.args.more.now.rows in
     let mine = c.args.mine.now in
     let theirs = c.args.theirs.now in
-    let now = c.loop-left.ops.operations in
-    let rest = c.args.more.now.operations in
+    let now = c.loop-left.ops.rows in
     let order = c.loop-left.order.items in
     let i = c.loop-left.left in
     let j = c.loop-left.right in
     let s = c.loop-left.invariant in
     let h = c.loop-left-test.true in
     let k = c.if-right-theirs.true in
-    let fits = within_at (length ops) i mine h c.requires.mine in
-    let one : op_at now (get_or mine i 0) ≡ op_at ops (get_or mine i 0) = stands ops s.moved now (get_or mine i 0) s.front fits in
-    let other : op_at rest (get_or theirs j 0) ≡ op_at more (get_or theirs j 0) = rest_first more rest theirs j k s.stay in
-    let x : c.stamp_at-one.result ≡ stamp_of (op_at ops (get_or mine i 0)) = c.stamp_at-one.ensures ∙ ap stamp_of one in
-    let y : c.stamp_at-other.result ≡ stamp_of (op_at more (get_or theirs j 0)) = c.stamp_at-other.ensures ∙ ap stamp_of other in
-    let e : is_before (stamp_of (op_at more (get_or theirs j 0))) (stamp_of (op_at ops (get_or mine i 0))) ≡ true = ap (λ z. is_before z (stamp_of (op_at ops (get_or mine i 0)))) (sym y) ∙ ap (is_before c.stamp_at-other.result) (sym x) ∙ sym c.is_before-else-is_before.ensures ∙ c.if-is_before-2.true in
-    go_right ops more mine theirs now rest order i j c.take_over.new.ops.operations rest c.take_over.new.order.items s h k c.requires.other.falling e
-    c.in_ok-take_over.ensures.ops c.in_ok-take_over.ensures.order (λ p h. refl) refl
+    let one = (s.kept (get_or mine i first_place) (within_at (HasPlace ops) i mine h c.requires.mine)).1 in
+    let x : c.stamp_at-one.result ≡ stamp_of (op_at ops (get_or mine i first_place)) = c.stamp_at-one.ensures ∙ ap stamp_of one in
+    let y : c.stamp_at-other.result ≡ stamp_of (op_at more (get_or theirs j first_place)) = c.stamp_at-other.ensures in
+    let e : is_before (stamp_of (op_at more (get_or theirs j first_place))) (stamp_of (op_at ops (get_or mine i first_place))) ≡ true = ap (λ z. is_before z (stamp_of (op_at ops (get_or mine i first_place)))) (sym y) ∙ ap (is_before c.stamp_at-other.result) (sym x) ∙ sym c.is_before-else-is_before.ensures ∙ c.if-is_before-2.true in
+    go_right ops more mine theirs now order i j c.take_over.new.ops.rows c.take_over.new.order.items s h k e c.in_ok-take_over.ensures.kept c.in_ok-take_over.ensures.taken
 
 pub loop-left-preserved : goal.loop-left-preserved
 loop-left-preserved c =
-    let ops = c.args.ops.now.operations in
-    let more = c.args.more.now.operations in
+    let ops = c.args.ops.now.rows in
+    let more = c.args.more.now.rows in
     let mine = c.args.mine.now in
     let theirs = c.args.theirs.now in
-    let now = c.loop-left.ops.operations in
-    let rest = c.args.more.now.operations in
+    let now = c.loop-left.ops.rows in
     let order = c.loop-left.order.items in
     let i = c.loop-left.left in
     let j = c.loop-left.right in
     let s = c.loop-left.invariant in
     let h = c.loop-left-test.true in
     let k = c.if-right-theirs.true in
-    let fits = within_at (length ops) i mine h c.requires.mine in
-    let one : op_at now (get_or mine i 0) ≡ op_at ops (get_or mine i 0) = stands ops s.moved now (get_or mine i 0) s.front fits in
-    let other : op_at rest (get_or theirs j 0) ≡ op_at more (get_or theirs j 0) = rest_first more rest theirs j k s.stay in
-    let x : c.stamp_at-one.result ≡ stamp_of (op_at ops (get_or mine i 0)) = c.stamp_at-one.ensures ∙ ap stamp_of one in
-    let y : c.stamp_at-other.result ≡ stamp_of (op_at more (get_or theirs j 0)) = c.stamp_at-other.ensures ∙ ap stamp_of other in
-    let same : same_operation (op_at ops (get_or mine i 0)) (op_at more (get_or theirs j 0)) ≡ true =
-    sym (c.in_ok-are_same.ensures.same ∙ ap (λ z. same_operation z (op_at rest (get_or theirs j 0))) one) ∙ c.if-branch.true in
-    let e : op_at ops (get_or mine i 0) ≡ op_at more (get_or theirs j 0) = operation_true (op_at ops (get_or mine i 0)) (op_at more (get_or theirs j 0)) same in
-    rw c.in_ok-push-2.ensures.items (go_both ops more mine theirs now rest order i j s h k c.requires.mine e)
+    let one = (s.kept (get_or mine i first_place) (within_at (HasPlace ops) i mine h c.requires.mine)).1 in
+    let same = sym (c.are_same.ensures ∙ ap (λ z. same_operation z (op_at more (get_or theirs j first_place))) one) ∙ c.if-are_same.true in
+    let e = operation_true (op_at ops (get_or mine i first_place)) (op_at more (get_or theirs j first_place)) same in
+    subst (λ places. IsMerging ops more mine theirs now places (i + 1) (j + 1)) (sym c.in_ok-push-2.ensures.items) (go_both ops more mine theirs now order i j s h k c.requires.mine e)
 
-pub returns-else-branch : goal.returns-else-branch
-returns-else-branch c =
-    let ops = c.args.ops.now.operations in
-    let more = c.args.more.now.operations in
+pub returns-else-are_same : goal.returns-else-are_same
+returns-else-are_same c =
+    let ops = c.args.ops.now.rows in
+    let more = c.args.more.now.rows in
     let mine = c.args.mine.now in
     let theirs = c.args.theirs.now in
-    let now = c.loop-left.ops.operations in
-    let rest = c.args.more.now.operations in
+    let now = c.loop-left.ops.rows in
     let order = c.loop-left.order.items in
     let i = c.loop-left.left in
     let j = c.loop-left.right in
     let s = c.loop-left.invariant in
     let h = c.loop-left-test.true in
     let k = c.if-right-theirs.true in
-    let fits = within_at (length ops) i mine h c.requires.mine in
-    let one : op_at now (get_or mine i 0) ≡ op_at ops (get_or mine i 0) = stands ops s.moved now (get_or mine i 0) s.front fits in
-    let other : op_at rest (get_or theirs j 0) ≡ op_at more (get_or theirs j 0) = rest_first more rest theirs j k s.stay in
-    let x : c.stamp_at-one.result ≡ stamp_of (op_at ops (get_or mine i 0)) = c.stamp_at-one.ensures ∙ ap stamp_of one in
-    let y : c.stamp_at-other.result ≡ stamp_of (op_at more (get_or theirs j 0)) = c.stamp_at-other.ensures ∙ ap stamp_of other in
-    let same : same_operation (op_at ops (get_or mine i 0)) (op_at more (get_or theirs j 0)) ≡ false =
-    sym (c.in_ok-are_same.ensures.same ∙ ap (λ z. same_operation z (op_at rest (get_or theirs j 0))) one) ∙ c.if-branch.false in
-    let e : is_before (stamp_of (op_at ops (get_or mine i 0))) (stamp_of (op_at more (get_or theirs j 0))) ≡ false = ap (λ z. is_before z (stamp_of (op_at more (get_or theirs j 0)))) (sym x) ∙ ap (is_before c.stamp_at-one.result) (sym y) ∙ sym c.is_before.ensures ∙ c.if-is_before.false in
-    let f : is_before (stamp_of (op_at more (get_or theirs j 0))) (stamp_of (op_at ops (get_or mine i 0))) ≡ false = ap (λ z. is_before z (stamp_of (op_at ops (get_or mine i 0)))) (sym y) ∙ ap (is_before c.stamp_at-other.result) (sym x) ∙ sym c.is_before-else-is_before.ensures ∙ c.if-is_before-2.false in
+    let one = (s.kept (get_or mine i first_place) (within_at (HasPlace ops) i mine h c.requires.mine)).1 in
+    let x : c.stamp_at-one.result ≡ stamp_of (op_at ops (get_or mine i first_place)) = c.stamp_at-one.ensures ∙ ap stamp_of one in
+    let y : c.stamp_at-other.result ≡ stamp_of (op_at more (get_or theirs j first_place)) = c.stamp_at-other.ensures in
+    let same = sym (c.are_same.ensures ∙ ap (λ z. same_operation z (op_at more (get_or theirs j first_place))) one) ∙ c.if-are_same.false in
+    let e : is_before (stamp_of (op_at ops (get_or mine i first_place))) (stamp_of (op_at more (get_or theirs j first_place))) ≡ false = ap (λ z. is_before z (stamp_of (op_at more (get_or theirs j first_place)))) (sym x) ∙ ap (is_before c.stamp_at-one.result) (sym y) ∙ sym c.is_before.ensures ∙ c.if-is_before.false in
+    let f : is_before (stamp_of (op_at more (get_or theirs j first_place))) (stamp_of (op_at ops (get_or mine i first_place))) ≡ false = ap (λ z. is_before z (stamp_of (op_at ops (get_or mine i first_place)))) (sym y) ∙ ap (is_before c.stamp_at-other.result) (sym x) ∙ sym c.is_before-else-is_before.ensures ∙ c.if-is_before-2.false in
     inr (refl, clash_at ops more mine theirs i j h k c.requires.other e f same)
 
 pub take_rest-requires : goal.take_rest-requires
 take_rest-requires c =
     let theirs = c.args.theirs.now in
     let j = c.loop-left.right in
-    subst (λ xs. AllByRecursion (λ place. place < length c.args.more.now.operations) xs) (sym (slice_rest j theirs))
-    (within_drop (length c.args.more.now.operations) j theirs c.requires.theirs)
+    subst (AllByRecursion (HasPlace c.args.more.now.rows)) (sym (rest_of j theirs)) (within_drop (HasPlace c.args.more.now.rows) j theirs c.requires.theirs)
 
 pub returns : goal.returns
 returns c =
+    let ops = c.args.ops.now.rows in
+    let more = c.args.more.now.rows in
     let mine = c.args.mine.now in
     let theirs = c.args.theirs.now in
     let i = c.loop-left.left in
     let j = c.loop-left.right in
-    let one = rw (slice_rest i mine) at c.in_ok-extend_from_slice.ensures.items in
-    let all = rw (slice_rest j theirs) at c.in_ok-take_rest.ensures.ops in
-    let places = rw (slice_rest j theirs, one) at c.in_ok-take_rest.ensures.order in
+    let named = c.in_ok-extend_from_slice.ensures.items ∙ ap (λ xs. c.loop-left.order.items ++ xs) (rest_of i mine) in
+    let taken = subst (λ left. IsTakenOver more c.take_rest.new.ops.rows left (c.loop-left.order.items ++ drop i mine) c.take_rest.new.order.items) (rest_of j theirs)
+    (subst (λ old. IsTakenOver more c.take_rest.new.ops.rows (take (length theirs - j) (drop j theirs)) old c.take_rest.new.order.items) named c.in_ok-take_rest.ensures.taken) in
     let empty : (length mine ≤ i) ⊎ (length theirs ≤ j) = elim c.loop-left-test.branch [ then-loop-left-test+else-right-theirs w ↦ inr (omega arith) | else-loop-left-test w ↦ inl (omega arith) ] in
-    rw (all, places) (ends c.args.ops.now.operations c.args.more.now.operations mine theirs c.loop-left.ops.operations c.args.more.now.operations c.loop-left.order.items i j c.loop-left.invariant c.requires.mine empty)
+    ends ops more mine theirs c.loop-left.ops.rows c.loop-left.order.items i j c.take_rest.new.ops.rows c.take_rest.new.order.items c.loop-left.invariant c.requires.mine empty
+    c.in_ok-take_rest.ensures.kept taken
 
 pub returns-in_err-push : goal.returns-in_err-push
 returns-in_err-push c =

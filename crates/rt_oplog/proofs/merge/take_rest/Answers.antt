@@ -1,46 +1,44 @@
-use Rattle.std.proofs.Common.{◌≡◌, ◌+◌, ◌<◌, ◌++◌, ◌∷◌, [], ◌∙◌, ap, sym, refl, arith, length, map, take, get_or, append-nil, append_assoc, length-append, add-one}
-use Rattle.std.specs.List.{range_with_len}
-use Rattle.std.proofs.lemmas.List.{take_all}
-use Rattle.rt_oplog.specs.Kept.{op_at}
-use Rattle.rt_oplog.proofs.Kept.{row_step, row_length, range_last}
+use Rattle.std.proofs.Common.{◌∙◌, ◌∷◌, [], sym, subst, refl, take, get_or}
+use Rattle.std.proofs.lemmas.List.{take_all, take_more}
 use Rattle.std.proofs.lemmas.Result.{err_from_is_err_and}
+use Rattle.rt_oplog.specs.Merged.{IsTakenOver}
+use Rattle.rt_oplog.proofs.Kept.{taken_none, taken_more}
 use Rattle.rt_oplog.proofs.merge.take_rest.Goals as goal
 
 pub loop-place-init : goal.loop-place-init
 loop-place-init c = record {
-  ops = sym (append-nil c.args.ops.now.operations);
-  order = sym (append-nil c.args.order.now.items);
+  kept = λ place h. (h, refl);
+  taken = taken_none c.args.more.now.rows c.args.ops.now.rows c.args.order.now.items;
 }
 
 pub loop-place-preserved : goal.loop-place-preserved
 loop-place-preserved c =
-    let first = c.args.more.now.operations in
+    let more = c.args.more.now.rows in
     let places = c.args.places.now in
     let i = c.loop-place.place-index in
-    let h : i < length places = c.loop-place-test.true in
-    let ops = c.args.ops.now.operations in
-    let order = c.args.order.now.items in
-    let now = c.loop-place.ops.operations in
-    let row = map (op_at first) (take i places) in
-    let len : length now ≡ length ops + length row = ap length c.loop-place.invariant.ops ∙ length-append ops row in
-    let short : length row ≡ i = row_length first places i (omega arith) in
+    let place = get_or places i (record { row = 0; at = 0 }) in
+    let was = c.loop-place.invariant in
     record {
-      ops = c.in_ok-take_over.ensures.ops ∙ ap (λ xs. xs ++ op_at first (get_or places i 0) ∷ []) c.loop-place.invariant.ops ∙ append_assoc ops row (op_at first (get_or places i 0) ∷ [])
-          ∙ ap (λ xs. ops ++ xs) (row_step first row places i (op_at first (get_or places i 0)) h refl refl);
-      order = c.in_ok-take_over.ensures.order ∙ ap (λ xs. xs ++ length now ∷ []) c.loop-place.invariant.order ∙ append_assoc order (range_with_len (length ops) i) (length now ∷ [])
-          ∙ ap (λ xs. order ++ xs) (sym (range_last (length ops) i (length now) (omega (arith, len, short))) ∙ ap (range_with_len (length ops)) (sym (add-one i)));
+      kept = λ p h. let a = was.kept p h in let b = c.in_ok-take_over.ensures.kept p a.0 in (b.0, b.1 ∙ a.1);
+      taken = subst (λ front. IsTakenOver more c.take_over.new.ops.rows front c.args.order.now.items c.take_over.new.order.items) (sym (take_more places i (record { row = 0; at = 0 }) c.loop-place-test.true))
+          (taken_more more c.loop-place.ops.rows c.take_over.new.ops.rows (take i places) (place ∷ []) c.args.order.now.items c.loop-place.order.items c.take_over.new.order.items
+          c.in_ok-take_over.ensures.kept was.taken c.in_ok-take_over.ensures.taken);
     }
 
 pub returns-in_err-take_over : goal.returns-in_err-take_over
 returns-in_err-take_over c =
     let (y, is, gives) = err_from_is_err_and c.from_residual.result c.from_residual.ensures.1 in
-    rw (is, gives) (record { ops = tt; order = tt; fault = c.in_err-take_over.ensures.fault })
+    rw (is, gives) (record {
+      kept = λ p h. let a = c.loop-place.invariant.kept p h in let b = c.take_over.ensures.kept p a.0 in (b.0, b.1 ∙ a.1);
+      taken = tt;
+      fault = c.in_err-take_over.ensures.fault;
+    })
 
 pub returns : goal.returns
 returns c =
     let all = take_all c.loop-place.place-index c.args.places.now c.loop-place-test.false in
     record {
-      ops = c.loop-place.invariant.ops ∙ ap (λ xs. c.args.ops.now.operations ++ map (op_at c.args.more.now.operations) xs) all;
-      order = c.loop-place.invariant.order ∙ ap (λ n. c.args.order.now.items ++ range_with_len (length c.args.ops.now.operations) n) (omega arith);
+      kept = c.loop-place.invariant.kept;
+      taken = subst (λ front. IsTakenOver c.args.more.now.rows c.loop-place.ops.rows front c.args.order.now.items c.loop-place.order.items) all c.loop-place.invariant.taken;
       fault = tt;
     }

@@ -44,5 +44,5 @@ returns c =
     let names = as_words c.in_ok-tags.tags.items in
     let size : length names ≡ length c.in_ok-tags.tags.items = length-map c.in_ok-tags.tags.items (string_bytes {Z = Global}) in
     let few : length names ≤ (layout c.args.version).most_tags = omega (arith, size, c.if-len-most_tags.false, c.most_tags.ensures, c.len.ensures, c.in_ok-tags.tags.ok.0) in
-    rw c.insert.ensures (decided c.args.version 1 c.args.stamp c.args.prev (Insert c.in-Some.found.0 names c.in_ok-text.text.items) c.args.bytes.now refl (insert_fits c.args.version c.in-Some.found.0 names c.in_ok-text.text.items after.fits few) (after.fits, tags.0)
+    rw c.insert_text.ensures (decided c.args.version 1 c.args.stamp c.args.prev (Insert c.in-Some.found.0 names c.in_ok-text.text) c.args.bytes.now refl (insert_fits c.args.version c.in-Some.found.0 names c.in_ok-text.text after.fits few) (after.fits, tags.0)
     (after.bytes ∙ ap (λ v. stamp_bytes c.args.version c.in-Some.found.0 ++ v) (tags.1 ∙ ap (λ v. tags_bytes names ++ v) text.1)))

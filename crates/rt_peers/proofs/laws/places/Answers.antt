@@ -7,7 +7,7 @@ use Rattle.rt_store.specs.Cells.{EndsFinal}
 use Rattle.rt_text.proofs.NamedPlaces.{named_within}
 use Rattle.rt_text.specs.PlaceWords.{place_word}
 use Rattle.rt_text.specs.Widgets.{ViewValue, length_shown, view_as, widget_of}
-use Rattle.rt_peers.specs.SiteValue.{SiteValue, number_of}
+use Rattle.rt_peers.specs.SiteValue.{SiteValue, number_of_path}
 use Rattle.rt_peers.proofs.laws.places.Goals as goal
 
 -- of the widget of a number
@@ -29,4 +29,4 @@ pub returns : goal.returns
 returns c path view place is small within =
     let site = c.args.site.now in
     let ends = subst EndsFinal (sym c.log.ensures.cells) (ends_final site.text.view.doc.log c.log.ensures.history) in
-    by site place view (number_of path site.paths) ends small is within
+    by site place view (number_of_path path site.paths) ends small is within

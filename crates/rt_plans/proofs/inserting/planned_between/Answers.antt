@@ -6,7 +6,7 @@ use Rattle.rt_stamps.specs.declared.limits.TheConstants.{GREATEST_COUNT, MOST_CH
 use Rattle.rt_stamps.specs.declared.stamp.Stamp.{Stamp}
 use Rattle.rt_store.specs.Shown.{shown}
 use Rattle.rt_plans.specs.declared.inserting.Plan.{Plan}
-use Rattle.rt_plans.specs.InsertionDrafts.{behind, text_drafts}
+use Rattle.rt_plans.specs.InsertionDrafts.{last_element, text_drafts}
 use Rattle.rt_plans.specs.InsertionPlans.{Plans}
 use Rattle.rt_plans.specs.Insertions.{Insertion, insertion_of, on_left, tags_between, with_pieces, with_unlisted}
 use Rattle.rt_plans.specs.Selected.{selected_stamps}
@@ -44,7 +44,7 @@ returns-clause-drafts c = λ sel others tags same.
     let left = option_map (shown t) c.args.gap.now.left in
     let right = option_map (shown t) c.args.gap.now.right in
     c.in_ok-between.ensures.drafts after sel tags so_far same (c.in-Ok.ensures.so_far sel others tags)
-    ∙ ap (λ l. l ++ text_drafts MOST_CHARACTERS site so_far.count (behind after so_far.cells) (tags_between (on_left left so_far.cells) right) (chars c.args.rest.now))
+    ∙ ap (λ l. l ++ text_drafts MOST_CHARACTERS site so_far.count (last_element after so_far.cells) (tags_between (on_left left so_far.cells) right) (chars c.args.rest.now))
     (c.in-Ok.ensures.drafts sel others tags)
 
 pub returns-clause-plans : goal.returns-clause-plans

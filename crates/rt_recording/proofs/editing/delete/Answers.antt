@@ -1,7 +1,7 @@
 use Rattle.std.proofs.Common.{◌≡◌, ◌∙◌, List, map, subst, sym}
 use Rattle.rt_stamps.specs.Words.{Word, as_words}
 use Rattle.rt_revert.specs.Reverting.{as_removed}
-use Rattle.rt_recording.specs.Recordings.{HasStayed, came_back, made}
+use Rattle.rt_recording.specs.Recordings.{HasStayed, came_back, span_action}
 use Rattle.rt_text.specs.Index.{place_at_index}
 use Rattle.rt_text.specs.Ranges.{ranges_of}
 use Rattle.rt_text.specs.Widgets.{widget_of}
@@ -25,7 +25,7 @@ note-requires-clause-stays g c = λ lost on e.
     let keeps = c.in_ok-prepare_deletion.ensures.kept in
     let meant = c.in_ok-prepare_deletion.ensures.pending (sym keeps.undo ∙ on) in
     let same : lost ≡ map as_removed (lost_between view words) = cc (e, meant) in
-    subst (λ (l : List (Removed (List Word))). HasStayed (came_back mid) (made Delete (counts_between before.site.number before.count c.delete.new.self.doc.count) l)) (sym same)
+    subst (λ (l : List (Removed (List Word))). HasStayed (came_back mid) (span_action Delete (counts_between before.site.number before.count c.delete.new.self.doc.count) l)) (sym same)
     (edit_stays Delete view old mid before.count before.site.number c.delete.new.self.doc.count (map as_removed (lost_between view words)) c.of-before.ensures.count c.of-before.ensures.site
     c.requires c.of-before.ensures.kept keeps (lost_stay view old mid ranges c.requires c.of-before.ensures.kept keeps))
 

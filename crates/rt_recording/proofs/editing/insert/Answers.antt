@@ -1,6 +1,6 @@
 use Rattle.std.proofs.Common.{◌≡◌, ◌∙◌, [], List, subst, sym}
 use Rattle.rt_stamps.specs.Words.{Word}
-use Rattle.rt_recording.specs.Recordings.{HasStayed, came_back, made}
+use Rattle.rt_recording.specs.Recordings.{HasStayed, came_back, span_action}
 use Rattle.rt_undo.specs.declared.action.Kind.TheVariants.{Insert}
 use Rattle.rt_undo.specs.Actions.{Removed}
 use Rattle.rt_recording.specs.Edits.{counts_between}
@@ -18,7 +18,7 @@ note-requires-clause-stays g c = λ lost on e.
     let keeps = c.in_ok-prepare_insertion.ensures.kept in
     let meant = c.in_ok-prepare_insertion.ensures.pending (sym keeps.undo ∙ on) in
     let none : lost ≡ [] = cc (e, meant) in
-    subst (λ (l : List (Removed (List Word))). HasStayed (came_back mid) (made Insert (counts_between before.site.number before.count c.insert.new.self.doc.count) l)) (sym none)
+    subst (λ (l : List (Removed (List Word))). HasStayed (came_back mid) (span_action Insert (counts_between before.site.number before.count c.insert.new.self.doc.count) l)) (sym none)
     (edit_stays Insert c.args.view.now old mid before.count before.site.number c.insert.new.self.doc.count [] c.of-before.ensures.count c.of-before.ensures.site c.requires c.of-before.ensures.kept keeps tt)
 
 pub returns-clause-settled : goal.returns-clause-settled

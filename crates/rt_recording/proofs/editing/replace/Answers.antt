@@ -2,7 +2,7 @@ use Rattle.std.proofs.Common.{◌≡◌, ◌∙◌, ◌∷◌, [], List, map, su
 use Rattle.rt_stamps.specs.Words.{Word}
 use Rattle.rt_plans.specs.declared.range.Range.{Range}
 use Rattle.rt_revert.specs.Reverting.{as_removed}
-use Rattle.rt_recording.specs.Recordings.{HasStayed, came_back, made}
+use Rattle.rt_recording.specs.Recordings.{HasStayed, came_back, span_action}
 use Rattle.rt_text.specs.Commands.{view_replaced}
 use Rattle.rt_text.specs.Index.{place_at_index}
 use Rattle.rt_text.specs.Widgets.{widget_of}
@@ -36,7 +36,7 @@ note-requires-clause-stays g c = λ lost on e.
     let indices = both_indices view new from to c.args.pieces.now c.args.rest.now c.in_ok-replace.ensures.ok in
     let meant = c.in_ok-prepare_replacement.ensures.pending (sym keeps.undo ∙ on) indices.0 indices.1 in
     let same : lost ≡ map as_removed (lost_from view from to) = cc (e, meant) in
-    subst (λ (l : List (Removed (List Word))). HasStayed (came_back mid) (made Replace (counts_between before.site.number before.count new.doc.count) l)) (sym same)
+    subst (λ (l : List (Removed (List Word))). HasStayed (came_back mid) (span_action Replace (counts_between before.site.number before.count new.doc.count) l)) (sym same)
     (edit_stays Replace view old mid before.count before.site.number new.doc.count (map as_removed (lost_from view from to)) c.of-before.ensures.count c.of-before.ensures.site
     c.requires c.of-before.ensures.kept keeps (lost_stay view old mid (range ∷ []) c.requires c.of-before.ensures.kept keeps))
 

@@ -8,7 +8,7 @@ use Rattle.rt_holding.specs.Grown.{AreTriedAt, HeldValue}
 use Rattle.rt_holding.specs.declared.held.TheConstants.{MOST_HELD}
 use Rattle.rt_holding.specs.Holding.{put_held}
 use Rattle.rt_holding.specs.Kept.{AreHeld, Standing, by_stamp_and_arrival, ops_in}
-use Rattle.rt_holding.specs.Waits.{are_tried_at, is_listed, is_tried_at, sleeps}
+use Rattle.rt_holding.specs.Waits.{are_tried_at, is_place_in, is_tried_at, sleeps}
 use Rattle.rt_holding.proofs.Going.{or_left, or_right, tried_more}
 use Rattle.rt_holding.proofs.Passing.{others_on}
 use Rattle.rt_holding.proofs.Places.{length_in, put_held_in, put_in}
@@ -21,7 +21,7 @@ returns-in_default-prepare-clause-tried g c limit log h =
     let old = c.self.inside in
     let keyed = c.prepare.ensures in
     tried_kept limit log old.arrivals _ old.waits.keys c.prepare.new.waits.keys old.waits.again.items c.prepare.new.waits.again.items refl keyed.others
-    (λ q i. ap (is_listed q) keyed.again ∙ i) old.ops.entries c.self.invariant.held.places (subst (AreTriedAt limit log) (sym c.self.view_is) h)
+    (λ q i. ap (is_place_in q) keyed.again ∙ i) old.ops.entries c.self.invariant.held.places (subst (AreTriedAt limit log) (sym c.self.view_is) h)
 
 pub invariant_of-self-in-Ok-insert : goal.invariant_of-self-in-Ok-insert
 invariant_of-self-in-Ok-insert g c =
@@ -54,10 +54,10 @@ returns-in-Ok-insert-clause-tried g c limit log h =
     let again = c.keep.new.waits.again.items in
     let place : Standing = (c.stamp.result, old.arrivals) in
     let others = tried_kept limit log old.arrivals place old.waits.keys c.prepare.new.waits.keys old.waits.again.items again refl keyed.others
-    (λ q i. c.keep.ensures.listed q ∙ or_left (is_listed q c.prepare.new.waits.again.items) (is_at (by_stamp_and_arrival q) place) (ap (is_listed q) keyed.again ∙ i))
+    (λ q i. c.keep.ensures.listed q ∙ or_left (is_place_in q c.prepare.new.waits.again.items) (is_at (by_stamp_and_arrival q) place) (ap (is_place_in q) keyed.again ∙ i))
     old.ops.entries c.self.invariant.held.places (subst (AreTriedAt limit log) (sym c.self.view_is) h) in
-    let listed : is_listed place again ≡ true = c.keep.ensures.listed place ∙ or_right (is_listed place c.prepare.new.waits.again.items) (is_at (by_stamp_and_arrival place) place) (own_place place) in
-    let here : is_tried_at limit log keys again (place, Some c.args.op) ≡ true = or_left (is_listed place again) (sleeps limit keys log place c.args.op) listed in
+    let listed : is_place_in place again ≡ true = c.keep.ensures.listed place ∙ or_right (is_place_in place c.prepare.new.waits.again.items) (is_at (by_stamp_and_arrival place) place) (own_place place) in
+    let here : is_tried_at limit log keys again (place, Some c.args.op) ≡ true = or_left (is_place_in place again) (sleeps limit keys log place c.args.op) listed in
     ap (list_all (is_tried_at limit log keys again)) c.in-Ok-insert.ensures.entries
     ∙ tried_more (is_tried_at limit log keys again) old.ops.entries place (Some c.args.op) here
     (subst (λ (k : Keys). are_tried_at limit log k again old.ops.entries ≡ true) (sym c.keep.ensures.keys) others)
@@ -69,5 +69,5 @@ returns-in-Some-1₀-clause-tried g c limit log h =
     let place : Standing = (c.stamp.result, old.arrivals) in
     ap (list_all (is_tried_at limit log c.forget.new.keys c.prepare.new.waits.again.items)) c.in-Err.ensures.err
     ∙ tried_kept limit log old.arrivals place old.waits.keys c.forget.new.keys old.waits.again.items c.prepare.new.waits.again.items refl
-    (others_on place old.waits.keys c.prepare.new.waits.keys c.forget.new.keys keyed.others c.forget.ensures.others) (λ q i. ap (is_listed q) keyed.again ∙ i)
+    (others_on place old.waits.keys c.prepare.new.waits.keys c.forget.new.keys keyed.others c.forget.ensures.others) (λ q i. ap (is_place_in q) keyed.again ∙ i)
     old.ops.entries c.self.invariant.held.places (subst (AreTriedAt limit log) (sym c.self.view_is) h)

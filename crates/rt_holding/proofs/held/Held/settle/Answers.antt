@@ -8,7 +8,7 @@ use Rattle.rt_rga.specs.Histories.{IsHistory}
 use Rattle.rt_holding.specs.Grown.{AreTriedAt, HeldValue}
 use Rattle.rt_holding.specs.Holding.{is_new, next_of}
 use Rattle.rt_holding.specs.Kept.{AreHeld, IsNewAt, by_stamp_and_arrival, ops_in}
-use Rattle.rt_holding.specs.Taken.{AreTried, holding}
+use Rattle.rt_holding.specs.Taken.{AreTried, site_holding}
 use Rattle.rt_holding.specs.Waits.{are_tried_at, after_try_there}
 use Rattle.rt_holding.proofs.Steps.{IsGoing, IsThere, absent, done_in, dropped, stays_sound, fewer_ops, going, same_entries, slept, stayed, taken_new, took, waits_there}
 use Rattle.rt_holding.proofs.Places.{get_at}
@@ -28,8 +28,8 @@ returns-then-are_over-clause-tried g c =
     let limit = g.T.Taking.limit site in
     let entries = c.self.inside.ops.entries in
     let none = nil_from_length entries (sym c.len.ensures.len ∙ c.if-len-eq0.true) in
-    subst (λ (held : List Operation). AreTried log g.T.Taking.after limit (holding log site held) site site held 0) (ap (λ (v : HeldValue). v.held) c.self.view_is)
-    (ends log g.T.Taking.after limit [] (holding log site (ops_in entries)) site site (ops_in entries) 0 (begins log g.T.Taking.after limit site (ops_in entries))
+    subst (λ (held : List Operation). AreTried log g.T.Taking.after limit (site_holding log site held) site site held 0) (ap (λ (v : HeldValue). v.held) c.self.view_is)
+    (ends log g.T.Taking.after limit [] (site_holding log site (ops_in entries)) site site (ops_in entries) 0 (begins log g.T.Taking.after limit site (ops_in entries))
     (ap (λ es. next_of limit [] (log site) (ops_in es)) none))
 
 pub loop-place-init : goal.loop-place-init
@@ -50,7 +50,7 @@ take_at-requires g c =
     let l = c.loop-place in
     let b = l.invariant in
     let limit = g.T.Taking.limit c.args.site.now in
-    let state = holding log c.args.site.now (ops_in c.self.inside.ops.entries) in
+    let state = site_holding log c.args.site.now (ops_in c.self.inside.ops.entries) in
     let o = c.after_try_at.ensures ∙ ap (λ n. after_try_there l.lacks n (log l.site) (get by_stamp_and_arrival l.self-inside.ops c.in-Some.place)) b.limit in
     subst (λ n. IsNewAt n (log l.site) l.self-inside.ops.entries c.in-Some.place) (sym b.limit)
     (taken_new log g.T.Taking.after l.lacks limit state c.args.site.now l.site l.self-inside.ops l.self-inside.waits l.taken b.goes c.pop_first.new.due c.in-Some.place c.in-Some.ensures.some
@@ -62,7 +62,7 @@ loop-place-smaller-in-Ok g c =
     let l = c.loop-place in
     let b = l.invariant in
     let limit = g.T.Taking.limit c.args.site.now in
-    let state = holding log c.args.site.now (ops_in c.self.inside.ops.entries) in
+    let state = site_holding log c.args.site.now (ops_in c.self.inside.ops.entries) in
     let o = c.after_try_at.ensures ∙ ap (λ n. after_try_there l.lacks n (log l.site) (get by_stamp_and_arrival l.self-inside.ops c.in-Some.place)) b.limit in
     let (n, f) = taken_new log g.T.Taking.after l.lacks limit state c.args.site.now l.site l.self-inside.ops l.self-inside.waits l.taken b.goes c.pop_first.new.due c.in-Some.place c.in-Some.ensures.some
     c.after_try_at.result c.in-Taken.is o b.ordered in
@@ -77,7 +77,7 @@ loop-place-preserved-in-Ok g c =
     let l = c.loop-place in
     let b = l.invariant in
     let limit = g.T.Taking.limit c.args.site.now in
-    let state = holding log c.args.site.now (ops_in c.self.inside.ops.entries) in
+    let state = site_holding log c.args.site.now (ops_in c.self.inside.ops.entries) in
     let o = c.after_try_at.ensures ∙ ap (λ n. after_try_there l.lacks n (log l.site) (get by_stamp_and_arrival l.self-inside.ops c.in-Some.place)) b.limit in
     let (n, f) = taken_new log g.T.Taking.after l.lacks limit state c.args.site.now l.site l.self-inside.ops l.self-inside.waits l.taken b.goes c.pop_first.new.due c.in-Some.place c.in-Some.ensures.some
     c.after_try_at.result c.in-Taken.is o b.ordered in
@@ -103,7 +103,7 @@ loop-place-preserved-in-Err g c =
     let l = c.loop-place in
     let b = l.invariant in
     let limit = g.T.Taking.limit c.args.site.now in
-    let state = holding log c.args.site.now (ops_in c.self.inside.ops.entries) in
+    let state = site_holding log c.args.site.now (ops_in c.self.inside.ops.entries) in
     let o = c.after_try_at.ensures ∙ ap (λ n. after_try_there l.lacks n (log l.site) (get by_stamp_and_arrival l.self-inside.ops c.in-Some.place)) b.limit in
     let (n, f) = taken_new log g.T.Taking.after l.lacks limit state c.args.site.now l.site l.self-inside.ops l.self-inside.waits l.taken b.goes c.pop_first.new.due c.in-Some.place c.in-Some.ensures.some
     c.after_try_at.result c.in-Taken.is o b.ordered in
@@ -130,7 +130,7 @@ loop-place-preserved-in-Waits g c =
     let l = c.loop-place in
     let b = l.invariant in
     let limit = g.T.Taking.limit c.args.site.now in
-    let state = holding log c.args.site.now (ops_in c.self.inside.ops.entries) in
+    let state = site_holding log c.args.site.now (ops_in c.self.inside.ops.entries) in
     let o = c.after_try_at.ensures ∙ ap (λ n. after_try_there l.lacks n (log l.site) (get by_stamp_and_arrival l.self-inside.ops c.in-Some.place)) b.limit in
     let w = waits_there l.lacks limit (log l.site) l.self-inside.ops c.in-Some.place c.after_try_at.result c.in-Waits.is o in
     let few = b.few in
@@ -152,7 +152,7 @@ sleep-requires-clause-sound g c =
     let l = c.loop-place in
     let b = l.invariant in
     let limit = g.T.Taking.limit c.args.site.now in
-    let state = holding log c.args.site.now (ops_in c.self.inside.ops.entries) in
+    let state = site_holding log c.args.site.now (ops_in c.self.inside.ops.entries) in
     let o = c.after_try_at.ensures ∙ ap (λ n. after_try_there l.lacks n (log l.site) (get by_stamp_and_arrival l.self-inside.ops c.in-Some.place)) b.limit in
     stays_sound l.lacks limit (log l.site) c.after_try_at.result (get by_stamp_and_arrival l.self-inside.ops c.in-Some.place) c.in-Stays.is o
 
@@ -168,7 +168,7 @@ loop-place-preserved-in-Stays g c =
     let l = c.loop-place in
     let b = l.invariant in
     let limit = g.T.Taking.limit c.args.site.now in
-    let state = holding log c.args.site.now (ops_in c.self.inside.ops.entries) in
+    let state = site_holding log c.args.site.now (ops_in c.self.inside.ops.entries) in
     let o = c.after_try_at.ensures ∙ ap (λ n. after_try_there l.lacks n (log l.site) (get by_stamp_and_arrival l.self-inside.ops c.in-Some.place)) b.limit in
     record {
       limit = b.limit;
@@ -187,7 +187,7 @@ loop-place-preserved-in-Absent g c =
     let l = c.loop-place in
     let b = l.invariant in
     let limit = g.T.Taking.limit c.args.site.now in
-    let state = holding log c.args.site.now (ops_in c.self.inside.ops.entries) in
+    let state = site_holding log c.args.site.now (ops_in c.self.inside.ops.entries) in
     let o = c.after_try_at.ensures ∙ ap (λ n. after_try_there l.lacks n (log l.site) (get by_stamp_and_arrival l.self-inside.ops c.in-Some.place)) b.limit in
     let due = b.waits.due in
     let again = b.waits.again in
@@ -210,7 +210,7 @@ loop-place-smaller g c =
     let l = c.loop-place in
     let b = l.invariant in
     let limit = g.T.Taking.limit c.args.site.now in
-    let state = holding log c.args.site.now (ops_in c.self.inside.ops.entries) in
+    let state = site_holding log c.args.site.now (ops_in c.self.inside.ops.entries) in
     let o = c.after_try_at.ensures ∙ ap (λ n. after_try_there l.lacks n (log l.site) (get by_stamp_and_arrival l.self-inside.ops c.in-Some.place)) b.limit in
     let gone = dropped log g.T.Taking.after l.lacks limit state c.args.site.now l.site l.self-inside.ops l.self-inside.waits l.taken b.goes c.pop_first.new.due c.in-Some.place c.in-Some.ensures.some
     c.after_try_at.result c.in-Dropped.is o b.ordered l.self-inside.arrivals c.drop_at.new.ops c.drop_at.new.keys b.held c.drop_at.ensures.others c.drop_at.ensures.keys c.drop_at.ensures.entries in
@@ -222,7 +222,7 @@ loop-place-preserved g c =
     let l = c.loop-place in
     let b = l.invariant in
     let limit = g.T.Taking.limit c.args.site.now in
-    let state = holding log c.args.site.now (ops_in c.self.inside.ops.entries) in
+    let state = site_holding log c.args.site.now (ops_in c.self.inside.ops.entries) in
     let o = c.after_try_at.ensures ∙ ap (λ n. after_try_there l.lacks n (log l.site) (get by_stamp_and_arrival l.self-inside.ops c.in-Some.place)) b.limit in
     let gone = dropped log g.T.Taking.after l.lacks limit state c.args.site.now l.site l.self-inside.ops l.self-inside.waits l.taken b.goes c.pop_first.new.due c.in-Some.place c.in-Some.ensures.some
     c.after_try_at.result c.in-Dropped.is o b.ordered l.self-inside.arrivals c.drop_at.new.ops c.drop_at.new.keys b.held c.drop_at.ensures.others c.drop_at.ensures.keys c.drop_at.ensures.entries in
@@ -261,8 +261,8 @@ returns-clause-tried g c =
     let l = c.loop-place in
     let b = l.invariant in
     let limit = g.T.Taking.limit c.args.site.now in
-    let state = holding log c.args.site.now (ops_in c.self.inside.ops.entries) in
-    subst (λ (held : List Operation). AreTried log g.T.Taking.after limit (holding log c.args.site.now held) c.args.site.now l.site (ops_in l.self-inside.ops.entries) l.taken)
+    let state = site_holding log c.args.site.now (ops_in c.self.inside.ops.entries) in
+    subst (λ (held : List Operation). AreTried log g.T.Taking.after limit (site_holding log c.args.site.now held) c.args.site.now l.site (ops_in l.self-inside.ops.entries) l.taken)
     (ap (λ (v : HeldValue). v.held) c.self.view_is)
     (done_in log g.T.Taking.after l.lacks limit state c.args.site.now l.site l.self-inside.ops l.self-inside.waits l.taken b.goes c.in_default.ensures.none b.ordered).0
 
@@ -272,6 +272,6 @@ returns-clause-log g c =
     let l = c.loop-place in
     let b = l.invariant in
     let limit = g.T.Taking.limit c.args.site.now in
-    let state = holding log c.args.site.now (ops_in c.self.inside.ops.entries) in
+    let state = site_holding log c.args.site.now (ops_in c.self.inside.ops.entries) in
     subst (λ n. are_tried_at n (log l.site) l.self-inside.waits.keys l.self-inside.waits.again.items l.self-inside.ops.entries ≡ true) (sym b.limit)
     (done_in log g.T.Taking.after l.lacks limit state c.args.site.now l.site l.self-inside.ops l.self-inside.waits l.taken b.goes c.in_default.ensures.none b.ordered).1

@@ -3,7 +3,7 @@ use Rattle.std.specs.BTreeMap.{IsOrdered}
 use Rattle.std.specs.BinaryHeap.{heap_len}
 use Rattle.rt_rga.specs.Histories.{IsHistory}
 use Rattle.rt_holding.specs.Kept.{AreHeld, by_stamp_and_arrival, ops_in}
-use Rattle.rt_holding.specs.Taken.{holding}
+use Rattle.rt_holding.specs.Taken.{site_holding}
 use Rattle.rt_holding.specs.Waits.{IsReady}
 use Rattle.rt_holding.proofs.Steps.{IsGoing}
 use Rattle.rt_holding.proofs.held.Held.settle.Given as goal
@@ -16,7 +16,7 @@ invariant-loop-place g l = record {
   waits : IsReady 0 l.self-inside.waits;
   ordered : IsOrdered by_stamp_and_arrival l.self-inside.ops;
   goes : IsGoing g.T.Taking.log g.T.Taking.after l.lacks (g.T.Taking.limit l.initial.site)
-      (holding g.T.Taking.log l.initial.site (ops_in l.initial.self-inside.ops.entries))
+      (site_holding g.T.Taking.log l.initial.site (ops_in l.initial.self-inside.ops.entries))
       l.initial.site l.site l.self-inside.ops l.self-inside.waits l.taken;
   few : l.taken + length l.self-inside.ops.entries ≤ length l.initial.self-inside.ops.entries;
 }

@@ -1,5 +1,5 @@
-use Rattle.std.proofs.Common.{◌≡◌, ◌<◌, ◌≤◌, ◌∙◌, List, ap, arith, length, refl, subst, sym}
-use Rattle.std.specs.Prelude.{IfSome}
+use Rattle.std.proofs.Common.{◌≡◌, ◌<◌, ◌≤◌, ◌∙◌, Err, List, ap, arith, length, refl, subst, sym}
+use Rattle.std.specs.Prelude.{IfErr, IfSome}
 use Rattle.std.proofs.lemmas.Option.{IfSome_then}
 use Rattle.rt_stamps.specs.Words.{as_words}
 use Rattle.rt_peers.specs.SiteValue.{SiteValue, holding_of}
@@ -9,11 +9,12 @@ use Rattle.rt_holding.specs.Grown.{AreTriedAt, AreTriedBefore}
 use Rattle.rt_peers.specs.SiteStep.{AnswersInTurn, MakesAndTries, Tries, by_widget, cell_limit, log_of, site_of, text_limit, text_log}
 use Rattle.rt_peers.specs.Step.{step}
 use Rattle.rt_peers.specs.Telling.{AreToldOf}
-use Rattle.rt_peers.proofs.InTurn.{asked_steps, made, made_none}
+use Rattle.rt_peers.proofs.InTurn.{asked_steps, made_in_turn, made_none}
 use Rattle.rt_peers.proofs.Making.{gains_grow_by, site_keeps, site_makes}
 use Rattle.rt_peers.proofs.Noting.{no_shorter}
 use Rattle.rt_peers.proofs.PeerLaws.{leading_site}
 use Rattle.rt_peers.proofs.Staying.{tried_stay}
+use Rattle.rt_peers.proofs.TakesNone.{refused_site}
 use Rattle.rt_peers.proofs.Telling.{told_of}
 use Rattle.rt_peers.proofs.site.SiteState.ask_text_telling.Goals as goal
 
@@ -100,7 +101,7 @@ returns-clause-answers c =
     let makes : MakesAndTries state mid new =
     record { drafts = steps.gains.drafts; makes = site_makes state mid steps.gains refl c.log-2.ensures.history few; tries = tries } in
     subst (λ (s : SiteValue). AnswersInTurn (by_widget number s (λ text. step text request)) s result new) c.self.view_is
-    (made (by_widget number state (λ text. step text request)) state mid new result answers more makes)
+    (made_in_turn (by_widget number state (λ text. step text request)) state mid new result answers more makes)
 
 pub returns-clause-told : goal.returns-clause-told
 returns-clause-told c =
@@ -127,3 +128,21 @@ returns-clause-known c = λ same.
       ap length c.log.ensures.operations,
       ap length c.log-2.ensures.operations,
     ))
+
+pub returns-then-len-before-clause-memory : goal.returns-then-len-before-clause-memory
+returns-then-len-before-clause-memory c = λ none.
+    let asked = c.ask_telling-reply in
+    let number = c.args.number in
+    let request = c.args.request.now in
+    let state : SiteValue = record { paths = as_words c.self.inside.paths.items; text = c.self.inside.text; held = c.self.inside.held.held } in
+    subst (λ (s : SiteValue). IfErr asked.result.reply (λ fault. by_widget number s (λ text. step text request) ≡ Err fault)) c.self.view_is
+    (refused_site number state (λ text. step text request) asked.result.reply (asked.ensures.memory none))
+
+pub returns-clause-memory : goal.returns-clause-memory
+returns-clause-memory c = λ none.
+    let asked = c.ask_telling-reply in
+    let number = c.args.number in
+    let request = c.args.request.now in
+    let state : SiteValue = record { paths = as_words c.self.inside.paths.items; text = c.self.inside.text; held = c.self.inside.held.held } in
+    subst (λ (s : SiteValue). IfErr asked.result.reply (λ fault. by_widget number s (λ text. step text request) ≡ Err fault)) c.self.view_is
+    (refused_site number state (λ text. step text request) asked.result.reply (asked.ensures.memory none))

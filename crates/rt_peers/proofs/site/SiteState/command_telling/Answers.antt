@@ -1,6 +1,6 @@
 use Rattle.std.proofs.Common.{◌≡◌, ◌∙◌, ap}
 use Rattle.rt_stamps.specs.Words.{as_words}
-use Rattle.rt_peers.specs.SiteValue.{number_of}
+use Rattle.rt_peers.specs.SiteValue.{number_of_path}
 use Rattle.rt_peers.proofs.InTurn.{asked_at, nowhere, refused_at}
 use Rattle.rt_peers.proofs.PeerLaws.{place_in}
 use Rattle.rt_peers.proofs.Telling.{none_told}
@@ -8,7 +8,7 @@ use Rattle.rt_peers.proofs.site.SiteState.command_telling.Goals as goal
 
 pub returns-in_default-clause-gives : goal.returns-in_default-clause-gives
 returns-in_default-clause-gives c =
-    let found : number_of c.args.path.now c.args.self.now.paths ≡ c.number_of.result =
+    let found : number_of_path c.args.path.now c.args.self.now.paths ≡ c.number_of.result =
     place_in c.args.path.now c.deref.result.now c.self.inside.paths.items c.args.self.now.paths c.number_of.result c.number_of.ensures c.deref.ensures.value
     (ap (λ s. s.paths) c.self.view_is) in
     nowhere c.args.path.now (as_words c.args.words.now) c.args.self.now (found ∙ c.in_default.is)
@@ -18,7 +18,7 @@ returns-in_default-clause-told c = (none_told c.args.self.now.text c.new.result.
 
 pub returns-in-Ok-clause-gives : goal.returns-in-Ok-clause-gives
 returns-in-Ok-clause-gives c =
-    let found : number_of c.args.path.now c.args.self.now.paths ≡ c.number_of.result =
+    let found : number_of_path c.args.path.now c.args.self.now.paths ≡ c.number_of.result =
     place_in c.args.path.now c.deref.result.now c.self.inside.paths.items c.args.self.now.paths c.number_of.result c.number_of.ensures c.deref.ensures.value
     (ap (λ s. s.paths) c.self.view_is) in
     asked_at c.args.path.now c.in-Some.number (as_words c.args.words.now) c.args.self.now c.request_telling.new.self c.of.result c.in-Ok.request
@@ -26,7 +26,7 @@ returns-in-Ok-clause-gives c =
 
 pub returns-in-Err-clause-gives : goal.returns-in-Err-clause-gives
 returns-in-Err-clause-gives c =
-    let found : number_of c.args.path.now c.args.self.now.paths ≡ c.number_of.result =
+    let found : number_of_path c.args.path.now c.args.self.now.paths ≡ c.number_of.result =
     place_in c.args.path.now c.deref.result.now c.self.inside.paths.items c.args.self.now.paths c.number_of.result c.number_of.ensures c.deref.ensures.value
     (ap (λ s. s.paths) c.self.view_is) in
     refused_at c.args.path.now c.in-Some.number (as_words c.args.words.now) c.args.self.now c.of.result c.in-Err.fault (found ∙ c.in-Some.is) c.of.ensures c.in-Err.is

@@ -9,7 +9,7 @@ use Rattle.rt_recording.specs.EditedValue.{EditedValue}
 use Rattle.rt_holding.specs.Grown.{AreTriedAt}
 use Rattle.rt_peers.specs.Peers.{HavePaths, without_widget}
 use Rattle.rt_peers.specs.PeerStep.{destroyed, destroyed_at}
-use Rattle.rt_peers.specs.SiteValue.{SiteValue, number_of}
+use Rattle.rt_peers.specs.SiteValue.{SiteValue, number_of_path}
 use Rattle.rt_peers.proofs.PeerLaws.{number_of_strings, path_gone, place_in, place_within, strings_without}
 use Rattle.rt_peers.proofs.site.SiteState.destroy.Goals as goal
 
@@ -19,7 +19,7 @@ counted n h = grind (arith, nat_tests)
 abbrev paths_in : goal.After-no_words → List Word
 paths_in c = as_words c.self.inside.paths.items
 
-found : (c : goal.After-no_words) → number_of c.args.path.now (paths_in c) ≡ Some c.in-Some.number
+found : (c : goal.After-no_words) → number_of_path c.args.path.now (paths_in c) ≡ Some c.in-Some.number
 found c = place_in c.args.path.now c.deref.result.now c.self.inside.paths.items (paths_in c) c.number_of.result c.number_of.ensures c.deref.ensures.value refl ∙ c.in-Some.is
 
 several : (c : goal.After-no_words) → 1 < length (paths_in c)

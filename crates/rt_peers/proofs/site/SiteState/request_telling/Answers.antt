@@ -17,3 +17,6 @@ returns-in-Peer-clause-told c =
     let keeps = peer_keeps c.args.path.now c.args.number old new c.in-Peer.request c.peers-reply.result c.peers-reply.ensures in
     subst (AreToldOf old.text new.text) (sym c.new.ensures.items)
     (told_of old.text new.text [] c.log.ensures.history (none_in_turn (log_of old) (log_of new) keeps.log) c.log.ensures.cells c.log-in-Peer.ensures.cells)
+
+pub returns-in-Peer-clause-memory : goal.returns-in-Peer-clause-memory
+returns-in-Peer-clause-memory c = rw c.in-Peer.is (λ none. absurd (cc none))

@@ -1,4 +1,5 @@
-use Rattle.std.proofs.Common.{◌≡◌, ◌∙◌, ℕ, List, Result, ap, arith, drop, length, map, reverse, subst, sym}
+use Rattle.std.proofs.Common.{◌≡◌, ◌∙◌, ℕ, Err, List, Result, ap, arith, drop, length, map, reverse, subst, sym}
+use Rattle.std.specs.Prelude.{IfErr}
 use Rattle.std.proofs.lemmas.Option.{IfSome_then}
 use Rattle.rt_changes.specs.Telling.{changes_in}
 use Rattle.rt_recording.specs.EditedValue.{EditedValue, edited}
@@ -12,6 +13,7 @@ use Rattle.rt_text.specs.Widgets.{ViewValue}
 use Rattle.rt_peers.specs.SiteStep.{by_leading, text_log}
 use Rattle.rt_peers.specs.Step.{step}
 use Rattle.rt_peers.specs.Telling.{AreToldInTurn, each_change}
+use Rattle.rt_peers.specs.ViewStep.{Outcome}
 use Rattle.rt_peers.proofs.InTurn.{asked_steps}
 use Rattle.rt_peers.proofs.Making.{operations_longer}
 use Rattle.rt_peers.proofs.Noting.{own_in_turn}
@@ -30,7 +32,7 @@ noted_from-changes-requires c =
     let old = c.args.self.now in
     let new = c.ask-reply.new.self in
     let answers = asked c.args.number c.args.request.now old new c.self.inside.view c.note.new.self c.self.inside.recorder c.ask-reply.result
-    c.note.ensures c.self.view_is c.ask-reply.ensures in
+    c.note.ensures c.self.view_is c.ask-reply.ensures.answers in
     let gains = (asked_steps c.args.number c.args.request.now old new c.ask-reply.result answers).gains in
     let more = operations_longer (operations_of old.view.doc.site gains.drafts (text_log old)) (text_log old) in
     omega (arith, c.len-before.ensures, ap length c.log.ensures.operations, ap length gains.log, more)
@@ -39,7 +41,7 @@ pub returns-clause-answers : goal.returns-clause-answers
 returns-clause-answers c =
     let old = c.args.self.now in
     let answers = asked c.args.number c.args.request.now old c.ask-reply.new.self c.self.inside.view c.note.new.self c.self.inside.recorder c.ask-reply.result
-    c.note.ensures c.self.view_is c.ask-reply.ensures in
+    c.note.ensures c.self.view_is c.ask-reply.ensures.answers in
     subst (Answers (by_leading c.args.number old (λ text. step text c.args.request.now)) old c.ask-reply.result) (sym c.noted_from-changes.ensures.same) answers
 
 pub returns-clause-told : goal.returns-clause-told
@@ -47,10 +49,16 @@ returns-clause-told c =
     let old = c.args.self.now in
     let new = c.ask-reply.new.self in
     let answers = asked c.args.number c.args.request.now old new c.self.inside.view c.note.new.self c.self.inside.recorder c.ask-reply.result
-    c.note.ensures c.self.view_is c.ask-reply.ensures in
+    c.note.ensures c.self.view_is c.ask-reply.ensures.answers in
     let gains = (asked_steps c.args.number c.args.request.now old new c.ask-reply.result answers).gains in
     let before : c.len-before.result ≡ length (text_log old) = c.len-before.ensures ∙ ap length c.log.ensures.operations in
     IfSome_then c.noted_from-changes.result c.noted_from-changes.ensures.told
     (λ changes told. subst (λ (t : EditedValue). AreToldInTurn (text_log old) (text_log t) (map changes_in changes.items)) (sym c.noted_from-changes.ensures.same)
     (own_in_turn old.view.doc.site gains.drafts (text_log old) (text_log new) (map changes_in changes.items) gains.log c.log-2.ensures.history
     (told ∙ ap (λ n. drop n (reverse (each_change (text_log new)))) before)))
+
+pub returns-clause-memory : goal.returns-clause-memory
+returns-clause-memory c = λ none.
+    let does : EditedValue → Outcome EditedValue = λ text. step text c.args.request.now in
+    let same = ap (λ (v : ViewValue). edited v c.self.inside.recorder) c.note.ensures ∙ c.self.view_is in
+    subst (λ (t : EditedValue). IfErr c.ask-reply.result (λ fault. by_leading c.args.number t does ≡ Err fault)) same (c.ask-reply.ensures.memory none)

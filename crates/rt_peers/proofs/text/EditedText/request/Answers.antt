@@ -9,65 +9,65 @@ use Rattle.rt_peers.specs.ViewStep.{element_words, get_step, one_word, text_of_b
 use Rattle.rt_peers.proofs.Steps.{told_shown}
 use Rattle.rt_peers.proofs.text.EditedText.request.Goals as goal
 
-pub returns-in-Insert : goal.returns-in-Insert
-returns-in-Insert c = rw c.in-Insert.is c.insert.ensures
+pub returns-in-Insert-clause-answers : goal.returns-in-Insert-clause-answers
+returns-in-Insert-clause-answers c = rw c.in-Insert.is c.insert.ensures
 
-pub returns-in-Delete : goal.returns-in-Delete
-returns-in-Delete c = rw c.in-Delete.is c.delete.ensures
+pub returns-in-Delete-clause-answers : goal.returns-in-Delete-clause-answers
+returns-in-Delete-clause-answers c = rw c.in-Delete.is c.delete.ensures
 
-pub returns-in-Replace : goal.returns-in-Replace
-returns-in-Replace c = rw c.in-Replace.is c.replace.ensures
+pub returns-in-Replace-clause-answers : goal.returns-in-Replace-clause-answers
+returns-in-Replace-clause-answers c = rw c.in-Replace.is c.replace.ensures
 
-pub returns-in-Index : goal.returns-in-Index
-returns-in-Index c =
+pub returns-in-Index-clause-answers : goal.returns-in-Index-clause-answers
+returns-in-Index-clause-answers c =
     rw c.in-Index.is
     (told_shown c.args.self.now c.self-in-Index.inside.view c.shown-in-Index.result c.self-in-Index.inside.recorder c.self-in-Index.view_is c.shown-in-Index.ensures
     (λ view. told_step (λ position. one_word (text_of_position position)) view (position_of_index view c.in-Index.index)) c.index.result c.index.ensures)
 
-pub returns-in-Compare : goal.returns-in-Compare
-returns-in-Compare c =
+pub returns-in-Compare-clause-answers : goal.returns-in-Compare-clause-answers
+returns-in-Compare-clause-answers c =
     rw c.in-Compare.is
     (told_shown c.args.self.now c.self-in-Compare.inside.view c.shown-in-Compare.result c.self-in-Compare.inside.recorder c.self-in-Compare.view_is c.shown-in-Compare.ensures
     (λ view. told_step (λ holds. one_word (text_of_bool holds)) view (compared view c.in-Compare.first c.in-Compare.comparison c.in-Compare.second)) c.compare.result c.compare.ensures)
 
-pub returns-in-Count : goal.returns-in-Count
-returns-in-Count c =
+pub returns-in-Count-clause-answers : goal.returns-in-Count-clause-answers
+returns-in-Count-clause-answers c =
     rw c.in-Count.is
     (told_shown c.args.self.now c.self-in-Count.inside.view c.shown-in-Count.result c.self-in-Count.inside.recorder c.self-in-Count.view_is c.shown-in-Count.ensures
     (λ view. told_step (map signed_decimal) view (counted view c.in-Count.measures c.in-Count.from c.in-Count.to)) c.count.result c.count.ensures)
 
-pub returns-in-Search : goal.returns-in-Search
-returns-in-Search c =
+pub returns-in-Search-clause-answers : goal.returns-in-Search-clause-answers
+returns-in-Search-clause-answers c =
     rw c.in-Search.is
     (told_shown c.args.self.now c.self-in-Search.inside.view c.shown-in-Search.result c.self-in-Search.inside.recorder c.self-in-Search.view_is c.shown-in-Search.ensures
     (λ view. told_step (map text_of_position) view (searched view c.in-Search.request)) c.search.result c.search.ensures)
 
-pub returns-in-Dump : goal.returns-in-Dump
-returns-in-Dump c =
+pub returns-in-Dump-clause-answers : goal.returns-in-Dump-clause-answers
+returns-in-Dump-clause-answers c =
     rw c.in-Dump.is
     (told_shown c.args.self.now c.self-in-Dump.inside.view c.shown-in-Dump.result c.self-in-Dump.inside.recorder c.self-in-Dump.view_is c.shown-in-Dump.ensures
     (λ view. told_step (flat_map element_words) view (dumped view c.in-Dump.kinds c.in-Dump.from c.in-Dump.to)) c.dump.result c.dump.ensures)
 
-pub returns-in-Get : goal.returns-in-Get
-returns-in-Get c =
+pub returns-in-Get-clause-answers : goal.returns-in-Get-clause-answers
+returns-in-Get-clause-answers c =
     rw c.in-Get.is
     (told_shown c.args.self.now c.self.inside.view c.shown.result c.self.inside.recorder c.self.view_is c.shown.ensures
     (λ view. get_step view (all_of c.in-Get.indices)) c.get.result c.get.ensures)
 
-pub returns-in-Mark : goal.returns-in-Mark
-returns-in-Mark c = rw c.in-Mark.is c.mark.ensures
+pub returns-in-Mark-clause-answers : goal.returns-in-Mark-clause-answers
+returns-in-Mark-clause-answers c = rw c.in-Mark.is c.mark.ensures.answers
 
-pub returns-in-Tag : goal.returns-in-Tag
-returns-in-Tag c = rw c.in-Tag.is c.tag.ensures
+pub returns-in-Tag-clause-answers : goal.returns-in-Tag-clause-answers
+returns-in-Tag-clause-answers c = rw c.in-Tag.is c.tag.ensures.answers
 
-pub returns-in-Edit : goal.returns-in-Edit
-returns-in-Edit c = rw c.in-Edit.is c.edit.ensures
+pub returns-in-Edit-clause-answers : goal.returns-in-Edit-clause-answers
+returns-in-Edit-clause-answers c = rw c.in-Edit.is c.edit.ensures.answers
 
-pub returns-in-Configure : goal.returns-in-Configure
-returns-in-Configure c = rw c.in-Configure.is c.set.ensures
+pub returns-in-Configure-clause-answers : goal.returns-in-Configure-clause-answers
+returns-in-Configure-clause-answers c = rw c.in-Configure.is c.set.ensures.answers
 
-pub returns-in-Cget : goal.returns-in-Cget
-returns-in-Cget c = rw c.in-Cget.is c.tell.ensures
+pub returns-in-Cget-clause-answers : goal.returns-in-Cget-clause-answers
+returns-in-Cget-clause-answers c = rw c.in-Cget.is c.tell.ensures
 
-pub returns-in-Peer : goal.returns-in-Peer
-returns-in-Peer c = rw c.in-Peer.is (refl, inr refl)
+pub returns-in-Peer-clause-answers : goal.returns-in-Peer-clause-answers
+returns-in-Peer-clause-answers c = rw c.in-Peer.is (refl, inr refl)

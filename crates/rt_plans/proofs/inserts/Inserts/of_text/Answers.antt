@@ -5,7 +5,7 @@ use Rattle.rt_stamps.specs.declared.limits.TheConstants.{GREATEST_COUNT, MOST_CH
 use Rattle.rt_stamps.specs.Words.{as_words}
 use Rattle.rt_ops.specs.Edits.{body_of}
 use Rattle.rt_rga.specs.OneOrMany.{items_in}
-use Rattle.rt_plans.specs.InsertionDrafts.{behind, text_drafts}
+use Rattle.rt_plans.specs.InsertionDrafts.{last_element, text_drafts}
 use Rattle.rt_plans.specs.Insertions.{counts_for, further_tags, tagged_cells}
 use Rattle.rt_plans.proofs.InsertTexts.{behind_more, counts_named, counts_part, drafts_joined, drafts_more, further_named}
 use Rattle.rt_plans.proofs.Planning.{fewer_behind, some_left}
@@ -69,7 +69,7 @@ loop-rest-preserved c =
       count = ap (λ k. k + counts_for names more) n
           ∙ counts_part names rest part more old.count (c.args.count + counts_for names c.args.text.now) h is_part is_more c.loop-rest.invariant.count;
       within = c.loop-rest.invariant.within;
-      behind = (λ i. behind (e.behind i) (tagged_cells site (n i) names more))
+      behind = (λ i. last_element (e.behind i) (tagged_cells site (n i) names more))
           ∙ sym (behind_more site old.count old.behind names rest part more h is_part is_more)
           ∙ c.loop-rest.invariant.behind;
     }

@@ -6,7 +6,7 @@ use Rattle.rt_ops.specs.Edits.{body_of}
 use Rattle.rt_store.specs.Cells.{stamps_of}
 use Rattle.rt_rga.specs.OneOrMany.{items_in}
 use Rattle.rt_plans.specs.declared.pieces.PlannedPieces.{PlannedPieces}
-use Rattle.rt_plans.specs.InsertionDrafts.{behind}
+use Rattle.rt_plans.specs.InsertionDrafts.{last_element}
 use Rattle.rt_plans.specs.Insertions.{counts_for, selected_if, shared_names, tagged_cells}
 use Rattle.rt_plans.specs.Selections.{with_stamps}
 use Rattle.rt_plans.proofs.PieceLaws.{added_listed, no_drafts, none_in, none_listed}
@@ -44,7 +44,7 @@ returns-clause-so_far c = λ after selection listed so_far h.
     (record {
       characters = e.characters ∙ (λ i. old.characters + length (text_is i));
       count = e.count ∙ (λ i. old.texts.count + counts_for (names_are i) (text_is i));
-      element = e.behind ∙ (λ i. behind old.texts.behind (tagged_cells site old.texts.count (names_are i) (text_is i)));
+      element = e.behind ∙ (λ i. last_element old.texts.behind (tagged_cells site old.texts.count (names_are i) (text_is i)));
       tags = e.names ∙ (λ i. as_words old.names.items ++ names_are i);
     })
     (c.in_ok-select_new.ensures.selected selection

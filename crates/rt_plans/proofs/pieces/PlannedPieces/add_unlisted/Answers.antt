@@ -11,7 +11,7 @@ use Rattle.rt_store.specs.Shown.{shown}
 use Rattle.rt_store.specs.Spans.{is_among}
 use Rattle.rt_rga.specs.OneOrMany.{items_in}
 use Rattle.rt_plans.specs.declared.pieces.PlannedPieces.{PlannedPieces}
-use Rattle.rt_plans.specs.InsertionDrafts.{behind, text_drafts}
+use Rattle.rt_plans.specs.InsertionDrafts.{last_element, text_drafts}
 use Rattle.rt_plans.specs.InsertionPlans.{selected_between}
 use Rattle.rt_plans.specs.Insertions.{are_among, counts_for, on_left, selected_if, tagged_cells, tags_between}
 use Rattle.rt_plans.specs.Selected.{selected_stamps}
@@ -25,7 +25,7 @@ pub returns-then-is_empty-clause-drafts : goal.returns-then-is_empty-clause-draf
 returns-then-is_empty-clause-drafts c = λ after sel listed so_far same h.
     let t = c.args.states.now in
     let none : chars c.args.rest.now ≡ [] = sym c.in_ok-text.ensures.ok ∙ sym c.characters-characters.ensures ∙ none_in c.characters-characters.result.now (length c.characters-characters.result.now) c.is_empty.result refl c.is_empty.ensures c.if-is_empty.true in
-    no_drafts (map body_of (items_in c.args.self.now.texts.drafts)) c.args.site.number so_far.count (behind after so_far.cells)
+    no_drafts (map body_of (items_in c.args.self.now.texts.drafts)) c.args.site.number so_far.count (last_element after so_far.cells)
     (tags_between (on_left (option_map (shown t) c.args.gap.now.left) so_far.cells) (option_map (shown t) c.args.gap.now.right)) (chars c.args.rest.now) none
 
 pub returns-then-is_empty-clause-plans : goal.returns-then-is_empty-clause-plans
@@ -87,7 +87,7 @@ returns-in_default-clause-plans c = λ plan after sel listed so_far same h a p.
     let more : IsMoreText site (tags_between left right) text old next = record {
       characters = e.characters ∙ (λ i. old.characters + length (text_is i));
       count = e.count ∙ (λ i. old.texts.count + counts_for (names_are i) (text_is i));
-      element = e.behind ∙ (λ i. behind old.texts.behind (tagged_cells site old.texts.count (names_are i) (text_is i)));
+      element = e.behind ∙ (λ i. last_element old.texts.behind (tagged_cells site old.texts.count (names_are i) (text_is i)));
       tags = e.names ∙ (λ i. as_words old.names.items ++ names_are i);
     } in
     let never : (stamps : List Stamp) → are_among stamps left right ≡ false = λ stamps. not_both after sel listed old so_far t c.args.gap.now.left c.args.gap.now.right stamps h (sym c.sides-sides.ensures ∙ c.in_default.is) in
@@ -124,7 +124,7 @@ returns-clause-plans c = λ plan after sel listed so_far same h a p.
     let more : IsMoreText site (tags_between left right) text old new = record {
       characters = e.characters ∙ (λ i. old.characters + length (text_is i));
       count = e.count ∙ (λ i. old.texts.count + counts_for (names_are i) (text_is i));
-      element = e.behind ∙ (λ i. behind old.texts.behind (tagged_cells site old.texts.count (names_are i) (text_is i)));
+      element = e.behind ∙ (λ i. last_element old.texts.behind (tagged_cells site old.texts.count (names_are i) (text_is i)));
       tags = e.names ∙ (λ i. as_words old.names.items ++ names_are i);
     } in
     let both : (stamps : List Stamp) → are_among stamps left right ≡ (is_among stamps c.in-Some.before && is_among stamps c.in-Some.after) =

@@ -1,32 +1,19 @@
-use Rattle.std.proofs.Common.{◌≡◌, ◌∙◌, ◌-◌, ◌<◌, ap, sym, subst, arith, length}
-use Rattle.std.specs.Prelude.{slice_get}
-use Rattle.rt_rows.specs.declared.rows.Placed.{Placed}
-use Rattle.rt_rows.specs.Stored.{RowsValue, operations_in, operations_of}
-use Rattle.rt_rows.proofs.Placing.{kept_at}
+use Rattle.std.proofs.Common.{◌∙◌, ◌<◌, [], ap, sym, arith, length, get_or}
+use Rattle.std.proofs.lemmas.Option.{get_or_from_slice_get}
+use Rattle.rt_rows.specs.Places.{RowsValue, nothing}
+use Rattle.rt_rows.specs.Stored.{operations_of}
+use Rattle.rt_rows.specs.Views.{operation_in}
+use Rattle.rt_rows.proofs.InRows.{within_rows, row_at}
 use Rattle.rt_rows.proofs.rows.Rows.view.Goals as goal
-
-pub view-requires : goal.view-requires
-view-requires c =
-    let items = c.self.inside.placed.items in
-    let at = c.found-at.result in
-    let one = c.index-one.result.now in
-    let whole : c.args.self.now.operations ≡ operations_in items = sym (ap (λ (v : RowsValue). v.operations) c.self.view_is) in
-    let within = rw c.deref.ensures.value at c.found-at.ensures.within in
-    let first = rw c.deref.ensures.value at c.found-at.ensures.first in
-    let next = rw c.deref.ensures.value at c.found-at.ensures.next in
-    let there = kept_at 0 items at c.args.place one c.self.invariant.0 within (omega arith) (omega (arith, c.requires, ap length whole)) (first one) (next one) in
-    subst (λ (p : Placed). c.args.place - p.first < length (operations_of p.stored)) (sym c.index-one.ensures) there.0
 
 pub returns : goal.returns
 returns c =
-    let items = c.self.inside.placed.items in
-    let at = c.found-at.result in
-    let one = c.index-one.result.now in
-    let whole : c.args.self.now.operations ≡ operations_in items = sym (ap (λ (v : RowsValue). v.operations) c.self.view_is) in
-    let within = rw c.deref.ensures.value at c.found-at.ensures.within in
-    let first = rw c.deref.ensures.value at c.found-at.ensures.first in
-    let next = rw c.deref.ensures.value at c.found-at.ensures.next in
-    let there = kept_at 0 items at c.args.place one c.self.invariant.0 within (omega arith) (omega (arith, c.requires, ap length whole)) (first one) (next one) in
-    let all : c.args.place ≡ c.args.place - 0 = omega arith in
-    ap (λ ops. slice_get ops c.args.place) whole ∙ ap (slice_get (operations_in items)) all ∙ there.1
-    ∙ ap (λ (p : Placed). slice_get (operations_of p.stored) (c.args.place - p.first)) (sym c.index-one.ensures) ∙ c.view.ensures
+    let kept = c.self.inside.rows.items in
+    let place = c.args.place in
+    let one = c.index.result.now in
+    let rows = ap (λ (v : RowsValue). v.rows) c.self.view_is in
+    let within : place.row < length kept = within_rows kept place.row place.at (omega (arith, c.requires, ap (λ rs. length (get_or rs place.row [])) rows)) in
+    ap (λ rs. get_or (get_or rs place.row []) place.at nothing) (sym rows)
+    ∙ ap (λ xs. get_or xs place.at nothing) (row_at kept place.row one within)
+    ∙ ap (λ s. get_or (operations_of s) place.at nothing) (sym c.index.ensures)
+    ∙ get_or_from_slice_get (operations_of one) place.at (operation_in c.view.result) nothing c.view.ensures

@@ -106,9 +106,9 @@ record Made (flat : DocValue) (own : WidgetValue) (others : List WidgetValue) (r
   holds : held ≡ is_some (loss_of flat own.limits ranges).newline
   fits : clock_check (without_text flat (loss_of flat own.limits ranges)).count ≡ None
 
-made : (g : Over) (c : goal.After-drop-deletion-2 g)
+deletion_made : (g : Over) (c : goal.After-drop-deletion-2 g)
     → Made c.args.self.now (own_of c.args.widget.now) (map own_of c.args.others.now) c.args.ranges.now c.commit.new.self c.leave_all.new.marks (is_covered c.in_ok-deletion.deletion.removed.items) c.cell_at.result.stamp c.in_ok-deletion.deletion.held
-made g c =
+deletion_made g c =
     let flat = c.args.self.now in
     let ranges = c.args.ranges.now in
     let limits = c.args.widget.now.limits in
@@ -150,7 +150,7 @@ invariant_of-self-2 g c =
     let flat = c.args.self.now in
     let ranges = c.args.ranges.now in
     let limits = c.args.widget.now.limits in
-    let m = made g c in
+    let m = deletion_made g c in
     let cells : c.commit.new.self.cells ≡ (without_text flat (loss_of flat limits ranges)).cells = ap (λ (f : DocValue). f.cells) m.doc in record {
       placed = subst (λ (l : List TaggedCell). AreSiteMarks (length (text_of l)) c.leave_all.new.marks) (sym cells)
           (deletion_placed flat limits ranges c.leave_all.new.marks (is_covered c.in_ok-deletion.deletion.removed.items) m.places m.moved
@@ -181,7 +181,7 @@ returns g c =
     let limits = own.limits in
     let d = c.in_ok-deletion.deletion in
     let removed = is_covered d.removed.items in
-    let m = made g c in
+    let m = deletion_made g c in
     let history = c.kept.ensures.history in
     let document = c.kept.ensures.document in
     let doc : DocValue = seen c.commit.new.self c.leave_all.new.marks c.self.inside.tags.names in

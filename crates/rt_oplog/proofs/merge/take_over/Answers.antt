@@ -1,8 +1,0 @@
-use Rattle.std.proofs.Common.{refl}
-use Rattle.std.proofs.lemmas.Result.{err_from_is_err_and}
-use Rattle.rt_oplog.proofs.merge.take_over.Goals as goal
-
-pub returns-in_err-push : goal.returns-in_err-push
-returns-in_err-push c =
-    let (y, is, gives) = err_from_is_err_and c.from_residual.result c.from_residual.ensures.1 in
-    rw (is, gives) (record { ops = tt; order = tt; fault = refl })
