@@ -170,7 +170,7 @@ int32_t pt_export(pt_site *site);
    PT_DONE; else PT_NO_SITE or PT_NO_MEMORY. */
 int32_t pt_ends(pt_site *site);
 
-/* Says the file of the operations that another site lacks, by the ends that this one said by pt_ends: those whose last
+/* Says the file of the operations that another site lacks, by the ends that the other one said by pt_ends: those whose last
    count is past that of their site. Of a site that isn't named there all operations are said; of one that is named
    twice the first count holds.
    PT_DONE; else PT_NO_SITE, PT_BAD_BYTES or PT_NO_MEMORY. */

@@ -200,7 +200,7 @@ pub extern "C" fn pt_ends(alloc: Global, handle: &mut Handle) -> i32
 
 /// Says the file of those operations that the site accepted or made whose last count is past what such bytes tell of
 /// their site, as another one says them by `pt_ends`; of one site the first count is taken. 0; or -1 where there is no
-/// site, -5 where the bytes aren't 10 each, or -2 for want of memory.
+/// site, -5 where the bytes aren't 12 each, or -2 for want of memory.
 #[unsafe(no_mangle)]
 pub extern "C" fn pt_export_since(alloc: Global, handle: &mut Handle, ends: &[u8]) -> i32
     ensures { SaysSince ends.now handle.old.slot.value result handle.new.slot.value }

@@ -16,7 +16,7 @@ use Rattle.clap.specs.declared.builder.ValueParser.TheVariants.{Unsigned}
 use Rattle.clap.specs.declared.error.Error.{Error}
 use Rattle.clap.specs.declared.error.ErrorKind.{ErrorKind}
 use Rattle.clap.specs.declared.error.ErrorKind.TheVariants.{DisplayHelp, DisplayVersion, OutOfMemory}
-use Rattle.rt_stamps.specs.Fault.{text_of}
+use Rattle.rt_stamps.specs.Fault.{fault_text}
 use Rattle.rt_stamps.specs.declared.fault.Fault.TheVariants as fault
 use Rattle.rt_stamps.specs.declared.limits.TheConstants.{GREATEST_SITE}
 use Rattle.rt_stamps.specs.Words.{as_words}
@@ -199,4 +199,4 @@ line_status NoMemory = 1
 abbrev pub text_of_fault : LineFault → Option Text
 text_of_fault (Usage error) = None
 text_of_fault NoText = Some (codes "peertext: a word of the command line is no text" ++ (10 ∷ []))
-text_of_fault NoMemory = Some (codes "peertext: " ++ (text_of fault.NoMemory ++ (10 ∷ [])))
+text_of_fault NoMemory = Some (codes "peertext: " ++ (fault_text fault.NoMemory ++ (10 ∷ [])))

@@ -16,7 +16,7 @@ use Rattle.rt_stamps.specs.Spans.{each_next}
 use Rattle.rt_ops.specs.Operations.{Insert, Name}
 use Rattle.rt_ops.specs.Rules.{are_tags, is_lesser_name, is_text, keeps_rules, is_within, is_name}
 use Rattle.std.proofs.lemmas.Slice.Eq.{bytes_eq-Decides}
-use Rattle.rt_tags.specs.States.{IsByName, Write, above, below, is_kept, is_on, is_settled, names_on, says_on, write_of, written}
+use Rattle.rt_tags.specs.States.{IsByName, Write, writes_above, writes_below, is_kept, is_on, is_settled, names_on, says_on, write_of, written}
 use Rattle.rt_tags.specs.Writers.{listed_by, state_after}
 use Rattle.rt_tags.proofs.Commuting.{all_above, back_other, none_above}
 use Rattle.rt_tags.proofs.Sorted.{turned}
@@ -31,17 +31,17 @@ none_before : (w : Write) (front : List Write) → AllByRecursion (λ v. name_or
 none_before w [] h = refl
 none_before w (v ∷ front) h = ap (λ b. cond b (Some v) (write_of w.name front)) (unequal v.name w.name h.0) ∙ none_before w front h.1
 
-all_below : (w : Write) (front : List Write) → AllByRecursion (λ v. name_order v.name w.name ≡ Less) front → below w.name front ≡ front
+all_below : (w : Write) (front : List Write) → AllByRecursion (λ v. name_order v.name w.name ≡ Less) front → writes_below w.name front ≡ front
 all_below w [] h = refl
-all_below w (v ∷ front) h = ap (λ o. cond (is_lt o) (v ∷ below w.name front) (below w.name front)) h.0 ∙ ap (λ l. v ∷ l) (all_below w front h.1)
+all_below w (v ∷ front) h = ap (λ o. cond (is_lt o) (v ∷ writes_below w.name front) (writes_below w.name front)) h.0 ∙ ap (λ l. v ∷ l) (all_below w front h.1)
 
-none_over : (w : Write) (front : List Write) → AllByRecursion (λ v. name_order v.name w.name ≡ Less) front → above w.name front ≡ []
+none_over : (w : Write) (front : List Write) → AllByRecursion (λ v. name_order v.name w.name ≡ Less) front → writes_above w.name front ≡ []
 none_over w [] h = refl
-none_over w (v ∷ front) h = ap (λ o. cond (is_gt o) (v ∷ above w.name front) (above w.name front)) h.0 ∙ none_over w front h.1
+none_over w (v ∷ front) h = ap (λ o. cond (is_gt o) (v ∷ writes_above w.name front) (writes_above w.name front)) h.0 ∙ none_over w front h.1
 
 written_last : (w : Write) (front : List Write) → AllByRecursion (λ v. name_order v.name w.name ≡ Less) front → written w front ≡ front ++ w ∷ []
 written_last w front h =
-    ap (λ o. cond (is_kept o w) front (below w.name front ++ w ∷ above w.name front)) (none_before w front h)
+    ap (λ o. cond (is_kept o w) front (writes_below w.name front ++ w ∷ writes_above w.name front)) (none_before w front h)
     ∙ (λ i. all_below w front h i ++ w ∷ none_over w front h i)
 
 front_less : (front : List Write) (w : Write) (ws : List Write) → IsByName (front ++ w ∷ ws) → AllByRecursion (λ v. name_order v.name w.name ≡ Less) front
@@ -116,13 +116,13 @@ on_append (x ∷ xs) ys = by x.on (on_append xs ys)
     by true ih = ap (λ l. x.name ∷ l) ih
     by false ih = ih
 
-put_on : (name : Name) (w : Write) (state : List Write) → name ≡ w.name → names_on (below w.name state ++ w ∷ above w.name state) ≡ tags_with w.on name (names_on state)
+put_on : (name : Name) (w : Write) (state : List Write) → name ≡ w.name → names_on (writes_below w.name state ++ w ∷ writes_above w.name state) ≡ tags_with w.on name (names_on state)
 put_on name w state e =
-    on_append (below w.name state) (w ∷ above w.name state)
+    on_append (writes_below w.name state) (w ∷ writes_above w.name state)
     ∙ (λ i. on_filter (λ x. is_lt (name_order x w.name)) state i ++ here w.on i)
     ∙ ap (λ n. tags_with w.on n (names_on state)) (sym e)
   where
-    here : (b : Bool) → map (λ (w : Write). w.name) (cond b (w ∷ filter (λ w. w.on) (above w.name state)) (filter (λ w. w.on) (above w.name state))) ≡ cond b (w.name ∷ []) [] ++ filter (λ x. is_gt (name_order x w.name)) (names_on state)
+    here : (b : Bool) → map (λ (w : Write). w.name) (cond b (w ∷ filter (λ w. w.on) (writes_above w.name state)) (filter (λ w. w.on) (writes_above w.name state))) ≡ cond b (w.name ∷ []) [] ++ filter (λ x. is_gt (name_order x w.name)) (names_on state)
     here true = ap (λ l. w.name ∷ l) (on_filter (λ x. is_gt (name_order x w.name)) state)
     here false = on_filter (λ x. is_gt (name_order x w.name)) state
 
@@ -194,4 +194,4 @@ module _ (name : Name) where
 
 -- the tags after a write that isn't less than another of its tag
 pub written_tags : (w : Write) (state : List Write) → is_settled w state ≡ false → names_on (written w state) ≡ tags_with w.on w.name (names_on state)
-written_tags w state h = ap (λ b. names_on (cond b state (below w.name state ++ w ∷ above w.name state))) h ∙ put_on w.name w state refl
+written_tags w state h = ap (λ b. names_on (cond b state (writes_below w.name state ++ w ∷ writes_above w.name state))) h ∙ put_on w.name w state refl

@@ -3,7 +3,7 @@ use Rattle.std.proofs.Common.{◌≡◌, ℕ, ◌<◌, List, [], ◌∷◌, ◌+
 use Rattle.std.specs.Prelude.{nat_le}
 use Rattle.std.proofs.lemmas.Bool.{and_parts, leb-true}
 use Rattle.rt_stamps.specs.declared.limits.TheConstants.{GREATEST_COUNT}
-use Rattle.rt_rga.specs.Requests.{AllMayBeAsked, Make, MayBeAsked, Offer, Request, after_request, after_requests, fit, last_count_after}
+use Rattle.rt_rga.specs.Requests.{AllMayBeAsked, Make, MayBeAsked, Offer, ReplicaRequest, after_request, after_requests, fit, last_count_after}
 use Rattle.rt_rga.proofs.Requests.{all_history, drafts_for}
 use Rattle.rt_rga.proofs.Within.{continues_new}
 use Rattle.std.specs.List.{AllByRecursion}
@@ -49,7 +49,7 @@ own_replay site (draft ∷ drafts) set l h a =
     ∙ ap (replayed (changes_in_turn (operations_of site drafts more) more)) (changes_replay set op h k)
     ∙ own_replay site drafts more l (history_with op set h k) a.1
 
-one_request : (site limit : ℕ) (request : Request) (set : List Operation) → 0 < site → IsHistory set → MayBeAsked site set request
+one_request : (site limit : ℕ) (request : ReplicaRequest) (set : List Operation) → 0 < site → IsHistory set → MayBeAsked site set request
     → replayed (changes_by_request site limit request set) (tagged_text (cells_of set)) ≡ tagged_text (cells_of (after_request site limit request set))
 one_request site limit (Offer op) set l h m = one_offer (answer_within limit op set) op set h (λ e. history_with op set h (continues_new limit op set h m e).0)
 one_request site limit (Make drafts) set l h m = by (fit site limit drafts set) refl
@@ -61,7 +61,7 @@ one_request site limit (Make drafts) set l h m = by (fit site limit drafts set) 
         own_replay site drafts set l h (drafts_for site set drafts m (leb-true (last_count_after (greatest_last_count set) drafts) GREATEST_COUNT fit))
     by false e = refl
 
-pub requests_replay : (site limit : ℕ) (requests : List Request) (set : List Operation) → 0 < site → IsHistory set → AllMayBeAsked site limit set requests
+pub requests_replay : (site limit : ℕ) (requests : List ReplicaRequest) (set : List Operation) → 0 < site → IsHistory set → AllMayBeAsked site limit set requests
     → replayed (changes_by_requests site limit requests set) (tagged_text (cells_of set)) ≡ tagged_text (cells_of (after_requests site limit requests set))
 requests_replay site limit [] set l h m = refl
 requests_replay site limit (request ∷ requests) set l h m =

@@ -1,9 +1,10 @@
 -- The operations of the worked examples.
 use Rattle.std.specs.Prelude.{false, List, [], ◌∷◌, codes}
 use Rattle.rt_ops.specs.Operations.{Operation, Insert, Delete, Tag}
+use Rattle.rt_ops.specs.Examples.{span}
 use Rattle.rt_rga.specs.Texts.{TaggedCharacter, tagged_text}
 use Rattle.rt_stamps.specs.declared.stamp.TheConstants.{ROOT}
-use Rattle.rt_rga.specs.Examples.{cells_after, only_t, span}
+use Rattle.rt_rga.specs.Examples.{cells_after, only_t}
 use Rattle.rt_changes.specs.Replays.{VisibleChange, replayed, changes_of}
 
 -- site 1 writes `abcd`, the tag `t` on each, and takes `a`, `b` and `d` away, or the tag off `b` alone

@@ -16,7 +16,7 @@ use Rattle.rt_rga.specs.Answers.{all_taken}
 use Rattle.rt_rga.specs.Cells.{cells_of, stamped_writes_on}
 use Rattle.rt_rga.specs.Drafts.{AreDraftsFor, ContinueInTurn, operations_of, with_drafts, with_operations}
 use Rattle.rt_rga.specs.Histories.{Continues, IsHistory}
-use Rattle.rt_rga.specs.Requests.{AllMayBeAsked, Request, after_requests}
+use Rattle.rt_rga.specs.Requests.{AllMayBeAsked, ReplicaRequest, after_requests}
 use Rattle.rt_rga.specs.Taken.{AreFallingRuns, IsChange, differ, is_in_runs, place_in, retags, takes_away}
 use Rattle.rt_rga.specs.Texts.{tagged_text}
 use Rattle.rt_rga.specs.declared.taken.Change.{Change}
@@ -141,7 +141,7 @@ OwnAreReplayed =
 -- And so do those of whatever is asked of a site's replica.
 abbrev pub RequestsAreReplayed : Type 0
 RequestsAreReplayed =
-    (site limit : ℕ) (requests : List Request) (set : List Operation) → 0 < site → IsHistory set → AllMayBeAsked site limit set requests
+    (site limit : ℕ) (requests : List ReplicaRequest) (set : List Operation) → 0 < site → IsHistory set → AllMayBeAsked site limit set requests
     → replayed (changes_by_requests site limit requests set) (tagged_text (cells_of set))
     ≡ tagged_text (cells_of (after_requests site limit requests set))
 

@@ -10,7 +10,7 @@ use Rattle.rt_store.specs.Shown.{TaggedCell}
 use Rattle.rt_rga.specs.Answers.{Answer, New, Repeat, Refused, answer_to, answer_within, taken}
 use Rattle.rt_rga.specs.Cells.{cells_of}
 use Rattle.rt_rga.specs.Drafts.{operations_of}
-use Rattle.rt_rga.specs.Requests.{Make, Offer, Request, after_request, fit}
+use Rattle.rt_rga.specs.Requests.{Make, Offer, ReplicaRequest, after_request, fit}
 use Rattle.rt_rga.specs.Taken.{place_by, retags, takes_away}
 use Rattle.rt_rga.specs.Texts.{TaggedCharacter}
 use Rattle.rt_rga.specs.declared.taken.Change.{Change}
@@ -121,12 +121,12 @@ all_changes (op ∷ ops) set = changes_if_new (answer_to op set) op (cells_of se
 -- WHAT IS ASKED OF A SITE
 
 -- the changes of a request to the replica of a site that keeps at most so many cells
-abbrev pub changes_by_request : ℕ → ℕ → Request → List Operation → List VisibleChange
+abbrev pub changes_by_request : ℕ → ℕ → ReplicaRequest → List Operation → List VisibleChange
 changes_by_request site limit (Offer op) set = changes_if_new (answer_within limit op set) op (cells_of set)
 changes_by_request site limit (Make drafts) set =
     if fit site limit drafts set then changes_in_turn (operations_of site drafts set) set else []
 
-abbrev pub changes_by_requests : ℕ → ℕ → List Request → List Operation → List VisibleChange
+abbrev pub changes_by_requests : ℕ → ℕ → List ReplicaRequest → List Operation → List VisibleChange
 changes_by_requests site limit [] set = []
 changes_by_requests site limit (request ∷ requests) set =
     changes_by_request site limit request set ++ changes_by_requests site limit requests (after_request site limit request set)

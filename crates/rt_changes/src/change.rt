@@ -52,7 +52,7 @@ impl ToTell {
                 tags: _,
                 text,
             } => Ok(ToTell::Insertion {
-                text: text.copied(alloc)?,
+                text: Text::copy_of(alloc, text.characters())?,
             }),
             Edit::Delete { spans: _ } => Ok(ToTell::Deletion),
             Edit::Tag { on, name, spans: _ } => Ok(ToTell::Tagging {

@@ -5,7 +5,7 @@ use Rattle.rt_oplog.specs.Logs.{AreOf, HasOp}
 use Rattle.rt_rga.specs.Answers.{Answer, New, Repeat, Refused, answer_to, answer_within}
 use Rattle.rt_rga.specs.Cells.{cells_of}
 use Rattle.rt_rga.specs.Histories.{IsHistory}
-use Rattle.rt_rga.specs.Requests.{Request}
+use Rattle.rt_rga.specs.Requests.{ReplicaRequest}
 use Rattle.rt_rga.proofs.Accepting.{free, one_list, repeat_is}
 use Rattle.rt_rga.proofs.Room.{other_within}
 use Rattle.rt_holding.specs.Holding.{Holding, has_no_room, is_new, new_holding, stays}
@@ -32,7 +32,7 @@ greatest_kept limit ops end k f n = is_greatest ops end.log k.kept.history k.kep
   ]
 ])
 
-pub greatest_accepted : (site limit : ℕ) (requests : List Request) (ops : List Operation) (end : Holding) → 0 < site
+pub greatest_accepted : (site limit : ℕ) (requests : List ReplicaRequest) (ops : List Operation) (end : Holding) → 0 < site
     → Runs site limit requests new_holding end ops → AreFree ops → NoneCouldBeTaken limit end → IsGreatestHistoryWithin ops end.log
 greatest_accepted site limit requests ops end p r f n = greatest_kept limit ops end (from_nothing site limit requests end ops p r) f n
 
@@ -43,7 +43,7 @@ greatest_once ops more one two f g h = one_list one two g.history h.history (λ 
   λ i. g.greatest two h.history (λ y j. (f y).1 (h.within y j)) x i,
 ))
 
-pub sites_agree : (site other limit most : ℕ) (requests asked : List Request) (ops more : List Operation) (one two : Holding) → 0 < site → 0 < other
+pub sites_agree : (site other limit most : ℕ) (requests asked : List ReplicaRequest) (ops more : List Operation) (one two : Holding) → 0 < site → 0 < other
     → Runs site limit requests new_holding one ops → Runs other most asked new_holding two more → AreOf ops more → AreFree ops
     → NoneCouldBeTaken limit one → NoneCouldBeTaken most two → cells_of one.log ≡ cells_of two.log
 sites_agree site other limit most requests asked ops more one two p q r s f free m n =
@@ -60,7 +60,7 @@ none_there : (held : List Operation) → ((x : Operation) → HasOp held x → �
 none_there [] f = refl
 none_there (q ∷ held) f = absurd (f q (inl refl))
 
-pub histories_accepted : (site limit : ℕ) (requests : List Request) (ops set : List Operation) (end : Holding) → 0 < site
+pub histories_accepted : (site limit : ℕ) (requests : List ReplicaRequest) (ops set : List Operation) (end : Holding) → 0 < site
     → Runs site limit requests new_holding end ops → IsHistory set → AreOf ops set → NoneCouldBeTaken limit end → (end.log ≡ set) × (end.held ≡ [])
 histories_accepted site limit requests ops set end p r h f n =
     let k = from_nothing site limit requests end ops p r in

@@ -7,7 +7,7 @@ use Rattle.rt_ops.specs.Operations.{Operation, stamp_of}
 use Rattle.rt_oplog.specs.Logs.{holds, same_operation}
 use Rattle.rt_rga.proofs.Skipping.{split}
 use Rattle.rt_holding.specs.Arrivals.{ComesToTheSame, by_stamp, earlier, next_arrived, put_first}
-use Rattle.rt_holding.specs.Holding.{is_left, next_of, put_held, without}
+use Rattle.rt_holding.specs.Holding.{is_left, next_of, put_held, without_op}
 use Rattle.rt_holding.specs.Runs.{NoneFalls}
 
 -- BY RISING STAMP
@@ -78,35 +78,35 @@ first_here : (op : Operation) (held : List Operation) → AllByRecursion (λ lat
 first_here op [] a = refl
 first_here op (q ∷ held) a = let e = a.0 in rw e refl
 
-without_lower : (P : Operation → Type 0) (op : Operation) (held : List Operation) → AllByRecursion P held → AllByRecursion P (without op held)
+without_lower : (P : Operation → Type 0) (op : Operation) (held : List Operation) → AllByRecursion P held → AllByRecursion P (without_op op held)
 without_lower P op [] a = tt
-without_lower P op (q ∷ held) a = elim (not (same_operation q op)) as (λ t. AllByRecursion P (cond t (q ∷ without op held) (without op held))) [
+without_lower P op (q ∷ held) a = elim (not (same_operation q op)) as (λ t. AllByRecursion P (cond t (q ∷ without_op op held) (without_op op held))) [
   | true ↦ (a.0, without_lower P op held a.1)
   | false ↦ without_lower P op held a.1
 ]
 
-without_first : (op x : Operation) (held : List Operation) → NoneFalls held → without op (put_first x held) ≡ cond (not (same_operation x op)) (put_first x (without op held)) (without op held)
+without_first : (op x : Operation) (held : List Operation) → NoneFalls held → without_op op (put_first x held) ≡ cond (not (same_operation x op)) (put_first x (without_op op held)) (without_op op held)
 without_first op x [] o = elim (not (same_operation x op)) as (λ t. cond t (x ∷ []) [] ≡ cond t (x ∷ []) []) [ true ↦ refl | false ↦ refl ]
 without_first op x (q ∷ held) o =
-    (elim (is_before (stamp_of q) (stamp_of x)) as (λ t. is_before (stamp_of q) (stamp_of x) ≡ t → without op (cond t (q ∷ put_first x held) (x ∷ (q ∷ held)))
-    ≡ cond (not (same_operation x op)) (put_first x (without op (q ∷ held))) (without op (q ∷ held))) [
+    (elim (is_before (stamp_of q) (stamp_of x)) as (λ t. is_before (stamp_of q) (stamp_of x) ≡ t → without_op op (cond t (q ∷ put_first x held) (x ∷ (q ∷ held)))
+    ≡ cond (not (same_operation x op)) (put_first x (without_op op (q ∷ held))) (without_op op (q ∷ held))) [
       | true ↦ λ e. (let i = without_first op x held o.1 in
           split (not (same_operation q op))
           (λ t. rw t (split (not (same_operation x op))
-          (λ u. let j : without op (put_first x held) ≡ put_first x (without op held) = i ∙ rw u refl in rw (u, e) (ap (λ l. q ∷ l) j))
-          (λ u. let j : without op (put_first x held) ≡ without op held = i ∙ rw u refl in rw u (ap (λ l. q ∷ l) j))))
+          (λ u. let j : without_op op (put_first x held) ≡ put_first x (without_op op held) = i ∙ rw u refl in rw (u, e) (ap (λ l. q ∷ l) j))
+          (λ u. let j : without_op op (put_first x held) ≡ without_op op held = i ∙ rw u refl in rw u (ap (λ l. q ∷ l) j))))
           (λ t. rw t i))
       | false ↦ λ e. split (not (same_operation x op))
-          (λ u. rw u (sym (first_here x (without op (q ∷ held)) (without_lower (λ later. is_before (stamp_of later) (stamp_of x) ≡ false) op (q ∷ held) (e, later_too x q held e o.0)))))
+          (λ u. rw u (sym (first_here x (without_op op (q ∷ held)) (without_lower (λ later. is_before (stamp_of later) (stamp_of x) ≡ false) op (q ∷ held) (e, later_too x q held e o.0)))))
           (λ u. rw u refl)
     ]) refl
 
-without_same : (op : Operation) (arrived : List Operation) → by_stamp (without op arrived) ≡ without op (by_stamp arrived)
+without_same : (op : Operation) (arrived : List Operation) → by_stamp (without_op op arrived) ≡ without_op op (by_stamp arrived)
 without_same op [] = refl
 without_same op (x ∷ arrived) =
     let i = without_same op arrived in
     let j = without_first op x (by_stamp arrived) (stamp_order arrived) in
-    chosen (not (same_operation x op)) x (without op arrived) ∙ ap (λ l. cond (not (same_operation x op)) (put_first x l) l) i ∙ sym j
+    chosen (not (same_operation x op)) x (without_op op arrived) ∙ ap (λ l. cond (not (same_operation x op)) (put_first x l) l) i ∙ sym j
   where
     chosen : (b : Bool) (x : Operation) (rest : List Operation) → by_stamp (cond b (x ∷ rest) rest) ≡ cond b (put_first x (by_stamp rest)) (by_stamp rest)
     chosen true x rest = refl

@@ -11,7 +11,7 @@ use Rattle.rt_rga.specs.Answers.{Answer, New, Repeat, Refused, answer_to, answer
 use Rattle.rt_rga.specs.Cells.{cells_of}
 use Rattle.rt_rga.specs.Drafts.{operations_of, with_drafts}
 use Rattle.rt_rga.specs.Histories.{greatest_last_count}
-use Rattle.rt_rga.specs.Requests.{MayBeAsked, MayBeMade, Make, Offer, Request, fit, last_count_after}
+use Rattle.rt_rga.specs.Requests.{MayBeAsked, MayBeMade, Make, Offer, ReplicaRequest, fit, last_count_after}
 use Rattle.rt_rga.proofs.Skipping.{split}
 use Rattle.rt_rga.proofs.Drafting.{made}
 use Rattle.rt_rga.proofs.Orders.{rules_in}
@@ -19,7 +19,7 @@ use Rattle.rt_rga.proofs.Requests.{drafts_for}
 use Rattle.rt_holding.specs.Replies.{Reply}
 use Rattle.rt_holding.specs.Replies as replies
 use Rattle.rt_holding.specs.Holding.{Holding, after_answer, has_no_room, hold, is_early, is_full, is_new, no_more_held, new_holding, put_held, reply_for, reply_to, stays, with_taken}
-use Rattle.rt_holding.specs.Runs.{Leads, Runs, accepts, at_first, brought_by, finds_no_room, next, none}
+use Rattle.rt_holding.specs.Runs.{Leads, Runs, accepts, before_tries, brought_by, finds_no_room, next, none}
 use Rattle.rt_holding.proofs.Greatest.{is_out}
 use Rattle.rt_holding.proofs.Keeping.{AreLate, AccountsFor, AccountsForAllBut, IsPlaced, all_with, append_has, dropped_is, dropped_kept, has_append, has_put, kept_but, out_more, kept_same, put_has, settles_kept, settles_late, taken_kept, with_all, without_has}
 
@@ -179,11 +179,11 @@ both false b h = absurd (cc h)
 
 -- ONE REQUEST
 
-abbrev pub Bringing : (Operation → Type 0) → ℕ → ℕ → Request → Holding → Operation → Type 0
+abbrev pub Bringing : (Operation → Type 0) → ℕ → ℕ → ReplicaRequest → Holding → Operation → Type 0
 Bringing came site limit request s x = came x ⊎ HasOp (brought_by site limit request s) x
 
-pub first_kept : (site limit : ℕ) (request : Request) (came : Operation → Type 0) (s : Holding) → 0 < site → MayBeAsked site s.log request → AccountsFor came s
-    → AccountsFor (Bringing came site limit request s) (at_first site limit request s)
+pub first_kept : (site limit : ℕ) (request : ReplicaRequest) (came : Operation → Type 0) (s : Holding) → 0 < site → MayBeAsked site s.log request → AccountsFor came s
+    → AccountsFor (Bringing came site limit request s) (before_tries site limit request s)
 first_kept site limit (Offer op) came s p m k = offer_kept limit came op s m k
 first_kept site limit (Make drafts) came s p m k = drafted (fit site limit drafts s.log) came (operations_of site drafts s.log) s (record { log = with_drafts site drafts s.log; held = s.held })
     (λ e. drafts_kept site limit drafts came s p m
@@ -207,7 +207,7 @@ late_after limit a op s w e l = split (is_early a)
     (λ g. let q : after_answer a op s ≡ s = rw (e, f, g) refl in subst (AreLate limit) (sym q) l)
     (λ g. let q : after_answer a op s ≡ no_more_held op s = rw (e, f, g) refl in subst (AreLate limit) (sym q) (λ x i. l x (without_has op s.held x i))))
 
-first_late : (site limit : ℕ) (request : Request) (s : Holding) → accepts site limit request s ≡ false → AreLate limit s → AreLate limit (at_first site limit request s)
+first_late : (site limit : ℕ) (request : ReplicaRequest) (s : Holding) → accepts site limit request s ≡ false → AreLate limit s → AreLate limit (before_tries site limit request s)
 first_late site limit (Offer op) s e l = late_after limit (answer_within limit op s.log) op s refl e l
 first_late site limit (Make drafts) s e l = rw e l
 
@@ -216,21 +216,21 @@ pub record Keeps (limit : ℕ) (came : Operation → Type 0) (s : Holding) : Typ
   pub kept : AccountsFor came s
   pub late : AreLate limit s
 
-pub leads_keeps : (site limit : ℕ) (request : Request) (came : Operation → Type 0) (s t : Holding) (more : List Operation) → 0 < site → MayBeAsked site s.log request
+pub leads_keeps : (site limit : ℕ) (request : ReplicaRequest) (came : Operation → Type 0) (s t : Holding) (more : List Operation) → 0 < site → MayBeAsked site s.log request
     → Leads site limit request s t more → Keeps limit came s → Keeps limit (Bringing came site limit request s) t
 leads_keeps site limit request came s t more p m l k =
     let f = first_kept site limit request came s p m k.kept in
     elim l [
       | inl a ↦ record {
-        kept = settles_kept limit (Bringing came site limit request s) [] (at_first site limit request s) t more a.1 f;
-        late = settles_late limit [] (at_first site limit request s) t more a.1;
+        kept = settles_kept limit (Bringing came site limit request s) [] (before_tries site limit request s) t more a.1 f;
+        late = settles_late limit [] (before_tries site limit request s) t more a.1;
       }
       | inr a ↦ subst (Keeps limit (Bringing came site limit request s)) (sym a.1) (record { kept = f; late = first_late site limit request s a.0 k.late })
     ]
 
 -- ALL REQUESTS
 
-pub runs_keep : (site limit : ℕ) (requests : List Request) (came : Operation → Type 0) (s u : Holding) (ops : List Operation) → 0 < site
+pub runs_keep : (site limit : ℕ) (requests : List ReplicaRequest) (came : Operation → Type 0) (s u : Holding) (ops : List Operation) → 0 < site
     → Runs site limit requests s u ops → Keeps limit came s → Keeps limit (λ x. came x ⊎ HasOp ops x) u
 runs_keep site limit requests came s u ops p none k = record {
   kept = kept_same came (λ x. came x ⊎ HasOp [] x) s (λ x. (λ i. inl i, λ i. elim i [ inl j ↦ j | inr j ↦ absurd j ])) k.kept;
@@ -248,7 +248,7 @@ runs_keep site limit requests came s u ops p (next {request = request} {requests
       late = rest.late;
     }
 
-pub from_nothing : (site limit : ℕ) (requests : List Request) (u : Holding) (ops : List Operation) → 0 < site → Runs site limit requests new_holding u ops → Keeps limit (HasOp ops) u
+pub from_nothing : (site limit : ℕ) (requests : List ReplicaRequest) (u : Holding) (ops : List Operation) → 0 < site → Runs site limit requests new_holding u ops → Keeps limit (HasOp ops) u
 from_nothing site limit requests u ops p r =
     let k = runs_keep site limit requests (λ x. ⊥) new_holding u ops p r (record {
       kept = record { history = tt; rules = λ x i. absurd i; log = λ x i. absurd i; held = λ x i. absurd i; each = λ x i. absurd i };

@@ -6,7 +6,7 @@ use Rattle.rt_ops.specs.Operations.{Operation}
 use Rattle.rt_ops.specs.Rules.{keeps_rules}
 use Rattle.rt_oplog.specs.Logs.{HasOp, holds}
 use Rattle.rt_rga.specs.Answers.{Answer, New, Repeat, Refused, answer_within}
-use Rattle.rt_rga.specs.Requests.{Offer, Request}
+use Rattle.rt_rga.specs.Requests.{Offer, ReplicaRequest}
 use Rattle.rt_rga.proofs.Skipping.{split}
 use Rattle.rt_holding.specs.declared.held.Offered.{Offered}
 use Rattle.rt_holding.specs.declared.held.Offered.TheVariants as offerings
@@ -16,7 +16,7 @@ use Rattle.rt_holding.specs.Holding.{Holding, Settles, after_answer, as_reply, i
 use Rattle.rt_holding.specs.Receiving.{Behind, Offers, Receives, State}
 use Rattle.rt_holding.specs.Replies.{Reply}
 use Rattle.rt_holding.specs.Replies as replies
-use Rattle.rt_holding.specs.Runs.{IsHolding, Leads, Runs, at_first, brought_by, finds_no_room, next, none}
+use Rattle.rt_holding.specs.Runs.{IsHolding, Leads, Runs, before_tries, brought_by, finds_no_room, next, none}
 use Rattle.rt_holding.specs.Taken.{IsOffered, IsRefused, all_after, site_holding, replied}
 use Rattle.rt_holding.proofs.Fronts.{read_rules}
 use Rattle.rt_holding.proofs.Sites.{refused_changes_nothing, repeat_changes_nothing, requests_keep}
@@ -24,7 +24,7 @@ use Rattle.rt_holding.proofs.Sites.{refused_changes_nothing, repeat_changes_noth
 -- ONE REQUEST AFTER OTHERS
 
 -- runs that go on where others end
-pub runs_on : (site limit : ℕ) (requests more : List Request) (s t u : Holding) (ops later : List Operation)
+pub runs_on : (site limit : ℕ) (requests more : List ReplicaRequest) (s t u : Holding) (ops later : List Operation)
     → Runs site limit requests s t ops → Runs site limit more t u later → Runs site limit (requests ++ more) s u (ops ++ later)
 runs_on site limit requests more s t u ops later none r = r
 runs_on site limit requests more s t u ops later (next {request = request} {requests = others} {t = mid} {ops = behind} taken may leads rest) r =
@@ -71,14 +71,14 @@ refused_leads : (site limit : ℕ) (op : Operation) (s : Holding) (fault : Fault
 refused_leads site limit op s fault k r =
     let a = answer_within limit op s.log in
     let e : is_new a ≡ false = other_if (is_early a) (holds s.held op) (is_full s.held) a refl (λ n. let q : ◌≡◌ {A = Reply} (replies.Refused fault) replies.New = sym r ∙ n in cc q) in
-    let t = at_first site limit (Offer op) s in
+    let t = before_tries site limit (Offer op) s in
     inr (e, sym (refused_changes_nothing site limit op s t [] fault k r (inr (e, refl, refl))), refl)
 
 repeat_leads : (site limit : ℕ) (op : Operation) (s : Holding) → IsHolding limit s → reply_to limit op s ≡ replies.Repeat → Leads site limit (Offer op) s s []
 repeat_leads site limit op s k r =
     let a = answer_within limit op s.log in
     let e : is_new a ≡ false = other_if (is_early a) (holds s.held op) (is_full s.held) a refl (λ n. let q : ◌≡◌ {A = Reply} replies.Repeat replies.New = sym r ∙ n in cc q) in
-    let t = at_first site limit (Offer op) s in
+    let t = before_tries site limit (Offer op) s in
     inr (e, sym (repeat_changes_nothing site limit op s t [] k r (inr (e, refl, refl))), refl)
 
 held_leads : (site limit : ℕ) (op : Operation) (s : Holding) → reply_to limit op s ≡ replies.Held
@@ -140,7 +140,7 @@ module _ {Site : Type 0} (log : Site → List Operation) (limit : Site → ℕ) 
 
   -- a site from one state to another, by requests that brought some operations
   pub record Goes (site : ℕ) (old new : State Site) (came : List Operation) : Type 0 where
-    pub requests : List Request
+    pub requests : List ReplicaRequest
     pub runs : Runs site (limit old.site) requests (state_of old) (state_of new) came
     pub holding : IsHolding (limit old.site) (state_of new)
     pub limit_stays : limit new.site ≡ limit old.site

@@ -15,13 +15,14 @@ use Rattle.rt_rga.specs.Answers.{New, Refused, answer_to, answer_within, has_gap
 use Rattle.rt_rga.specs.Histories.{IsHistory}
 use Rattle.rt_rga.proofs.Accepting.{continues_if_new}
 use Rattle.rt_rga.proofs.Skipping.{split}
+use Rattle.rt_store.specs.Spans.{first_in_span, last_stamp}
 use Rattle.rt_holding.specs.declared.waits.Waits.{Waits}
 use Rattle.rt_holding.specs.Grown.{HasGrownBy}
 use Rattle.rt_holding.specs.Holding.{is_early, is_new, stays}
 use Rattle.rt_holding.specs.Kept.{Standing, by_stamp_and_arrival}
 use Rattle.rt_rga.specs.Kept.{goes_past}
 use Rattle.rt_holding.specs.Waiting.{WaitsAt, awaited_by, awaited_in, came_in, has_new_gap, targets}
-use Rattle.rt_holding.specs.Waits.{IfIsThere, are_all_kept, first_in_span, has_begun, has_key, is_due, is_noted, is_waited_for, key_at, last_in_span, sleeps}
+use Rattle.rt_holding.specs.Waits.{IfIsThere, are_all_kept, has_begun, has_key, is_due, is_noted, is_waited_for, key_at, sleeps}
 use Rattle.rt_holding.specs.Waking.{AreEndsPassed, IsSpanAmong, IsLookedThrough, IsStillWaiting}
 use Rattle.rt_holding.proofs.Going.{both, or_left}
 use Rattle.rt_holding.proofs.Keeping.{is_new_true}
@@ -69,36 +70,36 @@ module _ (by : ℕ) (older log : List Operation) (ops : BTreeMap Standing (Optio
   -- a span of the site that has begun
   record IsLooked (span : Span) : Type 0 where
     gap : has_gap log (came_in older log span) ≡ false
-    begun : has_key mid.keys.begun p (last_in_span span) ≡ true
+    begun : has_key mid.keys.begun p (last_stamp span) ≡ true
     noted : is_noted new.keys.ends span.site (known_end log span.site) ≡ true
 
-  looked_here : (span : Span) → span.site ≡ by → has_key old.keys.begun p (last_in_span span) ≡ true → is_noted old.keys.ends span.site (known_end older span.site) ≡ true → IsLooked span
+  looked_here : (span : Span) → span.site ≡ by → has_key old.keys.begun p (last_stamp span) ≡ true → is_noted old.keys.ends span.site (known_end older span.site) ≡ true → IsLooked span
   looked_here span e k n = elim looked.here [
-    | inl gap ↦ not_due (ended.due p (gap.all (key_at (last_in_span span) p) e k))
+    | inl gap ↦ not_due (ended.due p (gap.all (key_at (last_stamp span) p) e k))
     | inr h ↦ (let (end, at, l) = noted_end old.keys.ends span.site (known_end older span.site) n in
         let m = end_stays older log grown.among span.site in
         let same = ap (known_end log) e in
         let (gap, noted) = h.noted end (subst (λ site. get nat_cmp old.keys.ends site ≡ Some end) e at) (omega (arith, l, m, same)) in
         record {
           gap = gap_within log (came_in older log span) (record { site = by; first = end + 1; last = known_end log by }) e (omega (arith, l)) (omega (arith, same)) gap;
-          begun = ap (λ keys. has_key keys p (last_in_span span)) h.begun ∙ k;
+          begun = ap (λ keys. has_key keys p (last_stamp span)) h.begun ∙ k;
           noted = ap (λ ends. is_noted ends span.site (known_end log span.site)) ended.ends ∙ subst (λ site. is_noted mid.keys.ends site (known_end log site) ≡ true) (sym e) noted;
         })
   ]
 
-  looked_other : (span : Span) → (by == span.site) ≡ false → goes_past older span ≡ true → has_key old.keys.begun p (last_in_span span) ≡ true
+  looked_other : (span : Span) → (by == span.site) ≡ false → goes_past older span ≡ true → has_key old.keys.begun p (last_stamp span) ≡ true
       → is_noted old.keys.ends span.site (known_end older span.site) ≡ true → IsLooked span
   looked_other span e g k n =
       let f = (goes_from older span g).end in
       let same = grown.others span.site e in
       record {
         gap = none_came log (came_in older log span) (omega (arith, f, same));
-        begun = looked.others (key_at (last_in_span span) p) e ∙ k;
+        begun = looked.others (key_at (last_stamp span) p) e ∙ k;
         noted = ap (λ ends. is_noted ends span.site (known_end log span.site)) ended.ends
             ∙ ap (is_noted mid.keys.ends span.site) same ∙ looked.noted span.site (known_end older span.site) e n;
       }
 
-  looked_at : (span : Span) → goes_past older span ≡ true → has_key old.keys.begun p (last_in_span span) ≡ true → is_noted old.keys.ends span.site (known_end older span.site) ≡ true → IsLooked span
+  looked_at : (span : Span) → goes_past older span ≡ true → has_key old.keys.begun p (last_stamp span) ≡ true → is_noted old.keys.ends span.site (known_end older span.site) ≡ true → IsLooked span
   looked_at span g k n = split (by == span.site)
       (λ e. looked_here span (let i : span.site ≡ by = grind (arith, nat_tests, e) in i) k n)
       (λ e. looked_other span e g k n)
@@ -116,7 +117,7 @@ module _ (by : ℕ) (older log : List Operation) (ops : BTreeMap Standing (Optio
         no_new_gap older log span l.gap,
         waited_to new.keys log p span (λ h. inl (
           stays_begun span b,
-          elim (ended.each (key_at (last_in_span span) p) l.begun) [
+          elim (ended.each (key_at (last_stamp span) p) l.begun) [
             | inl c ↦ c
             | inr d ↦ elim d [
               | inl c ↦ not_due c
@@ -136,7 +137,7 @@ module _ (by : ℕ) (older log : List Operation) (ops : BTreeMap Standing (Optio
   IsOn = (list_any (goes_past log) (targets x.body) ≡ true) ⊎ (list_any (pends new.keys older log p) (targets x.body) ≡ true)
 
   -- one that came to its end, when others are waited for
-  others_wait : (span : Span) → goes_past older span ≡ true → IsStillWaiting log mid.keys.alone (key_at (last_in_span span) p) (targets x.body) → IsOn
+  others_wait : (span : Span) → goes_past older span ≡ true → IsStillWaiting log mid.keys.alone (key_at (last_stamp span) p) (targets x.body) → IsOn
   others_wait span g (inl a) = inl a
   others_wait span g (inr c) =
       let f = goes_from older span g in
@@ -152,23 +153,23 @@ module _ (by : ℕ) (older log : List Operation) (ops : BTreeMap Standing (Optio
       (none_begun older c.later (omega (arith, e, known, behind))) (begun_to log c.later (omega (arith, in_time, ends)))
       (ap (λ keys. has_key keys p (first_in_span c.later)) ended.alone ∙ c.kept)))
 
-  ended_waits : (span : Span) → goes_past older span ≡ true → goes_past log span ≡ false → has_key mid.keys.begun p (last_in_span span) ≡ true → IsOn
+  ended_waits : (span : Span) → goes_past older span ≡ true → goes_past log span ≡ false → has_key mid.keys.begun p (last_stamp span) ≡ true → IsOn
   ended_waits span g h k =
       let f = goes_from older span g in
-      elim (ended.each (key_at (last_in_span span) p) k) [
+      elim (ended.each (key_at (last_stamp span) p) k) [
         | inl c ↦ absurd (split (by == span.site)
             (λ e. let i : span.site ≡ by = grind (arith, nat_tests, e) in
             let w = ap (known_end log) i in
             elim (cases_lt (known_end log span.site) span.last) [
               | inl l ↦ absurd (let t = goes_to log span (record { site = f.site; is = f.is; end = l }) in cc (t, h))
-              | inr l ↦ (let n = ended.left (key_at (last_in_span span) p) i (omega (arith, l, w)) in absurd (cc (c, n)))
+              | inr l ↦ (let n = ended.left (key_at (last_stamp span) p) i (omega (arith, l, w)) in absurd (cc (c, n)))
             ])
             (λ e. let m = grown.others span.site e in
             let l = f.end in
             let t = goes_to log span (record { site = f.site; is = f.is; end = omega (arith, l, m) }) in cc (t, h)))
         | inr d ↦ elim d [
           | inl c ↦ not_due c
-          | inr a ↦ others_wait span g (subst (IfIsThere (λ y. IsStillWaiting log mid.keys.alone (key_at (last_in_span span) p) (targets y.body))) found a.waits)
+          | inr a ↦ others_wait span g (subst (IfIsThere (λ y. IsStillWaiting log mid.keys.alone (key_at (last_stamp span) p) (targets y.body))) found a.waits)
         ]
       ]
 

@@ -15,7 +15,7 @@ use Rattle.rt_rga.specs.Answers.{answer_within}
 use Rattle.rt_rga.proofs.Skipping.{split}
 use Rattle.rt_holding.specs.declared.waits.Waits.{Waits as Table}
 use Rattle.rt_holding.specs.Holding.{is_left, is_new, next_of, stays}
-use Rattle.rt_holding.specs.Kept.{Entry, Standing, by_stamp_and_arrival, ops_in, put_in_front}
+use Rattle.rt_holding.specs.Kept.{HeldEntry, Standing, by_stamp_and_arrival, ops_in, put_in_front}
 use Rattle.rt_holding.specs.Waits.{are_all_kept, are_tried_at, is_due, is_place_in, is_tried_at, sleeps}
 use Rattle.rt_holding.proofs.Places.{places_total}
 use Rattle.rt_holding.proofs.Standing.{at_found, each_found, found_all, this_place}
@@ -74,10 +74,10 @@ left_at limit wanting log waits p x i = elim i [
 
 -- WHICH IS NEXT
 
-abbrev LeftEntry : ℕ → List Operation → List Operation → Entry → Type 0
+abbrev LeftEntry : ℕ → List Operation → List Operation → HeldEntry → Type 0
 LeftEntry limit wanting log e = (x : Operation) → e.1 ≡ Some x → is_left limit wanting log x ≡ true
 
-next_behind : (limit : ℕ) (wanting log : List Operation) (front behind : List Entry) → AllByRecursion (LeftEntry limit wanting log) front
+next_behind : (limit : ℕ) (wanting log : List Operation) (front behind : List HeldEntry) → AllByRecursion (LeftEntry limit wanting log) front
     → next_of limit wanting log (ops_in (front ++ behind)) ≡ next_of limit wanting log (ops_in behind)
 next_behind limit wanting log [] behind a = refl
 next_behind limit wanting log (e ∷ front) behind a = one e.1 refl (next_behind limit wanting log front behind a.1)
@@ -87,15 +87,15 @@ next_behind limit wanting log (e ∷ front) behind a = one e.1 refl (next_behind
     one None is i = rw is i
     one (Some op) is i = let l = a.0 op is in rw is (rw l i)
 
-all_weaker : (P Q : Entry → Type 0) → ((e : Entry) → P e → Q e) → (entries : List Entry) → AllByRecursion P entries → AllByRecursion Q entries
+all_weaker : (P Q : HeldEntry → Type 0) → ((e : HeldEntry) → P e → Q e) → (entries : List HeldEntry) → AllByRecursion P entries → AllByRecursion Q entries
 all_weaker P Q f [] a = tt
 all_weaker P Q f (e ∷ entries) a = (f e a.0, all_weaker P Q f entries a.1)
 
-all_both : (P Q R : Entry → Type 0) → ((e : Entry) → P e → Q e → R e) → (entries : List Entry) → AllByRecursion P entries → AllByRecursion Q entries → AllByRecursion R entries
+all_both : (P Q R : HeldEntry → Type 0) → ((e : HeldEntry) → P e → Q e → R e) → (entries : List HeldEntry) → AllByRecursion P entries → AllByRecursion Q entries → AllByRecursion R entries
 all_both P Q R f [] a b = tt
 all_both P Q R f (e ∷ entries) a b = (f e a.0 b.0, all_both P Q R f entries a.1 b.1)
 
-append_none : (entries : List Entry) → entries ++ [] ≡ entries
+append_none : (entries : List HeldEntry) → entries ++ [] ≡ entries
 append_none [] = refl
 append_none (e ∷ entries) = ap (λ l. e ∷ l) (append_none entries)
 
@@ -127,7 +127,7 @@ none_due limit wanting log m waits r f s =
 
 -- ALL WERE TRIED
 
-all_tried : (P : Entry → Bool) (entries : List Entry) → AllByRecursion (λ e. P e ≡ true) entries → list_all P entries ≡ true
+all_tried : (P : HeldEntry → Bool) (entries : List HeldEntry) → AllByRecursion (λ e. P e ≡ true) entries → list_all P entries ≡ true
 all_tried P [] a = refl
 all_tried P (e ∷ entries) a = let h = a.0 in rw h (all_tried P entries a.1)
 
@@ -149,7 +149,7 @@ tried_now limit wanting log m waits r f s =
       ]
     ]
 
-pub tried_in : (limit : ℕ) (log : List Operation) (waits : Table) (entries : List Entry) → are_tried_at limit log waits.keys waits.again.items entries ≡ true
+pub tried_in : (limit : ℕ) (log : List Operation) (waits : Table) (entries : List HeldEntry) → are_tried_at limit log waits.keys waits.again.items entries ≡ true
     → (p : Standing) (x : Operation) → lookup (is_at (by_stamp_and_arrival p)) entries ≡ Some (Some x) → is_tried_at limit log waits.keys waits.again.items (p, Some x) ≡ true
 tried_in limit log waits [] a p x g = absurd (cc g)
 tried_in limit log waits (e ∷ entries) a p x g =
@@ -162,14 +162,14 @@ tried_in limit log waits (e ∷ entries) a p x g =
     (λ t. tried_in limit log waits entries j p x (rw t at g))
 
 -- fewer were tried too
-pub tried_less : (P : Entry → Bool) (t : Standing → Bool) (entries : List Entry) → list_all P entries ≡ true → list_all P (remove_entry t entries) ≡ true
+pub tried_less : (P : HeldEntry → Bool) (t : Standing → Bool) (entries : List HeldEntry) → list_all P entries ≡ true → list_all P (remove_entry t entries) ≡ true
 tried_less P t [] a = refl
 tried_less P t (e ∷ entries) a =
     let (i, j) = both (P e) (list_all P entries) a in
     elim (t e.0) as (λ b. list_all P (cond b entries (e ∷ remove_entry t entries)) ≡ true) [ true ↦ j | false ↦ rw i (tried_less P t entries j) ]
 
 -- one more that was tried is put in
-pub tried_more : (P : Entry → Bool) (entries : List Entry) (p : Standing) (v : Option Operation) → P (p, v) ≡ true → list_all P entries ≡ true → list_all P (insert_entry by_stamp_and_arrival entries p v) ≡ true
+pub tried_more : (P : HeldEntry → Bool) (entries : List HeldEntry) (p : Standing) (v : Option Operation) → P (p, v) ≡ true → list_all P entries ≡ true → list_all P (insert_entry by_stamp_and_arrival entries p v) ≡ true
 tried_more P [] p v h a = rw h refl
 tried_more P (e ∷ entries) p v h a = one (by_stamp_and_arrival p e.0) refl (tried_more P entries p v h (both (P e) (list_all P entries) a).1)
   where

@@ -13,20 +13,20 @@ use Rattle.rt_rga.specs.Orders.{AreIn}
 use Rattle.rt_rga.proofs.Skipping.{split}
 use Rattle.rt_rga.proofs.Accepting.{history_if_new, repeat_is}
 use Rattle.rt_rga.proofs.Room.{new_within}
-use Rattle.rt_holding.specs.Holding.{Holding, Settles, has_no_room, is_early, is_left, is_new, next_held, next_of, no_more_held, put_held, rest, takes, drops, lacks, stays, with_taken, without}
+use Rattle.rt_holding.specs.Holding.{Holding, Settles, has_no_room, is_early, is_left, is_new, next_held, next_of, no_more_held, put_held, rest, takes, drops, lacks, stays, with_taken, without_op}
 use Rattle.rt_holding.proofs.Greatest.{IsOut, is_out}
 
 -- LISTS OF OPERATIONS
 
-pub without_has : (op : Operation) (held : List Operation) (x : Operation) → HasOp (without op held) x → HasOp held x
+pub without_has : (op : Operation) (held : List Operation) (x : Operation) → HasOp (without_op op held) x → HasOp held x
 without_has op [] x h = h
 without_has op (q ∷ held) x h =
-    (elim (not (same_operation q op)) as (λ t. HasOp (cond t (q ∷ without op held) (without op held)) x → HasOp (q ∷ held) x) [
+    (elim (not (same_operation q op)) as (λ t. HasOp (cond t (q ∷ without_op op held) (without_op op held)) x → HasOp (q ∷ held) x) [
       | true ↦ λ k. elim k [ inl e ↦ inl e | inr i ↦ inr (without_has op held x i) ]
       | false ↦ λ k. inr (without_has op held x k)
     ]) h
 
-pub without_or : (op : Operation) (held : List Operation) (x : Operation) → HasOp held x → (op ≡ x) ⊎ HasOp (without op held) x
+pub without_or : (op : Operation) (held : List Operation) (x : Operation) → HasOp held x → (op ≡ x) ⊎ HasOp (without_op op held) x
 without_or op [] x h = absurd h
 without_or op (q ∷ held) x h = split (same_operation q op)
     (λ e. rw e (elim h [ inl i ↦ inl (sym (operation_true q op e) ∙ i) | inr i ↦ without_or op held x i ]))

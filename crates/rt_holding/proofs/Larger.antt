@@ -11,7 +11,7 @@ use Rattle.rt_rga.specs.Orders.{AreIn}
 use Rattle.rt_rga.proofs.Accepting.{not_held}
 use Rattle.rt_rga.proofs.Counts.{length_with}
 use Rattle.rt_rga.proofs.Skipping.{split}
-use Rattle.rt_holding.specs.Holding.{without}
+use Rattle.rt_holding.specs.Holding.{without_op}
 use Rattle.rt_holding.proofs.Keeping.{without_or}
 
 -- how many characters were inserted
@@ -32,13 +32,13 @@ cells_by_total (op ∷ older) h =
     let e = ap (λ (ops : List Operation). length (cells_of ops)) w in
     omega (arith, i, k, e)
 
-total_less : (op : Operation) (log : List Operation) → total (without op log) ≤ total log
+total_less : (op : Operation) (log : List Operation) → total (without_op op log) ≤ total log
 total_less op [] = omega arith
 total_less op (q ∷ log) =
     let i = total_less op log in
-    elim (not (same_operation q op)) as (λ t. total (cond t (q ∷ without op log) (without op log)) ≤ total (q ∷ log)) [ true ↦ omega (arith, i) | false ↦ omega (arith, i) ]
+    elim (not (same_operation q op)) as (λ t. total (cond t (q ∷ without_op op log) (without_op op log)) ≤ total (q ∷ log)) [ true ↦ omega (arith, i) | false ↦ omega (arith, i) ]
 
-total_without : (op : Operation) (log : List Operation) → HasOp log op → total (without op log) + length (inserted op) ≤ total log
+total_without : (op : Operation) (log : List Operation) → HasOp log op → total (without_op op log) + length (inserted op) ≤ total log
 total_without op [] h = absurd h
 total_without op (q ∷ log) h = split (same_operation q op)
     (λ e. let i = total_less op log in
@@ -53,7 +53,7 @@ more_total : (older log : List Operation) → IsHistory older → AreIn older lo
 more_total [] log h sub = omega arith
 more_total (op ∷ older) log h sub =
     let i = total_without op log (sub op (inl refl)) in
-    let j = more_total older (without op log) h.2 (λ x k. elim (without_or op log x (sub x (inr k))) [
+    let j = more_total older (without_op op log) h.2 (λ x k. elim (without_or op log x (sub x (inr k))) [
       | inl e ↦ absurd (let m = held_from older op (subst (HasOp older) (sym e) k) in let n = not_held older op h.1 in cc (m, n))
       | inr m ↦ m
     ]) in

@@ -22,8 +22,8 @@ use Rattle.rt_oplog.proofs.Sets.{operation_refl, operation_sym, operation_true}
 use Rattle.rt_rga.proofs.Skipping.{split}
 use Rattle.std.proofs.lemmas.List.{take-append-drop}
 use Rattle.rt_holding.specs.declared.held.TheConstants.{MOST_HELD}
-use Rattle.rt_holding.specs.Holding.{put_held, without}
-use Rattle.rt_holding.specs.Kept.{AreHeld, Entry, IsHeldAt, IsInPlace, Standing, by_stamp_and_arrival, ops_in, put_in_front}
+use Rattle.rt_holding.specs.Holding.{put_held, without_op}
+use Rattle.rt_holding.specs.Kept.{AreHeld, HeldEntry, IsHeldAt, IsInPlace, Standing, by_stamp_and_arrival, ops_in, put_in_front}
 use Rattle.rt_holding.specs.Runs.{NoneFalls, NoneTwice}
 use Rattle.rt_holding.proofs.Keeping.{has_put, without_has}
 use Rattle.rt_holding.proofs.Sites.{length_put, put_once, put_order, without_none, without_once, without_order}
@@ -53,12 +53,12 @@ places_total = then_total (then_total (on_total (λ (p : Standing). p.0.count) n
 greater : (p q : Standing) → by_stamp_and_arrival q p ≡ Less → by_stamp_and_arrival p q ≡ Greater
 greater p q e = places_total.antisymm p q ∙ ap ordering_reverse e
 
-one_of : (P : Standing → Type 0) (front behind : List Entry) (e : Entry) → AllByRecursion P (keys_of (front ++ e ∷ behind)) → P e.0
+one_of : (P : Standing → Type 0) (front behind : List HeldEntry) (e : HeldEntry) → AllByRecursion P (keys_of (front ++ e ∷ behind)) → P e.0
 one_of P [] behind e a = a.0
 one_of P (x ∷ front) behind e a = one_of P front behind e a.1
 
 -- those in front of an entry have lesser places
-pub all_before : (front behind : List Entry) (e : Entry) → IsStrictlySortedBy by_stamp_and_arrival (keys_of (front ++ e ∷ behind))
+pub all_before : (front behind : List HeldEntry) (e : HeldEntry) → IsStrictlySortedBy by_stamp_and_arrival (keys_of (front ++ e ∷ behind))
     → AllByRecursion (λ x. by_stamp_and_arrival e.0 x.0 ≡ Greater) front
 all_before [] behind e s = tt
 all_before (x ∷ front) behind e s =
@@ -67,7 +67,7 @@ all_before (x ∷ front) behind e s =
 
 -- A PLACE
 
-pub in_append : (front behind : List Entry) (p : Standing) (op : Operation) → ops_in (front ++ (p, Some op) ∷ behind) ≡ ops_in front ++ op ∷ ops_in behind
+pub in_append : (front behind : List HeldEntry) (p : Standing) (op : Operation) → ops_in (front ++ (p, Some op) ∷ behind) ≡ ops_in front ++ op ∷ ops_in behind
 in_append [] behind p op = refl
 in_append (e ∷ front) behind p op =
     elim e.1 as (λ v. put_in_front v (ops_in (front ++ (p, Some op) ∷ behind)) ≡ put_in_front v (ops_in front) ++ op ∷ ops_in behind) [
@@ -75,7 +75,7 @@ in_append (e ∷ front) behind p op =
       | Some q ↦ ap (λ l. q ∷ l) (in_append front behind p op)
     ]
 
-pub in_both : (front behind : List Entry) → ops_in (front ++ behind) ≡ ops_in front ++ ops_in behind
+pub in_both : (front behind : List HeldEntry) → ops_in (front ++ behind) ≡ ops_in front ++ ops_in behind
 in_both [] behind = refl
 in_both (e ∷ front) behind =
     elim e.1 as (λ v. put_in_front v (ops_in (front ++ behind)) ≡ put_in_front v (ops_in front) ++ ops_in behind) [
@@ -83,17 +83,17 @@ in_both (e ∷ front) behind =
       | Some q ↦ ap (λ l. q ∷ l) (in_both front behind)
     ]
 
-pub set_at : (front behind : List Entry) (p : Standing) (v w : Option Operation) → AllByRecursion (λ e. by_stamp_and_arrival p e.0 ≡ Greater) front
+pub set_at : (front behind : List HeldEntry) (p : Standing) (v w : Option Operation) → AllByRecursion (λ e. by_stamp_and_arrival p e.0 ≡ Greater) front
     → insert_entry by_stamp_and_arrival (front ++ (p, v) ∷ behind) p w ≡ front ++ (p, w) ∷ behind
 set_at [] behind p v w a = let e = place_same p in rw e refl
 set_at (x ∷ front) behind p v w a = let e = a.0 in rw e (ap (λ l. x ∷ l) (set_at front behind p v w a.1))
 
-pub out_at : (front behind : List Entry) (p : Standing) (v : Option Operation) → AllByRecursion (λ e. by_stamp_and_arrival p e.0 ≡ Greater) front
+pub out_at : (front behind : List HeldEntry) (p : Standing) (v : Option Operation) → AllByRecursion (λ e. by_stamp_and_arrival p e.0 ≡ Greater) front
     → remove_entry (is_at (by_stamp_and_arrival p)) (front ++ (p, v) ∷ behind) ≡ front ++ behind
 out_at [] behind p v a = let e = place_same p in rw e refl
 out_at (x ∷ front) behind p v a = let e = a.0 in rw e (ap (λ l. x ∷ l) (out_at front behind p v a.1))
 
-pub found_at : (front behind : List Entry) (p : Standing) (v : Option Operation) → AllByRecursion (λ e. by_stamp_and_arrival p e.0 ≡ Greater) front
+pub found_at : (front behind : List HeldEntry) (p : Standing) (v : Option Operation) → AllByRecursion (λ e. by_stamp_and_arrival p e.0 ≡ Greater) front
     → lookup (is_at (by_stamp_and_arrival p)) (front ++ (p, v) ∷ behind) ≡ Some v
 found_at [] behind p v a = let e = place_same p in rw e refl
 found_at (x ∷ front) behind p v a = let e = a.0 in rw e (found_at front behind p v a.1)
@@ -112,13 +112,13 @@ pub same_at : (m : BTreeMap Standing (Option Operation)) (p : Standing) (op q : 
 same_at m p op q i j = let g = get_at m p op i in let h = get_at m p q j in cc
 
 -- at a place that stands no memory is wanting
-pub puts : {A E : Type 0} (r : Result A E) (m : BTreeMap Standing (Option Operation)) (p : Standing) (v : Option Operation) (new old : List Entry)
+pub puts : {A E : Type 0} (r : Result A E) (m : BTreeMap Standing (Option Operation)) (p : Standing) (v : Option Operation) (new old : List HeldEntry)
     → OnOk r (new ≡ old) → OnErr r (get by_stamp_and_arrival m p ≡ None) → get by_stamp_and_arrival m p ≡ Some v → new ≡ old
 puts (Ok x) m p v new old e n g = e
 puts (Err x) m p v new old e n g = cc
 
 -- taken out, and put back
-pub back_at : (entries : List Entry) (p : Standing) (op : Operation) → IsHeldAt p op entries
+pub back_at : (entries : List HeldEntry) (p : Standing) (op : Operation) → IsHeldAt p op entries
     → insert_entry by_stamp_and_arrival (insert_entry by_stamp_and_arrival entries p None) p (Some op) ≡ entries
 back_at entries p op i =
     ap (λ es. insert_entry by_stamp_and_arrival (insert_entry by_stamp_and_arrival es p None) p (Some op)) i.is
@@ -126,7 +126,7 @@ back_at entries p op i =
     ∙ set_at i.front i.behind p None (Some op) i.before
     ∙ sym i.is
 
-pub out_of : (entries : List Entry) (p : Standing) (op : Operation) → IsHeldAt p op entries
+pub out_of : (entries : List HeldEntry) (p : Standing) (op : Operation) → IsHeldAt p op entries
     → remove_entry (is_at (by_stamp_and_arrival p)) (insert_entry by_stamp_and_arrival entries p None) ≡ remove_entry (is_at (by_stamp_and_arrival p)) entries
 out_of entries p op i =
     ap (λ es. remove_entry (is_at (by_stamp_and_arrival p)) (insert_entry by_stamp_and_arrival es p None)) i.is
@@ -136,7 +136,7 @@ out_of entries p op i =
     ∙ ap (remove_entry (is_at (by_stamp_and_arrival p))) (sym i.is)
 
 -- a place that has none still stands
-pub stands : (m : BTreeMap Standing (Option Operation)) (entries : List Entry) (p : Standing) (op : Operation) → IsHeldAt p op entries
+pub stands : (m : BTreeMap Standing (Option Operation)) (entries : List HeldEntry) (p : Standing) (op : Operation) → IsHeldAt p op entries
     → m.entries ≡ insert_entry by_stamp_and_arrival entries p None → get by_stamp_and_arrival m p ≡ Some None
 stands m entries p op i e =
     ap (λ es. lookup (is_at (by_stamp_and_arrival p)) es) (e ∙ ap (λ es. insert_entry by_stamp_and_arrival es p None) i.is ∙ set_at i.front i.behind p (Some op) None i.before)
@@ -151,7 +151,7 @@ fewer (x ∷ xs) ys op y h =
     let a = i.1 in (i.0, grind (arith, h, a))
 
 -- one of a list is the only one that is the same
-taken_out : (xs ys : List Operation) (op : Operation) → NoneTwice (xs ++ op ∷ ys) → without op (xs ++ op ∷ ys) ≡ xs ++ ys
+taken_out : (xs ys : List Operation) (op : Operation) → NoneTwice (xs ++ op ∷ ys) → without_op op (xs ++ op ∷ ys) ≡ xs ++ ys
 taken_out [] ys op o = let e = operation_refl op in rw e (without_none op ys o.0)
 taken_out (x ∷ xs) ys op o =
     let a = (fewer xs ys op x o.0).0 in
@@ -160,7 +160,7 @@ taken_out (x ∷ xs) ys op o =
 
 -- WHAT A MAP KEEPS TO
 
-pub length_in : (n : ℕ) (entries : List Entry) → AllByRecursion (IsInPlace n) entries → length (ops_in entries) ≡ length entries
+pub length_in : (n : ℕ) (entries : List HeldEntry) → AllByRecursion (IsInPlace n) entries → length (ops_in entries) ≡ length entries
 length_in n [] a = refl
 length_in n (e ∷ entries) a =
     (elim e.1 as (λ v. IsSomeAnd v (λ op. e.0.0 ≡ stamp_of op) → length (put_in_front v (ops_in entries)) ≡ suc (length entries)) [
@@ -168,27 +168,27 @@ length_in n (e ∷ entries) a =
       | Some op ↦ λ k. ap suc (length_in n entries a.1)
     ]) a.0.op
 
-before_all : (P : Entry → Type 0) (front behind : List Entry) (e : Entry) → AllByRecursion P (front ++ e ∷ behind) → AllByRecursion P (front ++ behind)
+before_all : (P : HeldEntry → Type 0) (front behind : List HeldEntry) (e : HeldEntry) → AllByRecursion P (front ++ e ∷ behind) → AllByRecursion P (front ++ behind)
 before_all P [] behind e a = a.1
 before_all P (x ∷ front) behind e a = (a.0, before_all P front behind e a.1)
 
-length_out : (front behind : List Entry) (e : Entry) → length (front ++ e ∷ behind) ≡ suc (length (front ++ behind))
+length_out : (front behind : List HeldEntry) (e : HeldEntry) → length (front ++ e ∷ behind) ≡ suc (length (front ++ behind))
 length_out [] behind e = refl
 length_out (x ∷ front) behind e = ap suc (length_out front behind e)
 
 -- an operation is taken out of a map, with its place
-pub record IsTakenOut (arrivals : ℕ) (op : Operation) (entries less : List Entry) : Type 0 where
-  pub ops : ops_in less ≡ without op (ops_in entries)
+pub record IsTakenOut (arrivals : ℕ) (op : Operation) (entries less : List HeldEntry) : Type 0 where
+  pub ops : ops_in less ≡ without_op op (ops_in entries)
   pub held : AreHeld arrivals less
   pub length : suc (length less) ≡ length entries
 
-out_between : (arrivals : ℕ) (p : Standing) (op : Operation) (front behind : List Entry) → AreHeld arrivals (front ++ (p, Some op) ∷ behind)
+out_between : (arrivals : ℕ) (p : Standing) (op : Operation) (front behind : List HeldEntry) → AreHeld arrivals (front ++ (p, Some op) ∷ behind)
     → IsTakenOut arrivals op (front ++ (p, Some op) ∷ behind) (front ++ behind)
 out_between arrivals p op front behind h =
     let all = front ++ (p, Some op) ∷ behind in
     let once : NoneTwice (ops_in front ++ op ∷ ops_in behind) = subst NoneTwice (in_append front behind p op) h.once in
-    let ops : ops_in (front ++ behind) ≡ without op (ops_in all) =
-    in_both front behind ∙ sym (taken_out (ops_in front) (ops_in behind) op once) ∙ ap (without op) (sym (in_append front behind p op)) in
+    let ops : ops_in (front ++ behind) ≡ without_op op (ops_in all) =
+    in_both front behind ∙ sym (taken_out (ops_in front) (ops_in behind) op once) ∙ ap (without_op op) (sym (in_append front behind p op)) in
     let l = length_out front behind (p, Some op) in
     record {
       ops = ops;
@@ -203,7 +203,7 @@ out_between arrivals p op front behind h =
       length = sym l;
     }
 
-pub taken_from : (arrivals : ℕ) (p : Standing) (op : Operation) (entries less : List Entry) → AreHeld arrivals entries → IsHeldAt p op entries
+pub taken_from : (arrivals : ℕ) (p : Standing) (op : Operation) (entries less : List HeldEntry) → AreHeld arrivals entries → IsHeldAt p op entries
     → less ≡ remove_entry (is_at (by_stamp_and_arrival p)) entries → IsTakenOut arrivals op entries less
 taken_from arrivals p op entries less h i e =
     let r = out_between arrivals p op i.front i.behind (subst (AreHeld arrivals) i.is h) in
@@ -219,11 +219,11 @@ in_range : (op : Operation) (n m : ℕ) → m < n
     → range_contains by_stamp_and_arrival (Included (stamp_of op, 0)) (Excluded (stamp_of op, n)) (stamp_of op, m) ≡ true
 in_range op n m l = rw (nat_same op.count, nat_same op.site) (let k = l in grind (arith, nat_tests, k))
 
-abbrev between : ℕ → Operation → List Entry → List Entry
+abbrev between : ℕ → Operation → List HeldEntry → List HeldEntry
 between n op entries = entries_between by_stamp_and_arrival (Included (stamp_of op, 0)) (Excluded (stamp_of op, n)) entries
 
 -- all that are the same as an operation have its stamp
-pub among_stamp : (n : ℕ) (op : Operation) (entries : List Entry) → AllByRecursion (IsInPlace n) entries
+pub among_stamp : (n : ℕ) (op : Operation) (entries : List HeldEntry) → AllByRecursion (IsInPlace n) entries
     → holds (ops_in (entries_between by_stamp_and_arrival (Included (stamp_of op, 0)) (Excluded (stamp_of op, n)) entries)) op ≡ holds (ops_in entries) op
 among_stamp n op [] a = refl
 among_stamp n op (e ∷ entries) a = one (among_stamp n op entries a.1) e.1 e.0 (range_contains by_stamp_and_arrival (Included (stamp_of op, 0)) (Excluded (stamp_of op, n)) e.0) refl a.0.op a.0.came
@@ -240,15 +240,15 @@ among_stamp n op (e ∷ entries) a = one (among_stamp n op entries a.1) e.1 e.0 
         absurd (cc))
         (λ t. rw t i)
 
-pub run_in : (entries es : List Entry) (i n : ℕ) → es ≡ take n (drop i entries) → entries ≡ take i entries ++ (es ++ drop n (drop i entries))
+pub run_in : (entries es : List HeldEntry) (i n : ℕ) → es ≡ take n (drop i entries) → entries ≡ take i entries ++ (es ++ drop n (drop i entries))
 run_in entries es i n e =
     sym (take-append-drop i entries) ∙ ap (λ l. take i entries ++ l) (sym (take-append-drop n (drop i entries)) ∙ ap (λ l. l ++ drop n (drop i entries)) (sym e))
 
 -- the first of those that are left is looked at
-pub looked : (entries front old new behind : List Entry) (e : Entry) → entries ≡ front ++ (old ++ behind) → old ≡ e ∷ new → entries ≡ (front ++ e ∷ []) ++ (new ++ behind)
+pub looked : (entries front old new behind : List HeldEntry) (e : HeldEntry) → entries ≡ front ++ (old ++ behind) → old ≡ e ∷ new → entries ≡ (front ++ e ∷ []) ++ (new ++ behind)
 looked entries front old new behind e i o = i ∙ ap (λ l. front ++ (l ++ behind)) o ∙ sym (append_assoc front (e ∷ []) (new ++ behind))
 
-pub place_found : (entries front old new behind : List Entry) (p : Standing) (v : Option Operation) (q op : Operation) → entries ≡ front ++ (old ++ behind) → old ≡ (p, v) ∷ new
+pub place_found : (entries front old new behind : List HeldEntry) (p : Standing) (v : Option Operation) (q op : Operation) → entries ≡ front ++ (old ++ behind) → old ≡ (p, v) ∷ new
     → v ≡ Some q → same_operation q op ≡ true → IsStrictlySortedBy by_stamp_and_arrival (keys_of entries) → IsHeldAt p op entries
 place_found entries front old new behind p v q op i o w t s =
     let is : entries ≡ front ++ (p, Some op) ∷ (new ++ behind) =
@@ -260,10 +260,10 @@ place_found entries front old new behind p v q op i o w t s =
       before = all_before front (new ++ behind) (p, Some op) (subst (λ x. IsStrictlySortedBy by_stamp_and_arrival (keys_of x)) is s);
     }
 
-pub not_this : (e : Entry) (q op : Operation) (new : List Entry) → e.1 ≡ Some q → same_operation q op ≡ false → holds (ops_in (e ∷ new)) op ≡ holds (ops_in new) op
+pub not_this : (e : HeldEntry) (q op : Operation) (new : List HeldEntry) → e.1 ≡ Some q → same_operation q op ≡ false → holds (ops_in (e ∷ new)) op ≡ holds (ops_in new) op
 not_this e q op new w t = rw w (rw t refl)
 
-pub none_at_place : (e : Entry) (op : Operation) (new : List Entry) → e.1 ≡ None → holds (ops_in (e ∷ new)) op ≡ holds (ops_in new) op
+pub none_at_place : (e : HeldEntry) (op : Operation) (new : List HeldEntry) → e.1 ≡ None → holds (ops_in (e ∷ new)) op ≡ holds (ops_in new) op
 none_at_place e op new w = rw w refl
 
 -- ONE MORE
@@ -271,7 +271,7 @@ none_at_place e op new w = rw w refl
 placed_at : (op q : Operation) (n : ℕ) (p : Standing) → p.0 ≡ stamp_of q → p.1 < n → by_stamp_and_arrival (stamp_of op, n) p ≡ cond (is_before (stamp_of op) (stamp_of q)) Less Greater
 placed_at op q n p k l = subst (λ x. by_stamp_and_arrival (stamp_of op, n) (x, p.1) ≡ cond (is_before (stamp_of op) (stamp_of q)) Less Greater) (sym k) (placed op q n p.1 l)
 
-pub put_in : (n : ℕ) (op : Operation) (entries : List Entry) → AllByRecursion (IsInPlace n) entries
+pub put_in : (n : ℕ) (op : Operation) (entries : List HeldEntry) → AllByRecursion (IsInPlace n) entries
     → ops_in (insert_entry by_stamp_and_arrival entries (stamp_of op, n) (Some op)) ≡ put_held op (ops_in entries)
 put_in n op [] a = refl
 put_in n op (e ∷ entries) a = one (put_in n op entries a.1) e.1 e.0 a.0.op a.0.came
@@ -285,14 +285,14 @@ put_in n op (e ∷ entries) a = one (put_in n op entries a.1) e.1 e.0 a.0.op a.0
         (λ t. let d : by_stamp_and_arrival (stamp_of op, n) p ≡ Less = c ∙ ap (λ b. cond b Less Greater) t in rw (d, t) refl)
         (λ t. let d : by_stamp_and_arrival (stamp_of op, n) p ≡ Greater = c ∙ ap (λ b. cond b Less Greater) t in rw (d, t) (ap (λ r. q ∷ r) i))
 
-later_place : (n m : ℕ) (e : Entry) → n ≤ m → IsInPlace n e → IsInPlace m e
+later_place : (n m : ℕ) (e : HeldEntry) → n ≤ m → IsInPlace n e → IsInPlace m e
 later_place n m e l i = record { op = i.op; came = (let c = i.came in omega (arith, c, l)) }
 
-all_later : (n : ℕ) (entries : List Entry) → AllByRecursion (IsInPlace n) entries → AllByRecursion (IsInPlace (n + 1)) entries
+all_later : (n : ℕ) (entries : List HeldEntry) → AllByRecursion (IsInPlace n) entries → AllByRecursion (IsInPlace (n + 1)) entries
 all_later n [] a = tt
 all_later n (e ∷ entries) a = (later_place n (n + 1) e (omega arith) a.0, all_later n entries a.1)
 
-put_places : (n : ℕ) (op : Operation) (entries : List Entry) → AllByRecursion (IsInPlace n) entries
+put_places : (n : ℕ) (op : Operation) (entries : List HeldEntry) → AllByRecursion (IsInPlace n) entries
     → AllByRecursion (IsInPlace (n + 1)) (insert_entry by_stamp_and_arrival entries (stamp_of op, n) (Some op))
 put_places n op [] a = (record { op = refl; came = omega arith }, tt)
 put_places n op (e ∷ entries) a = one (put_places n op entries a.1) e.1 e.0 a.0.op a.0.came
@@ -308,13 +308,13 @@ put_places n op (e ∷ entries) a = one (put_places n op entries a.1) e.1 e.0 a.
         (λ t. let d : by_stamp_and_arrival (stamp_of op, n) p ≡ Less = c ∙ ap (λ b. cond b Less Greater) t in rw d (new, (first, all_later n entries a.1)))
         (λ t. let d : by_stamp_and_arrival (stamp_of op, n) p ≡ Greater = c ∙ ap (λ b. cond b Less Greater) t in rw d (first, i))
 
-length_put_in : (n : ℕ) (op : Operation) (entries : List Entry) → AllByRecursion (IsInPlace n) entries
+length_put_in : (n : ℕ) (op : Operation) (entries : List HeldEntry) → AllByRecursion (IsInPlace n) entries
     → length (insert_entry by_stamp_and_arrival entries (stamp_of op, n) (Some op)) ≡ suc (length entries)
 length_put_in n op entries a =
     sym (length_in (n + 1) (insert_entry by_stamp_and_arrival entries (stamp_of op, n) (Some op)) (put_places n op entries a))
     ∙ ap length (put_in n op entries a) ∙ length_put op (ops_in entries) ∙ ap suc (length_in n entries a)
 
-pub put_held_in : (n : ℕ) (op : Operation) (entries new : List Entry) → AreHeld n entries → holds (ops_in entries) op ≡ false → length entries < MOST_HELD → keeps_rules op.body ≡ true → has_bad_stamp op ≡ false
+pub put_held_in : (n : ℕ) (op : Operation) (entries new : List HeldEntry) → AreHeld n entries → holds (ops_in entries) op ≡ false → length entries < MOST_HELD → keeps_rules op.body ≡ true → has_bad_stamp op ≡ false
     → new ≡ insert_entry by_stamp_and_arrival entries (stamp_of op, n) (Some op) → AreHeld (n + 1) new
 put_held_in n op entries new h f l r b e =
     let ops = put_in n op entries h.places in
@@ -328,11 +328,11 @@ put_held_in n op entries new h f l r b e =
     })
 
 -- one that may be held is held no more
-pub record IsForgotten (arrivals : ℕ) (op : Operation) (entries less : List Entry) : Type 0 where
-  pub ops : ops_in less ≡ without op (ops_in entries)
+pub record IsForgotten (arrivals : ℕ) (op : Operation) (entries less : List HeldEntry) : Type 0 where
+  pub ops : ops_in less ≡ without_op op (ops_in entries)
   pub held : AreHeld arrivals less
 
-pub forgotten : (arrivals : ℕ) (op : Operation) (place : Option Standing) (entries less : List Entry) → AreHeld arrivals entries
+pub forgotten : (arrivals : ℕ) (op : Operation) (place : Option Standing) (entries less : List HeldEntry) → AreHeld arrivals entries
     → IfSome place (λ p. IsHeldAt p op entries) → IfNone place (holds (ops_in entries) op ≡ false)
     → IfSome place (λ p. less ≡ remove_entry (is_at (by_stamp_and_arrival p)) entries) → IfNone place (less ≡ entries) → IsForgotten arrivals op entries less
 forgotten arrivals op None entries less h i n e f = record {
@@ -342,7 +342,7 @@ forgotten arrivals op None entries less h i n e f = record {
 forgotten arrivals op (Some p) entries less h i n e f = let r = taken_from arrivals p op entries less h i e in record { ops = r.ops; held = r.held }
 
 -- a place is found exactly where one is held
-pub found_if : (entries : List Entry) (op : Operation) (place : Option Standing) → IfSome place (λ p. IsHeldAt p op entries) → IfNone place (holds (ops_in entries) op ≡ false)
+pub found_if : (entries : List HeldEntry) (op : Operation) (place : Option Standing) → IfSome place (λ p. IsHeldAt p op entries) → IfNone place (holds (ops_in entries) op ≡ false)
     → is_some place ≡ holds (ops_in entries) op
 found_if entries op None i n = sym n
 found_if entries op (Some p) i n = sym (ap (λ es. holds (ops_in es) op) i.is ∙ ap (λ l. holds l op) (in_append i.front i.behind p op) ∙ there (ops_in i.front))

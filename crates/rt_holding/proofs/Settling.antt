@@ -14,21 +14,21 @@ use Rattle.rt_rga.proofs.Accepting.{continues_if_new, history_if_new}
 use Rattle.rt_rga.proofs.Counts.{length_with}
 use Rattle.rt_rga.proofs.Merging.{cells_with}
 use Rattle.rt_rga.proofs.Room.{full_exactly, new_within, taken_within}
-use Rattle.rt_holding.specs.Holding.{Holding, Settles, after_answer, all_tried, has_no_room, is_early, is_new, next_held, next_of, no_more_held, rest, takes, drops, lacks, settled, stays, taken_then, tried, with_taken, without}
+use Rattle.rt_holding.specs.Holding.{Holding, Settles, after_answer, all_tried, has_no_room, is_early, is_new, next_held, next_of, no_more_held, rest, takes, drops, lacks, settled, stays, taken_then, tried, with_taken, without_op}
 use Rattle.rt_holding.specs.Memory.{FoundMemory}
 use Rattle.rt_holding.specs.Runs.{AreTakenInTurn}
 use Rattle.rt_holding.proofs.Keeping.{is_new_true, left_not, next_is}
 
 -- EACH TRY LEAVES FEWER
 
-pub without_le : (op : Operation) (held : List Operation) → length (without op held) ≤ length held
+pub without_le : (op : Operation) (held : List Operation) → length (without_op op held) ≤ length held
 without_le op [] = omega arith
-without_le op (q ∷ held) = elim (not (same_operation q op)) as (λ t. length (cond t (q ∷ without op held) (without op held)) ≤ suc (length held)) [
+without_le op (q ∷ held) = elim (not (same_operation q op)) as (λ t. length (cond t (q ∷ without_op op held) (without_op op held)) ≤ suc (length held)) [
   | true ↦ omega (arith, without_le op held)
   | false ↦ omega (arith, without_le op held)
 ]
 
-pub without_lt : (op : Operation) (held : List Operation) → HasOp held op → length (without op held) < length held
+pub without_lt : (op : Operation) (held : List Operation) → HasOp held op → length (without_op op held) < length held
 without_lt op [] h = absurd h
 without_lt op (q ∷ held) h = split (same_operation q op)
     (λ e. rw e (omega (arith, without_le op held)))

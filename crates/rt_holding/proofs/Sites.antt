@@ -13,15 +13,15 @@ use Rattle.rt_rga.specs.Answers.{Answer, New, Repeat, Refused, answer_within}
 use Rattle.rt_rga.specs.Cells.{cells_of}
 use Rattle.rt_rga.specs.Drafts.{with_drafts}
 use Rattle.rt_rga.specs.Histories.{IsHistory}
-use Rattle.rt_rga.specs.Requests.{MayBeAsked, Make, Offer, Request, fit}
+use Rattle.rt_rga.specs.Requests.{MayBeAsked, Make, Offer, ReplicaRequest, fit}
 use Rattle.rt_rga.proofs.Skipping.{split}
 use Rattle.rt_rga.proofs.Orders.{rules_in}
 use Rattle.rt_rga.proofs.Room.{taken_within}
 use Rattle.rt_holding.specs.Replies.{Reply}
 use Rattle.rt_holding.specs.Replies as replies
 use Rattle.rt_holding.specs.declared.held.TheConstants.{MOST_HELD}
-use Rattle.rt_holding.specs.Holding.{Holding, Settles, after_answer, has_no_room, hold, is_early, is_full, is_new, no_more_held, put_held, reply_for, reply_to, rest, takes, drops, lacks, stays, waits, with_taken, without}
-use Rattle.rt_holding.specs.Runs.{IsHolding, Leads, NoneFalls, NoneTwice, at_first}
+use Rattle.rt_holding.specs.Holding.{Holding, Settles, after_answer, has_no_room, hold, is_early, is_full, is_new, no_more_held, put_held, reply_for, reply_to, rest, takes, drops, lacks, stays, waits, with_taken, without_op}
+use Rattle.rt_holding.specs.Runs.{IsHolding, Leads, NoneFalls, NoneTwice, before_tries}
 use Rattle.rt_holding.proofs.Keeping.{AccountsFor, dropped_is, dropped_kept, is_new_true, kept_but, left_not, next_is, taken_kept}
 use Rattle.rt_holding.proofs.Arriving.{Bringing, Keeps, first_kept, leads_keeps}
 use Rattle.rt_holding.proofs.Settling.{without_le}
@@ -34,18 +34,18 @@ record IsNeat (limit : ℕ) (s : Holding) : Type 0 where
   once : NoneTwice s.held
   order : NoneFalls s.held
 
-not_there : (op x : Operation) (held : List Operation) → holds held x ≡ false → holds (without op held) x ≡ false
+not_there : (op x : Operation) (held : List Operation) → holds held x ≡ false → holds (without_op op held) x ≡ false
 not_there op x [] h = refl
 not_there op x (q ∷ held) h =
     let i = not_there op x held (grind (arith, h)) in
-    (elim (not (same_operation q op)) as (λ t. holds (cond t (q ∷ without op held) (without op held)) x ≡ false) [
+    (elim (not (same_operation q op)) as (λ t. holds (cond t (q ∷ without_op op held) (without_op op held)) x ≡ false) [
       | true ↦ grind (arith, h, i)
       | false ↦ i
     ])
 
-pub without_once : (op : Operation) (held : List Operation) → NoneTwice held → NoneTwice (without op held)
+pub without_once : (op : Operation) (held : List Operation) → NoneTwice held → NoneTwice (without_op op held)
 without_once op [] o = tt
-without_once op (q ∷ held) o = elim (not (same_operation q op)) as (λ t. NoneTwice (cond t (q ∷ without op held) (without op held))) [
+without_once op (q ∷ held) o = elim (not (same_operation q op)) as (λ t. NoneTwice (cond t (q ∷ without_op op held) (without_op op held))) [
   | true ↦ (not_there op q held o.0, without_once op held o.1)
   | false ↦ without_once op held o.1
 ]
@@ -84,16 +84,16 @@ pub none_before : (p q : Operation) (held : List Operation) → is_before (stamp
 none_before p q [] e a = tt
 none_before p q (r ∷ held) e a = let i = a.0 in (grind (arith, nat_tests), none_before p q held e a.1)
 
-pub without_all : (P : Operation → Type 0) (op : Operation) (held : List Operation) → AllByRecursion P held → AllByRecursion P (without op held)
+pub without_all : (P : Operation → Type 0) (op : Operation) (held : List Operation) → AllByRecursion P held → AllByRecursion P (without_op op held)
 without_all P op [] a = tt
-without_all P op (q ∷ held) a = elim (not (same_operation q op)) as (λ t. AllByRecursion P (cond t (q ∷ without op held) (without op held))) [
+without_all P op (q ∷ held) a = elim (not (same_operation q op)) as (λ t. AllByRecursion P (cond t (q ∷ without_op op held) (without_op op held))) [
   | true ↦ (a.0, without_all P op held a.1)
   | false ↦ without_all P op held a.1
 ]
 
-pub without_order : (op : Operation) (held : List Operation) → NoneFalls held → NoneFalls (without op held)
+pub without_order : (op : Operation) (held : List Operation) → NoneFalls held → NoneFalls (without_op op held)
 without_order op [] o = tt
-without_order op (q ∷ held) o = elim (not (same_operation q op)) as (λ t. NoneFalls (cond t (q ∷ without op held) (without op held))) [
+without_order op (q ∷ held) o = elim (not (same_operation q op)) as (λ t. NoneFalls (cond t (q ∷ without_op op held) (without_op op held))) [
   | true ↦ (without_all (λ later. is_before (stamp_of later) (stamp_of q) ≡ false) op held o.0, without_order op held o.1)
   | false ↦ without_order op held o.1
 ]
@@ -177,16 +177,16 @@ neat_drafts site limit drafts s n = split (fit site limit drafts s.log)
     within true l e = grind (arith, nat_tests, e)
     within false l e = absurd (cc e)
 
-first_neat : (site limit : ℕ) (request : Request) (s : Holding) → IsHistory s.log → MayBeAsked site s.log request → IsNeat limit s → IsNeat limit (at_first site limit request s)
+first_neat : (site limit : ℕ) (request : ReplicaRequest) (s : Holding) → IsHistory s.log → MayBeAsked site s.log request → IsNeat limit s → IsNeat limit (before_tries site limit request s)
 first_neat site limit (Offer op) s h m n = neat_offer limit (answer_within limit op s.log) op s (λ e. neat_taken limit op s h m e n) n
 first_neat site limit (Make drafts) s h m n = neat_drafts site limit drafts s n
 
-leads_neat : (site limit : ℕ) (request : Request) (came : Operation → Type 0) (s t : Holding) (more : List Operation) → 0 < site → MayBeAsked site s.log request
+leads_neat : (site limit : ℕ) (request : ReplicaRequest) (came : Operation → Type 0) (s t : Holding) (more : List Operation) → 0 < site → MayBeAsked site s.log request
     → Leads site limit request s t more → AccountsFor came s → IsNeat limit s → IsNeat limit t
 leads_neat site limit request came s t more p m l k n =
     let f = first_neat site limit request s k.history m n in
     elim l [
-      | inl a ↦ settles_neat limit (Bringing came site limit request s) [] (at_first site limit request s) t more a.1 (first_kept site limit request came s p m k) f
+      | inl a ↦ settles_neat limit (Bringing came site limit request s) [] (before_tries site limit request s) t more a.1 (first_kept site limit request came s p m k) f
       | inr a ↦ subst (IsNeat limit) (sym a.1) f
     ]
 
@@ -207,7 +207,7 @@ holding_keeps limit s h = record {
   late = h.waiting;
 }
 
-pub requests_keep : (site limit : ℕ) (request : Request) (s t : Holding) (more : List Operation) → 0 < site → IsHolding limit s → MayBeAsked site s.log request
+pub requests_keep : (site limit : ℕ) (request : ReplicaRequest) (s t : Holding) (more : List Operation) → 0 < site → IsHolding limit s → MayBeAsked site s.log request
     → Leads site limit request s t more → IsHolding limit t
 requests_keep site limit request s t more p h m l =
     let k = holding_keeps limit s h in
@@ -225,7 +225,7 @@ requests_keep site limit request s t more p h m l =
 
 -- WHAT CHANGES NOTHING
 
-pub without_none : (op : Operation) (held : List Operation) → holds held op ≡ false → without op held ≡ held
+pub without_none : (op : Operation) (held : List Operation) → holds held op ≡ false → without_op op held ≡ held
 without_none op [] h = refl
 without_none op (q ∷ held) h =
     let e : same_operation q op ≡ false = grind (arith, h) in

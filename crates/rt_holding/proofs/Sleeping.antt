@@ -13,6 +13,7 @@ use Rattle.rt_rga.specs.Answers.{Answer, New, Repeat, Refused, answer_to, answer
 use Rattle.rt_rga.specs.Cells.{cells_of}
 use Rattle.rt_rga.specs.Histories.{IsHistory, inserted}
 use Rattle.rt_rga.proofs.Skipping.{split}
+use Rattle.rt_store.specs.Spans.{first_in_span, last_stamp}
 use Rattle.rt_holding.specs.declared.waits.Key.{Key}
 use Rattle.rt_holding.specs.declared.waits.Keys.{Keys}
 use Rattle.rt_holding.specs.Grown.{HasGrownBy}
@@ -20,7 +21,7 @@ use Rattle.rt_holding.specs.Holding.{is_early, is_new, stays}
 use Rattle.rt_holding.specs.Kept.{Standing}
 use Rattle.rt_rga.specs.Kept.{goes_past}
 use Rattle.rt_holding.specs.Waiting.{WaitsAt, awaited_by, came_in, has_new_gap, is_passed, targets}
-use Rattle.rt_holding.specs.Waits.{IsMore, IsNotedMore, are_all_kept, first_in_span, has_begun, has_key, is_noted, is_waited_for, key_at, last_in_span, sleeps}
+use Rattle.rt_holding.specs.Waits.{IsMore, IsNotedMore, are_all_kept, has_begun, has_key, is_noted, is_waited_for, key_at, sleeps}
 use Rattle.rt_holding.specs.Waking.{HasComeIn, IsSpanAmong, IsSeenTo, stamp_of_key}
 use Rattle.rt_holding.proofs.Going.{both, left_if_stays, or_left}
 use Rattle.rt_holding.proofs.Larger.{no_fewer_cells}
@@ -96,7 +97,7 @@ module _ (keys new : Keys) (older log : List Operation) (k : Key) (x : Operation
         no_new_gap older log span (ap (has_gap log) came ∙ seen.came.whole),
         waited_to new log k.place span (λ on. let m = (goes_from log span on).end in
             let n = seen.next (omega (arith, m, last, known)) in
-            let at : last_in_span span ≡ stamp seen.span.last k.site = cc (site, last) in
+            let at : last_stamp span ≡ stamp seen.span.last k.site = cc (site, last) in
             inl (
               begun_to log span (omega (arith, count, known, passed)),
               ap (has_key new.begun k.place) at ∙ n.0,

@@ -16,7 +16,7 @@ use Rattle.std.specs.declared.cmp.Ordering.TheVariants.{Equal, Greater, Less}
 use Rattle.rt_ops.specs.Operations.{Operation}
 use Rattle.rt_rga.proofs.Skipping.{split}
 use Rattle.rt_holding.specs.declared.waits.Key.{Key}
-use Rattle.rt_holding.specs.Kept.{Entry, IsHeldAt, IsInPlace, Standing, by_stamp_and_arrival}
+use Rattle.rt_holding.specs.Kept.{HeldEntry, IsHeldAt, IsInPlace, Standing, by_stamp_and_arrival}
 use Rattle.rt_holding.specs.Waits.{IsSetAt, by_key}
 use Rattle.rt_holding.proofs.Places.{all_before, found_at, place_same, places_total}
 
@@ -115,7 +115,7 @@ set_twice old mid new p v w a b q = b q ∙ split (is_at (by_stamp_and_arrival p
     (λ t. ap (λ c. cond c w (get by_stamp_and_arrival mid q)) t ∙ a q ∙ ap (λ c. cond c v (get by_stamp_and_arrival old q)) t ∙ sym (ap (λ c. cond c w (get by_stamp_and_arrival old q)) t))
 
 -- none came so late
-pub none_so_late : (n : ℕ) (entries : List Entry) → AllByRecursion (IsInPlace n) entries → (p : Standing) → p.1 ≡ n → lookup (is_at (by_stamp_and_arrival p)) entries ≡ None
+pub none_so_late : (n : ℕ) (entries : List HeldEntry) → AllByRecursion (IsInPlace n) entries → (p : Standing) → p.1 ≡ n → lookup (is_at (by_stamp_and_arrival p)) entries ≡ None
 none_so_late n [] a p e = refl
 none_so_late n (x ∷ entries) a p e = split (is_at (by_stamp_and_arrival p) x.0)
     (λ t. absurd (let s = ap (λ (q : Standing). q.1) (this_place p x.0 t) in let l = a.0.came in omega (arith, s, l, e)))
@@ -129,7 +129,7 @@ there_before ops less q p v s g = split (is_at (by_stamp_and_arrival q) p)
     (λ t. let n : get by_stamp_and_arrival less p ≡ get by_stamp_and_arrival ops p = s p ∙ (rw t refl) in (t, sym n ∙ g))
 
 -- where each stands is where it is found
-pub found_all : (all done front rest : List Entry) → all ≡ done ++ (front ++ rest) → IsStrictlySortedBy by_stamp_and_arrival (keys_of all)
+pub found_all : (all done front rest : List HeldEntry) → all ≡ done ++ (front ++ rest) → IsStrictlySortedBy by_stamp_and_arrival (keys_of all)
     → AllByRecursion (λ e. lookup (is_at (by_stamp_and_arrival e.0)) all ≡ Some e.1) front
 found_all all done [] rest i s = tt
 found_all all done (e ∷ front) rest i s =
@@ -138,20 +138,20 @@ found_all all done (e ∷ front) rest i s =
       found_all all (done ++ e ∷ []) front rest (i ∙ sym (append_assoc done (e ∷ []) (front ++ rest))) s,
     )
 
-append_none : (entries : List Entry) → entries ++ [] ≡ entries
+append_none : (entries : List HeldEntry) → entries ++ [] ≡ entries
 append_none [] = refl
 append_none (e ∷ entries) = ap (λ l. e ∷ l) (append_none entries)
 
-pub each_found : (all : List Entry) → IsStrictlySortedBy by_stamp_and_arrival (keys_of all) → AllByRecursion (λ e. lookup (is_at (by_stamp_and_arrival e.0)) all ≡ Some e.1) all
+pub each_found : (all : List HeldEntry) → IsStrictlySortedBy by_stamp_and_arrival (keys_of all) → AllByRecursion (λ e. lookup (is_at (by_stamp_and_arrival e.0)) all ≡ Some e.1) all
 each_found all s = found_all all [] all [] (sym (append_none all)) s
 
 -- where a place is found
-record IsFound (entries : List Entry) (p : Standing) (v : Option Operation) : Type 0 where
-  front : List Entry
-  behind : List Entry
+record IsFound (entries : List HeldEntry) (p : Standing) (v : Option Operation) : Type 0 where
+  front : List HeldEntry
+  behind : List HeldEntry
   is : entries ≡ front ++ (p, v) ∷ behind
 
-found_in : (entries : List Entry) (p : Standing) (v : Option Operation) → lookup (is_at (by_stamp_and_arrival p)) entries ≡ Some v → IsFound entries p v
+found_in : (entries : List HeldEntry) (p : Standing) (v : Option Operation) → lookup (is_at (by_stamp_and_arrival p)) entries ≡ Some v → IsFound entries p v
 found_in [] p v e = absurd (cc e)
 found_in (x ∷ entries) p v e = split (is_at (by_stamp_and_arrival p) x.0)
     (λ t. let f : Some x.1 ≡ Some v = rw t at e in
@@ -163,7 +163,7 @@ found_in (x ∷ entries) p v e = split (is_at (by_stamp_and_arrival p) x.0)
     record { front = x ∷ i.front; behind = i.behind; is = ap (λ l. x ∷ l) i.is })
 
 -- an operation that is found at a place stands there
-pub at_found : (entries : List Entry) (p : Standing) (op : Operation) → IsStrictlySortedBy by_stamp_and_arrival (keys_of entries) → lookup (is_at (by_stamp_and_arrival p)) entries ≡ Some (Some op) → IsHeldAt p op entries
+pub at_found : (entries : List HeldEntry) (p : Standing) (op : Operation) → IsStrictlySortedBy by_stamp_and_arrival (keys_of entries) → lookup (is_at (by_stamp_and_arrival p)) entries ≡ Some (Some op) → IsHeldAt p op entries
 at_found entries p op s g =
     let f = found_in entries p (Some op) g in
     record { front = f.front; behind = f.behind; is = f.is; before = all_before f.front f.behind (p, Some op) (subst (λ x. IsStrictlySortedBy by_stamp_and_arrival (keys_of x)) f.is s) }

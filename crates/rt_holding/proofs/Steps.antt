@@ -21,7 +21,7 @@ use Rattle.rt_holding.specs.declared.waits.Keys.{Keys}
 use Rattle.rt_holding.specs.declared.waits.Waits.{Waits as Table}
 use Rattle.rt_holding.specs.Grown.{HasGrownBy}
 use Rattle.rt_holding.specs.Holding.{Holding, is_left, is_new, stays}
-use Rattle.rt_holding.specs.Kept.{AreHeld, Entry, IsHeldAt, IsNewAt, Standing, by_stamp_and_arrival, ops_in, after_try_of}
+use Rattle.rt_holding.specs.Kept.{AreHeld, HeldEntry, IsHeldAt, IsNewAt, Standing, by_stamp_and_arrival, ops_in, after_try_of}
 use Rattle.rt_holding.specs.Taken.{AreTried, site_holding}
 use Rattle.rt_holding.specs.Waits.{IfIsThere, IsFirstDue, IsSetAt, KeepsOtherPlaces, are_all_kept, are_tried_at, is_due, is_place_in, key_at, after_try_there, sleeps}
 use Rattle.rt_holding.specs.Waking.{IsWoken}
@@ -53,7 +53,7 @@ each_keeps arrivals m h s p x f = h.rules x (at_has p x m.entries (at_found m.en
     in_middle [] behind x = inl refl
     in_middle (y ∷ front) behind x = inr (in_middle front behind x)
 
-    at_has : (p : Standing) (x : Operation) (entries : List Entry) → IsHeldAt p x entries → HasOp (ops_in entries) x
+    at_has : (p : Standing) (x : Operation) (entries : List HeldEntry) → IsHeldAt p x entries → HasOp (ops_in entries) x
     at_has p x entries i = subst (λ ops. HasOp ops x) (sym (ap ops_in i.is ∙ in_append i.front i.behind p x)) (in_middle (ops_in i.front) (ops_in i.behind) x)
 
 -- a log grows by one operation

@@ -3,7 +3,7 @@ use Rattle.std.proofs.Common.{◌≡◌, ℕ, ◌+◌, true, false, refl, sym, a
 use Rattle.rt_ops.specs.Operations.{Operation}
 use Rattle.rt_oplog.specs.Logs.{with_operation}
 use Rattle.rt_rga.specs.Answers.{New, answer_within}
-use Rattle.rt_holding.specs.Holding.{Holding, Settles, is_new, next_of, rest, takes, drops, lacks, with_taken, without}
+use Rattle.rt_holding.specs.Holding.{Holding, Settles, is_new, next_of, rest, takes, drops, lacks, with_taken, without_op}
 use Rattle.rt_holding.specs.Taken.{AreTried, all_after, site_holding}
 
 -- ONE AFTER THE OTHER
@@ -33,7 +33,7 @@ module _ {Site : Type 0} (log : Site → List Operation) (after : Operation → 
 
   pub one_taken : (limit : ℕ) (wanting : List Operation) (state : Holding) (then_site now new : Site) (left less : List Operation) (count : ℕ) (op : Operation)
       → IsSettling limit wanting state then_site now left count → next_of limit wanting (log now) left ≡ Some op → answer_within limit op (log now) ≡ New
-      → new ≡ after op now → log new ≡ with_operation op (log now) → less ≡ without op left → IsSettling limit wanting state then_site new less (count + 1)
+      → new ≡ after op now → log new ≡ with_operation op (log now) → less ≡ without_op op left → IsSettling limit wanting state then_site new less (count + 1)
   one_taken limit wanting state then_site now new left less count op k e n a l w = record {
     done = k.done ++ op ∷ [];
     goes_past = λ t more s.
@@ -43,13 +43,13 @@ module _ {Site : Type 0} (log : Site → List Operation) (after : Operation → 
     counted = length_one k.done op ∙ ap (λ m. m + 1) k.counted;
   }
     where
-      same : (site : Site) (held : List Operation) → log site ≡ with_operation op (log now) → held ≡ without op left
+      same : (site : Site) (held : List Operation) → log site ≡ with_operation op (log now) → held ≡ without_op op left
           → site_holding log site held ≡ with_taken op (site_holding log now left)
       same site held l w = cc
 
   pub one_dropped : (limit : ℕ) (wanting : List Operation) (state : Holding) (then_site now : Site) (left less : List Operation) (count : ℕ) (op : Operation)
       → IsSettling limit wanting state then_site now left count → next_of limit wanting (log now) left ≡ Some op → is_new (answer_within limit op (log now)) ≡ false
-      → less ≡ without op left → IsSettling limit wanting state then_site now less count
+      → less ≡ without_op op left → IsSettling limit wanting state then_site now less count
   one_dropped limit wanting state then_site now left less count op k e n w = record {
     done = k.done;
     goes_past = λ t more s. k.goes_past t more (drops e n (subst (λ held. Settles limit wanting (site_holding log now held) t more) w s));
@@ -76,7 +76,7 @@ module _ {Site : Type 0} (log : Site → List Operation) (after : Operation → 
 
   -- after one that was offered
   pub taken_state : (limit most : ℕ) (op : Operation) (old now : Site) (held less : List Operation) (new : Site) (left : List Operation) (count : ℕ) → most ≡ limit → now ≡ after op old
-      → log now ≡ with_operation op (log old) → less ≡ without op held → AreTried log after most (site_holding log now less) now new left count
+      → log now ≡ with_operation op (log old) → less ≡ without_op op held → AreTried log after most (site_holding log now less) now new left count
       → AreTried log after limit (with_taken op (site_holding log old held)) (after op old) new left count
   taken_state limit most op old now held less new left count e a l w t =
       let same : site_holding log now less ≡ with_taken op (site_holding log old held) = cc in

@@ -11,13 +11,14 @@ use Rattle.rt_oplog.specs.Logs.{known_end}
 use Rattle.rt_rga.specs.Answers.{answer_to, answer_within, has_gap, passes_end}
 use Rattle.rt_rga.specs.Orders.{AreIn}
 use Rattle.rt_rga.proofs.Skipping.{split}
+use Rattle.rt_store.specs.Spans.{first_in_span, last_stamp}
 use Rattle.rt_holding.specs.declared.waits.Key.{Key}
 use Rattle.rt_holding.specs.declared.waits.Keys.{Keys}
 use Rattle.rt_holding.specs.Holding.{is_early, stays}
 use Rattle.rt_holding.specs.Kept.{Standing}
 use Rattle.rt_rga.specs.Kept.{goes_past}
 use Rattle.rt_holding.specs.Waiting.{WaitsAt, awaited_by, came_in, has_new_gap, targets}
-use Rattle.rt_holding.specs.Waits.{HasLess, HasMore, IsNotedMore, are_all_kept, first_in_span, has_begun, has_key, is_keyed, is_noted, is_waited_for, key_at, last_in_span}
+use Rattle.rt_holding.specs.Waits.{HasLess, HasMore, IsNotedMore, are_all_kept, has_begun, has_key, is_keyed, is_noted, is_waited_for, key_at}
 use Rattle.rt_holding.specs.Waking.{IsSpanAmong}
 use Rattle.rt_holding.proofs.Going.{both}
 use Rattle.rt_holding.proofs.Waiting.{end_stays}
@@ -28,12 +29,12 @@ use Rattle.rt_holding.proofs.Named.{each_of, of_each}
 -- one that has begun, at its last stamp; another at its first
 abbrev pub IsWaitedFor : Keys → List Operation → Standing → Span → Type 0
 IsWaitedFor keys log p span =
-    ((has_begun log span ≡ true) × (has_key keys.begun p (last_in_span span) ≡ true) × (is_noted keys.ends span.site (known_end log span.site) ≡ true))
+    ((has_begun log span ≡ true) × (has_key keys.begun p (last_stamp span) ≡ true) × (is_noted keys.ends span.site (known_end log span.site) ≡ true))
     ⊎ ((has_begun log span ≡ false) × (has_key keys.alone p (first_in_span span) ≡ true))
 
 pub waited_from : (keys : Keys) (log : List Operation) (p : Standing) (span : Span) → is_waited_for keys log p span ≡ true → goes_past log span ≡ true → IsWaitedFor keys log p span
 waited_from keys log p span w g =
-    tests (goes_past log span) (has_begun log span) (has_key keys.begun p (last_in_span span)) (has_key keys.alone p (first_in_span span)) (is_noted keys.ends span.site (known_end log span.site)) w g
+    tests (goes_past log span) (has_begun log span) (has_key keys.begun p (last_stamp span)) (has_key keys.alone p (first_in_span span)) (is_noted keys.ends span.site (known_end log span.site)) w g
   where
     tests : (g b kb ka n : Bool) → (not g || (cond b kb ka && (not b || n))) ≡ true → g ≡ true → ((b ≡ true) × (kb ≡ true) × (n ≡ true)) ⊎ ((b ≡ false) × (ka ≡ true))
     tests false b kb ka n w g = absurd (cc g)
@@ -45,7 +46,7 @@ waited_from keys log p span w g =
 
 pub waited_to : (keys : Keys) (log : List Operation) (p : Standing) (span : Span) → (goes_past log span ≡ true → IsWaitedFor keys log p span) → is_waited_for keys log p span ≡ true
 waited_to keys log p span f =
-    tests (goes_past log span) (has_begun log span) (has_key keys.begun p (last_in_span span)) (has_key keys.alone p (first_in_span span)) (is_noted keys.ends span.site (known_end log span.site)) f
+    tests (goes_past log span) (has_begun log span) (has_key keys.begun p (last_stamp span)) (has_key keys.alone p (first_in_span span)) (is_noted keys.ends span.site (known_end log span.site)) f
   where
     tests : (g b kb ka n : Bool) → (g ≡ true → ((b ≡ true) × (kb ≡ true) × (n ≡ true)) ⊎ ((b ≡ false) × (ka ≡ true))) → (not g || (cond b kb ka && (not b || n))) ≡ true
     tests false b kb ka n f = refl
@@ -59,7 +60,7 @@ pub waited_more : (keys new : Keys) (log : List Operation) (p : Standing) (span 
     → (goes_past log span ≡ true → has_begun log span ≡ false → has_key keys.alone p (first_in_span span) ≡ true → has_key new.alone p (first_in_span span) ≡ true)
     → ((s : Stamp) → has_key keys.begun p s ≡ true → has_key new.begun p s ≡ true) → IsNotedMore keys.ends new.ends → is_waited_for keys log p span ≡ true → is_waited_for new log p span ≡ true
 waited_more keys new log p span alone begun ends w = waited_to new log p span (λ g. elim (waited_from keys log p span w g) [
-  | inl i ↦ (let (b, k, n) = i in inl (b, begun (last_in_span span) k, ends span.site (known_end log span.site) n))
+  | inl i ↦ (let (b, k, n) = i in inl (b, begun (last_stamp span) k, ends span.site (known_end log span.site) n))
   | inr i ↦ inr (i.0, alone g i.0 i.1)
 ])
 
@@ -77,7 +78,7 @@ keyed_less keys new log p span l n = split (goes_past log span && is_keyed new l
   where
     back : is_keyed new log p span ≡ true → is_keyed keys log p span ≡ true
     back k = split (has_begun log span)
-        (λ e. let m : has_key new.begun p (last_in_span span) ≡ true = rw e at k in let j = l.begun (key_at (last_in_span span) p) m in rw e j)
+        (λ e. let m : has_key new.begun p (last_stamp span) ≡ true = rw e at k in let j = l.begun (key_at (last_stamp span) p) m in rw e j)
         (λ e. let m : has_key new.alone p (first_in_span span) ≡ true = rw e at k in let j = l.alone (key_at (first_in_span span) p) m in rw e j)
 
 -- where more is kept for a place

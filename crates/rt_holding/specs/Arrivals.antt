@@ -4,7 +4,7 @@ use Rattle.std.specs.Prelude.{◌≡◌, ℕ, List, [], ◌∷◌, ◌++◌, len
 use Rattle.rt_stamps.specs.Stamps.{is_before}
 use Rattle.rt_ops.specs.Operations.{Operation, stamp_of}
 use Rattle.rt_oplog.specs.Logs.{holds}
-use Rattle.rt_holding.specs.Holding.{is_left, next_of, put_held, without}
+use Rattle.rt_holding.specs.Holding.{is_left, next_of, put_held, without_op}
 
 -- of an operation and one that came after it: the lesser stamp, and the first where they are equal
 abbrev pub earlier : Operation → Option Operation → Option Operation
@@ -30,7 +30,7 @@ by_stamp (op ∷ arrived) = put_first op (by_stamp arrived)
 -- Whatever is done to the list in order of arrival is done to the list by rising stamp: one is sought, taken out, put last.
 pub record ComesToTheSame (arrived : List Operation) : Type 0 where
   pub next : (limit : ℕ) (wanting log : List Operation) → next_of limit wanting log (by_stamp arrived) ≡ next_arrived limit wanting log arrived
-  pub without : (op : Operation) → by_stamp (without op arrived) ≡ without op (by_stamp arrived)
+  pub without : (op : Operation) → by_stamp (without_op op arrived) ≡ without_op op (by_stamp arrived)
   pub last : (op : Operation) → by_stamp (arrived ++ op ∷ []) ≡ put_held op (by_stamp arrived)
   pub holds : (op : Operation) → holds (by_stamp arrived) op ≡ holds arrived op
   pub length : length (by_stamp arrived) ≡ length arrived

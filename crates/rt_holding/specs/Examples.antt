@@ -13,11 +13,11 @@ use Rattle.rt_rga.specs.Requests.{Offer}
 use Rattle.rt_rga.specs.Examples.{at}
 use Rattle.rt_holding.specs.Holding.{Holding, new_holding, reply_to}
 use Rattle.rt_holding.specs.Replies.{Reply}
-use Rattle.rt_holding.specs.Runs.{after_request, after_requests}
+use Rattle.rt_holding.specs.Runs.{holding_after_request, holding_after_requests}
 
 -- site 3, with room for a hundred cells
 abbrev pub after_offers : List Operation → Holding
-after_offers ops = after_requests 3 100 (map Offer ops) new_holding
+after_offers ops = holding_after_requests 3 100 (map Offer ops) new_holding
 
 abbrev pub text_in : Holding → List ℕ
 text_in s = text_of (cells_of s.log)
@@ -25,7 +25,7 @@ text_in s = text_of (cells_of s.log)
 -- the replies to each, one after the other
 abbrev pub replies_from : Holding → List Operation → List Reply
 replies_from s [] = []
-replies_from s (op ∷ ops) = reply_to 100 op s ∷ replies_from (after_request 3 100 (Offer op) s) ops
+replies_from s (op ∷ ops) = reply_to 100 op s ∷ replies_from (holding_after_request 3 100 (Offer op) s) ops
 
 -- `Z` in the place of `Y`, under the same stamp
 abbrev pub insert_other : Operation

@@ -5,12 +5,12 @@ use Rattle.rt_oplog.specs.Logs.{known_end}
 use Rattle.rt_rga.specs.Histories.{IsHistory}
 use Rattle.rt_rga.specs.Orders.{AreIn}
 use Rattle.rt_holding.specs.declared.waits.Keys.{Keys}
-use Rattle.rt_holding.specs.Kept.{Entry, Standing}
+use Rattle.rt_holding.specs.Kept.{HeldEntry, Standing}
 use Rattle.rt_holding.specs.Waits.{are_tried_at}
 
 -- how they are kept, by which code finds those that may be tried
 pub record Table : Type 0 where
-  pub entries : List Entry
+  pub entries : List HeldEntry
   pub keys : Keys
   pub again : List Standing
 

@@ -62,14 +62,14 @@ reply_to limit op s = reply_for (answer_within limit op s.log) op s.held
 
 -- WHAT AN OFFER MAKES OF A STATE
 
-abbrev pub without : Operation → List Operation → List Operation
-without op held = filter (λ q. not (same_operation q op)) held
+abbrev pub without_op : Operation → List Operation → List Operation
+without_op op held = filter (λ q. not (same_operation q op)) held
 
 abbrev pub with_taken : Operation → Holding → Holding
-with_taken op s = record { log = with_operation op s.log; held = without op s.held }
+with_taken op s = record { log = with_operation op s.log; held = without_op op s.held }
 
 abbrev pub no_more_held : Operation → Holding → Holding
-no_more_held op s = record { log = s.log; held = without op s.held }
+no_more_held op s = record { log = s.log; held = without_op op s.held }
 
 -- a held one stands before all with greater stamps, and behind all others
 abbrev pub put_held : Operation → List Operation → List Operation

@@ -24,24 +24,24 @@ abbrev pub by_stamp_and_arrival : Standing → Standing → Ordering
 by_stamp_and_arrival a b = ordering_then (ordering_then (nat_cmp a.0.count b.0.count) (nat_cmp a.0.site b.0.site)) (nat_cmp a.1 b.1)
 
 -- at a place an operation; or none, while it is being tried
-abbrev pub Entry : Type 0
-Entry = Standing × Option Operation
+abbrev pub HeldEntry : Type 0
+HeldEntry = Standing × Option Operation
 
 abbrev pub put_in_front : Option Operation → List Operation → List Operation
 put_in_front None ops = ops
 put_in_front (Some op) ops = op ∷ ops
 
-abbrev pub ops_in : List Entry → List Operation
+abbrev pub ops_in : List HeldEntry → List Operation
 ops_in [] = []
 ops_in (e ∷ entries) = put_in_front e.1 (ops_in entries)
 
 -- an operation at the place of its stamp, and of an arrival below a number
-pub record IsInPlace (arrivals : ℕ) (e : Entry) : Type 0 where
+pub record IsInPlace (arrivals : ℕ) (e : HeldEntry) : Type 0 where
   pub op : IsSomeAnd e.1 (λ op. e.0.0 ≡ stamp_of op)
   pub came : e.0.1 < arrivals
 
 -- what a map of held operations keeps to
-pub record AreHeld (arrivals : ℕ) (entries : List Entry) : Type 0 where
+pub record AreHeld (arrivals : ℕ) (entries : List HeldEntry) : Type 0 where
   pub places : AllByRecursion (IsInPlace arrivals) entries
   pub few : length entries ≤ MOST_HELD
   pub once : NoneTwice (ops_in entries)
@@ -50,9 +50,9 @@ pub record AreHeld (arrivals : ℕ) (entries : List Entry) : Type 0 where
   pub sound : (op : Operation) → HasOp (ops_in entries) op → has_bad_stamp op ≡ false
 
 -- an operation stands at a place, behind those of lesser places
-pub record IsHeldAt (place : Standing) (op : Operation) (entries : List Entry) : Type 0 where
-  pub front : List Entry
-  pub behind : List Entry
+pub record IsHeldAt (place : Standing) (op : Operation) (entries : List HeldEntry) : Type 0 where
+  pub front : List HeldEntry
+  pub behind : List HeldEntry
   pub is : entries ≡ front ++ (place, Some op) ∷ behind
   pub before : AllByRecursion (λ e. by_stamp_and_arrival place e.0 ≡ Greater) front
 
@@ -64,7 +64,7 @@ after_try_of lacks answer =
     else Dropped
 
 -- at a place stands one that is new
-pub record IsNewAt (limit : ℕ) (log : List Operation) (entries : List Entry) (place : Standing) : Type 0 where
+pub record IsNewAt (limit : ℕ) (log : List Operation) (entries : List HeldEntry) (place : Standing) : Type 0 where
   pub op : Operation
   pub there : IsHeldAt place op entries
   pub new : answer_within limit op log ≡ New

@@ -9,23 +9,23 @@ use Rattle.rt_stamps.specs.declared.fault.Fault.{Fault}
 use Rattle.rt_stamps.specs.declared.fault.Fault.TheVariants.{TextFull}
 use Rattle.rt_rga.specs.Cells.{cells_of}
 use Rattle.rt_rga.specs.Histories.{IsHistory}
-use Rattle.rt_rga.specs.Requests.{MayBeAsked, Offer, Request}
+use Rattle.rt_rga.specs.Requests.{MayBeAsked, Offer, ReplicaRequest}
 use Rattle.rt_holding.specs.Replies as replies
 use Rattle.rt_holding.specs.Holding.{Holding, Settles, has_no_room, next_held, new_holding, reply_to, settled, taken_then}
-use Rattle.rt_holding.specs.Runs.{AllMayBeAsked, AllStay, AreFree, AreTakenInTurn, IsGreatestHistoryWithin, IsHolding, Leads, NoneCouldBeTaken, Runs, after_requests, brought}
+use Rattle.rt_holding.specs.Runs.{HoldingMayBeAsked, AllStay, AreFree, AreTakenInTurn, IsGreatestHistoryWithin, IsHolding, Leads, NoneCouldBeTaken, Runs, holding_after_requests, brought}
 
 -- In whatever order operations come, and whichever tries found no memory: if no two clash, and in the end none is held that
 -- could be taken, the greatest history within them is accepted.
 abbrev pub GreatestIsAccepted : Type 0
 GreatestIsAccepted =
-    (site limit : ℕ) (requests : List Request) (ops : List Operation) (end : Holding) → 0 < site
+    (site limit : ℕ) (requests : List ReplicaRequest) (ops : List Operation) (end : Holding) → 0 < site
     → Runs site limit requests new_holding end ops → AreFree ops → NoneCouldBeTaken limit end
     → IsGreatestHistoryWithin ops end.log
 
 -- Two sites to which the same operations came.
-abbrev pub SitesAgree : Type 0
-SitesAgree =
-    (site other limit most : ℕ) (requests asked : List Request) (ops more : List Operation) (one two : Holding) → 0 < site → 0 < other
+abbrev pub HoldingSitesAgree : Type 0
+HoldingSitesAgree =
+    (site other limit most : ℕ) (requests asked : List ReplicaRequest) (ops more : List Operation) (one two : Holding) → 0 < site → 0 < other
     → Runs site limit requests new_holding one ops → Runs other most asked new_holding two more → AreOf ops more → AreFree ops
     → NoneCouldBeTaken limit one → NoneCouldBeTaken most two
     → cells_of one.log ≡ cells_of two.log
@@ -33,7 +33,7 @@ SitesAgree =
 -- If the operations are those of a history, it is accepted, and none stays held.
 abbrev pub HistoriesAreAccepted : Type 0
 HistoriesAreAccepted =
-    (site limit : ℕ) (requests : List Request) (ops set : List Operation) (end : Holding) → 0 < site
+    (site limit : ℕ) (requests : List ReplicaRequest) (ops set : List Operation) (end : Holding) → 0 < site
     → Runs site limit requests new_holding end ops → IsHistory set → AreOf ops set → NoneCouldBeTaken limit end
     → (end.log ≡ set) × (end.held ≡ [])
 
@@ -42,7 +42,7 @@ HistoriesAreAccepted =
 -- Whatever is asked, a site keeps to what it keeps to.
 abbrev pub RequestsKeep : Type 0
 RequestsKeep =
-    (site limit : ℕ) (request : Request) (s t : Holding) (more : List Operation) → 0 < site → IsHolding limit s → MayBeAsked site s.log request
+    (site limit : ℕ) (request : ReplicaRequest) (s t : Holding) (more : List Operation) → 0 < site → IsHolding limit s → MayBeAsked site s.log request
     → Leads site limit request s t more → IsHolding limit t
 
 -- What is refused, or there already, changes nothing: also of those that are held.
@@ -88,19 +88,19 @@ FullStays =
 -- Where each try finds memory, requests lead so, and in the end none is held that could be taken.
 abbrev pub AmpleRuns : Type 0
 AmpleRuns =
-    (site limit : ℕ) (requests : List Request) (s : Holding) → AllMayBeAsked site limit requests s
-    → Runs site limit requests s (after_requests site limit requests s) (brought site limit requests s)
+    (site limit : ℕ) (requests : List ReplicaRequest) (s : Holding) → HoldingMayBeAsked site limit requests s
+    → Runs site limit requests s (holding_after_requests site limit requests s) (brought site limit requests s)
 
 abbrev pub AmpleStay : Type 0
-AmpleStay = (site limit : ℕ) (requests : List Request) (s : Holding) → AllStay limit s → AllStay limit (after_requests site limit requests s)
+AmpleStay = (site limit : ℕ) (requests : List ReplicaRequest) (s : Holding) → AllStay limit s → AllStay limit (holding_after_requests site limit requests s)
 
 -- If then none finds no room, the greatest history is accepted.
 abbrev pub AmpleIsGreatest : Type 0
 AmpleIsGreatest =
-    (site limit : ℕ) (requests : List Request) → 0 < site → AllMayBeAsked site limit requests new_holding → AreFree (brought site limit requests new_holding)
-    → ((op : Operation) → HasOp (after_requests site limit requests new_holding).held op
-    → has_no_room (answer_within limit op (after_requests site limit requests new_holding).log) ≡ false)
-    → IsGreatestHistoryWithin (brought site limit requests new_holding) (after_requests site limit requests new_holding).log
+    (site limit : ℕ) (requests : List ReplicaRequest) → 0 < site → HoldingMayBeAsked site limit requests new_holding → AreFree (brought site limit requests new_holding)
+    → ((op : Operation) → HasOp (holding_after_requests site limit requests new_holding).held op
+    → has_no_room (answer_within limit op (holding_after_requests site limit requests new_holding).log) ≡ false)
+    → IsGreatestHistoryWithin (brought site limit requests new_holding) (holding_after_requests site limit requests new_holding).log
 
 -- Where nothing is held, nothing is tried.
 abbrev pub NothingIsTried : Type 0

@@ -11,7 +11,7 @@ use Rattle.rt_rga.specs.Cells.{cells_of}
 use Rattle.rt_rga.specs.Drafts.{operations_of, with_drafts}
 use Rattle.rt_rga.specs.Histories.{IsHistory}
 use Rattle.rt_rga.specs.Orders.{AreIn}
-use Rattle.rt_rga.specs.Requests.{MayBeAsked, Make, Offer, Request, fit}
+use Rattle.rt_rga.specs.Requests.{MayBeAsked, Make, Offer, ReplicaRequest, fit}
 use Rattle.rt_holding.specs.declared.held.TheConstants.{MOST_HELD}
 use Rattle.rt_holding.specs.Holding.{Holding, Settles, after_answer, has_no_room, is_new, reply_to, settled, stays, waits}
 use Rattle.rt_holding.specs.Replies.{Reply}
@@ -20,28 +20,28 @@ use Rattle.rt_holding.specs.Replies as replies
 -- ONE REQUEST
 
 -- a request accepts operations: the one that is offered, where it is answered New, or drafts that fit (also none)
-abbrev pub accepts : ℕ → ℕ → Request → Holding → Bool
+abbrev pub accepts : ℕ → ℕ → ReplicaRequest → Holding → Bool
 accepts site limit (Offer op) s = is_new (answer_within limit op s.log)
 accepts site limit (Make drafts) s = fit site limit drafts s.log
 
 -- the state before held operations are tried
-abbrev pub at_first : ℕ → ℕ → Request → Holding → Holding
-at_first site limit (Offer op) s = after_answer (answer_within limit op s.log) op s
-at_first site limit (Make drafts) s = if fit site limit drafts s.log then record { log = with_drafts site drafts s.log; held = s.held } else s
+abbrev pub before_tries : ℕ → ℕ → ReplicaRequest → Holding → Holding
+before_tries site limit (Offer op) s = after_answer (answer_within limit op s.log) op s
+before_tries site limit (Make drafts) s = if fit site limit drafts s.log then record { log = with_drafts site drafts s.log; held = s.held } else s
 
 -- with ample memory
-abbrev pub after_request : ℕ → ℕ → Request → Holding → Holding
-after_request site limit request s = if accepts site limit request s then settled limit (at_first site limit request s) else at_first site limit request s
+abbrev pub holding_after_request : ℕ → ℕ → ReplicaRequest → Holding → Holding
+holding_after_request site limit request s = if accepts site limit request s then settled limit (before_tries site limit request s) else before_tries site limit request s
 
-abbrev pub after_requests : ℕ → ℕ → List Request → Holding → Holding
-after_requests site limit [] s = s
-after_requests site limit (request ∷ requests) s = after_requests site limit requests (after_request site limit request s)
+abbrev pub holding_after_requests : ℕ → ℕ → List ReplicaRequest → Holding → Holding
+holding_after_requests site limit [] s = s
+holding_after_requests site limit (request ∷ requests) s = holding_after_requests site limit requests (holding_after_request site limit request s)
 
 -- Where tries may find no memory: one state leads to another, in which some held ones are taken.
-abbrev pub Leads : ℕ → ℕ → Request → Holding → Holding → List Operation → Type 0
+abbrev pub Leads : ℕ → ℕ → ReplicaRequest → Holding → Holding → List Operation → Type 0
 Leads site limit request s t more =
-    ((accepts site limit request s ≡ true) × Settles limit [] (at_first site limit request s) t more)
-    ⊎ ((accepts site limit request s ≡ false) × (t ≡ at_first site limit request s) × (more ≡ []))
+    ((accepts site limit request s ≡ true) × Settles limit [] (before_tries site limit request s) t more)
+    ⊎ ((accepts site limit request s ≡ false) × (t ≡ before_tries site limit request s) × (more ≡ []))
 
 -- WHAT REQUESTS BRING
 
@@ -55,15 +55,15 @@ finds_no_room (replies.Refused WaitingFull) = true
 finds_no_room (replies.Refused _) = false
 
 -- the operations that a request brings: the offered one, unless it is refused for want of room; those that are made
-abbrev pub brought_by : ℕ → ℕ → Request → Holding → List Operation
+abbrev pub brought_by : ℕ → ℕ → ReplicaRequest → Holding → List Operation
 brought_by site limit (Offer op) s = if finds_no_room (reply_to limit op s) then [] else op ∷ []
 brought_by site limit (Make drafts) s = if fit site limit drafts s.log then operations_of site drafts s.log else []
 
 -- Requests lead from one state to another, and bring operations. One that was refused for want of memory is as one that
 -- wasn't made.
-pub data Runs (site limit : ℕ) : List Request → Holding → Holding → List Operation → Type 0 where
+pub data Runs (site limit : ℕ) : List ReplicaRequest → Holding → Holding → List Operation → Type 0 where
   none : {s : Holding} → Runs site limit [] s s []
-  next : {request : Request} {requests : List Request} {s t u : Holding} {ops : List Operation} (more : List Operation)
+  next : {request : ReplicaRequest} {requests : List ReplicaRequest} {s t u : Holding} {ops : List Operation} (more : List Operation)
       → MayBeAsked site s.log request → Leads site limit request s t more → Runs site limit requests t u ops
       → Runs site limit (request ∷ requests) s u (brought_by site limit request s ++ ops)
 
@@ -116,13 +116,13 @@ AreTakenInTurn limit log (op ∷ ops) = (answer_within limit op log ≡ New) × 
 -- WITH AMPLE MEMORY
 
 -- what requests bring, one after the other
-abbrev pub brought : ℕ → ℕ → List Request → Holding → List Operation
+abbrev pub brought : ℕ → ℕ → List ReplicaRequest → Holding → List Operation
 brought site limit [] s = []
-brought site limit (request ∷ requests) s = brought_by site limit request s ++ brought site limit requests (after_request site limit request s)
+brought site limit (request ∷ requests) s = brought_by site limit request s ++ brought site limit requests (holding_after_request site limit request s)
 
-abbrev pub AllMayBeAsked : ℕ → ℕ → List Request → Holding → Type 0
-AllMayBeAsked site limit [] s = Unit {0}
-AllMayBeAsked site limit (request ∷ requests) s = MayBeAsked site s.log request × AllMayBeAsked site limit requests (after_request site limit request s)
+abbrev pub HoldingMayBeAsked : ℕ → ℕ → List ReplicaRequest → Holding → Type 0
+HoldingMayBeAsked site limit [] s = Unit {0}
+HoldingMayBeAsked site limit (request ∷ requests) s = MayBeAsked site s.log request × HoldingMayBeAsked site limit requests (holding_after_request site limit request s)
 
 -- each held one comes too early or finds no room
 abbrev pub AllStay : ℕ → Holding → Type 0

@@ -15,13 +15,14 @@ use Rattle.rt_ops.specs.Operations.{Operation}
 use Rattle.rt_oplog.specs.Logs.{known_end}
 use Rattle.rt_rga.specs.Answers.{answer_within}
 use Rattle.rt_rga.specs.Kept.{goes_past}
+use Rattle.rt_store.specs.Spans.{first_in_span, last_stamp}
 use Rattle.rt_holding.specs.declared.waits.Key.{Key}
 use Rattle.rt_holding.specs.declared.waits.Keys.{Keys}
 use Rattle.rt_holding.specs.declared.waits.Waits.{Waits}
 use Rattle.rt_holding.specs.declared.trying.AfterTry.{AfterTry}
 use Rattle.rt_holding.specs.declared.trying.AfterTry.TheVariants.{Absent}
 use Rattle.rt_holding.specs.Holding.{stays}
-use Rattle.rt_holding.specs.Kept.{Entry, Standing, by_stamp_and_arrival, after_try_of}
+use Rattle.rt_holding.specs.Kept.{HeldEntry, Standing, by_stamp_and_arrival, after_try_of}
 use Rattle.rt_holding.specs.Waiting.{targets}
 
 -- keys in order: by site, then by count, then by where the operations stand
@@ -38,12 +39,6 @@ key_at stamp place = record { site = stamp.site; count = stamp.count; place = pl
 abbrev pub has_key : BTreeSet Key → Standing → Stamp → Bool
 has_key keys place stamp = contains by_key keys (key_at stamp place)
 
-abbrev pub first_in_span : Span → Stamp
-first_in_span span = record { count = span.first; site = span.site }
-
-abbrev pub last_in_span : Span → Stamp
-last_in_span span = record { count = span.last; site = span.site }
-
 -- Of a site it is noted up to where it was looked through: no further than up to a count. What comes behind that is still to be
 -- looked through.
 abbrev pub is_noted : BTreeMap ℕ ℕ → ℕ → ℕ → Bool
@@ -56,7 +51,7 @@ has_begun log span = nat_le span.first (known_end log span.site)
 -- the key of a span is kept: of one that has begun at its last stamp, of another at its first
 abbrev pub is_keyed : Keys → List Operation → Standing → Span → Bool
 is_keyed keys log place span =
-    if has_begun log span then has_key keys.begun place (last_in_span span) else has_key keys.alone place (first_in_span span)
+    if has_begun log span then has_key keys.begun place (last_stamp span) else has_key keys.alone place (first_in_span span)
 
 -- A span that goes past its site's known end is waited for. Once it has begun, a gap in what comes is looked for.
 abbrev pub is_waited_for : Keys → List Operation → Standing → Span → Bool
@@ -194,10 +189,10 @@ abbrev pub sleeps : ℕ → Keys → List Operation → Standing → Operation �
 sleeps limit keys log place op = stays (answer_within limit op log) && are_all_kept keys log place op
 
 -- it sleeps, or is looked at again
-abbrev pub is_tried_at : ℕ → List Operation → Keys → List Standing → Entry → Bool
+abbrev pub is_tried_at : ℕ → List Operation → Keys → List Standing → HeldEntry → Bool
 is_tried_at limit log keys again (place, None) = true
 is_tried_at limit log keys again (place, Some op) = is_place_in place again || sleeps limit keys log place op
 
 -- all were last tried at a log, within a limit
-abbrev pub are_tried_at : ℕ → List Operation → Keys → List Standing → List Entry → Bool
+abbrev pub are_tried_at : ℕ → List Operation → Keys → List Standing → List HeldEntry → Bool
 are_tried_at limit log keys again entries = list_all (is_tried_at limit log keys again) entries

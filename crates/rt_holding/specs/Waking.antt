@@ -13,6 +13,7 @@ use Rattle.rt_ops.specs.Operations.{Operation}
 use Rattle.rt_ops.specs.Rules.{keeps_rules}
 use Rattle.rt_oplog.specs.Logs.{known_end}
 use Rattle.rt_rga.specs.Answers.{has_gap}
+use Rattle.rt_store.specs.Spans.{first_in_span}
 use Rattle.rt_holding.specs.declared.waits.Key.{Key}
 use Rattle.rt_holding.specs.declared.waits.Keys.{Keys}
 use Rattle.rt_holding.specs.declared.waits.Waits.{Waits}
@@ -22,7 +23,7 @@ use Rattle.rt_holding.specs.Grown.{HasGrownBy}
 use Rattle.rt_holding.specs.Kept.{Standing, by_stamp_and_arrival}
 use Rattle.rt_rga.specs.Kept.{goes_past}
 use Rattle.rt_holding.specs.Waiting.{came_behind, targets}
-use Rattle.rt_holding.specs.Waits.{IfIsThere, LeavesNone, by_key, first_in_span, has_key, is_due, is_place_in, is_noted, sleeps}
+use Rattle.rt_holding.specs.Waits.{IfIsThere, LeavesNone, by_key, has_key, is_due, is_place_in, is_noted, sleeps}
 
 -- a span is one of others
 abbrev pub IsSpanAmong : List Span → Span → Type 0

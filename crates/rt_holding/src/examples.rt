@@ -5,7 +5,7 @@ ghost use Rattle.rt_rga.specs.Requests.{Make, Offer};
 ghost use Rattle.rt_rga.specs.Examples.{delete_b, insert_ab, insert_q, insert_tagged_ab, insert_xx, insert_y, insert_z, tag_off_by_1, tag_off_by_2, tag_off_by_2_later, tag_on_by_1};
 ghost use Rattle.rt_holding.specs.Holding.{new_holding, reply_to};
 ghost use Rattle.rt_holding.specs.Replies as replies;
-ghost use Rattle.rt_holding.specs.Runs.{after_requests};
+ghost use Rattle.rt_holding.specs.Runs.{holding_after_requests};
 ghost use Rattle.rt_holding.specs.Examples.{after_offers, gives_tags, gives_text, insert_other, inserts, own_later, replies_from, text_in};
 
 /// An insertion that comes before the text that it goes into is held, and taken after that. Of two under one
@@ -33,9 +33,9 @@ pub fn every_order()
 /// A held one that finds no room stays held, and is refused for that when it is offered again. One of the site's own number is
 /// taken in its place, and dropped when the site's own operations have gone past that.
 pub fn corners()
-    ensures full { (after_requests 3 3 (Offer insert_y ∷ Offer insert_ab ∷ []) new_holding).held ≡ insert_y ∷ [] }
-    ensures full_again { reply_to 3 insert_y (after_requests 3 3 (Offer insert_y ∷ Offer insert_ab ∷ []) new_holding) ≡ replies.Refused TextFull }
-    ensures own_taken { text_in (after_requests 1 100 (Offer own_later ∷ Make (inserts (codes "abc")) ∷ []) new_holding) ≡ codes "xabc\n" }
-    ensures own_dropped { (after_requests 1 100 (Offer own_later ∷ Make (inserts (codes "abcd")) ∷ []) new_holding).held ≡ [] }
-    ensures own_passed { text_in (after_requests 1 100 (Offer own_later ∷ Make (inserts (codes "abcd")) ∷ []) new_holding) ≡ codes "abcd\n" }
+    ensures full { (holding_after_requests 3 3 (Offer insert_y ∷ Offer insert_ab ∷ []) new_holding).held ≡ insert_y ∷ [] }
+    ensures full_again { reply_to 3 insert_y (holding_after_requests 3 3 (Offer insert_y ∷ Offer insert_ab ∷ []) new_holding) ≡ replies.Refused TextFull }
+    ensures own_taken { text_in (holding_after_requests 1 100 (Offer own_later ∷ Make (inserts (codes "abc")) ∷ []) new_holding) ≡ codes "xabc\n" }
+    ensures own_dropped { (holding_after_requests 1 100 (Offer own_later ∷ Make (inserts (codes "abcd")) ∷ []) new_holding).held ≡ [] }
+    ensures own_passed { text_in (holding_after_requests 1 100 (Offer own_later ∷ Make (inserts (codes "abcd")) ∷ []) new_holding) ≡ codes "abcd\n" }
 {}

@@ -5,14 +5,14 @@ ghost use Rattle.rt_holding.specs.Arrivals.{ComesToTheSame, by_stamp};
 ghost use Rattle.rt_holding.specs.Memory.{FilesFindMemory, FilesGoOneWay, OffersFindMemory, SettledFindsMemory, SettlesAlone};
 ghost use Rattle.rt_holding.specs.Runs.{NoneFalls};
 ghost use Rattle.rt_holding.specs.Waiting.{LeftOnesStay, LooksAreEnough, UnpassedStay};
-ghost use Rattle.rt_holding.specs.Laws.{AmpleIsGreatest, AmpleRuns, AmpleStay, CellsChangeInTurn, FullStays, GreatestIsAccepted, HistoriesAreAccepted, NothingIsTried, RefusedChangesNothing, RepeatChangesNothing, RequestsKeep, SettledLeavesNone, SettledSettles, SitesAgree, TakenInTurn};
+ghost use Rattle.rt_holding.specs.Laws.{AmpleIsGreatest, AmpleRuns, AmpleStay, CellsChangeInTurn, FullStays, GreatestIsAccepted, HistoriesAreAccepted, NothingIsTried, RefusedChangesNothing, RepeatChangesNothing, RequestsKeep, SettledLeavesNone, SettledSettles, HoldingSitesAgree, TakenInTurn};
 
 /// In whatever order operations come, if no two clash and in the end none is held that could be taken, the greatest
 /// history within them is accepted. So two sites to which the same came have equal cells, and of a history nothing
 /// stays held.
 pub fn orders()
     ensures greatest { GreatestIsAccepted }
-    ensures agree { SitesAgree }
+    ensures agree { HoldingSitesAgree }
     ensures history { HistoriesAreAccepted }
 {}
 

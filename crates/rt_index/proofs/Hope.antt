@@ -18,7 +18,7 @@ use Rattle.rt_index.specs.declared.parts.Tag.{Tag}
 use Rattle.rt_index.specs.declared.parts.Base.{Base}
 use Rattle.rt_index.specs.declared.parts.Base.TheVariants.{AtPlace, Named}
 use Rattle.rt_index.specs.Index.{fixed_place, may_end, side_text, moved_from, index_of, word_index, IsNeverIndex, MayBeIndex}
-use Rattle.rt_index.specs.Expression.{kept_modifier, kept_fixed, tag_after, longest_named, named_after, listed_place, marked_place, base_index, is_always_mark, is_possible, AreNames, IsParsed}
+use Rattle.rt_index.specs.Expression.{kept_modifier, kept_fixed, tag_after, longest_named, named_after, listed_place, marked_place, base_index, is_always_mark, is_possible, NamesAreWhole, IsParsed}
 use Rattle.rt_index.specs.Reading.{is_separator, token_length, fixed_of, modifiers_of}
 use Rattle.rt_index.specs.Widget.{IndexedWidget, TagEnds, IsProper, IsName}
 use Rattle.rt_index.proofs.Places.{split}
@@ -106,7 +106,7 @@ name_boundary word tag n s =
     let dot = end_byte word tag n tag.name_len s (omega arith) low ∙ ap (λ k. get_or (side_text tag.side) k 0) z ∙ begins_with_dot tag.side in
     IsCharBoundary-before_ascii word tag.name_len (omega (arith, s.within)) (omega (arith, dot))
 
-are_names : (word : List ℕ) (fits : Bool) (tag : Option Tag) → longest_named word (length word) ≡ tag → AreNames word (Named (token_length word) fits tag)
+are_names : (word : List ℕ) (fits : Bool) (tag : Option Tag) → longest_named word (length word) ≡ tag → NamesAreWhole word (Named (token_length word) fits tag)
 are_names word fits None t = token_boundary word
 are_names word fits (Some tag) t =
     (token_boundary word, name_boundary word tag (tag_after tag) (found_at word (length word) tag (omega arith) t).0)

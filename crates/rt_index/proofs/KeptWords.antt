@@ -7,7 +7,7 @@ use Rattle.std.proofs.lemmas.List.{drop-drop, drop-take, get_or-drop, length-dro
 use Rattle.std.proofs.lemmas.List.Elements.{All-append, All-drop, All-replicate, All-set, All-take}
 use Rattle.std.proofs.lemmas.List.Sums.{prefix_len-le-length, prefix_len_passes}
 use Rattle.rt_index.specs.Characters.{is_word_character}
-use Rattle.rt_index.specs.declared.words.Word.{Word}
+use Rattle.rt_index.specs.declared.words.WordPlaces.{WordPlaces}
 use Rattle.rt_index.specs.Values.{word_start, word_end}
 use Rattle.rt_index.specs.KeptWords.{AreWords, IsWord}
 use Rattle.rt_index.proofs.Places.{split}
@@ -162,13 +162,13 @@ found_passing text place c b e f h = ap is_word_character (sym e) ∙ sym f ∙ 
 pub empty_word : (text : List ℕ) → IsWord text (record { first = 0; end = 0 })
 empty_word text = record { at = λ q low high. absurd (omega (arith, high)) }
 
-pub no_words : (text : List ℕ) (n : ℕ) (words : List Word) → words ≡ replicate n (record { first = 0; end = 0 }) → AreWords text words
+pub no_words : (text : List ℕ) (n : ℕ) (words : List WordPlaces) → words ≡ replicate n (record { first = 0; end = 0 }) → AreWords text words
 no_words text n words e = rw e (record { each = All-replicate (IsWord text) n (record { first = 0; end = 0 }) (empty_word text) })
 
 -- a word that takes the place of the last one
-pub turned_words : (text : List ℕ) (n : ℕ) (words turned : List Word) → AreWords text words → turned ≡ drop n words ++ take n words → AreWords text turned
+pub turned_words : (text : List ℕ) (n : ℕ) (words turned : List WordPlaces) → AreWords text words → turned ≡ drop n words ++ take n words → AreWords text turned
 turned_words text n words turned are e =
     rw e (record { each = All-append (IsWord text) (drop n words) (take n words) (All-drop (IsWord text) n words are.each) (All-take (IsWord text) n words are.each) })
 
-pub set_words : (text : List ℕ) (i : ℕ) (words : List Word) (word : Word) → AreWords text words → IsWord text word → AreWords text (slice_set words i word)
+pub set_words : (text : List ℕ) (i : ℕ) (words : List WordPlaces) (word : WordPlaces) → AreWords text words → IsWord text word → AreWords text (slice_set words i word)
 set_words text i words word are is = record { each = All-set (IsWord text) words i word is are.each }

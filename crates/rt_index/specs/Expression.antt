@@ -83,12 +83,12 @@ is_possible token fits None = fits && is_name_length (length token)
 is_possible token fits (Some tag) = (fits && is_name_length (length token)) || (is_name_length tag.name_len && not (is_always_mark token))
 
 -- names are whole characters of the word
-abbrev pub AreNames : List ℕ → Base → Type 0
-AreNames word (AtPlace fixed) = Unit {0}
-AreNames word (Named token fits None) = IsCharBoundary word token
-AreNames word (Named token fits (Some tag)) = IsCharBoundary word token × IsCharBoundary word tag.name_len
+abbrev pub NamesAreWhole : List ℕ → Base → Type 0
+NamesAreWhole word (AtPlace fixed) = Unit {0}
+NamesAreWhole word (Named token fits None) = IsCharBoundary word token
+NamesAreWhole word (Named token fits (Some tag)) = IsCharBoundary word token × IsCharBoundary word tag.name_len
 
 -- parts that say what the word says
 pub record IsParsed (word : List ℕ) (base : Base) (modifiers : List Modifier) : Type 0 where
-  pub names : AreNames word base
+  pub names : NamesAreWhole word base
   pub same : (w : IndexedWidget) → IsProper w → index_of w word ≡ moved_from w.text (base_index w word base) (Some modifiers)

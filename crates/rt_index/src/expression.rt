@@ -1,6 +1,6 @@
 // Index expressions, parsed and resolved.
 ghost use Rattle.std.specs.Prelude.{◌≡◌, ◌<◌, ◌≤◌, ◌^◌, ◌⊎◌, length, take, Some, None, is_some, option_map, IfOk, IfErr, OnOk};
-ghost use Rattle.rt_index.specs.Expression.{AreNames, base_index, is_always_mark, is_possible, kept_fixed, listed_place, named_after};
+ghost use Rattle.rt_index.specs.Expression.{NamesAreWhole, base_index, is_always_mark, is_possible, kept_fixed, listed_place, named_after};
 ghost use Rattle.rt_index.specs.Reading.{fixed_of, token_length};
 ghost use Rattle.rt_index.specs.Index.{index_of, fixed_place, IsNeverIndex, MayBeIndex};
 
@@ -166,7 +166,7 @@ fn tag_end<G: Ground>(ground: &G, name: &str, side: Side) -> Result<usize, Fault
 
 /// The place of a base.
 fn base_place<G: Ground>(ground: &G, word: &str, base: Base) -> Result<usize, Fault>
-    requires { AreNames word.now base }
+    requires { NamesAreWhole word.now base }
     ensures value { result ≡ base_index (G.widget ground.now) word.now base }
     ensures within { IfOk result (λ place. place ≤ length (G.widget ground.now).text) }
 {

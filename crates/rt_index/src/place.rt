@@ -9,7 +9,7 @@ use crate::Ground;
 use crate::expression::{fixed_place, parse_named, resolve};
 use crate::reading::{first_modifier, fixed_of, is_blank, token_length};
 use crate::values::moved;
-use crate::words::{Word, few_words, many_words};
+use crate::words::{WordPlaces, few_words, many_words};
 use rt_stamps::Fault;
 use std::alloc::Global;
 
@@ -21,7 +21,7 @@ const FEW_BYTES: usize = 64;
 #[inline(always)]
 fn moved_with<G: Ground>(
     ground: &G,
-    words: &mut [Word],
+    words: &mut [WordPlaces],
     start: usize,
     text: &[u8],
 ) -> Result<usize, Fault>

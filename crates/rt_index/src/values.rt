@@ -6,7 +6,7 @@ ghost use Rattle.rt_index.specs.KeptWords.{AreWords};
 
 use crate::Ground;
 use crate::parts::{Keyword, Modifier, Step};
-use crate::words::{Word, few_words, many_words, word_end, word_start};
+use crate::words::{WordPlaces, few_words, many_words, word_end, word_start};
 
 // So few modifiers keep a few words only.
 const FEW_MODIFIERS: usize = 4;
@@ -89,7 +89,12 @@ fn lines_back<G: Ground>(ground: &G, place: usize, count: usize) -> usize
 }
 
 /// A keyword, at the place of a character.
-fn keyword_place<G: Ground>(ground: &G, words: &mut [Word], place: usize, keyword: Keyword) -> usize
+fn keyword_place<G: Ground>(
+    ground: &G,
+    words: &mut [WordPlaces],
+    place: usize,
+    keyword: Keyword,
+) -> usize
     requires place { place < length (G.widget ground.now).text }
     requires words { AreWords (G.widget ground.now).text words.old }
     ensures value { result ≡ keyword_place (G.widget ground.now).text place keyword }
@@ -114,7 +119,7 @@ fn keyword_place<G: Ground>(ground: &G, words: &mut [Word], place: usize, keywor
 #[inline(always)]
 pub(crate) fn moved<G: Ground>(
     ground: &G,
-    words: &mut [Word],
+    words: &mut [WordPlaces],
     place: usize,
     modifier: Modifier,
 ) -> usize
@@ -142,7 +147,7 @@ pub(crate) fn moved<G: Ground>(
 /// What modifiers make of a place, one after another, with words of the text that are kept.
 fn moved_with<G: Ground>(
     ground: &G,
-    words: &mut [Word],
+    words: &mut [WordPlaces],
     place: usize,
     modifiers: &[Modifier],
 ) -> usize

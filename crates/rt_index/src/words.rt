@@ -18,23 +18,23 @@ const MANY_WORDS: usize = 256;
 
 /// A stretch of a text, from its first character to the place after its last one.
 #[derive(Clone, Copy)]
-pub(crate) struct Word {
+pub(crate) struct WordPlaces {
     first: usize,
     end: usize,
 }
 
 /// Room for a few words of a text that are gone through; none is kept yet.
-pub(crate) fn few_words() -> [Word; FEW_WORDS]
+pub(crate) fn few_words() -> [WordPlaces; FEW_WORDS]
     ensures { (text : List ℕ) → AreWords text result }
 {
-    [Word { first: 0, end: 0 }; FEW_WORDS]
+    [WordPlaces { first: 0, end: 0 }; FEW_WORDS]
 }
 
 /// Room for many of them.
-pub(crate) fn many_words() -> [Word; MANY_WORDS]
+pub(crate) fn many_words() -> [WordPlaces; MANY_WORDS]
     ensures { (text : List ℕ) → AreWords text result }
 {
-    [Word { first: 0, end: 0 }; MANY_WORDS]
+    [WordPlaces { first: 0, end: 0 }; MANY_WORDS]
 }
 
 // Whether words run through a character: a letter, a digit or an underscore.
@@ -119,7 +119,7 @@ fn run_end<G: Ground>(ground: &G, place: usize) -> usize
 }
 
 /// The word of a place, if it is among the words that are kept.
-fn kept_word(words: &[Word], place: usize) -> Option<Word>
+fn kept_word(words: &[WordPlaces], place: usize) -> Option<WordPlaces>
     ensures { (text : List ℕ) → AreWords text words.now → IfSome result (λ word. IsWordAt text place word) }
 {
     for word in words {
@@ -131,7 +131,7 @@ fn kept_word(words: &[Word], place: usize) -> Option<Word>
 }
 
 /// Keeps a word in place of the one that was kept first, where there is room for any.
-fn keep(words: &mut [Word], word: Word)
+fn keep(words: &mut [WordPlaces], word: WordPlaces)
     ensures { (text : List ℕ) → AreWords text words.old → IsWord text word → AreWords text words.new }
 {
     if !words.is_empty() {
@@ -141,7 +141,7 @@ fn keep(words: &mut [Word], word: Word)
 }
 
 /// The word of a place of a word character, which is gone through if it isn't kept, and kept then.
-fn word_at<G: Ground>(ground: &G, words: &mut [Word], place: usize) -> Word
+fn word_at<G: Ground>(ground: &G, words: &mut [WordPlaces], place: usize) -> WordPlaces
     requires place { place < length (G.widget ground.now).text }
     requires character { is_word_character (slice_index (G.widget ground.now).text place) ≡ true }
     requires words { AreWords (G.widget ground.now).text words.old }
@@ -151,7 +151,7 @@ fn word_at<G: Ground>(ground: &G, words: &mut [Word], place: usize) -> Word
     if let Some(word) = kept_word(words, place) {
         return word;
     }
-    let word = Word {
+    let word = WordPlaces {
         first: run_start(ground, place),
         end: run_end(ground, place),
     };
@@ -160,7 +160,7 @@ fn word_at<G: Ground>(ground: &G, words: &mut [Word], place: usize) -> Word
 }
 
 /// The first character of the word that holds a place. Long words are kept.
-pub(crate) fn word_start<G: Ground>(ground: &G, words: &mut [Word], place: usize) -> usize
+pub(crate) fn word_start<G: Ground>(ground: &G, words: &mut [WordPlaces], place: usize) -> usize
     requires place { place < length (G.widget ground.now).text }
     requires words { AreWords (G.widget ground.now).text words.old }
     ensures value { result ≡ word_start (G.widget ground.now).text place }
@@ -178,7 +178,7 @@ pub(crate) fn word_start<G: Ground>(ground: &G, words: &mut [Word], place: usize
 }
 
 /// The place after the last character of the word that holds a place. Long words are kept.
-pub(crate) fn word_end<G: Ground>(ground: &G, words: &mut [Word], place: usize) -> usize
+pub(crate) fn word_end<G: Ground>(ground: &G, words: &mut [WordPlaces], place: usize) -> usize
     requires place { place < length (G.widget ground.now).text }
     requires words { AreWords (G.widget ground.now).text words.old }
     ensures value { result ≡ word_end (G.widget ground.now).text place }

@@ -19,7 +19,7 @@ use Rattle.rt_lines.specs.declared.choice.Choice.{Choice}
 use Rattle.rt_lines.specs.declared.choice.Choice.TheVariants.{Kept, Away, Line}
 use Rattle.rt_lines.specs.declared.limits.Limits.{Limits}
 use Rattle.rt_lines.specs.Choices.{are_lines, end_asked, end_chosen, limits_chosen, newline_of, start_asked, start_chosen}
-use Rattle.rt_lines.specs.Limits.{first_line, is_gone, last_line, line_at, line_behind, no_limits, place_of}
+use Rattle.rt_lines.specs.Limits.{first_line, is_gone_cell, last_line, line_at, line_behind, no_limits, place_of}
 use Rattle.rt_lines.specs.Ordered.{IsNewline, IsStart}
 use Rattle.rt_lines.specs.Stretches.{stretch_of}
 use Rattle.rt_lines.proofs.Lines.{after_some, ends_with, lines_some}
@@ -117,7 +117,7 @@ pub record IsNewlineOf {T : Type 0} (cells : List (Cell T)) (line : ℕ) (stamp 
   pub at : line_at cells stamp ≡ Some line
   pub behind : line_behind cells stamp ≡ Some (line + 1)
   pub newline : IsNewline cells stamp
-  pub there : is_gone cells stamp ≡ false
+  pub there : is_gone_cell cells stamp ≡ false
 
 pub newline_is : {T : Type 0} (cells : List (Cell T)) (line : ℕ) → AreDistinct cells → 1 ≤ line → line ≤ newlines (text_of cells) → (stamp : Stamp) × IsNewlineOf cells line stamp
 newline_is {T} cells line d low high =
@@ -136,9 +136,9 @@ newline_is {T} cells line d low high =
         let after : after_newlines line (text_of cells) ≡ suc place = omega (arith, after_some line (text_of cells) low high) in
         let own : line_of (text_of cells) place ≡ line = line_of_end line (text_of cells) place low high after in
         let at : line_at cells cell.stamp ≡ Some line = ap (option_map (line_of (text_of cells))) stands ∙ ap Some own in
-        let there : is_gone cells cell.stamp ≡ false = ap (λ o. unwrap_or (option_map (λ (cell : Cell T). cell.gone) o) false) f.found ∙ f.visible in
+        let there : is_gone_cell cells cell.stamp ≡ false = ap (λ o. unwrap_or (option_map (λ (cell : Cell T). cell.gone) o) false) f.found ∙ f.visible in
         let behind : line_behind cells cell.stamp ≡ Some (line + 1) =
-        ap (option_map (λ line. cond (is_gone cells cell.stamp) line (line + 1))) at ∙ ap (λ b. Some (cond b line (line + 1))) there in (
+        ap (option_map (λ line. cond (is_gone_cell cells cell.stamp) line (line + 1))) at ∙ ap (λ b. Some (cond b line (line + 1))) there in (
           cell.stamp,
           record {
             is = ap (option_map (λ (cell : Cell T). cell.stamp)) e;

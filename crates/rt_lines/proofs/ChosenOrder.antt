@@ -18,8 +18,8 @@ use Rattle.rt_lines.specs.declared.choice.Choice.{Choice}
 use Rattle.rt_lines.specs.declared.choice.Choice.TheVariants.{Kept, Away, Line}
 use Rattle.rt_lines.specs.declared.limits.Limits.{Limits}
 use Rattle.rt_lines.specs.Choices.{are_lines, end_asked, end_chosen, limits_chosen, newline_of, start_asked, start_chosen}
-use Rattle.rt_lines.specs.Limits.{first_line, is_gone, last_line, line_at, line_behind}
-use Rattle.rt_lines.specs.Ordered.{AreInOrder, IsNewline, IsStart, end_position}
+use Rattle.rt_lines.specs.Limits.{first_line, is_gone_cell, last_line, line_at, line_behind}
+use Rattle.rt_lines.specs.Ordered.{LimitsAreInOrder, IsNewline, IsStart, end_position}
 use Rattle.rt_lines.proofs.Chosen.{chosen_by, newline_is}
 use Rattle.rt_lines.proofs.InOrder.{final_stands, newline_at, position_is}
 use Rattle.rt_lines.proofs.Ordered.{before_mono, before_more, first_is_behind, taken_mono, taken_more}
@@ -27,7 +27,7 @@ use Rattle.rt_lines.proofs.Places.{last_line_within, visible_last}
 
 -- NO LINE IS CUT OFF
 
-pub start_of : {T : Type 0} (cells : List (Cell T)) (limits : Limits) (stamp : Stamp) → AreInOrder cells limits → limits.start ≡ Some stamp
+pub start_of : {T : Type 0} (cells : List (Cell T)) (limits : Limits) (stamp : Stamp) → LimitsAreInOrder cells limits → limits.start ≡ Some stamp
     → (position : ℕ) × IsStart cells limits stamp position
 start_of cells limits stamp h e =
     let newline : IsNewline cells stamp = subst (λ (o : Option Stamp). IfSome o (IsNewline cells)) e h.start in
@@ -36,7 +36,7 @@ start_of cells limits stamp h e =
     let position : option_and_then (position_of cells) limits.start ≡ Some p = ap (option_and_then (position_of cells)) e ∙ there in
     (p, record { limit = e; found = there; newline = newline; before = subst (λ (o : Option ℕ). IfSome o (λ p. p < end_position cells limits)) position h.before })
 
-pub first_in_order : {T : Type 0} (cells : List (Cell T)) (limits : Limits) → EndsFinal cells → AreInOrder cells limits
+pub first_in_order : {T : Type 0} (cells : List (Cell T)) (limits : Limits) → EndsFinal cells → LimitsAreInOrder cells limits
     → first_line cells limits ≡ unwrap_or (option_and_then (line_behind cells) limits.start) 1
 first_in_order {T} cells limits f h = by limits.start refl
   where
@@ -63,10 +63,10 @@ line_found cells stamp p line f h =
     cc
 
 behind_found : {T : Type 0} (cells : List (Cell T)) (stamp : Stamp) (p line : ℕ) → position_of cells stamp ≡ Some p → line_behind cells stamp ≡ Some line
-    → cond (is_gone cells stamp) (line_there cells p) (line_there cells p + 1) ≡ line
+    → cond (is_gone_cell cells stamp) (line_there cells p) (line_there cells p + 1) ≡ line
 behind_found cells stamp p line f h =
-    let same : Some (cond (is_gone cells stamp) (line_there cells p) (line_there cells p + 1)) ≡ Some line =
-    sym (ap (λ (o : Option ℕ). option_map (λ line. cond (is_gone cells stamp) line (line + 1)) (option_map (line_of (text_of cells)) (option_map (visible_before cells) o))) f) ∙ h in
+    let same : Some (cond (is_gone_cell cells stamp) (line_there cells p) (line_there cells p + 1)) ≡ Some line =
+    sym (ap (λ (o : Option ℕ). option_map (λ line. cond (is_gone_cell cells stamp) line (line + 1)) (option_map (line_of (text_of cells)) (option_map (visible_before cells) o))) f) ∙ h in
     cc
 
 -- a cell on an earlier line stands before
@@ -80,10 +80,10 @@ earlier cells p q h = elim (cases_lt p q) [
 record IsThere {T : Type 0} (cells : List (Cell T)) (stamp : Stamp) (position : ℕ) : Type 0 where
   pub found : position_of cells stamp ≡ Some position
   pub newline : IsNewline cells stamp
-  pub there : is_gone cells stamp ≡ false
+  pub there : is_gone_cell cells stamp ≡ false
 
 -- a gone cell on its line, or on an earlier one, stands before it
-gone_before : {T : Type 0} (cells : List (Cell T)) (s t : Stamp) (p q : ℕ) → position_of cells s ≡ Some p → is_gone cells s ≡ true → IsThere cells t q
+gone_before : {T : Type 0} (cells : List (Cell T)) (s t : Stamp) (p q : ℕ) → position_of cells s ≡ Some p → is_gone_cell cells s ≡ true → IsThere cells t q
     → line_there cells p ≤ line_there cells q → p < q
 gone_before {T} cells s t p q f g i h = by (cell_of cells t) refl i.newline i.there
   where
@@ -100,7 +100,7 @@ gone_before {T} cells s t p q f g i h = by (cell_of cells t) refl i.newline i.th
             | inr m ↦ (
                 let same : p ≡ q = omega (arith, l, m) in
                 let one : cell_of cells s ≡ Some cell = sym (found_there cells s p f) ∙ ap (slice_get cells) same ∙ here in
-                let there : is_gone cells s ≡ false = ap (λ o. unwrap_or (option_map (λ (cell : Cell T). cell.gone) o) false) one ∙ k in
+                let there : is_gone_cell cells s ≡ false = ap (λ o. unwrap_or (option_map (λ (cell : Cell T). cell.gone) o) false) one ∙ k in
                 let bad : ⊥ = cc in absurd bad
                 )
           ]
@@ -109,9 +109,9 @@ gone_before {T} cells s t p q f g i h = by (cell_of cells t) refl i.newline i.th
 -- where a view that begins on a line begins before a newline that is there
 begins_before : {T : Type 0} (cells : List (Cell T)) (s t : Stamp) (p q line : ℕ) → position_of cells s ≡ Some p → line_behind cells s ≡ Some line → IsThere cells t q
     → line ≤ line_there cells q → p < q
-begins_before {T} cells s t p q line f b i h = by (is_gone cells s) refl (behind_found cells s p line f b)
+begins_before {T} cells s t p q line f b i h = by (is_gone_cell cells s) refl (behind_found cells s p line f b)
   where
-    by : (g : Bool) → is_gone cells s ≡ g → cond g (line_there cells p) (line_there cells p + 1) ≡ line → p < q
+    by : (g : Bool) → is_gone_cell cells s ≡ g → cond g (line_there cells p) (line_there cells p + 1) ≡ line → p < q
     by true e k = gone_before cells s t p q f e i (omega (arith, k, h))
     by false e k = earlier cells p q (omega (arith, k, h))
 
@@ -175,7 +175,7 @@ newlines_of cells line limit d low high e =
     let (stamp, i) = newline_is cells line d low high in
     subst (λ (o : Option Stamp). IfSome o (IsNewline cells)) (sym (e ∙ i.is)) i.newline
 
-start_newline : {T : Type 0} (cells : List (Cell T)) (limits : Limits) (start : Choice) (end : ℕ) → AreDistinct cells → AreInOrder cells limits
+start_newline : {T : Type 0} (cells : List (Cell T)) (limits : Limits) (start : Choice) (end : ℕ) → AreDistinct cells → LimitsAreInOrder cells limits
     → are_lines (newlines (text_of cells)) (start_asked cells limits start) end ≡ true → IfSome (start_chosen cells limits.start start) (IsNewline cells)
 start_newline cells limits Kept end d h a = h.start
 start_newline cells limits Away end d h a = tt
@@ -187,7 +187,7 @@ start_newline cells limits (Line n) end d h a = split (nat_le n 1)
     let few : end ≤ newlines (text_of cells) + 1 = grind (arith, a) in
     rw b (newlines_of cells (n - 1) (newline_of cells (n - 1)) d (omega (arith, some)) (omega (arith, less, few)) refl))
 
-end_newline : {T : Type 0} (cells : List (Cell T)) (limits : Limits) (end : Choice) (start : ℕ) → AreDistinct cells → AreInOrder cells limits
+end_newline : {T : Type 0} (cells : List (Cell T)) (limits : Limits) (end : Choice) (start : ℕ) → AreDistinct cells → LimitsAreInOrder cells limits
     → are_lines (newlines (text_of cells)) start (end_asked cells limits end) ≡ true → IfSome (end_chosen cells limits.end end) (IsNewline cells)
 end_newline cells limits Kept start d h a = h.end
 end_newline cells limits Away start d h a = tt
@@ -214,14 +214,14 @@ kept_end {T} cells limits d f h = by limits.end h
         ∙ sym (ap (λ (o : Option ℕ). line_there cells (unwrap_or o (length cells - 1))) there)
 
 -- the start, that is there or stands before a kept end, stands before the end that is asked for
-before_asked : {T : Type 0} (cells : List (Cell T)) (limits : Limits) (end : Choice) (s : Stamp) (p line : ℕ) → AreDistinct cells → EndsFinal cells → AreInOrder cells limits
-    → position_of cells s ≡ Some p → line_behind cells s ≡ Some line → (is_gone cells s ≡ false) ⊎ (p < end_position cells limits)
+before_asked : {T : Type 0} (cells : List (Cell T)) (limits : Limits) (end : Choice) (s : Stamp) (p line : ℕ) → AreDistinct cells → EndsFinal cells → LimitsAreInOrder cells limits
+    → position_of cells s ≡ Some p → line_behind cells s ≡ Some line → (is_gone_cell cells s ≡ false) ⊎ (p < end_position cells limits)
     → are_lines (newlines (text_of cells)) line (end_asked cells limits end) ≡ true
     → p < unwrap_or (option_and_then (position_of cells) (end_chosen cells limits.end end)) (length cells - 1)
 before_asked cells limits Kept s p line d f h found behind or a = elim or [
   | inl there ↦ (
       let less : line < last_line cells limits + 1 = grind (arith, a) in
-      let own : cond (is_gone cells s) (line_there cells p) (line_there cells p + 1) ≡ line = behind_found cells s p line found behind in
+      let own : cond (is_gone_cell cells s) (line_there cells p) (line_there cells p + 1) ≡ line = behind_found cells s p line found behind in
       let one : line_there cells p + 1 ≡ line = rw there at own in
       earlier cells p (end_position cells limits) (omega (arith, less, one, kept_end cells limits d f h.end))
       )
@@ -250,7 +250,7 @@ before_asked {T} cells limits (Line n) s p line d f h found behind or a = split 
     ap (λ (o : Option Stamp). unwrap_or (option_and_then (position_of cells) o) (length cells - 1)) i.is ∙ ap (λ (o : Option ℕ). unwrap_or o (length cells - 1)) there in
     rw b (omega (arith, less_than, is)))
 
-start_before : {T : Type 0} (cells : List (Cell T)) (limits : Limits) (start end : Choice) → AreDistinct cells → EndsFinal cells → AreInOrder cells limits
+start_before : {T : Type 0} (cells : List (Cell T)) (limits : Limits) (start end : Choice) → AreDistinct cells → EndsFinal cells → LimitsAreInOrder cells limits
     → are_lines (newlines (text_of cells)) (start_asked cells limits start) (end_asked cells limits end) ≡ true
     → IfSome (option_and_then (position_of cells) (start_chosen cells limits.start start))
     (λ p. p < unwrap_or (option_and_then (position_of cells) (end_chosen cells limits.end end)) (length cells - 1))
@@ -278,11 +278,11 @@ start_before cells limits (Line n) end d f h a = split (nat_le n 1)
     let is : option_and_then (position_of cells) (newline_of cells (n - 1)) ≡ Some p = ap (option_and_then (position_of cells)) i.is ∙ there in
     rw b (subst (λ (o : Option ℕ). IfSome o (λ p. p < unwrap_or (option_and_then (position_of cells) (end_chosen cells limits.end end)) (length cells - 1))) (sym is) before))
 
-pub order_chosen : {T : Type 0} (cells : List (Cell T)) (start end : Choice) (limits chosen : Limits) → AreDistinct cells → EndsFinal cells → AreInOrder cells limits
-    → limits_chosen cells start end limits ≡ Ok chosen → AreInOrder cells chosen
+pub order_chosen : {T : Type 0} (cells : List (Cell T)) (start end : Choice) (limits chosen : Limits) → AreDistinct cells → EndsFinal cells → LimitsAreInOrder cells limits
+    → limits_chosen cells start end limits ≡ Ok chosen → LimitsAreInOrder cells chosen
 order_chosen cells start end limits chosen d f h e =
     let by = chosen_by (are_lines (newlines (text_of cells)) (start_asked cells limits start) (end_asked cells limits end)) _ chosen e in
-    subst (AreInOrder cells) by.1 (record {
+    subst (LimitsAreInOrder cells) by.1 (record {
       start = start_newline cells limits start (end_asked cells limits end) d h by.0;
       end = end_newline cells limits end (start_asked cells limits start) d h by.0;
       before = start_before cells limits start end d f h by.0;

@@ -15,7 +15,7 @@ use Rattle.rt_store.proofs.Finding.{position_within}
 use Rattle.rt_store.proofs.Places.{final_last, length_put}
 use Rattle.rt_lines.specs.declared.limits.Limits.{Limits}
 use Rattle.rt_lines.specs.Limits.{limits_renamed, no_limits}
-use Rattle.rt_lines.specs.Ordered.{AreInOrder, IsNewline, StandAmong, end_position, letter_of, letters_of}
+use Rattle.rt_lines.specs.Ordered.{LimitsAreInOrder, IsNewline, StandAmong, end_position, letter_of, letters_of}
 
 -- POSITIONS, by recursion over the cells
 
@@ -200,7 +200,7 @@ final_stands {T} cells d h =
 
 -- LIMITS AMONG MORE CELLS
 
-pub none_in_order : {T : Type 0} (cells : List (Cell T)) → AreInOrder cells no_limits
+pub none_in_order : {T : Type 0} (cells : List (Cell T)) → LimitsAreInOrder cells no_limits
 none_in_order cells = record { start = tt; end = tt; before = tt }
 
 newlines_kept : {S T : Type 0} (cells : List (Cell S)) (more : List (Cell T)) (limit : Option Stamp) → AreDistinct more → StandAmong (letters_of cells) (letters_of more)
@@ -228,7 +228,7 @@ end_within cells None p h = let below = position_within cells FINAL p (position_
 end_within cells (Some s) p h = let same : unwrap_or (position_of cells s) (length cells - 1) ≡ p = ap (λ (o : Option ℕ). unwrap_or o (length cells - 1)) (position_is cells s ∙ h) in omega (arith, same)
 
 pub order_grown : {S T : Type 0} (cells : List (Cell S)) (more : List (Cell T)) (limits : Limits) → AreDistinct cells → EndsFinal cells → AreDistinct more
-    → StandAmong (letters_of cells) (letters_of more) → AreInOrder cells limits → AreInOrder more limits
+    → StandAmong (letters_of cells) (letters_of more) → LimitsAreInOrder cells limits → LimitsAreInOrder more limits
 order_grown {S} {T} cells more limits d f e a h = record {
   start = newlines_kept cells more limits.start e a h.start;
   end = newlines_kept cells more limits.end e a h.end;
@@ -349,7 +349,7 @@ module _ {T : Type 0} (cells : List (Cell T)) (limits : Limits) (former : Stamp)
       let now : unwrap_or (position_of more (renamed s)) (length more - 1) ≡ j = ap (λ (o : Option ℕ). unwrap_or o (length more - 1)) (position_is more (renamed s) ∙ later) in
       subst (λ (x : _). x) (λ i. Moves position (sym old i) (sym now i)) moves
 
-  pub order_renamed : AreInOrder cells limits → AreInOrder more (limits_renamed former new.stamp limits)
+  pub order_renamed : LimitsAreInOrder cells limits → LimitsAreInOrder more (limits_renamed former new.stamp limits)
   order_renamed h = record {
     start = renamed_newlines limits.start h.start;
     end = renamed_newlines limits.end h.end;

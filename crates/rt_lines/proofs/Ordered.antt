@@ -9,7 +9,7 @@ use Rattle.rt_store.specs.Cells.{EndsFinal, cell_of, position_of, text_of, visib
 use Rattle.rt_store.proofs.Finding.{found_there, visible_there}
 use Rattle.rt_store.proofs.Places.{final_last}
 use Rattle.rt_lines.specs.declared.limits.Limits.{Limits}
-use Rattle.rt_lines.specs.Limits.{first_line, is_gone, last_line, line_at, line_behind}
+use Rattle.rt_lines.specs.Limits.{first_line, is_gone_cell, last_line, line_at, line_behind}
 use Rattle.rt_lines.specs.Ordered.{IsNewline, IsStart, end_position}
 use Rattle.rt_lines.proofs.Lines.{line_within}
 use Rattle.rt_lines.proofs.Places.{ends_text, few_by, place_within}
@@ -84,7 +84,7 @@ end_line {T} cells limits h = by limits.end
 -- THE START
 
 -- a newline that is there stands at its place
-newline_there : {T : Type 0} (cells : List (Cell T)) (stamp : Stamp) (position e : ℕ) → position_of cells stamp ≡ Some position → IsNewline cells stamp → is_gone cells stamp ≡ false → position < e
+newline_there : {T : Type 0} (cells : List (Cell T)) (stamp : Stamp) (position e : ℕ) → position_of cells stamp ≡ Some position → IsNewline cells stamp → is_gone_cell cells stamp ≡ false → position < e
     → newlines (take (visible_before cells position) (text_of cells)) + 1 ≤ newlines (take (visible_before cells e) (text_of cells))
 newline_there {T} cells stamp position e f n k l = by (cell_of cells stamp) refl n k
   where
@@ -109,11 +109,11 @@ first_is_behind {T} cells limits stamp position h s =
     let text = text_of cells in
     let q = visible_before cells position in
     let e = visible_before cells (end_position cells limits) in
-    let line = cond (is_gone cells stamp) (line_of text q) (line_of text q + 1) in
+    let line = cond (is_gone_cell cells stamp) (line_of text q) (line_of text q + 1) in
     let behind : line_behind cells stamp ≡ Some line =
-    ap (λ o. option_map (λ line. cond (is_gone cells stamp) line (line + 1)) (option_map (line_of text) (option_map (visible_before cells) o))) s.found in
+    ap (λ o. option_map (λ line. cond (is_gone_cell cells stamp) line (line + 1)) (option_map (line_of text) (option_map (visible_before cells) o))) s.found in
     let few : line ≤ line_of text e =
-    start_by (is_gone cells stamp) (newlines (take q text)) (newlines (take e text)) (λ g. newline_there cells stamp position (end_position cells limits) s.found s.newline g s.before)
+    start_by (is_gone_cell cells stamp) (newlines (take q text)) (newlines (take e text)) (λ g. newline_there cells stamp position (end_position cells limits) s.found s.newline g s.before)
     (taken_mono text q e (before_mono cells position (end_position cells limits) (omega (arith, s.before)))) in
     let within : line ≤ last_line cells limits = omega (arith, few, end_line cells limits h) in
     let first : first_line cells limits ≡ line =

@@ -10,7 +10,7 @@ use Rattle.rt_store.specs.Cells.{EndsFinal, text_of, visible_of, visible_before,
 use Rattle.rt_store.proofs.Finding.{position_within}
 use Rattle.rt_store.proofs.Places.{final_last}
 use Rattle.rt_store.proofs.Shown.{map_append}
-use Rattle.rt_lines.specs.Limits.{place_of, line_at, is_gone, line_behind, last_line, first_line}
+use Rattle.rt_lines.specs.Limits.{place_of, line_at, is_gone_cell, line_behind, last_line, first_line}
 use Rattle.rt_lines.specs.declared.limits.Limits.{Limits}
 use Rattle.rt_lines.proofs.Lines.{line_within, lines_some}
 
@@ -75,11 +75,11 @@ line_behind_some {T} cells stamp line e = by (place_of cells stamp) e
     some true n h = h
     some false n h = omega arith
 
-    by : (o : Option ℕ) → option_map (λ line. cond (is_gone cells stamp) line (line + 1)) (option_map (line_of (text_of cells)) o) ≡ Some line → 1 ≤ line
+    by : (o : Option ℕ) → option_map (λ line. cond (is_gone_cell cells stamp) line (line + 1)) (option_map (line_of (text_of cells)) o) ≡ Some line → 1 ≤ line
     by None q = let bad : ⊥ = cc in absurd bad
     by (Some p) q =
-        let same : cond (is_gone cells stamp) (line_of (text_of cells) p) (line_of (text_of cells) p + 1) ≡ line = cc in
-        omega (arith, same, some (is_gone cells stamp) (line_of (text_of cells) p) (omega arith))
+        let same : cond (is_gone_cell cells stamp) (line_of (text_of cells) p) (line_of (text_of cells) p + 1) ≡ line = cc in
+        omega (arith, same, some (is_gone_cell cells stamp) (line_of (text_of cells) p) (omega arith))
 
 pub last_line_within : {T : Type 0} (cells : List (Cell T)) (limits : Limits) → EndsFinal cells → (1 ≤ last_line cells limits) × (last_line cells limits ≤ newlines (text_of cells))
 last_line_within {T} cells limits h = by limits.end

@@ -14,7 +14,7 @@ use Rattle.rt_lines.specs.declared.choice.Choice.{Choice}
 use Rattle.rt_lines.specs.declared.choice.Choice.TheVariants.{Kept, Away, Line}
 use Rattle.rt_lines.specs.declared.limits.Limits.{Limits}
 use Rattle.rt_lines.specs.Choices.{are_lines, end_asked, end_chosen, limits_chosen, newline_of, start_asked, start_chosen}
-use Rattle.rt_lines.specs.Limits.{first_line, is_gone, last_line, line_at, line_behind, place_of}
+use Rattle.rt_lines.specs.Limits.{first_line, is_gone_cell, last_line, line_at, line_behind, place_of}
 use Rattle.rt_lines.specs.Stretches.{stretch_of}
 
 before_shown : {S T : Type 0} (f : S → T) (cells : List (Cell S)) (p : ℕ) → visible_before (map (map_state f) cells) p ≡ visible_before cells p
@@ -43,7 +43,7 @@ cell_shown {S} {T} f cells stamp =
     by None = refl
     by (Some n) = slice_get-map (map_state f) cells n
 
-gone_shown : {S T : Type 0} (f : S → T) (cells : List (Cell S)) (stamp : Stamp) → is_gone (map (map_state f) cells) stamp ≡ is_gone cells stamp
+gone_shown : {S T : Type 0} (f : S → T) (cells : List (Cell S)) (stamp : Stamp) → is_gone_cell (map (map_state f) cells) stamp ≡ is_gone_cell cells stamp
 gone_shown {S} {T} f cells stamp = ap (λ o. unwrap_or (option_map (λ (cell : Cell T). cell.gone) o) false) (cell_shown f cells stamp) ∙ by (cell_of cells stamp)
   where
     by : (o : Option (Cell S)) → unwrap_or (option_map (λ (cell : Cell T). cell.gone) (option_map (map_state f) o)) false ≡ unwrap_or (option_map (λ (cell : Cell S). cell.gone) o) false
@@ -56,7 +56,7 @@ at_shown f cells stamp =
 
 pub behind_shown : {S T : Type 0} (f : S → T) (cells : List (Cell S)) (stamp : Stamp) → line_behind (map (map_state f) cells) stamp ≡ line_behind cells stamp
 behind_shown f cells stamp =
-    ap (option_map (λ line. cond (is_gone (map (map_state f) cells) stamp) line (line + 1))) (at_shown f cells stamp)
+    ap (option_map (λ line. cond (is_gone_cell (map (map_state f) cells) stamp) line (line + 1))) (at_shown f cells stamp)
     ∙ ap (λ b. option_map (λ line. cond b line (line + 1)) (line_at cells stamp)) (gone_shown f cells stamp)
 
 pub last_shown : {S T : Type 0} (f : S → T) (cells : List (Cell S)) (limits : Limits) → last_line (map (map_state f) cells) limits ≡ last_line cells limits

@@ -23,12 +23,12 @@ abbrev pub line_at : {T : Type 0} → List (Cell T) → Stamp → Option ℕ
 line_at cells stamp = option_map (line_of (text_of cells)) (place_of cells stamp)
 
 -- the cell of a stamp is gone
-abbrev pub is_gone : {T : Type 0} → List (Cell T) → Stamp → Bool
-is_gone cells stamp = unwrap_or (option_map (λ cell. cell.gone) (cell_of cells stamp)) false
+abbrev pub is_gone_cell : {T : Type 0} → List (Cell T) → Stamp → Bool
+is_gone_cell cells stamp = unwrap_or (option_map (λ cell. cell.gone) (cell_of cells stamp)) false
 
 -- the line that begins behind a newline; where that is gone, the line that holds its place
 abbrev pub line_behind : {T : Type 0} → List (Cell T) → Stamp → Option ℕ
-line_behind cells stamp = option_map (λ line. if is_gone cells stamp then line else line + 1) (line_at cells stamp)
+line_behind cells stamp = option_map (λ line. if is_gone_cell cells stamp then line else line + 1) (line_at cells stamp)
 
 -- THE LINES THAT ARE SHOWN
 

@@ -21,7 +21,7 @@ pub record IsStart {T : Type 0} (cells : List (Cell T)) (limits : Limits) (stamp
   pub before : position < end_position cells limits
 
 -- Each limit is none or a newline, which may be gone, and that at the start stands before the newline that ends the view.
-pub record AreInOrder {T : Type 0} (cells : List (Cell T)) (limits : Limits) : Type 0 where
+pub record LimitsAreInOrder {T : Type 0} (cells : List (Cell T)) (limits : Limits) : Type 0 where
   pub start : IfSome limits.start (IsNewline cells)
   pub end : IfSome limits.end (IsNewline cells)
   pub before : IfSome (option_and_then (position_of cells) limits.start) (λ position. position < end_position cells limits)

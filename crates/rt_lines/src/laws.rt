@@ -10,7 +10,7 @@ ghost use Rattle.rt_lines.specs.declared.limits.Limits.{Limits};
 ghost use Rattle.rt_lines.specs.declared.choice.Choice.TheVariants.{Away, Kept, Line};
 ghost use Rattle.rt_lines.specs.Choices.{end_asked, limits_chosen};
 ghost use Rattle.rt_lines.specs.Limits.{end_number, first_line, last_line, limits_renamed, line_behind, no_limits, start_number};
-ghost use Rattle.rt_lines.specs.Ordered.{AreInOrder, IsStart, StandAmong, letters_of};
+ghost use Rattle.rt_lines.specs.Ordered.{LimitsAreInOrder, IsStart, StandAmong, letters_of};
 ghost use Rattle.rt_lines.specs.Stretches.{shown_part, stretch_of};
 
 /// Without limits all of a text is shown. Whatever the limits are, and whichever newlines are gone, what is shown lies
@@ -45,16 +45,17 @@ pub fn ordered_limits<T>()
 /// come in among those of the text, and these go or come into other states. Where a newline comes back directly behind
 /// its old cell, it takes this one's place as a limit. No line is cut off: what is shown begins behind the start.
 pub fn limits_in_order<S, T>()
-    ensures none { (cells : List (Cell T)) → AreInOrder cells no_limits }
-    ensures chosen { (cells : List (Cell T)) (start end : Choice) (limits chosen : Limits) → AreDistinct cells → EndsFinal cells → AreInOrder cells limits
-        → limits_chosen cells start end limits ≡ Ok chosen → AreInOrder cells chosen }
+    ensures none { (cells : List (Cell T)) → LimitsAreInOrder cells no_limits }
+    ensures chosen { (cells : List (Cell T)) (start end : Choice) (limits chosen : Limits) → AreDistinct cells → EndsFinal cells
+        → LimitsAreInOrder cells limits
+        → limits_chosen cells start end limits ≡ Ok chosen → LimitsAreInOrder cells chosen }
     ensures grown { (cells : List (Cell S)) (more : List (Cell T)) (limits : Limits) → AreDistinct cells → EndsFinal cells → AreDistinct more
-        → StandAmong (letters_of cells) (letters_of more) → AreInOrder cells limits → AreInOrder more limits }
+        → StandAmong (letters_of cells) (letters_of more) → LimitsAreInOrder cells limits → LimitsAreInOrder more limits }
     ensures came_back { (cells : List (Cell T)) (limits : Limits) (former : Stamp) (position : ℕ) (new : Cell T)
         → position_of cells former ≡ Some position → option_map (λ cell. cell.ch) (cell_of cells former) ≡ Some new.ch
-        → is_among (stamps_of cells) new.stamp ≡ false → AreInOrder cells limits
-        → AreInOrder (put_at (position + 1) (new ∷ []) cells) (limits_renamed former new.stamp limits) }
-    ensures first { (cells : List (Cell T)) (limits : Limits) → EndsFinal cells → AreInOrder cells limits
+        → is_among (stamps_of cells) new.stamp ≡ false → LimitsAreInOrder cells limits
+        → LimitsAreInOrder (put_at (position + 1) (new ∷ []) cells) (limits_renamed former new.stamp limits) }
+    ensures first { (cells : List (Cell T)) (limits : Limits) → EndsFinal cells → LimitsAreInOrder cells limits
         → first_line cells limits ≡ unwrap_or (option_and_then (line_behind cells) limits.start) 1 }
 {}
 

@@ -5,7 +5,7 @@ ghost use Rattle.rt_stamps.specs.Places.{line_end, newlines};
 ghost use Rattle.rt_store.specs.Cells.{text_of, visible_of};
 ghost use Rattle.rt_lines.specs.Choices.{end_asked, end_chosen, limits_chosen, newline_of, start_asked, start_chosen};
 ghost use Rattle.rt_stamps.specs.Stamps.{replaced};
-ghost use Rattle.rt_lines.specs.Limits.{end_number, first_line, is_gone, last_line, limits_renamed, line_at, line_behind, no_limits, start_number};
+ghost use Rattle.rt_lines.specs.Limits.{end_number, first_line, is_gone_cell, last_line, limits_renamed, line_at, line_behind, no_limits, start_number};
 ghost use Rattle.rt_lines.specs.Stretches.{stretch_of};
 
 use crate::{Choice, Stretch};
@@ -33,7 +33,7 @@ fn line_at<S: TextStore>(store: &S, stamp: Stamp) -> Option<usize>
 
 // Whether the cell of a stamp is gone.
 fn is_gone<S: TextStore>(store: &S, stamp: Stamp) -> bool
-    ensures { result ≡ is_gone (S.list store.now) stamp }
+    ensures { result ≡ is_gone_cell (S.list store.now) stamp }
 {
     match store.cell_of(stamp) {
         Some(cell) => cell.gone,

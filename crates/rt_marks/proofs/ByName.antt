@@ -6,8 +6,8 @@ use Rattle.std.specs.declared.cmp.Ordering.TheVariants.{Greater}
 use Rattle.std.specs.Str.{bytes_eq}
 use Rattle.std.proofs.lemmas.Cmp.{nat_list_cmp_total}
 use Rattle.std.proofs.lemmas.List.{map-append, take-map, drop-map}
-use Rattle.rt_marks.specs.Marks.{Mark, name_order, named, AreAscending}
-use Rattle.rt_marks.specs.Seen.{names_of, IsGap}
+use Rattle.rt_marks.specs.Marks.{Mark, name_order, mark_of_name, AreAscending}
+use Rattle.rt_marks.specs.Seen.{names_of_marks, IsGap}
 use Rattle.rt_marks.proofs.Names.{differ_back, names_differ, none_cons}
 
 -- a name that another is greater than
@@ -40,27 +40,27 @@ ascending_insert : (xs : List (List ℕ)) (n : List ℕ) (ys : List (List ℕ)) 
 ascending_insert [] n ys f b h = (b, h)
 ascending_insert (x ∷ xs) n ys f b h = (each_insert (λ y. is_lt (name_order x y) ≡ true) xs n ys f.0 h.0, ascending_insert xs n ys f.1 b h.1)
 
-pub names_middle : (front : List Mark) (m : Mark) (back : List Mark) → names_of (front ++ m ∷ back) ≡ names_of front ++ m.name ∷ names_of back
+pub names_middle : (front : List Mark) (m : Mark) (back : List Mark) → names_of_marks (front ++ m ∷ back) ≡ names_of_marks front ++ m.name ∷ names_of_marks back
 names_middle front m back = map-append (λ (x : Mark). x.name) front (m ∷ back)
 
-pub ascending_taken : (front : List Mark) (m : Mark) (back : List Mark) → AreAscending (names_of (front ++ m ∷ back)) → AreAscending (names_of (front ++ back))
+pub ascending_taken : (front : List Mark) (m : Mark) (back : List Mark) → AreAscending (names_of_marks (front ++ m ∷ back)) → AreAscending (names_of_marks (front ++ back))
 ascending_taken front m back h =
     subst AreAscending (sym (map-append (λ (x : Mark). x.name) front back))
-    (ascending_without (names_of front) m.name (names_of back) (subst AreAscending (names_middle front m back) h))
+    (ascending_without (names_of_marks front) m.name (names_of_marks back) (subst AreAscending (names_middle front m back) h))
 
 -- marks with one more, whose name stands in the gap
-pub ascending_added : (marks : List Mark) (i : ℕ) (m : Mark) → IsGap m.name (names_of marks) i → AreAscending (names_of marks) → AreAscending (names_of (take i marks ++ m ∷ drop i marks))
+pub ascending_added : (marks : List Mark) (i : ℕ) (m : Mark) → IsGap m.name (names_of_marks marks) i → AreAscending (names_of_marks marks) → AreAscending (names_of_marks (take i marks ++ m ∷ drop i marks))
 ascending_added marks i m g h =
-    let names = names_of marks in
+    let names = names_of_marks marks in
     let made = ascending_insert (take i names) m.name (drop i names) g.0 g.1 (subst AreAscending (sym (take-append-drop i names)) h) in
-    subst AreAscending (sym (names_middle (take i marks) m (drop i marks) ∙ ap (λ v. v ++ m.name ∷ names_of (drop i marks)) (sym (take-map (λ (x : Mark). x.name) i marks)) ∙ ap (λ v. take i names ++ m.name ∷ v) (sym (drop-map (λ (x : Mark). x.name) i marks)))) made
+    subst AreAscending (sym (names_middle (take i marks) m (drop i marks) ∙ ap (λ v. v ++ m.name ∷ names_of_marks (drop i marks)) (sym (take-map (λ (x : Mark). x.name) i marks)) ∙ ap (λ v. take i names ++ m.name ∷ v) (sym (drop-map (λ (x : Mark). x.name) i marks)))) made
 
-none_among : (name : List ℕ) (marks : List Mark) → AllByRecursion (λ x. bytes_eq x name ≡ false) (names_of marks) → named name marks ≡ None
+none_among : (name : List ℕ) (marks : List Mark) → AllByRecursion (λ x. bytes_eq x name ≡ false) (names_of_marks marks) → mark_of_name name marks ≡ None
 none_among name [] h = refl
 none_among name (m ∷ marks) h = none_cons name m marks h.0 (none_among name marks h.1)
 
-pub none_in_gap : (name : List ℕ) (marks : List Mark) (i : ℕ) → IsGap name (names_of marks) i → named name marks ≡ None
+pub none_in_gap : (name : List ℕ) (marks : List Mark) (i : ℕ) → IsGap name (names_of_marks marks) i → mark_of_name name marks ≡ None
 none_in_gap name marks i g =
-    let front = each_weaker _ (λ x. bytes_eq x name ≡ false) (take i (names_of marks)) (λ x h. differ_back name x (names_differ x name h)) g.0 in
-    let back = each_weaker _ (λ x. bytes_eq x name ≡ false) (drop i (names_of marks)) (λ x h. names_differ name x h) g.1 in
-    none_among name marks (subst (λ v. AllByRecursion (λ x. bytes_eq x name ≡ false) v) (take-append-drop i (names_of marks)) (each_append _ (take i (names_of marks)) (drop i (names_of marks)) front back))
+    let front = each_weaker _ (λ x. bytes_eq x name ≡ false) (take i (names_of_marks marks)) (λ x h. differ_back name x (names_differ x name h)) g.0 in
+    let back = each_weaker _ (λ x. bytes_eq x name ≡ false) (drop i (names_of_marks marks)) (λ x h. names_differ name x h) g.1 in
+    none_among name marks (subst (λ v. AllByRecursion (λ x. bytes_eq x name ≡ false) v) (take-append-drop i (names_of_marks marks)) (each_append _ (take i (names_of_marks marks)) (drop i (names_of_marks marks)) front back))

@@ -6,10 +6,10 @@ use Rattle.std.proofs.lemmas.Bool.{eqb-true}
 use Rattle.std.proofs.lemmas.Bool.Decides.{nat_tests}
 use Rattle.std.proofs.lemmas.List.{get_or-take, get_or_at, length-append, length-take-le, map-append, map_more}
 use Rattle.std.proofs.lemmas.List.Folds.{list_any-append}
-use Rattle.rt_marks.specs.Marks.{Mark, AreAscending, AreInOrder, comes_before, is_named, is_one_of, name_order, named}
+use Rattle.rt_marks.specs.Marks.{Mark, AreAscending, AreInOrder, comes_before, is_named, is_one_of, name_order, mark_of_name}
 use Rattle.std.specs.Ordering.{is_lt}
 use Rattle.rt_stamps.specs.Words.{as_words}
-use Rattle.rt_marks.specs.Seen.{IsEachOnce, IsIndexed, SlotsPart, in_slot, in_slots, names_of, no_mark}
+use Rattle.rt_marks.specs.Seen.{IsEachOnce, IsIndexed, SlotsPart, in_slot, in_slots, names_of_marks, no_mark}
 use Rattle.rt_marks.proofs.Changes.{apart}
 use Rattle.rt_marks.proofs.Exchanging.{traded, traded_first, traded_is, traded_last, traded_length, traded_other}
 use Rattle.rt_marks.proofs.InOrder.{split}
@@ -33,12 +33,12 @@ other_name S N O q slot t x l k e n =
     (λ b. b)
 
 -- no slot's mark has a name that no mark has
-no_name : (S : List Mark) (N O : List ℕ) (q : List ℕ) (t : ℕ) → IsIndexed S N O → t < length S → named q (in_slots S O) ≡ None → is_named q (in_slot S t) ≡ false
+no_name : (S : List Mark) (N O : List ℕ) (q : List ℕ) (t : ℕ) → IsIndexed S N O → t < length S → mark_of_name q (in_slots S O) ≡ None → is_named q (in_slot S t) ≡ false
 no_name S N O q t x l h =
     let r = present t O (omega (arith, once_below (length S) O x.order_once t l)) in
     let f = in_slot S in
     let parted : in_slots S O ≡ map f r.front ++ f t ∷ map f r.back = ap (map f) r.is ∙ map-append f r.front (t ∷ r.back) in
-    none_middle q (map f r.front) (f t) (map f r.back) (subst (λ v. named q v ≡ None) parted h)
+    none_middle q (map f r.front) (f t) (map f r.back) (subst (λ v. mark_of_name q v ≡ None) parted h)
 
 -- PUT BEHIND
 
@@ -101,7 +101,7 @@ behind_already S N O q slot n x l k e test h = λ s b. split (s == slot)
     beyond : (a b : ℕ) → b ≤ a → false ≡ nat_lt a b
     beyond a b l = grind (arith, nat_tests)
 
-pub none_behind : (S : List Mark) (N O : List ℕ) (q : List ℕ) (n : ℕ) → IsIndexed S N O → named q (in_slots S O) ≡ None → (test : Mark → Bool) → SlotsPart test S n → SlotsPart (λ m. test m && not (is_named q m)) S n
+pub none_behind : (S : List Mark) (N O : List ℕ) (q : List ℕ) (n : ℕ) → IsIndexed S N O → mark_of_name q (in_slots S O) ≡ None → (test : Mark → Bool) → SlotsPart test S n → SlotsPart (λ m. test m && not (is_named q m)) S n
 none_behind S N O q n x none test h = λ s b. unnamed test q (in_slot S s) (nat_lt s n) (h s b) (no_name S N O q s x b none)
 
 -- ONE NAME MORE
@@ -141,21 +141,21 @@ view_cut S n xs =
     same_marks (in_slot (take n S)) (in_slot S) (filter (first n) xs)
     (each_passes (first n) (λ s. in_slot (take n S) s ≡ in_slot S s) xs (λ s t. get_or-take n S s no_mark (below s n t)))
 
-names_cut : (f : ℕ → Mark) (p : ℕ → Bool) (P : List ℕ → Type 0) (xs : List ℕ) → AllByRecursion P (names_of (map f xs)) → AllByRecursion P (names_of (map f (filter p xs)))
+names_cut : (f : ℕ → Mark) (p : ℕ → Bool) (P : List ℕ → Type 0) (xs : List ℕ) → AllByRecursion P (names_of_marks (map f xs)) → AllByRecursion P (names_of_marks (map f (filter p xs)))
 names_cut f p P [] h = tt
 names_cut f p P (x ∷ xs) h =
     let more = names_cut f p P xs h.1 in
     split (p x)
-    (λ t. subst (λ b. AllByRecursion P (names_of (map f (cond b (x ∷ filter p xs) (filter p xs))))) (sym t) (h.0, more))
-    (λ t. subst (λ b. AllByRecursion P (names_of (map f (cond b (x ∷ filter p xs) (filter p xs))))) (sym t) more)
+    (λ t. subst (λ b. AllByRecursion P (names_of_marks (map f (cond b (x ∷ filter p xs) (filter p xs))))) (sym t) (h.0, more))
+    (λ t. subst (λ b. AllByRecursion P (names_of_marks (map f (cond b (x ∷ filter p xs) (filter p xs))))) (sym t) more)
 
-ascending_cut : (f : ℕ → Mark) (p : ℕ → Bool) (xs : List ℕ) → AreAscending (names_of (map f xs)) → AreAscending (names_of (map f (filter p xs)))
+ascending_cut : (f : ℕ → Mark) (p : ℕ → Bool) (xs : List ℕ) → AreAscending (names_of_marks (map f xs)) → AreAscending (names_of_marks (map f (filter p xs)))
 ascending_cut f p [] h = tt
 ascending_cut f p (x ∷ xs) h =
     let more = ascending_cut f p xs h.1 in
     split (p x)
-    (λ t. subst (λ b. AreAscending (names_of (map f (cond b (x ∷ filter p xs) (filter p xs))))) (sym t) (names_cut f p (λ y. is_lt (name_order (f x).name y) ≡ true) xs h.0, more))
-    (λ t. subst (λ b. AreAscending (names_of (map f (cond b (x ∷ filter p xs) (filter p xs))))) (sym t) more)
+    (λ t. subst (λ b. AreAscending (names_of_marks (map f (cond b (x ∷ filter p xs) (filter p xs))))) (sym t) (names_cut f p (λ y. is_lt (name_order (f x).name y) ≡ true) xs h.0, more))
+    (λ t. subst (λ b. AreAscending (names_of_marks (map f (cond b (x ∷ filter p xs) (filter p xs))))) (sym t) more)
 
 order_cut : (f : ℕ → Mark) (p : ℕ → Bool) (xs : List ℕ) → AreInOrder (map f xs) → AreInOrder (map f (filter p xs))
 order_cut f p [] h = tt
@@ -181,7 +181,7 @@ cut_indexed S S' N N' O O' n x l es en eo =
     let indexed : IsIndexed (take n S) (filter (first n) N) (filter (first n) O) = record {
       names_once = subst (λ v. IsEachOnce v (filter (first n) N)) (sym size) (once_cut n (length S) N l x.names_once);
       order_once = subst (λ v. IsEachOnce v (filter (first n) O)) (sym size) (once_cut n (length S) O l x.order_once);
-      ascending = subst (λ v. AreAscending (names_of v)) (sym (view_cut S n N)) (ascending_cut (in_slot S) (first n) N x.ascending);
+      ascending = subst (λ v. AreAscending (names_of_marks v)) (sym (view_cut S n N)) (ascending_cut (in_slot S) (first n) N x.ascending);
       ordered = subst AreInOrder (sym (view_cut S n O)) (order_cut (in_slot S) (first n) O x.ordered);
     } in
     subst (λ v. IsIndexed v N' O') (sym es) (subst (λ v. IsIndexed (take n S) v O') (sym en) (subst (λ v. IsIndexed (take n S) (filter (first n) N) v) (sym eo) indexed))

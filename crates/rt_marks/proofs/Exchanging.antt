@@ -6,7 +6,7 @@ use Rattle.std.proofs.lemmas.List.{get_or-map, get_or-set_other, get_or-set_same
 use Rattle.std.proofs.lemmas.List.Edits.{swap_is}
 use Rattle.rt_marks.specs.declared.mark.Mark.{Mark as KeptMark}
 use Rattle.rt_marks.specs.Marks.{Mark, AreAscending, AreInOrder, comes_before}
-use Rattle.rt_marks.specs.Seen.{IsEachOnce, IsIndexed, PartsAt, in_slot, in_slots, names_of, no_mark, seen, seen_all, times}
+use Rattle.rt_marks.specs.Seen.{IsEachOnce, IsIndexed, MarksPartAt, in_slot, in_slots, names_of_marks, no_mark, seen_mark, seen_all, slot_times}
 use Rattle.rt_marks.proofs.Changes.{apart}
 use Rattle.rt_marks.proofs.InOrder.{split}
 use Rattle.rt_marks.proofs.Slots.{slot_kept, stands_at, stands_read, stands_within}
@@ -22,7 +22,7 @@ pub record StandAt (xs : List ℕ) (a b i j : ℕ) : Type 0 where
   pub i_read : get_or xs i 0 ≡ a
   pub j_read : get_or xs j 0 ≡ b
 
-times_set : (s : ℕ) (xs : List ℕ) (i y d : ℕ) → i < length xs → tally (get_or xs i d == s) + times s (set xs i y) ≡ tally (y == s) + times s xs
+times_set : (s : ℕ) (xs : List ℕ) (i y d : ℕ) → i < length xs → tally (get_or xs i d == s) + slot_times s (set xs i y) ≡ tally (y == s) + slot_times s xs
 times_set s [] i y d l = absurd (omega (arith, l))
 times_set s (x ∷ xs) zero y d l = omega arith
 times_set s (x ∷ xs) (suc i) y d l = omega (arith, times_set s xs i y d (omega (arith, l)))
@@ -35,16 +35,16 @@ written_after xs i j b l e = split (j == i)
     (λ t. let same = eqb-true j i t in ap (λ v. get_or (set xs i b) v 0) same ∙ get_or-set_same xs i b 0 (subst (λ v. v < length xs) same l))
     (λ f. get_or-set_other xs i j b 0 (apart j i f) ∙ e)
 
-times_swapped : (s : ℕ) (xs : List ℕ) (a b i j : ℕ) → StandAt xs a b i j → times s (swap xs i j) ≡ times s xs
+times_swapped : (s : ℕ) (xs : List ℕ) (a b i j : ℕ) → StandAt xs a b i j → slot_times s (swap xs i j) ≡ slot_times s xs
 times_swapped s xs a b i j h =
     let first = times_set s xs i b 0 h.i_within in
     let second = times_set s (set xs i b) j a 0 (subst (λ v. j < v) (sym (length-set xs i b)) h.j_within) in
     let at_i = ap (λ v. tally (v == s)) h.i_read in
     let at_j = ap (λ v. tally (v == s)) (written_after xs i j b h.j_within h.j_read) in
-    ap (times s) (numbers_swapped xs a b i j h) ∙ omega (arith, first, second, at_i, at_j)
+    ap (slot_times s) (numbers_swapped xs a b i j h) ∙ omega (arith, first, second, at_i, at_j)
 
 -- a number that stands once in a list stands at one index
-only_once : (a : ℕ) (xs : List ℕ) (i k d : ℕ) → times a xs ≡ 1 → i < length xs → k < length xs → get_or xs i d ≡ a → get_or xs k d ≡ a → i ≡ k
+only_once : (a : ℕ) (xs : List ℕ) (i k d : ℕ) → slot_times a xs ≡ 1 → i < length xs → k < length xs → get_or xs i d ≡ a → get_or xs k d ≡ a → i ≡ k
 only_once a [] i k d h li lk ei ek = absurd (omega (arith, li))
 only_once a (x ∷ xs) zero zero d h li lk ei ek = refl
 only_once a (x ∷ xs) zero (suc k) d h li lk ei ek = absurd (omega (arith, h, ap tally (eq-eqb x a ei), times_at xs k a d (omega (arith, lk)) ek))
@@ -125,10 +125,10 @@ once_swapped : (marks : List Mark) (xs : List ℕ) (a b i j : ℕ) → IsEachOnc
 once_swapped marks xs a b i j once h = λ s. times_swapped s xs a b i j h ∙ subst (λ v. IsEachOnce v xs) (sym (traded_length marks a b)) once s
 
 -- where two slots' numbers stand in the order
-pub both_stand : (S : List Mark) (N O : List ℕ) (a b i j : ℕ) (here_a here_b : Mark) → IsIndexed S N O → a < length S → b < length S → in_slot S a ≡ here_a → in_slot S b ≡ here_b → PartsAt (λ x. comes_before x here_a) (in_slots S O) i → PartsAt (λ x. comes_before x here_b) (in_slots S O) j → StandAt O a b i j
+pub both_stand : (S : List Mark) (N O : List ℕ) (a b i j : ℕ) (here_a here_b : Mark) → IsIndexed S N O → a < length S → b < length S → in_slot S a ≡ here_a → in_slot S b ≡ here_b → MarksPartAt (λ x. comes_before x here_a) (in_slots S O) i → MarksPartAt (λ x. comes_before x here_b) (in_slots S O) j → StandAt O a b i j
 both_stand S N O a b i j here_a here_b x la lb ea eb pa pb =
-    let s = stands_at S O a i x.order_once x.ordered la (subst (λ v. PartsAt (λ x. comes_before x v) (in_slots S O) i) (sym ea) pa) in
-    let t = stands_at S O b j x.order_once x.ordered lb (subst (λ v. PartsAt (λ x. comes_before x v) (in_slots S O) j) (sym eb) pb) in
+    let s = stands_at S O a i x.order_once x.ordered la (subst (λ v. MarksPartAt (λ x. comes_before x v) (in_slots S O) i) (sym ea) pa) in
+    let t = stands_at S O b j x.order_once x.ordered lb (subst (λ v. MarksPartAt (λ x. comes_before x v) (in_slots S O) j) (sym eb) pb) in
     record { i_within = stands_within a O i s; j_within = stands_within b O j t; i_read = stands_read a O i 0 s; j_read = stands_read b O j 0 t }
 
 -- OF TABLES, by the values of their vectors
@@ -141,7 +141,7 @@ swapped_table S S' N N' O O' a b i j k l x la lb n o es en eo =
     let indexed : IsIndexed (traded S a b) (swap N i j) (swap O k l) = record {
       names_once = once_swapped S N a b i j x.names_once n;
       order_once = once_swapped S O a b k l x.order_once o;
-      ascending = subst (λ v. AreAscending (names_of v)) (sym names) x.ascending;
+      ascending = subst (λ v. AreAscending (names_of_marks v)) (sym names) x.ascending;
       ordered = subst AreInOrder (sym order) x.ordered;
     } in (
       subst (λ v. IsIndexed v N' O') (sym marks) (subst (λ v. IsIndexed (traded S a b) v O') (sym en) (subst (λ v. IsIndexed (traded S a b) (swap N i j) v) (sym eo) indexed)),
@@ -153,7 +153,7 @@ pub seen_swapped : (items : List KeptMark) (a b : ℕ) (d : KeptMark) → a < le
 seen_swapped items a b d la lb =
     let S = seen_all items in
     ap seen_all (sym (swap_is items a b d la lb))
-    ∙ map-set seen (set items a (get_or items b d)) b (get_or items a d)
-    ∙ ap (λ v. set v b (seen (get_or items a d))) (map-set seen items a (get_or items b d))
+    ∙ map-set seen_mark (set items a (get_or items b d)) b (get_or items a d)
+    ∙ ap (λ v. set v b (seen_mark (get_or items a d))) (map-set seen_mark items a (get_or items b d))
     ∙ (λ i. set (set S a (sym (slot_kept items b d lb) i)) b (sym (slot_kept items a d la) i))
     ∙ sym (traded_is S a b (subst (λ v. a < v) (sym (seen_length items)) la) (subst (λ v. b < v) (sym (seen_length items)) lb))

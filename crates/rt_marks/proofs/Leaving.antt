@@ -2,7 +2,7 @@
 use Rattle.std.proofs.Common.{◌≡◌, ℕ, zero, suc, ◌+◌, ◌-◌, ◌<◌, ◌≤◌, ◌&&◌, ◌||◌, nat_lt, nat_le, List, [], ◌∷◌, map, option_map, true, false, refl, sym, ap, ◌∙◌, Bool, cond, arith}
 use Rattle.std.specs.List.{AllByRecursion}
 use Rattle.std.proofs.lemmas.Bool.Decides.{nat_tests}
-use Rattle.rt_marks.specs.Marks.{Mark, comes_before, AreInOrder, HaveOwnNames, named, with_mark, in_order, place_removed, mark_removed, marks_removed, place_left, mark_left, marks_left, is_within_or}
+use Rattle.rt_marks.specs.Marks.{Mark, comes_before, AreInOrder, HaveOwnNames, mark_of_name, with_mark, in_order, place_removed, mark_removed, marks_removed, place_left, mark_left, marks_left, is_within_or}
 use Rattle.rt_marks.proofs.InOrder.{split, with_passing, with_here, with_comm, in_order_same, each_in_order}
 use Rattle.rt_marks.proofs.Names.{named_in_order}
 use Rattle.rt_marks.proofs.Moving.{moved, named_moved, own_moved}
@@ -94,7 +94,7 @@ within_left removed size marks h = each_in_order (λ m. m.place ≤ place_left r
   all [] h = tt
   all (m ∷ marks) h = (place_rising removed m.place size h.0, all marks h.1)
 
-pub named_left : (removed : ℕ → Bool) (q : List ℕ) (marks : List Mark) → HaveOwnNames marks → named q (marks_left removed marks) ≡ option_map (mark_left removed) (named q marks)
+pub named_left : (removed : ℕ → Bool) (q : List ℕ) (marks : List Mark) → HaveOwnNames marks → mark_of_name q (marks_left removed marks) ≡ option_map (mark_left removed) (mark_of_name q marks)
 named_left removed q marks h =
     let to : Mark → ℕ = λ m. place_left removed m.place in
     named_in_order (map (moved to) marks) (own_moved to marks h) q ∙ named_moved to q marks

@@ -12,8 +12,8 @@ use Rattle.std.specs.Vec.{with_items}
 use Rattle.rt_marks.specs.declared.gravity.Gravity.{Gravity}
 use Rattle.rt_marks.specs.declared.gravity.Gravity.TheVariants.{Left, Right}
 use Rattle.rt_marks.specs.declared.mark.Mark.{Mark as KeptMark}
-use Rattle.rt_marks.specs.Marks.{Mark, gravity_order, name_order, comes_before, AreInOrder, is_named, named, is_right, is_moved_on, place_inserted, mark_inserted, marks_inserted, place_removed, mark_removed, marks_removed, HaveOwnNames, without, put_mark, gravity_or_right, marks_set, marks_with_gravity}
-use Rattle.rt_marks.specs.Seen.{seen, seen_all, names_of}
+use Rattle.rt_marks.specs.Marks.{Mark, gravity_order, name_order, comes_before, AreInOrder, is_named, mark_of_name, is_right, is_moved_on, place_inserted, mark_inserted, marks_inserted, place_removed, mark_removed, marks_removed, HaveOwnNames, without_mark, put_mark, gravity_or_right, marks_set, marks_with_gravity}
+use Rattle.rt_marks.specs.Seen.{seen_mark, seen_all, names_of_marks}
 use Rattle.rt_marks.proofs.InOrder.{split, each_in_order, each_with}
 use Rattle.rt_marks.proofs.Names.{clash, named_in_order}
 
@@ -85,22 +85,22 @@ inserted_in_order place n (m ∷ marks) h = (each_inserted place n m marks h.0, 
 abbrev pub moved : (Mark → ℕ) → Mark → Mark
 moved place m = record m { place = place m }
 
-pub named_moved : (place : Mark → ℕ) (q : List ℕ) (marks : List Mark) → named q (map (moved place) marks) ≡ option_map (moved place) (named q marks)
+pub named_moved : (place : Mark → ℕ) (q : List ℕ) (marks : List Mark) → mark_of_name q (map (moved place) marks) ≡ option_map (moved place) (mark_of_name q marks)
 named_moved place q [] = refl
 named_moved place q (m ∷ marks) =
     let more = named_moved place q marks in
     split (is_named q m)
-    (λ t. ap (λ b. cond b (Some (moved place m)) (named q (map (moved place) marks))) t ∙ sym (ap (λ b. option_map (moved place) (cond b (Some m) (named q marks))) t))
-    (λ f. ap (λ b. cond b (Some (moved place m)) (named q (map (moved place) marks))) f ∙ more ∙ sym (ap (λ b. option_map (moved place) (cond b (Some m) (named q marks))) f))
+    (λ t. ap (λ b. cond b (Some (moved place m)) (mark_of_name q (map (moved place) marks))) t ∙ sym (ap (λ b. option_map (moved place) (cond b (Some m) (mark_of_name q marks))) t))
+    (λ f. ap (λ b. cond b (Some (moved place m)) (mark_of_name q (map (moved place) marks))) f ∙ more ∙ sym (ap (λ b. option_map (moved place) (cond b (Some m) (mark_of_name q marks))) f))
 
 pub own_moved : (place : Mark → ℕ) (marks : List Mark) → HaveOwnNames marks → HaveOwnNames (map (moved place) marks)
 own_moved place [] h = tt
 own_moved place (m ∷ marks) h = (named_moved place m.name marks ∙ ap (option_map (moved place)) h.0, own_moved place marks h.1)
 
-pub named_inserted : (place n : ℕ) (q : List ℕ) (marks : List Mark) → named q (marks_inserted place n marks) ≡ option_map (mark_inserted place n) (named q marks)
+pub named_inserted : (place n : ℕ) (q : List ℕ) (marks : List Mark) → mark_of_name q (marks_inserted place n marks) ≡ option_map (mark_inserted place n) (mark_of_name q marks)
 named_inserted place n q marks = named_moved (place_inserted place n) q marks
 
-pub named_removed : (place n : ℕ) (q : List ℕ) (marks : List Mark) → HaveOwnNames marks → named q (marks_removed place n marks) ≡ option_map (mark_removed place n) (named q marks)
+pub named_removed : (place n : ℕ) (q : List ℕ) (marks : List Mark) → HaveOwnNames marks → mark_of_name q (marks_removed place n marks) ≡ option_map (mark_removed place n) (mark_of_name q marks)
 named_removed place n q marks h =
     let to : Mark → ℕ = λ m. place_removed place n m.place in
     named_in_order (map (moved to) marks) (own_moved to marks h) q ∙ named_moved to q marks
@@ -123,38 +123,38 @@ each_removed place n size (m ∷ marks) k h = (removed_at_most place n size m.pl
 pub within_removed : (place n size : ℕ) (marks : List Mark) → place + n ≤ size → AllByRecursion (λ m. m.place ≤ size) marks → AllByRecursion (λ m. m.place ≤ size - n) (marks_removed place n marks)
 within_removed place n size marks k h = each_in_order (λ m. m.place ≤ size - n) (map (mark_removed place n) marks) (each_removed place n size marks k h)
 
-each_without : (P : Mark → Type 0) (name : List ℕ) (marks : List Mark) → AllByRecursion P marks → AllByRecursion P (without name marks)
+each_without : (P : Mark → Type 0) (name : List ℕ) (marks : List Mark) → AllByRecursion P marks → AllByRecursion P (without_mark name marks)
 each_without P name [] h = tt
 each_without P name (m ∷ marks) h =
     let more = each_without P name marks h.1 in
-    let others = without name marks in
+    let others = without_mark name marks in
     split (is_named name m)
     (λ t. subst (λ v. AllByRecursion P v) (sym (ap (λ b. cond (not b) (m ∷ others) others) t)) more)
     (λ f. subst (λ v. AllByRecursion P v) (sym (ap (λ b. cond (not b) (m ∷ others) others) f)) (h.0, more))
 
-each_named : (P : Mark → Type 0) (name : List ℕ) (m : Mark) (marks : List Mark) → AllByRecursion P marks → named name marks ≡ Some m → P m
+each_named : (P : Mark → Type 0) (name : List ℕ) (m : Mark) (marks : List Mark) → AllByRecursion P marks → mark_of_name name marks ≡ Some m → P m
 each_named P name m [] h e = absurd (clash false (ap is_some e) refl)
 each_named P name m (x ∷ marks) h e =
     let more = each_named P name m marks h.1 in
     split (is_named name x)
-    (λ t. let same : Some x ≡ Some m = sym (ap (λ b. cond b (Some x) (named name marks)) t) ∙ e in
+    (λ t. let same : Some x ≡ Some m = sym (ap (λ b. cond b (Some x) (mark_of_name name marks)) t) ∙ e in
     subst P (ap (λ o. option_map_or (λ (y : Mark). y) o x) same) h.0)
-    (λ f. more (sym (ap (λ b. cond b (Some x) (named name marks)) f) ∙ e))
+    (λ f. more (sym (ap (λ b. cond b (Some x) (mark_of_name name marks)) f) ∙ e))
 
 pub within_set : (name : List ℕ) (place size : ℕ) (marks : List Mark) → place ≤ size → AllByRecursion (λ m. m.place ≤ size) marks → AllByRecursion (λ m. m.place ≤ size) (marks_set name place marks)
 within_set name place size marks l h =
     let P : Mark → Type 0 = λ m. m.place ≤ size in
-    each_with P (record { name = name; place = place; gravity = gravity_or_right name marks }) (without name marks) l (each_without P name marks h)
+    each_with P (record { name = name; place = place; gravity = gravity_or_right name marks }) (without_mark name marks) l (each_without P name marks h)
 
-pub within_unset : (name : List ℕ) (size : ℕ) (marks : List Mark) → AllByRecursion (λ m. m.place ≤ size) marks → AllByRecursion (λ m. m.place ≤ size) (without name marks)
+pub within_unset : (name : List ℕ) (size : ℕ) (marks : List Mark) → AllByRecursion (λ m. m.place ≤ size) marks → AllByRecursion (λ m. m.place ≤ size) (without_mark name marks)
 within_unset name size marks h = each_without (λ m. m.place ≤ size) name marks h
 
 pub within_gravity : (name : List ℕ) (gravity : Gravity) (size : ℕ) (marks : List Mark) → AllByRecursion (λ m. m.place ≤ size) marks → AllByRecursion (λ m. m.place ≤ size) (marks_with_gravity name gravity marks)
-within_gravity name gravity size marks h = by (named name marks) refl where
-  by : (o : Option Mark) → named name marks ≡ o → AllByRecursion (λ m. m.place ≤ size) (option_map_or (λ (m : Mark). put_mark (record m { gravity = gravity }) marks) o marks)
+within_gravity name gravity size marks h = by (mark_of_name name marks) refl where
+  by : (o : Option Mark) → mark_of_name name marks ≡ o → AllByRecursion (λ m. m.place ≤ size) (option_map_or (λ (m : Mark). put_mark (record m { gravity = gravity }) marks) o marks)
   by None e = h
   by (Some m) e =
-      each_with (λ x. x.place ≤ size) (record m { gravity = gravity }) (without m.name marks) (each_named (λ x. x.place ≤ size) name m marks h e) (each_without (λ x. x.place ≤ size) m.name marks h)
+      each_with (λ x. x.place ≤ size) (record m { gravity = gravity }) (without_mark m.name marks) (each_named (λ x. x.place ≤ size) name m marks h e) (each_without (λ x. x.place ≤ size) m.name marks h)
 
 pub within_more : (size most n : ℕ) (marks : List Mark) → size + n ≤ most → AllByRecursion (λ m. m.place ≤ size) marks → AllByRecursion (λ m. m.place + n ≤ most) marks
 within_more size most n [] l h = tt
@@ -162,16 +162,16 @@ within_more size most n (m ∷ marks) l h = (omega (arith, l, h.0), within_more 
 
 -- KEPT MARKS
 
-pub seen_map : (f : KeptMark → KeptMark) (g : Mark → Mark) → ((m : KeptMark) → seen (f m) ≡ g (seen m)) → (items : List KeptMark) → seen_all (map f items) ≡ map g (seen_all items)
+pub seen_map : (f : KeptMark → KeptMark) (g : Mark → Mark) → ((m : KeptMark) → seen_mark (f m) ≡ g (seen_mark m)) → (items : List KeptMark) → seen_all (map f items) ≡ map g (seen_all items)
 seen_map f g e [] = refl
 seen_map f g e (m ∷ items) = λ j. e m j ∷ seen_map f g e items j
 
-pub names_moved : (place : Mark → ℕ) (marks : List Mark) → names_of (map (moved place) marks) ≡ names_of marks
+pub names_moved : (place : Mark → ℕ) (marks : List Mark) → names_of_marks (map (moved place) marks) ≡ names_of_marks marks
 names_moved place [] = refl
 names_moved place (m ∷ marks) = ap (λ v. m.name ∷ v) (names_moved place marks)
 
 abbrev pub replaced : (Mark → ℕ) → KeptMark → KeptMark
-replaced place m = record m { place = place (seen m) }
+replaced place m = record m { place = place (seen_mark m) }
 
 -- A LOOP THAT WRITES EACH PLACE
 
@@ -188,11 +188,11 @@ unwritten f xs ys i d l h =
     ap (λ v. get_or v i d) (h ∙ ap (λ v. map f (take i xs) ++ v) (drop_more xs i d l))
     ∙ get_or_at (map f (take i xs)) (get_or xs i d) (drop (i + 1) xs) d i (length-map (take i xs) f ∙ length-take-le i xs (omega (arith, l)))
 
-pub one_written : (place : Mark → ℕ) (xs ys : List KeptMark) (i : ℕ) (x : KeptMark) (p : ℕ) → i < length xs → ys ≡ map (replaced place) (take i xs) ++ drop i xs → x ≡ get_or ys i x → p ≡ place (seen (get_or ys i x)) → set ys i (record (get_or ys i x) { place = p }) ≡ map (replaced place) (take (i + 1) xs) ++ drop (i + 1) xs
+pub one_written : (place : Mark → ℕ) (xs ys : List KeptMark) (i : ℕ) (x : KeptMark) (p : ℕ) → i < length xs → ys ≡ map (replaced place) (take i xs) ++ drop i xs → x ≡ get_or ys i x → p ≡ place (seen_mark (get_or ys i x)) → set ys i (record (get_or ys i x) { place = p }) ≡ map (replaced place) (take (i + 1) xs) ++ drop (i + 1) xs
 one_written place xs ys i x p l h e k =
     ap (λ v. set ys i (record (get_or ys i x) { place = v })) k ∙ map_over_more (replaced place) xs ys i (get_or ys i x) l h (ap (λ v. get_or ys i v) e)
 
-pub each_at : (P : Mark → Type 0) (items : List KeptMark) → AllByRecursion P (seen_all items) → (i : ℕ) (d : KeptMark) → i < length items → P (seen (get_or items i d))
+pub each_at : (P : Mark → Type 0) (items : List KeptMark) → AllByRecursion P (seen_all items) → (i : ℕ) (d : KeptMark) → i < length items → P (seen_mark (get_or items i d))
 each_at P [] h i d l = absurd (omega (arith, l))
 each_at P (m ∷ items) h zero d l = h.0
 each_at P (m ∷ items) h (suc i) d l = each_at P items h.1 i d (omega (arith, l))

@@ -11,7 +11,7 @@ use Rattle.rt_marks.specs.declared.gravity.Gravity.{Gravity}
 use Rattle.rt_marks.specs.declared.gravity.Gravity.TheVariants.{Left, Right}
 use Rattle.rt_marks.specs.Marks
 use Rattle.rt_marks.specs.Marks.{Mark, gravity_order, name_order, comes_before, AreInOrder, AreAscending, mark_removed, marks_removed, place_removed, mark_inserted, marks_inserted}
-use Rattle.rt_marks.specs.Seen.{names_of, no_mark, in_slot, in_slots, times, IsEachOnce, IsIndexed, PartsAt, same_gravity, stands, slot_stands, overwritten}
+use Rattle.rt_marks.specs.Seen.{names_of_marks, no_mark, in_slot, in_slots, slot_times, IsEachOnce, IsIndexed, MarksPartAt, same_gravity, stands, slot_stands, overwritten}
 use Rattle.rt_marks.proofs.InOrder.{split, in_order_same}
 use Rattle.rt_marks.proofs.Names.{clash}
 use Rattle.rt_marks.proofs.Moving.{before_less, before_rest, inserted_in_order, names_moved, places_decide}
@@ -29,13 +29,13 @@ kept_none : (b : Bool) → kept b 0 ≡ 0
 kept_none true = refl
 kept_none false = refl
 
-pub times_filter : (t : ℕ → Bool) (s : ℕ) (xs : List ℕ) → times s (filter t xs) ≡ kept (t s) (times s xs)
+pub times_filter : (t : ℕ → Bool) (s : ℕ) (xs : List ℕ) → slot_times s (filter t xs) ≡ kept (t s) (slot_times s xs)
 times_filter t s [] = sym (kept_none (t s))
 times_filter t s (x ∷ xs) =
     let more = times_filter t s xs in
     split (t x)
-    (λ k. ap (λ b. times s (cond b (x ∷ filter t xs) (filter t xs))) k ∙ ap (λ v. tally (x == s) + v) more ∙ passes k)
-    (λ k. ap (λ b. times s (cond b (x ∷ filter t xs) (filter t xs))) k ∙ more ∙ fails k)
+    (λ k. ap (λ b. slot_times s (cond b (x ∷ filter t xs) (filter t xs))) k ∙ ap (λ v. tally (x == s) + v) more ∙ passes k)
+    (λ k. ap (λ b. slot_times s (cond b (x ∷ filter t xs) (filter t xs))) k ∙ more ∙ fails k)
   where
     one : (b : Bool) (c r : ℕ) → b ≡ true → c + kept b r ≡ kept b (c + r)
     one b c r h = ap (λ v. c + kept v r) h ∙ sym (ap (λ v. kept v (c + r)) h)
@@ -49,26 +49,26 @@ times_filter t s (x ∷ xs) =
     three : (b : Bool) (r : ℕ) → tally false + kept b r ≡ kept b (tally false + r)
     three b r = sym (zeros (kept b r)) ∙ two b r
 
-    passes : t x ≡ true → tally (x == s) + kept (t s) (times s xs) ≡ kept (t s) (times s (x ∷ xs))
+    passes : t x ≡ true → tally (x == s) + kept (t s) (slot_times s xs) ≡ kept (t s) (slot_times s (x ∷ xs))
     passes k = split (x == s)
-        (λ e. one (t s) (tally (x == s)) (times s xs) (ap t (sym (eqb-true x s e)) ∙ k))
-        (λ f. ap (λ v. tally v + kept (t s) (times s xs)) f ∙ three (t s) (times s xs) ∙ sym (ap (λ v. kept (t s) (tally v + times s xs)) f))
+        (λ e. one (t s) (tally (x == s)) (slot_times s xs) (ap t (sym (eqb-true x s e)) ∙ k))
+        (λ f. ap (λ v. tally v + kept (t s) (slot_times s xs)) f ∙ three (t s) (slot_times s xs) ∙ sym (ap (λ v. kept (t s) (tally v + slot_times s xs)) f))
 
-    fails : t x ≡ false → kept (t s) (times s xs) ≡ kept (t s) (times s (x ∷ xs))
+    fails : t x ≡ false → kept (t s) (slot_times s xs) ≡ kept (t s) (slot_times s (x ∷ xs))
     fails k = split (x == s)
-        (λ e. let f : t s ≡ false = ap t (sym (eqb-true x s e)) ∙ k in ap (λ v. kept v (times s xs)) f ∙ sym (ap (λ v. kept v (times s (x ∷ xs))) f))
-        (λ f. two (t s) (times s xs) ∙ sym (ap (λ v. kept (t s) (tally v + times s xs)) f))
+        (λ e. let f : t s ≡ false = ap t (sym (eqb-true x s e)) ∙ k in ap (λ v. kept v (slot_times s xs)) f ∙ sym (ap (λ v. kept v (slot_times s (x ∷ xs))) f))
+        (λ f. two (t s) (slot_times s xs) ∙ sym (ap (λ v. kept (t s) (tally v + slot_times s xs)) f))
 
-filter_same : (t : ℕ → Bool) (xs ys : List ℕ) → ((s : ℕ) → times s xs ≡ times s ys) → (s : ℕ) → times s (filter t xs) ≡ times s (filter t ys)
+filter_same : (t : ℕ → Bool) (xs ys : List ℕ) → ((s : ℕ) → slot_times s xs ≡ slot_times s ys) → (s : ℕ) → slot_times s (filter t xs) ≡ slot_times s (filter t ys)
 filter_same t xs ys h s = times_filter t s xs ∙ ap (kept (t s)) (h s) ∙ sym (times_filter t s ys)
 
 -- numbers that stand as often are as many
-same_length : (xs ys : List ℕ) → ((s : ℕ) → times s xs ≡ times s ys) → length xs ≡ length ys
+same_length : (xs ys : List ℕ) → ((s : ℕ) → slot_times s xs ≡ slot_times s ys) → length xs ≡ length ys
 same_length [] [] h = refl
 same_length [] (y ∷ ys) h = absurd (omega (arith, h y, once y))
 same_length (x ∷ xs) ys h =
     let r = present x ys (omega (arith, h x, once x)) in
-    let fewer : (s : ℕ) → times s xs ≡ times s (r.front ++ r.back) = λ s. omega (arith, h s, times_middle s r.front x r.back, ap (times s) r.is) in
+    let fewer : (s : ℕ) → slot_times s xs ≡ slot_times s (r.front ++ r.back) = λ s. omega (arith, h s, times_middle s r.front x r.back, ap (slot_times s) r.is) in
     omega (arith, same_length xs (r.front ++ r.back) fewer, length-append r.front r.back, ap length r.is, length-append r.front (x ∷ r.back))
 
 none_pass : (t : ℕ → Bool) (xs : List ℕ) → AllByRecursion (λ s. t s ≡ false) xs → filter t xs ≡ []
@@ -92,17 +92,17 @@ each_filter t P (x ∷ xs) h =
     (λ k. subst (λ b. AllByRecursion P (cond b (x ∷ filter t xs) (filter t xs))) (sym k) more)
 
 -- of numbers that pass one of two tests, none both
-both_tests : (t u : ℕ → Bool) (xs : List ℕ) → AllByRecursion (λ s. u s ≡ not (t s)) xs → (s : ℕ) → times s (filter t xs) + times s (filter u xs) ≡ times s xs
+both_tests : (t u : ℕ → Bool) (xs : List ℕ) → AllByRecursion (λ s. u s ≡ not (t s)) xs → (s : ℕ) → slot_times s (filter t xs) + slot_times s (filter u xs) ≡ slot_times s xs
 both_tests t u [] h s = refl
 both_tests t u (x ∷ xs) h s =
     let more = both_tests t u xs h.1 s in
     split (t x)
     (λ k. let j : u x ≡ false = h.0 ∙ ap not k in
-    ap (λ b. times s (cond b (x ∷ filter t xs) (filter t xs)) + times s (filter u (x ∷ xs))) k ∙ ap (λ b. times s (x ∷ filter t xs) + times s (cond b (x ∷ filter u xs) (filter u xs))) j
-    ∙ first (tally (x == s)) (times s (filter t xs)) (times s (filter u xs)) (times s xs) more)
+    ap (λ b. slot_times s (cond b (x ∷ filter t xs) (filter t xs)) + slot_times s (filter u (x ∷ xs))) k ∙ ap (λ b. slot_times s (x ∷ filter t xs) + slot_times s (cond b (x ∷ filter u xs) (filter u xs))) j
+    ∙ first (tally (x == s)) (slot_times s (filter t xs)) (slot_times s (filter u xs)) (slot_times s xs) more)
     (λ k. let j : u x ≡ true = h.0 ∙ ap not k in
-    ap (λ b. times s (cond b (x ∷ filter t xs) (filter t xs)) + times s (filter u (x ∷ xs))) k ∙ ap (λ b. times s (filter t xs) + times s (cond b (x ∷ filter u xs) (filter u xs))) j
-    ∙ second (tally (x == s)) (times s (filter t xs)) (times s (filter u xs)) (times s xs) more)
+    ap (λ b. slot_times s (cond b (x ∷ filter t xs) (filter t xs)) + slot_times s (filter u (x ∷ xs))) k ∙ ap (λ b. slot_times s (filter t xs) + slot_times s (cond b (x ∷ filter u xs) (filter u xs))) j
+    ∙ second (tally (x == s)) (slot_times s (filter t xs)) (slot_times s (filter u xs)) (slot_times s xs) more)
   where
     first : (c a b r : ℕ) → a + b ≡ r → (c + a) + b ≡ c + r
     first c a b r h = omega (arith, h)
@@ -155,7 +155,7 @@ is_at place gravity marks s h =
     record { place_is = eqb-true (in_slot marks s).place place j.0; gravity_is = one_gravity (in_slot marks s).gravity gravity j.1 }
 
 -- marks of one place and gravity, by their names
-by_names_in_order : (f : ℕ → Mark) (t : ℕ → Bool) (place : ℕ) (g : Gravity) (xs : List ℕ) → ((s : ℕ) → t s ≡ true → IsAt place g (f s)) → AreAscending (names_of (map f xs)) → AreInOrder (map f (filter t xs))
+by_names_in_order : (f : ℕ → Mark) (t : ℕ → Bool) (place : ℕ) (g : Gravity) (xs : List ℕ) → ((s : ℕ) → t s ≡ true → IsAt place g (f s)) → AreAscending (names_of_marks (map f xs)) → AreInOrder (map f (filter t xs))
 by_names_in_order f t place g [] h a = tt
 by_names_in_order f t place g (x ∷ xs) h a =
     let more = by_names_in_order f t place g xs h a.1 in
@@ -170,7 +170,7 @@ by_names_in_order f t place g (x ∷ xs) h a =
     ))
     (λ k. subst (λ b. AreInOrder (map f (cond b (x ∷ filter t xs) (filter t xs)))) (sym k) more)
   where
-    named_of : (ys : List ℕ) → AllByRecursion (λ n. is_lt (name_order (f x).name n) ≡ true) (names_of (map f ys)) → AllByRecursion (λ s. is_lt (name_order (f x).name (f s).name) ≡ true) ys
+    named_of : (ys : List ℕ) → AllByRecursion (λ n. is_lt (name_order (f x).name n) ≡ true) (names_of_marks (map f ys)) → AllByRecursion (λ s. is_lt (name_order (f x).name (f s).name) ≡ true) ys
     named_of [] h = tt
     named_of (y ∷ ys) h = (h.0, named_of ys h.1)
 
@@ -248,7 +248,7 @@ inserted_table S S' N O place n x e =
       record {
         names_once = subst (λ w. IsEachOnce w N) (sym size) x.names_once;
         order_once = subst (λ w. IsEachOnce w O) (sym size) x.order_once;
-        ascending = subst AreAscending (sym (ap names_of (ap (λ v. in_slots v N) e ∙ names) ∙ names_moved (Marks.place_inserted place n) (in_slots S N))) x.ascending;
+        ascending = subst AreAscending (sym (ap names_of_marks (ap (λ v. in_slots v N) e ∙ names) ∙ names_moved (Marks.place_inserted place n) (in_slots S N))) x.ascending;
         ordered = subst AreInOrder (sym (ap (λ v. in_slots v O) e ∙ order)) (inserted_in_order place n (in_slots S O) x.ordered);
       },
       ap (λ v. in_slots v O) e ∙ order,
@@ -290,7 +290,7 @@ lt_true a b h = grind (arith, nat_tests)
 lt_false : (a b : ℕ) → nat_lt a b ≡ false → b ≤ a
 lt_false a b h = grind (arith, nat_tests)
 
-parts : (S S' : List Mark) (N O : List ℕ) (start place n : ℕ) → IsIndexed S N O → PartsAt (λ m. nat_lt m.place place) (in_slots S O) start → Parts S S' O start place n
+parts : (S S' : List Mark) (N O : List ℕ) (start place n : ℕ) → IsIndexed S N O → MarksPartAt (λ m. nat_lt m.place place) (in_slots S O) start → Parts S S' O start place n
 parts S S' N O start place n x p =
     let f = in_slot S in
     let front = take start O in
@@ -379,7 +379,7 @@ other_gravity true true Right h k = refl
 other_gravity true false g h k = absurd (clash false k refl)
 other_gravity false b g h k = absurd (clash false h refl)
 
-pub rewritten : (S S' : List Mark) (N O : List ℕ) (start place n : ℕ) → IsIndexed S N O → PartsAt (λ m. nat_lt m.place place) (in_slots S O) start → S' ≡ map (mark_removed place n) S → Rewritten S S' N O start place n
+pub rewritten : (S S' : List Mark) (N O : List ℕ) (start place n : ℕ) → IsIndexed S N O → MarksPartAt (λ m. nat_lt m.place place) (in_slots S O) start → S' ≡ map (mark_removed place n) S → Rewritten S S' N O start place n
 rewritten S S' N O start place n x p e =
     let f = in_slot S in
     let h = in_slot S' in
@@ -404,12 +404,12 @@ rewritten S S' N O start place n x p e =
     let those : (v : Gravity) → filter (slot_stands place v S') O ≡ filter (slot_stands place v S') q.middle = λ v.
     ap (filter (slot_stands place v S')) q.is ∙ filter-append (slot_stands place v S') (q.front ++ q.middle) q.back ∙ ap (λ w. w ++ filter (slot_stands place v S') q.back) (filter-append (slot_stands place v S') q.front q.middle)
     ∙ (λ i. (apart_front v i ++ filter (slot_stands place v S') q.middle) ++ apart_back v i) ∙ append-nil (filter (slot_stands place v S') q.middle) in
-    let counted : (v : Gravity) (s : ℕ) → times s (filter (slot_stands place v S') N) ≡ times s (filter (slot_stands place v S') q.middle) = λ v s.
-    filter_same (slot_stands place v S') N O (same_times (length S) N O x.names_once x.order_once) s ∙ ap (times s) (those v) in
+    let counted : (v : Gravity) (s : ℕ) → slot_times s (filter (slot_stands place v S') N) ≡ slot_times s (filter (slot_stands place v S') q.middle) = λ v s.
+    filter_same (slot_stands place v S') N O (same_times (length S) N O x.names_once x.order_once) s ∙ ap (slot_times s) (those v) in
     let turned : AllByRecursion (λ s. slot_stands place Right S' s ≡ not (slot_stands place Left S' s)) q.middle =
     each_also (λ s. s < length S) (λ s. (h s).place ≡ place) (λ s. slot_stands place Right S' s ≡ not (slot_stands place Left S' s)) q.middle
     (λ s l k. other_gravity (nat_lt s (length S')) ((h s).place == place) (h s).gravity (within s (length S') (subst (λ v. s < v) (sym size) l)) (eq-eqb (h s).place place k)) q.middle_in middle_then in
-    let halves : (s : ℕ) → times s left + times s right ≡ times s q.middle = λ s.
+    let halves : (s : ℕ) → slot_times s left + slot_times s right ≡ slot_times s q.middle = λ s.
     (λ i. counted Left s i + counted Right s i) ∙ both_tests (slot_stands place Left S') (slot_stands place Right S') q.middle turned s in
     let long : length q.middle ≡ length left + length right =
     same_length q.middle (left ++ right) (λ s. sym (times_append s left right ∙ halves s)) ∙ length-append left right in
@@ -418,11 +418,11 @@ rewritten S S' N O start place n x p e =
     let all : length O ≡ start + length q.middle + length q.back = omega (arith, ap length q.is, length-append (q.front ++ q.middle) q.back, length-append q.front q.middle, q.size) in
     let first : length (overwritten start left O) ≡ start + length left + length right + length q.back =
     ap (λ v. length (overwritten start left v)) q.is ∙ first_length q.front q.middle q.back left start (length right) q.size long in
-    let same : (s : ℕ) → times s (((q.front ++ left) ++ right) ++ q.back) ≡ times s O = λ s.
-    omega (arith, halves s, ap (times s) q.is, times_append s ((q.front ++ left) ++ right) q.back, times_append s (q.front ++ left) right, times_append s q.front left, times_append s (q.front ++ q.middle) q.back, times_append s q.front q.middle) in
-    let names : names_of (in_slots S' N) ≡ names_of (in_slots S N) =
-    ap (λ v. names_of (in_slots v N)) e ∙ ap names_of (mapped g S N (each_below (length S) N x.names_once)) ∙ names_moved (λ m. place_removed place n m.place) (in_slots S N) in
-    let ascending : AreAscending (names_of (in_slots S' N)) = subst AreAscending (sym names) x.ascending in
+    let same : (s : ℕ) → slot_times s (((q.front ++ left) ++ right) ++ q.back) ≡ slot_times s O = λ s.
+    omega (arith, halves s, ap (slot_times s) q.is, times_append s ((q.front ++ left) ++ right) q.back, times_append s (q.front ++ left) right, times_append s q.front left, times_append s (q.front ++ q.middle) q.back, times_append s q.front q.middle) in
+    let names : names_of_marks (in_slots S' N) ≡ names_of_marks (in_slots S N) =
+    ap (λ v. names_of_marks (in_slots v N)) e ∙ ap names_of_marks (mapped g S N (each_below (length S) N x.names_once)) ∙ names_moved (λ m. place_removed place n m.place) (in_slots S N) in
+    let ascending : AreAscending (names_of_marks (in_slots S' N)) = subst AreAscending (sym names) x.ascending in
     let front_order : AreInOrder (map h q.front) =
     subst AreInOrder (sym (same_marks h f q.front (each_also (λ s. s < length S) (λ s. (f s).place < place) (λ s. h s ≡ f s) q.front (λ s l k. one s l ∙ stays (f s) (stays_place place n (f s).place k)) q.front_in q.front_at)))
     (order_front (map f q.front) (map f (q.middle ++ q.back)) (subst AreInOrder (ap (map f) (q.is ∙ append_assoc q.front q.middle q.back) ∙ map-append f q.front (q.middle ++ q.back)) x.ordered)) in

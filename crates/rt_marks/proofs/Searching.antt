@@ -12,9 +12,9 @@ use Rattle.std.proofs.lemmas.List.{map-append, length-map, set_split, set-get_or
 use Rattle.std.proofs.lemmas.List.Sorted.{searchable_from_sorted}
 use Rattle.std.proofs.lemmas.Option.{slice_get-get_or}
 use Rattle.rt_marks.specs.Marks
-use Rattle.rt_marks.specs.Marks.{Mark, name_order, comes_before, AreInOrder, named, AreAscending, find_last, first_mark_at, last_mark_before}
+use Rattle.rt_marks.specs.Marks.{Mark, name_order, comes_before, AreInOrder, mark_of_name, AreAscending, find_last, first_mark_at, last_mark_before}
 use Rattle.rt_marks.specs.Seen
-use Rattle.rt_marks.specs.Seen.{names_of, no_mark, in_slot, in_slots, IsOrder, IsIndexed, PartsAt, IsGap}
+use Rattle.rt_marks.specs.Seen.{names_of_marks, no_mark, in_slot, in_slots, IsOrder, IsIndexed, MarksPartAt, IsGap}
 use Rattle.rt_marks.proofs.Order.{lt_asym, lt_irrefl, before_trans}
 use Rattle.rt_marks.proofs.InOrder.{split}
 use Rattle.rt_marks.proofs.Names.{clash, named_middle}
@@ -72,7 +72,7 @@ IsDownward test = (a b : Mark) → comes_before a b ≡ true → test b ≡ true
 abbrev pub of_slot : (Mark → Bool) → List Mark → ℕ → Bool
 of_slot test marks slot = nat_lt slot (length marks) && test (in_slot marks slot)
 
-pub parts_from : (test : Mark → Bool) (marks : List Mark) (slots : List ℕ) (i : ℕ) → IsOrder marks slots → IsDownward test → i ≤ length slots → (IsPartitionedBy (of_slot test marks) slots → IsPartitionPoint (λ y. of_slot test marks y ≡ true) (λ y. of_slot test marks y ≡ false) slots i) → PartsAt test (in_slots marks slots) i
+pub parts_from : (test : Mark → Bool) (marks : List Mark) (slots : List ℕ) (i : ℕ) → IsOrder marks slots → IsDownward test → i ≤ length slots → (IsPartitionedBy (of_slot test marks) slots → IsPartitionPoint (λ y. of_slot test marks y ≡ true) (λ y. of_slot test marks y ≡ false) slots i) → MarksPartAt test (in_slots marks slots) i
 parts_from test marks slots i o down l h = record {
   within = subst (λ v. i ≤ v) (sym (length-map slots f)) l;
   front = take_each f (λ m. test m ≡ true) slots i (λ k d less m. second _ _ (parted.0 k d (omega arith) less));
@@ -121,18 +121,18 @@ all_fail test [] h = refl
 all_fail test (x ∷ marks) h = (λ i. option_or (all_fail test marks h.1 i) (cond (h.0 i) (Some x) None))
 
 -- the first that fails the test
-pub found_next : (test wanted : Mark → Bool) → ((m : Mark) → wanted m ≡ not (test m)) → (marks : List Mark) (i : ℕ) → PartsAt test marks i → slice_get marks i ≡ find wanted marks
+pub found_next : (test wanted : Mark → Bool) → ((m : Mark) → wanted m ≡ not (test m)) → (marks : List Mark) (i : ℕ) → MarksPartAt test marks i → slice_get marks i ≡ find wanted marks
 found_next test wanted other marks i p = by marks i p.within p.front p.back where
   by : (marks : List Mark) (i : ℕ) → i ≤ length marks → AllByRecursion (λ m. test m ≡ true) (take i marks) → AllByRecursion (λ m. test m ≡ false) (drop i marks) → slice_get marks i ≡ find wanted marks
   by [] i l f b = refl
   by (x ∷ marks) zero l f b = sym (ap (λ v. cond v (Some x) (find wanted marks)) (other x ∙ ap not b.0))
   by (x ∷ marks) (suc i) l f b = by marks i (omega (arith, l)) f.1 b ∙ sym (ap (λ v. cond v (Some x) (find wanted marks)) (other x ∙ ap not f.0))
 
-pub found_none : (test : Mark → Bool) (marks : List Mark) (i : ℕ) → PartsAt test marks i → i ≡ 0 → None ≡ find_last test marks
+pub found_none : (test : Mark → Bool) (marks : List Mark) (i : ℕ) → MarksPartAt test marks i → i ≡ 0 → None ≡ find_last test marks
 found_none test marks i p e = sym (all_fail test marks (subst (λ v. AllByRecursion (λ m. test m ≡ false) (drop v marks)) e p.back))
 
 -- the last that passes it
-pub found_last : (test : Mark → Bool) (marks : List Mark) (i : ℕ) → PartsAt test marks i → 0 < i → slice_get marks (i - 1) ≡ find_last test marks
+pub found_last : (test : Mark → Bool) (marks : List Mark) (i : ℕ) → MarksPartAt test marks i → 0 < i → slice_get marks (i - 1) ≡ find_last test marks
 found_last test marks zero p l = absurd (omega (arith, l))
 found_last test marks (suc k) p l = ap (λ v. slice_get marks v) (one_less k) ∙ sym (by marks k p.within p.front p.back) where
   one_less : (k : ℕ) → suc k - 1 ≡ k
@@ -147,21 +147,21 @@ found_last test marks (suc k) p l = ap (λ v. slice_get marks v) (one_less k) �
 
 -- BY NAME
 
-rises : (f : ℕ → Mark) (xs : List ℕ) → AreAscending (names_of (map f xs)) → (k d : ℕ) → suc k < length xs → is_lt (name_order (f (get_or xs (suc k) d)).name (f (get_or xs k d)).name) ≡ false
+rises : (f : ℕ → Mark) (xs : List ℕ) → AreAscending (names_of_marks (map f xs)) → (k d : ℕ) → suc k < length xs → is_lt (name_order (f (get_or xs (suc k) d)).name (f (get_or xs k d)).name) ≡ false
 rises f [] h k d l = absurd (omega (arith, l))
 rises f (x ∷ []) h k d l = absurd (omega (arith, l))
 rises f (x ∷ y ∷ xs) h zero d l = lt_asym nat_list_cmp_total (f x).name (f y).name h.0.0
 rises f (x ∷ y ∷ xs) h (suc k) d l = rises f (y ∷ xs) h.1 k d (omega (arith, l))
 
-are_sorted : (f : ℕ → Mark) (xs : List ℕ) → AreAscending (names_of (map f xs)) → IsSortedBy (λ a b. is_lt (name_order (f a).name (f b).name)) xs
+are_sorted : (f : ℕ → Mark) (xs : List ℕ) → AreAscending (names_of_marks (map f xs)) → IsSortedBy (λ a b. is_lt (name_order (f a).name (f b).name)) xs
 are_sorted f xs h = λ k d low l. rw add-one (rises f xs h k d (omega (arith, l)))
 
-take_names : (f : ℕ → Mark) (P : List ℕ → Type 0) (xs : List ℕ) (i : ℕ) → ((k d : ℕ) → k < i → P (f (get_or xs k d)).name) → AllByRecursion P (take i (names_of (map f xs)))
+take_names : (f : ℕ → Mark) (P : List ℕ → Type 0) (xs : List ℕ) (i : ℕ) → ((k d : ℕ) → k < i → P (f (get_or xs k d)).name) → AllByRecursion P (take i (names_of_marks (map f xs)))
 take_names f P xs zero h = tt
 take_names f P [] (suc i) h = tt
 take_names f P (x ∷ xs) (suc i) h = (h 0 x (omega arith), take_names f P xs i (λ k d l. h (suc k) d (omega (arith, l))))
 
-drop_names : (f : ℕ → Mark) (P : List ℕ → Type 0) (xs : List ℕ) (i : ℕ) → ((k d : ℕ) → i ≤ k → k < length xs → P (f (get_or xs k d)).name) → AllByRecursion P (drop i (names_of (map f xs)))
+drop_names : (f : ℕ → Mark) (P : List ℕ → Type 0) (xs : List ℕ) (i : ℕ) → ((k d : ℕ) → i ≤ k → k < length xs → P (f (get_or xs k d)).name) → AllByRecursion P (drop i (names_of_marks (map f xs)))
 drop_names f P [] zero h = tt
 drop_names f P (x ∷ xs) zero h = (h 0 x (omega arith) (omega arith), drop_names f P xs zero (λ k d l m. h (suc k) d (omega (arith, l)) (omega (arith, m))))
 drop_names f P [] (suc i) h = tt
@@ -171,7 +171,7 @@ pub found_from : (name : List ℕ) (marks : List Mark) (slots : List ℕ) (r : R
 found_from name marks slots (Ok i) h = λ d. slice_cmp-IsAntisymmetric nat_cmp-IsAntisymmetric _ _ (h d)
 found_from name marks slots (Err i) h = tt
 
-pub gap_from : (name : List ℕ) (marks : List Mark) (slots : List ℕ) (r : Result ℕ ℕ) → AreAscending (names_of (in_slots marks slots)) → IsBinarySearchResult (λ s. name_order (in_slot marks s).name name) slots r → IfErr r (IsGap name (names_of (in_slots marks slots)))
+pub gap_from : (name : List ℕ) (marks : List Mark) (slots : List ℕ) (r : Result ℕ ℕ) → AreAscending (names_of_marks (in_slots marks slots)) → IsBinarySearchResult (λ s. name_order (in_slot marks s).name name) slots r → IfErr r (IsGap name (names_of_marks (in_slots marks slots)))
 gap_from name marks slots (Ok i) a h = tt
 gap_from name marks slots (Err i) a h =
     let f = in_slot marks in
@@ -181,16 +181,16 @@ gap_from name marks slots (Err i) a h =
     (front, back)
 
 -- the mark of a name that was found
-pub named_at : (q : List ℕ) (marks : List Mark) (by_name in_order : List ℕ) (rank d : ℕ) → IsIndexed marks by_name in_order → rank < length by_name → (in_slot marks (get_or by_name rank d)).name ≡ q → named q (in_slots marks in_order) ≡ Some (in_slot marks (get_or by_name rank d))
+pub named_at : (q : List ℕ) (marks : List Mark) (by_name in_order : List ℕ) (rank d : ℕ) → IsIndexed marks by_name in_order → rank < length by_name → (in_slot marks (get_or by_name rank d)).name ≡ q → mark_of_name q (in_slots marks in_order) ≡ Some (in_slot marks (get_or by_name rank d))
 named_at q marks by_name in_order rank d x l e =
     let f = in_slot marks in
     let slot = get_or by_name rank d in
     let parted : in_slots marks by_name ≡ in_slots marks (take rank by_name) ++ f slot ∷ in_slots marks (drop (suc rank) by_name) =
     ap (in_slots marks) (sym (set-get_or by_name rank d) ∙ set_split by_name rank slot l) ∙ map-append f (take rank by_name) (slot ∷ drop (suc rank) by_name) in
-    view_named q marks by_name in_order x ∙ ap (named q) parted
+    view_named q marks by_name in_order x ∙ ap (mark_of_name q) parted
     ∙ named_middle q (in_slots marks (take rank by_name)) (f slot) (in_slots marks (drop (suc rank) by_name)) (subst Marks.HaveOwnNames parted (own_by_name marks by_name in_order x)) (sym e)
 
-pub none_named : (q : List ℕ) (marks : List Mark) (by_name in_order : List ℕ) (gap : ℕ) → IsIndexed marks by_name in_order → IsGap q (names_of (in_slots marks by_name)) gap → named q (in_slots marks in_order) ≡ None
+pub none_named : (q : List ℕ) (marks : List Mark) (by_name in_order : List ℕ) (gap : ℕ) → IsIndexed marks by_name in_order → IsGap q (names_of_marks (in_slots marks by_name)) gap → mark_of_name q (in_slots marks in_order) ≡ None
 none_named q marks by_name in_order gap x g = view_named q marks by_name in_order x ∙ none_in_gap q (in_slots marks by_name) gap g
 
 -- two slots of one name are one
@@ -198,17 +198,17 @@ pub same_slot : (marks : List Mark) (by_name in_order : List ℕ) (rank d slot :
 same_slot marks by_name in_order rank d slot x l k e =
     let f = in_slot marks in
     let there = times_at by_name rank (get_or by_name rank d) d l refl in
-    let also : 1 ≤ Seen.times slot by_name = omega (arith, once_below (length marks) by_name x.names_once slot k) in
+    let also : 1 ≤ Seen.slot_times slot by_name = omega (arith, once_below (length marks) by_name x.names_once slot k) in
     one_name by_name x.ascending (get_or by_name rank d) slot there also e
   where
-    below_names : (x : ℕ) (xs : List ℕ) → AllByRecursion (λ y. is_lt (name_order (in_slot marks x).name y) ≡ true) (names_of (map (in_slot marks) xs)) → AllByRecursion (λ y. is_lt (name_order (in_slot marks x).name (in_slot marks y).name) ≡ true) xs
+    below_names : (x : ℕ) (xs : List ℕ) → AllByRecursion (λ y. is_lt (name_order (in_slot marks x).name y) ≡ true) (names_of_marks (map (in_slot marks) xs)) → AllByRecursion (λ y. is_lt (name_order (in_slot marks x).name (in_slot marks y).name) ≡ true) xs
     below_names x [] h = tt
     below_names x (y ∷ xs) h = (h.0, below_names x xs h.1)
 
     differ_names : (x t : ℕ) → is_lt (name_order (in_slot marks x).name (in_slot marks t).name) ≡ true → (in_slot marks x).name ≡ (in_slot marks t).name → ⊥
     differ_names x t h e = clash _ (subst (λ v. is_lt (name_order (in_slot marks x).name v) ≡ true) (sym e) h) (lt_irrefl nat_list_cmp_total (in_slot marks x).name)
 
-    one_name : (xs : List ℕ) → AreAscending (names_of (map (in_slot marks) xs)) → (s t : ℕ) → 1 ≤ Seen.times s xs → 1 ≤ Seen.times t xs → (in_slot marks s).name ≡ (in_slot marks t).name → s ≡ t
+    one_name : (xs : List ℕ) → AreAscending (names_of_marks (map (in_slot marks) xs)) → (s t : ℕ) → 1 ≤ Seen.slot_times s xs → 1 ≤ Seen.slot_times t xs → (in_slot marks s).name ≡ (in_slot marks t).name → s ≡ t
     one_name [] h s t a b e = absurd (omega (arith, a))
     one_name (x ∷ xs) h s t a b e = split (x == s)
         (λ u. split (x == t)
@@ -220,12 +220,12 @@ same_slot marks by_name in_order rank d slot x l k e =
         (ap (λ w. (in_slot marks w).name) (eqb-true x t v) ∙ sym e)))
         (λ v. one_name xs h.1 s t (omega (arith, a, not_once x s u)) (omega (arith, b, not_once x t v)) e))
 
-pub rank_found : (marks : List Mark) (by_name in_order : List ℕ) (slot gap : ℕ) → IsIndexed marks by_name in_order → slot < length marks → IsGap (in_slot marks slot).name (names_of (in_slots marks by_name)) gap → ⊥
+pub rank_found : (marks : List Mark) (by_name in_order : List ℕ) (slot gap : ℕ) → IsIndexed marks by_name in_order → slot < length marks → IsGap (in_slot marks slot).name (names_of_marks (in_slots marks by_name)) gap → ⊥
 rank_found marks by_name in_order slot gap x l g =
     let r = present slot by_name (omega (arith, once_below (length marks) by_name x.names_once slot l)) in
     let f = in_slot marks in
     let parted : in_slots marks by_name ≡ map f r.front ++ f slot ∷ map f r.back = ap (map f) r.is ∙ map-append f r.front (slot ∷ r.back) in
-    let some = ap (named (f slot).name) parted ∙ named_middle (f slot).name (map f r.front) (f slot) (map f r.back) (subst Marks.HaveOwnNames parted (own_by_name marks by_name in_order x)) refl in
+    let some = ap (mark_of_name (f slot).name) parted ∙ named_middle (f slot).name (map f r.front) (f slot) (map f r.back) (subst Marks.HaveOwnNames parted (own_by_name marks by_name in_order x)) refl in
     let none = none_in_gap (f slot).name (in_slots marks by_name) gap g in
     let c : Some (f slot) ≡ None = sym some ∙ none in cc
 

@@ -67,12 +67,12 @@ abbrev pub is_named : List ℕ → Mark → Bool
 is_named name m = bytes_eq m.name name
 
 -- the mark of a name
-abbrev pub named : List ℕ → List Mark → Option Mark
-named name marks = find (is_named name) marks
+abbrev pub mark_of_name : List ℕ → List Mark → Option Mark
+mark_of_name name marks = find (is_named name) marks
 
 -- the marks without that of a name
-abbrev pub without : List ℕ → List Mark → List Mark
-without name marks = filter (λ m. not (is_named name m)) marks
+abbrev pub without_mark : List ℕ → List Mark → List Mark
+without_mark name marks = filter (λ m. not (is_named name m)) marks
 
 -- a mark has one of some names
 abbrev pub is_one_of : List (List ℕ) → Mark → Bool
@@ -85,7 +85,7 @@ without_all names marks = filter (λ m. not (is_one_of names m)) marks
 -- no two marks have one name
 abbrev pub HaveOwnNames : List Mark → Type 0
 HaveOwnNames [] = Unit {0}
-HaveOwnNames (m ∷ marks) = (named m.name marks ≡ None) × HaveOwnNames marks
+HaveOwnNames (m ∷ marks) = (mark_of_name m.name marks ≡ None) × HaveOwnNames marks
 
 -- names by their bytes, each once
 abbrev pub AreAscending : List (List ℕ) → Type 0
@@ -94,20 +94,20 @@ AreAscending (name ∷ names) = AllByRecursion (λ x. is_lt (name_order name x) 
 
 -- a mark put in for the one of its name, if there is one
 abbrev pub put_mark : Mark → List Mark → List Mark
-put_mark m marks = with_mark m (without m.name marks)
+put_mark m marks = with_mark m (without_mark m.name marks)
 
 -- EDITS OF MARKS
 
 -- a mark set again keeps its gravity, and a new one has right gravity
 abbrev pub gravity_or_right : List ℕ → List Mark → Gravity
-gravity_or_right name marks = option_map_or (λ m. m.gravity) (named name marks) Right
+gravity_or_right name marks = option_map_or (λ m. m.gravity) (mark_of_name name marks) Right
 
 abbrev pub marks_set : List ℕ → ℕ → List Mark → List Mark
 marks_set name place marks = put_mark (record { name = name; place = place; gravity = gravity_or_right name marks }) marks
 
 -- the mark of a name has a gravity then, if there is one; the other marks stay
 abbrev pub marks_with_gravity : List ℕ → Gravity → List Mark → List Mark
-marks_with_gravity name gravity marks = option_map_or (λ m. put_mark (record m { gravity = gravity }) marks) (named name marks) marks
+marks_with_gravity name gravity marks = option_map_or (λ m. put_mark (record m { gravity = gravity }) marks) (mark_of_name name marks) marks
 
 -- EDITS OF THE TEXT
 
@@ -172,11 +172,11 @@ find_last test (m ∷ marks) = option_or (find_last test marks) (if test m then 
 
 -- the mark after that of a name
 abbrev pub mark_after : List ℕ → List Mark → Option Mark
-mark_after name marks = option_and_then (λ m. find (comes_before m) marks) (named name marks)
+mark_after name marks = option_and_then (λ m. find (comes_before m) marks) (mark_of_name name marks)
 
 -- the mark before that of a name
 abbrev pub mark_before : List ℕ → List Mark → Option Mark
-mark_before name marks = option_and_then (λ m. find_last (λ x. comes_before x m) marks) (named name marks)
+mark_before name marks = option_and_then (λ m. find_last (λ x. comes_before x m) marks) (mark_of_name name marks)
 
 -- the first mark at or after a place
 abbrev pub first_mark_at : ℕ → List Mark → Option Mark

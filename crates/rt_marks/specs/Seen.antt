@@ -5,21 +5,21 @@ use Rattle.std.specs.Ordering.{is_lt}
 use Rattle.rt_marks.specs.declared.gravity.Gravity.{Gravity}
 use Rattle.rt_marks.specs.declared.gravity.Gravity.TheVariants.{Left, Right}
 use Rattle.rt_marks.specs.declared.mark.Mark.{Mark as KeptMark}
-use Rattle.rt_marks.specs.declared.spot.Spot.{Spot}
+use Rattle.rt_marks.specs.declared.mark_ref.MarkRef.{MarkRef}
 use Rattle.rt_marks.specs.Marks.{Mark, AreAscending, AreInOrder, name_order}
 
-abbrev pub seen : KeptMark → Mark
-seen m = record { name = string_bytes m.name; place = m.place; gravity = m.gravity }
+abbrev pub seen_mark : KeptMark → Mark
+seen_mark m = record { name = string_bytes m.name; place = m.place; gravity = m.gravity }
 
 -- the mark that stands at a spot, or would
-abbrev pub spotted : Spot → Mark
+abbrev pub spotted : MarkRef → Mark
 spotted s = record { name = s.name.now; place = s.place; gravity = s.gravity }
 
 abbrev pub seen_all : List KeptMark → List Mark
-seen_all marks = map seen marks
+seen_all marks = map seen_mark marks
 
-abbrev pub names_of : List Mark → List (List ℕ)
-names_of marks = map (λ m. m.name) marks
+abbrev pub names_of_marks : List Mark → List (List ℕ)
+names_of_marks marks = map (λ m. m.name) marks
 
 -- a name that isn't there would stand at an index of names that ascend
 abbrev pub IsGap : List ℕ → List (List ℕ) → ℕ → Type 0
@@ -41,13 +41,13 @@ abbrev pub in_slots : List Mark → List ℕ → List Mark
 in_slots marks slots = map (in_slot marks) slots
 
 -- how often a slot's number stands in a list
-abbrev pub times : ℕ → List ℕ → ℕ
-times slot [] = 0
-times slot (s ∷ slots) = (if s == slot then 1 else 0) + times slot slots
+abbrev pub slot_times : ℕ → List ℕ → ℕ
+slot_times slot [] = 0
+slot_times slot (s ∷ slots) = (if s == slot then 1 else 0) + slot_times slot slots
 
 -- the number of each of so many slots, once
 abbrev pub IsEachOnce : ℕ → List ℕ → Type 0
-IsEachOnce n slots = (slot : ℕ) → times slot slots ≡ (if nat_lt slot n then 1 else 0)
+IsEachOnce n slots = (slot : ℕ) → slot_times slot slots ≡ (if nat_lt slot n then 1 else 0)
 
 -- numbers of slots, whose marks are in order
 pub record IsOrder (marks : List Mark) (slots : List ℕ) : Type 0 where
@@ -58,11 +58,11 @@ pub record IsOrder (marks : List Mark) (slots : List ℕ) : Type 0 where
 pub record IsIndexed (marks : List Mark) (by_name in_order : List ℕ) : Type 0 where
   pub names_once : IsEachOnce (length marks) by_name
   pub order_once : IsEachOnce (length marks) in_order
-  pub ascending : AreAscending (names_of (in_slots marks by_name))
+  pub ascending : AreAscending (names_of_marks (in_slots marks by_name))
   pub ordered : AreInOrder (in_slots marks in_order)
 
 -- a list parts at an index: the marks before it pass a test, the others don't
-pub record PartsAt (test : Mark → Bool) (marks : List Mark) (i : ℕ) : Type 0 where
+pub record MarksPartAt (test : Mark → Bool) (marks : List Mark) (i : ℕ) : Type 0 where
   pub within : i ≤ length marks
   pub front : AllByRecursion (λ m. test m ≡ true) (take i marks)
   pub back : AllByRecursion (λ m. test m ≡ false) (drop i marks)

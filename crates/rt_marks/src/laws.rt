@@ -3,12 +3,12 @@ ghost use Rattle.std.specs.Prelude.{◌≡◌, ℕ, ◌+◌, ◌-◌, ◌<◌, �
 ghost use Rattle.std.specs.List.{AllByRecursion};
 ghost use Rattle.std.specs.Str.{bytes_eq};
 ghost use Rattle.rt_marks.specs.declared.gravity.Gravity.{Gravity};
-ghost use Rattle.rt_marks.specs.Marks.{AreInOrder, HaveOwnNames, Mark, gravity_or_right, in_order, is_within_or, mark_inserted, mark_left, mark_removed, marks_inserted, marks_left, marks_removed, place_left, place_removed, marks_set, marks_with_gravity, named, without};
+ghost use Rattle.rt_marks.specs.Marks.{AreInOrder, HaveOwnNames, Mark, gravity_or_right, in_order, is_within_or, mark_inserted, mark_left, mark_removed, marks_inserted, marks_left, marks_removed, place_left, place_removed, marks_set, marks_with_gravity, mark_of_name, without_mark};
 
 /// Marks put in order are in order, and are the same marks; marks that are in order stay as they are.
 pub fn order_of_marks()
     ensures ordered { (marks : List Mark) → HaveOwnNames marks → AreInOrder (in_order marks) }
-    ensures found { (name : List ℕ) (marks : List Mark) → HaveOwnNames marks → named name (in_order marks) ≡ named name marks }
+    ensures found { (name : List ℕ) (marks : List Mark) → HaveOwnNames marks → mark_of_name name (in_order marks) ≡ mark_of_name name marks }
     ensures unchanged { (marks : List Mark) → AreInOrder marks → in_order marks ≡ marks }
 {}
 
@@ -21,15 +21,16 @@ pub fn order_after_insertion()
 /// What a name finds after each edit.
 pub fn look_ups()
     ensures after_set { (q name : List ℕ) (place : ℕ) (marks : List Mark)
-        → named q (marks_set name place marks) ≡ (if bytes_eq name q then Some
-        (record { name = name; place = place; gravity = gravity_or_right name marks }) else named q marks) }
-    ensures after_unset { (q name : List ℕ) (marks : List Mark) → named q (without name marks) ≡ (if bytes_eq name q then None else named q marks) }
+        → mark_of_name q (marks_set name place marks) ≡ (if bytes_eq name q then Some
+        (record { name = name; place = place; gravity = gravity_or_right name marks }) else mark_of_name q marks) }
+    ensures after_unset { (q name : List ℕ) (marks : List Mark) → mark_of_name q (without_mark name marks)
+        ≡ (if bytes_eq name q then None else mark_of_name q marks) }
     ensures after_insertion { (q : List ℕ) (place n : ℕ) (marks : List Mark)
-        → named q (marks_inserted place n marks) ≡ option_map (mark_inserted place n) (named q marks) }
+        → mark_of_name q (marks_inserted place n marks) ≡ option_map (mark_inserted place n) (mark_of_name q marks) }
     ensures after_removal { (q : List ℕ) (place n : ℕ) (marks : List Mark) → HaveOwnNames marks
-        → named q (marks_removed place n marks) ≡ option_map (mark_removed place n) (named q marks) }
+        → mark_of_name q (marks_removed place n marks) ≡ option_map (mark_removed place n) (mark_of_name q marks) }
     ensures after_removals { (q : List ℕ) (removed : ℕ → Bool) (marks : List Mark) → HaveOwnNames marks
-        → named q (marks_left removed marks) ≡ option_map (mark_left removed) (named q marks) }
+        → mark_of_name q (marks_left removed marks) ≡ option_map (mark_left removed) (mark_of_name q marks) }
 {}
 
 /// Marks within a text of some size are within it after each edit.
@@ -37,7 +38,7 @@ pub fn marks_within_the_text()
     ensures after_set { (name : List ℕ) (place size : ℕ) (marks : List Mark) → place ≤ size → AllByRecursion (λ m. m.place ≤ size) marks
         → AllByRecursion (λ m. m.place ≤ size) (marks_set name place marks) }
     ensures after_unset { (name : List ℕ) (size : ℕ) (marks : List Mark) → AllByRecursion (λ m. m.place ≤ size) marks → AllByRecursion
-        (λ m. m.place ≤ size) (without name marks) }
+        (λ m. m.place ≤ size) (without_mark name marks) }
     ensures after_gravity { (name : List ℕ) (gravity : Gravity) (size : ℕ) (marks : List Mark)
         → AllByRecursion (λ m. m.place ≤ size) marks → AllByRecursion (λ m. m.place ≤ size) (marks_with_gravity name gravity marks) }
     ensures after_insertion { (place n size : ℕ) (marks : List Mark) → AllByRecursion (λ m. m.place ≤ size) marks

@@ -6,11 +6,11 @@ pub mod examples;
 pub mod gravity;
 pub mod laws;
 mod mark;
+pub mod mark_ref;
 pub mod marks;
 pub mod place;
-pub mod spot;
 mod table;
 
 pub use gravity::Gravity;
+pub use mark_ref::MarkRef;
 pub use marks::Marks;
-pub use spot::Spot;

@@ -2,7 +2,7 @@
 ghost use Rattle.std.specs.Prelude.{◌≡◌, ◌+◌, ◌≤◌, string_bytes};
 ghost use Rattle.rt_marks.specs.Marks.{comes_before, name_order, place_inserted, place_removed};
 
-use crate::{Gravity, Spot, place};
+use crate::{Gravity, MarkRef, place};
 use std::cmp::Ordering;
 
 /// A mark.
@@ -15,13 +15,13 @@ pub struct Mark {
 }
 
 impl Mark {
-    ghost use Rattle.rt_marks.specs.Seen.{seen, spotted};
+    ghost use Rattle.rt_marks.specs.Seen.{seen_mark, spotted};
 
     /// What decides where it stands in the order of marks.
-    pub fn spot(&self) -> Spot<'_>
-        ensures { spotted result ≡ seen self.now }
+    pub fn spot(&self) -> MarkRef<'_>
+        ensures { spotted result ≡ seen_mark self.now }
     {
-        Spot {
+        MarkRef {
             place: self.place,
             gravity: self.gravity,
             name: self.name.as_str(),
@@ -31,7 +31,7 @@ impl Mark {
     /// Where it stands after `n` characters were inserted at a place.
     pub fn place_after_insertion(&self, place: usize, n: usize) -> usize
         requires { self.now.place + n ≤ usize.MAX }
-        ensures { result ≡ place_inserted place n (seen self.now) }
+        ensures { result ≡ place_inserted place n (seen_mark self.now) }
     {
         place::place_inserted(place, n, self.place, self.gravity)
     }

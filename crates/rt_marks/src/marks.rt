@@ -2,11 +2,11 @@
 ghost use Rattle.std.specs.Prelude.{◌≡◌, ◌+◌, ◌≤◌, ◌⊎◌, ◌↔◌, [], List, ℕ, IsSome, OnOk, OnErr, IfOk, IfErr, IsOkUnless, Ok, Err, None, Some, is_some, option_map, option_copied, map, Contains, length, slice_get, if◌then◌else◌, find as first_passing};
 ghost use Rattle.std.specs.List.{AllByRecursion};
 ghost use Rattle.rt_stamps.specs.Words.{as_words};
-ghost use Rattle.rt_marks.specs.Marks.{AreAscending, AreInOrder, HaveOwnNames, IsName, comes_before, find_last, first_mark_at, last_mark_before, mark_after, mark_before, marks_inserted, marks_removed, marks_set, marks_with_gravity, named, without, without_all};
+ghost use Rattle.rt_marks.specs.Marks.{AreAscending, AreInOrder, HaveOwnNames, IsName, comes_before, find_last, first_mark_at, last_mark_before, mark_after, mark_before, marks_inserted, marks_removed, marks_set, marks_with_gravity, mark_of_name, without_mark, without_all};
 
 use crate::mark::Mark;
 use crate::table::Table;
-use crate::{Gravity, Spot};
+use crate::{Gravity, MarkRef};
 use rt_stamps::{Fault, check_name};
 use std::alloc::Global;
 use std::marker::Model;
@@ -34,13 +34,13 @@ impl Drop for Marks {
 impl Model for Marks {
     ghost use Rattle.std.specs.Prelude.{List};
     ghost use Rattle.rt_marks.specs.Marks.{Mark};
-    ghost use Rattle.rt_marks.specs.Tables.{IsTable, marks_of};
+    ghost use Rattle.rt_marks.specs.Tables.{IsMarkTable, marks_in_table};
 
     ghost Value = { List Mark };
 
-    ghost view = { λ m. marks_of m.table };
+    ghost view = { λ m. marks_in_table m.table };
 
-    ghost invariant = { λ m. IsTable m.table };
+    ghost invariant = { λ m. IsMarkTable m.table };
 }
 
 impl Marks {
@@ -72,7 +72,7 @@ impl Marks {
         ensures ok { OnOk result (self.new ≡ marks_set name.now place self.old) }
         ensures err { OnErr result (self.new ≡ self.old) }
         ensures bad_name { (result ≡ Err Fault.BadName) ↔ (IsName name.now → ⊥) }
-        ensures memory { result ≡ Err Fault.NoMemory → named name.now self.old ≡ None }
+        ensures memory { result ≡ Err Fault.NoMemory → mark_of_name name.now self.old ≡ None }
         ensures fault { IfErr result (λ fault. (fault ≡ Fault.BadName) ⊎ (fault ≡ Fault.NoMemory)) }
     {
         check_name(name)?;
@@ -97,7 +97,7 @@ impl Marks {
 
     /// Takes a mark away ("mark unset"). Without a mark of the name nothing changes.
     pub fn unset(&mut self, name: &str)
-        ensures { self.new ≡ without name.now self.old }
+        ensures { self.new ≡ without_mark name.now self.old }
     {
         self.table.remove(name);
     }
@@ -111,7 +111,7 @@ impl Marks {
 
     /// The place of a mark, none without a mark of the name.
     pub fn place(&self, name: &str) -> Option<usize>
-        ensures { result ≡ option_map (λ m. m.place) (named name.now self.now) }
+        ensures { result ≡ option_map (λ m. m.place) (mark_of_name name.now self.now) }
     {
         let mark = self.table.find(name)?;
         Some(mark.place)
@@ -119,7 +119,7 @@ impl Marks {
 
     /// The gravity of a mark, none without a mark of the name.
     pub fn gravity(&self, name: &str) -> Option<Gravity>
-        ensures { result ≡ option_map (λ m. m.gravity) (named name.now self.now) }
+        ensures { result ≡ option_map (λ m. m.gravity) (mark_of_name name.now self.now) }
     {
         let mark = self.table.find(name)?;
         Some(mark.gravity)
@@ -128,7 +128,7 @@ impl Marks {
     /// Gives a mark a gravity ("mark gravity"). `NoMark` just where no mark has the name.
     pub fn set_gravity(&mut self, name: &str, gravity: Gravity) -> Result<(), Fault>
         ensures marks { self.new ≡ marks_with_gravity name.now gravity self.old }
-        ensures answer { result ≡ (if is_some (named name.now self.old) then Ok tt else Err Fault.NoMark) }
+        ensures answer { result ≡ (if is_some (mark_of_name name.now self.old) then Ok tt else Err Fault.NoMark) }
     {
         match self.table.find_slot(name) {
             Ok(slot) => {
@@ -162,8 +162,8 @@ impl Marks {
     }
 
     /// The mark of a name, none without a mark of the name.
-    pub fn find(&self, name: &str) -> Option<Spot<'_>>
-        ensures { option_map spotted result ≡ named name.now self.now }
+    pub fn find(&self, name: &str) -> Option<MarkRef<'_>>
+        ensures { option_map spotted result ≡ mark_of_name name.now self.now }
     {
         self.table.find(name).map(Mark::spot)
     }
@@ -176,21 +176,21 @@ impl Marks {
     }
 
     /// The mark at an index of the order, from 0 up; none where there are no more.
-    pub fn at(&self, index: usize) -> Option<Spot<'_>>
+    pub fn at(&self, index: usize) -> Option<MarkRef<'_>>
         ensures { option_map spotted result ≡ slice_get self.now index }
     {
         self.table.mark_at(index).map(Mark::spot)
     }
 
     /// The first mark after a spot in the order of marks. There may be a mark at the spot, or none.
-    pub fn first_after(&self, here: &Spot<'_>) -> Option<Spot<'_>>
+    pub fn first_after(&self, here: &MarkRef<'_>) -> Option<MarkRef<'_>>
         ensures { option_map spotted result ≡ first_passing (comes_before (spotted here.now)) self.now }
     {
         self.table.first_after(here).map(Mark::spot)
     }
 
     /// The last mark before a spot in the order of marks. There may be a mark at the spot, or none.
-    pub fn last_until(&self, here: &Spot<'_>) -> Option<Spot<'_>>
+    pub fn last_until(&self, here: &MarkRef<'_>) -> Option<MarkRef<'_>>
         ensures { option_map spotted result ≡ find_last (λ m. comes_before m (spotted here.now)) self.now }
     {
         self.table.last_until(here).map(Mark::spot)
@@ -213,7 +213,7 @@ impl Marks {
     /// All names, by their bytes. `NoMemory` is its only fault.
     pub fn names(&self) -> Result<Vec<String>, Fault>
         ensures by_bytes { IfOk result (λ v. AreAscending (as_words v.items)) }
-        ensures all { IfOk result (λ v. (name : List ℕ) → Contains (as_words v.items) name ↔ IsSome (named name self.now)) }
+        ensures all { IfOk result (λ v. (name : List ℕ) → Contains (as_words v.items) name ↔ IsSome (mark_of_name name self.now)) }
         ensures fault { IsOkUnless result Fault.NoMemory }
     {
         let names = self.table.names(self.alloc)?;

@@ -3,13 +3,13 @@ ghost use Rattle.std.specs.Prelude.{◌≡◌, ◌+◌, ◌<◌, ◌≤◌, ◌&
 ghost use Rattle.std.specs.List.{HoldsAt, insert, remove, AllByRecursion};
 ghost use Rattle.std.specs.List.Sorted.{IsSearchInRange};
 ghost use Rattle.rt_stamps.specs.Words.{as_words};
-ghost use Rattle.rt_marks.specs.Marks.{comes_before, find_last, first_mark_at, last_mark_before, mark_removed, marks_inserted, marks_removed, name_order, named, put_mark, with_mark, without};
-ghost use Rattle.rt_marks.specs.Seen.{IsGap, IsOrder, PartsAt, in_slot, names_of, overwritten, same_gravity, seen, seen_all, slot_stands, spotted};
+ghost use Rattle.rt_marks.specs.Marks.{comes_before, find_last, first_mark_at, last_mark_before, mark_removed, marks_inserted, marks_removed, name_order, mark_of_name, put_mark, with_mark, without_mark};
+ghost use Rattle.rt_marks.specs.Seen.{IsGap, IsOrder, MarksPartAt, in_slot, names_of_marks, overwritten, same_gravity, seen_mark, seen_all, slot_stands, spotted};
 
 mod unsetting;
 
 use crate::mark::Mark;
-use crate::{Gravity, Spot};
+use crate::{Gravity, MarkRef};
 use std::alloc::{AllocError, Global};
 use std::cmp::Ordering;
 
@@ -24,12 +24,12 @@ pub struct Table {
 }
 
 impl Table {
-    ghost use Rattle.rt_marks.specs.Tables.{HasRoom, IsTable, by_names, marks_of, slots_of};
+    ghost use Rattle.rt_marks.specs.Tables.{HasRoomForMark, IsMarkTable, by_names, marks_in_table, slots_of};
 
     /// No marks.
     pub fn new(alloc: Global) -> Table
-        ensures table { IsTable result }
-        ensures marks { marks_of result ≡ [] }
+        ensures table { IsMarkTable result }
+        ensures marks { marks_in_table result ≡ [] }
     {
         Table {
             marks: Vec::new(alloc),
@@ -49,7 +49,7 @@ impl Table {
     }
 
     /// Whether a slot's mark comes before a spot.
-    fn is_before(&self, slot: usize, here: &Spot<'_>) -> bool
+    fn is_before(&self, slot: usize, here: &MarkRef<'_>) -> bool
         ensures { result ≡ (nat_lt slot (length (slots_of self.now)) && comes_before (in_slot (slots_of self.now) slot) (spotted here.now)) }
     {
         match self.marks.get(slot) {
@@ -59,7 +59,7 @@ impl Table {
     }
 
     /// Whether a slot's mark doesn't come after a spot.
-    fn is_until(&self, slot: usize, here: &Spot<'_>) -> bool
+    fn is_until(&self, slot: usize, here: &MarkRef<'_>) -> bool
         ensures { result ≡ (nat_lt slot (length (slots_of self.now)) && not (comes_before (spotted here.now) (in_slot (slots_of self.now) slot))) }
     {
         match self.marks.get(slot) {
@@ -80,10 +80,10 @@ impl Table {
 
     /// Where the mark of a name is among the names, or where it would be.
     pub fn search(&self, name: &str) -> Result<usize, usize>
-        requires { IsTable self.now }
+        requires { IsMarkTable self.now }
         ensures bound { IsSearchInRange result (length self.now.by_name.items) }
         ensures found { IfOk result (HoldsAt (λ slot. (in_slot (slots_of self.now) slot).name ≡ name.now) self.now.by_name.items) }
-        ensures gap { IfErr result (IsGap name.now (names_of (by_names self.now))) }
+        ensures gap { IfErr result (IsGap name.now (names_of_marks (by_names self.now))) }
     {
         self.by_name
             .as_slice()
@@ -91,9 +91,9 @@ impl Table {
     }
 
     /// How many marks come before a spot.
-    fn count_before_spot(&self, here: &Spot<'_>) -> usize
+    fn count_before_spot(&self, here: &MarkRef<'_>) -> usize
         requires { IsOrder (slots_of self.now) self.now.in_order.items }
-        ensures { PartsAt (λ m. comes_before m (spotted here.now)) (marks_of self.now) result }
+        ensures { MarksPartAt (λ m. comes_before m (spotted here.now)) (marks_in_table self.now) result }
     {
         self.in_order
             .as_slice()
@@ -103,15 +103,15 @@ impl Table {
     /// How many marks come before a mark.
     fn count_before(&self, here: &Mark) -> usize
         requires { IsOrder (slots_of self.now) self.now.in_order.items }
-        ensures { PartsAt (λ m. comes_before m (seen here.now)) (marks_of self.now) result }
+        ensures { MarksPartAt (λ m. comes_before m (seen_mark here.now)) (marks_in_table self.now) result }
     {
         self.count_before_spot(&here.spot())
     }
 
     /// How many marks don't come after a spot.
-    fn count_until(&self, here: &Spot<'_>) -> usize
+    fn count_until(&self, here: &MarkRef<'_>) -> usize
         requires { IsOrder (slots_of self.now) self.now.in_order.items }
-        ensures { PartsAt (λ m. not (comes_before (spotted here.now) m)) (marks_of self.now) result }
+        ensures { MarksPartAt (λ m. not (comes_before (spotted here.now) m)) (marks_in_table self.now) result }
     {
         self.in_order
             .as_slice()
@@ -121,7 +121,7 @@ impl Table {
     /// How many marks stand before a place.
     fn count_below(&self, place: usize) -> usize
         requires { IsOrder (slots_of self.now) self.now.in_order.items }
-        ensures { PartsAt (λ m. nat_lt m.place place) (marks_of self.now) result }
+        ensures { MarksPartAt (λ m. nat_lt m.place place) (marks_in_table self.now) result }
     {
         self.in_order
             .as_slice()
@@ -130,7 +130,7 @@ impl Table {
 
     /// How many marks there are.
     pub fn len(&self) -> usize
-        ensures { result ≡ length (marks_of self.now) }
+        ensures { result ≡ length (marks_in_table self.now) }
     {
         self.in_order.len()
     }
@@ -138,7 +138,7 @@ impl Table {
     /// The mark at an index of the order.
     pub fn mark_at(&self, at: usize) -> Option<&Mark>
         requires { IsOrder (slots_of self.now) self.now.in_order.items }
-        ensures { option_map seen (option_copied result) ≡ slice_get (marks_of self.now) at }
+        ensures { option_map seen_mark (option_copied result) ≡ slice_get (marks_in_table self.now) at }
     {
         let slot = *self.in_order.get(at)?;
         self.marks.get(slot)
@@ -146,15 +146,15 @@ impl Table {
 
     /// The mark in a slot.
     fn mark_in(&self, slot: usize) -> Option<&Mark>
-        ensures { option_map seen (option_copied result) ≡ slice_get (slots_of self.now) slot }
+        ensures { option_map seen_mark (option_copied result) ≡ slice_get (slots_of self.now) slot }
     {
         self.marks.get(slot)
     }
 
     /// The mark of a name.
     pub fn find(&self, name: &str) -> Option<&Mark>
-        requires { IsTable self.now }
-        ensures { option_map seen (option_copied result) ≡ named name.now (marks_of self.now) }
+        requires { IsMarkTable self.now }
+        ensures { option_map seen_mark (option_copied result) ≡ mark_of_name name.now (marks_in_table self.now) }
     {
         match self.search(name) {
             Ok(rank) => self.mark_in(self.by_name[rank]),
@@ -164,13 +164,13 @@ impl Table {
 
     /// The slot of the mark of a name, or where the name would be among the names.
     pub fn find_slot(&self, name: &str) -> Result<usize, usize>
-        requires { IsTable self.now }
+        requires { IsMarkTable self.now }
         ensures there { IfOk result (λ slot. slot < length (slots_of self.now)) }
-        ensures mark { IfOk result (λ slot. named name.now (marks_of self.now) ≡ Some (in_slot (slots_of self.now) slot)) }
+        ensures mark { IfOk result (λ slot. mark_of_name name.now (marks_in_table self.now) ≡ Some (in_slot (slots_of self.now) slot)) }
         ensures name { IfOk result (λ slot. (in_slot (slots_of self.now) slot).name ≡ name.now) }
-        ensures none { IfErr result (λ _. named name.now (marks_of self.now) ≡ None) }
+        ensures none { IfErr result (λ _. mark_of_name name.now (marks_in_table self.now) ≡ None) }
         ensures bound { IfErr result (λ gap. gap ≤ length self.now.by_name.items) }
-        ensures gap { IfErr result (λ gap. IsGap name.now (names_of (by_names self.now)) gap) }
+        ensures gap { IfErr result (λ gap. IsGap name.now (names_of_marks (by_names self.now)) gap) }
     {
         match self.search(name) {
             Ok(rank) => Ok(self.by_name[rank]),
@@ -179,17 +179,17 @@ impl Table {
     }
 
     /// The first mark that comes after a spot.
-    pub fn first_after(&self, here: &Spot<'_>) -> Option<&Mark>
-        requires { IsTable self.now }
-        ensures { option_map seen (option_copied result) ≡ first_passing (comes_before (spotted here.now)) (marks_of self.now) }
+    pub fn first_after(&self, here: &MarkRef<'_>) -> Option<&Mark>
+        requires { IsMarkTable self.now }
+        ensures { option_map seen_mark (option_copied result) ≡ first_passing (comes_before (spotted here.now)) (marks_in_table self.now) }
     {
         self.mark_at(self.count_until(here))
     }
 
     /// The last mark that comes before a spot.
-    pub fn last_until(&self, here: &Spot<'_>) -> Option<&Mark>
-        requires { IsTable self.now }
-        ensures { option_map seen (option_copied result) ≡ find_last (λ m. comes_before m (spotted here.now)) (marks_of self.now) }
+    pub fn last_until(&self, here: &MarkRef<'_>) -> Option<&Mark>
+        requires { IsMarkTable self.now }
+        ensures { option_map seen_mark (option_copied result) ≡ find_last (λ m. comes_before m (spotted here.now)) (marks_in_table self.now) }
     {
         let count = self.count_before_spot(here);
         if count == 0 {
@@ -201,16 +201,16 @@ impl Table {
 
     /// The first mark at or after a place.
     pub fn first_at(&self, place: usize) -> Option<&Mark>
-        requires { IsTable self.now }
-        ensures { option_map seen (option_copied result) ≡ first_mark_at place (marks_of self.now) }
+        requires { IsMarkTable self.now }
+        ensures { option_map seen_mark (option_copied result) ≡ first_mark_at place (marks_in_table self.now) }
     {
         self.mark_at(self.count_below(place))
     }
 
     /// The last mark before a place.
     pub fn last_before(&self, place: usize) -> Option<&Mark>
-        requires { IsTable self.now }
-        ensures { option_map seen (option_copied result) ≡ last_mark_before place (marks_of self.now) }
+        requires { IsMarkTable self.now }
+        ensures { option_map seen_mark (option_copied result) ≡ last_mark_before place (marks_in_table self.now) }
     {
         let count = self.count_below(place);
         if count == 0 {
@@ -225,7 +225,7 @@ impl Table {
         ensures marks { self.new.marks.items ≡ self.old.marks.items }
         ensures by_name { self.new.by_name.items ≡ self.old.by_name.items }
         ensures in_order { self.new.in_order.items ≡ self.old.in_order.items }
-        ensures ok { OnOk result (HasRoom self.new) }
+        ensures ok { OnOk result (HasRoomForMark self.new) }
     {
         self.marks.reserve(1)?;
         self.by_name.reserve(1)?;
@@ -235,12 +235,12 @@ impl Table {
 
     /// Puts in a mark of a new name. There is room.
     pub fn add(&mut self, gap: usize, mark: Mark)
-        requires table { IsTable self.old }
+        requires table { IsMarkTable self.old }
         requires within { gap ≤ length self.old.by_name.items }
-        requires gap { IsGap (seen mark).name (names_of (by_names self.old)) gap }
-        requires room { HasRoom self.old }
-        ensures table { IsTable self.new }
-        ensures marks { marks_of self.new ≡ with_mark (seen mark) (marks_of self.old) }
+        requires gap { IsGap (seen_mark mark).name (names_of_marks (by_names self.old)) gap }
+        requires room { HasRoomForMark self.old }
+        ensures table { IsMarkTable self.new }
+        ensures marks { marks_in_table self.new ≡ with_mark (seen_mark mark) (marks_in_table self.old) }
     {
         let slot = self.marks.len();
         let at = self.count_before(&mark);
@@ -264,10 +264,11 @@ impl Table {
 
     /// Gives a slot's mark a place and a gravity, and moves its number within the order.
     pub fn move_to(&mut self, slot: usize, place: usize, gravity: Gravity)
-        requires table { IsTable self.old }
+        requires table { IsMarkTable self.old }
         requires there { slot < length (slots_of self.old) }
-        ensures table { IsTable self.new }
-        ensures marks { marks_of self.new ≡ put_mark (record (in_slot (slots_of self.old) slot) { place = place; gravity = gravity }) (marks_of self.old) }
+        ensures table { IsMarkTable self.new }
+        ensures marks { marks_in_table self.new ≡ put_mark (record (in_slot (slots_of self.old) slot) { place = place; gravity = gravity })
+            (marks_in_table self.old) }
     {
         let from = self.count_before(&self.marks[slot]);
         self.in_order.remove(from);
@@ -278,10 +279,10 @@ impl Table {
 
     /// Gives a slot's mark a place.
     pub fn set_place(&mut self, slot: usize, place: usize)
-        requires table { IsTable self.old }
+        requires table { IsMarkTable self.old }
         requires there { slot < length (slots_of self.old) }
-        ensures table { IsTable self.new }
-        ensures marks { marks_of self.new ≡ put_mark (record (in_slot (slots_of self.old) slot) { place = place }) (marks_of self.old) }
+        ensures table { IsMarkTable self.new }
+        ensures marks { marks_in_table self.new ≡ put_mark (record (in_slot (slots_of self.old) slot) { place = place }) (marks_in_table self.old) }
     {
         let gravity = self.marks[slot].gravity;
         self.move_to(slot, place, gravity);
@@ -289,10 +290,10 @@ impl Table {
 
     /// Gives a slot's mark a gravity.
     pub fn set_gravity(&mut self, slot: usize, gravity: Gravity)
-        requires table { IsTable self.old }
+        requires table { IsMarkTable self.old }
         requires there { slot < length (slots_of self.old) }
-        ensures table { IsTable self.new }
-        ensures marks { marks_of self.new ≡ put_mark (record (in_slot (slots_of self.old) slot) { gravity = gravity }) (marks_of self.old) }
+        ensures table { IsMarkTable self.new }
+        ensures marks { marks_in_table self.new ≡ put_mark (record (in_slot (slots_of self.old) slot) { gravity = gravity }) (marks_in_table self.old) }
     {
         let place = self.marks[slot].place;
         self.move_to(slot, place, gravity);
@@ -300,7 +301,7 @@ impl Table {
 
     /// Where a slot's number stands among the names.
     fn rank_of(&self, slot: usize) -> usize
-        requires table { IsTable self.now }
+        requires table { IsMarkTable self.now }
         requires there { slot < length (slots_of self.now) }
         ensures there { result < length self.now.by_name.items }
         ensures read { slice_index self.now.by_name.items result ≡ slot }
@@ -314,10 +315,11 @@ impl Table {
     /// Takes away the mark whose number stands at an index of the names. The mark of the last slot
     /// takes its slot, and its number is mended in both lists.
     pub fn take(&mut self, rank: usize)
-        requires table { IsTable self.old }
+        requires table { IsMarkTable self.old }
         requires there { rank < length self.old.by_name.items }
-        ensures table { IsTable self.new }
-        ensures marks { marks_of self.new ≡ without (in_slot (slots_of self.old) (slice_index self.old.by_name.items rank)).name (marks_of self.old) }
+        ensures table { IsMarkTable self.new }
+        ensures marks { marks_in_table self.new ≡ without_mark (in_slot (slots_of self.old) (slice_index self.old.by_name.items rank)).name
+            (marks_in_table self.old) }
     {
         let slot = self.by_name[rank];
         let last = self.marks.len() - 1;
@@ -330,9 +332,9 @@ impl Table {
     }
     /// Takes away the mark of a name, if there is one.
     pub fn remove(&mut self, name: &str)
-        requires { IsTable self.old }
-        ensures table { IsTable self.new }
-        ensures marks { marks_of self.new ≡ without name.now (marks_of self.old) }
+        requires { IsMarkTable self.old }
+        ensures table { IsMarkTable self.new }
+        ensures marks { marks_in_table self.new ≡ without_mark name.now (marks_in_table self.old) }
     {
         match self.search(name) {
             Ok(rank) => self.take(rank),
@@ -350,8 +352,8 @@ impl Table {
 
     /// The names, by their bytes.
     pub fn names(&self, alloc: Global) -> Result<Vec<String>, AllocError>
-        requires { IsTable self.now }
-        ensures { IfOk result (λ v. as_words v.items ≡ names_of (by_names self.now)) }
+        requires { IsMarkTable self.now }
+        ensures { IfOk result (λ v. as_words v.items ≡ names_of_marks (by_names self.now)) }
     {
         let mut names = Vec::with_capacity(alloc, self.by_name.len())?;
         for rank in 0..self.by_name.len() {
@@ -363,10 +365,10 @@ impl Table {
 
     /// Moves the marks for characters that were inserted: their order stays.
     pub fn inserted(&mut self, place: usize, n: usize)
-        requires table { IsTable self.old }
-        requires fits { AllByRecursion (λ m. m.place + n ≤ usize.MAX) (marks_of self.old) }
-        ensures table { IsTable self.new }
-        ensures marks { marks_of self.new ≡ marks_inserted place n (marks_of self.old) }
+        requires table { IsMarkTable self.old }
+        requires fits { AllByRecursion (λ m. m.place + n ≤ usize.MAX) (marks_in_table self.old) }
+        ensures table { IsMarkTable self.new }
+        ensures marks { marks_in_table self.new ≡ marks_inserted place n (marks_in_table self.old) }
     {
         insert_places(&mut self.marks, place, n);
     }
@@ -374,9 +376,9 @@ impl Table {
     /// Moves the marks for characters that were removed. The marks that come to stand at the place
     /// are put in order anew: those of left gravity by their names, and then those of right gravity.
     pub fn removed(&mut self, place: usize, n: usize)
-        requires { IsTable self.old }
-        ensures table { IsTable self.new }
-        ensures marks { marks_of self.new ≡ marks_removed place n (marks_of self.old) }
+        requires { IsMarkTable self.old }
+        ensures table { IsMarkTable self.new }
+        ensures marks { marks_in_table self.new ≡ marks_removed place n (marks_in_table self.old) }
     {
         let start = self.count_below(place);
         remove_places(&mut self.marks, place, n);

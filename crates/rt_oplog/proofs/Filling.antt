@@ -5,35 +5,35 @@ use Rattle.std.specs.List.{AllByRecursion, insert}
 use Rattle.std.proofs.lemmas.List.{length-set}
 use Rattle.std.proofs.lemmas.List.Edits.{insert-append_left, insert-append_right}
 use Rattle.rt_oplog.specs.declared.block.Block.{Block}
-use Rattle.rt_oplog.specs.Blocks.{AreHalfFull, IsFull, in_blocks, places_before, room_of}
+use Rattle.rt_oplog.specs.Blocks.{AreHalfFull, IsFull, places_in_blocks, places_before, room_of}
 use Rattle.rt_oplog.proofs.InBlocks.{any_default}
 
 -- a place put into one block
 pub put_blocks : (bs : List Block) (i : ℕ) (b new : Block) (at : ℕ) (place : RowPlace) → i < length bs → b ≡ get_or bs i b → at ≤ length b.places.items → new.places.items ≡ insert b.places.items at place
-    → in_blocks (set bs i new) ≡ insert (in_blocks bs) (places_before bs i + at) place
+    → places_in_blocks (set bs i new) ≡ insert (places_in_blocks bs) (places_before bs i + at) place
 put_blocks [] i b new at place l e w n = absurd (omega arith)
 put_blocks (c ∷ bs) zero b new at place l e w n =
     let same : at ≤ length c.places.items = subst (λ (x : Block). at ≤ length x.places.items) e w in
-    ap (λ xs. xs ++ in_blocks bs) (n ∙ ap (λ (x : Block). insert x.places.items at place) e) ∙ sym (insert-append_left c.places.items (in_blocks bs) at place same) ∙ ap (λ k. insert (c.places.items ++ in_blocks bs) k place) (from_zero at)
+    ap (λ xs. xs ++ places_in_blocks bs) (n ∙ ap (λ (x : Block). insert x.places.items at place) e) ∙ sym (insert-append_left c.places.items (places_in_blocks bs) at place same) ∙ ap (λ k. insert (c.places.items ++ places_in_blocks bs) k place) (from_zero at)
   where
     from_zero : (k : ℕ) → k ≡ 0 + k
     from_zero k = omega arith
 put_blocks (c ∷ bs) (suc i) b new at place l e w n =
     let r = put_blocks bs i b new at place (omega arith) e w n in
-    let len = length-append c.places.items (in_blocks (take i bs)) in
+    let len = length-append c.places.items (places_in_blocks (take i bs)) in
     let k : places_before (c ∷ bs) (suc i) + at ≡ length c.places.items + (places_before bs i + at) = omega (arith, len) in
     let back : length c.places.items + (places_before bs i + at) - length c.places.items ≡ places_before bs i + at = omega arith in
     ap (λ xs. c.places.items ++ xs) r
-    ∙ sym (ap (λ m. insert (c.places.items ++ in_blocks bs) m place) k
-    ∙ insert-append_right c.places.items (in_blocks bs) (length c.places.items) (length c.places.items + (places_before bs i + at)) place refl (omega arith)
-    ∙ ap (λ m. c.places.items ++ insert (in_blocks bs) m place) back)
+    ∙ sym (ap (λ m. insert (c.places.items ++ places_in_blocks bs) m place) k
+    ∙ insert-append_right c.places.items (places_in_blocks bs) (length c.places.items) (length c.places.items + (places_before bs i + at)) place refl (omega arith)
+    ∙ ap (λ m. c.places.items ++ insert (places_in_blocks bs) m place) back)
 
 -- one block becomes two
 pub split_blocks : (bs : List Block) (i : ℕ) (b front back : Block) → i < length bs → b ≡ get_or bs i b → b.places.items ≡ front.places.items ++ back.places.items
-    → in_blocks (insert (set bs i front) (suc i) back) ≡ in_blocks bs
+    → places_in_blocks (insert (set bs i front) (suc i) back) ≡ places_in_blocks bs
 split_blocks [] i b front back l e n = absurd (omega arith)
 split_blocks (c ∷ bs) zero b front back l e n =
-    sym (append_assoc front.places.items back.places.items (in_blocks bs)) ∙ ap (λ xs. xs ++ in_blocks bs) (sym n ∙ ap (λ (x : Block). x.places.items) e)
+    sym (append_assoc front.places.items back.places.items (places_in_blocks bs)) ∙ ap (λ xs. xs ++ places_in_blocks bs) (sym n ∙ ap (λ (x : Block). x.places.items) e)
 split_blocks (c ∷ bs) (suc i) b front back l e n = ap (λ xs. c.places.items ++ xs) (split_blocks bs i b front back (omega arith) e n)
 
 pub split_front : (bs : List Block) (i : ℕ) (front back : Block) → i < length bs → take i (insert (set bs i front) (suc i) back) ≡ take i bs
@@ -74,26 +74,26 @@ half_more (c ∷ e ∷ bs) new h f = (λ _. h.0 (omega arith), half_more (e ∷ 
 
 -- so there are blocks for all places
 
-places_of_half : (bs : List Block) → AreHalfFull bs → 256 * length bs < length (in_blocks bs) + 256
+places_of_half : (bs : List Block) → AreHalfFull bs → 256 * length bs < length (places_in_blocks bs) + 256
 places_of_half [] h = omega arith
 places_of_half (c ∷ []) h =
     let n = length-append c.places.items [] in
     omega (arith, n, c.some, c.places.ok.0)
 places_of_half (c ∷ e ∷ bs) h =
-    let n = length-append c.places.items (in_blocks (e ∷ bs)) in
+    let n = length-append c.places.items (places_in_blocks (e ∷ bs)) in
     let r = places_of_half (e ∷ bs) h.1 in
     let k = h.0 (omega arith) in
     omega (arith, n, r, k, c.places.ok.0)
 
-pub places_of_full : (bs : List Block) (i : ℕ) (b : Block) → AreHalfFull bs → i < length bs → b ≡ get_or bs i b → vec_len b.places ≡ 512 → 256 * length bs < length (in_blocks bs)
+pub places_of_full : (bs : List Block) (i : ℕ) (b : Block) → AreHalfFull bs → i < length bs → b ≡ get_or bs i b → vec_len b.places ≡ 512 → 256 * length bs < length (places_in_blocks bs)
 places_of_full [] i b h l e f = absurd (omega arith)
 places_of_full (c ∷ bs) zero b h l e f =
-    let n = length-append c.places.items (in_blocks bs) in
+    let n = length-append c.places.items (places_in_blocks bs) in
     let r = places_of_half bs h.1 in
     let k = ap (λ (x : Block). vec_len x.places) e in
     omega (arith, n, r, k, f, c.places.ok.0)
 places_of_full (c ∷ bs) (suc i) b h l e f =
-    let n = length-append c.places.items (in_blocks bs) in
+    let n = length-append c.places.items (places_in_blocks bs) in
     let r = places_of_full bs i b h.1 (omega arith) e f in
     let k = h.0 (omega (arith, l)) in
     omega (arith, n, r, k, c.places.ok.0)
@@ -102,7 +102,7 @@ places_of_full (c ∷ bs) (suc i) b h l e f =
 pub some_spare : (spare blocks len : ℕ) → 0 < room_of spare blocks len → 256 * blocks ≤ len → 0 < spare
 some_spare spare blocks len r h = omega (arith, r, h)
 
-pub places_of_all : (bs : List Block) → AreHalfFull bs → IsFull bs → 256 * length bs ≤ length (in_blocks bs)
+pub places_of_all : (bs : List Block) → AreHalfFull bs → IsFull bs → 256 * length bs ≤ length (places_in_blocks bs)
 places_of_all [] h f = omega arith
 places_of_all (c ∷ bs) h f =
     let b = get_or (c ∷ bs) (length (c ∷ bs) - 1) c in

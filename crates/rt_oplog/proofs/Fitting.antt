@@ -10,7 +10,7 @@ use Rattle.rt_ops.specs.declared.version.Version.TheVariants.{One}
 use Rattle.rt_ops.specs.Operations.{Operation}
 use Rattle.rt_ops.specs.File.{fits, version_of}
 use Rattle.rt_oplog.specs.declared.block.Block.{Block}
-use Rattle.rt_oplog.specs.Blocks.{in_blocks}
+use Rattle.rt_oplog.specs.Blocks.{places_in_blocks}
 use Rattle.rt_oplog.proofs.InBlocks.{places_next}
 use Rattle.rt_oplog.proofs.Merges.{ops_at}
 
@@ -48,31 +48,31 @@ fits_at ops places i op l e all = by (fits One op) refl
 -- ---- the next block
 
 pub block_fits : (ops : List (List Operation)) (bs : List Block) (i : ℕ) (b : Block) → i < length bs → b ≡ get_or bs i b
-    → fit ops (in_blocks (take i bs)) ≡ true → fit ops b.places.items ≡ true → fit ops (in_blocks (take (i + 1) bs)) ≡ true
+    → fit ops (places_in_blocks (take i bs)) ≡ true → fit ops b.places.items ≡ true → fit ops (places_in_blocks (take (i + 1) bs)) ≡ true
 block_fits ops bs i b l e before here =
-    ap (fit ops) (places_next bs i b l e) ∙ fit_append ops (in_blocks (take i bs)) b.places.items ∙ (λ j. before j && here j)
+    ap (fit ops) (places_next bs i b l e) ∙ fit_append ops (places_in_blocks (take i bs)) b.places.items ∙ (λ j. before j && here j)
 
 -- a block among all
 split_at : (ops : List (List Operation)) (bs : List Block) (i : ℕ) (b : Block) → i < length bs → b ≡ get_or bs i b
-    → fit ops (in_blocks bs) ≡ ((fit ops (in_blocks (take i bs)) && fit ops b.places.items) && fit ops (in_blocks (drop (i + 1) bs)))
+    → fit ops (places_in_blocks bs) ≡ ((fit ops (places_in_blocks (take i bs)) && fit ops b.places.items) && fit ops (places_in_blocks (drop (i + 1) bs)))
 split_at ops bs i b l e =
-    ap (λ xs. fit ops (in_blocks xs)) (sym (take-append-drop (i + 1) bs))
+    ap (λ xs. fit ops (places_in_blocks xs)) (sym (take-append-drop (i + 1) bs))
     ∙ ap (fit ops) (flat_map-append (λ (x : Block). x.places.items) (take (i + 1) bs) (drop (i + 1) bs))
-    ∙ fit_append ops (in_blocks (take (i + 1) bs)) (in_blocks (drop (i + 1) bs))
-    ∙ ap (λ a. a && fit ops (in_blocks (drop (i + 1) bs))) (ap (fit ops) (places_next bs i b l e) ∙ fit_append ops (in_blocks (take i bs)) b.places.items)
+    ∙ fit_append ops (places_in_blocks (take (i + 1) bs)) (places_in_blocks (drop (i + 1) bs))
+    ∙ ap (λ a. a && fit ops (places_in_blocks (drop (i + 1) bs))) (ap (fit ops) (places_next bs i b l e) ∙ fit_append ops (places_in_blocks (take i bs)) b.places.items)
 
 middle_not : (a c : Bool) → ((a && false) && c) ≡ false
 middle_not true c = refl
 middle_not false c = refl
 
 pub block_not : (ops : List (List Operation)) (bs : List Block) (i : ℕ) (b : Block) → i < length bs → b ≡ get_or bs i b
-    → fit ops b.places.items ≡ false → fit ops (in_blocks bs) ≡ false
+    → fit ops b.places.items ≡ false → fit ops (places_in_blocks bs) ≡ false
 block_not ops bs i b l e here =
-    split_at ops bs i b l e ∙ ap (λ m. (fit ops (in_blocks (take i bs)) && m) && fit ops (in_blocks (drop (i + 1) bs))) here
-    ∙ middle_not (fit ops (in_blocks (take i bs))) (fit ops (in_blocks (drop (i + 1) bs)))
+    split_at ops bs i b l e ∙ ap (λ m. (fit ops (places_in_blocks (take i bs)) && m) && fit ops (places_in_blocks (drop (i + 1) bs))) here
+    ∙ middle_not (fit ops (places_in_blocks (take i bs))) (fit ops (places_in_blocks (drop (i + 1) bs)))
 
 pub block_at : (ops : List (List Operation)) (bs : List Block) (i : ℕ) (b : Block) → i < length bs → b ≡ get_or bs i b
-    → fit ops (in_blocks bs) ≡ true → fit ops b.places.items ≡ true
+    → fit ops (places_in_blocks bs) ≡ true → fit ops b.places.items ≡ true
 block_at ops bs i b l e all = by (fit ops b.places.items) refl
   where
     by : (m : Bool) → fit ops b.places.items ≡ m → fit ops b.places.items ≡ true

@@ -14,7 +14,7 @@ use Rattle.rt_oplog.specs.declared.block.Block.{Block}
 use Rattle.rt_ops.specs.Operations.{Operation, stamp_of}
 use Rattle.rt_oplog.specs.Logs.{HasOp, IsFalling, IsLog}
 use Rattle.rt_oplog.specs.Kept.{newest_first, leading, is_earlier}
-use Rattle.rt_oplog.specs.Blocks.{all_pass, in_blocks, places_before}
+use Rattle.rt_oplog.specs.Blocks.{all_pass, places_in_blocks, places_before}
 use Rattle.rt_oplog.proofs.Sets.{split}
 use Rattle.rt_oplog.proofs.Places.{partitioned}
 use Rattle.rt_oplog.proofs.Merges.{falling_after, has_after, seen_append}
@@ -60,19 +60,19 @@ leading_fails p (x ∷ xs) h = split (p x)
 -- the first place that fails a test stands in the first block of which not all pass
 
 pub leading_at : (p : RowPlace → Bool) (bs : List Block) (i : ℕ) (b : Block) → i ≡ leading (all_pass p) bs → i < length bs → b ≡ get_or bs i b
-    → leading p (in_blocks bs) ≡ places_before bs i + leading p b.places.items
+    → leading p (places_in_blocks bs) ≡ places_before bs i + leading p b.places.items
 leading_at p [] i b e l g = absurd (omega arith)
 leading_at p (c ∷ bs) zero b e l g = split (all_pass p c)
     (λ h. let k = rw h at e in absurd (omega (arith, k)))
-    (λ h. let k = leading_front p c.places.items (in_blocks bs) h in k ∙ ap (λ (x : Block). leading p x.places.items) (sym g) ∙ sym (zero_plus (leading p b.places.items)))
+    (λ h. let k = leading_front p c.places.items (places_in_blocks bs) h in k ∙ ap (λ (x : Block). leading p x.places.items) (sym g) ∙ sym (zero_plus (leading p b.places.items)))
   where
     zero_plus : (n : ℕ) → 0 + n ≡ n
     zero_plus n = omega arith
 leading_at p (c ∷ bs) (suc i) b e l g = split (all_pass p c)
     (λ h. let k = rw h at e in
     let r = leading_at p bs i b (omega (arith, k)) (omega arith) g in
-    let a = leading_all p c.places.items (in_blocks bs) h in
-    let n = length-append c.places.items (in_blocks (take i bs)) in
+    let a = leading_all p c.places.items (places_in_blocks bs) h in
+    let n = length-append c.places.items (places_in_blocks (take i bs)) in
     omega (arith, r, a, n))
     (λ h. let k = rw h at e in absurd (omega (arith, k)))
 
@@ -86,13 +86,13 @@ leading_within p (c ∷ bs) (suc i) b e l g = split (all_pass p c)
     (λ h. let k = rw h at e in leading_within p bs i b (omega (arith, k)) (omega arith) g)
     (λ h. let k = rw h at e in absurd (omega (arith, k)))
 
-leading_none : (p : RowPlace → Bool) (bs : List Block) → leading (all_pass p) bs ≡ length bs → leading p (in_blocks bs) ≡ length (in_blocks bs)
+leading_none : (p : RowPlace → Bool) (bs : List Block) → leading (all_pass p) bs ≡ length bs → leading p (places_in_blocks bs) ≡ length (places_in_blocks bs)
 leading_none p [] e = refl
 leading_none p (c ∷ bs) e = split (all_pass p c)
     (λ h. let k = rw h at e in
     let r = leading_none p bs (omega (arith, k)) in
-    let a = leading_all p c.places.items (in_blocks bs) h in
-    let n = length-append c.places.items (in_blocks bs) in
+    let a = leading_all p c.places.items (places_in_blocks bs) h in
+    let n = length-append c.places.items (places_in_blocks bs) in
     omega (arith, r, a, n))
     (λ h. let k = rw h at e in absurd (omega (arith, k)))
 
@@ -106,25 +106,25 @@ falling_back (x ∷ xs) ys h = (all_back (λ q. is_before (stamp_of q) (stamp_of
     all_back P [] ys h = tt
     all_back P (x ∷ xs) ys h = (h.0, all_back P xs ys h.1)
 
-pub places_next : (bs : List Block) (i : ℕ) (b : Block) → i < length bs → b ≡ get_or bs i b → in_blocks (take (i + 1) bs) ≡ in_blocks (take i bs) ++ b.places.items
+pub places_next : (bs : List Block) (i : ℕ) (b : Block) → i < length bs → b ≡ get_or bs i b → places_in_blocks (take (i + 1) bs) ≡ places_in_blocks (take i bs) ++ b.places.items
 places_next bs i b l e =
-    ap in_blocks (take_more bs i b l ∙ ap (λ x. take i bs ++ x ∷ []) (sym e)) ∙ flat_map-append (λ (x : Block). x.places.items) (take i bs) (b ∷ []) ∙ ap (λ xs. in_blocks (take i bs) ++ xs) (append-nil b.places.items)
+    ap places_in_blocks (take_more bs i b l ∙ ap (λ x. take i bs ++ x ∷ []) (sym e)) ∙ flat_map-append (λ (x : Block). x.places.items) (take i bs) (b ∷ []) ∙ ap (λ xs. places_in_blocks (take i bs) ++ xs) (append-nil b.places.items)
 
-pub falling_block : (ops : List (List Operation)) (bs : List Block) (i : ℕ) (b : Block) → i < length bs → b ≡ get_or bs i b → IsFalling (newest_first ops (in_blocks bs)) → IsFalling (newest_first ops b.places.items)
+pub falling_block : (ops : List (List Operation)) (bs : List Block) (i : ℕ) (b : Block) → i < length bs → b ≡ get_or bs i b → IsFalling (newest_first ops (places_in_blocks bs)) → IsFalling (newest_first ops b.places.items)
 falling_block ops [] i b l e f = absurd (omega arith)
 falling_block ops (c ∷ bs) zero b l e f =
-    let g = subst IsFalling (seen_append ops c.places.items (in_blocks bs)) f in
-    subst (λ (x : Block). IsFalling (newest_first ops x.places.items)) (sym e) (falling_after (newest_first ops (in_blocks bs)) (newest_first ops c.places.items) g)
+    let g = subst IsFalling (seen_append ops c.places.items (places_in_blocks bs)) f in
+    subst (λ (x : Block). IsFalling (newest_first ops x.places.items)) (sym e) (falling_after (newest_first ops (places_in_blocks bs)) (newest_first ops c.places.items) g)
 falling_block ops (c ∷ bs) (suc i) b l e f =
-    let g = subst IsFalling (seen_append ops c.places.items (in_blocks bs)) f in
-    falling_block ops bs i b (omega arith) e (falling_back (newest_first ops (in_blocks bs)) (newest_first ops c.places.items) g)
+    let g = subst IsFalling (seen_append ops c.places.items (places_in_blocks bs)) f in
+    falling_block ops bs i b (omega arith) e (falling_back (newest_first ops (places_in_blocks bs)) (newest_first ops c.places.items) g)
 
 -- the first place of a block, in the one list
-first_at : (bs : List Block) (j : ℕ) (e : Block) (d : RowPlace) → j < length bs → (places_before bs j < length (in_blocks bs)) × (get_or (in_blocks bs) (places_before bs j) d ≡ get_or (get_or bs j e).places.items 0 d)
+first_at : (bs : List Block) (j : ℕ) (e : Block) (d : RowPlace) → j < length bs → (places_before bs j < length (places_in_blocks bs)) × (get_or (places_in_blocks bs) (places_before bs j) d ≡ get_or (get_or bs j e).places.items 0 d)
 first_at [] j e d l = absurd (omega arith)
 first_at (b ∷ bs) zero e d l = (
-  (let n = length-append b.places.items (in_blocks bs) in omega (arith, n, b.some, b.places.ok.0)),
-  front_of b.places.items (in_blocks bs) d (omega (arith, b.some, b.places.ok.0)),
+  (let n = length-append b.places.items (places_in_blocks bs) in omega (arith, n, b.some, b.places.ok.0)),
+  front_of b.places.items (places_in_blocks bs) d (omega (arith, b.some, b.places.ok.0)),
 )
   where
     front_of : (xs ys : List RowPlace) (d : RowPlace) → 0 < length xs → get_or (xs ++ ys) 0 d ≡ get_or xs 0 d
@@ -132,35 +132,35 @@ first_at (b ∷ bs) zero e d l = (
     front_of (x ∷ xs) ys d h = refl
 first_at (b ∷ bs) (suc j) e d l =
     let r = first_at bs j e d (omega arith) in
-    let n = length-append b.places.items (in_blocks (take j bs)) in
-    let m = length-append b.places.items (in_blocks bs) in (
+    let n = length-append b.places.items (places_in_blocks (take j bs)) in
+    let m = length-append b.places.items (places_in_blocks bs) in (
       omega (arith, r.0, n, m),
-      ap (λ k. get_or (b.places.items ++ in_blocks bs) k d) n ∙ behind b.places.items (in_blocks bs) (places_before bs j) d ∙ r.1,
+      ap (λ k. get_or (b.places.items ++ places_in_blocks bs) k d) n ∙ behind b.places.items (places_in_blocks bs) (places_before bs j) d ∙ r.1,
     )
   where
     behind : (xs ys : List RowPlace) (k : ℕ) (d : RowPlace) → get_or (xs ++ ys) (length xs + k) d ≡ get_or ys k d
     behind [] ys k d = let e : 0 + k ≡ k = omega arith in ap (λ n. get_or ys n d) e
     behind (x ∷ xs) ys k d = let e : suc (length xs) + k ≡ suc (length xs + k) = omega arith in ap (λ n. get_or (x ∷ (xs ++ ys)) n d) e ∙ behind xs ys k d
 
-pub blocks_parted : (ops : List (List Operation)) (stamp : Stamp) (bs : List Block) → IsFalling (newest_first ops (in_blocks bs)) → IsPartitionedBy (all_pass (is_earlier ops stamp)) bs
+pub blocks_parted : (ops : List (List Operation)) (stamp : Stamp) (bs : List Block) → IsFalling (newest_first ops (places_in_blocks bs)) → IsPartitionedBy (all_pass (is_earlier ops stamp)) bs
 blocks_parted ops stamp [] f i j d h k e = absurd (omega arith)
 blocks_parted ops stamp (b ∷ bs) f zero zero d h k e = e
 blocks_parted ops stamp (b ∷ bs) f (suc i) zero d h k e = absurd (omega arith)
 blocks_parted ops stamp (b ∷ bs) f (suc i) (suc j) d h k e =
-    let g = subst IsFalling (seen_append ops b.places.items (in_blocks bs)) f in
-    blocks_parted ops stamp bs (falling_back (newest_first ops (in_blocks bs)) (newest_first ops b.places.items) g) i j d (omega arith) (omega arith) e
+    let g = subst IsFalling (seen_append ops b.places.items (places_in_blocks bs)) f in
+    blocks_parted ops stamp bs (falling_back (newest_first ops (places_in_blocks bs)) (newest_first ops b.places.items) g) i j d (omega arith) (omega arith) e
 blocks_parted ops stamp (b ∷ bs) f zero (suc j) d h k e =
     let p = is_earlier ops stamp in
-    let all = b.places.items ++ in_blocks bs in
-    let n = length-append b.places.items (in_blocks bs) in
+    let all = b.places.items ++ places_in_blocks bs in
+    let n = length-append b.places.items (places_in_blocks bs) in
     let c = get_or bs j d in
     all_by_index p b.places.items (λ i x l.
     let at = first_at (b ∷ bs) (suc j) d x k in
     let first : p (get_or c.places.items 0 x) ≡ true = all_first p c.places.items x (omega (arith, c.some, c.places.ok.0)) e in
     let there : p (get_or all (places_before (b ∷ bs) (suc j)) x) ≡ true = ap p at.1 ∙ first in
-    let m = length-append b.places.items (in_blocks (take j bs)) in
+    let m = length-append b.places.items (places_in_blocks (take j bs)) in
     let here = partitioned ops stamp all f i (places_before (b ∷ bs) (suc j)) x (omega (arith, l, m)) at.0 there in
-    ap p (sym (get_or-front b.places.items (in_blocks bs) i x l)) ∙ here)
+    ap p (sym (get_or-front b.places.items (places_in_blocks bs) i x l)) ∙ here)
   where
     all_first : (p : RowPlace → Bool) (xs : List RowPlace) (d : RowPlace) → 0 < length xs → list_all p xs ≡ true → p (get_or xs 0 d) ≡ true
     all_first p [] d l h = absurd (omega arith)
@@ -177,7 +177,7 @@ blocks_parted ops stamp (b ∷ bs) f zero (suc j) d h k e =
 abbrev pub last_earlier : List (List Operation) → Stamp → Block → Bool
 last_earlier ops stamp b = is_earlier ops stamp (get_or b.places.items (length b.places.items - 1) (record { row = 0; at = 0 }))
 
-last_tells : (ops : List (List Operation)) (stamp : Stamp) (bs : List Block) → IsFalling (newest_first ops (in_blocks bs)) → (i : ℕ) (d : Block) → i < length bs
+last_tells : (ops : List (List Operation)) (stamp : Stamp) (bs : List Block) → IsFalling (newest_first ops (places_in_blocks bs)) → (i : ℕ) (d : Block) → i < length bs
     → last_earlier ops stamp (get_or bs i d) ≡ all_pass (is_earlier ops stamp) (get_or bs i d)
 last_tells ops stamp bs f i d l =
     let b = get_or bs i d in
@@ -191,15 +191,15 @@ leading_same p q (x ∷ xs) h =
     let r = leading_same p q xs (λ i d l. h (suc i) d (omega arith)) in
     split (q x) (λ k. rw (e, k, r) refl) (λ k. rw (e, k) refl)
 
-pub last_leading : (ops : List (List Operation)) (stamp : Stamp) (bs : List Block) → IsFalling (newest_first ops (in_blocks bs)) → leading (last_earlier ops stamp) bs ≡ leading (all_pass (is_earlier ops stamp)) bs
+pub last_leading : (ops : List (List Operation)) (stamp : Stamp) (bs : List Block) → IsFalling (newest_first ops (places_in_blocks bs)) → leading (last_earlier ops stamp) bs ≡ leading (all_pass (is_earlier ops stamp)) bs
 last_leading ops stamp bs f = leading_same (last_earlier ops stamp) (all_pass (is_earlier ops stamp)) bs (last_tells ops stamp bs f)
 
-pub last_parted : (ops : List (List Operation)) (stamp : Stamp) (bs : List Block) → IsFalling (newest_first ops (in_blocks bs)) → IsPartitionedBy (last_earlier ops stamp) bs
+pub last_parted : (ops : List (List Operation)) (stamp : Stamp) (bs : List Block) → IsFalling (newest_first ops (places_in_blocks bs)) → IsPartitionedBy (last_earlier ops stamp) bs
 last_parted ops stamp bs f i j d h k e =
     last_tells ops stamp bs f i d (omega (arith, h, k)) ∙ blocks_parted ops stamp bs f i j d h k (sym (last_tells ops stamp bs f j d k) ∙ e)
 
 -- the last block's last place tells whether all operations are before a stamp
-pub last_of_all : (ops : List (List Operation)) (stamp : Stamp) (bs : List Block) (b : Block) → IsFalling (newest_first ops (in_blocks bs)) → slice_get bs (length bs - 1) ≡ Some b
+pub last_of_all : (ops : List (List Operation)) (stamp : Stamp) (bs : List Block) (b : Block) → IsFalling (newest_first ops (places_in_blocks bs)) → slice_get bs (length bs - 1) ≡ Some b
     → last_earlier ops stamp b ≡ list_all (all_pass (is_earlier ops stamp)) bs
 last_of_all ops stamp bs b f e =
     let l = slice_get_within bs (length bs - 1) b e in
@@ -212,7 +212,7 @@ pub not_all_earlier : (ops : List (List Operation)) (stamp : Stamp) (bs : List B
 not_all_earlier ops stamp bs i h e = omega (arith, e, leading_fails (all_pass (is_earlier ops stamp)) bs h)
 
 pub all_earlier : (ops : List (List Operation)) (stamp : Stamp) (bs : List Block) → list_all (all_pass (is_earlier ops stamp)) bs ≡ true
-    → leading (is_earlier ops stamp) (in_blocks bs) ≡ length (in_blocks bs)
+    → leading (is_earlier ops stamp) (places_in_blocks bs) ≡ length (places_in_blocks bs)
 all_earlier ops stamp bs h =
     let p = all_pass (is_earlier ops stamp) in
     let n = leading_all p bs [] h in
@@ -220,28 +220,28 @@ all_earlier ops stamp bs h =
 
 -- a place of a block, in the one list
 
-places_within : (bs : List Block) (i at : ℕ) (b : Block) → i < length bs → b ≡ get_or bs i b → at < length b.places.items → places_before bs i + at < length (in_blocks bs)
+places_within : (bs : List Block) (i at : ℕ) (b : Block) → i < length bs → b ≡ get_or bs i b → at < length b.places.items → places_before bs i + at < length (places_in_blocks bs)
 places_within [] i at b l e w = absurd (omega arith)
 places_within (c ∷ bs) zero at b l e w =
-    let n = length-append c.places.items (in_blocks bs) in
+    let n = length-append c.places.items (places_in_blocks bs) in
     let k = ap (λ (x : Block). length x.places.items) e in
     omega (arith, n, k, w)
 places_within (c ∷ bs) (suc i) at b l e w =
-    let n = length-append c.places.items (in_blocks bs) in
-    let m = length-append c.places.items (in_blocks (take i bs)) in
+    let n = length-append c.places.items (places_in_blocks bs) in
+    let m = length-append c.places.items (places_in_blocks (take i bs)) in
     let r = places_within bs i at b (omega arith) e w in
     omega (arith, n, m, r)
 
 pub place_at : (bs : List Block) (i at : ℕ) (place : RowPlace) (b : Block) → i < length bs → b ≡ get_or bs i b → at < length b.places.items → place ≡ get_or b.places.items at place
-    → slice_get (in_blocks bs) (places_before bs i + at) ≡ Some place
+    → slice_get (places_in_blocks bs) (places_before bs i + at) ≡ Some place
 place_at bs i at place b l e w r =
     let there : at < length (get_or bs i b).places.items = subst (λ (x : Block). at < length x.places.items) e w in
-    slice_get_read (in_blocks bs) (length (in_blocks bs)) (places_before bs i + at) place refl (places_within bs i at b l e w)
+    slice_get_read (places_in_blocks bs) (length (places_in_blocks bs)) (places_before bs i + at) place refl (places_within bs i at b l e w)
     (r ∙ ap (λ (x : Block). get_or x.places.items at place) e ∙ sym (get_or-flat_map (λ (x : Block). x.places.items) bs i at b place l there))
 
 -- a block's places are fewer than those from it on
 pub places_up_to : (bs : List Block) (i : ℕ) (b : Block) → i < length bs → b ≡ get_or bs i b → places_before bs (i + 1) ≡ places_before bs i + length b.places.items
-places_up_to bs i b l e = ap length (places_next bs i b l e) ∙ length-append (in_blocks (take i bs)) b.places.items
+places_up_to bs i b l e = ap length (places_next bs i b l e) ∙ length-append (places_in_blocks (take i bs)) b.places.items
 
 -- what holds at a place of the list whatever stands in its stead holds of what stands there
 pub of_block : (P : Block → Type 0) (bs : List Block) (i : ℕ) (b : Block) → b ≡ get_or bs i b → ((d : Block) → P (get_or bs i d)) → P b
@@ -254,32 +254,32 @@ none_past (x ∷ xs) (suc i) e = let r = none_past xs i e in omega (arith, r)
 
 -- what holds of all places, of one block
 
-pub all_block : (P : RowPlace → Type 0) (bs : List Block) (i : ℕ) (b : Block) → i < length bs → b ≡ get_or bs i b → AllByRecursion P (in_blocks bs) → AllByRecursion P b.places.items
+pub all_block : (P : RowPlace → Type 0) (bs : List Block) (i : ℕ) (b : Block) → i < length bs → b ≡ get_or bs i b → AllByRecursion P (places_in_blocks bs) → AllByRecursion P b.places.items
 all_block P [] i b l e h = absurd (omega arith)
-all_block P (c ∷ bs) zero b l e h = subst (λ (x : Block). AllByRecursion P x.places.items) (sym e) (parts P c.places.items (in_blocks bs) h).0
+all_block P (c ∷ bs) zero b l e h = subst (λ (x : Block). AllByRecursion P x.places.items) (sym e) (parts P c.places.items (places_in_blocks bs) h).0
   where
     parts : (P : RowPlace → Type 0) (xs ys : List RowPlace) → AllByRecursion P (xs ++ ys) → AllByRecursion P xs × AllByRecursion P ys
     parts P [] ys h = (tt, h)
     parts P (x ∷ xs) ys h = let r = parts P xs ys h.1 in ((h.0, r.0), r.1)
-all_block P (c ∷ bs) (suc i) b l e h = all_block P bs i b (omega arith) e (rest P c.places.items (in_blocks bs) h)
+all_block P (c ∷ bs) (suc i) b l e h = all_block P bs i b (omega arith) e (rest P c.places.items (places_in_blocks bs) h)
   where
     rest : (P : RowPlace → Type 0) (xs ys : List RowPlace) → AllByRecursion P (xs ++ ys) → AllByRecursion P ys
     rest P [] ys h = h
     rest P (x ∷ xs) ys h = rest P xs ys h.1
 
-has_block : (ops : List (List Operation)) (bs : List Block) (i : ℕ) (b : Block) (x : Operation) → i < length bs → b ≡ get_or bs i b → HasOp (newest_first ops b.places.items) x → HasOp (newest_first ops (in_blocks bs)) x
+has_block : (ops : List (List Operation)) (bs : List Block) (i : ℕ) (b : Block) (x : Operation) → i < length bs → b ≡ get_or bs i b → HasOp (newest_first ops b.places.items) x → HasOp (newest_first ops (places_in_blocks bs)) x
 has_block ops [] i b x l e h = absurd (omega arith)
 has_block ops (c ∷ bs) zero b x l e h =
     let same = subst (λ (y : Block). HasOp (newest_first ops y.places.items) x) e h in
-    subst (λ s. HasOp s x) (sym (seen_append ops c.places.items (in_blocks bs))) (has_after (newest_first ops (in_blocks bs)) (newest_first ops c.places.items) x same)
+    subst (λ s. HasOp s x) (sym (seen_append ops c.places.items (places_in_blocks bs))) (has_after (newest_first ops (places_in_blocks bs)) (newest_first ops c.places.items) x same)
 has_block ops (c ∷ bs) (suc i) b x l e h =
-    subst (λ s. HasOp s x) (sym (seen_append ops c.places.items (in_blocks bs))) (has_before (newest_first ops (in_blocks bs)) (newest_first ops c.places.items) x (has_block ops bs i b x (omega arith) e h))
+    subst (λ s. HasOp s x) (sym (seen_append ops c.places.items (places_in_blocks bs))) (has_before (newest_first ops (places_in_blocks bs)) (newest_first ops c.places.items) x (has_block ops bs i b x (omega arith) e h))
   where
     has_before : (xs ys : List Operation) (x : Operation) → HasOp xs x → HasOp (xs ++ ys) x
     has_before [] ys x h = absurd h
     has_before (y ∷ xs) ys x h = elim h [ inl d ↦ inl d | inr j ↦ inr (has_before xs ys x j) ]
 
-pub log_block : (ops : List (List Operation)) (bs : List Block) (i : ℕ) (b : Block) → i < length bs → b ≡ get_or bs i b → IsLog (newest_first ops (in_blocks bs)) → IsLog (newest_first ops b.places.items)
+pub log_block : (ops : List (List Operation)) (bs : List Block) (i : ℕ) (b : Block) → i < length bs → b ≡ get_or bs i b → IsLog (newest_first ops (places_in_blocks bs)) → IsLog (newest_first ops b.places.items)
 log_block ops bs i b l e h = record {
   falling = falling_block ops bs i b l e h.falling;
   sound = λ op j. h.sound op (has_block ops bs i b op l e j);

@@ -13,7 +13,7 @@ use Rattle.rt_oplog.specs.declared.ends.Ends.{Ends}
 use Rattle.rt_oplog.specs.Ends.{end_in}
 use Rattle.rt_ops.specs.Operations.{Operation, stamp_of, has_bad_stamp}
 use Rattle.rt_oplog.specs.Logs.{HasClashOf, HasOp, holds, clash, IsLog, with_operation, known_end, joined}
-use Rattle.rt_oplog.specs.Kept.{newest_first, leading, IsKept, is_earlier, IsPutBehind}
+use Rattle.rt_oplog.specs.Kept.{newest_first, leading, IsLogInRows, is_earlier, IsPutBehind}
 use Rattle.rt_oplog.specs.Merged.{IsMerged, IsTakenOver}
 use Rattle.rt_oplog.proofs.Sets.{split, clash_sym, any_at, none_from}
 use Rattle.rt_oplog.proofs.Joins.{free_past, joined_err, joined_ok, log_with}
@@ -42,7 +42,7 @@ all_before [] stamp f = tt
 all_before (q ∷ set) stamp f = (f q (inl refl), all_before set stamp (λ x i. f x (inr i)))
 
 -- the newest operation clashes where it goes on from below its site's known end
-pub clash_newest : (ops : List (List Operation)) (order : List RowPlace) (ends : Ends) (op : Operation) → IsKept ops order ends → leading (is_earlier ops (stamp_of op)) order ≡ length order
+pub clash_newest : (ops : List (List Operation)) (order : List RowPlace) (ends : Ends) (op : Operation) → IsLogInRows ops order ends → leading (is_earlier ops (stamp_of op)) order ≡ length order
     → op.prev < end_in ends op.site → list_any (clash op) (newest_first ops order) ≡ true
 clash_newest ops order ends op k e h =
     let set = newest_first ops order in
@@ -66,9 +66,9 @@ seen_newest ops now old new op m w p =
     ap (newest_first now) p.named ∙ seen_push now old p.place ∙ ap (λ q. q ∷ newest_first now old) p.there.1 ∙ ap (λ set. op ∷ set) (seen_kept ops now old m w)
 
 -- a log with an operation that is newer than all of it, and goes on from no lower than its site's known end
-pub kept_newest : (ops now : List (List Operation)) (old new : List RowPlace) (ends more : Ends) (op : Operation) → KeepsPlaces ops now → IsKept ops old ends → IsPutBehind op now old new
+pub kept_newest : (ops now : List (List Operation)) (old new : List RowPlace) (ends more : Ends) (op : Operation) → KeepsPlaces ops now → IsLogInRows ops old ends → IsPutBehind op now old new
     → has_bad_stamp op ≡ false → AllByRecursion (λ q. is_before (stamp_of q) (stamp_of op) ≡ true) (newest_first ops old) → known_end (newest_first ops old) op.site ≤ op.prev
-    → ((s : ℕ) → end_in more s ≡ known_end (op ∷ newest_first ops old) s) → IsKept now new more
+    → ((s : ℕ) → end_in more s ≡ known_end (op ∷ newest_first ops old) s) → IsLogInRows now new more
 kept_newest ops now old new ends more op m k p s n l e =
     let set = newest_first ops old in
     let same = seen_newest ops now old new op m k.within p in
@@ -109,7 +109,7 @@ clash_of_merged ops one other order m h =
     either : {A : Type 0} → A ⊎ A → A
     either h = elim h [ inl a ↦ a | inr a ↦ a ]
 
-pub joined_merged : (ops : List (List Operation)) (one other : List Operation) (order : List RowPlace) (ends : Ends) → IsMerged ops one other order → IsKept ops order ends → IsLog one → IsLog other → joined one other ≡ Ok (newest_first ops order)
+pub joined_merged : (ops : List (List Operation)) (one other : List Operation) (order : List RowPlace) (ends : Ends) → IsMerged ops one other order → IsLogInRows ops order ends → IsLog one → IsLog other → joined one other ≡ Ok (newest_first ops order)
 joined_merged ops one other order ends m k l n = joined_ok one other (newest_first ops order) l n (record { log = k.log; members = m.members })
 
 -- what the steps of a join answer

@@ -1,3 +1,4 @@
+pub mod AtHand
 pub mod SameEnds
 pub mod Filling
 pub mod Fitting

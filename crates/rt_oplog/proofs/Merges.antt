@@ -10,7 +10,7 @@ use Rattle.rt_oplog.specs.declared.ends.Ends.{Ends}
 use Rattle.rt_oplog.specs.Ends.{end_in}
 use Rattle.rt_ops.specs.Operations.{Operation, stamp_of, has_bad_stamp, last_count}
 use Rattle.rt_oplog.specs.Logs.{HasClashOf, HasOp, same_operation, reaches_into, clash, IsFalling, IsLog, known_end}
-use Rattle.rt_oplog.specs.Kept.{newest_first, IsKept}
+use Rattle.rt_oplog.specs.Kept.{newest_first, IsLogInRows}
 use Rattle.rt_oplog.proofs.Sets.{split, operation_true, clash_self, clash_sym, member_before}
 use Rattle.rt_oplog.proofs.Joins.{free_past}
 use Rattle.std.proofs.lemmas.List.{take_more, take_all, length-drop, reverse-append}
@@ -243,8 +243,8 @@ seen_next ops order i h = ap (newest_first ops) (take_more order i (record { row
 
 pub kept_step : (ops : List (List Operation)) (order : List RowPlace) (i : ℕ) (ends more : Ends) (op : Operation) → i < length order → op ≡ op_at ops (get_or order i (record { row = 0; at = 0 }))
     → AllByRecursion (HasPlace ops) order → IsFalling (newest_first ops order) → ((x : Operation) → HasOp (newest_first ops order) x → has_bad_stamp x ≡ false)
-    → IsKept ops (take i order) ends → end_in ends op.site ≤ op.prev → ((s : ℕ) → end_in more s ≡ cond (op.site == s) (max (last_count op) (end_in ends s)) (end_in ends s))
-    → IsKept ops (take (i + 1) order) more
+    → IsLogInRows ops (take i order) ends → end_in ends op.site ≤ op.prev → ((s : ℕ) → end_in more s ≡ cond (op.site == s) (max (last_count op) (end_in ends s)) (end_in ends s))
+    → IsLogInRows ops (take (i + 1) order) more
 kept_step ops order i ends more op h e w f s k l m =
     let set = newest_first ops (take i order) in
     let seen : newest_first ops (take (i + 1) order) ≡ op ∷ set = seen_next ops order i h ∙ ap (λ y. y ∷ set) (sym e) in
@@ -257,7 +257,7 @@ kept_step ops order i ends more op h e w f s k l m =
     }
 
 pub clash_step : (ops : List (List Operation)) (order : List RowPlace) (i : ℕ) (ends : Ends) (op : Operation) → i < length order → op ≡ op_at ops (get_or order i (record { row = 0; at = 0 }))
-    → IsFalling (newest_first ops order) → IsKept ops (take i order) ends → op.prev < end_in ends op.site → HasClashOf (newest_first ops order) (newest_first ops order)
+    → IsFalling (newest_first ops order) → IsLogInRows ops (take i order) ends → op.prev < end_in ends op.site → HasClashOf (newest_first ops order) (newest_first ops order)
 clash_step ops order i ends op h e f k l =
     let set = newest_first ops (take i order) in
     let seen : newest_first ops (take (i + 1) order) ≡ op ∷ set = seen_next ops order i h ∙ ap (λ y. y ∷ set) (sym e) in
@@ -268,7 +268,7 @@ clash_step ops order i ends op h e f k l =
 pub ops_drop : (ops : List (List Operation)) (order : List RowPlace) (i : ℕ) → i < length order → ops_at ops (drop i order) ≡ op_at ops (get_or order i (record { row = 0; at = 0 })) ∷ ops_at ops (drop (i + 1) order)
 ops_drop ops order i h = ap (ops_at ops) (drop-cons order i (record { row = 0; at = 0 }) h ∙ ap (λ n. get_or order i (record { row = 0; at = 0 }) ∷ drop n order) (sym (add-one i)))
 
-pub kept_none : (ops : List (List Operation)) (ends : Ends) → ((s : ℕ) → end_in ends s ≡ 0) → IsKept ops [] ends
+pub kept_none : (ops : List (List Operation)) (ends : Ends) → ((s : ℕ) → end_in ends s ≡ 0) → IsLogInRows ops [] ends
 kept_none ops ends e = record {
   within = tt;
   log = record { falling = tt; sound = λ op i. absurd i; free = λ p q i j. absurd i };

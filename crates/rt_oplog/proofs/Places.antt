@@ -13,7 +13,7 @@ use Rattle.rt_oplog.specs.declared.ends.Ends.{Ends}
 use Rattle.rt_oplog.specs.Ends.{end_in}
 use Rattle.rt_ops.specs.Operations.{Operation, stamp_of, has_bad_stamp}
 use Rattle.rt_oplog.specs.Logs.{HasOp, same_operation, holds, clash, IsFalling, IsLog, with_operation, known_end}
-use Rattle.rt_oplog.specs.Kept.{newest_first, leading, IsKept, is_earlier, IsPutInOrder}
+use Rattle.rt_oplog.specs.Kept.{newest_first, leading, IsLogInRows, is_earlier, IsPutInOrder}
 use Rattle.rt_oplog.proofs.Sets.{split, operation_true, none_from}
 use Rattle.rt_oplog.proofs.Joins.{log_with, end_with}
 
@@ -119,7 +119,7 @@ within_kept ops now [] k h = tt
 within_kept ops now (place ∷ order) k h = ((k place h.0).0, within_kept ops now order k h.1)
 
 -- what was kept stays kept
-pub kept_on : (ops now : List (List Operation)) (order : List RowPlace) (ends : Ends) → KeepsPlaces ops now → IsKept ops order ends → IsKept now order ends
+pub kept_on : (ops now : List (List Operation)) (order : List RowPlace) (ends : Ends) → KeepsPlaces ops now → IsLogInRows ops order ends → IsLogInRows now order ends
 kept_on ops now order ends m k =
     let same = seen_kept ops now order m k.within in
     record {
@@ -185,9 +185,9 @@ put_seen ops now old new op m w f p =
     ap (newest_first now) p.named ∙ inserted now op p.place old p.there.1 (subst IsFalling (sym same) f) ∙ ap (with_operation op) same
 
 -- an operation that a log can take, put in
-pub kept_put : (ops now : List (List Operation)) (old new : List RowPlace) (ends more : Ends) (op : Operation) → KeepsPlaces ops now → IsKept ops old ends → IsPutInOrder op now old new
+pub kept_put : (ops now : List (List Operation)) (old new : List RowPlace) (ends more : Ends) (op : Operation) → KeepsPlaces ops now → IsLogInRows ops old ends → IsPutInOrder op now old new
     → has_bad_stamp op ≡ false → holds (newest_first ops old) op ≡ false → list_any (clash op) (newest_first ops old) ≡ false
-    → ((s : ℕ) → end_in more s ≡ known_end (op ∷ newest_first ops old) s) → IsKept now new more
+    → ((s : ℕ) → end_in more s ≡ known_end (op ∷ newest_first ops old) s) → IsLogInRows now new more
 kept_put ops now old new ends more op m k p s n f e =
     let seen = put_seen ops now old new op m k.within k.log.falling p in
     let at = leading (is_earlier now (stamp_of op)) old in

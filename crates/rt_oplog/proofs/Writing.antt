@@ -12,7 +12,7 @@ use Rattle.rt_ops.specs.declared.version.Version.{Version}
 use Rattle.rt_ops.specs.Operations.{Operation}
 use Rattle.rt_ops.specs.File.{magic, record_of, file_of}
 use Rattle.rt_oplog.specs.declared.block.Block.{Block}
-use Rattle.rt_oplog.specs.Blocks.{in_blocks}
+use Rattle.rt_oplog.specs.Blocks.{places_in_blocks}
 use Rattle.rt_oplog.proofs.InBlocks.{places_next}
 use Rattle.rt_oplog.proofs.Merges.{ops_at}
 
@@ -49,11 +49,11 @@ part_wrote ver a b c ops places i op l e h k =
 -- ---- the next block
 
 block_next : (ver : Version) (ops : List (List Operation)) (bs : List Block) (i : ℕ) (b : Block) → i < length bs → b ≡ get_or bs i b
-    → file_of ver (ops_at ops (in_blocks (take (i + 1) bs))) ≡ file_of ver (ops_at ops (in_blocks (take i bs))) ++ records_of ver ops b.places.items
-block_next ver ops bs i b l e = ap (λ places. file_of ver (ops_at ops places)) (places_next bs i b l e) ∙ spelling_append ver ops (in_blocks (take i bs)) b.places.items
+    → file_of ver (ops_at ops (places_in_blocks (take (i + 1) bs))) ≡ file_of ver (ops_at ops (places_in_blocks (take i bs))) ++ records_of ver ops b.places.items
+block_next ver ops bs i b l e = ap (λ places. file_of ver (ops_at ops places)) (places_next bs i b l e) ∙ spelling_append ver ops (places_in_blocks (take i bs)) b.places.items
 
 pub part_block : (ver : Version) (a b c : Option (List ℕ)) (ops : List (List Operation)) (bs : List Block) (i : ℕ) (d : Block) → i < length bs → d ≡ get_or bs i d
-    → Appends a b (file_of ver (ops_at ops (in_blocks (take i bs)))) → AppendsPart b c (records_of ver ops d.places.items) → AppendsPart a c (file_of ver (ops_at ops (in_blocks bs)))
+    → Appends a b (file_of ver (ops_at ops (places_in_blocks (take i bs)))) → AppendsPart b c (records_of ver ops d.places.items) → AppendsPart a c (file_of ver (ops_at ops (places_in_blocks bs)))
 part_block ver a b c ops bs i d l e h k =
-    let parts = ap in_blocks (sym (take-append-drop (i + 1) bs)) ∙ flat_map-append (λ (x : Block). x.places.items) (take (i + 1) bs) (drop (i + 1) bs) in
-    rw (parts, spelling_append ver ops (in_blocks (take (i + 1) bs)) (in_blocks (drop (i + 1) bs)), block_next ver ops bs i d l e) (part_longer a c _ _ (part_then a b c _ _ h k))
+    let parts = ap places_in_blocks (sym (take-append-drop (i + 1) bs)) ∙ flat_map-append (λ (x : Block). x.places.items) (take (i + 1) bs) (drop (i + 1) bs) in
+    rw (parts, spelling_append ver ops (places_in_blocks (take (i + 1) bs)) (places_in_blocks (drop (i + 1) bs)), block_next ver ops bs i d l e) (part_longer a c _ _ (part_then a b c _ _ h k))

@@ -5,12 +5,12 @@ use Rattle.rt_rows.specs.declared.rows.RowPlace.{RowPlace}
 use Rattle.rt_oplog.specs.declared.block.Block.{Block}
 
 -- the places of all blocks, one block after another
-abbrev pub in_blocks : List Block → List RowPlace
-in_blocks blocks = flat_map {X = Block} {A = RowPlace} (λ b. b.places.items) blocks
+abbrev pub places_in_blocks : List Block → List RowPlace
+places_in_blocks blocks = flat_map {X = Block} {A = RowPlace} (λ b. b.places.items) blocks
 
 -- how many places stand in front of a block
 abbrev pub places_before : List Block → ℕ → ℕ
-places_before blocks block = length (in_blocks (take block blocks))
+places_before blocks block = length (places_in_blocks (take block blocks))
 
 -- all places of a block pass a test
 abbrev pub all_pass : (RowPlace → Bool) → Block → Bool

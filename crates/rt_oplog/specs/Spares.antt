@@ -6,8 +6,8 @@ use Rattle.std.specs.declared.vec.Vec.{Vec}
 use Rattle.std.specs.declared.alloc.Global.{Global}
 
 -- empty, with the room of a block
-abbrev pub IsSpare : Vec RowPlace Global → Type 0
-IsSpare places = (places.items ≡ []) × (512 ≤ vec_capacity places)
+abbrev pub AreSparePlaces : Vec RowPlace Global → Type 0
+AreSparePlaces places = (places.items ≡ []) × (512 ≤ vec_capacity places)
 
 abbrev pub AreSpare : List (Vec RowPlace Global) → Type 0
-AreSpare spare = AllByRecursion IsSpare spare
+AreSpare spare = AllByRecursion AreSparePlaces spare

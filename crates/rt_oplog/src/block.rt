@@ -4,7 +4,7 @@ ghost use Rattle.std.specs.List.{insert};
 ghost use Rattle.rt_oplog.specs.Logs.{IsFalling};
 ghost use Rattle.rt_oplog.specs.Kept.{is_earlier, newest_first, leading};
 ghost use Rattle.rt_oplog.specs.Places.{end_place};
-ghost use Rattle.rt_oplog.specs.Spares.{IsSpare};
+ghost use Rattle.rt_oplog.specs.Spares.{AreSparePlaces};
 
 use rt_rows::{RowPlace, Rows};
 use rt_stamps::Stamp;
@@ -37,7 +37,7 @@ pub(crate) fn ops_before(ops: &Rows, order: &[RowPlace], stamp: Stamp) -> usize
 impl Block {
     /// A place that stands alone so far.
     pub(crate) fn one(spare: Vec<RowPlace>, place: RowPlace) -> Block
-        requires { IsSpare spare }
+        requires { AreSparePlaces spare }
         ensures { result.places.items ≡ place ∷ [] }
     {
         let mut places = spare;
@@ -69,7 +69,7 @@ impl Block {
 
     /// What stands in the second half becomes a block of its own.
     pub(crate) fn split_off(&mut self, spare: Vec<RowPlace>) -> Block
-        requires spare { IsSpare spare }
+        requires spare { AreSparePlaces spare }
         requires full { vec_len self.old.places ≡ 512 }
         ensures items { self.old.places.items ≡ self.new.places.items ++ result.places.items }
         ensures front { vec_len self.new.places ≡ 256 }

@@ -5,8 +5,8 @@ ghost use Rattle.std.specs.List.{insert, list_all};
 ghost use Rattle.rt_oplog.specs.Logs.{IsFalling};
 ghost use Rattle.rt_oplog.specs.Kept.{is_earlier, newest_first, leading};
 ghost use Rattle.rt_oplog.specs.declared.block.Block.{Block};
-ghost use Rattle.rt_oplog.specs.Spares.{AreSpare, IsSpare};
-ghost use Rattle.rt_oplog.specs.Blocks.{AreHalfFull, IsFull, all_pass, in_blocks, places_before, room_of};
+ghost use Rattle.rt_oplog.specs.Spares.{AreSpare, AreSparePlaces};
+ghost use Rattle.rt_oplog.specs.Blocks.{AreHalfFull, IsFull, all_pass, places_in_blocks, places_before, room_of};
 
 use crate::block::{Block, ops_before};
 use rt_rows::{RowPlace, Rows};
@@ -15,7 +15,7 @@ use std::alloc::{AllocError, Global};
 
 /// How many blocks stand in front, all of whose operations are before a stamp.
 fn blocks_before(ops: &Rows, blocks: &[Block], stamp: Stamp) -> usize
-    requires { IsFalling (newest_first ops.now.rows (in_blocks blocks.now)) }
+    requires { IsFalling (newest_first ops.now.rows (places_in_blocks blocks.now)) }
     ensures blocks { result ≡ leading (all_pass (is_earlier ops.now.rows stamp)) blocks.now }
     ensures within { result ≤ length blocks.now }
 {
@@ -24,7 +24,7 @@ fn blocks_before(ops: &Rows, blocks: &[Block], stamp: Stamp) -> usize
 
 /// Whether the operations of all blocks are before a stamp, which that of the last place tells.
 fn are_earlier(ops: &Rows, blocks: &[Block], stamp: Stamp) -> bool
-    requires { IsFalling (newest_first ops.now.rows (in_blocks blocks.now)) }
+    requires { IsFalling (newest_first ops.now.rows (places_in_blocks blocks.now)) }
     ensures { result ≡ list_all (all_pass (is_earlier ops.now.rows stamp)) blocks.now }
 {
     match blocks.last() {
@@ -35,8 +35,8 @@ fn are_earlier(ops: &Rows, blocks: &[Block], stamp: Stamp) -> bool
 
 /// The first place whose operation is not before a stamp.
 pub(crate) fn find(ops: &Rows, blocks: &[Block], stamp: Stamp) -> Option<RowPlace>
-    requires { IsFalling (newest_first ops.now.rows (in_blocks blocks.now)) }
-    ensures { result ≡ slice_get (in_blocks blocks.now) (leading (is_earlier ops.now.rows stamp) (in_blocks blocks.now)) }
+    requires { IsFalling (newest_first ops.now.rows (places_in_blocks blocks.now)) }
+    ensures { result ≡ slice_get (places_in_blocks blocks.now) (leading (is_earlier ops.now.rows stamp) (places_in_blocks blocks.now)) }
 {
     if are_earlier(ops, blocks, stamp) {
         return None;
@@ -49,9 +49,9 @@ pub(crate) fn find(ops: &Rows, blocks: &[Block], stamp: Stamp) -> Option<RowPlac
 
 /// The place that stands at a number, of so many. It goes from the last block to the first, as the newest is asked for most.
 pub(crate) fn get(blocks: &[Block], len: usize, at: usize) -> RowPlace
-    requires len { len ≡ length (in_blocks blocks.now) }
+    requires len { len ≡ length (places_in_blocks blocks.now) }
     requires within { at < len }
-    ensures { slice_get (in_blocks blocks.now) at ≡ Some result }
+    ensures { slice_get (places_in_blocks blocks.now) at ≡ Some result }
 {
     let mut before = len;
     let mut block = blocks.len();
@@ -67,7 +67,7 @@ pub(crate) fn get(blocks: &[Block], len: usize, at: usize) -> RowPlace
 
 /// The places in one list, of which there are so many.
 pub(crate) fn flat(alloc: Global, blocks: &[Block], len: usize) -> Result<Vec<RowPlace>, AllocError>
-    ensures { IfOk result (λ places. places.items ≡ in_blocks blocks.now) }
+    ensures { IfOk result (λ places. places.items ≡ places_in_blocks blocks.now) }
 {
     let mut places = Vec::with_capacity(alloc, len)?;
     for block in blocks {
@@ -80,7 +80,7 @@ pub(crate) fn flat(alloc: Global, blocks: &[Block], len: usize) -> Result<Vec<Ro
 fn take_spare(spare: &mut Vec<Vec<RowPlace>>) -> Vec<RowPlace>
     requires spares { AreSpare spare.old.items }
     requires left { 0 < vec_len spare.old }
-    ensures spare { IsSpare result }
+    ensures spare { AreSparePlaces result }
     ensures spares { AreSpare spare.new.items }
     ensures left { vec_len spare.new + 1 ≡ vec_len spare.old }
 {
@@ -105,7 +105,7 @@ fn put_in(blocks: &mut Vec<Block>, block: usize, at: usize, place: RowPlace)
     requires within { (d : Block) → at ≤ vec_len (slice_index_or blocks.old.items block d).places }
     requires room { (d : Block) → vec_len (slice_index_or blocks.old.items block d).places < 512 }
     requires half { AreHalfFull blocks.old.items }
-    ensures items { in_blocks blocks.new.items ≡ insert (in_blocks blocks.old.items) (places_before blocks.old.items block + at) place }
+    ensures items { places_in_blocks blocks.new.items ≡ insert (places_in_blocks blocks.old.items) (places_before blocks.old.items block + at) place }
     ensures half { AreHalfFull blocks.new.items }
     ensures len { vec_len blocks.new ≡ vec_len blocks.old }
     ensures capacity { vec_capacity blocks.new ≡ vec_capacity blocks.old }
@@ -117,10 +117,10 @@ fn put_in(blocks: &mut Vec<Block>, block: usize, at: usize, place: RowPlace)
 fn split(blocks: &mut Vec<Block>, block: usize, spare: Vec<RowPlace>)
     requires block { block < vec_len blocks.old }
     requires full { (d : Block) → vec_len (slice_index_or blocks.old.items block d).places ≡ 512 }
-    requires spare { IsSpare spare }
+    requires spare { AreSparePlaces spare }
     requires free { vec_len blocks.old < vec_capacity blocks.old }
     requires half { AreHalfFull blocks.old.items }
-    ensures items { in_blocks blocks.new.items ≡ in_blocks blocks.old.items }
+    ensures items { places_in_blocks blocks.new.items ≡ places_in_blocks blocks.old.items }
     ensures front { take block blocks.new.items ≡ take block blocks.old.items }
     ensures one { (d : Block) → vec_len (slice_index_or blocks.new.items block d).places ≡ 256 }
     ensures other { (d : Block) → vec_len (slice_index_or blocks.new.items (block + 1) d).places ≡ 256 }
@@ -145,8 +145,8 @@ fn put_at(
     requires half { AreHalfFull blocks.old.items }
     requires spares { AreSpare spare.old.items }
     requires free { vec_len blocks.old + vec_len spare.old ≤ vec_capacity blocks.old }
-    requires room { 0 < room_of (vec_len spare.old) (vec_len blocks.old) (length (in_blocks blocks.old.items)) }
-    ensures items { in_blocks blocks.new.items ≡ insert (in_blocks blocks.old.items) (places_before blocks.old.items block + at) place }
+    requires room { 0 < room_of (vec_len spare.old) (vec_len blocks.old) (length (places_in_blocks blocks.old.items)) }
+    ensures items { places_in_blocks blocks.new.items ≡ insert (places_in_blocks blocks.old.items) (places_before blocks.old.items block + at) place }
     ensures half { AreHalfFull blocks.new.items }
     ensures spares { AreSpare spare.new.items }
     ensures left { vec_len spare.old ≤ vec_len spare.new + 1 }
@@ -175,15 +175,15 @@ fn insert_at(
     stamp: Stamp,
     place: RowPlace,
 )
-    requires falling { IsFalling (newest_first ops.now.rows (in_blocks blocks.old.items)) }
+    requires falling { IsFalling (newest_first ops.now.rows (places_in_blocks blocks.old.items)) }
     requires block { block ≡ leading (all_pass (is_earlier ops.now.rows stamp)) blocks.old.items }
     requires within { block < vec_len blocks.old }
     requires half { AreHalfFull blocks.old.items }
     requires spares { AreSpare spare.old.items }
     requires free { vec_len blocks.old + vec_len spare.old ≤ vec_capacity blocks.old }
-    requires room { 0 < room_of (vec_len spare.old) (vec_len blocks.old) (length (in_blocks blocks.old.items)) }
-    ensures items { in_blocks blocks.new.items
-        ≡ insert (in_blocks blocks.old.items) (leading (is_earlier ops.now.rows stamp) (in_blocks blocks.old.items)) place }
+    requires room { 0 < room_of (vec_len spare.old) (vec_len blocks.old) (length (places_in_blocks blocks.old.items)) }
+    ensures items { places_in_blocks blocks.new.items
+        ≡ insert (places_in_blocks blocks.old.items) (leading (is_earlier ops.now.rows stamp) (places_in_blocks blocks.old.items)) place }
     ensures half { AreHalfFull blocks.new.items }
     ensures spares { AreSpare spare.new.items }
     ensures left { vec_len spare.old ≤ vec_len spare.new + 1 }
@@ -200,8 +200,8 @@ pub(crate) fn append(blocks: &mut Vec<Block>, spare: &mut Vec<Vec<RowPlace>>, pl
     requires half { AreHalfFull blocks.old.items }
     requires spares { AreSpare spare.old.items }
     requires free { vec_len blocks.old + vec_len spare.old ≤ vec_capacity blocks.old }
-    requires room { 0 < room_of (vec_len spare.old) (vec_len blocks.old) (length (in_blocks blocks.old.items)) }
-    ensures items { in_blocks blocks.new.items ≡ in_blocks blocks.old.items ++ place ∷ [] }
+    requires room { 0 < room_of (vec_len spare.old) (vec_len blocks.old) (length (places_in_blocks blocks.old.items)) }
+    ensures items { places_in_blocks blocks.new.items ≡ places_in_blocks blocks.old.items ++ place ∷ [] }
     ensures half { AreHalfFull blocks.new.items }
     ensures spares { AreSpare spare.new.items }
     ensures left { vec_len spare.old ≤ vec_len spare.new + 1 }
@@ -237,13 +237,13 @@ pub(crate) fn insert_in(
     stamp: Stamp,
     place: RowPlace,
 )
-    requires falling { IsFalling (newest_first ops.now.rows (in_blocks blocks.old.items)) }
+    requires falling { IsFalling (newest_first ops.now.rows (places_in_blocks blocks.old.items)) }
     requires half { AreHalfFull blocks.old.items }
     requires spares { AreSpare spare.old.items }
     requires free { vec_len blocks.old + vec_len spare.old ≤ vec_capacity blocks.old }
-    requires room { 0 < room_of (vec_len spare.old) (vec_len blocks.old) (length (in_blocks blocks.old.items)) }
-    ensures items { in_blocks blocks.new.items
-        ≡ insert (in_blocks blocks.old.items) (leading (is_earlier ops.now.rows stamp) (in_blocks blocks.old.items)) place }
+    requires room { 0 < room_of (vec_len spare.old) (vec_len blocks.old) (length (places_in_blocks blocks.old.items)) }
+    ensures items { places_in_blocks blocks.new.items
+        ≡ insert (places_in_blocks blocks.old.items) (leading (is_earlier ops.now.rows stamp) (places_in_blocks blocks.old.items)) place }
     ensures half { AreHalfFull blocks.new.items }
     ensures spares { AreSpare spare.new.items }
     ensures left { vec_len spare.old ≤ vec_len spare.new + 1 }

@@ -1,6 +1,8 @@
 // The known ends of sites.
-ghost use Rattle.std.specs.Prelude.{◌≡◌, ℕ, ◌+◌, ◌==◌, ◌<◌, ◌≤◌, max, if◌then◌else◌, IsOk, OnOk};
-ghost use Rattle.rt_oplog.specs.Ends.{end_in, end_kept, room_for};
+ghost use Rattle.std.specs.Prelude.{◌≡◌, ℕ, ◌+◌, ◌==◌, ◌<◌, ◌≤◌, max, if◌then◌else◌, length, IsOk, OnOk};
+ghost use Rattle.rt_oplog.specs.Kept.{leading};
+ghost use Rattle.rt_oplog.specs.Ends.{end_in, end_kept, is_of_another, room_for};
+ghost use Rattle.rt_oplog.specs.declared.ends.TheConstants.{RECENT};
 
 use rt_spans::SpanMap;
 use rt_stamps::{Span, Stamp};
@@ -16,11 +18,28 @@ pub(crate) struct SiteEnd {
 /// The known end of each site that has operations.
 #[derive(Drop)]
 pub(crate) struct Ends {
-    /// That of the site whose end was raised last, so that what one site does in a row looks nothing up.
-    pub latest: SiteEnd,
+    /// Those of the last sites to come here, so that what a few sites do in turn looks nothing up. The first of a site tells.
+    pub recent: [SiteEnd; RECENT],
     /// Those of the others, each at the site's stamp of count 0: a map that takes a further site at the cost of a logarithm,
     /// in whatever order sites come.
     pub others: SpanMap<u64>,
+}
+
+/// Of how many sites the end is at hand.
+const RECENT: usize = 4;
+
+/// Where a site's end stands among some, their number where it doesn't.
+#[inline(always)]
+fn place_of(recent: &[SiteEnd], site: u32) -> usize
+    ensures place { result ≡ leading (is_of_another site) recent.now }
+    ensures within { result ≤ length recent.now }
+{
+    for at in 0..recent.len() {
+        if recent[at].site == site {
+            return at;
+        }
+    }
+    recent.len()
 }
 
 /// The end of a site that is kept.
@@ -55,7 +74,7 @@ impl Ends {
         ensures { (site : ℕ) → end_in result site ≡ 0 }
     {
         Ends {
-            latest: SiteEnd { site: 0, last: 0 },
+            recent: [SiteEnd { site: 0, last: 0 }; RECENT],
             others: SpanMap::new(alloc),
         }
     }
@@ -82,23 +101,43 @@ impl Ends {
     pub(crate) fn get(&self, site: u32) -> u64
         ensures { result ≡ end_in self.now site }
     {
-        if self.latest.site == site {
-            self.latest.last
+        let at = place_of(&self.recent, site);
+        if at < RECENT {
+            self.recent[at].last
         } else {
             kept(&self.others, site)
         }
     }
 
-    /// Makes a site the latest. There is room for one more site.
-    fn turn_to(&mut self, site: u32)
-        requires { 0 < room_for self.old }
-        ensures site { self.new.latest.site ≡ site }
+    /// Brings the end of a site to hand that isn't there, in front. There is room for one more site.
+    fn bring(&mut self, site: u32)
+        requires room { 0 < room_for self.old }
+        requires away { RECENT ≤ leading (is_of_another site) self.old.recent }
+        ensures place { leading (is_of_another site) self.new.recent ≡ 0 }
         ensures same { (s : ℕ) → end_in self.new s ≡ end_in self.old s }
         ensures room { room_for self.old ≤ room_for self.new + 1 }
     {
-        let last = self.get(site);
-        keep(&mut self.others, self.latest);
-        self.latest = SiteEnd { site, last };
+        let last = kept(&self.others, site);
+        let [one, two, three, leaving] = self.recent;
+        keep(&mut self.others, leaving);
+        self.recent = [SiteEnd { site, last }, one, two, three];
+    }
+
+    /// Where a site's end is at hand. There is room for one more site.
+    #[inline(always)]
+    fn at_hand(&mut self, site: u32) -> usize
+        requires { 0 < room_for self.old }
+        ensures place { result ≡ leading (is_of_another site) self.new.recent }
+        ensures within { result < RECENT }
+        ensures same { (s : ℕ) → end_in self.new s ≡ end_in self.old s }
+        ensures room { room_for self.old ≤ room_for self.new + 1 }
+    {
+        let at = place_of(&self.recent, site);
+        if at < RECENT {
+            return at;
+        }
+        self.bring(site);
+        0
     }
 
     /// A last count of a site, and what its known end was. There is room for one more site.
@@ -109,11 +148,9 @@ impl Ends {
         ensures ends { (s : ℕ) → end_in self.new s ≡ (if site == s then max last (end_in self.old s) else end_in self.old s) }
         ensures room { room_for self.old ≤ room_for self.new + 1 }
     {
-        if self.latest.site != site {
-            self.turn_to(site);
-        }
-        let known = self.latest.last;
-        self.latest.last = last.max(known);
+        let at = self.at_hand(site);
+        let known = self.recent[at].last;
+        self.recent[at].last = last.max(known);
         known
     }
 }

@@ -1,9 +1,7 @@
 // The operation file of a log.
-ghost use Rattle.std.specs.Prelude.{◌≡◌, true, map, reverse, None, OnOk, IsOkUnless};
+ghost use Rattle.std.specs.Prelude.{◌≡◌, true, map, reverse, None, OnOk};
 ghost use Rattle.std.specs.List.{AllByRecursion, flat_map, list_all};
-ghost use Rattle.rt_stamps.specs.declared.fault.Fault.TheVariants.{NoMemory};
 ghost use Rattle.rt_stamps.specs.Written.{WritesBuffered, WritesText};
-ghost use Rattle.rt_rows.specs.Views.{operation_in};
 ghost use Rattle.rt_ops.specs.declared.version.Version.TheVariants.{One};
 ghost use Rattle.rt_ops.specs.File.{spelling, magic, record_of, file_of, fits, version_of, HasRecord};
 ghost use Rattle.rt_ops.specs.Reading.{offsets_of, Reads};
@@ -14,35 +12,17 @@ use crate::OpLog;
 use crate::merge::op_in;
 use rt_ops::spell::spell;
 use rt_ops::{Version, fits, magic};
-use rt_rows::{OpView, RowPlace, Rows, typed_op};
+use rt_rows::{RowPlace, Rows};
 use rt_stamps::{Fault, Sink, write_all};
 use std::alloc::Global;
 
-/// Whether the first version has room for an operation, seen where it is kept. It takes no memory.
-fn first_fits(alloc: Global, view: OpView<'_>) -> bool
-    ensures { result ≡ fits One (operation_in view.entry) }
-{
-    match view {
-        OpView::Typed {
-            stamp,
-            prev,
-            after,
-            character,
-        } => {
-            let op = typed_op(alloc, stamp, prev, after, character);
-            fits(Version::One, &op)
-        }
-        OpView::Single { op } => fits(Version::One, op),
-    }
-}
-
 /// Whether the first version has room for the operations of these places.
-fn places_fit(alloc: Global, ops: &Rows, places: &[RowPlace]) -> bool
+fn places_fit(ops: &Rows, places: &[RowPlace]) -> bool
     requires { AllByRecursion (HasPlace ops.now.rows) places.now }
     ensures { result ≡ list_all (fits One) (map (op_at ops.now.rows) places.now) }
 {
     for place in places {
-        if !first_fits(alloc, op_in(ops, *place)) {
+        if !fits(Version::One, op_in(ops, *place)) {
             return false;
         }
     }
@@ -50,12 +30,12 @@ fn places_fit(alloc: Global, ops: &Rows, places: &[RowPlace]) -> bool
 }
 
 /// Whether the first version has room for each operation of a log.
-fn all_fit(alloc: Global, log: &OpLog) -> bool
+fn all_fit(log: &OpLog) -> bool
     ensures { result ≡ list_all (fits One) (reverse log.now.operations) }
 {
     let (ops, blocks) = log.blocks();
     for block in blocks {
-        if !places_fit(alloc, ops, &block.places) {
+        if !places_fit(ops, &block.places) {
             return false;
         }
     }
@@ -63,10 +43,10 @@ fn all_fit(alloc: Global, log: &OpLog) -> bool
 }
 
 /// The version in which the file of a log is written: the first where it has room for each operation.
-fn version_of(alloc: Global, log: &OpLog) -> Version
+fn version_of(log: &OpLog) -> Version
     ensures { result ≡ version_of (reverse log.now.operations) }
 {
-    if all_fit(alloc, log) {
+    if all_fit(log) {
         Version::One
     } else {
         Version::Two
@@ -79,35 +59,8 @@ fn write_magic<W: Sink>(version: Version, out: &mut W) -> Result<(), Fault>
     write_all(out, magic(version).as_slice())
 }
 
-/// Makes a buffer the record of an operation, seen where it is kept, as `spell` does.
-fn spell_view(
-    alloc: Global,
-    buffer: &mut Vec<u8>,
-    version: Version,
-    view: OpView<'_>,
-) -> Result<(), Fault>
-    requires { version ≡ One → fits One (operation_in view) ≡ true }
-    ensures ok { OnOk result (buffer.new.items ≡ record_of version (operation_in view.entry)) }
-    ensures record { OnOk result (HasRecord version (operation_in view.entry)) }
-    ensures fault { IsOkUnless result NoMemory }
-{
-    match view {
-        OpView::Typed {
-            stamp,
-            prev,
-            after,
-            character,
-        } => {
-            let op = typed_op(alloc, stamp, prev, after, character);
-            spell(buffer, version, &op)
-        }
-        OpView::Single { op } => spell(buffer, version, op),
-    }
-}
-
 /// Writes the records of the operations of these places, each through the buffer.
 fn write_records<W: Sink>(
-    alloc: Global,
     record: &mut Vec<u8>,
     version: Version,
     ops: &Rows,
@@ -120,7 +73,7 @@ fn write_records<W: Sink>(
     ensures records { OnOk result (AllByRecursion (HasRecord version) (map (op_at ops.now.rows) places.now)) }
 {
     for place in places {
-        spell_view(alloc, record, version, op_in(ops, *place))?;
+        spell(record, version, op_in(ops, *place))?;
         write_all(out, record)?;
     }
     Ok(())
@@ -136,7 +89,7 @@ fn write_in<W: Sink>(alloc: Global, version: Version, log: &OpLog, out: &mut W) 
     let (ops, blocks) = log.blocks();
     let mut record = Vec::new(alloc);
     for block in blocks {
-        write_records(alloc, &mut record, version, ops, &block.places, out)?;
+        write_records(&mut record, version, ops, &block.places, out)?;
     }
     Ok(())
 }
@@ -151,5 +104,5 @@ pub fn write_file<W: Sink>(alloc: Global, log: &OpLog, out: &mut W) -> Result<()
     ensures read_back { OnOk result
         (Reads (spelling (reverse log.now.operations)) (reverse log.now.operations) (offsets_of (reverse log.now.operations)) None) }
 {
-    write_in(alloc, version_of(alloc, log), log, out)
+    write_in(alloc, version_of(log), log, out)
 }

@@ -3,13 +3,15 @@ ghost use Rattle.std.specs.Prelude.{◌≡◌, ◌+◌, ◌-◌, ◌<◌, ◌≤
 ghost use Rattle.std.specs.List.{AllByRecursion, list_any};
 ghost use Rattle.rt_stamps.specs.declared.fault.Fault.TheVariants.{NoMemory};
 ghost use Rattle.rt_stamps.specs.Stamps.{is_before};
-ghost use Rattle.rt_rows.specs.Views.{operation_in, operation_typed};
+ghost use Rattle.rt_ops.specs.Rules.{keeps_rules};
+ghost use Rattle.rt_ops.specs.Views.{body_in, operation_in};
+ghost use Rattle.rt_rows.specs.Views.{operation_typed};
 ghost use Rattle.rt_stamps.specs.declared.limits.TheConstants.{GREATEST_COUNT};
 ghost use Rattle.rt_ops.specs.Operations.{Insert, stamp_of, has_bad_stamp};
 ghost use Rattle.rt_oplog.specs.Logs.{IsLog, IsFalling, holds, same_operation, clash, going_on, known_end, pushed, with_operation};
 ghost use Rattle.rt_rows.specs.Places.{HasPlace, KeepsPlaces, op_at};
-ghost use Rattle.rt_oplog.specs.Kept.{newest_first, IsKept, IsPutBehind, IsPutInOrder};
-ghost use Rattle.rt_oplog.specs.Blocks.{in_blocks};
+ghost use Rattle.rt_oplog.specs.Kept.{newest_first, IsLogInRows, IsPutBehind, IsPutInOrder};
+ghost use Rattle.rt_oplog.specs.Blocks.{places_in_blocks};
 ghost use Rattle.rt_oplog.specs.Outcomes.{Pushes, MakesLog, Joins};
 
 use crate::Op;
@@ -17,8 +19,9 @@ use crate::block::Block;
 use crate::ends::Ends;
 use crate::merge::{ends_of, merge, op_in};
 use crate::order::Order;
-use crate::same::{is_clash, is_kept_as};
-use rt_rows::{OpView, RowPlace, Rows, TypedOp};
+use crate::same::{are_alike, is_clash};
+use rt_ops::OpView;
+use rt_rows::{RowPlace, Rows, TypedOp};
 use rt_stamps::{Fault, Stamp};
 use std::alloc::Global;
 use std::marker::Model;
@@ -50,14 +53,14 @@ impl Model for OpLog {
 
     ghost Value = { Log };
 
-    ghost use Rattle.rt_oplog.specs.Kept.{newest_first, IsKept};
+    ghost use Rattle.rt_oplog.specs.Kept.{newest_first, IsLogInRows};
 
     ghost view = { λ log. record {
       operations = newest_first log.ops.rows log.order.items;
       room = min log.ops.room (min log.order.room (room_for log.ends));
     } };
 
-    ghost invariant = { λ log. IsKept log.ops.rows log.order.items log.ends };
+    ghost invariant = { λ log. IsLogInRows log.ops.rows log.order.items log.ends };
 }
 
 /// Whether the operation of a place is this one.
@@ -65,7 +68,7 @@ fn is_at(ops: &Rows, place: RowPlace, op: &Op) -> bool
     requires { HasPlace ops.now.rows place }
     ensures { result ≡ same_operation (op_at ops.now.rows place) op.now }
 {
-    is_kept_as(op_in(ops, place), op)
+    are_alike(op_in(ops, place), OpView::of(op))
 }
 
 /// Whether this very operation is one of the places.
@@ -97,10 +100,10 @@ fn any_clash(ops: &Rows, order: &[RowPlace], op: &Op) -> bool
 
 /// Whether an operation of the places of blocks clashes with this one.
 fn any_clash_in(ops: &Rows, blocks: &[Block], op: &Op) -> bool
-    requires within { AllByRecursion (HasPlace ops.now.rows) (in_blocks blocks.now) }
-    requires log { IsLog (newest_first ops.now.rows (in_blocks blocks.now)) }
+    requires within { AllByRecursion (HasPlace ops.now.rows) (places_in_blocks blocks.now) }
+    requires log { IsLog (newest_first ops.now.rows (places_in_blocks blocks.now)) }
     requires sound { has_bad_stamp op.now ≡ false }
-    ensures { result ≡ list_any (λ place. clash op.now (op_at ops.now.rows place)) (in_blocks blocks.now) }
+    ensures { result ≡ list_any (λ place. clash op.now (op_at ops.now.rows place)) (places_in_blocks blocks.now) }
 {
     for block in blocks {
         if any_clash(ops, &block.places, op) {
@@ -113,7 +116,7 @@ fn any_clash_in(ops: &Rows, blocks: &[Block], op: &Op) -> bool
 /// Whether an operation of the places clashes with this one. What goes on from its site's known end
 /// clashes with none; what is the newest and goes on from below it clashes.
 fn has_clash(ops: &Rows, order: &Order, ends: &Ends, op: &Op) -> bool
-    requires kept { IsKept ops.now.rows order.now.items ends.now }
+    requires kept { IsLogInRows ops.now.rows order.now.items ends.now }
     requires sound { has_bad_stamp op.now ≡ false }
     ensures { result ≡ list_any (clash op.now) (newest_first ops.now.rows order.now.items) }
 {
@@ -228,15 +231,16 @@ impl OpLog {
     /// The operation at a place by rising stamp, that of the oldest being 0, seen where it is kept.
     pub fn get(&self, place: usize) -> OpView<'_>
         requires { place < length self.now.operations }
-        ensures { slice_get (reverse self.now.operations) place ≡ Some (operation_in result) }
+        ensures is { slice_get (reverse self.now.operations) place ≡ Some (operation_in result) }
+        ensures rules { keeps_rules (body_in result.edit) ≡ true }
     {
         op_in(&self.ops, self.order.get(place))
     }
 
     /// The operations in rows, and their places by rising stamp, in blocks.
     pub(crate) fn blocks(&self) -> (&Rows, &[Block])
-        ensures within { AllByRecursion (HasPlace result.0.now.rows) (in_blocks result.1.now) }
-        ensures operations { map (op_at result.0.now.rows) (in_blocks result.1.now) ≡ reverse self.now.operations }
+        ensures within { AllByRecursion (HasPlace result.0.now.rows) (places_in_blocks result.1.now) }
+        ensures operations { map (op_at result.0.now.rows) (places_in_blocks result.1.now) ≡ reverse self.now.operations }
         ensures log { IsLog self.now.operations }
     {
         (&self.ops, self.order.blocks())
@@ -252,6 +256,7 @@ impl OpLog {
     /// The operations by rising stamp, each seen where it is kept. `NoMemory` is its only fault.
     pub fn in_order(&self) -> Result<Vec<OpView<'_>>, Fault>
         ensures operations { IfOk result (λ ops. map operation_in ops.items ≡ reverse self.now.operations) }
+        ensures rules { IfOk result (λ ops. AllByRecursion (λ op. keeps_rules (body_in op.edit) ≡ true) ops.items) }
         ensures fault { IsOkUnless result NoMemory }
     {
         let places = self.order.flat()?;

@@ -1,25 +1,28 @@
 // Two logs merged.
-ghost use Rattle.std.specs.Prelude.{◌≡◌, ◌⊎◌, [], ◌∷◌, false, MatchResult, OnOk, IsOkUnless};
+ghost use Rattle.std.specs.Prelude.{◌≡◌, ◌⊎◌, [], ◌∷◌, false, true, MatchResult, OnOk, IsOkUnless};
 ghost use Rattle.std.specs.List.{AllByRecursion};
 ghost use Rattle.rt_stamps.specs.declared.fault.Fault.TheVariants.{NoMemory, Conflict};
 ghost use Rattle.rt_stamps.specs.Stamps.{is_before};
-ghost use Rattle.rt_rows.specs.Views.{operation_in};
+ghost use Rattle.rt_ops.specs.Rules.{keeps_rules};
+ghost use Rattle.rt_ops.specs.Views.{body_in, operation_in};
 ghost use Rattle.rt_ops.specs.Operations.{Operation, has_bad_stamp};
 ghost use Rattle.rt_oplog.specs.Logs.{HasClashOf, HasOp, IsLog, IsFalling, same_operation};
 ghost use Rattle.rt_rows.specs.Places.{HasPlace, KeepsPlaces, op_at};
-ghost use Rattle.rt_oplog.specs.Kept.{newest_first, IsKept};
+ghost use Rattle.rt_oplog.specs.Kept.{newest_first, IsLogInRows};
 ghost use Rattle.rt_oplog.specs.Merged.{IsTakenOver, Merges};
 
 use crate::ends::Ends;
 use crate::same::are_alike;
-use rt_rows::{OpView, RowPlace, Rows};
+use rt_ops::OpView;
+use rt_rows::{RowPlace, Rows};
 use rt_stamps::{Fault, Stamp};
 use std::alloc::Global;
 
 /// The operation of a place, seen where it is kept.
 pub(crate) fn op_in(ops: &Rows, place: RowPlace) -> OpView<'_>
     requires { HasPlace ops.now.rows place }
-    ensures { op_at ops.now.rows place ≡ operation_in result }
+    ensures is { op_at ops.now.rows place ≡ operation_in result }
+    ensures rules { keeps_rules (body_in result.edit) ≡ true }
 {
     ops.view(place)
 }
@@ -124,13 +127,13 @@ pub(crate) fn ends_of(alloc: Global, ops: &Rows, order: &[RowPlace]) -> Result<E
     requires within { AllByRecursion (HasPlace ops.now.rows) order.now }
     requires falling { IsFalling (newest_first ops.now.rows order.now) }
     requires sound { (op : Operation) → HasOp (newest_first ops.now.rows order.now) op → has_bad_stamp op ≡ false }
-    ensures { MatchResult result (λ ends. IsKept ops.now.rows order.now ends)
+    ensures { MatchResult result (λ ends. IsLogInRows ops.now.rows order.now ends)
         (λ fault. (fault ≡ NoMemory) ⊎ ((fault ≡ Conflict) × HasClashOf (newest_first ops.now.rows order.now) (newest_first ops.now.rows order.now))) }
 {
     let mut ends = Ends::new(alloc);
     for place in order {
         let op = op_in(ops, *place);
-        if op.prev() < ends.get(op.site()) {
+        if op.prev < ends.get(op.site()) {
             return Err(Fault::Conflict);
         }
         ends.reserve(1)?;

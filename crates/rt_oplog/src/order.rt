@@ -4,7 +4,7 @@ ghost use Rattle.std.specs.List.{insert};
 ghost use Rattle.rt_oplog.specs.Logs.{IsFalling};
 ghost use Rattle.rt_oplog.specs.Kept.{is_earlier, newest_first, leading};
 ghost use Rattle.rt_oplog.specs.Spares.{AreSpare};
-ghost use Rattle.rt_oplog.specs.Blocks.{in_blocks, room_of};
+ghost use Rattle.rt_oplog.specs.Blocks.{places_in_blocks, room_of};
 
 use crate::block::Block;
 use crate::blocks::{append, find, flat, get, insert_in};
@@ -137,7 +137,7 @@ impl Order {
 
     /// The places, in blocks.
     pub(crate) fn blocks(&self) -> &[Block]
-        ensures { in_blocks result.now ≡ self.now.items }
+        ensures { places_in_blocks result.now ≡ self.now.items }
     {
         &self.blocks
     }

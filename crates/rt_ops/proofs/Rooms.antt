@@ -11,7 +11,7 @@ use Rattle.rt_ops.specs.declared.version.Version.TheVariants.{One, Two}
 use Rattle.rt_ops.specs.Operations.{Name, Body, Insert, Delete, Tag, Operation, stamp_of}
 use Rattle.rt_ops.specs.Rules.{keeps_rules}
 use Rattle.rt_ops.specs.Versions.{layout, sites}
-use Rattle.rt_ops.specs.File.{HasRecord, AreInFile, counts_of, have_room, has_room, fits, version_of}
+use Rattle.rt_ops.specs.File.{HasRecord, AreInFile, counts_in_spans, have_room, has_room, fits, version_of}
 use Rattle.rt_ops.specs.Decoding.{StampFits, SpanFits, BodyFits}
 
 pub and_parts : (a b : Bool) → (a && b) ≡ true → (a ≡ true) × (b ≡ true)
@@ -20,7 +20,7 @@ and_parts false b h = absurd cc
 
 -- ---- the fields of a body, and of what has a record
 
-spans_in : (ver : Version) (spans : List Span) → have_room ver spans ≡ true → AllByRecursion (λ count. count < 2 ^ 64) (counts_of spans) → AllByRecursion (SpanFits ver) spans
+spans_in : (ver : Version) (spans : List Span) → have_room ver spans ≡ true → AllByRecursion (λ count. count < 2 ^ 64) (counts_in_spans spans) → AllByRecursion (SpanFits ver) spans
 spans_in ver [] room counts = tt
 spans_in ver (span ∷ spans) room counts =
     let parts = and_parts (nat_lt span.site (sites ver)) (have_room ver spans) room in
@@ -32,7 +32,7 @@ spans_room ver (span ∷ spans) h =
     let site : nat_lt span.site (sites ver) ≡ true = grind (arith, nat_tests, h.0.site) in
     rw (site, spans_room ver spans h.1) refl
 
-spans_counts : (ver : Version) (spans : List Span) → AllByRecursion (SpanFits ver) spans → AllByRecursion (λ count. count < 2 ^ 64) (counts_of spans)
+spans_counts : (ver : Version) (spans : List Span) → AllByRecursion (SpanFits ver) spans → AllByRecursion (λ count. count < 2 ^ 64) (counts_in_spans spans)
 spans_counts ver [] h = tt
 spans_counts ver (span ∷ spans) h = (h.0.first, (h.0.last, spans_counts ver spans h.1))
 

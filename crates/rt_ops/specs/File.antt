@@ -83,13 +83,13 @@ abbrev pub fits : Version → Operation → Bool
 fits version op = nat_lt op.site (sites version) && has_room version op.body
 
 -- the counts that a body names
-abbrev pub counts_of : List Span → List ℕ
-counts_of spans = flat_map (λ span. span.first ∷ span.last ∷ []) spans
+abbrev pub counts_in_spans : List Span → List ℕ
+counts_in_spans spans = flat_map (λ span. span.first ∷ span.last ∷ []) spans
 
 abbrev pub named_counts : Body → List ℕ
 named_counts (Insert after tags text) = after.count ∷ []
-named_counts (Delete spans) = counts_of spans
-named_counts (Tag on name spans) = counts_of spans
+named_counts (Delete spans) = counts_in_spans spans
+named_counts (Tag on name spans) = counts_in_spans spans
 
 -- an operation has a record in a version that has room for it, where eight bytes have room for its counts and its body keeps
 -- the rules

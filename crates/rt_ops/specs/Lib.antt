@@ -9,3 +9,4 @@ pub mod Records
 pub mod Rules
 pub mod Texts
 pub mod Versions
+pub mod Views

@@ -17,6 +17,7 @@ mod rules;
 pub mod spell;
 pub mod text;
 mod version;
+pub mod view;
 
 pub use bytes::read_bytes;
 pub use file::{Reading, read_file, read_file_bounded, read_whole};
@@ -26,3 +27,4 @@ pub use records::Records;
 pub use room::fits;
 pub use text::Text;
 pub use version::Version;
+pub use view::{EditView, OpView};

@@ -6,8 +6,8 @@ ghost use Rattle.rt_stamps.specs.Words.{as_words};
 ghost use Rattle.rt_ops.specs.Operations.{Insert, Delete, Tag, stamp_of, last_count as last_count_of, last_of, soundness, named, reaches, stamps_of_span};
 ghost use Rattle.rt_ops.specs.Rules.{within_rules, keeps_rules};
 
-use crate::Text;
 use crate::rules::{are_spans, are_tags, is_name};
+use crate::{EditView, OpView, Text};
 use rt_stamps::limits::GREATEST_COUNT;
 use rt_stamps::{Fault, ROOT, Span, Stamp};
 use std::alloc::Global;
@@ -170,8 +170,7 @@ impl Op {
         ensures copy { IfOk result (λ op. op ≡ self.now) }
         ensures fault { IsOkUnless result NoMemory }
     {
-        let edit = copy_of(alloc, &self.edit)?;
-        Ok(Op::of(self.stamp(), self.prev, edit))
+        OpView::of(self).copied(alloc)
     }
 
     /// The first count, or the only one.
@@ -227,7 +226,7 @@ impl Op {
         requires { last_count_of self.now ≤ GREATEST_COUNT }
         ensures { result ≡ last_count_of self.now }
     {
-        self.count + more_counts(&self.edit)
+        self.count + EditView::of(&self.edit).more_counts()
     }
 
     /// `BadStamp` exactly where a stamp is out of its range: site 0, count 0, a last count past
@@ -239,7 +238,7 @@ impl Op {
         let ranged = self.site > 0
             && self.count > 0
             && self.count <= GREATEST_COUNT
-            && more_counts(&self.edit) <= GREATEST_COUNT - self.count
+            && EditView::of(&self.edit).more_counts() <= GREATEST_COUNT - self.count
             && self.prev < self.count;
         if !ranged || names_later(&self.edit, self.stamp()) {
             return Err(Fault::BadStamp);
@@ -249,60 +248,6 @@ impl Op {
 }
 
 ghost use Rattle.rt_ops.specs.Edits.{body_of as body_seen};
-
-/// Names once more. `NoMemory` is its only fault.
-fn copies_of(alloc: Global, names: &[String]) -> Result<Vec<String>, Fault>
-    ensures copy { IfOk result (λ copies. as_words copies.items ≡ as_words names.now) }
-    ensures fault { IsOkUnless result NoMemory }
-{
-    let mut copies = Vec::new(alloc);
-    for name in names {
-        copies.push(String::from_str(alloc, name)?)?;
-    }
-    Ok(copies)
-}
-
-/// An edit once more. `NoMemory` is its only fault.
-fn copy_of(alloc: Global, edit: &Edit) -> Result<Edit, Fault>
-    ensures copy { IfOk result (λ copy. body_seen copy ≡ body_seen edit.now) }
-    ensures fault { IsOkUnless result NoMemory }
-{
-    match edit {
-        Edit::Insert { after, tags, text } => Ok(Edit::Insert {
-            after: *after,
-            tags: copies_of(alloc, tags)?,
-            text: text.copied(alloc)?,
-        }),
-        Edit::Delete { spans } => Ok(Edit::Delete {
-            spans: Vec::from_slice(alloc, spans)?,
-        }),
-        Edit::Tag { on, name, spans } => Ok(Edit::Tag {
-            on: *on,
-            name: String::from_str(alloc, name)?,
-            spans: Vec::from_slice(alloc, spans)?,
-        }),
-    }
-}
-
-/// How many counts an operation has after its first.
-fn more_counts(edit: &Edit) -> u64
-    ensures more { (count : ℕ) → last_of count (body_seen edit.now) ≡ count + result }
-    ensures few { result < 2 ^ 62 }
-{
-    match edit {
-        Edit::Insert {
-            after: _,
-            tags: _,
-            text,
-        } => (text.characters().len() as u64).saturating_sub(1),
-        Edit::Delete { spans: _ } => 0,
-        Edit::Tag {
-            on: _,
-            name: _,
-            spans: _,
-        } => 0,
-    }
-}
 
 /// Whether an operation of this stamp would name one that is not before it.
 fn names_later(edit: &Edit, stamp: Stamp) -> bool

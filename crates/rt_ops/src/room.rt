@@ -1,10 +1,10 @@
 // Which version of the file has room for an operation.
 ghost use Rattle.std.specs.Prelude.{◌≡◌, nat_lt};
-ghost use Rattle.rt_ops.specs.Edits.{body_of};
 ghost use Rattle.rt_ops.specs.File.{fits, has_room, have_room};
 ghost use Rattle.rt_ops.specs.Versions.{sites};
+ghost use Rattle.rt_ops.specs.Views.{body_in, operation_in};
 
-use crate::{Edit, Op, Version};
+use crate::{EditView, OpView, Version};
 use rt_stamps::Span;
 
 fn is_within(version: Version, span: &Span) -> bool
@@ -21,17 +21,17 @@ fn have_room(version: Version, spans: &[Span]) -> bool
 }
 
 /// Whether the version has room for the sites that an edit names, and for its tags.
-fn has_room(version: Version, edit: &Edit) -> bool
-    ensures { result ≡ has_room version (body_of edit.now) }
+fn has_room(version: Version, edit: EditView<'_>) -> bool
+    ensures { result ≡ has_room version (body_in edit.entry) }
 {
     match edit {
-        Edit::Insert {
+        EditView::Insert {
             after,
             tags,
             text: _,
         } => after.site <= version.greatest_site() && tags.len() <= version.most_tags(),
-        Edit::Delete { spans } => have_room(version, spans),
-        Edit::Tag {
+        EditView::Delete { spans } => have_room(version, spans),
+        EditView::Tag {
             on: _,
             name: _,
             spans,
@@ -41,8 +41,8 @@ fn has_room(version: Version, edit: &Edit) -> bool
 
 /// Whether a version has room for an operation: for its site, those that it names, and its tags. The second has room for
 /// each.
-pub fn fits(version: Version, op: &Op) -> bool
-    ensures { result ≡ fits version op.now }
+pub fn fits(version: Version, op: OpView<'_>) -> bool
+    ensures { result ≡ fits version (operation_in op.entry) }
 {
-    op.site() <= version.greatest_site() && has_room(version, op.edit())
+    op.site() <= version.greatest_site() && has_room(version, op.edit)
 }

@@ -5,15 +5,15 @@ ghost use Rattle.std.specs.Int.{w16, w32, w64};
 ghost use Rattle.rt_stamps.specs.declared.fault.Fault.TheVariants.{NoMemory};
 ghost use Rattle.rt_stamps.specs.declared.limits.TheConstants.{MOST_RECORD_BYTES};
 ghost use Rattle.rt_stamps.specs.Words.{as_words};
-ghost use Rattle.rt_ops.specs.Edits.{body_of};
 ghost use Rattle.rt_ops.specs.declared.version.Version.TheVariants.{One};
 ghost use Rattle.rt_ops.specs.File.{number, stamp_bytes, span_bytes, spans_bytes, name_bytes, tags_bytes, body_bytes, kind_of, content_of, record_of, HasRecord, have_room, has_room, fits};
 ghost use Rattle.rt_ops.specs.Decoding.{BodyFits, SpanFits, StampFits};
 ghost use Rattle.rt_ops.specs.Versions.{layout, sites};
 ghost use Rattle.rt_ops.specs.Rules.{keeps_rules};
+ghost use Rattle.rt_ops.specs.Views.{body_in, operation_in};
 
 use crate::fields::LENGTH_BYTES;
-use crate::{Edit, Op, Version};
+use crate::{EditView, OpView, Version};
 use byteorder::{BigEndian, ByteOrder};
 use rt_stamps::{Fault, Span, Stamp};
 
@@ -138,39 +138,39 @@ fn push_text(out: &mut Vec<u8>, text: &[char]) -> Result<(), Fault>
     Ok(())
 }
 
-fn push_body(out: &mut Vec<u8>, version: Version, edit: &Edit) -> Result<(), Fault>
-    requires rules { keeps_rules (body_of edit.now) ≡ true }
-    requires room { version ≡ One → has_room One (body_of edit.now) ≡ true }
-    ensures ok { OnOk result (out.new.items ≡ out.old.items ++ body_bytes version (body_of edit.now)) }
-    ensures fits { OnOk result (BodyFits version (body_of edit.now)) }
+fn push_body(out: &mut Vec<u8>, version: Version, edit: EditView<'_>) -> Result<(), Fault>
+    requires rules { keeps_rules (body_in edit) ≡ true }
+    requires room { version ≡ One → has_room One (body_in edit) ≡ true }
+    ensures ok { OnOk result (out.new.items ≡ out.old.items ++ body_bytes version (body_in edit.entry)) }
+    ensures fits { OnOk result (BodyFits version (body_in edit.entry)) }
     ensures fault { IsOkUnless result NoMemory }
 {
     match edit {
-        Edit::Insert { after, tags, text } => {
-            push_stamp(out, version, *after)?;
+        EditView::Insert { after, tags, text } => {
+            push_stamp(out, version, after)?;
             push_tags(out, tags)?;
-            push_text(out, text.characters())
+            push_text(out, text)
         }
-        Edit::Delete { spans } => push_spans(out, version, spans),
-        Edit::Tag { on, name, spans } => {
-            out.push(u8::from(*on))?;
+        EditView::Delete { spans } => push_spans(out, version, spans),
+        EditView::Tag { on, name, spans } => {
+            out.push(u8::from(on))?;
             push_name(out, name)?;
             push_spans(out, version, spans)
         }
     }
 }
 
-fn kind(edit: &Edit) -> u8
-    ensures { result ≡ kind_of (body_of edit.now) }
+fn kind(edit: EditView<'_>) -> u8
+    ensures { result ≡ kind_of (body_in edit.entry) }
 {
     match edit {
-        Edit::Insert {
+        EditView::Insert {
             after: _,
             tags: _,
             text: _,
         } => 1,
-        Edit::Delete { spans: _ } => 2,
-        Edit::Tag {
+        EditView::Delete { spans: _ } => 2,
+        EditView::Tag {
             on: _,
             name: _,
             spans: _,
@@ -180,17 +180,18 @@ fn kind(edit: &Edit) -> u8
 
 /// What stands behind a record's length field.
 #[tactic(auto, using(crate::proofs::Lengths::content_short))]
-fn push_content(out: &mut Vec<u8>, version: Version, op: &Op) -> Result<(), Fault>
-    requires { version ≡ One → fits One op.now ≡ true }
-    ensures ok { OnOk result (out.new.items ≡ out.old.items ++ content_of version op.now) }
-    ensures record { OnOk result (HasRecord version op.now) }
-    ensures short { length (content_of version op.now) ≤ MOST_RECORD_BYTES }
+fn push_content(out: &mut Vec<u8>, version: Version, op: OpView<'_>) -> Result<(), Fault>
+    requires rules { keeps_rules (body_in op.edit) ≡ true }
+    requires room { version ≡ One → fits One (operation_in op) ≡ true }
+    ensures ok { OnOk result (out.new.items ≡ out.old.items ++ content_of version (operation_in op.entry)) }
+    ensures record { OnOk result (HasRecord version (operation_in op.entry)) }
+    ensures short { length (content_of version (operation_in op.entry)) ≤ MOST_RECORD_BYTES }
     ensures fault { IsOkUnless result NoMemory }
 {
-    out.push(kind(op.edit()))?;
-    push_stamp(out, version, op.stamp())?;
-    push_u64(out, op.prev())?;
-    push_body(out, version, op.edit())
+    out.push(kind(op.edit))?;
+    push_stamp(out, version, op.stamp)?;
+    push_u64(out, op.prev)?;
+    push_body(out, version, op.edit)
 }
 
 /// Writes a record's length into the front of a buffer.
@@ -203,11 +204,12 @@ fn write_length(buffer: &mut [u8], n: u32)
 }
 
 // Adds a length field that isn't written yet, and what stands behind it.
-fn push_record(buffer: &mut Vec<u8>, version: Version, op: &Op) -> Result<(), Fault>
-    requires { version ≡ One → fits One op.now ≡ true }
-    ensures ok { OnOk result (buffer.new.items ≡ buffer.old.items ++ ((0 ∷ 0 ∷ 0 ∷ 0 ∷ []) ++ content_of version op.now)) }
-    ensures short { OnOk result (length (content_of version op.now) ≤ MOST_RECORD_BYTES) }
-    ensures record { OnOk result (HasRecord version op.now) }
+fn push_record(buffer: &mut Vec<u8>, version: Version, op: OpView<'_>) -> Result<(), Fault>
+    requires rules { keeps_rules (body_in op.edit) ≡ true }
+    requires room { version ≡ One → fits One (operation_in op) ≡ true }
+    ensures ok { OnOk result (buffer.new.items ≡ buffer.old.items ++ ((0 ∷ 0 ∷ 0 ∷ 0 ∷ []) ++ content_of version (operation_in op.entry))) }
+    ensures short { OnOk result (length (content_of version (operation_in op.entry)) ≤ MOST_RECORD_BYTES) }
+    ensures record { OnOk result (HasRecord version (operation_in op.entry)) }
     ensures fault { IsOkUnless result NoMemory }
 {
     buffer.extend_from_slice(&[0; LENGTH_BYTES])?;
@@ -216,10 +218,11 @@ fn push_record(buffer: &mut Vec<u8>, version: Version, op: &Op) -> Result<(), Fa
 
 /// Makes a buffer the record of an operation in a version that has room for it, as the second always has. After want of
 /// memory it is empty.
-pub fn spell(buffer: &mut Vec<u8>, version: Version, op: &Op) -> Result<(), Fault>
-    requires { version ≡ One → fits One op.now ≡ true }
-    ensures ok { OnOk result (buffer.new.items ≡ record_of version op.now) }
-    ensures record { OnOk result (HasRecord version op.now) }
+pub fn spell(buffer: &mut Vec<u8>, version: Version, op: OpView<'_>) -> Result<(), Fault>
+    requires rules { keeps_rules (body_in op.edit) ≡ true }
+    requires room { version ≡ One → fits One (operation_in op) ≡ true }
+    ensures ok { OnOk result (buffer.new.items ≡ record_of version (operation_in op.entry)) }
+    ensures record { OnOk result (HasRecord version (operation_in op.entry)) }
     ensures empty { OnErr result (buffer.new.items ≡ []) }
     ensures fault { IsOkUnless result NoMemory }
 {

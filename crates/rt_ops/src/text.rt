@@ -68,14 +68,14 @@ impl Text {
         Ok(Text::new(characters))
     }
 
-    /// The text once more: a single character takes no memory. `NoMemory` is its only fault.
-    pub fn copied(&self, alloc: Global) -> Result<Text, Fault>
-        ensures copy { IfOk result (λ text. text ≡ self.now) }
+    /// A text of these characters, copied: a single one takes no memory. `NoMemory` is its only fault.
+    pub fn copy_of(alloc: Global, characters: &[char]) -> Result<Text, Fault>
+        ensures copy { IfOk result (λ text. text ≡ characters.now) }
         ensures fault { IsOkUnless result NoMemory }
     {
-        match &self.kept {
-            Kept::One(character) => Ok(Text::of(*character)),
-            Kept::Many(characters) => Ok(Text {
+        match characters {
+            [character] => Ok(Text::of(*character)),
+            _ => Ok(Text {
                 kept: Kept::Many(Vec::from_slice(alloc, characters)?),
             }),
         }

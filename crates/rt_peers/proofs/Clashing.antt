@@ -24,7 +24,7 @@ use Rattle.rt_rga.proofs.Orders.{any_named, character_of, continues_free, end_fr
 use Rattle.rt_holding.specs.declared.held.Offered.{Offered}
 use Rattle.rt_holding.specs.declared.held.Offered.TheVariants as offerings
 use Rattle.rt_holding.specs.declared.receiving.Received.{Received}
-use Rattle.rt_holding.specs.Holding.{reply_for, reply_to, with_taken, without}
+use Rattle.rt_holding.specs.Holding.{reply_for, reply_to, with_taken, without_op}
 use Rattle.rt_holding.specs.Receiving.{Behind, Offers, Receives, State, one_more}
 use Rattle.rt_holding.specs.Replies.{Reply}
 use Rattle.rt_holding.specs.Replies as replies
@@ -125,7 +125,7 @@ module _ {Site : Type 0} (log : Site → List Operation) (limit : Site → ℕ) 
       → IsOffered log after (limit old.site) op o old.site old.held new.site new.held → Logs (with_operation op set) new
   newly op (offerings.New more) old new set l e t =
       let first = with_taken op (site_holding log old.site old.held) in
-      let none : first.held ≡ [] = ap (λ held. without op held) l.none in
+      let none : first.held ≡ [] = ap (λ held. without_op op held) l.none in
       let same = (nothing_tried (limit old.site) [] t.more first (site_holding log new.site new.held) none t.settles).0 in
       record { log_is = ap (λ s. s.log) same ∙ ap (with_operation op) l.log_is; none = ap (λ s. s.held) same ∙ none }
   newly op offerings.Repeat old new set l e t = absurd (cc e)

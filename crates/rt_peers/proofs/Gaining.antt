@@ -32,38 +32,38 @@ pub record IsOfSame (old new : DocValue) : Type 0 where
   pub site : new.site ≡ old.site
   pub limit : new.limit ≡ old.limit
 
-of_same : (flat : DocValue) → IsOfSame flat flat
-of_same flat = record { site = refl; limit = refl }
+of_same : (doc : DocValue) → IsOfSame doc doc
+of_same doc = record { site = refl; limit = refl }
 
 of_both : (old mid new : DocValue) → IsOfSame old mid → IsOfSame mid new → IsOfSame old new
 of_both old mid new p q = record { site = q.site ∙ p.site; limit = q.limit ∙ p.limit }
 
-bared_same : (flat : DocValue) (stamp : Stamp) (names : List Word) → IsOfSame flat (bared flat stamp names)
-bared_same flat stamp [] = of_same flat
-bared_same flat stamp (name ∷ names) = let r = bared_same (with_tag flat name false (stamp ∷ [])) stamp names in record { site = r.site; limit = r.limit }
+bared_same : (doc : DocValue) (stamp : Stamp) (names : List Word) → IsOfSame doc (bared doc stamp names)
+bared_same doc stamp [] = of_same doc
+bared_same doc stamp (name ∷ names) = let r = bared_same (with_tag doc name false (stamp ∷ [])) stamp names in record { site = r.site; limit = r.limit }
 
-left_same : (flat left : DocValue) (newline : Option TaggedCell) → IsOfSame flat left
-    → IsOfSame flat (unwrap_or (option_map (λ (cell : TaggedCell). bared left cell.stamp (names_on cell.state)) newline) left)
-left_same flat left None same = same
-left_same flat left (Some cell) same = of_both flat left (bared left cell.stamp (names_on cell.state)) same (bared_same left cell.stamp (names_on cell.state))
+left_same : (doc left : DocValue) (newline : Option TaggedCell) → IsOfSame doc left
+    → IsOfSame doc (unwrap_or (option_map (λ (cell : TaggedCell). bared left cell.stamp (names_on cell.state)) newline) left)
+left_same doc left None same = same
+left_same doc left (Some cell) same = of_both doc left (bared left cell.stamp (names_on cell.state)) same (bared_same left cell.stamp (names_on cell.state))
 
-text_same : (flat : DocValue) (loss : Loss) → IsOfSame flat (without_text flat loss)
-text_same flat loss = left_same flat (without_places flat loss.places) (newline_left flat loss) (record { site = refl; limit = refl })
+text_same : (doc : DocValue) (loss : Loss) → IsOfSame doc (without_text doc loss)
+text_same doc loss = left_same doc (without_places doc loss.places) (newline_left doc loss) (record { site = refl; limit = refl })
 
-listed_same : (on : Bool) (name : Word) (flat : DocValue) → IsOfSame flat (listed_if on name flat)
-listed_same true name flat = record { site = refl; limit = refl }
-listed_same false name flat = of_same flat
+listed_same : (on : Bool) (name : Word) (doc : DocValue) → IsOfSame doc (listed_if on name doc)
+listed_same true name doc = record { site = refl; limit = refl }
+listed_same false name doc = of_same doc
 
-one_untagged : (own : Bool) (flat other : DocValue) → IsOfSame flat other → IsOfSame flat (cond own flat other)
-one_untagged true flat other same = of_same flat
-one_untagged false flat other same = same
+one_untagged : (own : Bool) (doc other : DocValue) → IsOfSame doc other → IsOfSame doc (cond own doc other)
+one_untagged true doc other same = of_same doc
+one_untagged false doc other same = same
 
-tags_same : (flat : DocValue) (names : List Word) → IsOfSame flat (without_tags flat names)
-tags_same flat [] = of_same flat
-tags_same flat (name ∷ names) =
-    let off = with_tag_at flat (λ _. true) false name in
-    of_both flat (without_tag flat name) (without_tags (without_tag flat name) names)
-    (one_untagged (bytes_eq name sel) flat (record off { tags = without name off.tags }) (record { site = refl; limit = refl })) (tags_same (without_tag flat name) names)
+tags_same : (doc : DocValue) (names : List Word) → IsOfSame doc (without_tags doc names)
+tags_same doc [] = of_same doc
+tags_same doc (name ∷ names) =
+    let off = with_tag_at doc (λ _. true) false name in
+    of_both doc (without_tag doc name) (without_tags (without_tag doc name) names)
+    (one_untagged (bytes_eq name sel) doc (record off { tags = without name off.tags }) (record { site = refl; limit = refl })) (tags_same (without_tag doc name) names)
 
 -- reverting
 
@@ -95,8 +95,8 @@ pub record Gains (old new : DocValue) : Type 0 where
   pub log : new.log ≡ with_drafts old.site drafts old.log
   pub same : IsOfSame old new
 
-pub gains_none : (flat : DocValue) → Gains flat flat
-gains_none flat = record { drafts = []; log = refl; same = of_same flat }
+pub gains_none : (doc : DocValue) → Gains doc doc
+gains_none doc = record { drafts = []; log = refl; same = of_same doc }
 
 pub gains_then : (old mid new : DocValue) → Gains old mid → Gains mid new → Gains old new
 gains_then old mid new p q = record {

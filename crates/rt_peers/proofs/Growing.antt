@@ -6,12 +6,12 @@ use Rattle.rt_stamps.specs.Words.{Word}
 use Rattle.rt_ops.specs.Operations.{Operation}
 use Rattle.rt_store.specs.Shown.{TaggedCell}
 use Rattle.rt_plans.specs.DocValue.{DocValue}
-use Rattle.rt_undo.specs.Undo.{History, no_history}
+use Rattle.rt_undo.specs.Undo.{UndoHistory, no_history}
 use Rattle.rt_requests.specs.declared.request.MarkRequest.{MarkRequest}
 use Rattle.rt_requests.specs.declared.request.TagRequest.{TagRequest}
 use Rattle.rt_text.specs.Widgets.{ViewValue}
 use Rattle.rt_recording.specs.Recordings.{Recording}
-use Rattle.rt_recording.specs.Settled.{AreGoneOnce, IsSettled, removed_in_history, is_gone}
+use Rattle.rt_recording.specs.Settled.{AreGoneOnce, IsSettled, removed_in_history, is_gone_cell}
 use Rattle.rt_recording.specs.Noting.{IsOfLog}
 use Rattle.rt_text.proofs.Growing.{Grows, grows_drafts}
 use Rattle.rt_recording.proofs.Noted.{settled_same}
@@ -32,8 +32,8 @@ tag_grows view new request words h = steps_grow view new (tag_stays view new req
 -- SETTLED SITES
 
 -- where nothing was done nobody was taken away
-pub none_taken : (cells : List TaggedCell) (h : History (List Word)) → h ≡ no_history → AreGoneOnce cells (removed_in_history h)
-none_taken cells h e = subst (λ (x : History (List Word)). AreGoneOnce cells (removed_in_history x)) (sym e) (λ s. omega arith)
+pub none_taken : (cells : List TaggedCell) (h : UndoHistory (List Word)) → h ≡ no_history → AreGoneOnce cells (removed_in_history h)
+none_taken cells h e = subst (λ (x : UndoHistory (List Word)). AreGoneOnce cells (removed_in_history x)) (sym e) (λ s. omega arith)
 
 -- a site stays settled where what its widget shows is changed so
 pub view_settled : (view new : ViewValue) (recording : Recording) (outcome : Outcome ViewValue) (result : Result (List Word) Fault) → Answers outcome view result new
@@ -44,7 +44,7 @@ view_settled view new recording outcome (Err fault) h grows settled kept same = 
 -- what is settled stays so where the document does
 pub settled_with : (view new : ViewValue) (recording : Recording) → view.doc ≡ new.doc → IsSettled view recording → IsSettled new recording
 settled_with view new recording same h = record {
-  gone = λ stamp back. subst (λ (d : DocValue). is_gone d.cells stamp ≡ true) same (h.gone stamp back);
+  gone = λ stamp back. subst (λ (d : DocValue). is_gone_cell d.cells stamp ≡ true) same (h.gone stamp back);
   taken = subst (λ (d : DocValue). AreGoneOnce d.cells (removed_in_history recording.history)) same h.taken;
   closed = h.closed;
   current = h.current;

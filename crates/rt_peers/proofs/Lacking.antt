@@ -13,8 +13,8 @@ use Rattle.std.proofs.lemmas.List.{map-append, take_more}
 use Rattle.std.proofs.lemmas.List.Folds.{list_any-append}
 use Rattle.rt_stamps.specs.Stamps.{is_before}
 use Rattle.rt_stamps.specs.declared.limits.TheConstants.{GREATEST_COUNT}
-use Rattle.rt_rows.specs.declared.view.OpView.{OpView}
-use Rattle.rt_rows.specs.Views.{operation_in}
+use Rattle.rt_ops.specs.declared.view.OpView.{OpView}
+use Rattle.rt_ops.specs.Views.{operation_in}
 use Rattle.rt_ops.specs.Operations.{Operation, has_bad_stamp, last_count, stamp_of}
 use Rattle.rt_oplog.specs.Logs.{HasOp, IsFalling, IsLog, known_end}
 use Rattle.rt_oplog.proofs.Joins.{end_ge}

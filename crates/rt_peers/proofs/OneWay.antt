@@ -15,7 +15,7 @@ use Rattle.rt_holding.proofs.OneWay.{files_go, one_try}
 use Rattle.rt_holding.specs.Receiving.{State as Holder}
 use Rattle.rt_peers.specs.Memory.{GivesFoundMemory, ReceivingFindsMemory, ReceivingFoundMemory, RequestFoundMemory, TriesFoundMemory}
 use Rattle.rt_peers.specs.SiteStep.{AnswersInTurn, Gives, KeepsOperations, MakesAndTries, SiteReceives, has_made, outcome_at, text_limit, text_log}
-use Rattle.rt_peers.specs.SiteValue.{SiteValue, holding_of}
+use Rattle.rt_peers.specs.SiteValue.{SiteValue, holding_of_site}
 use Rattle.rt_peers.specs.ViewStep.{Outcome}
 
 -- ANSWERS
@@ -47,7 +47,7 @@ tries_once : (made : Bool) (old mid new left : SiteValue) (h : MatchBool made (M
     (k : MatchBool made (MakesAndTries old mid left) (KeepsOperations old mid × (left ≡ mid)))
     → TriesFoundMemory made old mid new h → TriesFoundMemory made old mid left k → new ≡ left
 tries_once true old mid new left h k f g =
-    let one = one_try text_log text_limit text_with_new (text_limit mid.text) (holding_of mid) mid.text new.text left.text new.held left.held h.tries.count k.tries.count h.tries.tried k.tries.tried f g in
+    let one = one_try text_log text_limit text_with_new (text_limit mid.text) (holding_of_site mid) mid.text new.text left.text new.held left.held h.tries.count k.tries.count h.tries.tried k.tries.tried f g in
     let paths = h.tries.widgets ∙ sym k.tries.widgets in
     λ i. record { paths = paths i; text = one.0 i; held = one.1 i }
 tries_once false old mid new left h k f g = h.1 ∙ sym k.1

@@ -41,7 +41,7 @@ use Rattle.rt_text.specs.Widgets.{WidgetValue, ViewValue, length_shown, own_mark
 use Rattle.rt_undo.specs.declared.action.Kind.{Kind}
 use Rattle.rt_undo.specs.declared.action.Kind.TheVariants as kinds
 use Rattle.rt_undo.specs.Actions.{Action}
-use Rattle.rt_undo.specs.Undo.{History, next_redo, next_undo, redo_done, undo_done}
+use Rattle.rt_undo.specs.Undo.{UndoHistory, next_redo, next_undo, redo_done, undo_done}
 use Rattle.rt_recording.specs.Reversals.{group_redone, reverted_by, group_undone}
 use Rattle.rt_recording.specs.EditedValue.{EditedValue}
 use Rattle.rt_recording.specs.Edits.{lost_between, lost_from, recorded_edit, text_deleted, text_inserted, text_replaced, text_with_new}
@@ -143,17 +143,17 @@ recorded_is kind lost text new (Err fault) h = absurd (cc h)
 
 -- UNDO AND REDO
 
-reverted_is : (text new : EditedValue) (said : Result (ViewValue × History (List Word)) Fault) → with_history text said ≡ Ok new → (history : History (List Word)) × (said ≡ Ok (new.view, history))
+reverted_is : (text new : EditedValue) (said : Result (ViewValue × UndoHistory (List Word)) Fault) → with_history text said ≡ Ok new → (history : UndoHistory (List Word)) × (said ≡ Ok (new.view, history))
 reverted_is text new (Ok left) h = (left.1, ap (λ (o : Result EditedValue Fault). Ok ((value_of o text).view, left.1)) h)
 reverted_is text new (Err fault) h = absurd (cc h)
 
-group_stays : (done : List (Action (List Word)) → History (List Word) → History (List Word)) (view new : ViewValue) (old history : History (List Word)) (group : List (Action (List Word)))
+group_stays : (done : List (Action (List Word)) → UndoHistory (List Word) → UndoHistory (List Word)) (view new : ViewValue) (old history : UndoHistory (List Word)) (group : List (Action (List Word)))
     → reverted_by done view old group ≡ Ok (new, history) → Steps view new
 group_stays done view new old history group h =
     let e = given _ _ _ h in
     subst (Steps view) (λ i. (e i).0) (record { number = length-map view.others _; gains = group_gains view group })
 
-last_stays : (done : List (Action (List Word)) → History (List Word) → History (List Word)) (none : Fault) (view new : ViewValue) (old history : History (List Word))
+last_stays : (done : List (Action (List Word)) → UndoHistory (List Word) → UndoHistory (List Word)) (none : Fault) (view new : ViewValue) (old history : UndoHistory (List Word))
     (group : Option (List (Action (List Word)))) → option_map_or (reverted_by done view old) group (Err none) ≡ Ok (new, history) → Steps view new
 last_stays done none view new old history None h = absurd (cc h)
 last_stays done none view new old history (Some group) h = group_stays done view new old history group h

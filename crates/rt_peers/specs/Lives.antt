@@ -10,7 +10,7 @@ use Rattle.rt_holding.specs.declared.receiving.Received.{Received}
 use Rattle.rt_holding.specs.Came.{came_with}
 use Rattle.rt_holding.specs.Runs.{AreFree, IsGreatestHistoryWithin, IsHolding, NoneCouldBeTaken}
 use Rattle.rt_peers.specs.SiteStep.{KeepsOperations, MakesAndTries, SiteReceives, cell_limit, log_of, site_of, text_limit, text_log}
-use Rattle.rt_peers.specs.SiteValue.{SiteValue, holding_of, new_site}
+use Rattle.rt_peers.specs.SiteValue.{SiteValue, holding_of_site, new_site}
 
 -- the operations that a site made for a call
 abbrev pub made_by : {old mid new : SiteValue} → MakesAndTries old mid new → List Operation
@@ -50,7 +50,7 @@ LivesOn IsOther old new =
 
 -- none of the operations that it holds could be taken, if there were memory and room: so it is where it holds none
 abbrev pub IsAtRest : SiteValue → Type 0
-IsAtRest state = NoneCouldBeTaken (cell_limit state) (holding_of state)
+IsAtRest state = NoneCouldBeTaken (cell_limit state) (holding_of_site state)
 
 -- In whatever order operations come to two sites, in whatever files and with repeats, and whatever they make between: where the same
 -- came to both, no two of which clash, and both are at rest, they show the same.
@@ -77,4 +77,4 @@ AcceptsHistory =
 -- what a site that holds operations keeps to
 abbrev pub SitesHold : Type 0
 SitesHold =
-    (site limit : ℕ) (state : SiteValue) (came : List Operation) → Lives site limit state came → IsHolding limit (holding_of state)
+    (site limit : ℕ) (state : SiteValue) (came : List Operation) → Lives site limit state came → IsHolding limit (holding_of_site state)

@@ -18,7 +18,7 @@ use Rattle.rt_text.specs.Widgets.{ViewValue}
 use Rattle.rt_lines.specs.declared.choice.Choice.{Choice}
 use Rattle.rt_lines.specs.declared.choice.Choice.TheVariants.{Kept, Away, Line}
 use Rattle.rt_lines.specs.Limits.{end_number, start_number}
-use Rattle.rt_undo.specs.Undo.{History, with_most}
+use Rattle.rt_undo.specs.Undo.{UndoHistory, with_most}
 use Rattle.rt_peers.specs.ViewStep.{Outcome, changed_step, one_word, text_of_bool}
 
 -- SETTING
@@ -31,7 +31,7 @@ choice_of (Some (limits.Line number)) = Line number
 choice_of (Some limits.PastEveryLine) = Line (2 ^ 64 - 1)
 
 -- a history whose undo stack has at most so many groups, where their number is given
-abbrev pub bounded : Option ℕ → History (List Word) → History (List Word)
+abbrev pub bounded : Option ℕ → UndoHistory (List Word) → UndoHistory (List Word)
 bounded None history = history
 bounded (Some most) history = with_most most history
 

@@ -16,7 +16,7 @@ use Rattle.rt_ops.specs.Operations.{Body, Operation}
 use Rattle.rt_rga.specs.Drafts.{with_drafts}
 use Rattle.rt_rga.specs.Requests.{MayBeMade, fit}
 use Rattle.rt_peers.specs.PeerStep.{peer_step}
-use Rattle.rt_peers.specs.SiteValue.{SiteValue, holding_of, number_of_path}
+use Rattle.rt_peers.specs.SiteValue.{SiteValue, holding_of_site, number_of_path}
 use Rattle.rt_peers.specs.Step.{step}
 use Rattle.rt_peers.specs.ViewStep.{Outcome, as_outcome}
 use Rattle.rt_peers.specs.Peers.{text_led}
@@ -64,7 +64,7 @@ TextTries old held new left = (count : ℕ) × AreTried text_log text_with_new (
 -- Held operations are tried: those that can be taken are, one after the other, and change the text as received ones do.
 pub record Tries (old new : SiteValue) : Type 0 where
   pub count : ℕ
-  pub tried : AreTried text_log text_with_new (text_limit old.text) (holding_of old) old.text new.text new.held count
+  pub tried : AreTried text_log text_with_new (text_limit old.text) (holding_of_site old) old.text new.text new.held count
   pub widgets : new.paths ≡ old.paths
 
 -- OPERATIONS OF ITS OWN

@@ -7,7 +7,7 @@ use Rattle.rt_ops.specs.Operations.{Operation}
 use Rattle.rt_plans.specs.DocValue.{new_doc}
 use Rattle.rt_recording.specs.EditedValue.{EditedValue}
 use Rattle.rt_holding.specs.Holding.{Holding}
-use Rattle.rt_text.specs.Widgets.{ViewValue, new_own}
+use Rattle.rt_text.specs.Widgets.{ViewValue, new_widget}
 use Rattle.rt_undo.specs.Undo.{no_history}
 
 -- a site: the paths of its widgets, in the order in which they were made; and its text as the first of them shows it, with the
@@ -20,7 +20,7 @@ pub record SiteValue : Type 0 where
 
 -- a new site has an empty document and the widget `.t`; its edits aren't recorded, and separators are automatic
 abbrev pub new_view : ℕ → ℕ → ViewValue
-new_view site limit = record { doc = new_doc site limit; own = new_own; others = [] }
+new_view site limit = record { doc = new_doc site limit; own = new_widget; others = [] }
 
 abbrev pub new_text : ℕ → ℕ → EditedValue
 new_text site limit = record { view = new_view site limit; history = no_history; undo = false; auto = true }
@@ -36,5 +36,5 @@ abbrev pub is_widget : Word → List Word → Bool
 is_widget path paths = is_some (number_of_path path paths)
 
 -- the operations that it accepted, and those that it holds
-abbrev pub holding_of : SiteValue → Holding
-holding_of state = record { log = state.text.view.doc.log; held = state.held }
+abbrev pub holding_of_site : SiteValue → Holding
+holding_of_site state = record { log = state.text.view.doc.log; held = state.held }

@@ -1,5 +1,5 @@
 -- Requests that take no memory: none of them is refused for want of it.
-use Rattle.std.specs.Prelude.{Bool, true, false}
+use Rattle.std.specs.Prelude.{◌≡◌, Bool, true, false, IfErr, Result, Err}
 use Rattle.rt_requests.specs.declared.request.EditRequest.{EditRequest}
 use Rattle.rt_requests.specs.declared.request.EditRequest.TheVariants as edits
 use Rattle.rt_requests.specs.declared.request.MarkRequest.{MarkRequest}
@@ -8,6 +8,11 @@ use Rattle.rt_requests.specs.declared.request.Request.{Request}
 use Rattle.rt_requests.specs.declared.request.Request.TheVariants as requests
 use Rattle.rt_requests.specs.declared.request.TagRequest.{TagRequest}
 use Rattle.rt_requests.specs.declared.request.TagRequest.TheVariants as tags
+use Rattle.rt_stamps.specs.declared.fault.Fault.{Fault}
+
+-- a call is refused only as its outcome is, and not for want of memory
+abbrev pub IsRefusedAs : {S R : Type 0} → Result S Fault → Result R Fault → Type 0
+IsRefusedAs outcome result = IfErr result (λ fault. outcome ≡ Err fault)
 
 -- of marks: to unset some, and to set the gravity of one
 abbrev pub mark_takes_none : MarkRequest → Bool

@@ -5,13 +5,13 @@ ghost use Rattle.std.specs.Ordering.{nat_cmp};
 ghost use Rattle.rt_stamps.specs.declared.limits.TheConstants.{GREATEST_COUNT};
 ghost use Rattle.rt_stamps.specs.declared.fault.Fault.TheVariants.{NoMemory};
 ghost use Rattle.rt_ops.specs.Operations.{last_count};
-ghost use Rattle.rt_rows.specs.Views.{operation_in};
+ghost use Rattle.rt_ops.specs.Views.{operation_in};
 ghost use Rattle.rt_oplog.specs.Logs.{known_end};
 ghost use Rattle.rt_rga.specs.Histories.{IsHistory};
 ghost use Rattle.rt_peers.specs.Lacking.{is_past, known_in, past_known};
 
 use rt_oplog::OpLog;
-use rt_rows::OpView;
+use rt_ops::OpView;
 use rt_stamps::Fault;
 use std::alloc::Global;
 use std::collections::BTreeMap;

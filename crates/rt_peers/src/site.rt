@@ -1,12 +1,12 @@
 // A site, and what is asked of its widgets.
-ghost use Rattle.std.specs.Prelude.{◌≡◌, ◌<◌, ◌≤◌, Err, IfErr, IfOk, IsOkUnless, None, length, true};
+ghost use Rattle.std.specs.Prelude.{◌≡◌, ◌<◌, ◌≤◌, Err, IfOk, IsOkUnless, None, length, true};
 ghost use Rattle.rt_stamps.specs.declared.limits.TheConstants.{MOST_CELLS};
 ghost use Rattle.rt_stamps.specs.Words.{as_words};
 ghost use Rattle.rt_peers.specs.Peers.{HavePaths};
 ghost use Rattle.rt_peers.specs.SiteStep.{AnswersInTurn, Gives, by_widget, step_at, widget_step};
 ghost use Rattle.rt_peers.specs.SiteValue.{new_site, number_of_path};
 ghost use Rattle.rt_peers.specs.Step.{step};
-ghost use Rattle.rt_peers.specs.TakesNone.{takes_none};
+ghost use Rattle.rt_peers.specs.TakesNone.{IsRefusedAs, takes_none};
 
 mod cursors;
 mod exchange;
@@ -94,7 +94,7 @@ impl SiteState {
     fn ask_text(&mut self, number: usize, request: &Request<'_>) -> Result<Reply, Fault>
         requires { number < length self.old.paths }
         ensures answers { AnswersInTurn (by_widget number self.old (λ text. step text request.now)) self.old result self.new }
-        ensures memory { takes_none request.now ≡ true → IfErr result (λ fault. by_widget number self.old (λ text. step text request.now) ≡ Err fault) }
+        ensures memory { takes_none request.now ≡ true → IsRefusedAs (by_widget number self.old (λ text. step text request.now)) result }
     {
         let before = self.text.log().len();
         let reply = self.text.ask(number, request);
@@ -109,7 +109,7 @@ impl SiteState {
     fn request(&mut self, path: &str, number: usize, request: &Request<'_>) -> Result<Reply, Fault>
         requires { number < length self.old.paths }
         ensures answers { AnswersInTurn (widget_step path.now number self.old request.now) self.old result self.new }
-        ensures memory { takes_none request.now ≡ true → IfErr result (λ fault. widget_step path.now number self.old request.now ≡ Err fault) }
+        ensures memory { takes_none request.now ≡ true → IsRefusedAs (widget_step path.now number self.old request.now) result }
     {
         match request {
             Request::Peer(request) => self.peers(path, number, request),
@@ -125,7 +125,7 @@ impl SiteState {
     pub fn answer(&mut self, path: &str, request: &Request<'_>) -> Result<Reply, Fault>
         ensures answers { AnswersInTurn (step_at path.now self.old request.now) self.old result self.new }
         ensures none { number_of_path path.now self.old.paths ≡ None → result ≡ Err Fault.NoWidget }
-        ensures memory { takes_none request.now ≡ true → IfErr result (λ fault. step_at path.now self.old request.now ≡ Err fault) }
+        ensures memory { takes_none request.now ≡ true → IsRefusedAs (step_at path.now self.old request.now) result }
     {
         let Some(number) = number_of(&self.paths, path) else {
             return Err(Fault::NoWidget);

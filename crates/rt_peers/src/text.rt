@@ -1,12 +1,12 @@
 // The text of a site, and what is asked of the widget that commands.
-ghost use Rattle.std.specs.Prelude.{◌≡◌, ◌<◌, ◌≤◌, Err, IfErr, IfOk, IsOkUnless, length, true};
+ghost use Rattle.std.specs.Prelude.{◌≡◌, ◌<◌, ◌≤◌, Err, IfOk, IsOkUnless, length, true};
 ghost use Rattle.rt_stamps.specs.declared.limits.TheConstants.{MOST_CELLS};
 ghost use Rattle.rt_stamps.specs.Outcomes.{Answers};
 ghost use Rattle.rt_text.specs.Widgets.{view_as, widgets_of};
 ghost use Rattle.rt_peers.specs.SiteStep.{by_leading};
 ghost use Rattle.rt_peers.specs.SiteValue.{new_text};
 ghost use Rattle.rt_peers.specs.Step.{step};
-ghost use Rattle.rt_peers.specs.TakesNone.{takes_none};
+ghost use Rattle.rt_peers.specs.TakesNone.{IsRefusedAs, takes_none};
 
 mod editing;
 mod exchange;
@@ -86,7 +86,7 @@ impl EditedText {
     /// all is as it was. What is asked of its peers isn't the text's to answer.
     pub(crate) fn request(&mut self, request: &Request<'_>) -> Result<Reply, Fault>
         ensures answers { Answers (step self.old request.now) self.old result self.new }
-        ensures memory { takes_none request.now ≡ true → IfErr result (λ fault. step self.old request.now ≡ Err fault) }
+        ensures memory { takes_none request.now ≡ true → IsRefusedAs (step self.old request.now) result }
     {
         match request {
             Request::Insert { index, texts } => self.insert(index, texts),
@@ -118,7 +118,7 @@ impl EditedText {
     pub(crate) fn ask(&mut self, number: usize, request: &Request<'_>) -> Result<Reply, Fault>
         requires { number < length (widgets_of self.old.view) }
         ensures answers { Answers (by_leading number self.old (λ text. step text request.now)) self.old result self.new }
-        ensures memory { takes_none request.now ≡ true → IfErr result (λ fault. by_leading number self.old (λ text. step text request.now) ≡ Err fault) }
+        ensures memory { takes_none request.now ≡ true → IsRefusedAs (by_leading number self.old (λ text. step text request.now)) result }
     {
         self.lead(number);
         let reply = self.request(request);

@@ -52,24 +52,24 @@ both_none xs ys h k = omega (arith, characters_append xs ys, h, k)
 at_none : (places : ℕ → Bool) (on : Bool) (name : Word) (cells : List TaggedCell) → characters_in_all (tag_drafts_at MOST_SPANS places on name cells) ≡ 0
 at_none places on name cells = tags_none on name (parts_of MOST_SPANS (spans_in (changed_stamps name on (cells_at places 0 cells))))
 
-pub tags_insert_none : (names : List Word) (flat : DocValue) (places : ℕ → Bool) (on : Bool) → characters_in_all (tags_drafts_at MOST_SPANS flat places on names) ≡ 0
-tags_insert_none [] flat places on = refl
-tags_insert_none (name ∷ names) flat places on =
-    both_none (tag_drafts_at MOST_SPANS places on name flat.cells) (tags_drafts_at MOST_SPANS (with_tag_at flat places on name) places on names) (at_none places on name flat.cells)
-    (tags_insert_none names (with_tag_at flat places on name) places on)
+pub tags_insert_none : (names : List Word) (doc : DocValue) (places : ℕ → Bool) (on : Bool) → characters_in_all (tags_drafts_at MOST_SPANS doc places on names) ≡ 0
+tags_insert_none [] doc places on = refl
+tags_insert_none (name ∷ names) doc places on =
+    both_none (tag_drafts_at MOST_SPANS places on name doc.cells) (tags_drafts_at MOST_SPANS (with_tag_at doc places on name) places on names) (at_none places on name doc.cells)
+    (tags_insert_none names (with_tag_at doc places on name) places on)
 
-pub deletions_insert_none : (names : List Word) (flat : DocValue) → characters_in_all (tag_deletion_drafts MOST_SPANS flat names) ≡ 0
-deletions_insert_none [] flat = refl
-deletions_insert_none (name ∷ names) flat =
-    let off = tag_drafts_at MOST_SPANS (λ _. true) false name flat.cells in
-    both_none (cond (bytes_eq name sel) [] off) (tag_deletion_drafts MOST_SPANS (without_tag flat name) names)
-    (elim (bytes_eq name sel) as (λ b. characters_in_all (cond b [] off) ≡ 0) [ true ↦ refl | false ↦ at_none (λ _. true) false name flat.cells ])
-    (deletions_insert_none names (without_tag flat name))
+pub deletions_insert_none : (names : List Word) (doc : DocValue) → characters_in_all (tag_deletion_drafts MOST_SPANS doc names) ≡ 0
+deletions_insert_none [] doc = refl
+deletions_insert_none (name ∷ names) doc =
+    let off = tag_drafts_at MOST_SPANS (λ _. true) false name doc.cells in
+    both_none (cond (bytes_eq name sel) [] off) (tag_deletion_drafts MOST_SPANS (without_tag doc name) names)
+    (elim (bytes_eq name sel) as (λ b. characters_in_all (cond b [] off) ≡ 0) [ true ↦ refl | false ↦ at_none (λ _. true) false name doc.cells ])
+    (deletions_insert_none names (without_tag doc name))
 
-pub loss_inserts_none : (flat : DocValue) (loss : Loss) → characters_in_all (delete_drafts MOST_SPANS flat loss) ≡ 0
-loss_inserts_none flat loss =
-    both_none (removal_drafts MOST_SPANS loss.places flat.cells) (tags (newline_left flat loss))
-    (deletes_none (parts_of MOST_SPANS (spans_in (stamps_at loss.places 0 flat.cells)))) (none (newline_left flat loss))
+pub loss_inserts_none : (doc : DocValue) (loss : Loss) → characters_in_all (delete_drafts MOST_SPANS doc loss) ≡ 0
+loss_inserts_none doc loss =
+    both_none (removal_drafts MOST_SPANS loss.places doc.cells) (tags (newline_left doc loss))
+    (deletes_none (parts_of MOST_SPANS (spans_in (stamps_at loss.places 0 doc.cells)))) (none (newline_left doc loss))
   where
     tags : Option TaggedCell → List Body
     tags o = unwrap_or (option_map (λ (cell : TaggedCell). newline_drafts cell.stamp (names_on cell.state)) o) []

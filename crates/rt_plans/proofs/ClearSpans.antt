@@ -11,9 +11,9 @@ use Rattle.rt_stamps.specs.declared.stamp.Span.{Span}
 use Rattle.rt_stamps.specs.declared.stamp.Stamp.{Stamp}
 use Rattle.rt_stamps.specs.Stamps.{is_same}
 use Rattle.rt_store.specs.Cells.{is_in_span}
-use Rattle.rt_store.specs.Spans.{each_next, is_among, is_clear_of, is_in_spans, is_span, last_stamp, next_stamp}
+use Rattle.rt_store.specs.Spans.{each_next, first_in_span, is_among, is_clear_of, is_in_spans, is_span, last_stamp, next_stamp}
 use Rattle.rt_store.proofs.Distinct.{split}
-use Rattle.rt_plans.specs.NamedSpans.{by_site, first_in_span, spans_in}
+use Rattle.rt_plans.specs.NamedSpans.{by_site, spans_in}
 use Rattle.rt_plans.proofs.NamedSpanLaws.{by_site_sorted, spans_forward, spans_hold, tail_next}
 use Rattle.rt_plans.proofs.SpanLaws.{clear_runs}
 

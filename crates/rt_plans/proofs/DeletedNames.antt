@@ -60,10 +60,10 @@ same_cells site count name on (c ∷ cs) = ap (λ l. c ∷ l) (same_cells site c
 pub none_drafted : (name : Word) (cells : List TaggedCell) → is_name name ≡ false → CellsNamed cells → tag_drafts_at MOST_SPANS everywhere false name cells ≡ []
 none_drafted name cells n h = ap (tag_drafts MOST_SPANS false name) (none_stamps name cells n h)
 
-pub none_tagged : (flat : DocValue) (name : Word) → is_name name ≡ false → CellsNamed flat.cells → with_tag_at flat everywhere false name ≡ flat
-none_tagged flat name n h = ap (with_tag flat name false) (none_stamps name flat.cells n h) ∙ (λ i. record flat { cells = same_cells flat.site flat.count name false flat.cells i; count = same i })
+pub none_tagged : (document : DocValue) (name : Word) → is_name name ≡ false → CellsNamed document.cells → with_tag_at document everywhere false name ≡ document
+none_tagged document name n h = ap (with_tag document name false) (none_stamps name document.cells n h) ∙ (λ i. record document { cells = same_cells document.site document.count name false document.cells i; count = same i })
   where
-    same : flat.count + 0 ≡ flat.count
+    same : document.count + 0 ≡ document.count
     same = omega arith
 
 -- ONE NAME
@@ -75,65 +75,65 @@ one_may site log name cells d f h =
     (λ e. one_may_be_made site log everywhere false name cells d f e)
     (λ e. subst (MayBeMade site log) (sym (none_drafted name cells e h)) tt)
 
-off_named : (flat : DocValue) (name : Word) → CellsNamed flat.cells → CellsNamed (with_tag_at flat everywhere false name).cells
-off_named flat name h =
+off_named : (document : DocValue) (name : Word) → CellsNamed document.cells → CellsNamed (with_tag_at document everywhere false name).cells
+off_named document name h =
     split (is_name name)
-    (λ e. all_tagged_named flat.site flat.count name false (changed_stamps name false (cells_at everywhere 0 flat.cells)) flat.cells e h)
-    (λ e. subst (λ (f : DocValue). CellsNamed f.cells) (sym (none_tagged flat name e h)) h)
+    (λ e. all_tagged_named document.site document.count name false (changed_stamps name false (cells_at everywhere 0 document.cells)) document.cells e h)
+    (λ e. subst (λ (f : DocValue). CellsNamed f.cells) (sym (none_tagged document name e h)) h)
 
-one_off : (site : ℕ) (log : List Operation) (flat : DocValue) (name : Word) → 0 < site → IsHistory log → IsDocument site log flat → (with_tag_at flat everywhere false name).count ≤ GREATEST_COUNT
-    → IsHistory (with_drafts site (tag_drafts_at MOST_SPANS everywhere false name flat.cells) log)
-    × IsDocument site (with_drafts site (tag_drafts_at MOST_SPANS everywhere false name flat.cells) log) (with_tag_at flat everywhere false name)
-one_off site log flat name p h doc l =
-    let named : CellsNamed flat.cells = subst CellsNamed (sym doc.cells) (every_named log h) in
+one_off : (site : ℕ) (log : List Operation) (document : DocValue) (name : Word) → 0 < site → IsHistory log → IsDocument site log document → (with_tag_at document everywhere false name).count ≤ GREATEST_COUNT
+    → IsHistory (with_drafts site (tag_drafts_at MOST_SPANS everywhere false name document.cells) log)
+    × IsDocument site (with_drafts site (tag_drafts_at MOST_SPANS everywhere false name document.cells) log) (with_tag_at document everywhere false name)
+one_off site log document name p h doc l =
+    let named : CellsNamed document.cells = subst CellsNamed (sym doc.cells) (every_named log h) in
     split (is_name name)
-    (λ e. one_made site log flat everywhere false name p h doc e l)
+    (λ e. one_made site log document everywhere false name p h doc e l)
     (λ e. (
-      subst (λ drafts. IsHistory (with_drafts site drafts log)) (sym (none_drafted name flat.cells e named)) h,
-      subst (λ (f : DocValue). IsDocument site (with_drafts site (tag_drafts_at MOST_SPANS everywhere false name flat.cells) log) f)
-          (sym (none_tagged flat name e named)) (subst (λ drafts. IsDocument site (with_drafts site drafts log) flat) (sym (none_drafted name flat.cells e named)) doc),
+      subst (λ drafts. IsHistory (with_drafts site drafts log)) (sym (none_drafted name document.cells e named)) h,
+      subst (λ (f : DocValue). IsDocument site (with_drafts site (tag_drafts_at MOST_SPANS everywhere false name document.cells) log) f)
+          (sym (none_tagged document name e named)) (subst (λ drafts. IsDocument site (with_drafts site drafts log) document) (sym (none_drafted name document.cells e named)) doc),
     ))
 
 -- SEVERAL
 
-all_may : (names : List Word) (site : ℕ) (log : List Operation) (flat : DocValue) → AreDistinct flat.cells → AreKnownCells log flat.cells → CellsNamed flat.cells → MayBeMade site log (tag_deletion_drafts MOST_SPANS flat names)
-all_may [] site log flat d f h = tt
-all_may (name ∷ names) site log flat d f h =
-    let one = tag_drafts_at MOST_SPANS everywhere false name flat.cells in
-    let off = with_tag_at flat everywhere false name in
+all_may : (names : List Word) (site : ℕ) (log : List Operation) (document : DocValue) → AreDistinct document.cells → AreKnownCells log document.cells → CellsNamed document.cells → MayBeMade site log (tag_deletion_drafts MOST_SPANS document names)
+all_may [] site log document d f h = tt
+all_may (name ∷ names) site log document d f h =
+    let one = tag_drafts_at MOST_SPANS everywhere false name document.cells in
+    let off = with_tag_at document everywhere false name in
     let next : DocValue = record off { tags = without name off.tags } in
-    let at : Bool → Type 0 = λ b. MayBeMade site log (cond b [] one ++ tag_deletion_drafts MOST_SPANS (cond b flat next) names) in
+    let at : Bool → Type 0 = λ b. MayBeMade site log (cond b [] one ++ tag_deletion_drafts MOST_SPANS (cond b document next) names) in
     split (bytes_eq name sel)
-    (λ e. subst at (sym e) (all_may names site log flat d f h))
+    (λ e. subst at (sym e) (all_may names site log document d f h))
     (λ e. subst at (sym e)
-    (may_append site one (tag_deletion_drafts MOST_SPANS next names) log (one_may site log name flat.cells d f h)
-    (all_may names site (with_drafts site one log) next (subst (IsDistinct is_same) (sym (tag_stamps flat everywhere false name)) d)
-    (known_later site one log next.cells (known_tagged log flat everywhere false name f)) (off_named flat name h))))
+    (may_append site one (tag_deletion_drafts MOST_SPANS next names) log (one_may site log name document.cells d f h)
+    (all_may names site (with_drafts site one log) next (subst (IsDistinct is_same) (sym (tag_stamps document everywhere false name)) d)
+    (known_later site one log next.cells (known_tagged log document everywhere false name f)) (off_named document name h))))
 
-pub deletions_may : (site : ℕ) (log : List Operation) (flat : DocValue) (names : List Word) → IsHistory log → IsDocument site log flat → MayBeMade site log (tag_deletion_drafts MOST_SPANS flat names)
-deletions_may site log flat names h doc =
-    all_may names site log flat (subst AreDistinct (sym doc.cells) (cells_distinct log h)) (known_cells log flat.cells h doc.cells) (subst CellsNamed (sym doc.cells) (every_named log h))
+pub deletions_may : (site : ℕ) (log : List Operation) (document : DocValue) (names : List Word) → IsHistory log → IsDocument site log document → MayBeMade site log (tag_deletion_drafts MOST_SPANS document names)
+deletions_may site log document names h doc =
+    all_may names site log document (subst AreDistinct (sym doc.cells) (cells_distinct log h)) (known_cells log document.cells h doc.cells) (subst CellsNamed (sym doc.cells) (every_named log h))
 
-all_made : (names : List Word) (site : ℕ) (log : List Operation) (flat : DocValue) → 0 < site → IsHistory log → IsDocument site log flat → (without_tags flat names).count ≤ GREATEST_COUNT
-    → IsDocument site (with_drafts site (tag_deletion_drafts MOST_SPANS flat names) log) (without_tags flat names)
-all_made [] site log flat p h doc l = doc
-all_made (name ∷ names) site log flat p h doc l =
-    let drafts = tag_drafts_at MOST_SPANS everywhere false name flat.cells in
-    let off = with_tag_at flat everywhere false name in
+all_made : (names : List Word) (site : ℕ) (log : List Operation) (document : DocValue) → 0 < site → IsHistory log → IsDocument site log document → (without_tags document names).count ≤ GREATEST_COUNT
+    → IsDocument site (with_drafts site (tag_deletion_drafts MOST_SPANS document names) log) (without_tags document names)
+all_made [] site log document p h doc l = doc
+all_made (name ∷ names) site log document p h doc l =
+    let drafts = tag_drafts_at MOST_SPANS everywhere false name document.cells in
+    let off = with_tag_at document everywhere false name in
     let next : DocValue = record off { tags = without name off.tags } in
-    let at : Bool → Type 0 = λ b. (without_tags (cond b flat next) names).count ≤ GREATEST_COUNT
-    → IsDocument site (with_drafts site (cond b [] drafts ++ tag_deletion_drafts MOST_SPANS (cond b flat next) names) log) (without_tags (cond b flat next) names) in
+    let at : Bool → Type 0 = λ b. (without_tags (cond b document next) names).count ≤ GREATEST_COUNT
+    → IsDocument site (with_drafts site (cond b [] drafts ++ tag_deletion_drafts MOST_SPANS (cond b document next) names) log) (without_tags (cond b document next) names) in
     split (bytes_eq name sel)
-    (λ e. subst at (sym e) (λ k. all_made names site log flat p h doc k) l)
+    (λ e. subst at (sym e) (λ k. all_made names site log document p h doc k) l)
     (λ e. subst at (sym e)
     (λ k.
     let first : off.count ≤ GREATEST_COUNT = omega (arith, k, all_without_grows names next) in
-    let one = one_off site log flat name p h doc first in
+    let one = one_off site log document name p h doc first in
     let after : IsDocument site (with_drafts site drafts log) next = record { cells = one.1.cells; site = one.1.site; count = one.1.count } in
     subst (λ log. IsDocument site log (without_tags next names)) (sym (drafts_append site drafts (tag_deletion_drafts MOST_SPANS next names) log))
     (all_made names site (with_drafts site drafts log) next p one.0 after k))
     l)
 
-pub deletions_made : (site : ℕ) (log : List Operation) (flat : DocValue) (names : List Word) → 0 < site → IsHistory log → IsDocument site log flat → (without_tags flat names).count ≤ GREATEST_COUNT
-    → IsDocument site (with_drafts site (tag_deletion_drafts MOST_SPANS flat names) log) (without_tags flat names)
-deletions_made site log flat names p h doc l = all_made names site log flat p h doc l
+pub deletions_made : (site : ℕ) (log : List Operation) (document : DocValue) (names : List Word) → 0 < site → IsHistory log → IsDocument site log document → (without_tags document names).count ≤ GREATEST_COUNT
+    → IsDocument site (with_drafts site (tag_deletion_drafts MOST_SPANS document names) log) (without_tags document names)
+deletions_made site log document names p h doc l = all_made names site log document p h doc l

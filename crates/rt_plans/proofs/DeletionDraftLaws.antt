@@ -70,10 +70,10 @@ gone_front r p (c ∷ cs) last g h =
     ∙ ap (λ l. old ∷ l) (gone_front r (p + 1) cs last g (ap r at ∙ h))
     ∙ sym (ap (λ l. l ++ last ∷ []) (cond-false c.gone (c ∷ gone_at r p cs) (old ∷ gone_at r (p + 1) cs) e)))
 
-pub still_ends : (flat : DocValue) (removed : ℕ → Bool) (front : List TaggedCell) (last : TaggedCell) → EndsAs flat front last → SparesLast removed (text_of flat.cells)
-    → EndsAs (without_places flat removed) (gone_at removed 0 front) last
-still_ends flat removed front last e s =
-    let n : length (text_of flat.cells) - 1 ≡ 0 + length (visible_of front) = omega (arith, length_ends flat front last e) in
+pub still_ends : (document : DocValue) (removed : ℕ → Bool) (front : List TaggedCell) (last : TaggedCell) → EndsAs document front last → SparesLast removed (text_of document.cells)
+    → EndsAs (without_places document removed) (gone_at removed 0 front) last
+still_ends document removed front last e s =
+    let n : length (text_of document.cells) - 1 ≡ 0 + length (visible_of front) = omega (arith, length_ends document front last e) in
     record {
       is = ap (gone_at removed 0) e.is ∙ gone_front removed 0 front last e.gone (ap removed (sym n) ∙ s);
       stamp = e.stamp;
@@ -90,7 +90,7 @@ stamps_gone r p (c ∷ cs) =
 -- THE WHOLE DELETION
 
 abbrev deletes_of : DocValue → Loss → List Body
-deletes_of flat loss = removal_drafts MOST_SPANS loss.places flat.cells
+deletes_of document loss = removal_drafts MOST_SPANS loss.places document.cells
 
 -- the Tags of the newline that stays
 abbrev tags_of : Option TaggedCell → List Body
@@ -100,67 +100,67 @@ abbrev left_by : DocValue → Option TaggedCell → DocValue
 left_by left o = unwrap_or (option_map (λ (cell : TaggedCell). bared left cell.stamp (names_on cell.state)) o) left
 
 -- it is known, and its tags are names
-newline_known : (site : ℕ) (log : List Operation) (flat : DocValue) (loss : Loss) (cell : TaggedCell) → IsHistory log → IsDocument site log flat → newline_left flat loss ≡ Some cell → IsKnown log cell.stamp
-newline_known site log flat loss cell h doc e = known_cells log flat.cells h doc.cells cell.stamp (newline_among flat loss cell e)
+newline_known : (site : ℕ) (log : List Operation) (document : DocValue) (loss : Loss) (cell : TaggedCell) → IsHistory log → IsDocument site log document → newline_left document loss ≡ Some cell → IsKnown log cell.stamp
+newline_known site log document loss cell h doc e = known_cells log document.cells h doc.cells cell.stamp (newline_among document loss cell e)
 
-pub document_named : (site : ℕ) (log : List Operation) (flat : DocValue) → IsHistory log → IsDocument site log flat → CellsNamed flat.cells
-document_named site log flat h doc = subst CellsNamed (sym doc.cells) (every_named log h)
+pub document_named : (site : ℕ) (log : List Operation) (document : DocValue) → IsHistory log → IsDocument site log document → CellsNamed document.cells
+document_named site log document h doc = subst CellsNamed (sym doc.cells) (every_named log h)
 
-newline_tags : (site : ℕ) (log : List Operation) (flat : DocValue) (loss : Loss) (cell : TaggedCell) → IsHistory log → IsDocument site log flat → newline_left flat loss ≡ Some cell
+newline_tags : (site : ℕ) (log : List Operation) (document : DocValue) (loss : Loss) (cell : TaggedCell) → IsHistory log → IsDocument site log document → newline_left document loss ≡ Some cell
     → list_all is_name (names_on cell.state) ≡ true
-newline_tags site log flat loss cell h doc e = newline_names flat loss cell (document_named site log flat h doc) e
+newline_tags site log document loss cell h doc e = newline_names document loss cell (document_named site log document h doc) e
 
-pub loss_may : (site : ℕ) (log : List Operation) (flat : DocValue) (loss : Loss) → IsHistory log → IsDocument site log flat → SparesLast loss.places (text_of flat.cells)
-    → MayBeMade site log (delete_drafts MOST_SPANS flat loss)
-loss_may site log flat loss h doc s =
-    may_append site deletes (tags_of (newline_left flat loss)) log (removal_may site log flat loss.places h doc s) (by (newline_left flat loss) refl)
+pub loss_may : (site : ℕ) (log : List Operation) (document : DocValue) (loss : Loss) → IsHistory log → IsDocument site log document → SparesLast loss.places (text_of document.cells)
+    → MayBeMade site log (delete_drafts MOST_SPANS document loss)
+loss_may site log document loss h doc s =
+    may_append site deletes (tags_of (newline_left document loss)) log (removal_may site log document loss.places h doc s) (by (newline_left document loss) refl)
   where
     deletes : List Body
-    deletes = deletes_of flat loss
+    deletes = deletes_of document loss
 
-    by : (o : Option TaggedCell) → newline_left flat loss ≡ o → MayBeMade site (with_drafts site deletes log) (tags_of o)
+    by : (o : Option TaggedCell) → newline_left document loss ≡ o → MayBeMade site (with_drafts site deletes log) (tags_of o)
     by None e = tt
     by (Some cell) e =
-        bared_may (names_on cell.state) site (with_drafts site deletes log) cell.stamp (newline_tags site log flat loss cell h doc e)
-        (still_known site deletes log cell.stamp (newline_known site log flat loss cell h doc e))
+        bared_may (names_on cell.state) site (with_drafts site deletes log) cell.stamp (newline_tags site log document loss cell h doc e)
+        (still_known site deletes log cell.stamp (newline_known site log document loss cell h doc e))
 
-pub loss_counted : (site : ℕ) (log : List Operation) (flat : DocValue) (loss : Loss) → IsHistory log → IsDocument site log flat
-    → greatest_last_count (with_drafts site (delete_drafts MOST_SPANS flat loss) log) ≡ (without_text flat loss).count
-loss_counted site log flat loss h doc =
-    ap greatest_last_count (drafts_append site deletes (tags_of (newline_left flat loss)) log) ∙ by (newline_left flat loss)
+pub loss_counted : (site : ℕ) (log : List Operation) (document : DocValue) (loss : Loss) → IsHistory log → IsDocument site log document
+    → greatest_last_count (with_drafts site (delete_drafts MOST_SPANS document loss) log) ≡ (without_text document loss).count
+loss_counted site log document loss h doc =
+    ap greatest_last_count (drafts_append site deletes (tags_of (newline_left document loss)) log) ∙ by (newline_left document loss)
   where
     deletes : List Body
-    deletes = deletes_of flat loss
+    deletes = deletes_of document loss
 
     left : DocValue
-    left = without_places flat loss.places
+    left = without_places document loss.places
 
     by : (o : Option TaggedCell) → greatest_last_count (with_drafts site (tags_of o) (with_drafts site deletes log)) ≡ (left_by left o).count
-    by None = removal_counted site log flat loss.places h doc
-    by (Some cell) = bared_counted (names_on cell.state) site (with_drafts site deletes log) left cell.stamp (sym (removal_counted site log flat loss.places h doc))
+    by None = removal_counted site log document loss.places h doc
+    by (Some cell) = bared_counted (names_on cell.state) site (with_drafts site deletes log) left cell.stamp (sym (removal_counted site log document loss.places h doc))
 
-pub loss_history : (site : ℕ) (log : List Operation) (flat : DocValue) (loss : Loss) → 0 < site → IsHistory log → IsDocument site log flat → SparesLast loss.places (text_of flat.cells)
-    → (without_text flat loss).count ≤ GREATEST_COUNT → IsHistory (with_drafts site (delete_drafts MOST_SPANS flat loss) log)
-loss_history site log flat loss p h doc s l =
-    let drafts = delete_drafts MOST_SPANS flat loss in
-    let fits : last_count_after (greatest_last_count log) drafts ≤ GREATEST_COUNT = omega (arith, all_count_on site drafts log, loss_counted site log flat loss h doc, l) in
-    (made site drafts log p h (drafts_for site log drafts (loss_may site log flat loss h doc s) fits)).history
+pub loss_history : (site : ℕ) (log : List Operation) (document : DocValue) (loss : Loss) → 0 < site → IsHistory log → IsDocument site log document → SparesLast loss.places (text_of document.cells)
+    → (without_text document loss).count ≤ GREATEST_COUNT → IsHistory (with_drafts site (delete_drafts MOST_SPANS document loss) log)
+loss_history site log document loss p h doc s l =
+    let drafts = delete_drafts MOST_SPANS document loss in
+    let fits : last_count_after (greatest_last_count log) drafts ≤ GREATEST_COUNT = omega (arith, all_count_on site drafts log, loss_counted site log document loss h doc, l) in
+    (made site drafts log p h (drafts_for site log drafts (loss_may site log document loss h doc s) fits)).history
 
-pub loss_made : (site : ℕ) (log : List Operation) (flat : DocValue) (loss : Loss) → 0 < site → IsHistory log → IsDocument site log flat → SparesLast loss.places (text_of flat.cells)
-    → (without_text flat loss).count ≤ GREATEST_COUNT → IsDocument site (with_drafts site (delete_drafts MOST_SPANS flat loss) log) (without_text flat loss)
-loss_made site log flat loss p h doc s l =
-    subst (λ set. IsDocument site set (without_text flat loss)) (sym (drafts_append site deletes (tags_of (newline_left flat loss)) log)) (by (newline_left flat loss) refl l)
+pub loss_made : (site : ℕ) (log : List Operation) (document : DocValue) (loss : Loss) → 0 < site → IsHistory log → IsDocument site log document → SparesLast loss.places (text_of document.cells)
+    → (without_text document loss).count ≤ GREATEST_COUNT → IsDocument site (with_drafts site (delete_drafts MOST_SPANS document loss) log) (without_text document loss)
+loss_made site log document loss p h doc s l =
+    subst (λ set. IsDocument site set (without_text document loss)) (sym (drafts_append site deletes (tags_of (newline_left document loss)) log)) (by (newline_left document loss) refl l)
   where
     deletes : List Body
-    deletes = deletes_of flat loss
+    deletes = deletes_of document loss
 
     left : DocValue
-    left = without_places flat loss.places
+    left = without_places document loss.places
 
-    by : (o : Option TaggedCell) → newline_left flat loss ≡ o → (left_by left o).count ≤ GREATEST_COUNT → IsDocument site (with_drafts site (tags_of o) (with_drafts site deletes log)) (left_by left o)
-    by None e k = (removal_made site log flat loss.places p h doc s k).document
+    by : (o : Option TaggedCell) → newline_left document loss ≡ o → (left_by left o).count ≤ GREATEST_COUNT → IsDocument site (with_drafts site (tags_of o) (with_drafts site deletes log)) (left_by left o)
+    by None e k = (removal_made site log document loss.places p h doc s k).document
     by (Some cell) e k =
         let few : left.count ≤ GREATEST_COUNT = omega (arith, k, bared_grows (names_on cell.state) left cell.stamp) in
-        let one = removal_made site log flat loss.places p h doc s few in
-        bared_made (names_on cell.state) site (with_drafts site deletes log) left cell.stamp p one.history one.document (newline_tags site log flat loss cell h doc e)
-        (still_known site deletes log cell.stamp (newline_known site log flat loss cell h doc e)) k
+        let one = removal_made site log document loss.places p h doc s few in
+        bared_made (names_on cell.state) site (with_drafts site deletes log) left cell.stamp p one.history one.document (newline_tags site log document loss cell h doc e)
+        (still_known site deletes log cell.stamp (newline_known site log document loss cell h doc e)) k

@@ -40,12 +40,12 @@ other_changed site count name on stamps other e (c ∷ cs) =
     (ap says_on (other_tag site count name on stamps other e c)) (stamp_kept site count name on stamps c) (other_changed site count name on stamps other e cs)
 
 -- another tag names the same characters afterwards
-pub other_still : (flat : DocValue) (name other : Word) → bytes_eq other name ≡ false
-    → changed_stamps other false (cells_at everywhere 0 (with_tag_at flat everywhere false name).cells) ≡ changed_stamps other false (cells_at everywhere 0 flat.cells)
-other_still flat name other e =
-    let stamps = changed_stamps name false (cells_at everywhere 0 flat.cells) in
-    ap (changed_stamps other false) (cells_at_changed (cell_with_tag flat.site flat.count name false stamps) (tagged_state flat.site flat.count name false stamps) everywhere 0 flat.cells)
-    ∙ other_changed flat.site flat.count name false stamps other e (cells_at everywhere 0 flat.cells)
+pub other_still : (document : DocValue) (name other : Word) → bytes_eq other name ≡ false
+    → changed_stamps other false (cells_at everywhere 0 (with_tag_at document everywhere false name).cells) ≡ changed_stamps other false (cells_at everywhere 0 document.cells)
+other_still document name other e =
+    let stamps = changed_stamps name false (cells_at everywhere 0 document.cells) in
+    ap (changed_stamps other false) (cells_at_changed (cell_with_tag document.site document.count name false stamps) (tagged_state document.site document.count name false stamps) everywhere 0 document.cells)
+    ∙ other_changed document.site document.count name false stamps other e (cells_at everywhere 0 document.cells)
 
 -- a tag that is on no visible character names none
 pub none_named : (cells : List TaggedCell) (name : Word) → All (λ c. is_on name c.state ≡ false) (visible_of cells) → changed_stamps name false (cells_at everywhere 0 cells) ≡ []
@@ -56,18 +56,18 @@ abbrev pub IsOff : Word → List TaggedCell → Type 0
 IsOff name cells = All (λ c. is_on name c.state ≡ false) (visible_of cells)
 
 -- a document that some tags were taken off
-pub record Turn (flat doc : DocValue) (seen : List Word) : Type 0 where
+pub record Turn (document doc : DocValue) (seen : List Word) : Type 0 where
   pub written : AreWritten doc.count doc.cells
   pub off : (name : Word) → is_listed name seen ≡ true → IsOff name doc.cells
-  pub absent : (name : Word) → IsOff name flat.cells → IsOff name doc.cells
-  pub same : (name : Word) → is_listed name seen ≡ false → changed_stamps name false (cells_at everywhere 0 doc.cells) ≡ changed_stamps name false (cells_at everywhere 0 flat.cells)
+  pub absent : (name : Word) → IsOff name document.cells → IsOff name doc.cells
+  pub same : (name : Word) → is_listed name seen ≡ false → changed_stamps name false (cells_at everywhere 0 doc.cells) ≡ changed_stamps name false (cells_at everywhere 0 document.cells)
 
 -- one tag more
-pub turn_more : (flat doc : DocValue) (seen : List Word) (name : Word) → bytes_eq name sel ≡ false → Turn flat doc seen → Turn flat (without_tag doc name) (name ∷ seen)
-turn_more flat doc seen name f h =
+pub turn_more : (document doc : DocValue) (seen : List Word) (name : Word) → bytes_eq name sel ≡ false → Turn document doc seen → Turn document (without_tag doc name) (name ∷ seen)
+turn_more document doc seen name f h =
     let off : DocValue = with_tag_at doc everywhere false name in
     let next : DocValue = record off { tags = without name off.tags } in
-    let turned : Turn flat next (name ∷ seen) = record {
+    let turned : Turn document next (name ∷ seen) = record {
       written = tag_written doc everywhere false name h.written;
       off = λ q e. split (bytes_eq q name)
           (λ t. subst (λ w. IsOff w next.cells) (sym ((bytes_eq-Decides q name).0 t)) (nowhere_on doc name h.written))
@@ -75,18 +75,18 @@ turn_more flat doc seen name f h =
       absent = λ q k. still_absent doc name q (h.absent q k);
       same = λ q e. let p = or_parts (bytes_eq q name) (is_listed q seen) e in other_still doc name q p.0 ∙ h.same q p.1;
     } in
-    subst (λ (d : DocValue). Turn flat d (name ∷ seen)) (sym (cond-false (bytes_eq name sel) doc next f)) turned
+    subst (λ (d : DocValue). Turn document d (name ∷ seen)) (sym (cond-false (bytes_eq name sel) doc next f)) turned
 
 -- a tag that is on no visible character, or `sel`
-pub turn_off : (flat doc : DocValue) (seen : List Word) (name : Word) → IsOff name doc.cells → Turn flat doc seen → Turn flat (without_tag doc name) seen
-turn_off flat doc seen name k h =
+pub turn_off : (document doc : DocValue) (seen : List Word) (name : Word) → IsOff name doc.cells → Turn document doc seen → Turn document (without_tag doc name) seen
+turn_off document doc seen name k h =
     let off : DocValue = with_tag_at doc everywhere false name in
     let next : DocValue = record off { tags = without name off.tags } in
     let same : record doc { tags = without name doc.tags } ≡ next = sym (ap (λ (d : DocValue). record d { tags = without name doc.tags }) (absent_tag doc name k)) in
-    let kept : Turn flat (record doc { tags = without name doc.tags }) seen = record { written = h.written; off = h.off; absent = h.absent; same = h.same } in
+    let kept : Turn document (record doc { tags = without name doc.tags }) seen = record { written = h.written; off = h.off; absent = h.absent; same = h.same } in
     split (bytes_eq name sel)
-    (λ t. subst (λ (d : DocValue). Turn flat d seen) (sym (cond-true (bytes_eq name sel) doc next t)) h)
-    (λ f. subst (λ (d : DocValue). Turn flat d seen) (same ∙ sym (cond-false (bytes_eq name sel) doc next f)) kept)
+    (λ t. subst (λ (d : DocValue). Turn document d seen) (sym (cond-true (bytes_eq name sel) doc next t)) h)
+    (λ f. subst (λ (d : DocValue). Turn document d seen) (same ∙ sym (cond-false (bytes_eq name sel) doc next f)) kept)
 
 -- its operations
 pub drafts_off : (most : ℕ) (doc : DocValue) (name : Word) (names : List Word) → tag_drafts most false name [] ≡ [] → IsOff name doc.cells
@@ -100,9 +100,9 @@ drafts_off most doc name names n k =
     (λ f. ap (λ l. l ++ rest) (cond-false (bytes_eq name sel) [] drafts f ∙ none))
 
 -- the operations of one that isn't off yet
-pub drafts_more : (most : ℕ) (flat doc : DocValue) (seen : List Word) (name : Word) (names : List Word) → bytes_eq name sel ≡ false → is_listed name seen ≡ false → Turn flat doc seen
-    → tag_deletion_drafts most doc (name ∷ names) ≡ tag_drafts most false name (changed_stamps name false (cells_at everywhere 0 flat.cells)) ++ tag_deletion_drafts most (without_tag doc name) names
-drafts_more most flat doc seen name names f new h =
+pub drafts_more : (most : ℕ) (document doc : DocValue) (seen : List Word) (name : Word) (names : List Word) → bytes_eq name sel ≡ false → is_listed name seen ≡ false → Turn document doc seen
+    → tag_deletion_drafts most doc (name ∷ names) ≡ tag_drafts most false name (changed_stamps name false (cells_at everywhere 0 document.cells)) ++ tag_deletion_drafts most (without_tag doc name) names
+drafts_more most document doc seen name names f new h =
     let drafts = tag_drafts most false name (changed_stamps name false (cells_at everywhere 0 doc.cells)) in
     let rest = tag_deletion_drafts most (without_tag doc name) names in
     ap (λ l. l ++ rest) (cond-false (bytes_eq name sel) [] drafts f ∙ ap (tag_drafts most false name) (h.same name new))
@@ -123,10 +123,10 @@ sel_off cells h =
     λ k d lt. shared_off (get_or (visible_of cells) k d).state (shared k d lt)
 
 -- `sel` is as if it was taken off
-sel_seen : (flat : DocValue) → AreWritten flat.count flat.cells → IsOff sel flat.cells → Turn flat flat (sel ∷ [])
-sel_seen flat h k = record {
+sel_seen : (document : DocValue) → AreWritten document.count document.cells → IsOff sel document.cells → Turn document document (sel ∷ [])
+sel_seen document h k = record {
   written = h;
-  off = λ name e. split (bytes_eq name sel) (λ t. subst (λ w. IsOff w flat.cells) (sym (same_name name sel t)) k) (λ n. absurd (cc (ap (λ b. b || false) (sym n) ∙ e)));
+  off = λ name e. split (bytes_eq name sel) (λ t. subst (λ w. IsOff w document.cells) (sym (same_name name sel t)) k) (λ n. absurd (cc (ap (λ b. b || false) (sym n) ∙ e)));
   absent = λ name l. l;
   same = λ name e. refl;
 }
@@ -137,35 +137,35 @@ either_way true false = refl
 either_way false true = refl
 either_way false false = refl
 
-seen_last : (flat doc : DocValue) (seen : List Word) (name : Word) → is_listed name seen ≡ false → Turn flat doc (name ∷ seen) → Turn flat doc (with_name name seen)
-seen_last flat doc seen name new h =
+seen_last : (document doc : DocValue) (seen : List Word) (name : Word) → is_listed name seen ≡ false → Turn document doc (name ∷ seen) → Turn document doc (with_name name seen)
+seen_last document doc seen name new h =
     let last : List Word = seen ++ name ∷ [] in
     let as_listed : (q : Word) → is_listed q last ≡ is_listed q (name ∷ seen) = λ q. list_any-append (bytes_eq q) seen (name ∷ []) ∙ either_way (is_listed q seen) (bytes_eq q name) in
-    let turned : Turn flat doc last = record { written = h.written; off = λ q e. h.off q (sym (as_listed q) ∙ e); absent = h.absent; same = λ q e. h.same q (sym (as_listed q) ∙ e) } in
-    subst (Turn flat doc) (sym (cond-false (is_listed name seen) seen last new)) turned
+    let turned : Turn document doc last = record { written = h.written; off = λ q e. h.off q (sym (as_listed q) ∙ e); absent = h.absent; same = λ q e. h.same q (sym (as_listed q) ∙ e) } in
+    subst (Turn document doc) (sym (cond-false (is_listed name seen) seen last new)) turned
 
 -- the operations so far and those of the names that are left, in the document that is left, are all
-pub record Stands (most : ℕ) (flat : DocValue) (seen : List Word) (done : List Body) (left names : List Word) : Type 0 where
+pub record Stands (most : ℕ) (document : DocValue) (seen : List Word) (done : List Body) (left names : List Word) : Type 0 where
   pub doc : DocValue
-  pub turn : Turn flat doc seen
+  pub turn : Turn document doc seen
   pub shared : is_listed sel seen ≡ true
-  pub drafts : done ++ tag_deletion_drafts most doc left ≡ tag_deletion_drafts most flat names
+  pub drafts : done ++ tag_deletion_drafts most doc left ≡ tag_deletion_drafts most document names
 
-pub stands_first : (most : ℕ) (flat : DocValue) (tags names : List Word) → AreWritten flat.count flat.cells → AreListed tags flat.cells → Stands most flat (sel ∷ []) [] names names
-stands_first most flat tags names h listed = record { doc = flat; turn = sel_seen flat h (sel_off flat.cells listed.shared); shared = refl; drafts = refl }
+pub stands_first : (most : ℕ) (document : DocValue) (tags names : List Word) → AreWritten document.count document.cells → AreListed tags document.cells → Stands most document (sel ∷ []) [] names names
+stands_first most document tags names h listed = record { doc = document; turn = sel_seen document h (sel_off document.cells listed.shared); shared = refl; drafts = refl }
 
-pub stands_more : (most : ℕ) (flat : DocValue) (seen : List Word) (done : List Body) (name : Word) (left names : List Word) → is_listed name seen ≡ false → Stands most flat seen done (name ∷ left) names
-    → Stands most flat (with_name name seen) (done ++ tag_drafts most false name (changed_stamps name false (cells_at everywhere 0 flat.cells))) left names
-stands_more most flat seen done name left names new h =
-    let more = tag_drafts most false name (changed_stamps name false (cells_at everywhere 0 flat.cells)) in
+pub stands_more : (most : ℕ) (document : DocValue) (seen : List Word) (done : List Body) (name : Word) (left names : List Word) → is_listed name seen ≡ false → Stands most document seen done (name ∷ left) names
+    → Stands most document (with_name name seen) (done ++ tag_drafts most false name (changed_stamps name false (cells_at everywhere 0 document.cells))) left names
+stands_more most document seen done name left names new h =
+    let more = tag_drafts most false name (changed_stamps name false (cells_at everywhere 0 document.cells)) in
     let other : bytes_eq name sel ≡ false = split (bytes_eq name sel) (λ t. absurd (both_ways (is_listed name seen) new (ap (λ n. is_listed n seen) (same_name name sel t) ∙ h.shared))) (λ f. f) in
     let last : List Word = seen ++ name ∷ [] in
     record {
       doc = without_tag h.doc name;
-      turn = seen_last flat (without_tag h.doc name) seen name new (turn_more flat h.doc seen name other h.turn);
+      turn = seen_last document (without_tag h.doc name) seen name new (turn_more document h.doc seen name other h.turn);
       shared = subst (λ l. is_listed sel l ≡ true) (sym (cond-false (is_listed name seen) seen last new))
           (list_any-append (bytes_eq sel) seen (name ∷ []) ∙ ap (λ b. b || is_listed sel (name ∷ [])) h.shared);
-      drafts = append_assoc done more (tag_deletion_drafts most (without_tag h.doc name) left) ∙ ap (λ l. done ++ l) (sym (drafts_more most flat h.doc seen name left other new h.turn)) ∙ h.drafts;
+      drafts = append_assoc done more (tag_deletion_drafts most (without_tag h.doc name) left) ∙ ap (λ l. done ++ l) (sym (drafts_more most document h.doc seen name left other new h.turn)) ∙ h.drafts;
     }
 
 unlisted : (b d : Bool) → (b && not d) ≡ false → d ≡ false → b ≡ false
@@ -173,15 +173,15 @@ unlisted true true h k = absurd (cc k)
 unlisted true false h k = h
 unlisted false d h k = refl
 
-pub stands_past : (most : ℕ) (flat : DocValue) (tags seen : List Word) (done : List Body) (name : Word) (left names : List Word) → tag_drafts most false name [] ≡ [] → AreListed tags flat.cells
-    → (is_listed name tags && not (is_listed name seen)) ≡ false → Stands most flat seen done (name ∷ left) names → Stands most flat seen done left names
-stands_past most flat tags seen done name left names none listed old h =
+pub stands_past : (most : ℕ) (document : DocValue) (tags seen : List Word) (done : List Body) (name : Word) (left names : List Word) → tag_drafts most false name [] ≡ [] → AreListed tags document.cells
+    → (is_listed name tags && not (is_listed name seen)) ≡ false → Stands most document seen done (name ∷ left) names → Stands most document seen done left names
+stands_past most document tags seen done name left names none listed old h =
     let off : IsOff name h.doc.cells = split (is_listed name seen)
     (λ t. h.turn.off name t)
-    (λ f. h.turn.absent name (among_listed tags flat.cells listed name (unlisted (is_listed name tags) (is_listed name seen) old f))) in
+    (λ f. h.turn.absent name (among_listed tags document.cells listed name (unlisted (is_listed name tags) (is_listed name seen) old f))) in
     record {
       doc = without_tag h.doc name;
-      turn = turn_off flat h.doc seen name off h.turn;
+      turn = turn_off document h.doc seen name off h.turn;
       shared = h.shared;
       drafts = ap (λ l. done ++ l) (sym (drafts_off most h.doc name left none off)) ∙ h.drafts;
     }

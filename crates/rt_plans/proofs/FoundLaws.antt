@@ -102,10 +102,10 @@ left_is_element log place h l =
 abbrev SomeLast : List TaggedCell → Type 0
 SomeLast cells = (front : List TaggedCell) × (last : TaggedCell) × HasLast cells front last
 
-tag_end : (flat : DocValue) (name : Word) (stamps : List Stamp) → SomeLast flat.cells → SomeLast (with_tag flat name false stamps).cells
-tag_end flat name stamps w =
-    let g = cell_with_tag flat.site flat.count name false stamps in
-    let change = tagged_state flat.site flat.count name false stamps w.1 in (
+tag_end : (document : DocValue) (name : Word) (stamps : List Stamp) → SomeLast document.cells → SomeLast (with_tag document name false stamps).cells
+tag_end document name stamps w =
+    let g = cell_with_tag document.site document.count name false stamps in
+    let change = tagged_state document.site document.count name false stamps w.1 in (
       map g w.0,
       g w.1,
       record {
@@ -115,43 +115,43 @@ tag_end flat name stamps w =
       },
     )
 
-bared_end : (names : List Word) (flat : DocValue) (stamp : Stamp) → SomeLast flat.cells → SomeLast (bared flat stamp names).cells
-bared_end [] flat stamp w = w
-bared_end (name ∷ names) flat stamp w = bared_end names (with_tag flat name false (stamp ∷ [])) stamp (tag_end flat name (stamp ∷ []) w)
+bared_end : (names : List Word) (document : DocValue) (stamp : Stamp) → SomeLast document.cells → SomeLast (bared document stamp names).cells
+bared_end [] document stamp w = w
+bared_end (name ∷ names) document stamp w = bared_end names (with_tag document name false (stamp ∷ [])) stamp (tag_end document name (stamp ∷ []) w)
 
-pub left_stamps : (flat : DocValue) (loss : Loss) → stamps_of (without_text flat loss).cells ≡ stamps_of flat.cells
-left_stamps flat loss =
-    loss_has (λ (left : DocValue). stamps_of left.cells ≡ stamps_of flat.cells) flat loss (stamps_gone loss.places 0 flat.cells)
-    (λ cell e. bared_stamps (names_on cell.state) (without_places flat loss.places) cell.stamp ∙ stamps_gone loss.places 0 flat.cells)
+pub left_stamps : (document : DocValue) (loss : Loss) → stamps_of (without_text document loss).cells ≡ stamps_of document.cells
+left_stamps document loss =
+    loss_has (λ (left : DocValue). stamps_of left.cells ≡ stamps_of document.cells) document loss (stamps_gone loss.places 0 document.cells)
+    (λ cell e. bared_stamps (names_on cell.state) (without_places document loss.places) cell.stamp ∙ stamps_gone loss.places 0 document.cells)
 
-left_end : (flat : DocValue) (loss : Loss) (front : List TaggedCell) (last : TaggedCell) → EndsAs flat front last → SparesLast loss.places (text_of flat.cells) → SomeLast (without_text flat loss).cells
-left_end flat loss front last e s =
-    let left = without_places flat loss.places in
-    let still = still_ends flat loss.places front last e s in
+left_end : (document : DocValue) (loss : Loss) (front : List TaggedCell) (last : TaggedCell) → EndsAs document front last → SparesLast loss.places (text_of document.cells) → SomeLast (without_text document loss).cells
+left_end document loss front last e s =
+    let left = without_places document loss.places in
+    let still = still_ends document loss.places front last e s in
     let end : SomeLast left.cells = (gone_at loss.places 0 front, last, record { is = still.is; stamp = still.stamp; gone = still.gone }) in
-    loss_has (λ (left : DocValue). SomeLast left.cells) flat loss end (λ cell k. bared_end (names_on cell.state) left cell.stamp end)
+    loss_has (λ (left : DocValue). SomeLast left.cells) document loss end (λ cell k. bared_end (names_on cell.state) left cell.stamp end)
 
-pub left_stays : (site : ℕ) (log : List Operation) (flat : DocValue) (loss : Loss) (place : ℕ) → IsHistory log → IsDocument site log flat → SparesLast loss.places (text_of flat.cells)
-    → place < length (text_of (without_text flat loss).cells) → IsElement (with_drafts site (delete_drafts MOST_SPANS flat loss) log) (left_stamp (without_text flat loss).cells place)
-left_stays site log flat loss place h doc spared l =
-    let cells = (without_text flat loss).cells in
-    let drafts = delete_drafts MOST_SPANS flat loss in
-    let stamps = left_stamps flat loss in
-    let w = left_end flat loss (cells_last log h).0 (cell_in log final_character) (document_ends site log flat h doc) spared in
+pub left_stays : (site : ℕ) (log : List Operation) (document : DocValue) (loss : Loss) (place : ℕ) → IsHistory log → IsDocument site log document → SparesLast loss.places (text_of document.cells)
+    → place < length (text_of (without_text document loss).cells) → IsElement (with_drafts site (delete_drafts MOST_SPANS document loss) log) (left_stamp (without_text document loss).cells place)
+left_stays site log document loss place h doc spared l =
+    let cells = (without_text document loss).cells in
+    let drafts = delete_drafts MOST_SPANS document loss in
+    let stamps = left_stamps document loss in
+    let w = left_end document loss (cells_last log h).0 (cell_in log final_character) (document_ends site log document h doc) spared in
     let distinct : AreDistinct cells = subst (IsDistinct is_same) (sym stamps) (subst AreDistinct (sym doc.cells) (cells_distinct log h)) in
     left_known (with_drafts site drafts log) cells w.0 w.1 place w.2 distinct
-    (λ s k. known_later site drafts log flat.cells (known_cells log flat.cells h doc.cells) s (ap (λ l. is_among l s) (sym stamps) ∙ k)) l
+    (λ s k. known_later site drafts log document.cells (known_cells log document.cells h doc.cells) s (ap (λ l. is_among l s) (sym stamps) ∙ k)) l
 
-pub tags_left_are : (site : ℕ) (log : List Operation) (flat : DocValue) (loss : Loss) (place : ℕ) (right : Option TaggedCell) (pieces : List Piece) (start : Insertion)
-    → IsHistory log → IsDocument site log flat → HaveTexts pieces → start.cells ≡ []
-    → AreTagNames (tags_between (on_left (left_neighbour (visible_of (without_text flat loss).cells) place) (with_pieces site pieces start).cells) right)
-tags_left_are site log flat loss place right pieces start h doc t none =
-    let named = document_named site log flat h doc in
-    let left : CellsNamed (without_places flat loss.places).cells = gone_named loss.places 0 flat.cells named in
-    let all : CellsNamed (without_text flat loss).cells =
-    loss_has (λ (left : DocValue). CellsNamed left.cells) flat loss left
-    (λ cell e. bared_named (names_on cell.state) (without_places flat loss.places) cell.stamp (newline_names flat loss cell named e) left) in
-    tags_between_in site (without_text flat loss).cells place right pieces start all t none
+pub tags_left_are : (site : ℕ) (log : List Operation) (document : DocValue) (loss : Loss) (place : ℕ) (right : Option TaggedCell) (pieces : List Piece) (start : Insertion)
+    → IsHistory log → IsDocument site log document → HaveTexts pieces → start.cells ≡ []
+    → AreTagNames (tags_between (on_left (left_neighbour (visible_of (without_text document loss).cells) place) (with_pieces site pieces start).cells) right)
+tags_left_are site log document loss place right pieces start h doc t none =
+    let named = document_named site log document h doc in
+    let left : CellsNamed (without_places document loss.places).cells = gone_named loss.places 0 document.cells named in
+    let all : CellsNamed (without_text document loss).cells =
+    loss_has (λ (left : DocValue). CellsNamed left.cells) document loss left
+    (λ cell e. bared_named (names_on cell.state) (without_places document loss.places) cell.stamp (newline_names document loss cell named e) left) in
+    tags_between_in site (without_text document loss).cells place right pieces start all t none
 
 -- CHARACTERS
 

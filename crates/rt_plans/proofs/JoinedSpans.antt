@@ -9,9 +9,9 @@ use Rattle.std.proofs.lemmas.List.{drop_all}
 use Rattle.rt_stamps.specs.declared.stamp.Span.{Span}
 use Rattle.rt_stamps.specs.declared.stamp.Stamp.{Stamp}
 use Rattle.rt_store.specs.Cells.{is_in_span}
-use Rattle.rt_store.specs.Spans.{each_next, is_clear_of, is_in_spans, is_span}
+use Rattle.rt_store.specs.Spans.{each_next, first_in_span, is_clear_of, is_in_spans, is_span}
 use Rattle.rt_store.proofs.Distinct.{split}
-use Rattle.rt_plans.specs.NamedSpans.{begins_by, first_in_span}
+use Rattle.rt_plans.specs.NamedSpans.{begins_by}
 use Rattle.rt_plans.proofs.SpanLaws.{Begins, each_next_from}
 
 -- sorted spans after one that is still open: those that aren't clear of it become one with it

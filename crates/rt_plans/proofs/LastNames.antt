@@ -11,7 +11,7 @@ use Rattle.rt_stamps.specs.declared.limits.TheConstants.{MOST_CHARACTERS, MOST_T
 use Rattle.rt_stamps.specs.declared.stamp.TheConstants.{ROOT}
 use Rattle.rt_stamps.specs.Names.{name_order}
 use Rattle.rt_stamps.specs.Words.{Word}
-use Rattle.rt_tags.specs.States.{IsByName, Write, above, below, is_kept, names_on, write_of, written}
+use Rattle.rt_tags.specs.States.{IsByName, Write, writes_above, writes_below, is_kept, names_on, write_of, written}
 use Rattle.rt_tags.specs.Tags.{sel}
 use Rattle.rt_tags.specs.Writers.{listed_by, state_after}
 use Rattle.rt_tags.proofs.Commuting.{back_other}
@@ -31,17 +31,17 @@ none_before : (w : Write) (front : List Write) → AllByRecursion (λ v. name_or
 none_before w [] h = refl
 none_before w (v ∷ front) h = ap (λ b. cond b (Some v) (write_of w.name front)) (unequal v.name w.name h.0) ∙ none_before w front h.1
 
-all_below : (w : Write) (front : List Write) → AllByRecursion (λ v. name_order v.name w.name ≡ Less) front → below w.name front ≡ front
+all_below : (w : Write) (front : List Write) → AllByRecursion (λ v. name_order v.name w.name ≡ Less) front → writes_below w.name front ≡ front
 all_below w [] h = refl
-all_below w (v ∷ front) h = ap (λ o. cond (is_lt o) (v ∷ below w.name front) (below w.name front)) h.0 ∙ ap (λ l. v ∷ l) (all_below w front h.1)
+all_below w (v ∷ front) h = ap (λ o. cond (is_lt o) (v ∷ writes_below w.name front) (writes_below w.name front)) h.0 ∙ ap (λ l. v ∷ l) (all_below w front h.1)
 
-none_over : (w : Write) (front : List Write) → AllByRecursion (λ v. name_order v.name w.name ≡ Less) front → above w.name front ≡ []
+none_over : (w : Write) (front : List Write) → AllByRecursion (λ v. name_order v.name w.name ≡ Less) front → writes_above w.name front ≡ []
 none_over w [] h = refl
-none_over w (v ∷ front) h = ap (λ o. cond (is_gt o) (v ∷ above w.name front) (above w.name front)) h.0 ∙ none_over w front h.1
+none_over w (v ∷ front) h = ap (λ o. cond (is_gt o) (v ∷ writes_above w.name front) (writes_above w.name front)) h.0 ∙ none_over w front h.1
 
 written_last : (w : Write) (front : List Write) → AllByRecursion (λ v. name_order v.name w.name ≡ Less) front → written w front ≡ front ++ w ∷ []
 written_last w front h =
-    ap (λ o. cond (is_kept o w) front (below w.name front ++ w ∷ above w.name front)) (none_before w front h)
+    ap (λ o. cond (is_kept o w) front (writes_below w.name front ++ w ∷ writes_above w.name front)) (none_before w front h)
     ∙ (λ i. all_below w front h i ++ w ∷ none_over w front h i)
 
 front_less : (front : List Write) (w : Write) (ws : List Write) → IsByName (front ++ w ∷ ws) → AllByRecursion (λ v. name_order v.name w.name ≡ Less) front

@@ -10,7 +10,7 @@ use Rattle.rt_stamps.specs.Words.{Word}
 use Rattle.rt_stamps.proofs.Order.{same_refl}
 use Rattle.rt_store.specs.declared.cell.Cell.{Cell}
 use Rattle.rt_store.specs.Cells.{visible_of, with_state, stamps_of}
-use Rattle.rt_tags.specs.States.{Write, above, below, is_on, is_settled, names_on, written}
+use Rattle.rt_tags.specs.States.{Write, writes_above, writes_below, is_on, is_settled, names_on, written}
 use Rattle.rt_tags.specs.Tags.{IsName, sel, is_listed, with_name, without}
 use Rattle.rt_tags.proofs.Places.{split, same_name, name_itself}
 use Rattle.rt_plans.specs.TagWrites.{listed_if, without_tag, without_tags, is_changed, changed_stamps, tag_write, cell_with_tag, with_tag_at}
@@ -57,11 +57,11 @@ more_names name tags h k = by (is_listed name tags)
 pub shared_written : (w : Write) (state : List Write) → bytes_eq w.name sel ≡ false → IsShared state → IsShared (written w state)
 shared_written w state e h = by (is_settled w state)
   where
-    by : (b : Bool) → IsShared (cond b state (below w.name state ++ w ∷ above w.name state))
+    by : (b : Bool) → IsShared (cond b state (writes_below w.name state ++ w ∷ writes_above w.name state))
     by true = h
     by false =
         let Q : Write → Type 0 = λ v. bytes_eq v.name sel ≡ false in
-        All-append Q (below w.name state) (w ∷ above w.name state) (All-filter _ Q state h) (All-cons Q w (above w.name state) e (All-filter _ Q state h))
+        All-append Q (writes_below w.name state) (w ∷ writes_above w.name state) (All-filter _ Q state h) (All-cons Q w (writes_above w.name state) e (All-filter _ Q state h))
 
 pub shared_tagged : (site count : ℕ) (name : Word) (on : Bool) (stamps : List Stamp) → bytes_eq name sel ≡ false → (cell : TaggedCell) → IsShared cell.state → IsShared (cell_with_tag site count name on stamps cell).state
 shared_tagged site count name on stamps e cell h = by (is_among stamps cell.stamp)
@@ -70,58 +70,58 @@ shared_tagged site count name on stamps e cell h = by (is_among stamps cell.stam
     by true = shared_written (tag_write site count name on stamps cell.stamp) cell.state e h
     by false = h
 
-tag_shared : (flat : DocValue) (places : ℕ → Bool) (on : Bool) (name : Word) → bytes_eq name sel ≡ false → All (λ c. IsShared c.state) flat.cells → All (λ c. IsShared c.state) (with_tag_at flat places on name).cells
-tag_shared flat places on name e h =
-    let stamps = changed_stamps name on (cells_at places 0 flat.cells) in
-    all_map (λ c. IsShared c.state) (λ c. IsShared c.state) (cell_with_tag flat.site flat.count name on stamps) (shared_tagged flat.site flat.count name on stamps e) flat.cells h
+tag_shared : (doc : DocValue) (places : ℕ → Bool) (on : Bool) (name : Word) → bytes_eq name sel ≡ false → All (λ c. IsShared c.state) doc.cells → All (λ c. IsShared c.state) (with_tag_at doc places on name).cells
+tag_shared doc places on name e h =
+    let stamps = changed_stamps name on (cells_at places 0 doc.cells) in
+    all_map (λ c. IsShared c.state) (λ c. IsShared c.state) (cell_with_tag doc.site doc.count name on stamps) (shared_tagged doc.site doc.count name on stamps e) doc.cells h
 
 -- so the tags that are on are others
 pub shared_names_on : (state : List Write) → IsShared state → All (λ name. bytes_eq name sel ≡ false) (names_on state)
 shared_names_on state h = All-map (λ name. bytes_eq name sel ≡ false) (λ w. w.name) (filter (λ w. w.on) state) (All-filter (λ w. w.on) (λ (w : Write). bytes_eq w.name sel ≡ false) state h)
 
 -- what is so of the visible cells, after a tag was written
-pub visible_after : (P Q : TaggedCell → Type 0) (flat : DocValue) (places : ℕ → Bool) (on : Bool) (name : Word)
-    → ((cell : TaggedCell) → P cell → Q (cell_with_tag flat.site flat.count name on (changed_stamps name on (cells_at places 0 flat.cells)) cell))
-    → All P (visible_of flat.cells) → All Q (visible_of (with_tag_at flat places on name).cells)
-visible_after P Q flat places on name f h =
-    let stamps = changed_stamps name on (cells_at places 0 flat.cells) in
-    let g : TaggedCell → TaggedCell = cell_with_tag flat.site flat.count name on stamps in
-    subst (All Q) (sym (visible_changed g (tagged_state flat.site flat.count name on stamps) flat.cells)) (All-map Q g (visible_of flat.cells) (λ k d lt. f (get_or (visible_of flat.cells) k d) (h k d lt)))
+pub visible_after : (P Q : TaggedCell → Type 0) (doc : DocValue) (places : ℕ → Bool) (on : Bool) (name : Word)
+    → ((cell : TaggedCell) → P cell → Q (cell_with_tag doc.site doc.count name on (changed_stamps name on (cells_at places 0 doc.cells)) cell))
+    → All P (visible_of doc.cells) → All Q (visible_of (with_tag_at doc places on name).cells)
+visible_after P Q doc places on name f h =
+    let stamps = changed_stamps name on (cells_at places 0 doc.cells) in
+    let g : TaggedCell → TaggedCell = cell_with_tag doc.site doc.count name on stamps in
+    subst (All Q) (sym (visible_changed g (tagged_state doc.site doc.count name on stamps) doc.cells)) (All-map Q g (visible_of doc.cells) (λ k d lt. f (get_or (visible_of doc.cells) k d) (h k d lt)))
 
 -- a tag that is put on is listed
-pub on_listed : (flat : DocValue) (places : ℕ → Bool) (name : Word) → IsName name → bytes_eq name sel ≡ false → AreListed flat.tags flat.cells → AreListed (with_name name flat.tags) (with_tag_at flat places true name).cells
-on_listed flat places name h e listed =
-    let stamps = changed_stamps name true (cells_at places 0 flat.cells) in
+pub on_listed : (doc : DocValue) (places : ℕ → Bool) (name : Word) → IsName name → bytes_eq name sel ≡ false → AreListed doc.tags doc.cells → AreListed (with_name name doc.tags) (with_tag_at doc places true name).cells
+on_listed doc places name h e listed =
+    let stamps = changed_stamps name true (cells_at places 0 doc.cells) in
     record {
-      each = visible_after (HasListed flat.tags) (HasListed (with_name name flat.tags)) flat places true name
-          (λ cell k q on. elim (tagged_on flat.site flat.count name true stamps q cell on) [
-            | inl before ↦ more_listed q name flat.tags (k q before)
-            | inr put ↦ new_listed q name flat.tags put.0
+      each = visible_after (HasListed doc.tags) (HasListed (with_name name doc.tags)) doc places true name
+          (λ cell k q on. elim (tagged_on doc.site doc.count name true stamps q cell on) [
+            | inl before ↦ more_listed q name doc.tags (k q before)
+            | inr put ↦ new_listed q name doc.tags put.0
           ]) listed.each;
-      sel = more_listed sel name flat.tags listed.sel;
-      names = more_names name flat.tags h listed.names;
-      shared = tag_shared flat places true name e listed.shared;
+      sel = more_listed sel name doc.tags listed.sel;
+      names = more_names name doc.tags h listed.names;
+      shared = tag_shared doc places true name e listed.shared;
     }
 
 -- where a tag is taken off, what is listed stays enough
-pub off_listed : (flat : DocValue) (places : ℕ → Bool) (name : Word) (tags : List Word) → bytes_eq name sel ≡ false → AreListed tags flat.cells → AreListed tags (with_tag_at flat places false name).cells
-off_listed flat places name tags e listed =
-    let stamps = changed_stamps name false (cells_at places 0 flat.cells) in
+pub off_listed : (doc : DocValue) (places : ℕ → Bool) (name : Word) (tags : List Word) → bytes_eq name sel ≡ false → AreListed tags doc.cells → AreListed tags (with_tag_at doc places false name).cells
+off_listed doc places name tags e listed =
+    let stamps = changed_stamps name false (cells_at places 0 doc.cells) in
     record {
-      each = visible_after (HasListed tags) (HasListed tags) flat places false name
-          (λ cell k q on. elim (tagged_on flat.site flat.count name false stamps q cell on) [
+      each = visible_after (HasListed tags) (HasListed tags) doc places false name
+          (λ cell k q on. elim (tagged_on doc.site doc.count name false stamps q cell on) [
             | inl before ↦ k q before
             | inr put ↦ absurd (both_ways false refl put.1)
           ]) listed.each;
       sel = listed.sel;
       names = listed.names;
-      shared = tag_shared flat places false name e listed.shared;
+      shared = tag_shared doc places false name e listed.shared;
     }
 
-pub written_listed : (on : Bool) (flat : DocValue) (places : ℕ → Bool) (name : Word) → IsName name → AreListed flat.tags flat.cells
-    → bytes_eq name sel ≡ false → AreListed (listed_if on name (with_tag_at flat places on name)).tags (listed_if on name (with_tag_at flat places on name)).cells
-written_listed true flat places name h listed e = on_listed flat places name h e listed
-written_listed false flat places name h listed e = off_listed flat places name flat.tags e listed
+pub written_listed : (on : Bool) (doc : DocValue) (places : ℕ → Bool) (name : Word) → IsName name → AreListed doc.tags doc.cells
+    → bytes_eq name sel ≡ false → AreListed (listed_if on name (with_tag_at doc places on name)).tags (listed_if on name (with_tag_at doc places on name)).cells
+written_listed true doc places name h listed e = on_listed doc places name h e listed
+written_listed false doc places name h listed e = off_listed doc places name doc.tags e listed
 
 -- A TAG TAKEN OFF EVERYWHERE
 
@@ -148,18 +148,18 @@ changed_among name on (x ∷ xs) =
     (λ k d lt e. among_more (is_changed name on x) x (filter (is_changed name on) xs) (get_or xs k d).stamp (changed_among name on xs k d lt e))
 
 -- no character has it then
-pub nowhere_on : (flat : DocValue) (name : Word) → AreWritten flat.count flat.cells → All (λ c. is_on name c.state ≡ false) (visible_of (with_tag_at flat everywhere false name).cells)
-nowhere_on flat name known =
-    let stamps = changed_stamps name false (cells_at everywhere 0 flat.cells) in
-    let P : TaggedCell → Type 0 = λ c. IsWritten flat.count c.state × (is_on name c.state ≡ true → is_among stamps c.stamp ≡ true) in
-    let written_each : All (λ (c : TaggedCell). IsWritten flat.count c.state) (visible_of flat.cells) = All-filter (λ c. not c.gone) (λ (c : TaggedCell). IsWritten flat.count c.state) flat.cells known in
-    let among : All (λ (c : TaggedCell). is_on name c.state ≡ true → is_among stamps c.stamp ≡ true) (visible_of flat.cells) =
-    λ k d lt e. ap (λ l. is_among (changed_stamps name false l) (get_or (visible_of flat.cells) k d).stamp) (every_cell 0 flat.cells) ∙ changed_among name false (visible_of flat.cells) k d lt e in
-    visible_after P (λ c. is_on name c.state ≡ false) flat everywhere false name
+pub nowhere_on : (doc : DocValue) (name : Word) → AreWritten doc.count doc.cells → All (λ c. is_on name c.state ≡ false) (visible_of (with_tag_at doc everywhere false name).cells)
+nowhere_on doc name known =
+    let stamps = changed_stamps name false (cells_at everywhere 0 doc.cells) in
+    let P : TaggedCell → Type 0 = λ c. IsWritten doc.count c.state × (is_on name c.state ≡ true → is_among stamps c.stamp ≡ true) in
+    let written_each : All (λ (c : TaggedCell). IsWritten doc.count c.state) (visible_of doc.cells) = All-filter (λ c. not c.gone) (λ (c : TaggedCell). IsWritten doc.count c.state) doc.cells known in
+    let among : All (λ (c : TaggedCell). is_on name c.state ≡ true → is_among stamps c.stamp ≡ true) (visible_of doc.cells) =
+    λ k d lt e. ap (λ l. is_among (changed_stamps name false l) (get_or (visible_of doc.cells) k d).stamp) (every_cell 0 doc.cells) ∙ changed_among name false (visible_of doc.cells) k d lt e in
+    visible_after P (λ c. is_on name c.state ≡ false) doc everywhere false name
     (λ cell p. split (is_among stamps cell.stamp)
-    (λ t. ap (λ (c : TaggedCell). is_on name c.state) (cond-true (is_among stamps cell.stamp) (with_state (written (tag_write flat.site flat.count name false stamps cell.stamp) cell.state) cell) cell t)
-    ∙ written_as flat.count (tag_write flat.site flat.count name false stamps cell.stamp) cell.state p.0 (omega arith))
-    (λ f. ap (λ (c : TaggedCell). is_on name c.state) (cond-false (is_among stamps cell.stamp) (with_state (written (tag_write flat.site flat.count name false stamps cell.stamp) cell.state) cell) cell f)
+    (λ t. ap (λ (c : TaggedCell). is_on name c.state) (cond-true (is_among stamps cell.stamp) (with_state (written (tag_write doc.site doc.count name false stamps cell.stamp) cell.state) cell) cell t)
+    ∙ written_as doc.count (tag_write doc.site doc.count name false stamps cell.stamp) cell.state p.0 (omega arith))
+    (λ f. ap (λ (c : TaggedCell). is_on name c.state) (cond-false (is_among stamps cell.stamp) (with_state (written (tag_write doc.site doc.count name false stamps cell.stamp) cell.state) cell) cell f)
     ∙ split (is_on name cell.state) (λ e. absurd (both_ways (is_among stamps cell.stamp) f (p.1 e))) (λ e. e)))
     (λ k d lt. (written_each k d lt, among k d lt))
 
@@ -175,19 +175,19 @@ gone_listed name tags cells other none listed = record {
 }
 
 -- what is so of a document stays so where a tag is deleted
-pub record StaysTagged (flat : DocValue) : Type 0 where
-  pub listed : AreListed flat.tags flat.cells
-  pub known : AreWritten flat.count flat.cells
+pub record StaysTagged (doc : DocValue) : Type 0 where
+  pub listed : AreListed doc.tags doc.cells
+  pub known : AreWritten doc.count doc.cells
 
-without_stays : (flat : DocValue) (name : Word) → StaysTagged flat → StaysTagged (without_tag flat name)
-without_stays flat name h =
+without_stays : (doc : DocValue) (name : Word) → StaysTagged doc → StaysTagged (without_tag doc name)
+without_stays doc name h =
     split (bytes_eq name sel)
-    (λ t. subst StaysTagged (sym (cond-true (bytes_eq name sel) flat _ t)) h)
-    (λ f. subst StaysTagged (sym (cond-false (bytes_eq name sel) flat _ f)) (record {
-      listed = gone_listed name flat.tags (with_tag_at flat everywhere false name).cells f (nowhere_on flat name h.known) (off_listed flat everywhere name flat.tags f h.listed);
-      known = tag_written flat everywhere false name h.known;
+    (λ t. subst StaysTagged (sym (cond-true (bytes_eq name sel) doc _ t)) h)
+    (λ f. subst StaysTagged (sym (cond-false (bytes_eq name sel) doc _ f)) (record {
+      listed = gone_listed name doc.tags (with_tag_at doc everywhere false name).cells f (nowhere_on doc name h.known) (off_listed doc everywhere name doc.tags f h.listed);
+      known = tag_written doc everywhere false name h.known;
     }))
 
-pub all_without_stays : (names : List Word) (flat : DocValue) → StaysTagged flat → StaysTagged (without_tags flat names)
-all_without_stays [] flat h = h
-all_without_stays (name ∷ names) flat h = all_without_stays names (without_tag flat name) (without_stays flat name h)
+pub all_without_stays : (names : List Word) (doc : DocValue) → StaysTagged doc → StaysTagged (without_tags doc names)
+all_without_stays [] doc h = h
+all_without_stays (name ∷ names) doc h = all_without_stays names (without_tag doc name) (without_stays doc name h)

@@ -13,10 +13,10 @@ use Rattle.rt_stamps.specs.declared.stamp.Stamp.{Stamp}
 use Rattle.rt_stamps.specs.Stamps.{is_same}
 use Rattle.rt_stamps.proofs.Order.{same_from_true}
 use Rattle.rt_store.specs.Cells.{is_in_span}
-use Rattle.rt_store.specs.Spans.{each_next, is_span, precedes, next_stamp, is_in_spans, is_among}
+use Rattle.rt_store.specs.Spans.{each_next, first_in_span, is_among, is_in_spans, is_span, next_stamp, precedes}
 use Rattle.rt_store.proofs.Distinct.{split, first_apart, others_distinct}
 use Rattle.rt_stamps.specs.Spans.{span_of}
-use Rattle.rt_plans.specs.NamedSpans.{put_by_site, by_site, first_in_span, attached, consecutive_spans, spans_in, parts_for, first_parts}
+use Rattle.rt_plans.specs.NamedSpans.{put_by_site, by_site, attached, consecutive_spans, spans_in, parts_for, first_parts}
 use Rattle.rt_plans.specs.Removals.{span_count}
 use Rattle.rt_plans.specs.TagWrites.{spans_before}
 use Rattle.rt_plans.proofs.SpanLaws.{Begins, all_after, begins_attached, counted_alike, counted_runs, forward_runs, held_runs, joined_span, none_between, not_next, one_held, one_span, self_not_next}

@@ -107,21 +107,21 @@ all_still_on site count name on stamps cell (q ∷ names) n h =
 
 -- ALL TAGS
 
-one_each : (m : ℕ) (names : List Word) (flat : DocValue) (cell : TaggedCell) → cells_at (λ p. p == m) 0 flat.cells ≡ cell ∷ [] → AllByRecursion (λ q. is_on q cell.state ≡ true) names → HaveNoRepeats names
-    → (tags_drafts_at MOST_SPANS flat (λ p. p == m) false names ≡ newline_drafts cell.stamp names) × (with_tags_at flat (λ p. p == m) false names ≡ bared flat cell.stamp names)
-one_each m [] flat cell h on once = (refl, refl)
-one_each m (name ∷ names) flat cell h on once =
+one_each : (m : ℕ) (names : List Word) (document : DocValue) (cell : TaggedCell) → cells_at (λ p. p == m) 0 document.cells ≡ cell ∷ [] → AllByRecursion (λ q. is_on q cell.state ≡ true) names → HaveNoRepeats names
+    → (tags_drafts_at MOST_SPANS document (λ p. p == m) false names ≡ newline_drafts cell.stamp names) × (with_tags_at document (λ p. p == m) false names ≡ bared document cell.stamp names)
+one_each m [] document cell h on once = (refl, refl)
+one_each m (name ∷ names) document cell h on once =
     let r : ℕ → Bool = λ p. p == m in
-    let stamps = changed_stamps name false (cells_at r 0 flat.cells) in
+    let stamps = changed_stamps name false (cells_at r 0 document.cells) in
     let named : stamps ≡ cell.stamp ∷ [] = ap (changed_stamps name false) h ∙ changed_one name cell on.0 in
-    let g = cell_with_tag flat.site flat.count name false stamps in
-    let change = tagged_state flat.site flat.count name false stamps in
-    let after : cells_at r 0 (with_tag_at flat r false name).cells ≡ g cell ∷ [] = cells_at_changed g change r 0 flat.cells ∙ ap (map g) h in
+    let g = cell_with_tag document.site document.count name false stamps in
+    let change = tagged_state document.site document.count name false stamps in
+    let after : cells_at r 0 (with_tag_at document r false name).cells ≡ g cell ∷ [] = cells_at_changed g change r 0 document.cells ∙ ap (map g) h in
     let same : (g cell).stamp ≡ cell.stamp = ap (λ (c : TaggedCell). c.stamp) (change cell) in
-    let rest = one_each m names (with_tag_at flat r false name) (g cell) after (all_still_on flat.site flat.count name false stamps cell names once.0 on.1) once.1 in
-    let drafts : tags_drafts_at MOST_SPANS (with_tag_at flat r false name) r false names ≡ newline_drafts cell.stamp names = rest.0 ∙ ap (λ s. newline_drafts s names) same in (
+    let rest = one_each m names (with_tag_at document r false name) (g cell) after (all_still_on document.site document.count name false stamps cell names once.0 on.1) once.1 in
+    let drafts : tags_drafts_at MOST_SPANS (with_tag_at document r false name) r false names ≡ newline_drafts cell.stamp names = rest.0 ∙ ap (λ s. newline_drafts s names) same in (
       λ i. tag_drafts MOST_SPANS false name (named i) ++ drafts i,
-      rest.1 ∙ (λ i. bared (with_tag flat name false (named i)) (same i) names),
+      rest.1 ∙ (λ i. bared (with_tag document name false (named i)) (same i) names),
     )
 
 -- what is listed is on
@@ -130,23 +130,23 @@ listed_on state [] f = tt
 listed_on state (name ∷ names) f =
     (f name (ap (λ b. b || is_listed name names) (name_itself name)), listed_on state names (λ q k. f q (or_right (bytes_eq q name) _ k)))
 
-cell_named : (site : ℕ) (log : List Operation) (flat : DocValue) (place : ℕ) (cell : TaggedCell) → IsHistory log → IsDocument site log flat → slice_get (visible_of flat.cells) place ≡ Some cell → AreNamed cell.state
-cell_named site log flat place cell h doc e =
+cell_named : (site : ℕ) (log : List Operation) (document : DocValue) (place : ℕ) (cell : TaggedCell) → IsHistory log → IsDocument site log document → slice_get (visible_of document.cells) place ≡ Some cell → AreNamed cell.state
+cell_named site log document place cell h doc e =
     let P = λ (c : TaggedCell). AreNamed c.state in
-    of_one P (visible_of flat.cells) place cell (every_filter P (λ (c : TaggedCell). not c.gone) flat.cells (document_named site log flat h doc)) e
+    of_one P (visible_of document.cells) place cell (every_filter P (λ (c : TaggedCell). not c.gone) document.cells (document_named site log document h doc)) e
 
-both : (site : ℕ) (log : List Operation) (flat : DocValue) (place : ℕ) (cell : TaggedCell) → IsHistory log → IsDocument site log flat → slice_get (visible_of flat.cells) place ≡ Some cell
-    → (tags_drafts_at MOST_SPANS flat (λ p. p == place) false (names_on cell.state) ≡ newline_drafts cell.stamp (names_on cell.state))
-    × (with_tags_at flat (λ p. p == place) false (names_on cell.state) ≡ bared flat cell.stamp (names_on cell.state))
-both site log flat place cell h doc e =
-    let by_name = (cell_named site log flat place cell h doc e).by_name in
-    one_each place (names_on cell.state) flat cell (only_there place 0 place flat.cells cell (omega arith) e)
+both : (site : ℕ) (log : List Operation) (document : DocValue) (place : ℕ) (cell : TaggedCell) → IsHistory log → IsDocument site log document → slice_get (visible_of document.cells) place ≡ Some cell
+    → (tags_drafts_at MOST_SPANS document (λ p. p == place) false (names_on cell.state) ≡ newline_drafts cell.stamp (names_on cell.state))
+    × (with_tags_at document (λ p. p == place) false (names_on cell.state) ≡ bared document cell.stamp (names_on cell.state))
+both site log document place cell h doc e =
+    let by_name = (cell_named site log document place cell h doc e).by_name in
+    one_each place (names_on cell.state) document cell (only_there place 0 place document.cells cell (omega arith) e)
     (listed_on cell.state (names_on cell.state) (λ q k. on_is_listed q cell.state by_name ∙ k)) (on_once cell.state by_name)
 
-pub newline_one_each : (site : ℕ) (log : List Operation) (flat : DocValue) (place : ℕ) (cell : TaggedCell) → IsHistory log → IsDocument site log flat → slice_get (visible_of flat.cells) place ≡ Some cell
-    → tags_drafts_at MOST_SPANS flat (λ p. p == place) false (names_on cell.state) ≡ newline_drafts cell.stamp (names_on cell.state)
-newline_one_each site log flat place cell h doc e = (both site log flat place cell h doc e).0
+pub newline_one_each : (site : ℕ) (log : List Operation) (document : DocValue) (place : ℕ) (cell : TaggedCell) → IsHistory log → IsDocument site log document → slice_get (visible_of document.cells) place ≡ Some cell
+    → tags_drafts_at MOST_SPANS document (λ p. p == place) false (names_on cell.state) ≡ newline_drafts cell.stamp (names_on cell.state)
+newline_one_each site log document place cell h doc e = (both site log document place cell h doc e).0
 
-pub bared_as_tags : (site : ℕ) (log : List Operation) (flat : DocValue) (place : ℕ) (cell : TaggedCell) → IsHistory log → IsDocument site log flat → slice_get (visible_of flat.cells) place ≡ Some cell
-    → with_tags_at flat (λ p. p == place) false (names_on cell.state) ≡ bared flat cell.stamp (names_on cell.state)
-bared_as_tags site log flat place cell h doc e = (both site log flat place cell h doc e).1
+pub bared_as_tags : (site : ℕ) (log : List Operation) (document : DocValue) (place : ℕ) (cell : TaggedCell) → IsHistory log → IsDocument site log document → slice_get (visible_of document.cells) place ≡ Some cell
+    → with_tags_at document (λ p. p == place) false (names_on cell.state) ≡ bared document cell.stamp (names_on cell.state)
+bared_as_tags site log document place cell h doc e = (both site log document place cell h doc e).1

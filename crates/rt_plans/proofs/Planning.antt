@@ -14,7 +14,7 @@ use Rattle.rt_store.specs.Tagged.{AreStates}
 use Rattle.std.specs.Str.{bytes_eq}
 use Rattle.rt_tags.specs.States.{TagStates, Write, IsState, IsTag, KeepsIds, name_at, written}
 use Rattle.rt_tags.specs.Tags.{sel}
-use Rattle.rt_tags.specs.declared.states.Entry.{Entry}
+use Rattle.rt_tags.specs.declared.states.TagEntry.{TagEntry}
 use Rattle.rt_tags.specs.Writers.{listed_by, state_after}
 use Rattle.rt_store.specs.Cells.{cells_from}
 use Rattle.rt_plans.specs.Insertions.{cells_of_inserts, counts_for, further_tags, inserts_for, new_state, put_on, tagged_cells}
@@ -179,11 +179,11 @@ pub one_given : (old new : TagStates) (tags : List ℕ) (tag : ℕ) → KeepsIds
 one_given old new tags tag keeps h n = All-append (IsTag new) tags (tag ∷ []) (tags_kept old new tags keeps h) (All-cons (IsTag new) tag [] n (All-nil (IsTag new)))
 
 -- writes of tags that were given out
-pub writes_given : (table : TagStates) (writes : List Entry) → All (IsTag table) (map (λ w. w.tag) writes) → All (λ w. IsTag table w.tag) writes
-writes_given table [] h = All-nil (λ (w : Entry). IsTag table w.tag)
+pub writes_given : (table : TagStates) (writes : List TagEntry) → All (IsTag table) (map (λ w. w.tag) writes) → All (λ w. IsTag table w.tag) writes
+writes_given table [] h = All-nil (λ (w : TagEntry). IsTag table w.tag)
 writes_given table (w ∷ writes) h =
-    let tags = map (λ (e : Entry). e.tag) writes in
-    All-cons (λ (e : Entry). IsTag table e.tag) w writes (All-head (IsTag table) w.tag tags h) (writes_given table writes (All-tail (IsTag table) w.tag tags h))
+    let tags = map (λ (e : TagEntry). e.tag) writes in
+    All-cons (λ (e : TagEntry). IsTag table e.tag) w writes (All-head (IsTag table) w.tag tags h) (writes_given table writes (All-tail (IsTag table) w.tag tags h))
 
 -- a text that isn't empty has a character
 pub some_left : (empty : Bool) (n : ℕ) → empty ≡ nat_eq n 0 → empty ≡ false → 1 ≤ n

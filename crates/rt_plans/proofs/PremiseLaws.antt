@@ -54,29 +54,29 @@ pieces_are pieces h = pieces_by pieces (recursion_from_All IsPiece pieces h)
 
 -- PLACES
 
-pub may_begin : (site : ℕ) (log : List Operation) (flat : DocValue) (place : ℕ) (right : Option TaggedCell) (pieces : List Piece) (rest : Word) (start : Insertion) → IsHistory log → IsDocument site log flat
-    → place < length (text_of flat.cells) → HaveTexts pieces → IsUtf8 rest → start.cells ≡ [] → start.count ≡ flat.count
-    → IsInsertion site log (left_stamp flat.cells place) (left_neighbour (visible_of flat.cells) place) right pieces rest start
-may_begin site log flat place right pieces rest start h doc l t u none count = record {
+pub may_begin : (site : ℕ) (log : List Operation) (document : DocValue) (place : ℕ) (right : Option TaggedCell) (pieces : List Piece) (rest : Word) (start : Insertion) → IsHistory log → IsDocument site log document
+    → place < length (text_of document.cells) → HaveTexts pieces → IsUtf8 rest → start.cells ≡ [] → start.count ≡ document.count
+    → IsInsertion site log (left_stamp document.cells place) (left_neighbour (visible_of document.cells) place) right pieces rest start
+may_begin site log document place right pieces rest start h doc l t u none count = record {
   element = subst (λ (cells : List TaggedCell). IsElement log (left_stamp cells place)) (sym doc.cells)
       (left_is_element log place h (subst (λ (cells : List TaggedCell). place < length (text_of cells)) doc.cells l));
   listed = t;
   unlisted = record {
-    tags = tags_between_in site flat.cells place right pieces start (subst CellsNamed (sym doc.cells) (every_named log h)) t none;
+    tags = tags_between_in site document.cells place right pieces start (subst CellsNamed (sym doc.cells) (every_named log h)) t none;
     characters = characters_are_scalars rest u;
   };
   none = none;
   count = count ∙ doc.count;
 }
 
-pub may_begin_in_rest : (site : ℕ) (log : List Operation) (flat : DocValue) (loss : Loss) (place : ℕ) (right : Option TaggedCell) (pieces : List Piece) (rest : Word) (start : Insertion)
-    → IsHistory log → IsDocument site log flat → SparesLast loss.places (text_of flat.cells) → place < length (text_of (without_text flat loss).cells) → HaveTexts pieces → IsUtf8 rest → start.cells ≡ [] → start.count ≡ (without_text flat loss).count
-    → IsInsertion site (with_drafts site (delete_drafts MOST_SPANS flat loss) log) (left_stamp (without_text flat loss).cells place)
-    (left_neighbour (visible_of (without_text flat loss).cells) place) right pieces rest start
-may_begin_in_rest site log flat loss place right pieces rest start h doc s l t u none count = record {
-  element = left_stays site log flat loss place h doc s l;
+pub may_begin_in_rest : (site : ℕ) (log : List Operation) (document : DocValue) (loss : Loss) (place : ℕ) (right : Option TaggedCell) (pieces : List Piece) (rest : Word) (start : Insertion)
+    → IsHistory log → IsDocument site log document → SparesLast loss.places (text_of document.cells) → place < length (text_of (without_text document loss).cells) → HaveTexts pieces → IsUtf8 rest → start.cells ≡ [] → start.count ≡ (without_text document loss).count
+    → IsInsertion site (with_drafts site (delete_drafts MOST_SPANS document loss) log) (left_stamp (without_text document loss).cells place)
+    (left_neighbour (visible_of (without_text document loss).cells) place) right pieces rest start
+may_begin_in_rest site log document loss place right pieces rest start h doc s l t u none count = record {
+  element = left_stays site log document loss place h doc s l;
   listed = t;
-  unlisted = record { tags = tags_left_are site log flat loss place right pieces start h doc t none; characters = characters_are_scalars rest u };
+  unlisted = record { tags = tags_left_are site log document loss place right pieces start h doc t none; characters = characters_are_scalars rest u };
   none = none;
-  count = count ∙ sym (loss_counted site log flat loss h doc);
+  count = count ∙ sym (loss_counted site log document loss h doc);
 }

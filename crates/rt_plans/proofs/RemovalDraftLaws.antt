@@ -184,31 +184,31 @@ deletes_may_be_made most site log removed p q h spared =
 
 -- IN A DOCUMENT
 
-pub removal_may : (site : ℕ) (log : List Operation) (flat : DocValue) (removed : ℕ → Bool) → IsHistory log → IsDocument site log flat → SparesLast removed (text_of flat.cells)
-    → MayBeMade site log (removal_drafts MOST_SPANS removed flat.cells)
-removal_may site log flat removed h doc spared =
+pub removal_may : (site : ℕ) (log : List Operation) (doc_value : DocValue) (removed : ℕ → Bool) → IsHistory log → IsDocument site log doc_value → SparesLast removed (text_of doc_value.cells)
+    → MayBeMade site log (removal_drafts MOST_SPANS removed doc_value.cells)
+removal_may site log doc_value removed h doc spared =
     subst (λ (cells : List TaggedCell). MayBeMade site log (removal_drafts MOST_SPANS removed cells)) (sym doc.cells)
     (deletes_may_be_made MOST_SPANS site log removed (omega arith) (omega arith) h (subst (λ (cells : List TaggedCell). SparesLast removed (text_of cells)) doc.cells spared))
 
-pub removal_counted : (site : ℕ) (log : List Operation) (flat : DocValue) (removed : ℕ → Bool) → IsHistory log → IsDocument site log flat
-    → greatest_last_count (with_drafts site (removal_drafts MOST_SPANS removed flat.cells) log) ≡ (without_places flat removed).count
-removal_counted site log flat removed h doc =
+pub removal_counted : (site : ℕ) (log : List Operation) (doc_value : DocValue) (removed : ℕ → Bool) → IsHistory log → IsDocument site log doc_value
+    → greatest_last_count (with_drafts site (removal_drafts MOST_SPANS removed doc_value.cells) log) ≡ (without_places doc_value removed).count
+removal_counted site log doc_value removed h doc =
     ap (λ (cells : List TaggedCell). greatest_last_count (with_drafts site (removal_drafts MOST_SPANS removed cells) log)) doc.cells
     ∙ deletes_are_counted site log removed h
     ∙ sym (λ i. doc.count i + operations_for (span_count (stamps_at removed 0 (doc.cells i))))
 
 -- a larger history, and the document with its cells
-pub record IsLarger (site : ℕ) (log : List Operation) (flat : DocValue) : Type 0 where
+pub record IsLarger (site : ℕ) (log : List Operation) (doc_value : DocValue) : Type 0 where
   pub history : IsHistory log
-  pub document : IsDocument site log flat
+  pub document : IsDocument site log doc_value
 
-pub removal_made : (site : ℕ) (log : List Operation) (flat : DocValue) (removed : ℕ → Bool) → 0 < site → IsHistory log → IsDocument site log flat → SparesLast removed (text_of flat.cells)
-    → (without_places flat removed).count ≤ GREATEST_COUNT → IsLarger site (with_drafts site (removal_drafts MOST_SPANS removed flat.cells) log) (without_places flat removed)
-removal_made site log flat removed p h doc spared l =
-    let drafts = removal_drafts MOST_SPANS removed flat.cells in
-    let counts = removal_counted site log flat removed h doc in
+pub removal_made : (site : ℕ) (log : List Operation) (doc_value : DocValue) (removed : ℕ → Bool) → 0 < site → IsHistory log → IsDocument site log doc_value → SparesLast removed (text_of doc_value.cells)
+    → (without_places doc_value removed).count ≤ GREATEST_COUNT → IsLarger site (with_drafts site (removal_drafts MOST_SPANS removed doc_value.cells) log) (without_places doc_value removed)
+removal_made site log doc_value removed p h doc spared l =
+    let drafts = removal_drafts MOST_SPANS removed doc_value.cells in
+    let counts = removal_counted site log doc_value removed h doc in
     let fits : last_count_after (greatest_last_count log) drafts ≤ GREATEST_COUNT = omega (arith, all_count_on site drafts log, counts, l) in
-    let all = made site drafts log p h (drafts_for site log drafts (removal_may site log flat removed h doc spared) fits) in
+    let all = made site drafts log p h (drafts_for site log drafts (removal_may site log doc_value removed h doc spared) fits) in
     let gone : all_changed (operations_of site drafts log) (cells_of log) ≡ gone_at removed 0 (cells_of log) =
     ap (λ (cells : List TaggedCell). all_changed (operations_of site (removal_drafts MOST_SPANS removed cells) log) (cells_of log)) doc.cells ∙ deletes_make_gone MOST_SPANS site log removed (omega arith) h in
     record {

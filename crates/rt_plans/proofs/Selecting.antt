@@ -1,9 +1,10 @@
 -- Selections without the characters of another one.
-use Rattle.std.proofs.Common.{◌≡◌, List, [], ◌∷◌, ◌++◌, Bool, true, false, cond, not, ◌||◌, filter, refl, sym, ◌∙◌, ap}
+use Rattle.std.proofs.Common.{◌≡◌, ◌==◌, ℕ, suc, arith, length, List, [], ◌∷◌, ◌++◌, Bool, true, false, cond, not, ◌||◌, filter, refl, sym, ◌∙◌, ap}
+use Rattle.std.proofs.lemmas.Bool.Decides.{nat_tests}
 use Rattle.std.proofs.lemmas.List.Folds.{list_any-append}
 use Rattle.rt_stamps.specs.declared.stamp.Stamp.{Stamp}
 use Rattle.rt_stamps.specs.Stamps.{is_same}
-use Rattle.rt_stamps.proofs.Order.{same_from_true}
+use Rattle.rt_stamps.proofs.Order.{same_from_true, same_sym}
 use Rattle.rt_plans.specs.Selections.{with_stamp, with_stamps, unselected}
 use Rattle.rt_store.specs.Spans.{is_among}
 use Rattle.rt_store.proofs.Distinct.{split}
@@ -35,3 +36,31 @@ among_with (x ∷ stamps) selection s =
 -- a selection without the characters of another is one without those that it was made of
 pub unselected_alike : (stamps selection : List Stamp) → unselected (with_stamps stamps []) selection ≡ unselected stamps selection
 unselected_alike stamps selection = λ i. filter (λ s. not (among_with stamps [] s i)) selection
+
+-- WHAT TAKES NOTHING OUT
+
+of_none : (selection : List Stamp) → unselected [] selection ≡ selection
+of_none [] = refl
+of_none (s ∷ selection) = ap (λ l. s ∷ l) (of_none selection)
+
+never_empty : (n : ℕ) → (suc n == 0) ≡ false
+never_empty n = grind (arith, nat_tests)
+
+pub unselected_none : (stamps selection : List Stamp) → (length stamps == 0) ≡ true → unselected stamps selection ≡ selection
+unselected_none [] selection h = of_none selection
+unselected_none (x ∷ stamps) selection h = let both : true ≡ false = sym h ∙ never_empty (length stamps) in cc
+
+none_here : (a b : Bool) → (a || b) ≡ false → a ≡ false
+none_here true b e = e
+none_here false b e = refl
+
+none_there : (a b : Bool) → (a || b) ≡ false → b ≡ false
+none_there true b e = cc
+none_there false b e = e
+
+pub unselected_other : (stamp : Stamp) (selection : List Stamp) → is_among selection stamp ≡ false → unselected (stamp ∷ []) selection ≡ selection
+unselected_other stamp [] h = refl
+unselected_other stamp (s ∷ selection) h =
+    let apart : is_same stamp s ≡ false = same_sym stamp s ∙ none_here (is_same s stamp) (is_among selection stamp) h in
+    ap (λ b. cond (not (b || false)) (s ∷ unselected (stamp ∷ []) selection) (unselected (stamp ∷ []) selection)) apart
+    ∙ ap (λ l. s ∷ l) (unselected_other stamp selection (none_there (is_same s stamp) (is_among selection stamp) h))

@@ -12,9 +12,9 @@ use Rattle.rt_stamps.specs.declared.stamp.Stamp.{Stamp}
 use Rattle.rt_stamps.specs.Stamps.{is_same}
 use Rattle.rt_store.specs.Cells.{is_in_span}
 use Rattle.rt_stamps.specs.Spans.{span_of}
-use Rattle.rt_plans.specs.NamedSpans.{first_in_span, attached, consecutive_spans}
+use Rattle.rt_plans.specs.NamedSpans.{attached, consecutive_spans}
 use Rattle.rt_plans.specs.Removals.{span_count}
-use Rattle.rt_store.specs.Spans.{each_next, is_span, is_clear_of, precedes, next_stamp, last_stamp, is_in_spans, is_among}
+use Rattle.rt_store.specs.Spans.{each_next, first_in_span, is_among, is_clear_of, is_in_spans, is_span, last_stamp, next_stamp, precedes}
 use Rattle.rt_store.proofs.Distinct.{split}
 
 -- WHAT THE RUNS HOLD

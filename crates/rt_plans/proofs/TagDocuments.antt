@@ -76,21 +76,21 @@ one_may_be_made site log places on name cells d f n =
     tags_may_be_made site name on (changed_at places on name cells) (distinct_changed places on name cells d) MOST_SPANS log n (omega arith) (omega arith) (known_changed log places on name cells f)
 
 -- the stamps stay
-pub tag_stamps : (flat : DocValue) (places : ℕ → Bool) (on : Bool) (name : Word) → stamps_of (with_tag_at flat places on name).cells ≡ stamps_of flat.cells
-tag_stamps flat places on name =
-    let stamps = changed_at places on name flat.cells in
-    stamps_changed (cell_with_tag flat.site flat.count name on stamps) (tagged_state flat.site flat.count name on stamps) flat.cells
+pub tag_stamps : (document : DocValue) (places : ℕ → Bool) (on : Bool) (name : Word) → stamps_of (with_tag_at document places on name).cells ≡ stamps_of document.cells
+tag_stamps document places on name =
+    let stamps = changed_at places on name document.cells in
+    stamps_changed (cell_with_tag document.site document.count name on stamps) (tagged_state document.site document.count name on stamps) document.cells
 
-pub known_tagged : (log : List Operation) (flat : DocValue) (places : ℕ → Bool) (on : Bool) (name : Word) → AreKnownCells log flat.cells → AreKnownCells log (with_tag_at flat places on name).cells
-known_tagged log flat places on name f s k = f s (ap (λ l. is_among l s) (sym (tag_stamps flat places on name)) ∙ k)
+pub known_tagged : (log : List Operation) (document : DocValue) (places : ℕ → Bool) (on : Bool) (name : Word) → AreKnownCells log document.cells → AreKnownCells log (with_tag_at document places on name).cells
+known_tagged log document places on name f s k = f s (ap (λ l. is_among l s) (sym (tag_stamps document places on name)) ∙ k)
 
 -- ONE TAG
 
 -- on characters that are named by their stamps
-pub stamps_made : (site : ℕ) (log : List Operation) (flat : DocValue) (on : Bool) (name : Word) (stamps : List Stamp) → 0 < site → IsHistory log → IsDocument site log flat → is_name name ≡ true
-    → IsDistinct is_same stamps → MayBeMade site log (tag_drafts MOST_SPANS on name stamps) → (with_tag flat name on stamps).count ≤ GREATEST_COUNT
-    → IsHistory (with_drafts site (tag_drafts MOST_SPANS on name stamps) log) × IsDocument site (with_drafts site (tag_drafts MOST_SPANS on name stamps) log) (with_tag flat name on stamps)
-stamps_made site log flat on name stamps p h doc n distinct may l =
+pub stamps_made : (site : ℕ) (log : List Operation) (document : DocValue) (on : Bool) (name : Word) (stamps : List Stamp) → 0 < site → IsHistory log → IsDocument site log document → is_name name ≡ true
+    → IsDistinct is_same stamps → MayBeMade site log (tag_drafts MOST_SPANS on name stamps) → (with_tag document name on stamps).count ≤ GREATEST_COUNT
+    → IsHistory (with_drafts site (tag_drafts MOST_SPANS on name stamps) log) × IsDocument site (with_drafts site (tag_drafts MOST_SPANS on name stamps) log) (with_tag document name on stamps)
+stamps_made site log document on name stamps p h doc n distinct may l =
     let drafts = tag_drafts MOST_SPANS on name stamps in
     let counts = tags_counted site name on stamps distinct (greatest_last_count log) in
     let fits : last_count_after (greatest_last_count log) drafts ≤ GREATEST_COUNT = omega (arith, counts, doc.count, l) in
@@ -103,14 +103,14 @@ stamps_made site log flat on name stamps p h doc n distinct may l =
       },
     )
 
-pub one_made : (site : ℕ) (log : List Operation) (flat : DocValue) (places : ℕ → Bool) (on : Bool) (name : Word) → 0 < site → IsHistory log → IsDocument site log flat → is_name name ≡ true
-    → (with_tag_at flat places on name).count ≤ GREATEST_COUNT
-    → IsHistory (with_drafts site (tag_drafts_at MOST_SPANS places on name flat.cells) log)
-    × IsDocument site (with_drafts site (tag_drafts_at MOST_SPANS places on name flat.cells) log) (with_tag_at flat places on name)
-one_made site log flat places on name p h doc n l =
-    let d : AreDistinct flat.cells = subst AreDistinct (sym doc.cells) (cells_distinct log h) in
-    stamps_made site log flat on name (changed_at places on name flat.cells) p h doc n (distinct_changed places on name flat.cells d)
-    (one_may_be_made site log places on name flat.cells d (known_cells log flat.cells h doc.cells) n) l
+pub one_made : (site : ℕ) (log : List Operation) (document : DocValue) (places : ℕ → Bool) (on : Bool) (name : Word) → 0 < site → IsHistory log → IsDocument site log document → is_name name ≡ true
+    → (with_tag_at document places on name).count ≤ GREATEST_COUNT
+    → IsHistory (with_drafts site (tag_drafts_at MOST_SPANS places on name document.cells) log)
+    × IsDocument site (with_drafts site (tag_drafts_at MOST_SPANS places on name document.cells) log) (with_tag_at document places on name)
+one_made site log document places on name p h doc n l =
+    let d : AreDistinct document.cells = subst AreDistinct (sym doc.cells) (cells_distinct log h) in
+    stamps_made site log document on name (changed_at places on name document.cells) p h doc n (distinct_changed places on name document.cells d)
+    (one_may_be_made site log places on name document.cells d (known_cells log document.cells h doc.cells) n) l
 
 pub tags_are_counted : (site : ℕ) (log : List Operation) (on : Bool) (name : Word) (stamps : List Stamp) → IsDistinct is_same stamps
     → greatest_last_count (with_drafts site (tag_drafts MOST_SPANS on name stamps) log) ≡ greatest_last_count log + operations_for (span_count stamps)
@@ -118,77 +118,77 @@ tags_are_counted site log on name stamps d = all_count_on site (tag_drafts MOST_
 
 -- SEVERAL TAGS
 
-pub tags_grow : (names : List Word) (flat : DocValue) (places : ℕ → Bool) (on : Bool) → flat.count ≤ (with_tags_at flat places on names).count
-tags_grow [] flat places on = omega arith
-tags_grow (name ∷ names) flat places on = omega (arith, tag_grows flat places on name, tags_grow names (with_tag_at flat places on name) places on)
+pub tags_grow : (names : List Word) (document : DocValue) (places : ℕ → Bool) (on : Bool) → document.count ≤ (with_tags_at document places on names).count
+tags_grow [] document places on = omega arith
+tags_grow (name ∷ names) document places on = omega (arith, tag_grows document places on name, tags_grow names (with_tag_at document places on name) places on)
 
-all_may_be_made : (names : List Word) (site : ℕ) (log : List Operation) (flat : DocValue) (places : ℕ → Bool) (on : Bool) → AreDistinct flat.cells → AreKnownCells log flat.cells
-    → AllByRecursion (λ name. is_name name ≡ true) names → MayBeMade site log (tags_drafts_at MOST_SPANS flat places on names)
-all_may_be_made [] site log flat places on d f n = tt
-all_may_be_made (name ∷ names) site log flat places on d f n =
-    let one = tag_drafts_at MOST_SPANS places on name flat.cells in
-    let next = with_tag_at flat places on name in
-    may_append site one (tags_drafts_at MOST_SPANS next places on names) log (one_may_be_made site log places on name flat.cells d f n.0)
-    (all_may_be_made names site (with_drafts site one log) next places on (subst (IsDistinct is_same) (sym (tag_stamps flat places on name)) d)
-    (known_later site one log next.cells (known_tagged log flat places on name f)) n.1)
+all_may_be_made : (names : List Word) (site : ℕ) (log : List Operation) (document : DocValue) (places : ℕ → Bool) (on : Bool) → AreDistinct document.cells → AreKnownCells log document.cells
+    → AllByRecursion (λ name. is_name name ≡ true) names → MayBeMade site log (tags_drafts_at MOST_SPANS document places on names)
+all_may_be_made [] site log document places on d f n = tt
+all_may_be_made (name ∷ names) site log document places on d f n =
+    let one = tag_drafts_at MOST_SPANS places on name document.cells in
+    let next = with_tag_at document places on name in
+    may_append site one (tags_drafts_at MOST_SPANS next places on names) log (one_may_be_made site log places on name document.cells d f n.0)
+    (all_may_be_made names site (with_drafts site one log) next places on (subst (IsDistinct is_same) (sym (tag_stamps document places on name)) d)
+    (known_later site one log next.cells (known_tagged log document places on name f)) n.1)
 
-pub tags_may : (site : ℕ) (log : List Operation) (flat : DocValue) (places : ℕ → Bool) (on : Bool) (names : List Word) → IsHistory log → IsDocument site log flat
-    → AllByRecursion (λ name. is_name name ≡ true) names → MayBeMade site log (tags_drafts_at MOST_SPANS flat places on names)
-tags_may site log flat places on names h doc n =
-    all_may_be_made names site log flat places on (subst AreDistinct (sym doc.cells) (cells_distinct log h)) (known_cells log flat.cells h doc.cells) n
+pub tags_may : (site : ℕ) (log : List Operation) (document : DocValue) (places : ℕ → Bool) (on : Bool) (names : List Word) → IsHistory log → IsDocument site log document
+    → AllByRecursion (λ name. is_name name ≡ true) names → MayBeMade site log (tags_drafts_at MOST_SPANS document places on names)
+tags_may site log document places on names h doc n =
+    all_may_be_made names site log document places on (subst AreDistinct (sym doc.cells) (cells_distinct log h)) (known_cells log document.cells h doc.cells) n
 
-all_made : (names : List Word) (site : ℕ) (log : List Operation) (flat : DocValue) (places : ℕ → Bool) (on : Bool) → 0 < site → IsHistory log → IsDocument site log flat
-    → AllByRecursion (λ name. is_name name ≡ true) names → (with_tags_at flat places on names).count ≤ GREATEST_COUNT
-    → IsDocument site (with_drafts site (tags_drafts_at MOST_SPANS flat places on names) log) (with_tags_at flat places on names)
-all_made [] site log flat places on p h doc n l = doc
-all_made (name ∷ names) site log flat places on p h doc n l =
-    let drafts = tag_drafts_at MOST_SPANS places on name flat.cells in
-    let next = with_tag_at flat places on name in
+all_made : (names : List Word) (site : ℕ) (log : List Operation) (document : DocValue) (places : ℕ → Bool) (on : Bool) → 0 < site → IsHistory log → IsDocument site log document
+    → AllByRecursion (λ name. is_name name ≡ true) names → (with_tags_at document places on names).count ≤ GREATEST_COUNT
+    → IsDocument site (with_drafts site (tags_drafts_at MOST_SPANS document places on names) log) (with_tags_at document places on names)
+all_made [] site log document places on p h doc n l = doc
+all_made (name ∷ names) site log document places on p h doc n l =
+    let drafts = tag_drafts_at MOST_SPANS places on name document.cells in
+    let next = with_tag_at document places on name in
     let first : next.count ≤ GREATEST_COUNT = omega (arith, l, tags_grow names next places on) in
-    let one = one_made site log flat places on name p h doc n.0 first in
+    let one = one_made site log document places on name p h doc n.0 first in
     subst (λ log. IsDocument site log (with_tags_at next places on names)) (sym (drafts_append site drafts (tags_drafts_at MOST_SPANS next places on names) log))
     (all_made names site (with_drafts site drafts log) next places on p one.0 one.1 n.1 l)
 
-pub tags_made : (site : ℕ) (log : List Operation) (flat : DocValue) (places : ℕ → Bool) (on : Bool) (names : List Word) → 0 < site → IsHistory log → IsDocument site log flat
-    → AllByRecursion (λ name. is_name name ≡ true) names → (with_tags_at flat places on names).count ≤ GREATEST_COUNT
-    → IsDocument site (with_drafts site (tags_drafts_at MOST_SPANS flat places on names) log) (with_tags_at flat places on names)
-tags_made site log flat places on names p h doc n l = all_made names site log flat places on p h doc n l
+pub tags_made : (site : ℕ) (log : List Operation) (document : DocValue) (places : ℕ → Bool) (on : Bool) (names : List Word) → 0 < site → IsHistory log → IsDocument site log document
+    → AllByRecursion (λ name. is_name name ≡ true) names → (with_tags_at document places on names).count ≤ GREATEST_COUNT
+    → IsDocument site (with_drafts site (tags_drafts_at MOST_SPANS document places on names) log) (with_tags_at document places on names)
+tags_made site log document places on names p h doc n l = all_made names site log document places on p h doc n l
 
 -- COUNTS
 
-one_counted : (site : ℕ) (log : List Operation) (flat : DocValue) (places : ℕ → Bool) (on : Bool) (name : Word) → AreDistinct flat.cells → flat.count ≡ greatest_last_count log
-    → (with_tag_at flat places on name).count ≡ greatest_last_count (with_drafts site (tag_drafts_at MOST_SPANS places on name flat.cells) log)
-one_counted site log flat places on name d e =
-    let stamps = changed_at places on name flat.cells in
-    ap (λ k. k + operations_for (span_count stamps)) e ∙ sym (tags_are_counted site log on name stamps (distinct_changed places on name flat.cells d))
+one_counted : (site : ℕ) (log : List Operation) (document : DocValue) (places : ℕ → Bool) (on : Bool) (name : Word) → AreDistinct document.cells → document.count ≡ greatest_last_count log
+    → (with_tag_at document places on name).count ≡ greatest_last_count (with_drafts site (tag_drafts_at MOST_SPANS places on name document.cells) log)
+one_counted site log document places on name d e =
+    let stamps = changed_at places on name document.cells in
+    ap (λ k. k + operations_for (span_count stamps)) e ∙ sym (tags_are_counted site log on name stamps (distinct_changed places on name document.cells d))
 
-pub tags_count : (names : List Word) (site : ℕ) (log : List Operation) (flat : DocValue) (places : ℕ → Bool) (on : Bool) → AreDistinct flat.cells → flat.count ≡ greatest_last_count log
-    → greatest_last_count (with_drafts site (tags_drafts_at MOST_SPANS flat places on names) log) ≡ (with_tags_at flat places on names).count
-tags_count [] site log flat places on d e = sym e
-tags_count (name ∷ names) site log flat places on d e =
-    let drafts = tag_drafts_at MOST_SPANS places on name flat.cells in
-    let next = with_tag_at flat places on name in
+pub tags_count : (names : List Word) (site : ℕ) (log : List Operation) (document : DocValue) (places : ℕ → Bool) (on : Bool) → AreDistinct document.cells → document.count ≡ greatest_last_count log
+    → greatest_last_count (with_drafts site (tags_drafts_at MOST_SPANS document places on names) log) ≡ (with_tags_at document places on names).count
+tags_count [] site log document places on d e = sym e
+tags_count (name ∷ names) site log document places on d e =
+    let drafts = tag_drafts_at MOST_SPANS places on name document.cells in
+    let next = with_tag_at document places on name in
     ap greatest_last_count (drafts_append site drafts (tags_drafts_at MOST_SPANS next places on names) log)
-    ∙ tags_count names site (with_drafts site drafts log) next places on (subst (IsDistinct is_same) (sym (tag_stamps flat places on name)) d) (one_counted site log flat places on name d e)
+    ∙ tags_count names site (with_drafts site drafts log) next places on (subst (IsDistinct is_same) (sym (tag_stamps document places on name)) d) (one_counted site log document places on name d e)
 
-pub all_tags_counted : (site : ℕ) (log : List Operation) (flat : DocValue) (places : ℕ → Bool) (on : Bool) (names : List Word) → IsHistory log → IsDocument site log flat
-    → greatest_last_count (with_drafts site (tags_drafts_at MOST_SPANS flat places on names) log) ≡ (with_tags_at flat places on names).count
-all_tags_counted site log flat places on names h doc = tags_count names site log flat places on (subst AreDistinct (sym doc.cells) (cells_distinct log h)) doc.count
+pub all_tags_counted : (site : ℕ) (log : List Operation) (document : DocValue) (places : ℕ → Bool) (on : Bool) (names : List Word) → IsHistory log → IsDocument site log document
+    → greatest_last_count (with_drafts site (tags_drafts_at MOST_SPANS document places on names) log) ≡ (with_tags_at document places on names).count
+all_tags_counted site log document places on names h doc = tags_count names site log document places on (subst AreDistinct (sym doc.cells) (cells_distinct log h)) doc.count
 
-deletions_count : (names : List Word) (site : ℕ) (log : List Operation) (flat : DocValue) → AreDistinct flat.cells → flat.count ≡ greatest_last_count log
-    → greatest_last_count (with_drafts site (tag_deletion_drafts MOST_SPANS flat names) log) ≡ (without_tags flat names).count
-deletions_count [] site log flat d e = sym e
-deletions_count (name ∷ names) site log flat d e =
-    let drafts = tag_drafts_at MOST_SPANS (λ _. true) false name flat.cells in
-    let off = with_tag_at flat (λ _. true) false name in
+deletions_count : (names : List Word) (site : ℕ) (log : List Operation) (document : DocValue) → AreDistinct document.cells → document.count ≡ greatest_last_count log
+    → greatest_last_count (with_drafts site (tag_deletion_drafts MOST_SPANS document names) log) ≡ (without_tags document names).count
+deletions_count [] site log document d e = sym e
+deletions_count (name ∷ names) site log document d e =
+    let drafts = tag_drafts_at MOST_SPANS (λ _. true) false name document.cells in
+    let off = with_tag_at document (λ _. true) false name in
     let next : DocValue = record off { tags = without name off.tags } in
-    let at : Bool → Type 0 = λ b. greatest_last_count (with_drafts site (cond b [] drafts ++ tag_deletion_drafts MOST_SPANS (cond b flat next) names) log) ≡ (without_tags (cond b flat next) names).count in
+    let at : Bool → Type 0 = λ b. greatest_last_count (with_drafts site (cond b [] drafts ++ tag_deletion_drafts MOST_SPANS (cond b document next) names) log) ≡ (without_tags (cond b document next) names).count in
     split (bytes_eq name sel)
-    (λ f. subst at (sym f) (deletions_count names site log flat d e))
+    (λ f. subst at (sym f) (deletions_count names site log document d e))
     (λ f. subst at (sym f)
     (ap greatest_last_count (drafts_append site drafts (tag_deletion_drafts MOST_SPANS next names) log)
-    ∙ deletions_count names site (with_drafts site drafts log) next (subst (IsDistinct is_same) (sym (tag_stamps flat (λ _. true) false name)) d) (one_counted site log flat (λ _. true) false name d e)))
+    ∙ deletions_count names site (with_drafts site drafts log) next (subst (IsDistinct is_same) (sym (tag_stamps document (λ _. true) false name)) d) (one_counted site log document (λ _. true) false name d e)))
 
-pub all_deletions_counted : (site : ℕ) (log : List Operation) (flat : DocValue) (names : List Word) → IsHistory log → IsDocument site log flat
-    → greatest_last_count (with_drafts site (tag_deletion_drafts MOST_SPANS flat names) log) ≡ (without_tags flat names).count
-all_deletions_counted site log flat names h doc = deletions_count names site log flat (subst AreDistinct (sym doc.cells) (cells_distinct log h)) doc.count
+pub all_deletions_counted : (site : ℕ) (log : List Operation) (document : DocValue) (names : List Word) → IsHistory log → IsDocument site log document
+    → greatest_last_count (with_drafts site (tag_deletion_drafts MOST_SPANS document names) log) ≡ (without_tags document names).count
+all_deletions_counted site log document names h doc = deletions_count names site log document (subst AreDistinct (sym doc.cells) (cells_distinct log h)) doc.count

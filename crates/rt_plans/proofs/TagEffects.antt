@@ -86,18 +86,18 @@ settled true false h = sym h
 settled false b h = h
 
 -- on, or off, at each of the places
-pub placed_as_asked : (flat : DocValue) (places : ℕ → Bool) (on : Bool) (name : Word) → AreWritten flat.count flat.cells → All (λ c. is_on name c.state ≡ on) (cells_at places 0 (with_tag_at flat places on name).cells)
-placed_as_asked flat places on name known =
-    let chosen : List TaggedCell = cells_at places 0 flat.cells in
+pub placed_as_asked : (doc : DocValue) (places : ℕ → Bool) (on : Bool) (name : Word) → AreWritten doc.count doc.cells → All (λ c. is_on name c.state ≡ on) (cells_at places 0 (with_tag_at doc places on name).cells)
+placed_as_asked doc places on name known =
+    let chosen : List TaggedCell = cells_at places 0 doc.cells in
     let stamps = changed_stamps name on chosen in
-    let g : TaggedCell → TaggedCell = cell_with_tag flat.site flat.count name on stamps in
-    let P : TaggedCell → Type 0 = λ c. IsWritten flat.count c.state × (is_changed name on c ≡ true → is_among stamps c.stamp ≡ true) in
-    let each : All (λ (c : TaggedCell). IsWritten flat.count c.state) chosen = all_at (λ c. IsWritten flat.count c.state) places 0 flat.cells known in
-    subst (All (λ (c : TaggedCell). is_on name c.state ≡ on)) (sym (cells_at_changed g (tagged_state flat.site flat.count name on stamps) places 0 flat.cells))
+    let g : TaggedCell → TaggedCell = cell_with_tag doc.site doc.count name on stamps in
+    let P : TaggedCell → Type 0 = λ c. IsWritten doc.count c.state × (is_changed name on c ≡ true → is_among stamps c.stamp ≡ true) in
+    let each : All (λ (c : TaggedCell). IsWritten doc.count c.state) chosen = all_at (λ c. IsWritten doc.count c.state) places 0 doc.cells known in
+    subst (All (λ (c : TaggedCell). is_on name c.state ≡ on)) (sym (cells_at_changed g (tagged_state doc.site doc.count name on stamps) places 0 doc.cells))
     (all_map P (λ c. is_on name c.state ≡ on) g
     (λ cell p. split (is_among stamps cell.stamp)
-    (λ t. says flat.site flat.count name on stamps cell p.0 t)
-    (λ f. ap (λ (c : TaggedCell). is_on name c.state) (elsewhere flat.site flat.count name on stamps cell f)
+    (λ t. says doc.site doc.count name on stamps cell p.0 t)
+    (λ f. ap (λ (c : TaggedCell). is_on name c.state) (elsewhere doc.site doc.count name on stamps cell f)
     ∙ settled on (is_on name cell.state) (split (is_changed name on cell) (λ e. absurd (both_ways (is_among stamps cell.stamp) f (p.1 e))) (λ e. e))))
     chosen (λ k d lt. (each k d lt, changed_among name on chosen k d lt)))
 
@@ -143,9 +143,9 @@ pub some_among : (test : TaggedCell → Bool) (cells : List TaggedCell) (s : Sta
 some_among test [] s h = h
 some_among test (c ∷ cs) s h = some_step (test c) c cs (filter test cs) s (some_among test cs s) h
 
-pub others_stay_at : (flat : DocValue) (places : ℕ → Bool) (on : Bool) (name : Word) → AreDistinct flat.cells → cells_beside places 0 (with_tag_at flat places on name).cells ≡ cells_beside places 0 flat.cells
-others_stay_at flat places on name d =
-    let chosen : List TaggedCell = cells_at places 0 flat.cells in
+pub others_stay_at : (doc : DocValue) (places : ℕ → Bool) (on : Bool) (name : Word) → AreDistinct doc.cells → cells_beside places 0 (with_tag_at doc places on name).cells ≡ cells_beside places 0 doc.cells
+others_stay_at doc places on name d =
+    let chosen : List TaggedCell = cells_at places 0 doc.cells in
     let stamps = changed_stamps name on chosen in
-    beside_stay (is_among stamps) (cell_with_tag flat.site flat.count name on stamps) (tagged_state flat.site flat.count name on stamps) (elsewhere flat.site flat.count name on stamps) places 0 flat.cells d
-    (λ s m t. ap (λ l. is_among l s) (sym (stamps_at_cells places 0 flat.cells)) ∙ some_among (is_changed name on) chosen s t)
+    beside_stay (is_among stamps) (cell_with_tag doc.site doc.count name on stamps) (tagged_state doc.site doc.count name on stamps) (elsewhere doc.site doc.count name on stamps) places 0 doc.cells d
+    (λ s m t. ap (λ l. is_among l s) (sym (stamps_at_cells places 0 doc.cells)) ∙ some_among (is_changed name on) chosen s t)

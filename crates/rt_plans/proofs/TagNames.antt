@@ -16,7 +16,7 @@ use Rattle.rt_stamps.specs.Names.{name_order}
 use Rattle.rt_stamps.specs.Words.{Word}
 use Rattle.rt_ops.specs.Operations.{Operation, Body, Insert, Delete, Tag, stamp_of}
 use Rattle.rt_ops.specs.Rules.{are_tags, is_lesser_name, is_name, is_text, is_within, keeps_rules}
-use Rattle.rt_tags.specs.States.{IsByName, Write, above, below, is_on, is_settled, names_on, written}
+use Rattle.rt_tags.specs.States.{IsByName, Write, writes_above, writes_below, is_on, is_settled, names_on, written}
 use Rattle.rt_tags.specs.Tags.{sel}
 use Rattle.rt_tags.specs.Writers.{listed_by, state_after}
 use Rattle.rt_tags.proofs.Sorted.{every_append}
@@ -67,10 +67,10 @@ some_named test state h = record { by_name = sorted_filter test state h.by_name;
 written_every : (w : Write) (state : List Write) → IsNamed w → AllByRecursion IsNamed state → AllByRecursion IsNamed (written w state)
 written_every w state h k = by (is_settled w state)
   where
-    by : (b : Bool) → AllByRecursion IsNamed (cond b state (below w.name state ++ w ∷ above w.name state))
+    by : (b : Bool) → AllByRecursion IsNamed (cond b state (writes_below w.name state ++ w ∷ writes_above w.name state))
     by true = k
     by false =
-        every_append IsNamed (below w.name state) (w ∷ above w.name state) (every_filter IsNamed (λ v. is_lt (name_order v.name w.name)) state k)
+        every_append IsNamed (writes_below w.name state) (w ∷ writes_above w.name state) (every_filter IsNamed (λ v. is_lt (name_order v.name w.name)) state k)
         (h, every_filter IsNamed (λ v. is_gt (name_order v.name w.name)) state k)
 
 state_every : (state ws : List Write) → AllByRecursion IsNamed state → AllByRecursion IsNamed ws → AllByRecursion IsNamed (state_after state ws)
@@ -252,11 +252,11 @@ pub all_tagged_named : (site count : ℕ) (name : Word) (on : Bool) (stamps : Li
 all_tagged_named site count name on stamps [] n h = tt
 all_tagged_named site count name on stamps (c ∷ cs) n h = (tagged_named site count name on stamps c n h.0, all_tagged_named site count name on stamps cs n h.1)
 
-pub tags_named : (names : List Word) (flat : DocValue) (places : ℕ → Bool) (on : Bool) → list_all is_name names ≡ true → CellsNamed flat.cells → CellsNamed (with_tags_at flat places on names).cells
-tags_named [] flat places on n h = h
-tags_named (name ∷ names) flat places on n h =
+pub tags_named : (names : List Word) (doc : DocValue) (places : ℕ → Bool) (on : Bool) → list_all is_name names ≡ true → CellsNamed doc.cells → CellsNamed (with_tags_at doc places on names).cells
+tags_named [] doc places on n h = h
+tags_named (name ∷ names) doc places on n h =
     let p = and_parts (is_name name) (list_all is_name names) n in
-    tags_named names (with_tag_at flat places on name) places on p.1 (all_tagged_named flat.site flat.count name on (changed_stamps name on (cells_at places 0 flat.cells)) flat.cells p.0 h)
+    tags_named names (with_tag_at doc places on name) places on p.1 (all_tagged_named doc.site doc.count name on (changed_stamps name on (cells_at places 0 doc.cells)) doc.cells p.0 h)
 
 pub gone_named : (r : ℕ → Bool) (p : ℕ) (cells : List TaggedCell) → CellsNamed cells → CellsNamed (gone_at r p cells)
 gone_named r p [] h = tt

@@ -20,34 +20,34 @@ use Rattle.rt_plans.proofs.WriterLaws.{tagged_on}
 
 -- AS FAR AS THE TEXT GOES
 
-pub tag_alike : (flat : DocValue) (r s : ℕ → Bool) (on : Bool) (name : Word) → AreAlike r s 0 (length (visible_of flat.cells)) → with_tag_at flat r on name ≡ with_tag_at flat s on name
-tag_alike flat r s on name h = ap (λ l. with_tag flat name on (changed_stamps name on l)) (cells_alike r s 0 flat.cells h)
+pub tag_alike : (doc : DocValue) (r s : ℕ → Bool) (on : Bool) (name : Word) → AreAlike r s 0 (length (visible_of doc.cells)) → with_tag_at doc r on name ≡ with_tag_at doc s on name
+tag_alike doc r s on name h = ap (λ l. with_tag doc name on (changed_stamps name on l)) (cells_alike r s 0 doc.cells h)
 
 -- as many characters are visible
-as_many : (flat : DocValue) (s : ℕ → Bool) (on : Bool) (name : Word) → length (visible_of (with_tag_at flat s on name).cells) ≡ length (visible_of flat.cells)
-as_many flat s on name =
-    let stamps = changed_stamps name on (cells_at s 0 flat.cells) in
-    let g : TaggedCell → TaggedCell = cell_with_tag flat.site flat.count name on stamps in
-    ap length (visible_changed g (tagged_state flat.site flat.count name on stamps) flat.cells) ∙ length-map (visible_of flat.cells) g
+as_many : (doc : DocValue) (s : ℕ → Bool) (on : Bool) (name : Word) → length (visible_of (with_tag_at doc s on name).cells) ≡ length (visible_of doc.cells)
+as_many doc s on name =
+    let stamps = changed_stamps name on (cells_at s 0 doc.cells) in
+    let g : TaggedCell → TaggedCell = cell_with_tag doc.site doc.count name on stamps in
+    ap length (visible_changed g (tagged_state doc.site doc.count name on stamps) doc.cells) ∙ length-map (visible_of doc.cells) g
 
-pub tags_alike_at : (names : List Word) (flat : DocValue) (r s : ℕ → Bool) (on : Bool) → AreAlike r s 0 (length (visible_of flat.cells)) → with_tags_at flat r on names ≡ with_tags_at flat s on names
-tags_alike_at [] flat r s on h = refl
-tags_alike_at (name ∷ names) flat r s on h =
-    ap (λ (f : DocValue). with_tags_at f r on names) (tag_alike flat r s on name h) ∙ tags_alike_at names (with_tag_at flat s on name) r s on (subst (AreAlike r s 0) (sym (as_many flat s on name)) h)
+pub tags_alike_at : (names : List Word) (doc : DocValue) (r s : ℕ → Bool) (on : Bool) → AreAlike r s 0 (length (visible_of doc.cells)) → with_tags_at doc r on names ≡ with_tags_at doc s on names
+tags_alike_at [] doc r s on h = refl
+tags_alike_at (name ∷ names) doc r s on h =
+    ap (λ (f : DocValue). with_tags_at f r on names) (tag_alike doc r s on name h) ∙ tags_alike_at names (with_tag_at doc s on name) r s on (subst (AreAlike r s 0) (sym (as_many doc s on name)) h)
 
 -- the text stays
-pub tag_text : (flat : DocValue) (s : ℕ → Bool) (on : Bool) (name : Word) → text_of (with_tag_at flat s on name).cells ≡ text_of flat.cells
-tag_text flat s on name =
-    let stamps = changed_stamps name on (cells_at s 0 flat.cells) in
-    text_changed (cell_with_tag flat.site flat.count name on stamps) (tagged_state flat.site flat.count name on stamps) flat.cells
+pub tag_text : (doc : DocValue) (s : ℕ → Bool) (on : Bool) (name : Word) → text_of (with_tag_at doc s on name).cells ≡ text_of doc.cells
+tag_text doc s on name =
+    let stamps = changed_stamps name on (cells_at s 0 doc.cells) in
+    text_changed (cell_with_tag doc.site doc.count name on stamps) (tagged_state doc.site doc.count name on stamps) doc.cells
 
-pub listed_text : (on : Bool) (name : Word) (flat : DocValue) → text_of (listed_if on name flat).cells ≡ text_of flat.cells
-listed_text true name flat = refl
-listed_text false name flat = refl
+pub listed_text : (on : Bool) (name : Word) (doc : DocValue) → text_of (listed_if on name doc).cells ≡ text_of doc.cells
+listed_text true name doc = refl
+listed_text false name doc = refl
 
-pub listed_count : (on : Bool) (name : Word) (flat : DocValue) → (listed_if on name flat).count ≡ flat.count
-listed_count true name flat = refl
-listed_count false name flat = refl
+pub listed_count : (on : Bool) (name : Word) (doc : DocValue) → (listed_if on name doc).count ≡ doc.count
+listed_count true name doc = refl
+listed_count false name doc = refl
 
 -- TAGS THAT ARE DELETED
 
@@ -62,18 +62,18 @@ map_same [] = refl
 map_same (c ∷ cs) = ap (λ l. c ∷ l) (map_same cs)
 
 -- a tag that no character has
-pub absent_tag : (flat : DocValue) (name : Word) → All (λ c. is_on name c.state ≡ false) (visible_of flat.cells) → with_tag_at flat everywhere false name ≡ flat
-absent_tag flat name h =
-    let none : changed_stamps name false (cells_at everywhere 0 flat.cells) ≡ [] = ap (changed_stamps name false) (every_cell 0 flat.cells) ∙ ap (map (λ (c : TaggedCell). c.stamp)) (none_changed name (visible_of flat.cells) h) in
-    ap (with_tag flat name false) none ∙ (λ i. record flat { cells = map_same flat.cells i; count = add-zero flat.count i })
+pub absent_tag : (doc : DocValue) (name : Word) → All (λ c. is_on name c.state ≡ false) (visible_of doc.cells) → with_tag_at doc everywhere false name ≡ doc
+absent_tag doc name h =
+    let none : changed_stamps name false (cells_at everywhere 0 doc.cells) ≡ [] = ap (changed_stamps name false) (every_cell 0 doc.cells) ∙ ap (map (λ (c : TaggedCell). c.stamp)) (none_changed name (visible_of doc.cells) h) in
+    ap (with_tag doc name false) none ∙ (λ i. record doc { cells = map_same doc.cells i; count = add-zero doc.count i })
 
 -- where no character has a tag, none has it after another was taken off
-pub still_absent : (flat : DocValue) (name q : Word) → All (λ c. is_on q c.state ≡ false) (visible_of flat.cells) → All (λ c. is_on q c.state ≡ false) (visible_of (with_tag_at flat everywhere false name).cells)
-still_absent flat name q h =
-    let stamps = changed_stamps name false (cells_at everywhere 0 flat.cells) in
-    visible_after (λ c. is_on q c.state ≡ false) (λ c. is_on q c.state ≡ false) flat everywhere false name
-    (λ cell k. split (is_on q (cell_with_tag flat.site flat.count name false stamps cell).state)
-    (λ t. elim (tagged_on flat.site flat.count name false stamps q cell t) [
+pub still_absent : (doc : DocValue) (name q : Word) → All (λ c. is_on q c.state ≡ false) (visible_of doc.cells) → All (λ c. is_on q c.state ≡ false) (visible_of (with_tag_at doc everywhere false name).cells)
+still_absent doc name q h =
+    let stamps = changed_stamps name false (cells_at everywhere 0 doc.cells) in
+    visible_after (λ c. is_on q c.state ≡ false) (λ c. is_on q c.state ≡ false) doc everywhere false name
+    (λ cell k. split (is_on q (cell_with_tag doc.site doc.count name false stamps cell).state)
+    (λ t. elim (tagged_on doc.site doc.count name false stamps q cell t) [
       | inl before ↦ absurd (both_ways (is_on q cell.state) k before)
       | inr put ↦ absurd (both_ways false refl put.1)
     ])

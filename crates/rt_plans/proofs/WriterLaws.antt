@@ -206,20 +206,20 @@ all_map P Q g h [] k = All-nil Q
 all_map P Q g h (c ∷ cs) k = All-cons Q (g c) (map g cs) (h c (All-head P c cs k)) (all_map P Q g h cs (All-tail P c cs k))
 
 -- the writers on a document's characters stay known
-pub tag_written : (flat : DocValue) (places : ℕ → Bool) (on : Bool) (name : Word) → AreWritten flat.count flat.cells → AreWritten (with_tag_at flat places on name).count (with_tag_at flat places on name).cells
-tag_written flat places on name h =
-    let stamps = changed_stamps name on (cells_at places 0 flat.cells) in
-    all_map (λ c. IsWritten flat.count c.state) (λ c. IsWritten (flat.count + operations_for (span_count stamps)) c.state) (cell_with_tag flat.site flat.count name on stamps) (tagged_written flat.site flat.count name on stamps) flat.cells h
+pub tag_written : (doc : DocValue) (places : ℕ → Bool) (on : Bool) (name : Word) → AreWritten doc.count doc.cells → AreWritten (with_tag_at doc places on name).count (with_tag_at doc places on name).cells
+tag_written doc places on name h =
+    let stamps = changed_stamps name on (cells_at places 0 doc.cells) in
+    all_map (λ c. IsWritten doc.count c.state) (λ c. IsWritten (doc.count + operations_for (span_count stamps)) c.state) (cell_with_tag doc.site doc.count name on stamps) (tagged_written doc.site doc.count name on stamps) doc.cells h
 
-pub tag_grows : (flat : DocValue) (places : ℕ → Bool) (on : Bool) (name : Word) → flat.count ≤ (with_tag_at flat places on name).count
-tag_grows flat places on name = omega arith
+pub tag_grows : (doc : DocValue) (places : ℕ → Bool) (on : Bool) (name : Word) → doc.count ≤ (with_tag_at doc places on name).count
+tag_grows doc places on name = omega arith
 
-without_grows : (flat : DocValue) (name : Word) → flat.count ≤ (without_tag flat name).count
-without_grows flat name =
+without_grows : (doc : DocValue) (name : Word) → doc.count ≤ (without_tag doc name).count
+without_grows doc name =
     split (bytes_eq name sel)
-    (λ t. let same : (without_tag flat name).count ≡ flat.count = ap (λ (f : DocValue). f.count) (cond-true (bytes_eq name sel) flat _ t) in omega (arith, same))
-    (λ f. let same : (without_tag flat name).count ≡ (with_tag_at flat (λ _. true) false name).count = ap (λ (f : DocValue). f.count) (cond-false (bytes_eq name sel) flat _ f) in omega (arith, same, tag_grows flat (λ _. true) false name))
+    (λ t. let same : (without_tag doc name).count ≡ doc.count = ap (λ (f : DocValue). f.count) (cond-true (bytes_eq name sel) doc _ t) in omega (arith, same))
+    (λ f. let same : (without_tag doc name).count ≡ (with_tag_at doc (λ _. true) false name).count = ap (λ (f : DocValue). f.count) (cond-false (bytes_eq name sel) doc _ f) in omega (arith, same, tag_grows doc (λ _. true) false name))
 
-pub all_without_grows : (names : List Word) (flat : DocValue) → flat.count ≤ (without_tags flat names).count
-all_without_grows [] flat = omega arith
-all_without_grows (name ∷ names) flat = omega (arith, without_grows flat name, all_without_grows names (without_tag flat name))
+pub all_without_grows : (names : List Word) (doc : DocValue) → doc.count ≤ (without_tags doc names).count
+all_without_grows [] doc = omega arith
+all_without_grows (name ∷ names) doc = omega (arith, without_grows doc name, all_without_grows names (without_tag doc name))

@@ -30,49 +30,49 @@ RangesSpareLast =
 -- They may be made also where the counts don't fit.
 abbrev pub LossMayBeMade : Type 0
 LossMayBeMade =
-    (site : ℕ) (log : List Operation) (flat : DocValue) (loss : Loss) → IsHistory log → IsDocument site log flat → SparesLast loss.places (text_of flat.cells)
-    → MayBeMade site log (delete_drafts MOST_SPANS flat loss)
+    (site : ℕ) (log : List Operation) (doc : DocValue) (loss : Loss) → IsHistory log → IsDocument site log doc → SparesLast loss.places (text_of doc.cells)
+    → MayBeMade site log (delete_drafts MOST_SPANS doc loss)
 
 abbrev pub LossIsCounted : Type 0
 LossIsCounted =
-    (site : ℕ) (log : List Operation) (flat : DocValue) (loss : Loss) → IsHistory log → IsDocument site log flat
-    → greatest_last_count (with_drafts site (delete_drafts MOST_SPANS flat loss) log) ≡ (without_text flat loss).count
+    (site : ℕ) (log : List Operation) (doc : DocValue) (loss : Loss) → IsHistory log → IsDocument site log doc
+    → greatest_last_count (with_drafts site (delete_drafts MOST_SPANS doc loss) log) ≡ (without_text doc loss).count
 
 abbrev pub LossIsMade : Type 0
 LossIsMade =
-    (site : ℕ) (log : List Operation) (flat : DocValue) (loss : Loss) → 0 < site → IsHistory log → IsDocument site log flat
-    → SparesLast loss.places (text_of flat.cells) → (without_text flat loss).count ≤ GREATEST_COUNT
-    → IsDocument site (with_drafts site (delete_drafts MOST_SPANS flat loss) log) (without_text flat loss)
+    (site : ℕ) (log : List Operation) (doc : DocValue) (loss : Loss) → 0 < site → IsHistory log → IsDocument site log doc
+    → SparesLast loss.places (text_of doc.cells) → (without_text doc loss).count ≤ GREATEST_COUNT
+    → IsDocument site (with_drafts site (delete_drafts MOST_SPANS doc loss) log) (without_text doc loss)
 
 abbrev pub LossInsertsNone : Type 0
-LossInsertsNone = (flat : DocValue) (loss : Loss) → characters_in_all (delete_drafts MOST_SPANS flat loss) ≡ 0
+LossInsertsNone = (doc : DocValue) (loss : Loss) → characters_in_all (delete_drafts MOST_SPANS doc loss) ≡ 0
 
 -- REPLACEMENTS: a deletion, and then an insertion into what it leaves
 
 abbrev pub ReplacementMayBeMade : Type 0
 ReplacementMayBeMade =
-    (site : ℕ) (log : List Operation) (flat : DocValue) (loss : Loss) (after : Stamp) (left right : Option TaggedCell) (pieces : List Piece)
-    (rest : Word) (start : Insertion) → IsHistory log → IsDocument site log flat → SparesLast loss.places (text_of flat.cells)
-    → IsInsertion site (with_drafts site (delete_drafts MOST_SPANS flat loss) log) after left right pieces rest start
-    → MayBeMade site log (delete_drafts MOST_SPANS flat loss ++ insertion_drafts MOST_CHARACTERS site after left right pieces rest start)
+    (site : ℕ) (log : List Operation) (doc : DocValue) (loss : Loss) (after : Stamp) (left right : Option TaggedCell) (pieces : List Piece)
+    (rest : Word) (start : Insertion) → IsHistory log → IsDocument site log doc → SparesLast loss.places (text_of doc.cells)
+    → IsInsertion site (with_drafts site (delete_drafts MOST_SPANS doc loss) log) after left right pieces rest start
+    → MayBeMade site log (delete_drafts MOST_SPANS doc loss ++ insertion_drafts MOST_CHARACTERS site after left right pieces rest start)
 
 abbrev pub ReplacementIsCounted : Type 0
 ReplacementIsCounted =
-    (site : ℕ) (log : List Operation) (flat : DocValue) (loss : Loss) (after : Stamp) (left right : Option TaggedCell) (pieces : List Piece)
-    (rest : Word) (start : Insertion) → IsHistory log → IsDocument site log flat → start.count ≡ (without_text flat loss).count
+    (site : ℕ) (log : List Operation) (doc : DocValue) (loss : Loss) (after : Stamp) (left right : Option TaggedCell) (pieces : List Piece)
+    (rest : Word) (start : Insertion) → IsHistory log → IsDocument site log doc → start.count ≡ (without_text doc loss).count
     → greatest_last_count (with_drafts site
-    (delete_drafts MOST_SPANS flat loss ++ insertion_drafts MOST_CHARACTERS site after left right pieces rest start) log)
+    (delete_drafts MOST_SPANS doc loss ++ insertion_drafts MOST_CHARACTERS site after left right pieces rest start) log)
     ≡ (insertion_of site left right pieces rest start).count
 
 abbrev pub ReplacementIsMade : Type 0
 ReplacementIsMade =
-    (site : ℕ) (log : List Operation) (flat : DocValue) (loss : Loss) (after : Stamp) (left right : Option TaggedCell) (pieces : List Piece)
-    (rest : Word) (start : Insertion) → 0 < site → IsHistory log → IsDocument site log flat → SparesLast loss.places (text_of flat.cells)
-    → IsInsertion site (with_drafts site (delete_drafts MOST_SPANS flat loss) log) after left right pieces rest start
+    (site : ℕ) (log : List Operation) (doc : DocValue) (loss : Loss) (after : Stamp) (left right : Option TaggedCell) (pieces : List Piece)
+    (rest : Word) (start : Insertion) → 0 < site → IsHistory log → IsDocument site log doc → SparesLast loss.places (text_of doc.cells)
+    → IsInsertion site (with_drafts site (delete_drafts MOST_SPANS doc loss) log) after left right pieces rest start
     → (insertion_of site left right pieces rest start).count ≤ GREATEST_COUNT
     → cells_of (with_drafts site
-    (delete_drafts MOST_SPANS flat loss ++ insertion_drafts MOST_CHARACTERS site after left right pieces rest start) log)
-    ≡ put_after (without_text flat loss).cells after (insertion_of site left right pieces rest start).cells
+    (delete_drafts MOST_SPANS doc loss ++ insertion_drafts MOST_CHARACTERS site after left right pieces rest start) log)
+    ≡ put_after (without_text doc loss).cells after (insertion_of site left right pieces rest start).cells
 
 -- WHAT EDITS FIND
 
@@ -83,9 +83,9 @@ LeftIsElement = (log : List Operation) (place : ℕ) → IsHistory log → place
 -- The visible left neighbour of a place below the end of what a deletion leaves, also where its counts don't fit.
 abbrev pub LeftStaysElement : Type 0
 LeftStaysElement =
-    (site : ℕ) (log : List Operation) (flat : DocValue) (loss : Loss) (place : ℕ) → IsHistory log → IsDocument site log flat
-    → SparesLast loss.places (text_of flat.cells) → place < length (text_of (without_text flat loss).cells)
-    → IsElement (with_drafts site (delete_drafts MOST_SPANS flat loss) log) (left_stamp (without_text flat loss).cells place)
+    (site : ℕ) (log : List Operation) (doc : DocValue) (loss : Loss) (place : ℕ) → IsHistory log → IsDocument site log doc
+    → SparesLast loss.places (text_of doc.cells) → place < length (text_of (without_text doc loss).cells)
+    → IsElement (with_drafts site (delete_drafts MOST_SPANS doc loss) log) (left_stamp (without_text doc loss).cells place)
 
 -- The tags on the characters of a history are names that rise by their bytes.
 abbrev pub CellsHaveTagNames : Type 0
@@ -94,9 +94,9 @@ CellsHaveTagNames = (log : List Operation) → IsHistory log → All (λ cell. A
 -- The tags that both neighbours have in what a deletion leaves, where pieces stand before the place perhaps.
 abbrev pub TagsLeftAreTags : Type 0
 TagsLeftAreTags =
-    (site : ℕ) (log : List Operation) (flat : DocValue) (loss : Loss) (place : ℕ) (right : Option TaggedCell) (pieces : List Piece)
-    (start : Insertion) → IsHistory log → IsDocument site log flat → HaveTexts pieces → start.cells ≡ []
-    → AreTagNames (tags_between (on_left (left_neighbour (visible_of (without_text flat loss).cells) place)
+    (site : ℕ) (log : List Operation) (doc : DocValue) (loss : Loss) (place : ℕ) (right : Option TaggedCell) (pieces : List Piece)
+    (start : Insertion) → IsHistory log → IsDocument site log doc → HaveTexts pieces → start.cells ≡ []
+    → AreTagNames (tags_between (on_left (left_neighbour (visible_of (without_text doc loss).cells) place)
     (with_pieces site pieces start).cells) right)
 
 -- The characters of a text's bytes are scalar values.
@@ -116,17 +116,17 @@ PiecesAreTexts = (pieces : List Piece) → All IsPiece pieces → HaveTexts piec
 -- Before each place below the text's end an insertion may begin.
 abbrev pub InsertionsMayBegin : Type 0
 InsertionsMayBegin =
-    (site : ℕ) (log : List Operation) (flat : DocValue) (place : ℕ) (right : Option TaggedCell) (pieces : List Piece) (rest : Word) (start : Insertion)
-    → IsHistory log → IsDocument site log flat → place < length (text_of flat.cells) → HaveTexts pieces → IsUtf8 rest
-    → start.cells ≡ [] → start.count ≡ flat.count
-    → IsInsertion site log (left_stamp flat.cells place) (left_neighbour (visible_of flat.cells) place) right pieces rest start
+    (site : ℕ) (log : List Operation) (doc : DocValue) (place : ℕ) (right : Option TaggedCell) (pieces : List Piece) (rest : Word) (start : Insertion)
+    → IsHistory log → IsDocument site log doc → place < length (text_of doc.cells) → HaveTexts pieces → IsUtf8 rest
+    → start.cells ≡ [] → start.count ≡ doc.count
+    → IsInsertion site log (left_stamp doc.cells place) (left_neighbour (visible_of doc.cells) place) right pieces rest start
 
 -- So it may before each place below the end of what a deletion leaves, also where its counts don't fit.
 abbrev pub ReplacementsMayBegin : Type 0
 ReplacementsMayBegin =
-    (site : ℕ) (log : List Operation) (flat : DocValue) (loss : Loss) (place : ℕ) (right : Option TaggedCell) (pieces : List Piece)
-    (rest : Word) (start : Insertion) → IsHistory log → IsDocument site log flat → SparesLast loss.places (text_of flat.cells)
-    → let left = without_text flat loss in
+    (site : ℕ) (log : List Operation) (doc : DocValue) (loss : Loss) (place : ℕ) (right : Option TaggedCell) (pieces : List Piece)
+    (rest : Word) (start : Insertion) → IsHistory log → IsDocument site log doc → SparesLast loss.places (text_of doc.cells)
+    → let left = without_text doc loss in
     place < length (text_of left.cells) → HaveTexts pieces → IsUtf8 rest → start.cells ≡ [] → start.count ≡ left.count
-    → IsInsertion site (with_drafts site (delete_drafts MOST_SPANS flat loss) log) (left_stamp left.cells place)
+    → IsInsertion site (with_drafts site (delete_drafts MOST_SPANS doc loss) log) (left_stamp left.cells place)
     (left_neighbour (visible_of left.cells) place) right pieces rest start

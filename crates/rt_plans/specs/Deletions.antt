@@ -34,26 +34,26 @@ loss_in text begin ranges =
 
 -- the newline that stays
 abbrev pub newline_left : DocValue → Loss → Option TaggedCell
-newline_left flat loss = option_and_then (slice_get (visible_of flat.cells)) loss.newline
+newline_left doc loss = option_and_then (slice_get (visible_of doc.cells)) loss.newline
 
 -- the document without the characters at some places: their cells are gone, with the counts that this takes, and the marks move
 -- for that
 abbrev pub without_places : DocValue → (ℕ → Bool) → DocValue
-without_places flat removed = record flat {
-  cells = gone_at removed 0 flat.cells;
-  count = flat.count + operations_for (span_count (stamps_at removed 0 flat.cells));
-  marks = marks_left removed flat.marks;
+without_places doc removed = record doc {
+  cells = gone_at removed 0 doc.cells;
+  count = doc.count + operations_for (span_count (stamps_at removed 0 doc.cells));
+  marks = marks_left removed doc.marks;
 }
 
 -- the document without what a deletion takes
 abbrev pub without_text : DocValue → Loss → DocValue
-without_text flat loss =
-    let left = without_places flat loss.places in
-    unwrap_or (option_map (λ cell. bared left cell.stamp (names_on cell.state)) (newline_left flat loss)) left
+without_text doc loss =
+    let left = without_places doc loss.places in
+    unwrap_or (option_map (λ cell. bared left cell.stamp (names_on cell.state)) (newline_left doc loss)) left
 
 -- The operations: the Deletes of the characters that go, of at most so many spans each, and then one Tag for each shared tag of the
 -- newline that stays, by their bytes.
 abbrev pub delete_drafts : ℕ → DocValue → Loss → List Body
-delete_drafts most flat loss =
-    removal_drafts most loss.places flat.cells
-    ++ unwrap_or (option_map (λ cell. newline_drafts cell.stamp (names_on cell.state)) (newline_left flat loss)) []
+delete_drafts most doc loss =
+    removal_drafts most loss.places doc.cells
+    ++ unwrap_or (option_map (λ cell. newline_drafts cell.stamp (names_on cell.state)) (newline_left doc loss)) []

@@ -36,4 +36,4 @@ put_after cells left new = let at = after_element cells left in take at cells ++
 
 -- an edited document, whose log has gained the operations that the site makes of drafts
 abbrev pub logged : DocValue → List Body → DocValue → DocValue
-logged flat drafts edited = record edited { log = with_drafts flat.site drafts flat.log }
+logged doc drafts edited = record edited { log = with_drafts doc.site drafts doc.log }

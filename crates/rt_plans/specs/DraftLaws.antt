@@ -27,10 +27,10 @@ use Rattle.rt_plans.specs.TagDrafts.{tag_deletion_drafts, newline_drafts, tag_dr
 use Rattle.rt_plans.specs.TagWrites.{bared, cell_with_tag, with_tags_at, without_tags}
 
 -- a document has the cells of its site's history, and its greatest count
-pub record IsDocument (number : ℕ) (log : List Operation) (flat : DocValue) : Type 0 where
-  pub cells : flat.cells ≡ cells_of log
-  pub site : flat.site ≡ number
-  pub count : flat.count ≡ greatest_last_count log
+pub record IsDocument (number : ℕ) (log : List Operation) (doc : DocValue) : Type 0 where
+  pub cells : doc.cells ≡ cells_of log
+  pub site : doc.site ≡ number
+  pub count : doc.count ≡ greatest_last_count log
 
 -- places among which the last newline's isn't
 abbrev pub SparesLast : (ℕ → Bool) → List ℕ → Type 0
@@ -56,9 +56,9 @@ DeletesMayBeMade =
 
 abbrev pub RemovalIsMade : Type 0
 RemovalIsMade =
-    (site : ℕ) (log : List Operation) (flat : DocValue) (removed : ℕ → Bool) → 0 < site → IsHistory log → IsDocument site log flat
-    → SparesLast removed (text_of flat.cells) → (without_places flat removed).count ≤ GREATEST_COUNT
-    → IsDocument site (with_drafts site (removal_drafts MOST_SPANS removed flat.cells) log) (without_places flat removed)
+    (site : ℕ) (log : List Operation) (doc : DocValue) (removed : ℕ → Bool) → 0 < site → IsHistory log → IsDocument site log doc
+    → SparesLast removed (text_of doc.cells) → (without_places doc removed).count ≤ GREATEST_COUNT
+    → IsDocument site (with_drafts site (removal_drafts MOST_SPANS removed doc.cells) log) (without_places doc removed)
 
 -- TAGS
 
@@ -77,43 +77,43 @@ TagsAreCounted =
 -- Tags on the characters at some places, one tag after the other.
 abbrev pub TagsMayBeMade : Type 0
 TagsMayBeMade =
-    (site : ℕ) (log : List Operation) (flat : DocValue) (places : ℕ → Bool) (on : Bool) (names : List Word)
-    → IsHistory log → IsDocument site log flat → AllByRecursion (λ name. is_name name ≡ true) names
-    → MayBeMade site log (tags_drafts_at MOST_SPANS flat places on names)
+    (site : ℕ) (log : List Operation) (doc : DocValue) (places : ℕ → Bool) (on : Bool) (names : List Word)
+    → IsHistory log → IsDocument site log doc → AllByRecursion (λ name. is_name name ≡ true) names
+    → MayBeMade site log (tags_drafts_at MOST_SPANS doc places on names)
 
 abbrev pub TagsAreMade : Type 0
 TagsAreMade =
-    (site : ℕ) (log : List Operation) (flat : DocValue) (places : ℕ → Bool) (on : Bool) (names : List Word)
-    → 0 < site → IsHistory log → IsDocument site log flat → AllByRecursion (λ name. is_name name ≡ true) names
-    → (with_tags_at flat places on names).count ≤ GREATEST_COUNT
-    → IsDocument site (with_drafts site (tags_drafts_at MOST_SPANS flat places on names) log) (with_tags_at flat places on names)
+    (site : ℕ) (log : List Operation) (doc : DocValue) (places : ℕ → Bool) (on : Bool) (names : List Word)
+    → 0 < site → IsHistory log → IsDocument site log doc → AllByRecursion (λ name. is_name name ≡ true) names
+    → (with_tags_at doc places on names).count ≤ GREATEST_COUNT
+    → IsDocument site (with_drafts site (tags_drafts_at MOST_SPANS doc places on names) log) (with_tags_at doc places on names)
 
 -- Tags that are deleted, by any words: `sel` perhaps among them, and words that no character has as a tag.
 abbrev pub DeletionsMayBeMade : Type 0
 DeletionsMayBeMade =
-    (site : ℕ) (log : List Operation) (flat : DocValue) (names : List Word)
-    → IsHistory log → IsDocument site log flat → MayBeMade site log (tag_deletion_drafts MOST_SPANS flat names)
+    (site : ℕ) (log : List Operation) (doc : DocValue) (names : List Word)
+    → IsHistory log → IsDocument site log doc → MayBeMade site log (tag_deletion_drafts MOST_SPANS doc names)
 
 abbrev pub DeletionsAreMade : Type 0
 DeletionsAreMade =
-    (site : ℕ) (log : List Operation) (flat : DocValue) (names : List Word)
-    → 0 < site → IsHistory log → IsDocument site log flat → (without_tags flat names).count ≤ GREATEST_COUNT
-    → IsDocument site (with_drafts site (tag_deletion_drafts MOST_SPANS flat names) log) (without_tags flat names)
+    (site : ℕ) (log : List Operation) (doc : DocValue) (names : List Word)
+    → 0 < site → IsHistory log → IsDocument site log doc → (without_tags doc names).count ≤ GREATEST_COUNT
+    → IsDocument site (with_drafts site (tag_deletion_drafts MOST_SPANS doc names) log) (without_tags doc names)
 
 -- A newline that stays, or any other visible character, loses all its tags by one Tag for each: just those that take them off at
 -- its place.
 abbrev pub NewlineHasOneTagEach : Type 0
 NewlineHasOneTagEach =
-    (site : ℕ) (log : List Operation) (flat : DocValue) (place : ℕ) (cell : TaggedCell) → IsHistory log → IsDocument site log flat
-    → slice_get (visible_of flat.cells) place ≡ Some cell
-    → tags_drafts_at MOST_SPANS flat (λ p. p == place) false (names_on cell.state) ≡ newline_drafts cell.stamp (names_on cell.state)
+    (site : ℕ) (log : List Operation) (doc : DocValue) (place : ℕ) (cell : TaggedCell) → IsHistory log → IsDocument site log doc
+    → slice_get (visible_of doc.cells) place ≡ Some cell
+    → tags_drafts_at MOST_SPANS doc (λ p. p == place) false (names_on cell.state) ≡ newline_drafts cell.stamp (names_on cell.state)
 
 -- The document is then as where they are taken off at its place.
 abbrev pub NewlineIsBared : Type 0
 NewlineIsBared =
-    (site : ℕ) (log : List Operation) (flat : DocValue) (place : ℕ) (cell : TaggedCell) → IsHistory log → IsDocument site log flat
-    → slice_get (visible_of flat.cells) place ≡ Some cell
-    → with_tags_at flat (λ p. p == place) false (names_on cell.state) ≡ bared flat cell.stamp (names_on cell.state)
+    (site : ℕ) (log : List Operation) (doc : DocValue) (place : ℕ) (cell : TaggedCell) → IsHistory log → IsDocument site log doc
+    → slice_get (visible_of doc.cells) place ≡ Some cell
+    → with_tags_at doc (λ p. p == place) false (names_on cell.state) ≡ bared doc cell.stamp (names_on cell.state)
 
 -- INSERTIONS
 
@@ -205,13 +205,13 @@ TagsBetweenAreTags =
 -- Whether the counts fit is told by the count of the flat edit.
 abbrev pub AllTagsAreCounted : Type 0
 AllTagsAreCounted =
-    (site : ℕ) (log : List Operation) (flat : DocValue) (places : ℕ → Bool) (on : Bool) (names : List Word) → IsHistory log → IsDocument site log flat
-    → greatest_last_count (with_drafts site (tags_drafts_at MOST_SPANS flat places on names) log) ≡ (with_tags_at flat places on names).count
+    (site : ℕ) (log : List Operation) (doc : DocValue) (places : ℕ → Bool) (on : Bool) (names : List Word) → IsHistory log → IsDocument site log doc
+    → greatest_last_count (with_drafts site (tags_drafts_at MOST_SPANS doc places on names) log) ≡ (with_tags_at doc places on names).count
 
 abbrev pub DeletionsAreCounted : Type 0
 DeletionsAreCounted =
-    (site : ℕ) (log : List Operation) (flat : DocValue) (names : List Word) → IsHistory log → IsDocument site log flat
-    → greatest_last_count (with_drafts site (tag_deletion_drafts MOST_SPANS flat names) log) ≡ (without_tags flat names).count
+    (site : ℕ) (log : List Operation) (doc : DocValue) (names : List Word) → IsHistory log → IsDocument site log doc
+    → greatest_last_count (with_drafts site (tag_deletion_drafts MOST_SPANS doc names) log) ≡ (without_tags doc names).count
 
 abbrev pub InsertionIsCounted : Type 0
 InsertionIsCounted =
@@ -223,10 +223,10 @@ InsertionIsCounted =
 -- Whether the cells fit is told by the new cells of the flat edit: tags and removals insert no characters.
 abbrev pub TagsInsertNone : Type 0
 TagsInsertNone =
-    (flat : DocValue) (places : ℕ → Bool) (on : Bool) (names : List Word) → characters_in_all (tags_drafts_at MOST_SPANS flat places on names) ≡ 0
+    (doc : DocValue) (places : ℕ → Bool) (on : Bool) (names : List Word) → characters_in_all (tags_drafts_at MOST_SPANS doc places on names) ≡ 0
 
 abbrev pub DeletionsInsertNone : Type 0
-DeletionsInsertNone = (flat : DocValue) (names : List Word) → characters_in_all (tag_deletion_drafts MOST_SPANS flat names) ≡ 0
+DeletionsInsertNone = (doc : DocValue) (names : List Word) → characters_in_all (tag_deletion_drafts MOST_SPANS doc names) ≡ 0
 
 abbrev pub InsertionHasNewCells : Type 0
 InsertionHasNewCells =

@@ -21,18 +21,18 @@ cells_of_yab = cells_from 3 2 [] (codes "Y") ++ cells_from 1 1 [] (codes "ab")
 abbrev pub cells_with_t : List TaggedCell
 cells_with_t = cells_from 3 2 [] (codes "Y") ++ cells_from 1 1 (state_after [] (listed_by ROOT only_t)) (codes "a") ++ cells_from 2 1 [] (codes "b")
 
-abbrev pub flat_with_t : DocValue
-flat_with_t = record (new_doc 3 9) { cells = cells_with_t; count = 3 }
+abbrev pub doc_with_t : DocValue
+doc_with_t = record (new_doc 3 9) { cells = cells_with_t; count = 3 }
 
 -- that document with the last newline, which has the tag t too
-abbrev pub flat_with_newline : DocValue
-flat_with_newline = record flat_with_t {
+abbrev pub doc_with_newline : DocValue
+doc_with_newline = record doc_with_t {
   cells = cells_with_t ++ record { stamp = FINAL; ch = 10; gone = false; state = state_after [] (listed_by ROOT only_t) } ∷ [];
 }
 
 -- the lines `a`, `b`, `c` and `d`, of site 1, each character of which has the tag t, and the last newline
-abbrev pub flat_of_lines : DocValue
-flat_of_lines = record (new_doc 3 9) {
+abbrev pub doc_of_lines : DocValue
+doc_of_lines = record (new_doc 3 9) {
   cells = cells_from 1 1 (state_after [] (listed_by (at 1 1) only_t)) (codes "a\nb\nc\nd") ++ record { stamp = FINAL; ch = 10; gone = false; state = [] } ∷ [];
   count = 7;
 }

@@ -5,7 +5,7 @@ use Rattle.rt_stamps.specs.declared.stamp.Span.{Span}
 use Rattle.rt_stamps.specs.declared.stamp.Stamp.{Stamp}
 use Rattle.rt_stamps.specs.Spans.{span_of}
 use Rattle.rt_stamps.specs.Stamps.{is_same}
-use Rattle.rt_store.specs.Spans.{precedes, next_stamp, last_stamp}
+use Rattle.rt_store.specs.Spans.{first_in_span, last_stamp, next_stamp, precedes}
 
 -- one stamp more among stamps by site
 abbrev pub put_by_site : Stamp → List Stamp → List Stamp
@@ -16,9 +16,6 @@ put_by_site stamp (first ∷ stamps) = if precedes stamp first then stamp ∷ fi
 abbrev pub by_site : List Stamp → List Stamp
 by_site [] = []
 by_site (stamp ∷ stamps) = put_by_site stamp (by_site stamps)
-
-abbrev pub first_in_span : Span → Stamp
-first_in_span span = record { count = span.first; site = span.site }
 
 -- a span before others: one span with the first of them where that goes on with the next count
 abbrev pub attached : Span → List Span → List Span

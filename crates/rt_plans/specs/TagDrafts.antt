@@ -23,15 +23,15 @@ tag_drafts_at most places on name cells = tag_drafts most on name (changed_stamp
 
 -- several tags, each where the ones before it have left it to be put on or taken off
 abbrev pub tags_drafts_at : ℕ → DocValue → (ℕ → Bool) → Bool → List Word → List Body
-tags_drafts_at most flat places on [] = []
-tags_drafts_at most flat places on (name ∷ names) =
-    tag_drafts_at most places on name flat.cells ++ tags_drafts_at most (with_tag_at flat places on name) places on names
+tags_drafts_at most doc places on [] = []
+tags_drafts_at most doc places on (name ∷ names) =
+    tag_drafts_at most places on name doc.cells ++ tags_drafts_at most (with_tag_at doc places on name) places on names
 
 -- tags that are deleted are taken off the whole text; `sel` makes no operation
 abbrev pub tag_deletion_drafts : ℕ → DocValue → List Word → List Body
-tag_deletion_drafts most flat [] = []
-tag_deletion_drafts most flat (name ∷ names) =
-    (if bytes_eq name sel then [] else tag_drafts_at most (λ _. true) false name flat.cells) ++ tag_deletion_drafts most (without_tag flat name) names
+tag_deletion_drafts most doc [] = []
+tag_deletion_drafts most doc (name ∷ names) =
+    (if bytes_eq name sel then [] else tag_drafts_at most (λ _. true) false name doc.cells) ++ tag_deletion_drafts most (without_tag doc name) names
 
 -- a newline loses tags: one Tag for each of them, by their bytes where the names are
 abbrev pub newline_drafts : Stamp → List Word → List Body

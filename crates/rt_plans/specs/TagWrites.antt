@@ -47,39 +47,39 @@ cell_with_tag site count name on stamps cell =
 
 -- a document after a tag was put on the characters of some stamps, or taken off: each operation takes a count
 abbrev pub with_tag : DocValue → Word → Bool → List Stamp → DocValue
-with_tag flat name on stamps = record flat {
-  cells = map (cell_with_tag flat.site flat.count name on stamps) flat.cells;
-  count = flat.count + operations_for (span_count stamps);
+with_tag doc name on stamps = record doc {
+  cells = map (cell_with_tag doc.site doc.count name on stamps) doc.cells;
+  count = doc.count + operations_for (span_count stamps);
 }
 
 -- a document after a tag was put on the characters at some places, or taken off: only those are named that the operation changes
 abbrev pub with_tag_at : DocValue → (ℕ → Bool) → Bool → Word → DocValue
-with_tag_at flat places on name = with_tag flat name on (changed_stamps name on (cells_at places 0 flat.cells))
+with_tag_at doc places on name = with_tag doc name on (changed_stamps name on (cells_at places 0 doc.cells))
 
 -- several tags, one after the other
 abbrev pub with_tags_at : DocValue → (ℕ → Bool) → Bool → List Word → DocValue
-with_tags_at flat places on [] = flat
-with_tags_at flat places on (name ∷ names) = with_tags_at (with_tag_at flat places on name) places on names
+with_tags_at doc places on [] = doc
+with_tags_at doc places on (name ∷ names) = with_tags_at (with_tag_at doc places on name) places on names
 
 -- tags taken off one character, one after the other
 abbrev pub bared : DocValue → Stamp → List Word → DocValue
-bared flat stamp [] = flat
-bared flat stamp (name ∷ names) = bared (with_tag flat name false (stamp ∷ [])) stamp names
+bared doc stamp [] = doc
+bared doc stamp (name ∷ names) = bared (with_tag doc name false (stamp ∷ [])) stamp names
 
 -- a tag that is put on is listed, a new one with the highest priority, also where no character gets it
 abbrev pub listed_if : Bool → Word → DocValue → DocValue
-listed_if true name flat = record flat { tags = with_name name flat.tags }
-listed_if false name flat = flat
+listed_if true name doc = record doc { tags = with_name name doc.tags }
+listed_if false name doc = doc
 
 -- tags taken off all characters and no longer listed; `sel` is passed over
 abbrev pub without_tag : DocValue → Word → DocValue
-without_tag flat name =
-    if bytes_eq name sel then flat
-    else let off = with_tag_at flat (λ _. true) false name in record off { tags = without name off.tags }
+without_tag doc name =
+    if bytes_eq name sel then doc
+    else let off = with_tag_at doc (λ _. true) false name in record off { tags = without name off.tags }
 
 abbrev pub without_tags : DocValue → List Word → DocValue
-without_tags flat [] = flat
-without_tags flat (name ∷ names) = without_tags (without_tag flat name) names
+without_tags doc [] = doc
+without_tags doc (name ∷ names) = without_tags (without_tag doc name) names
 
 -- WHAT IS ON AFTERWARDS
 

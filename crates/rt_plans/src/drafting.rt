@@ -81,7 +81,8 @@ fn push_newline<S: TextStore>(
     ensures err { IsOkUnless result Fault.NoMemory }
 {
     let newline = store.cell_at(place);
-    for tag in states.on(newline.state) {
+    let on = states.on(newline.state)?;
+    for tag in on.as_slice() {
         push_tags(
             alloc,
             drafts,
@@ -106,8 +107,8 @@ pub fn planned_deletion<S: TextStore>(
     requires stretch { (stretch.begin < stretch.end) × (stretch.end ≤ length (text_of (S.list store.now))) }
     requires distinct { AreDistinct (S.list store.now) }
     requires states { AreStates states.now (S.list store.now) }
-    ensures drafts { IfOk result (λ d. (flat : DocValue) → flat.cells ≡ map (shown states.now) (S.list store.now)
-        → map body_of d.drafts.items ≡ delete_drafts MOST_SPANS flat (loss_in (part stretch (text_of (S.list store.now))) stretch.begin ranges.now)) }
+    ensures drafts { IfOk result (λ d. (doc : DocValue) → doc.cells ≡ map (shown states.now) (S.list store.now)
+        → map body_of d.drafts.items ≡ delete_drafts MOST_SPANS doc (loss_in (part stretch (text_of (S.list store.now))) stretch.begin ranges.now)) }
     ensures places { IfOk result (λ d. (place : ℕ)
         → is_covered d.removed.items place ≡ (loss_in (part stretch (text_of (S.list store.now))) stretch.begin ranges.now).places place) }
     ensures order { IfOk result (λ d. RangesFollow 0 d.removed.items) }
@@ -172,9 +173,9 @@ pub fn planned_tag_deletion<S: TextStore>(
     requires distinct { AreDistinct (S.list store.now) }
     requires states { S.agrees store.now states.now }
     requires listed { AreListed tags.now.names (map (shown states.now) (S.list store.now)) }
-    ensures ok { IfOk result (λ drafts. (flat : DocValue) → AreWritten flat.count flat.cells
-        → flat.cells ≡ map (shown states.now) (S.list store.now)
-        → map body_of drafts.items ≡ tag_deletion_drafts MOST_SPANS flat (as_words names.now)) }
+    ensures ok { IfOk result (λ drafts. (doc : DocValue) → AreWritten doc.count doc.cells
+        → doc.cells ≡ map (shown states.now) (S.list store.now)
+        → map body_of drafts.items ≡ tag_deletion_drafts MOST_SPANS doc (as_words names.now)) }
     ensures err { IsOkUnless result Fault.NoMemory }
 {
     let all = [Range {

@@ -5,10 +5,11 @@ ghost use Rattle.rt_stamps.specs.declared.stamp.TheConstants.{FINAL, ROOT};
 ghost use Rattle.rt_stamps.specs.declared.limits.TheConstants.{MOST_CHARACTERS, MOST_SPANS};
 ghost use Rattle.rt_ops.specs.Operations.{Delete, Insert, Tag};
 ghost use Rattle.rt_store.specs.Cells.{text_of};
-ghost use Rattle.rt_rga.specs.Examples.{at, insert_ab, only_t, span};
+ghost use Rattle.rt_ops.specs.Examples.{span};
+ghost use Rattle.rt_rga.specs.Examples.{at, insert_ab, only_t};
 ghost use Rattle.rt_rga.specs.Made.{refusal_of};
 ghost use Rattle.rt_plans.specs.Deletions.{delete_drafts, loss_in, without_text};
-ghost use Rattle.rt_plans.specs.Examples.{all_tags, cells_of_yab, cells_with_t, flat_of_lines, flat_with_newline, flat_with_t, listed_tags, log_at_end, nothing_yet, piece_with_sel, tags_of_each, three_pieces, two_pieces, with_u};
+ghost use Rattle.rt_plans.specs.Examples.{all_tags, cells_of_yab, cells_with_t, doc_of_lines, doc_with_newline, doc_with_t, listed_tags, log_at_end, nothing_yet, piece_with_sel, tags_of_each, three_pieces, two_pieces, with_u};
 ghost use Rattle.rt_plans.specs.InsertionDrafts.{insertion_drafts, text_drafts};
 ghost use Rattle.rt_plans.specs.RemovalDrafts.{removal_drafts};
 ghost use Rattle.rt_plans.specs.TagDrafts.{tag_deletion_drafts, newline_drafts, tag_drafts_at, tags_drafts_at};
@@ -35,12 +36,12 @@ pub fn tags()
         ≡ Tag true (codes "t") (span 1 2 2 ∷ []) ∷ Tag true (codes "t") (span 2 3 3 ∷ []) ∷ [] }
     ensures off { tag_drafts_at MOST_SPANS (λ _. true) false (codes "t") cells_with_t ≡ Tag false (codes "t") (span 1 1 1 ∷ []) ∷ [] }
     ensures nothing { tag_drafts_at MOST_SPANS (λ _. true) false (codes "u") cells_with_t ≡ [] }
-    ensures both { tags_drafts_at MOST_SPANS flat_with_t (λ _. true) true (codes "t" ∷ codes "u" ∷ [])
+    ensures both { tags_drafts_at MOST_SPANS doc_with_t (λ _. true) true (codes "t" ∷ codes "u" ∷ [])
         ≡ Tag true (codes "t") (span 1 2 2 ∷ span 2 3 3 ∷ []) ∷ Tag true (codes "u") (span 1 1 2 ∷ span 2 3 3 ∷ []) ∷ [] }
-    ensures twice { tags_drafts_at MOST_SPANS flat_with_t (λ _. true) true (codes "u" ∷ codes "u" ∷ [])
+    ensures twice { tags_drafts_at MOST_SPANS doc_with_t (λ _. true) true (codes "u" ∷ codes "u" ∷ [])
         ≡ Tag true (codes "u") (span 1 1 2 ∷ span 2 3 3 ∷ []) ∷ [] }
-    ensures deleted { tag_deletion_drafts MOST_SPANS flat_with_t (sel ∷ codes "t" ∷ codes "t" ∷ []) ≡ Tag false (codes "t") (span 1 1 1 ∷ []) ∷ [] }
-    ensures deleted_at_end { tag_deletion_drafts MOST_SPANS flat_with_newline (codes "t" ∷ [])
+    ensures deleted { tag_deletion_drafts MOST_SPANS doc_with_t (sel ∷ codes "t" ∷ codes "t" ∷ []) ≡ Tag false (codes "t") (span 1 1 1 ∷ []) ∷ [] }
+    ensures deleted_at_end { tag_deletion_drafts MOST_SPANS doc_with_newline (codes "t" ∷ [])
         ≡ Tag false (codes "t") (span 0 1 1 ∷ span 1 1 1 ∷ []) ∷ [] }
     ensures newline { newline_drafts FINAL (codes "t" ∷ codes "u" ∷ [])
         ≡ Tag false (codes "t") (span 0 1 1 ∷ []) ∷ Tag false (codes "u") (span 0 1 1 ∷ []) ∷ [] }
@@ -75,13 +76,13 @@ pub fn pieces()
 /// Of `Yab` with the tag t on `a` and on the last newline: a range within it is one Delete. Where a range
 /// holds the last newline, this stays, and loses its tag after the Delete of the others.
 pub fn deletions()
-    ensures inner { delete_drafts MOST_SPANS flat_with_newline (loss_in (codes "Yab\n") 0 (record { from = 1; to = 2 } ∷ []))
+    ensures inner { delete_drafts MOST_SPANS doc_with_newline (loss_in (codes "Yab\n") 0 (record { from = 1; to = 2 } ∷ []))
         ≡ Delete (span 1 1 1 ∷ []) ∷ [] }
-    ensures whole { delete_drafts MOST_SPANS flat_with_newline (loss_in (codes "Yab\n") 0 (record { from = 0; to = 4 } ∷ []))
+    ensures whole { delete_drafts MOST_SPANS doc_with_newline (loss_in (codes "Yab\n") 0 (record { from = 0; to = 4 } ∷ []))
         ≡ Delete (span 1 1 2 ∷ span 2 3 3 ∷ []) ∷ Tag false (codes "t") (span 0 1 1 ∷ []) ∷ [] }
-    ensures newline { delete_drafts MOST_SPANS flat_with_newline (loss_in (codes "Yab\n") 0 (record { from = 3; to = 4 } ∷ []))
+    ensures newline { delete_drafts MOST_SPANS doc_with_newline (loss_in (codes "Yab\n") 0 (record { from = 3; to = 4 } ∷ []))
         ≡ Tag false (codes "t") (span 0 1 1 ∷ []) ∷ [] }
-    ensures nothing { delete_drafts MOST_SPANS flat_with_newline (loss_in (codes "Yab\n") 0 []) ≡ [] }
+    ensures nothing { delete_drafts MOST_SPANS doc_with_newline (loss_in (codes "Yab\n") 0 []) ≡ [] }
 {}
 
 /// Of the lines `a`, `b`, `c` and `d`, each character of which has the tag t, a stretch of two, `b` and
@@ -90,14 +91,14 @@ pub fn deletions()
 /// behind `b` and `c`: no empty line is left. The text around the stretch stays, with its tags; the last
 /// newline had none.
 pub fn stretches()
-    ensures all { delete_drafts MOST_SPANS flat_of_lines (loss_in (codes "b\nc\n") 2 (record { from = 0; to = 4 } ∷ []))
+    ensures all { delete_drafts MOST_SPANS doc_of_lines (loss_in (codes "b\nc\n") 2 (record { from = 0; to = 4 } ∷ []))
         ≡ Delete (span 1 3 5 ∷ []) ∷ Tag false (codes "t") (span 1 6 6 ∷ []) ∷ [] }
-    ensures second { delete_drafts MOST_SPANS flat_of_lines (loss_in (codes "b\nc\n") 2 (record { from = 2; to = 4 } ∷ []))
+    ensures second { delete_drafts MOST_SPANS doc_of_lines (loss_in (codes "b\nc\n") 2 (record { from = 2; to = 4 } ∷ []))
         ≡ Delete (span 1 4 5 ∷ []) ∷ Tag false (codes "t") (span 1 6 6 ∷ []) ∷ [] }
-    ensures inner { delete_drafts MOST_SPANS flat_of_lines (loss_in (codes "b\nc\n") 2 (record { from = 0; to = 1 } ∷ []))
+    ensures inner { delete_drafts MOST_SPANS doc_of_lines (loss_in (codes "b\nc\n") 2 (record { from = 0; to = 1 } ∷ []))
         ≡ Delete (span 1 3 3 ∷ []) ∷ [] }
-    ensures left { text_of (without_text flat_of_lines (loss_in (codes "b\nc\n") 2 (record { from = 0; to = 4 } ∷ []))).cells ≡ codes "a\n\nd\n" }
-    ensures bare { tags_of_each (without_text flat_of_lines (loss_in (codes "b\nc\n") 2 (record { from = 0; to = 4 } ∷ []))).cells
+    ensures left { text_of (without_text doc_of_lines (loss_in (codes "b\nc\n") 2 (record { from = 0; to = 4 } ∷ []))).cells ≡ codes "a\n\nd\n" }
+    ensures bare { tags_of_each (without_text doc_of_lines (loss_in (codes "b\nc\n") 2 (record { from = 0; to = 4 } ∷ []))).cells
         ≡ only_t ∷ only_t ∷ [] ∷ only_t ∷ [] ∷ [] }
 {}
 

@@ -55,24 +55,24 @@ pub fn text_of_removal()
 /// afterwards, and one that is taken off is off. Other cells, other tags, and what else a cell has
 /// stay as they were.
 pub fn tags_of_stamps()
-    ensures named { (flat : DocValue) (name : Word) (on : Bool) (stamps : List Stamp) → AreWritten flat.count flat.cells
-        → AreTagged name on stamps (with_tag flat name on stamps).cells }
-    ensures others { (flat : DocValue) (name : Word) (on : Bool) (stamps : List Stamp)
-        → cells_but stamps (with_tag flat name on stamps).cells ≡ cells_but stamps flat.cells }
-    ensures tags { (flat : DocValue) (name other : Word) (on : Bool) (stamps : List Stamp) → bytes_eq other name ≡ false
-        → last_writes other (with_tag flat name on stamps).cells ≡ last_writes other flat.cells }
-    ensures rest { (flat : DocValue) (name : Word) (on : Bool) (stamps : List Stamp)
-        → map (with_state []) (with_tag flat name on stamps).cells ≡ map (with_state []) flat.cells }
+    ensures named { (doc : DocValue) (name : Word) (on : Bool) (stamps : List Stamp) → AreWritten doc.count doc.cells
+        → AreTagged name on stamps (with_tag doc name on stamps).cells }
+    ensures others { (doc : DocValue) (name : Word) (on : Bool) (stamps : List Stamp)
+        → cells_but stamps (with_tag doc name on stamps).cells ≡ cells_but stamps doc.cells }
+    ensures tags { (doc : DocValue) (name other : Word) (on : Bool) (stamps : List Stamp) → bytes_eq other name ≡ false
+        → last_writes other (with_tag doc name on stamps).cells ≡ last_writes other doc.cells }
+    ensures rest { (doc : DocValue) (name : Word) (on : Bool) (stamps : List Stamp)
+        → map (with_state []) (with_tag doc name on stamps).cells ≡ map (with_state []) doc.cells }
 {}
 
 /// What `tags_of_stamps` says, of the characters at some places; and no write is newer than the document then.
 pub fn tags_at_places()
-    ensures named { (flat : DocValue) (places : ℕ → Bool) (on : Bool) (name : Word) → AreWritten flat.count flat.cells
-        → All (λ cell. is_on name cell.state ≡ on) (cells_at places 0 (with_tag_at flat places on name).cells) }
-    ensures others { (flat : DocValue) (places : ℕ → Bool) (on : Bool) (name : Word) → AreDistinct flat.cells
-        → cells_beside places 0 (with_tag_at flat places on name).cells ≡ cells_beside places 0 flat.cells }
-    ensures written { (flat : DocValue) (places : ℕ → Bool) (on : Bool) (name : Word) → AreWritten flat.count flat.cells
-        → AreWritten (with_tag_at flat places on name).count (with_tag_at flat places on name).cells }
+    ensures named { (doc : DocValue) (places : ℕ → Bool) (on : Bool) (name : Word) → AreWritten doc.count doc.cells
+        → All (λ cell. is_on name cell.state ≡ on) (cells_at places 0 (with_tag_at doc places on name).cells) }
+    ensures others { (doc : DocValue) (places : ℕ → Bool) (on : Bool) (name : Word) → AreDistinct doc.cells
+        → cells_beside places 0 (with_tag_at doc places on name).cells ≡ cells_beside places 0 doc.cells }
+    ensures written { (doc : DocValue) (places : ℕ → Bool) (on : Bool) (name : Word) → AreWritten doc.count doc.cells
+        → AreWritten (with_tag_at doc places on name).count (with_tag_at doc places on name).cells }
 {}
 
 /// The spans of stamps have these stamps and no others. Of stamps that differ they are as many as the

@@ -1,5 +1,5 @@
 // Which tags are listed, and which characters are selected.
-ghost use Rattle.std.specs.Prelude.{◌≡◌, ◌<◌, ◌≤◌, All, Err, IsOkUnless, OnOk, OnErr, true, false, length, if◌then◌else◌};
+ghost use Rattle.std.specs.Prelude.{◌≡◌, ◌<◌, ◌≤◌, [], All, Ok, Err, IsOkUnless, OnOk, OnErr, true, false, length, if◌then◌else◌};
 ghost use Rattle.rt_stamps.specs.Words.{as_words};
 ghost use Rattle.rt_store.specs.Cells.{visible_of};
 ghost use Rattle.rt_tags.specs.Tags.{AlsoReady, IsName, SameReady, all_forgotten, is_ready, with_name};
@@ -16,7 +16,7 @@ use rt_tags::TagTable;
 use std::alloc::Global;
 
 /// Selects the characters in ranges, or takes them out of a selection. Want of memory, and then
-/// nothing changes.
+/// nothing changes; where nothing is selected, to take out characters takes no memory and looks at none.
 pub fn select<S: TextStore>(
     alloc: Global,
     store: &S,
@@ -30,7 +30,11 @@ pub fn select<S: TextStore>(
         ≡ selection_with on (stamps_at (is_covered ranges.now) 0 (S.list store.now)) (selected_stamps selection.old)) }
     ensures unchanged { OnErr result (selected_stamps selection.new ≡ selected_stamps selection.old) }
     ensures err { IsOkUnless result Fault.NoMemory }
+    ensures idle { on ≡ false → selected_stamps selection.old ≡ [] → result ≡ Ok tt }
 {
+    if !on && selection.is_empty() {
+        return Ok(());
+    }
     let stamps = stamps_in(alloc, store, ranges)?;
     if on {
         selection.reserve(stamps.len())?;

@@ -77,8 +77,9 @@ pub(crate) fn tags_of_both(
     ensures given { IfOk result (λ tags. All (IsTag states.now) tags.items) }
     ensures err { IsOkUnless result Fault.NoMemory }
 {
+    let on = states.on(left)?;
     let mut both = Vec::new(alloc);
-    for tag in states.on(left) {
+    for tag in on.as_slice() {
         if states.has(right, *tag) {
             both.push(*tag)?;
         }

@@ -51,7 +51,7 @@ pub(crate) fn plain_sides(
     let Some(right) = right else {
         return None;
     };
-    if !states.on(left.state).is_empty() {
+    if !states.has_none(left.state) {
         return None;
     }
     if selection.has(left.stamp) && selection.has(right.stamp) {

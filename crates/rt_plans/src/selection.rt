@@ -93,7 +93,9 @@ impl Selection {
     pub fn remove(&mut self, other: &Selection)
         ensures { selected_stamps self.new ≡ unselected (selected_stamps other.now) (selected_stamps self.old) }
     {
-        self.stamps.retain(|stamp| !other.has(*stamp));
+        if !other.is_empty() {
+            self.stamps.retain(|stamp| !other.has(*stamp));
+        }
     }
 
     /// Takes out a character. It takes no memory.
@@ -101,6 +103,9 @@ impl Selection {
         ensures stamps { selected_stamps self.new ≡ unselected (stamp ∷ []) (selected_stamps self.old) }
         ensures room { room_in self.old ≤ room_in self.new }
     {
-        self.stamps.retain(|other| is_another(stamp, *other));
+        // Mostly it isn't selected, and then no other one is looked at.
+        if self.has(stamp) {
+            self.stamps.retain(|other| is_another(stamp, *other));
+        }
     }
 }

@@ -4,7 +4,7 @@ use Rattle.std.specs.Borrow.{Bor}
 use Rattle.std.specs.Fmt.{decimal}
 use Rattle.std.specs.declared.io.ErrorKind.{ErrorKind}
 use Rattle.std.specs.declared.io.ErrorKind.TheVariants.{OutOfMemory}
-use Rattle.rt_stamps.specs.Fault.{number_of, text_of}
+use Rattle.rt_stamps.specs.Fault.{number_of, fault_text}
 use Rattle.rt_stamps.specs.declared.fault.Fault.{Fault}
 use Rattle.rt_stamps.specs.declared.fault.Fault.TheVariants.{NoMemory, WriteFault}
 use Rattle.rt_files.specs.declared.join.JoinFault.{JoinFault}
@@ -22,10 +22,10 @@ has_offset fault = nat_le 30 (number_of fault) && nat_le (number_of fault) 37
 -- The line on standard error, without its newline: the file, if one is at fault, the fault, and the offset of a fault of
 -- a file's records.
 abbrev pub fault_line : Option (Bor (List ℕ) × ℕ) → Fault → List ℕ
-fault_line None fault = codes "peertext: " ++ text_of fault
+fault_line None fault = codes "peertext: " ++ fault_text fault
 fault_line (Some place) fault =
-    if has_offset fault then codes "peertext: " ++ (place.0.now ++ (codes ": " ++ (text_of fault ++ (codes " at " ++ decimal place.1))))
-    else codes "peertext: " ++ (place.0.now ++ (codes ": " ++ text_of fault))
+    if has_offset fault then codes "peertext: " ++ (place.0.now ++ (codes ": " ++ (fault_text fault ++ (codes " at " ++ decimal place.1))))
+    else codes "peertext: " ++ (place.0.now ++ (codes ": " ++ fault_text fault))
 
 abbrev pub error_line : Failure → List ℕ
 error_line failure = fault_line failure.file failure.fault

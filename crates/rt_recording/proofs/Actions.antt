@@ -28,7 +28,7 @@ use Rattle.rt_plans.proofs.TagNames.{cells_have_names}
 use Rattle.rt_revert.specs.Reverting.{as_removed}
 use Rattle.rt_revert.specs.ReversionLaws.{MayReturn, MayRevert}
 use Rattle.rt_recording.specs.Recordings.{HasStayed, span_action}
-use Rattle.rt_recording.specs.Settled.{is_gone as has_gone}
+use Rattle.rt_recording.specs.Settled.{is_gone_cell as has_gone}
 use Rattle.rt_text.specs.Commands.{lost_in}
 use Rattle.rt_text.specs.Widgets.{ViewValue, begin_of, text_shown}
 use Rattle.rt_text.proofs.LimitedDeletions.{spared}
@@ -58,25 +58,25 @@ not_final s site h e = let p : 0 < s.site = omega (arith, h, e) in grind (arith,
 pub counts_spare_final : (site before after : ℕ) → 0 < site → is_among (stamps_of_span (counts_between site before after)) FINAL ≡ false
 counts_spare_final site before after h = none_among FINAL (stamps_of_span (counts_between site before after)) (counts_all (λ s. is_same s FINAL ≡ false) site before after (λ s l e. not_final s site h e))
 
-module _ (flat : DocValue) (kept : IsOfLog flat) (back : Stamp → Bool) (gone : (s : Stamp) → back s ≡ true → has_gone flat.cells s ≡ true) where
+module _ (doc : DocValue) (kept : IsOfLog doc) (back : Stamp → Bool) (gone : (s : Stamp) → back s ≡ true → has_gone doc.cells s ≡ true) where
   -- who came back is gone in the log
-  pub back_gone : (s : Stamp) → back s ≡ true → is_gone flat.log s ≡ true
-  back_gone s h = gone_in_log flat.log s (sym (ap (λ (cells : List TaggedCell). has_gone cells s) kept.cells) ∙ gone s h)
+  pub back_gone : (s : Stamp) → back s ≡ true → is_gone doc.log s ≡ true
+  back_gone s h = gone_in_log doc.log s (sym (ap (λ (cells : List TaggedCell). has_gone cells s) kept.cells) ∙ gone s h)
 
   -- a count that no operation had
-  pub new_stays : (s : Stamp) → flat.count < s.count → back s ≡ false
-  new_stays s later = split (back s) (λ h. absurd (let old = character_count flat.log s (character_gone flat.log kept.history s (back_gone s h)) in let same = kept.count in omega (arith, old, same, later))) (λ h. h)
+  pub new_stays : (s : Stamp) → doc.count < s.count → back s ≡ false
+  new_stays s later = split (back s) (λ h. absurd (let old = character_count doc.log s (character_gone doc.log kept.history s (back_gone s h)) in let same = kept.count in omega (arith, old, same, later))) (λ h. h)
 
-  pub counts_stay : (after : ℕ) → AllByRecursion (λ s. back s ≡ false) (stamps_of_span (counts_between flat.site flat.count after))
-  counts_stay after = counts_all (λ s. back s ≡ false) flat.site flat.count after (λ s l e. new_stays s l)
+  pub counts_stay : (after : ℕ) → AllByRecursion (λ s. back s ≡ false) (stamps_of_span (counts_between doc.site doc.count after))
+  counts_stay after = counts_all (λ s. back s ≡ false) doc.site doc.count after (λ s l e. new_stays s l)
 
   -- THE CHARACTERS THAT IT TOOK
 
   -- a cell of the log tells whether it is gone
   abbrev TellsGone : TaggedCell → Type 0
-  TellsGone cell = cell.gone ≡ is_gone flat.log cell.stamp
+  TellsGone cell = cell.gone ≡ is_gone doc.log cell.stamp
 
-  tell_gone : (xs : List Character) → AllByRecursion TellsGone (map (cell_in flat.log) xs)
+  tell_gone : (xs : List Character) → AllByRecursion TellsGone (map (cell_in doc.log) xs)
   tell_gone [] = tt
   tell_gone (x ∷ xs) = (refl, tell_gone xs)
 
@@ -102,13 +102,13 @@ module _ (flat : DocValue) (kept : IsOfLog flat) (back : Stamp → Bool) (gone :
           (subst (λ b. Stays (cond b (cell ∷ cells_at places (place + 1) cells) (cells_at places (place + 1) cells))) (sym f)
           next)
 
-  pub places_stay : (places : ℕ → Bool) → AllByRecursion (λ (r : Removed (List Word)). back r.stamp ≡ false) (map as_removed (cells_at places 0 flat.cells))
+  pub places_stay : (places : ℕ → Bool) → AllByRecursion (λ (r : Removed (List Word)). back r.stamp ≡ false) (map as_removed (cells_at places 0 doc.cells))
   places_stay places =
       subst (λ (cells : List TaggedCell). AllByRecursion (λ (r : Removed (List Word)). back r.stamp ≡ false) (map as_removed (cells_at places 0 cells))) (sym kept.cells)
-      (taken_stay places 0 (cells_of flat.log) (tell_gone (reading (characters flat.log))))
+      (taken_stay places 0 (cells_of doc.log) (tell_gone (reading (characters doc.log))))
 
   pub action_stays : (kind : Kind) (after : ℕ) (removed : List (Removed (List Word))) → AllByRecursion (λ (r : Removed (List Word)). back r.stamp ≡ false) removed
-      → HasStayed back (span_action kind (counts_between flat.site flat.count after) removed)
+      → HasStayed back (span_action kind (counts_between doc.site doc.count after) removed)
   action_stays kind after removed h = record { inserted = counts_stay after; removed = h }
 
 -- ITS TAGS, AND NO FINAL NEWLINE
@@ -142,14 +142,14 @@ taken_sound places place (cell ∷ cells) h spared = by cell.gone (places place)
 
 pub lost_sound : (view : ViewValue) (ranges : List Range) → IsOfLog view.doc → AllByRecursion MayReturn (map as_removed (lost_in view ranges))
 lost_sound view ranges kept =
-    let flat = view.doc in
+    let doc = view.doc in
     let places = (loss_in (text_shown view) (begin_of view) ranges).places in
-    let names : AllByRecursion HasNames flat.cells = subst (AllByRecursion HasNames) (sym kept.cells) (recursion_from_All HasNames (cells_of flat.log) (cells_have_names flat.log kept.history)) in
-    let document : IsDocument flat.site flat.log flat = record { cells = kept.cells; site = refl; count = kept.count } in
-    let stays : SparesLast places (text_of flat.cells) = spared flat view.own.limits ranges kept.history document in
-    let here : is_among (stamps_at places 0 (cells_of flat.log)) FINAL ≡ false =
-    last_spared flat.log places kept.history (subst (λ (cells : List TaggedCell). SparesLast places (text_of cells)) kept.cells stays) in
-    taken_sound places 0 flat.cells names (subst (λ (cells : List TaggedCell). is_among (stamps_at places 0 cells) FINAL ≡ false) (sym kept.cells) here)
+    let names : AllByRecursion HasNames doc.cells = subst (AllByRecursion HasNames) (sym kept.cells) (recursion_from_All HasNames (cells_of doc.log) (cells_have_names doc.log kept.history)) in
+    let document : IsDocument doc.site doc.log doc = record { cells = kept.cells; site = refl; count = kept.count } in
+    let stays : SparesLast places (text_of doc.cells) = spared doc view.own.limits ranges kept.history document in
+    let here : is_among (stamps_at places 0 (cells_of doc.log)) FINAL ≡ false =
+    last_spared doc.log places kept.history (subst (λ (cells : List TaggedCell). SparesLast places (text_of cells)) kept.cells stays) in
+    taken_sound places 0 doc.cells names (subst (λ (cells : List TaggedCell). is_among (stamps_at places 0 cells) FINAL ≡ false) (sym kept.cells) here)
 
 pub action_sound : (kind : Kind) (site before after : ℕ) (removed : List (Removed (List Word))) → 0 < site → AllByRecursion MayReturn removed → MayRevert (span_action kind (counts_between site before after) removed)
 action_sound kind site before after removed h k = record { inserted = counts_spare_final site before after h; removed = k }

@@ -49,8 +49,8 @@ count_reverse (a ∷ group) =
     let one : removed_count (a ∷ []) ≡ length a.removed = omega arith in
     omega (arith, whole, count_append (reverse group) (a ∷ []), one, count_reverse group)
 
-pub reversion_few : (flat : DocValue) (group : List (Action (List Word))) → length (reversion flat group).returns ≤ removed_count group
-reversion_few flat group = omega (arith, all_few (reverse group) (as_it_is flat), count_reverse group)
+pub reversion_few : (doc : DocValue) (group : List (Action (List Word))) → length (reversion doc group).returns ≤ removed_count group
+reversion_few doc group = omega (arith, all_few (reverse group) (as_it_is doc), count_reverse group)
 
 pub count_named : (t : TagStates) (group : List (Action ℕ)) → removed_count (named_group t group) ≡ removed_count group
 count_named t [] = refl

@@ -17,7 +17,7 @@ use Rattle.rt_rga.proofs.Corollaries.{cells_have}
 use Rattle.rt_rga.proofs.Skipping.{split}
 use Rattle.rt_rga.proofs.Writes.{not_gone}
 use Rattle.rt_text.proofs.Growing.{Grows}
-use Rattle.rt_recording.specs.Settled.{is_gone as has_gone}
+use Rattle.rt_recording.specs.Settled.{is_gone_cell as has_gone}
 
 -- LOGS
 

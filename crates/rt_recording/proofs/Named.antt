@@ -13,15 +13,15 @@ use Rattle.rt_undo.specs.declared.action.Kind.{Kind}
 use Rattle.rt_undo.specs.declared.renames.Move.{Move}
 use Rattle.rt_undo.specs.Actions.{Action, Removed, action_of, is_replace, removed_in}
 use Rattle.rt_undo.specs.Groups.{IsStill}
-use Rattle.rt_undo.specs.Renames.{Shown, is_moved}
+use Rattle.rt_undo.specs.Renames.{SpanMapValue, is_moved}
 use Rattle.rt_undo.specs.Seen.{UndoStacks}
-use Rattle.rt_undo.specs.Undo.{History, as_group, asks_separator, differs_from, dropped, emptied, forced_on, is_modified, last, limited, numbers, numbers_in, recorded, rest_after, same_numbers, separated, to_undo, too_many, unmodified, with_action, with_most}
+use Rattle.rt_undo.specs.Undo.{UndoHistory, as_group, asks_separator, differs_from, dropped, emptied, forced_on, is_modified, last, limited, numbers, numbers_in, recorded, rest_after, same_numbers, separated, to_undo, too_many, unmodified, with_action, with_most}
 use Rattle.rt_undo.proofs.Histories.{last_map}
 use Rattle.rt_recording.specs.declared.recorder.Prepared.{Prepared}
 use Rattle.rt_recording.specs.declared.recorder.Recorder.TheInside.{Inside}
 use Rattle.rt_recording.specs.Naming.{AreGiven, HistoryIsGiven, RemovedAreGiven, named_action, named_group, named_history, named_removed}
 use Rattle.rt_recording.specs.Recordings.{HasStayed, Recording, span_action}
-use Rattle.rt_recording.specs.Seen.{IsRecorder, IsPrepared, shown}
+use Rattle.rt_recording.specs.Seen.{IsRecorder, IsPrepared, recording_of}
 
 -- STACKS
 
@@ -29,10 +29,10 @@ as_group_named : (t : TagStates) (group : List (Action ℕ)) → as_group (named
 as_group_named t [] = refl
 as_group_named t (a ∷ group) = refl
 
-pub to_undo_named : (t : TagStates) (h : History ℕ) → to_undo (named_history t h) ≡ map (named_group t) (to_undo h)
+pub to_undo_named : (t : TagStates) (h : UndoHistory ℕ) → to_undo (named_history t h) ≡ map (named_group t) (to_undo h)
 to_undo_named t h = ap (λ l. map (named_group t) h.closed ++ l) (as_group_named t h.current) ∙ sym (map-append (named_group t) h.closed (as_group h.current))
 
-pub separated_named : (t : TagStates) (h : History ℕ) → named_history t (separated h) ≡ separated (named_history t h)
+pub separated_named : (t : TagStates) (h : UndoHistory ℕ) → named_history t (separated h) ≡ separated (named_history t h)
 separated_named t h = λ i. record {
   closed = sym (to_undo_named t h) i;
   current = [];
@@ -42,7 +42,7 @@ separated_named t h = λ i. record {
   most = h.most;
 }
 
-recorded_named : (t : TagStates) (a : Action ℕ) (h : History ℕ) → named_history t (recorded a h) ≡ recorded (named_action t a) (named_history t h)
+recorded_named : (t : TagStates) (a : Action ℕ) (h : UndoHistory ℕ) → named_history t (recorded a h) ≡ recorded (named_action t a) (named_history t h)
 recorded_named t a h = λ i. record {
   closed = map (named_group t) h.closed;
   current = map-append (named_action t) h.current (a ∷ []) i;
@@ -56,12 +56,12 @@ differs_named : (t : TagStates) (kind : Kind) (o : Option (Action ℕ)) → diff
 differs_named t kind None = refl
 differs_named t kind (Some a) = refl
 
-asks_named : (t : TagStates) (kind : Kind) (h : History ℕ) → asks_separator kind (named_history t h) ≡ asks_separator kind h
+asks_named : (t : TagStates) (kind : Kind) (h : UndoHistory ℕ) → asks_separator kind (named_history t h) ≡ asks_separator kind h
 asks_named t kind h =
     ap (λ o. is_replace kind || differs_from kind o) (last_map (named_action t) h.current)
     ∙ ap (λ b. is_replace kind || b) (differs_named t kind (last h.current))
 
-begun_named : (t : TagStates) (b : Bool) (h : History ℕ) → named_history t (if b then separated h else h) ≡ (if b then separated (named_history t h) else named_history t h)
+begun_named : (t : TagStates) (b : Bool) (h : UndoHistory ℕ) → named_history t (if b then separated h else h) ≡ (if b then separated (named_history t h) else named_history t h)
 begun_named t true h = separated_named t h
 begun_named t false h = refl
 
@@ -75,16 +75,16 @@ numbers_groups : (t : TagStates) (groups : List (List (Action ℕ))) → numbers
 numbers_groups t [] = refl
 numbers_groups t (group ∷ groups) = λ i. numbers_group t group i ++ numbers_groups t groups i
 
-pub numbers_named : (t : TagStates) (h : History ℕ) → numbers (named_history t h) ≡ numbers h
+pub numbers_named : (t : TagStates) (h : UndoHistory ℕ) → numbers (named_history t h) ≡ numbers h
 numbers_named t h = ap (λ l. numbers_in l) (to_undo_named t h) ∙ numbers_groups t (to_undo h)
 
-pub modified_named : (t : TagStates) (h : History ℕ) → is_modified (named_history t h) ≡ is_modified h
+pub modified_named : (t : TagStates) (h : UndoHistory ℕ) → is_modified (named_history t h) ≡ is_modified h
 modified_named t h = ap (λ l. h.forced || not (same_numbers l h.kept)) (numbers_named t h)
 
-pub emptied_named : (t : TagStates) (h : History ℕ) → named_history t (emptied h) ≡ emptied (named_history t h)
+pub emptied_named : (t : TagStates) (h : UndoHistory ℕ) → named_history t (emptied h) ≡ emptied (named_history t h)
 emptied_named t h = λ i. record { closed = []; current = []; undone = []; kept = []; forced = sym (modified_named t h) i; most = h.most }
 
-pub set_named : (t : TagStates) (on : Bool) (h : History ℕ)
+pub set_named : (t : TagStates) (on : Bool) (h : UndoHistory ℕ)
     → named_history t (if on then forced_on h else unmodified h) ≡ (if on then forced_on (named_history t h) else unmodified (named_history t h))
 set_named t true h = refl
 set_named t false h = λ i. record {
@@ -98,13 +98,13 @@ set_named t false h = λ i. record {
 
 -- THE MOST GROUPS
 
-many_named : (t : TagStates) (h : History ℕ) → too_many (named_history t h) ≡ too_many h
+many_named : (t : TagStates) (h : UndoHistory ℕ) → too_many (named_history t h) ≡ too_many h
 many_named t h = ap (λ n. if h.most == 0 then 0 else n - h.most) (ap (λ l. length l) (to_undo_named t h) ∙ length-map (to_undo h) (named_group t))
 
 numbers_dropped : (t : TagStates) (n : ℕ) (groups : List (List (Action ℕ))) → numbers_in (take n (map (named_group t) groups)) ≡ numbers_in (take n groups)
 numbers_dropped t n groups = ap (λ l. numbers_in l) (take-map (named_group t) n groups) ∙ numbers_groups t (take n groups)
 
-dropped_named : (t : TagStates) (n : ℕ) (h : History ℕ) → named_history t (dropped n h) ≡ dropped n (named_history t h)
+dropped_named : (t : TagStates) (n : ℕ) (h : UndoHistory ℕ) → named_history t (dropped n h) ≡ dropped n (named_history t h)
 dropped_named t n h = λ i. record {
   closed = sym (drop-map (named_group t) n h.closed) i;
   current = named_group t h.current;
@@ -114,17 +114,17 @@ dropped_named t n h = λ i. record {
   most = h.most;
 }
 
-pub limited_named : (t : TagStates) (h : History ℕ) → named_history t (limited h) ≡ limited (named_history t h)
+pub limited_named : (t : TagStates) (h : UndoHistory ℕ) → named_history t (limited h) ≡ limited (named_history t h)
 limited_named t h = dropped_named t (too_many h) h ∙ ap (λ n. dropped n (named_history t h)) (sym (many_named t h))
 
-pub most_named : (t : TagStates) (most : ℕ) (h : History ℕ) → named_history t (with_most most h) ≡ with_most most (named_history t h)
+pub most_named : (t : TagStates) (most : ℕ) (h : UndoHistory ℕ) → named_history t (with_most most h) ≡ with_most most (named_history t h)
 most_named t most h = limited_named t (record h { most = most })
 
-pub added_named : (t : TagStates) (auto : Bool) (a : Action ℕ) (h : History ℕ)
+pub added_named : (t : TagStates) (auto : Bool) (a : Action ℕ) (h : UndoHistory ℕ)
     → named_history t (with_action auto a h) ≡ with_action auto (named_action t a) (named_history t h)
 added_named t auto a h =
     limited_named t (recorded a (if auto && asks_separator a.kind h then separated h else h))
-    ∙ ap (λ (x : History (List Word)). limited x)
+    ∙ ap (λ (x : UndoHistory (List Word)). limited x)
     (recorded_named t a (if auto && asks_separator a.kind h then separated h else h)
     ∙ ap (recorded (named_action t a)) (begun_named t (auto && asks_separator a.kind h) h)
     ∙ ap (λ b. recorded (named_action t a) (if auto && b then separated (named_history t h) else named_history t h)) (sym (asks_named t a.kind h)))
@@ -159,7 +159,7 @@ groups_stay : (t u : TagStates) → KeepsIds t u → (groups : List (List (Actio
 groups_stay t u k [] given = tt
 groups_stay t u k (group ∷ groups) given = (group_stays t u k group given.0, groups_stay t u k groups given.1)
 
-pub history_kept : (t u : TagStates) → KeepsIds t u → (h : History ℕ) → HistoryIsGiven t h → named_history u h ≡ named_history t h
+pub history_kept : (t u : TagStates) → KeepsIds t u → (h : UndoHistory ℕ) → HistoryIsGiven t h → named_history u h ≡ named_history t h
 history_kept t u k h given = λ i. record {
   closed = groups_kept t u k h.closed given.closed i;
   current = group_kept t u k h.current given.current i;
@@ -169,7 +169,7 @@ history_kept t u k h given = λ i. record {
   most = h.most;
 }
 
-pub history_stays : (t u : TagStates) → KeepsIds t u → (h : History ℕ) → HistoryIsGiven t h → HistoryIsGiven u h
+pub history_stays : (t u : TagStates) → KeepsIds t u → (h : UndoHistory ℕ) → HistoryIsGiven t h → HistoryIsGiven u h
 history_stays t u k h given = record {
   closed = groups_stay t u k h.closed given.closed;
   current = group_stays t u k h.current given.current;
@@ -215,7 +215,7 @@ still_kept s u k is stacks e =
     (history_stays s.table u k s.stacks.history is.given, prepared_stays s.table u k s.stacks s.next is.next)
 
 pub same_but_table : (s : Inside) (u : TagStates) → KeepsIds s.table u → IsRecorder s → (stacks : UndoStacks) → stacks ≡ s.stacks
-    → (old : Recording) → shown s ≡ old
+    → (old : Recording) → recording_of s ≡ old
     → record {
       history = named_history u stacks.history;
       undo = s.undo;
@@ -236,7 +236,7 @@ same_but_table s u k is stacks e old view_is =
       table = u;
     }) ∙ ap (λ (v : Recording). record v { table = u }) view_is
 
-removed_still : (t : TagStates) (moves : Shown Move) (removed : List (Removed ℕ)) → AllByRecursion (λ r. is_moved moves r.stamp ≡ false) (map (named_removed t) removed)
+removed_still : (t : TagStates) (moves : SpanMapValue Move) (removed : List (Removed ℕ)) → AllByRecursion (λ r. is_moved moves r.stamp ≡ false) (map (named_removed t) removed)
     → AllByRecursion (λ r. is_moved moves r.stamp ≡ false) removed
 removed_still t moves [] stays = tt
 removed_still t moves (r ∷ removed) stays = (stays.0, removed_still t moves removed stays.1)
@@ -244,7 +244,7 @@ removed_still t moves (r ∷ removed) stays = (stays.0, removed_still t moves re
 one_span : (inserted : Vec Span Global) (span : Span) → inserted.items ≡ span ∷ [] → stamps_in inserted.items ≡ stamps_of_span span
 one_span inserted span e = ap (λ l. stamps_in l) e ∙ append-nil (stamps_of_span span)
 
-pub prepared_still : (t : TagStates) (moves : Shown Move) (o : Option Prepared) (next : Prepared) (inserted : Vec Span Global) (kind : Kind) (span : Span)
+pub prepared_still : (t : TagStates) (moves : SpanMapValue Move) (o : Option Prepared) (next : Prepared) (inserted : Vec Span Global) (kind : Kind) (span : Span)
     → o ≡ Some next → inserted.items ≡ span ∷ [] → IfSome (prepared_removed t o) (λ removed. HasStayed (is_moved moves) (span_action kind span removed))
     → IsStill moves (action_of (record { number = span.first; kind = kind; inserted = inserted; removed = next.removed }))
 prepared_still t moves o next inserted kind span is one stays =
@@ -255,7 +255,7 @@ prepared_still t moves o next inserted kind span is one stays =
       removed = removed_still t moves (removed_in next.removed.items) here.removed;
     }
 
-pub prepared_history : (t : TagStates) (auto : Bool) (h new : History ℕ) (o : Option Prepared) (next : Prepared) (inserted : Vec Span Global) (kind : Kind) (span : Span)
+pub prepared_history : (t : TagStates) (auto : Bool) (h new : UndoHistory ℕ) (o : Option Prepared) (next : Prepared) (inserted : Vec Span Global) (kind : Kind) (span : Span)
     → o ≡ Some next → inserted.items ≡ span ∷ []
     → new ≡ with_action auto (action_of (record { number = span.first; kind = kind; inserted = inserted; removed = next.removed })) h
     → IfSome (prepared_removed t o) (λ removed. named_history t new ≡ with_action auto (span_action kind span removed) (named_history t h))

@@ -10,14 +10,14 @@ use Rattle.rt_store.specs.Shown.{TaggedCell}
 use Rattle.rt_revert.specs.Reverting.{as_removed}
 use Rattle.rt_revert.specs.ReversionLaws.{AllMayRevert, MayRevert}
 use Rattle.rt_recording.specs.Recordings.{HasStayed, Recording, came_back, span_action}
-use Rattle.rt_recording.specs.Settled.{AreGoneOnce, IsSettled, removed_in_history, is_gone}
+use Rattle.rt_recording.specs.Settled.{AreGoneOnce, IsSettled, removed_in_history, is_gone_cell}
 use Rattle.rt_plans.specs.declared.range.Range.{Range}
 use Rattle.rt_plans.specs.Deletions.{loss_in}
 use Rattle.rt_text.specs.Commands.{lost_in}
 use Rattle.rt_text.specs.Widgets.{ViewValue, begin_of, text_shown}
 use Rattle.rt_undo.specs.declared.action.Kind.{Kind}
 use Rattle.rt_undo.specs.Actions.{Action, Removed}
-use Rattle.rt_undo.specs.Undo.{History, as_group, asks_separator, forced_on, limited, recorded, separated, too_many, with_action, with_most}
+use Rattle.rt_undo.specs.Undo.{UndoHistory, as_group, asks_separator, forced_on, limited, recorded, separated, too_many, with_action, with_most}
 use Rattle.rt_recording.specs.EditedValue.{edited}
 use Rattle.rt_recording.specs.Edits.{edit_action, counts_between, has_changed, noted, noted_by, recorded_edit}
 use Rattle.rt_recording.specs.Noting.{IsOfLog, Keeps}
@@ -29,7 +29,7 @@ use Rattle.rt_recording.proofs.Once.{HaveGone, in_limited, in_noted, once_fewer,
 
 -- SOUND HISTORIES
 
-pub record IsSoundHistory (h : History (List Word)) : Type 0 where
+pub record IsSoundHistory (h : UndoHistory (List Word)) : Type 0 where
   pub closed : AllByRecursion AllMayRevert h.closed
   pub current : AllMayRevert h.current
   pub undone : AllByRecursion AllMayRevert h.undone
@@ -42,20 +42,20 @@ group_sound : (group : List (Action (List Word))) → AllMayRevert group → All
 group_sound [] h = tt
 group_sound (action ∷ group) h = (h, tt)
 
-pub separated_sound : (h : History (List Word)) → IsSoundHistory h → IsSoundHistory (separated h)
+pub separated_sound : (h : UndoHistory (List Word)) → IsSoundHistory h → IsSoundHistory (separated h)
 separated_sound h sound = record {
   closed = every_append AllMayRevert h.closed (as_group h.current) sound.closed (group_sound h.current sound.current);
   current = tt;
   undone = sound.undone;
 }
 
-recorded_sound : (action : Action (List Word)) (h : History (List Word)) → MayRevert action → IsSoundHistory h → IsSoundHistory (recorded action h)
+recorded_sound : (action : Action (List Word)) (h : UndoHistory (List Word)) → MayRevert action → IsSoundHistory h → IsSoundHistory (recorded action h)
 recorded_sound action h k sound = record { closed = sound.closed; current = every_append MayRevert h.current (action ∷ []) sound.current (k, tt); undone = tt }
 
-limited_sound : (h : History (List Word)) → IsSoundHistory h → IsSoundHistory (limited h)
+limited_sound : (h : UndoHistory (List Word)) → IsSoundHistory h → IsSoundHistory (limited h)
 limited_sound h sound = record { closed = every_drop AllMayRevert (too_many h) h.closed sound.closed; current = sound.current; undone = sound.undone }
 
-added_sound : (auto : Bool) (action : Action (List Word)) (h : History (List Word)) → MayRevert action → IsSoundHistory h → IsSoundHistory (with_action auto action h)
+added_sound : (auto : Bool) (action : Action (List Word)) (h : UndoHistory (List Word)) → MayRevert action → IsSoundHistory h → IsSoundHistory (with_action auto action h)
 added_sound auto action h k sound =
     limited_sound (recorded action (cond (auto && asks_separator action.kind h) (separated h) h)) (by (auto && asks_separator action.kind h))
   where
@@ -63,10 +63,10 @@ added_sound auto action h k sound =
     by true = recorded_sound action (separated h) k (separated_sound h sound)
     by false = recorded_sound action h k sound
 
-pub forced_sound : (h : History (List Word)) → IsSoundHistory h → IsSoundHistory (forced_on h)
+pub forced_sound : (h : UndoHistory (List Word)) → IsSoundHistory h → IsSoundHistory (forced_on h)
 forced_sound h sound = record { closed = sound.closed; current = sound.current; undone = sound.undone }
 
-pub noted_sound : (changed undo auto : Bool) (action : Action (List Word)) (h : History (List Word)) → MayRevert action → IsSoundHistory h → IsSoundHistory (noted_by changed undo auto action h)
+pub noted_sound : (changed undo auto : Bool) (action : Action (List Word)) (h : UndoHistory (List Word)) → MayRevert action → IsSoundHistory h → IsSoundHistory (noted_by changed undo auto action h)
 noted_sound true true auto action h k sound = added_sound auto action h k sound
 noted_sound true false auto action h k sound = forced_sound h sound
 noted_sound false undo auto action h k sound = sound
@@ -77,10 +77,10 @@ history_of view recording settled = record { closed = settled.closed; current = 
 -- SETTLED SITES
 
 -- who is gone stays so while the log grows
-pub stay_gone : (view new : ViewValue) → IsOfLog view.doc → IsOfLog new.doc → Grows view.doc.log new.doc.log → (s : Stamp) → is_gone view.doc.cells s ≡ true → is_gone new.doc.cells s ≡ true
+pub stay_gone : (view new : ViewValue) → IsOfLog view.doc → IsOfLog new.doc → Grows view.doc.log new.doc.log → (s : Stamp) → is_gone_cell view.doc.cells s ≡ true → is_gone_cell new.doc.cells s ≡ true
 stay_gone view new kept same grows s h =
-    ap (λ (cells : List TaggedCell). is_gone cells s) same.cells
-    ∙ cells_stay_gone view.doc.log new.doc.log same.history grows s (sym (ap (λ (cells : List TaggedCell). is_gone cells s) kept.cells) ∙ h)
+    ap (λ (cells : List TaggedCell). is_gone_cell cells s) same.cells
+    ∙ cells_stay_gone view.doc.log new.doc.log same.history grows s (sym (ap (λ (cells : List TaggedCell). is_gone_cell cells s) kept.cells) ∙ h)
 
 pub settled_after : (view new : ViewValue) (old next : Recording) → IsSettled view old → IsOfLog view.doc → IsOfLog new.doc → Grows view.doc.log new.doc.log
     → ((s : Stamp) → came_back next s ≡ came_back old s) → IsSoundHistory next.history → AreGoneOnce new.doc.cells (removed_in_history next.history) → IsSettled new next
@@ -95,7 +95,7 @@ settled_after view new old next settled kept same grows back sound once = record
 -- where the oldest groups are dropped
 pub settled_most : (view : ViewValue) (old new : Recording) (most : ℕ) → new ≡ record old { history = with_most most old.history } → IsSettled view old → IsSettled view new
 settled_most view old new most e settled =
-    let all : History (List Word) = record old.history { most = most } in
+    let all : UndoHistory (List Word) = record old.history { most = most } in
     let sound = limited_sound all (record { closed = settled.closed; current = settled.current; undone = settled.undone }) in
     let left : IsSettled view (record old { history = with_most most old.history }) = record {
       gone = settled.gone;
@@ -133,7 +133,7 @@ module _ (kind : Kind) (lost : List TaggedCell) (view new : ViewValue) (old mid 
       settled_after view new old next settled kept same grows (λ s. ap (λ m. came_back (record next { moves = m }) s) moves ∙ keeps.back s)
       (subst IsSoundHistory (sym noted_history)
       (noted_sound changed old.undo old.auto action old.history sound (history_of view old settled)))
-      (subst (λ (h : History (List Word)). AreGoneOnce new.doc.cells (removed_in_history h)) (sym noted_history)
+      (subst (λ (h : UndoHistory (List Word)). AreGoneOnce new.doc.cells (removed_in_history h)) (sym noted_history)
       (once_fewer new.doc.cells (removed_in_history (noted_by changed old.undo old.auto action old.history)) (removed_in_history old.history ++ map (λ (r : Removed (List Word)). r.stamp) (map as_removed lost))
       (λ s. in_noted s changed old.undo old.auto action old.history)
       (once_more view.doc.cells new.doc.cells (removed_in_history old.history) (map (λ (r : Removed (List Word)). r.stamp) (map as_removed lost)) (stay_gone view new kept same grows) settled.taken went)))

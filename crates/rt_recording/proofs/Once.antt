@@ -9,9 +9,9 @@ use Rattle.rt_stamps.specs.Stamps.{is_same, replaced}
 use Rattle.rt_stamps.specs.Words.{Word}
 use Rattle.rt_store.specs.Shown.{TaggedCell}
 use Rattle.rt_undo.specs.Actions.{Action}
-use Rattle.rt_undo.specs.Undo.{History, as_group, asks_separator, forced_on, limited, recorded, separated, to_undo, too_many, with_action}
+use Rattle.rt_undo.specs.Undo.{UndoHistory, as_group, asks_separator, forced_on, limited, recorded, separated, to_undo, too_many, with_action}
 use Rattle.rt_recording.specs.Edits.{noted_by}
-use Rattle.rt_recording.specs.Settled.{AreGoneOnce, removed_in_history, is_gone, taken_by, times}
+use Rattle.rt_recording.specs.Settled.{AreGoneOnce, removed_in_history, is_gone_cell, taken_by, times}
 
 -- HOW OFTEN A STAMP STANDS AMONG SOME
 
@@ -51,23 +51,23 @@ pub once_fewer : (cells : List TaggedCell) (xs ys : List Stamp) → ((s : Stamp)
 once_fewer cells xs ys few once = λ s. omega (arith, few s, once s)
 
 -- while those that are gone stay so
-pub once_grown : (old new : List TaggedCell) (xs : List Stamp) → ((s : Stamp) → is_gone old s ≡ true → is_gone new s ≡ true) → AreGoneOnce old xs → AreGoneOnce new xs
-once_grown old new xs stay once = λ s. by s (is_gone old s) refl (once s)
+pub once_grown : (old new : List TaggedCell) (xs : List Stamp) → ((s : Stamp) → is_gone_cell old s ≡ true → is_gone_cell new s ≡ true) → AreGoneOnce old xs → AreGoneOnce new xs
+once_grown old new xs stay once = λ s. by s (is_gone_cell old s) refl (once s)
   where
-    by : (s : Stamp) (b : Bool) → is_gone old s ≡ b → times s xs ≤ one_if b → times s xs ≤ one_if (is_gone new s)
+    by : (s : Stamp) (b : Bool) → is_gone_cell old s ≡ b → times s xs ≤ one_if b → times s xs ≤ one_if (is_gone_cell new s)
     by s true e h = subst (λ b. times s xs ≤ one_if b) (sym (stay s e)) h
     by s false e h = omega (arith, h)
 
 -- stamps of characters that went: visible in one text, and gone in another
 abbrev pub HaveGone : List TaggedCell → List TaggedCell → List Stamp → Type 0
-HaveGone old new xs = (s : Stamp) → times s xs ≤ cond (is_gone old s) 0 (one_if (is_gone new s))
+HaveGone old new xs = (s : Stamp) → times s xs ≤ cond (is_gone_cell old s) 0 (one_if (is_gone_cell new s))
 
 -- those that went join those that were gone
-pub once_more : (old new : List TaggedCell) (xs more : List Stamp) → ((s : Stamp) → is_gone old s ≡ true → is_gone new s ≡ true) → AreGoneOnce old xs → HaveGone old new more
+pub once_more : (old new : List TaggedCell) (xs more : List Stamp) → ((s : Stamp) → is_gone_cell old s ≡ true → is_gone_cell new s ≡ true) → AreGoneOnce old xs → HaveGone old new more
     → AreGoneOnce new (xs ++ more)
-once_more old new xs more stay once went = λ s. by s (is_gone old s) refl (once s) (went s)
+once_more old new xs more stay once went = λ s. by s (is_gone_cell old s) refl (once s) (went s)
   where
-    by : (s : Stamp) (b : Bool) → is_gone old s ≡ b → times s xs ≤ one_if b → times s more ≤ cond b 0 (one_if (is_gone new s)) → times s (xs ++ more) ≤ one_if (is_gone new s)
+    by : (s : Stamp) (b : Bool) → is_gone_cell old s ≡ b → times s xs ≤ one_if b → times s more ≤ cond b 0 (one_if (is_gone_cell new s)) → times s (xs ++ more) ≤ one_if (is_gone_cell new s)
     by s true e h k = subst (λ b. times s (xs ++ more) ≤ one_if b) (sym (stay s e)) (let both = times_append s xs more in omega (arith, h, k, both))
     by s false e h k = let both = times_append s xs more in omega (arith, h, k, both)
 
@@ -95,7 +95,7 @@ in_groups_append s one other = ap (times s) (groups_append one other) ∙ times_
 pub in_one : (s : Stamp) (group : List (Action (List Word))) → in_groups s (group ∷ []) ≡ in_group s group
 in_one s group = let all = times_append s (taken_by group) [] in omega (arith, all)
 
-pub in_history : (s : Stamp) (h : History (List Word)) → times s (removed_in_history h) ≡ in_groups s h.closed + in_group s h.current + in_groups s h.undone
+pub in_history : (s : Stamp) (h : UndoHistory (List Word)) → times s (removed_in_history h) ≡ in_groups s h.closed + in_group s h.current + in_groups s h.undone
 in_history s h =
     let first = times_append s (flat_map taken_by h.closed) (taken_by h.current ++ flat_map taken_by h.undone) in
     let rest = times_append s (taken_by h.current) (flat_map taken_by h.undone) in
@@ -105,11 +105,11 @@ pub in_as_group : (s : Stamp) (group : List (Action (List Word))) → in_groups 
 in_as_group s [] = refl
 in_as_group s (action ∷ group) = in_one s (action ∷ group)
 
-pub in_to_undo : (s : Stamp) (h : History (List Word)) → in_groups s (to_undo h) ≡ in_groups s h.closed + in_group s h.current
+pub in_to_undo : (s : Stamp) (h : UndoHistory (List Word)) → in_groups s (to_undo h) ≡ in_groups s h.closed + in_group s h.current
 in_to_undo s h = let all = in_groups_append s h.closed (as_group h.current) in let group = in_as_group s h.current in omega (arith, all, group)
 
 -- a separator takes nothing
-pub in_separated : (s : Stamp) (h : History (List Word)) → times s (removed_in_history (separated h)) ≡ times s (removed_in_history h)
+pub in_separated : (s : Stamp) (h : UndoHistory (List Word)) → times s (removed_in_history (separated h)) ≡ times s (removed_in_history h)
 in_separated s h =
     let new = in_history s (separated h) in
     let old = in_history s h in
@@ -117,7 +117,7 @@ in_separated s h =
     omega (arith, new, old, undo)
 
 -- groups are dropped
-pub in_limited : (s : Stamp) (h : History (List Word)) → times s (removed_in_history (limited h)) ≤ times s (removed_in_history h)
+pub in_limited : (s : Stamp) (h : UndoHistory (List Word)) → times s (removed_in_history (limited h)) ≤ times s (removed_in_history h)
 in_limited s h =
     let n = too_many h in
     let new = in_history s (limited h) in
@@ -127,7 +127,7 @@ in_limited s h =
     omega (arith, new, old, parts, whole)
 
 -- an action is recorded, or not
-pub in_recorded : (s : Stamp) (action : Action (List Word)) (h : History (List Word)) → times s (removed_in_history (recorded action h)) ≤ times s (removed_in_history h ++ map (λ r. r.stamp) action.removed)
+pub in_recorded : (s : Stamp) (action : Action (List Word)) (h : UndoHistory (List Word)) → times s (removed_in_history (recorded action h)) ≤ times s (removed_in_history h ++ map (λ r. r.stamp) action.removed)
 in_recorded s action h =
     let new = in_history s (recorded action h) in
     let old = in_history s h in
@@ -136,7 +136,7 @@ in_recorded s action h =
     let both = times_append s (removed_in_history h) (map (λ r. r.stamp) action.removed) in
     omega (arith, new, old, all, one, both)
 
-pub in_added : (s : Stamp) (auto : Bool) (action : Action (List Word)) (h : History (List Word)) → times s (removed_in_history (with_action auto action h)) ≤ times s (removed_in_history h ++ map (λ r. r.stamp) action.removed)
+pub in_added : (s : Stamp) (auto : Bool) (action : Action (List Word)) (h : UndoHistory (List Word)) → times s (removed_in_history (with_action auto action h)) ≤ times s (removed_in_history h ++ map (λ r. r.stamp) action.removed)
 in_added s auto action h =
     let fewer = in_limited s (recorded action (cond (auto && asks_separator action.kind h) (separated h) h)) in
     let all = by (auto && asks_separator action.kind h) in
@@ -151,7 +151,7 @@ in_added s auto action h =
         let other = times_append s (removed_in_history h) (map (λ r. r.stamp) action.removed) in
         omega (arith, more, same, one, other)
 
-pub in_noted : (s : Stamp) (changed undo auto : Bool) (action : Action (List Word)) (h : History (List Word))
+pub in_noted : (s : Stamp) (changed undo auto : Bool) (action : Action (List Word)) (h : UndoHistory (List Word))
     → times s (removed_in_history (noted_by changed undo auto action h)) ≤ times s (removed_in_history h ++ map (λ r. r.stamp) action.removed)
 in_noted s true true auto action h = in_added s auto action h
 in_noted s true false auto action h = let both = times_append s (removed_in_history h) (map (λ r. r.stamp) action.removed) in let old = in_history s h in let new = in_history s (forced_on h) in omega (arith, both, old, new)

@@ -17,7 +17,7 @@ use Rattle.rt_plans.specs.DraftLaws.{IsDocument}
 use Rattle.rt_plans.specs.DocValue.{DocValue}
 use Rattle.rt_plans.specs.Removals.{cells_at}
 use Rattle.rt_undo.specs.Actions.{Action, Removed, restamped_one}
-use Rattle.rt_undo.specs.Undo.{History, as_group, but_last, last, redo_done, renamed_by, to_undo, undo_done, with_stamps_in}
+use Rattle.rt_undo.specs.Undo.{UndoHistory, as_group, but_last, last, redo_done, renamed_by, to_undo, undo_done, with_stamps_in}
 use Rattle.rt_revert.specs.Reverting.{Reversion, are_at, as_it_is, gone_cell_of, next_in, reversion, reverted_group, since, still_visible, with_each_reverted, with_insertion, with_removal, with_return, with_returns, with_reverted}
 use Rattle.rt_revert.specs.ReversionLaws.{AllMayRevert, MayReturn, MayRevert}
 use Rattle.rt_revert.proofs.Stamps.{all_apart}
@@ -25,7 +25,7 @@ use Rattle.rt_revert.proofs.Steps.{IsOnWay, action_step, all_grow, all_reversed,
 use Rattle.rt_revert.proofs.TakenBack.{stamp_after_more, still_is}
 use Rattle.rt_recording.specs.Recordings.{HaveStayed}
 use Rattle.rt_recording.specs.Returns.{Return, back_after, stamp_after}
-use Rattle.rt_recording.specs.Settled.{AreGoneOnce, removed_in_history, is_gone, taken_by, times}
+use Rattle.rt_recording.specs.Settled.{AreGoneOnce, removed_in_history, is_gone_cell, taken_by, times}
 use Rattle.rt_recording.proofs.Gone.{gone_still}
 use Rattle.rt_recording.proofs.Once.{HaveGone, by_append, in_append, in_groups, in_groups_append, in_history, in_limited, in_one, in_to_undo, none_replaced, once_fewer, once_grown, once_more, one_if, taken_append, times_append, times_by}
 use Rattle.rt_recording.proofs.OnceTaken.{places_gone, removed_stamps}
@@ -56,7 +56,7 @@ record Back (r next : Reversion) (others came : List Stamp) : Type 0 where
   pub still : map (stamp_after next.returns) others ≡ others
   pub formers : map former_of next.returns ≡ map former_of r.returns ++ came
 
-none_gone : (cells : List TaggedCell) (s : Stamp) → gone_cell_of cells s ≡ None → is_gone cells s ≡ false
+none_gone : (cells : List TaggedCell) (s : Stamp) → gone_cell_of cells s ≡ None → is_gone_cell cells s ≡ false
 none_gone cells s h = by (cell_of cells s) h
   where
     this : (c : TaggedCell) (g : Bool) → c.gone ≡ g → cond g (Some c) None ≡ None → c.gone ≡ false
@@ -90,7 +90,7 @@ return_once removed others r k h t = by (gone_cell_of r.doc.cells stamp) refl
     itself : times stamp (stamp ∷ []) ≡ 1
     itself = ap (λ b. length (cond b (stamp ∷ []) [])) (same_refl stamp)
 
-    is_gone_now : (b : Bool) → is_gone r.doc.cells stamp ≡ b → times stamp (stamp ∷ rest) ≤ one_if b → is_gone r.doc.cells stamp ≡ true
+    is_gone_now : (b : Bool) → is_gone_cell r.doc.cells stamp ≡ b → times stamp (stamp ∷ rest) ≤ one_if b → is_gone_cell r.doc.cells stamp ≡ true
     is_gone_now true e f = e
     is_gone_now false e f = absurd (let all = both stamp in let one = itself in omega (arith, all, one, f))
 
@@ -107,10 +107,10 @@ return_once removed others r k h t = by (gone_cell_of r.doc.cells stamp) refl
 
     by : (o : Option TaggedCell) → gone_cell_of r.doc.cells stamp ≡ o
         → Back r (unwrap_or (option_map (λ (cell : TaggedCell). with_insertion stamp removed.tags cell.ch r) o) r) others (removed.stamp ∷ [])
-    by None e = let gone = is_gone_now (is_gone r.doc.cells stamp) refl (h stamp) in let not_gone = none_gone r.doc.cells stamp e in absurd (cc (gone, not_gone))
+    by None e = let gone = is_gone_now (is_gone_cell r.doc.cells stamp) refl (h stamp) in let not_gone = none_gone r.doc.cells stamp e in absurd (cc (gone, not_gone))
     by (Some cell) e =
         let next = with_insertion stamp removed.tags cell.ch r in
-        let same = names others ∙ none_replaced stamp (next_in r.doc) rest (not_again (is_gone r.doc.cells stamp) (h stamp)) in
+        let same = names others ∙ none_replaced stamp (next_in r.doc) rest (not_again (is_gone_cell r.doc.cells stamp) (h stamp)) in
         record {
           once = subst (AreGoneOnce next.doc.cells) (sym same)
               (once_grown r.doc.cells next.doc.cells rest (gone_next none stamp removed.tags cell.ch r k)
@@ -276,33 +276,33 @@ taken_now f (action ∷ group) =
 
 -- after a group was reverted those are gone once that the group for the other stack takes away, and others that were, by the stamps
 -- that they have then; and just those came back that the group took away, in the order of reverting
-pub record IsOnce (flat : DocValue) (group : List (Action (List Word))) (others : List Stamp) : Type 0 where
-  pub once : AreGoneOnce (reversion flat group).doc.cells (map (stamp_after (reversion flat group).returns) others ++ taken_by (reverted_group flat group))
-  pub formers : map (λ (r : Return). r.former) (reversion flat group).returns ≡ taken_by (reverse group)
+pub record IsOnce (document : DocValue) (group : List (Action (List Word))) (others : List Stamp) : Type 0 where
+  pub once : AreGoneOnce (reversion document group).doc.cells (map (stamp_after (reversion document group).returns) others ++ taken_by (reverted_group document group))
+  pub formers : map (λ (r : Return). r.former) (reversion document group).returns ≡ taken_by (reverse group)
 
-pub reversion_once : (site : ℕ) (log : List Operation) (flat : DocValue) (group : List (Action (List Word))) (others : List Stamp) → 0 < site → IsHistory log
-    → IsDocument site log flat → AllMayRevert group → (reversion flat group).doc.count ≤ GREATEST_COUNT → AreGoneOnce flat.cells (taken_by group ++ others)
-    → IsOnce flat group others
-reversion_once site log flat group others p h doc c l once =
-    let r = reversion flat group in
+pub reversion_once : (site : ℕ) (log : List Operation) (document : DocValue) (group : List (Action (List Word))) (others : List Stamp) → 0 < site → IsHistory log
+    → IsDocument site log document → AllMayRevert group → (reversion document group).doc.count ≤ GREATEST_COUNT → AreGoneOnce document.cells (taken_by group ++ others)
+    → IsOnce document group others
+reversion_once site log document group others p h doc c l once =
+    let r = reversion document group in
     let f = stamp_after r.returns in
-    let start : StandOnce (as_it_is flat) (in_turn (as_it_is flat) (reverse group) others) =
-    once_fewer flat.cells (map (λ s. s) (in_turn (as_it_is flat) (reverse group) others)) (taken_by group ++ others)
+    let start : StandOnce (as_it_is document) (in_turn (as_it_is document) (reverse group) others) =
+    once_fewer document.cells (map (λ s. s) (in_turn (as_it_is document) (reverse group) others)) (taken_by group ++ others)
     (λ s.
-    let same = ap (times s) (map-id (in_turn (as_it_is flat) (reverse group) others)) in
+    let same = ap (times s) (map-id (in_turn (as_it_is document) (reverse group) others)) in
     let a = times_append s (taken_by (reverse group)) (others ++ []) in
     let b = times_append s others [] in
     let e = times_append s (taken_by group) others in
     let k = in_reverse s group in
     omega (arith, same, a, b, e, k)) once in
-    let all = all_once site log (reverse group) others (as_it_is flat) p (record { may = tt; history = h; document = doc; apart = tt; sound = tt }) (all_reversed MayRevert group c) l
+    let all = all_once site log (reverse group) others (as_it_is document) p (record { may = tt; history = h; document = doc; apart = tt; sound = tt }) (all_reversed MayRevert group c) l
     (record { gone = λ s e. absurd (cc e); returns = tt; newer = tt }) tt
     (trivial (λ (a : Action (List Word)). AllByRecursion (λ (x : Removed (List Word)). Stays none [] x.stamp) a.removed)
-    (λ a. trivial (λ (x : Removed (List Word)). Stays none [] x.stamp) (λ x. refl) a.removed) (reverse group)) start (map-id (in_turn (as_it_is flat) (reverse group) others)) in
+    (λ a. trivial (λ (x : Removed (List Word)). Stays none [] x.stamp) (λ x. refl) a.removed) (reverse group)) start (map-id (in_turn (as_it_is document) (reverse group) others)) in
     record {
-      once = once_fewer r.doc.cells (map f others ++ taken_by (reverted_group flat group)) (map f (in_turn r [] others))
+      once = once_fewer r.doc.cells (map f others ++ taken_by (reverted_group document group)) (map f (in_turn r [] others))
           (λ s.
-          let a = times_append s (map f others) (taken_by (reverted_group flat group)) in
+          let a = times_append s (map f others) (taken_by (reverted_group document group)) in
           let b = ap (times s) (taken_now f r.actions) in
           let e = by_append s f others (taken_by r.actions) in
           omega (arith, a, b, e)) all.once;
@@ -329,7 +329,7 @@ last_parts s (g ∷ h ∷ groups) group e =
     let b = times_append s (taken_by g) (flat_map taken_by (h ∷ groups)) in
     omega (arith, front, rest, a, b)
 
-to_undo_now : (f : Stamp → Stamp) (h : History (List Word)) → to_undo (renamed_by f h) ≡ map (with_stamps_in f) (to_undo h)
+to_undo_now : (f : Stamp → Stamp) (h : UndoHistory (List Word)) → to_undo (renamed_by f h) ≡ map (with_stamps_in f) (to_undo h)
 to_undo_now f h = ap (λ l. map (with_stamps_in f) h.closed ++ l) (by h.current) ∙ sym (map-append (with_stamps_in f) h.closed (as_group h.current))
   where
     by : (group : List (Action (List Word))) → as_group (with_stamps_in f group) ≡ map (with_stamps_in f) (as_group group)
@@ -340,13 +340,13 @@ but_last_now : (f : Stamp → Stamp) (groups : List (List (Action (List Word))))
 but_last_now f groups = (λ i. take (length-map groups (with_stamps_in {T = List Word} f) i - 1) (map (with_stamps_in f) groups)) ∙ take-map (with_stamps_in f) (length groups - 1) groups
 
 -- the others of a group that is undone, and of one that is redone
-abbrev pub beside_undone : History (List Word) → List Stamp
+abbrev pub beside_undone : UndoHistory (List Word) → List Stamp
 beside_undone h = flat_map taken_by (but_last (to_undo h)) ++ flat_map taken_by h.undone
 
-abbrev pub beside_redone : History (List Word) → List Stamp
+abbrev pub beside_redone : UndoHistory (List Word) → List Stamp
 beside_redone h = flat_map taken_by (to_undo h) ++ flat_map taken_by (but_last h.undone)
 
-pub before_undo : (cells : List TaggedCell) (h : History (List Word)) (group : List (Action (List Word))) → last (to_undo h) ≡ Some group → AreGoneOnce cells (removed_in_history h)
+pub before_undo : (cells : List TaggedCell) (h : UndoHistory (List Word)) (group : List (Action (List Word))) → last (to_undo h) ≡ Some group → AreGoneOnce cells (removed_in_history h)
     → AreGoneOnce cells (taken_by group ++ beside_undone h)
 before_undo cells h group e = once_fewer cells (taken_by group ++ beside_undone h) (removed_in_history h) (λ s.
     let parts = last_parts s (to_undo h) group e in
@@ -356,7 +356,7 @@ before_undo cells h group e = once_fewer cells (taken_by group ++ beside_undone 
     let all = in_history s h in
     omega (arith, parts, undo, a, b, all))
 
-pub before_redo : (cells : List TaggedCell) (h : History (List Word)) (group : List (Action (List Word))) → last h.undone ≡ Some group → AreGoneOnce cells (removed_in_history h)
+pub before_redo : (cells : List TaggedCell) (h : UndoHistory (List Word)) (group : List (Action (List Word))) → last h.undone ≡ Some group → AreGoneOnce cells (removed_in_history h)
     → AreGoneOnce cells (taken_by group ++ beside_redone h)
 before_redo cells h group e = once_fewer cells (taken_by group ++ beside_redone h) (removed_in_history h) (λ s.
     let parts = last_parts s h.undone group e in
@@ -366,7 +366,7 @@ before_redo cells h group e = once_fewer cells (taken_by group ++ beside_redone 
     let all = in_history s h in
     omega (arith, parts, undo, a, b, all))
 
-pub after_undo : (cells : List TaggedCell) (f : Stamp → Stamp) (h : History (List Word)) (reverted : List (Action (List Word)))
+pub after_undo : (cells : List TaggedCell) (f : Stamp → Stamp) (h : UndoHistory (List Word)) (reverted : List (Action (List Word)))
     → AreGoneOnce cells (map f (beside_undone h) ++ taken_by reverted) → AreGoneOnce cells (removed_in_history (undo_done reverted (renamed_by f h)))
 after_undo cells f h reverted = once_fewer cells (removed_in_history (undo_done reverted (renamed_by f h))) (map f (beside_undone h) ++ taken_by reverted) (λ s.
     let all = in_history s (undo_done reverted (renamed_by f h)) in
@@ -378,11 +378,11 @@ after_undo cells f h reverted = once_fewer cells (removed_in_history (undo_done 
     let b = by_append s f (flat_map taken_by (but_last (to_undo h))) (flat_map taken_by h.undone) in
     omega (arith, all, closed, undone, one, old, a, b))
 
-pub after_redo : (cells : List TaggedCell) (f : Stamp → Stamp) (h : History (List Word)) (reverted : List (Action (List Word)))
+pub after_redo : (cells : List TaggedCell) (f : Stamp → Stamp) (h : UndoHistory (List Word)) (reverted : List (Action (List Word)))
     → AreGoneOnce cells (map f (beside_redone h) ++ taken_by reverted) → AreGoneOnce cells (removed_in_history (redo_done reverted (renamed_by f h)))
 after_redo cells f h reverted = once_fewer cells (removed_in_history (redo_done reverted (renamed_by f h))) (map f (beside_redone h) ++ taken_by reverted) (λ s.
     let now = renamed_by f h in
-    let whole : History (List Word) = record now { closed = to_undo now ++ reverted ∷ []; current = []; undone = but_last now.undone } in
+    let whole : UndoHistory (List Word) = record now { closed = to_undo now ++ reverted ∷ []; current = []; undone = but_last now.undone } in
     let fewer = in_limited s whole in
     let all = in_history s whole in
     let closed = in_groups_append s (to_undo (renamed_by f h)) (reverted ∷ []) in

@@ -30,7 +30,7 @@ use Rattle.rt_revert.specs.Reverting.{as_removed}
 use Rattle.rt_undo.specs.Actions.{Removed}
 use Rattle.rt_recording.specs.Edits.{lost_between, lost_from}
 use Rattle.rt_recording.specs.Noting.{IsOfLog}
-use Rattle.rt_recording.specs.Settled.{is_gone, times}
+use Rattle.rt_recording.specs.Settled.{is_gone_cell, times}
 use Rattle.rt_recording.proofs.Gone.{gone_cons}
 use Rattle.rt_recording.proofs.Once.{HaveGone, one_if}
 use Rattle.rt_recording.proofs.Outcomes.{given}
@@ -72,13 +72,13 @@ module _ (places : ℕ → Bool) where
   taken_at p cells s = times s (stamps_of (cells_at places p cells))
 
   abbrev Fits : ℕ → List TaggedCell → Stamp → Type 0
-  Fits p cells s = taken_at p cells s ≤ cond (is_gone cells s) 0 (one_if (is_gone (gone_at places p cells) s))
+  Fits p cells s = taken_at p cells s ≤ cond (is_gone_cell cells s) 0 (one_if (is_gone_cell (gone_at places p cells) s))
 
   -- a cell with the stamp, before others that haven't it
   fits_here : (p : ℕ) (c : TaggedCell) (cs : List TaggedCell) (s : Stamp) → is_same c.stamp s ≡ true → is_among (stamps_of cs) s ≡ false → Fits p (c ∷ cs) s
   fits_here p c cs s e apart =
-      let told : is_gone (c ∷ cs) s ≡ c.gone = gone_cons c cs s ∙ cond-true (is_same c.stamp s) c.gone (is_gone cs s) e in
-      subst (λ b. taken_at p (c ∷ cs) s ≤ cond b 0 (one_if (is_gone (gone_at places p (c ∷ cs)) s))) (sym told)
+      let told : is_gone_cell (c ∷ cs) s ≡ c.gone = gone_cons c cs s ∙ cond-true (is_same c.stamp s) c.gone (is_gone_cell cs s) e in
+      subst (λ b. taken_at p (c ∷ cs) s ≤ cond b 0 (one_if (is_gone_cell (gone_at places p (c ∷ cs)) s))) (sym told)
       (by c.gone (places p) refl refl)
     where
       left : TaggedCell
@@ -86,11 +86,11 @@ module _ (places : ℕ → Bool) where
 
       by : (g here : Bool) → c.gone ≡ g → places p ≡ here
           → times s (stamps_of (cond g (cells_at places p cs) (cond here (c ∷ cells_at places (p + 1) cs) (cells_at places (p + 1) cs))))
-          ≤ cond g 0 (one_if (is_gone (cond g (c ∷ gone_at places p cs) (left ∷ gone_at places (p + 1) cs)) s))
+          ≤ cond g 0 (one_if (is_gone_cell (cond g (c ∷ gone_at places p cs) (left ∷ gone_at places (p + 1) cs)) s))
       by true here f k = omega (arith, none_at places p cs s apart)
       by false false f k = omega (arith, none_at places (p + 1) cs s apart)
       by false true f k =
-          let gone : is_gone (left ∷ gone_at places (p + 1) cs) s ≡ true = gone_cons left (gone_at places (p + 1) cs) s ∙ cond-true (is_same c.stamp s) (places p) (is_gone (gone_at places (p + 1) cs) s) e ∙ k in
+          let gone : is_gone_cell (left ∷ gone_at places (p + 1) cs) s ≡ true = gone_cons left (gone_at places (p + 1) cs) s ∙ cond-true (is_same c.stamp s) (places p) (is_gone_cell (gone_at places (p + 1) cs) s) e ∙ k in
           let many = times_here c (stamps_of (cells_at places (p + 1) cs)) s e in
           let rest = none_at places (p + 1) cs s apart in
           subst (λ b. times s (stamps_of (c ∷ cells_at places (p + 1) cs)) ≤ one_if b) (sym gone) (omega (arith, many, rest))
@@ -98,28 +98,28 @@ module _ (places : ℕ → Bool) where
   -- a cell with another stamp, before some
   fits_there : (p : ℕ) (c : TaggedCell) (cs : List TaggedCell) (s : Stamp) → is_same c.stamp s ≡ false → ((q : ℕ) → Fits q cs s) → Fits p (c ∷ cs) s
   fits_there p c cs s e rest =
-      let told : is_gone (c ∷ cs) s ≡ is_gone cs s = gone_cons c cs s ∙ cond-false (is_same c.stamp s) c.gone (is_gone cs s) e in
-      subst (λ b. taken_at p (c ∷ cs) s ≤ cond b 0 (one_if (is_gone (gone_at places p (c ∷ cs)) s))) (sym told)
+      let told : is_gone_cell (c ∷ cs) s ≡ is_gone_cell cs s = gone_cons c cs s ∙ cond-false (is_same c.stamp s) c.gone (is_gone_cell cs s) e in
+      subst (λ b. taken_at p (c ∷ cs) s ≤ cond b 0 (one_if (is_gone_cell (gone_at places p (c ∷ cs)) s))) (sym told)
       (by c.gone (places p) (rest p) (rest (p + 1)))
     where
       left : TaggedCell
       left = record c { gone = places p }
 
-      same : is_gone (c ∷ gone_at places p cs) s ≡ is_gone (gone_at places p cs) s
-      same = gone_cons c (gone_at places p cs) s ∙ cond-false (is_same c.stamp s) c.gone (is_gone (gone_at places p cs) s) e
+      same : is_gone_cell (c ∷ gone_at places p cs) s ≡ is_gone_cell (gone_at places p cs) s
+      same = gone_cons c (gone_at places p cs) s ∙ cond-false (is_same c.stamp s) c.gone (is_gone_cell (gone_at places p cs) s) e
 
-      next : is_gone (left ∷ gone_at places (p + 1) cs) s ≡ is_gone (gone_at places (p + 1) cs) s
-      next = gone_cons left (gone_at places (p + 1) cs) s ∙ cond-false (is_same c.stamp s) (places p) (is_gone (gone_at places (p + 1) cs) s) e
+      next : is_gone_cell (left ∷ gone_at places (p + 1) cs) s ≡ is_gone_cell (gone_at places (p + 1) cs) s
+      next = gone_cons left (gone_at places (p + 1) cs) s ∙ cond-false (is_same c.stamp s) (places p) (is_gone_cell (gone_at places (p + 1) cs) s) e
 
-      by : (g here : Bool) → taken_at p cs s ≤ cond (is_gone cs s) 0 (one_if (is_gone (gone_at places p cs) s))
-          → taken_at (p + 1) cs s ≤ cond (is_gone cs s) 0 (one_if (is_gone (gone_at places (p + 1) cs) s))
+      by : (g here : Bool) → taken_at p cs s ≤ cond (is_gone_cell cs s) 0 (one_if (is_gone_cell (gone_at places p cs) s))
+          → taken_at (p + 1) cs s ≤ cond (is_gone_cell cs s) 0 (one_if (is_gone_cell (gone_at places (p + 1) cs) s))
           → times s (stamps_of (cond g (cells_at places p cs) (cond here (c ∷ cells_at places (p + 1) cs) (cells_at places (p + 1) cs))))
-          ≤ cond (is_gone cs s) 0 (one_if (is_gone (cond g (c ∷ gone_at places p cs) (left ∷ gone_at places (p + 1) cs)) s))
-      by true here h k = subst (λ b. taken_at p cs s ≤ cond (is_gone cs s) 0 (one_if b)) (sym same) h
-      by false false h k = subst (λ b. taken_at (p + 1) cs s ≤ cond (is_gone cs s) 0 (one_if b)) (sym next) k
+          ≤ cond (is_gone_cell cs s) 0 (one_if (is_gone_cell (cond g (c ∷ gone_at places p cs) (left ∷ gone_at places (p + 1) cs)) s))
+      by true here h k = subst (λ b. taken_at p cs s ≤ cond (is_gone_cell cs s) 0 (one_if b)) (sym same) h
+      by false false h k = subst (λ b. taken_at (p + 1) cs s ≤ cond (is_gone_cell cs s) 0 (one_if b)) (sym next) k
       by false true h k =
-          subst (λ b. times s (stamps_of (c ∷ cells_at places (p + 1) cs)) ≤ cond (is_gone cs s) 0 (one_if b)) (sym next)
-          (subst (λ n. n ≤ cond (is_gone cs s) 0 (one_if (is_gone (gone_at places (p + 1) cs) s))) (sym (times_there c (stamps_of (cells_at places (p + 1) cs)) s e)) k)
+          subst (λ b. times s (stamps_of (c ∷ cells_at places (p + 1) cs)) ≤ cond (is_gone_cell cs s) 0 (one_if b)) (sym next)
+          (subst (λ n. n ≤ cond (is_gone_cell cs s) 0 (one_if (is_gone_cell (gone_at places (p + 1) cs) s))) (sym (times_there c (stamps_of (cells_at places (p + 1) cs)) s e)) k)
 
   fit : (p : ℕ) (cells : List TaggedCell) (s : Stamp) → AreDistinct cells → Fits p cells s
   fit p [] s d = omega arith
@@ -131,17 +131,17 @@ pub places_gone : (places : ℕ → Bool) (cells : List TaggedCell) → AreDisti
 places_gone places cells d = λ s. fit places 0 cells s d
 
 -- and stay gone in what comes of it
-have_gone_on : (old mid new : List TaggedCell) (xs : List Stamp) → ((s : Stamp) → is_gone mid s ≡ true → is_gone new s ≡ true) → HaveGone old mid xs → HaveGone old new xs
-have_gone_on old mid new xs stay went = λ s. by s (is_gone mid s) refl (is_gone old s) (went s)
+have_gone_on : (old mid new : List TaggedCell) (xs : List Stamp) → ((s : Stamp) → is_gone_cell mid s ≡ true → is_gone_cell new s ≡ true) → HaveGone old mid xs → HaveGone old new xs
+have_gone_on old mid new xs stay went = λ s. by s (is_gone_cell mid s) refl (is_gone_cell old s) (went s)
   where
-    by : (s : Stamp) (b : Bool) → is_gone mid s ≡ b → (g : Bool) → times s xs ≤ cond g 0 (one_if b) → times s xs ≤ cond g 0 (one_if (is_gone new s))
+    by : (s : Stamp) (b : Bool) → is_gone_cell mid s ≡ b → (g : Bool) → times s xs ≤ cond g 0 (one_if b) → times s xs ≤ cond g 0 (one_if (is_gone_cell new s))
     by s b e true h = h
     by s true e false h = subst (λ n. times s xs ≤ one_if n) (sym (stay s e)) h
     by s false e false h = omega (arith, h)
 
 -- A NEWLINE THAT LOSES ITS TAGS
 
-tagged_gone : (site count : ℕ) (name : Word) (on : Bool) (stamps : List Stamp) (cells : List TaggedCell) (s : Stamp) → is_gone (map (cell_with_tag site count name on stamps) cells) s ≡ is_gone cells s
+tagged_gone : (site count : ℕ) (name : Word) (on : Bool) (stamps : List Stamp) (cells : List TaggedCell) (s : Stamp) → is_gone_cell (map (cell_with_tag site count name on stamps) cells) s ≡ is_gone_cell cells s
 tagged_gone site count name on stamps [] s = refl
 tagged_gone site count name on stamps (c ∷ cs) s =
     gone_cons (cell_with_tag site count name on stamps c) (map (cell_with_tag site count name on stamps) cs) s
@@ -150,7 +150,7 @@ tagged_gone site count name on stamps (c ∷ cs) s =
     ∙ sym (gone_cons c cs s)
   where
     rest : Bool
-    rest = is_gone (map (cell_with_tag site count name on stamps) cs) s
+    rest = is_gone_cell (map (cell_with_tag site count name on stamps) cs) s
 
     with_tag_on : TaggedCell
     with_tag_on = record c { state = written (tag_write site count name on stamps c.stamp) c.state }
@@ -159,18 +159,18 @@ tagged_gone site count name on stamps (c ∷ cs) s =
     by true = refl
     by false = refl
 
-bared_gone : (flat : DocValue) (stamp : Stamp) (names : List Word) (s : Stamp) → is_gone (bared flat stamp names).cells s ≡ is_gone flat.cells s
-bared_gone flat stamp [] s = refl
-bared_gone flat stamp (name ∷ names) s =
-    bared_gone (with_tag flat name false (stamp ∷ [])) stamp names s ∙ tagged_gone flat.site flat.count name false (stamp ∷ []) flat.cells s
+bared_gone : (doc : DocValue) (stamp : Stamp) (names : List Word) (s : Stamp) → is_gone_cell (bared doc stamp names).cells s ≡ is_gone_cell doc.cells s
+bared_gone doc stamp [] s = refl
+bared_gone doc stamp (name ∷ names) s =
+    bared_gone (with_tag doc name false (stamp ∷ [])) stamp names s ∙ tagged_gone doc.site doc.count name false (stamp ∷ []) doc.cells s
 
-text_gone : (flat : DocValue) (loss : Loss) (s : Stamp) → is_gone (without_text flat loss).cells s ≡ is_gone (gone_at loss.places 0 flat.cells) s
-text_gone flat loss s = by (newline_left flat loss)
+text_gone : (doc : DocValue) (loss : Loss) (s : Stamp) → is_gone_cell (without_text doc loss).cells s ≡ is_gone_cell (gone_at loss.places 0 doc.cells) s
+text_gone doc loss s = by (newline_left doc loss)
   where
     left : DocValue
-    left = without_places flat loss.places
+    left = without_places doc loss.places
 
-    by : (o : Option TaggedCell) → is_gone (unwrap_or (option_map (λ (cell : TaggedCell). bared left cell.stamp (names_on cell.state)) o) left).cells s ≡ is_gone left.cells s
+    by : (o : Option TaggedCell) → is_gone_cell (unwrap_or (option_map (λ (cell : TaggedCell). bared left cell.stamp (names_on cell.state)) o) left).cells s ≡ is_gone_cell left.cells s
     by None = refl
     by (Some cell) = bared_gone left cell.stamp (names_on cell.state) s
 
@@ -191,11 +191,11 @@ without_gone view ranges d =
 abbrev some_gone : List TaggedCell → Stamp → Bool
 some_gone cells s = list_any (λ (c : TaggedCell). is_same c.stamp s && c.gone) cells
 
-gone_some : (cells : List TaggedCell) (s : Stamp) → is_gone cells s ≡ true → some_gone cells s ≡ true
+gone_some : (cells : List TaggedCell) (s : Stamp) → is_gone_cell cells s ≡ true → some_gone cells s ≡ true
 gone_some [] s h = absurd (cc h)
 gone_some (c ∷ cs) s h = by (is_same c.stamp s) c.gone (sym (gone_cons c cs s) ∙ h) (gone_some cs s)
   where
-    by : (b g : Bool) → cond b g (is_gone cs s) ≡ true → (is_gone cs s ≡ true → some_gone cs s ≡ true) → ((b && g) || some_gone cs s) ≡ true
+    by : (b g : Bool) → cond b g (is_gone_cell cs s) ≡ true → (is_gone_cell cs s ≡ true → some_gone cs s ≡ true) → ((b && g) || some_gone cs s) ≡ true
     by true true e rest = refl
     by true false e rest = absurd (cc e)
     by false g e rest = rest e
@@ -208,11 +208,11 @@ some_known (c ∷ cs) s h = by (is_same c.stamp s) c.gone h (some_known cs s)
     by true g e rest = refl
     by false g e rest = rest e
 
-some_is : (cells : List TaggedCell) (s : Stamp) → AreDistinct cells → some_gone cells s ≡ true → is_gone cells s ≡ true
+some_is : (cells : List TaggedCell) (s : Stamp) → AreDistinct cells → some_gone cells s ≡ true → is_gone_cell cells s ≡ true
 some_is [] s d h = absurd (cc h)
 some_is (c ∷ cs) s d h = gone_cons c cs s ∙ by (is_same c.stamp s) refl c.gone h (some_is cs s (others_distinct c.stamp (stamps_of cs) d))
   where
-    by : (b : Bool) → is_same c.stamp s ≡ b → (g : Bool) → ((b && g) || some_gone cs s) ≡ true → (some_gone cs s ≡ true → is_gone cs s ≡ true) → cond b g (is_gone cs s) ≡ true
+    by : (b : Bool) → is_same c.stamp s ≡ b → (g : Bool) → ((b && g) || some_gone cs s) ≡ true → (some_gone cs s ≡ true → is_gone_cell cs s ≡ true) → cond b g (is_gone_cell cs s) ≡ true
     by true e true k rest = refl
     by true e false k rest =
         let apart = subst (λ t. is_among (stamps_of cs) t ≡ false) (same_from_true c.stamp s e) (first_apart c.stamp (stamps_of cs) d) in
@@ -241,8 +241,8 @@ some_put cells left new s h =
 pub none_lost : (old new : List TaggedCell) → HaveGone old new []
 none_lost old new = λ s. omega arith
 
-distinct_of : (flat : DocValue) → IsOfLog flat → AreDistinct flat.cells
-distinct_of flat kept = subst AreDistinct (sym kept.cells) (cells_distinct flat.log kept.history)
+distinct_of : (doc : DocValue) → IsOfLog doc → AreDistinct doc.cells
+distinct_of doc kept = subst AreDistinct (sym kept.cells) (cells_distinct doc.log kept.history)
 
 pub deleted_gone : (view new : ViewValue) (indices : List Word) → IsOfLog view.doc → view_deleted view indices ≡ Ok new
     → HaveGone view.doc.cells new.doc.cells (map (λ (r : Removed (List Word)). r.stamp) (map as_removed (lost_between view indices)))

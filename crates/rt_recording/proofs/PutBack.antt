@@ -221,29 +221,29 @@ pub one_reversed : {X : Type 0} (x : X) → reverse (x ∷ []) ≡ x ∷ []
 one_reversed x = reverse-cons x []
 
 -- after an action was reverted that took nothing away, the text is that of the cells that it has not put in
-text_reverted : (flat : DocValue) (action : Action (List Word)) → action.removed ≡ [] → tagged_text (reverted flat (action ∷ [])).cells ≡ tagged_text (beside action.inserted flat.cells)
-text_reverted flat action none =
-    let r = as_it_is flat in
+text_reverted : (document : DocValue) (action : Action (List Word)) → action.removed ≡ [] → tagged_text (reverted document (action ∷ [])).cells ≡ tagged_text (beside action.inserted document.cells)
+text_reverted document action none =
+    let r = as_it_is document in
     let stamps = map (stamp_after []) action.inserted in
     ap (λ group. tagged_text (with_each_reverted group r).doc.cells) (one_reversed action)
     ∙ ap (λ removed. tagged_text (with_returns removed (with_removal stamps r)).doc.cells) none
     ∙ ap (λ stamps. tagged_text (with_removal stamps r).doc.cells) (map-id action.inserted)
-    ∙ text_beside action.inserted (are_at action.inserted flat.cells) 0 flat.cells (λ k. ap (are_at action.inserted flat.cells) (omega arith))
+    ∙ text_beside action.inserted (are_at action.inserted document.cells) 0 document.cells (λ k. ap (are_at action.inserted document.cells) (omega arith))
 
 -- an insertion that is undone at once leaves the text as it was
 pub insertion_back : (site : ℕ) (log : List Operation) (view : ViewValue) (place : ℕ) (pieces : List Piece) (rest : Word) → 0 < site → IsHistory log → IsDocument site log view.doc
     → let new = (with_pieces_at view place pieces rest).doc in
     tagged_text (reverted new (edit_action Insert view.doc new [] ∷ [])).cells ≡ tagged_text view.doc.cells
 insertion_back site log view place pieces rest p h doc =
-    let flat = view.doc in
+    let document = view.doc in
     let start = none_inserted view in
-    let inserted = insertion_of flat.site (left_neighbour (cells_shown view) place) (right_behind view place pieces) pieces rest start in
-    let after = left_stamp flat.cells (in_text view place) in
+    let inserted = insertion_of document.site (left_neighbour (cells_shown view) place) (right_behind view place pieces) pieces rest start in
+    let after = left_stamp document.cells (in_text view place) in
     let new = (with_pieces_at view place pieces rest).doc in
-    let stamps = stamps_of_span (counts_between flat.site flat.count inserted.count) in
-    let is_new : IsNew flat.site flat.count inserted =
-    new_insertion flat.site flat.count (left_neighbour (cells_shown view) place) (right_behind view place pieces) pieces rest start (record { cells = tt; count = omega arith }) in
-    text_reverted new (edit_action Insert flat new []) refl
-    ∙ ap tagged_text (beside_put stamps flat.cells inserted.cells after
-    (all_beside stamps flat.cells (counts_apart site log flat inserted.count p h doc))
-    (none_beside flat.site flat.count inserted.count inserted.cells is_new.cells))
+    let stamps = stamps_of_span (counts_between document.site document.count inserted.count) in
+    let is_new : IsNew document.site document.count inserted =
+    new_insertion document.site document.count (left_neighbour (cells_shown view) place) (right_behind view place pieces) pieces rest start (record { cells = tt; count = omega arith }) in
+    text_reverted new (edit_action Insert document new []) refl
+    ∙ ap tagged_text (beside_put stamps document.cells inserted.cells after
+    (all_beside stamps document.cells (counts_apart site log document inserted.count p h doc))
+    (none_beside document.site document.count inserted.count inserted.cells is_new.cells))

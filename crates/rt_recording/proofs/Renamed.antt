@@ -10,8 +10,8 @@ use Rattle.rt_tags.proofs.Sorted.{every_append}
 use Rattle.rt_undo.specs.declared.renames.Move.{Move}
 use Rattle.rt_undo.specs.Actions.{Action, Removed, restamped, restamped_one}
 use Rattle.rt_undo.specs.Groups.{NoneMoves}
-use Rattle.rt_undo.specs.Renames.{Shown, is_moved, replaced}
-use Rattle.rt_undo.specs.Undo.{History, as_group, but_last, last, limited, next_redo, next_undo, redo_done, renamed_by, to_undo, too_many, undo_done, with_stamps_in}
+use Rattle.rt_undo.specs.Renames.{SpanMapValue, is_moved, replaced}
+use Rattle.rt_undo.specs.Undo.{UndoHistory, as_group, but_last, last, limited, next_redo, next_undo, redo_done, renamed_by, to_undo, too_many, undo_done, with_stamps_in}
 use Rattle.rt_undo.proofs.Histories.{but_last_map, last_map, to_undo_renamed}
 use Rattle.rt_recording.specs.Naming.{AreGiven, HistoryIsGiven, RemovedAreGiven, named_group, named_history, named_removed}
 use Rattle.rt_recording.specs.Recordings.{HaveStayed}
@@ -36,7 +36,7 @@ groups_twice : (g f : Stamp → Stamp) (groups : List (List (Action ℕ)))
 groups_twice g f [] = refl
 groups_twice g f (group ∷ groups) = λ i. group_twice g f group i ∷ groups_twice g f groups i
 
-history_twice : (g f : Stamp → Stamp) (h : History ℕ) → renamed_by g (renamed_by f h) ≡ renamed_by (λ s. g (f s)) h
+history_twice : (g f : Stamp → Stamp) (h : UndoHistory ℕ) → renamed_by g (renamed_by f h) ≡ renamed_by (λ s. g (f s)) h
 history_twice g f h = λ i. record h {
   closed = groups_twice g f h.closed i;
   current = group_twice g f h.current i;
@@ -59,7 +59,7 @@ groups_same : (groups : List (List (Action ℕ))) → map (with_stamps_in {T = �
 groups_same [] = refl
 groups_same (group ∷ groups) = λ i. group_same group i ∷ groups_same groups i
 
-pub history_same : (h : History ℕ) → renamed_by (λ s. s) h ≡ h
+pub history_same : (h : UndoHistory ℕ) → renamed_by (λ s. s) h ≡ h
 history_same h = λ i. record h {
   closed = groups_same h.closed i;
   current = group_same h.current i;
@@ -77,7 +77,7 @@ at_itself [] i d = refl
 at_itself (r ∷ returns) zero d = refl
 at_itself (r ∷ returns) (suc i) d = at_itself returns i d
 
-pub history_step : (returns : List Return) (i : ℕ) (d : Return) (old new start : History ℕ) → i < length returns
+pub history_step : (returns : List Return) (i : ℕ) (d : Return) (old new start : UndoHistory ℕ) → i < length returns
     → new ≡ renamed_by (replaced (get_or returns i d).former (get_or returns i d).newer) old
     → renamed_by (stamp_after (drop i returns)) old ≡ start
     → renamed_by (stamp_after (drop (i + 1) returns)) new ≡ start
@@ -89,7 +89,7 @@ history_step returns i d old new start l e before =
     ∙ ap (λ rs. renamed_by (stamp_after rs) old) (sym (return_here returns i r l is))
     ∙ before
 
-pub moves_step : (returns : List Return) (i : ℕ) (d : Return) (old new : Shown Move) (start : Stamp → Bool) → i < length returns
+pub moves_step : (returns : List Return) (i : ℕ) (d : Return) (old new : SpanMapValue Move) (start : Stamp → Bool) → i < length returns
     → ((s : Stamp) → is_moved new s ≡ back_with (get_or returns i d) (is_moved old) s)
     → ((s : Stamp) → back_after (drop i returns) (is_moved old) s ≡ start s)
     → (s : Stamp) → back_after (drop (i + 1) returns) (is_moved new) s ≡ start s
@@ -104,7 +104,7 @@ pub return_now : (returns : List Return) (i : ℕ) (d : Return) (back : Stamp �
     → IsReturn back (get_or returns i d) × AreReturns (back_with (get_or returns i d) back) (drop (i + 1) returns)
 return_now returns i d back l are = subst (AreReturns back) (return_here returns i (get_or returns i d) l (at_itself returns i d)) are
 
-pub returns_step : (returns : List Return) (i : ℕ) (d : Return) (old new : Shown Move) → i < length returns
+pub returns_step : (returns : List Return) (i : ℕ) (d : Return) (old new : SpanMapValue Move) → i < length returns
     → ((s : Stamp) → is_moved new s ≡ back_with (get_or returns i d) (is_moved old) s)
     → AreReturns (is_moved old) (drop i returns) → AreReturns (is_moved new) (drop (i + 1) returns)
 returns_step returns i d old new l e are =
@@ -117,7 +117,7 @@ none_left [] (suc i) l = refl
 none_left (r ∷ returns) zero l = absurd (omega arith)
 none_left (r ∷ returns) (suc i) l = none_left returns i (omega arith)
 
-pub history_end : (returns : List Return) (i : ℕ) (h : History ℕ) → length returns ≤ i → h ≡ renamed_by (stamp_after (drop i returns)) h
+pub history_end : (returns : List Return) (i : ℕ) (h : UndoHistory ℕ) → length returns ≤ i → h ≡ renamed_by (stamp_after (drop i returns)) h
 history_end returns i h l = sym (ap (λ rs. renamed_by (stamp_after rs) h) (none_left returns i l) ∙ history_same h)
 
 pub moves_end : (returns : List Return) (i : ℕ) (back : Stamp → Bool) (s : Stamp) → length returns ≤ i → back s ≡ back_after (drop i returns) back s
@@ -140,7 +140,7 @@ groups_named : (t : TagStates) (f : Stamp → Stamp) (groups : List (List (Actio
 groups_named t f [] = refl
 groups_named t f (group ∷ groups) = λ i. group_named t f group i ∷ groups_named t f groups i
 
-renamed_named : (t : TagStates) (f : Stamp → Stamp) (h : History ℕ) → named_history t (renamed_by f h) ≡ renamed_by f (named_history t h)
+renamed_named : (t : TagStates) (f : Stamp → Stamp) (h : UndoHistory ℕ) → named_history t (renamed_by f h) ≡ renamed_by f (named_history t h)
 renamed_named t f h = λ i. record {
   closed = groups_named t f h.closed i;
   current = group_named t f h.current i;
@@ -150,7 +150,7 @@ renamed_named t f h = λ i. record {
   most = h.most;
 }
 
-undo_done_named : (t : TagStates) (reverted : List (Action ℕ)) (h : History ℕ)
+undo_done_named : (t : TagStates) (reverted : List (Action ℕ)) (h : UndoHistory ℕ)
     → named_history t (undo_done reverted h) ≡ undo_done (named_group t reverted) (named_history t h)
 undo_done_named t reverted h = λ i. record {
   closed = (sym (but_last_map (named_group t) (to_undo h)) ∙ ap (λ l. but_last l) (sym (to_undo_named t h))) i;
@@ -161,10 +161,10 @@ undo_done_named t reverted h = λ i. record {
   most = h.most;
 }
 
-redo_done_named : (t : TagStates) (reverted : List (Action ℕ)) (h : History ℕ)
+redo_done_named : (t : TagStates) (reverted : List (Action ℕ)) (h : UndoHistory ℕ)
     → named_history t (redo_done reverted h) ≡ redo_done (named_group t reverted) (named_history t h)
 redo_done_named t reverted h =
-    let all : History ℕ = record h { closed = to_undo h ++ reverted ∷ []; current = []; undone = but_last h.undone } in
+    let all : UndoHistory ℕ = record h { closed = to_undo h ++ reverted ∷ []; current = []; undone = but_last h.undone } in
     limited_named t all
     ∙ (λ i. limited (record {
       closed = (map-append (named_group t) (to_undo h) (reverted ∷ []) ∙ ap (λ l. l ++ named_group t reverted ∷ []) (sym (to_undo_named t h))) i;
@@ -175,7 +175,7 @@ redo_done_named t reverted h =
       most = h.most;
     }))
 
-pub undone_is : (t : TagStates) (f : Stamp → Stamp) (reverted : List (Action ℕ)) (old between new : History ℕ) → between ≡ renamed_by f old → new ≡ undo_done reverted between
+pub undone_is : (t : TagStates) (f : Stamp → Stamp) (reverted : List (Action ℕ)) (old between new : UndoHistory ℕ) → between ≡ renamed_by f old → new ≡ undo_done reverted between
     → named_history t new ≡ undo_done (named_group t reverted) (renamed_by f (named_history t old))
 undone_is t f reverted old between new b e =
     ap (named_history t) e
@@ -183,7 +183,7 @@ undone_is t f reverted old between new b e =
     ∙ ap (λ h. undo_done (named_group t reverted) (named_history t h)) b
     ∙ ap (undo_done (named_group t reverted)) (renamed_named t f old)
 
-pub redone_is : (t : TagStates) (f : Stamp → Stamp) (reverted : List (Action ℕ)) (old between new : History ℕ) → between ≡ renamed_by f old → new ≡ redo_done reverted between
+pub redone_is : (t : TagStates) (f : Stamp → Stamp) (reverted : List (Action ℕ)) (old between new : UndoHistory ℕ) → between ≡ renamed_by f old → new ≡ redo_done reverted between
     → named_history t new ≡ redo_done (named_group t reverted) (renamed_by f (named_history t old))
 redone_is t f reverted old between new b e =
     ap (named_history t) e
@@ -197,7 +197,7 @@ some_map : {A B : Type 0} (f : A → B) (o : Option A) → is_some (option_map f
 some_map f None = refl
 some_map f (Some x) = refl
 
-pub some_undo : (t : TagStates) (f : Stamp → Stamp) (old between : History ℕ) → between ≡ renamed_by f old → is_some (next_undo (named_history t old)) ≡ true
+pub some_undo : (t : TagStates) (f : Stamp → Stamp) (old between : UndoHistory ℕ) → between ≡ renamed_by f old → is_some (next_undo (named_history t old)) ≡ true
     → is_some (next_undo between) ≡ true
 some_undo t f old between b e =
     ap (λ h. is_some (next_undo h)) b
@@ -209,7 +209,7 @@ some_undo t f old between b e =
     ∙ sym (ap (λ l. is_some (last l)) (to_undo_named t old))
     ∙ e
 
-pub some_redo : (t : TagStates) (f : Stamp → Stamp) (old between : History ℕ) → between ≡ renamed_by f old → is_some (next_redo (named_history t old)) ≡ true
+pub some_redo : (t : TagStates) (f : Stamp → Stamp) (old between : UndoHistory ℕ) → between ≡ renamed_by f old → is_some (next_redo (named_history t old)) ≡ true
     → is_some (next_redo between) ≡ true
 some_redo t f old between b e =
     ap (λ h. is_some (next_redo h)) b
@@ -224,12 +224,12 @@ removed_still : (t : TagStates) (back : Stamp → Bool) (removed : List (Removed
 removed_still t back [] stays = tt
 removed_still t back (r ∷ removed) stays = (stays.0, removed_still t back removed stays.1)
 
-group_still : (t : TagStates) (moves : Shown Move) (group : List (Action ℕ)) → HaveStayed (is_moved moves) (named_group t group) → NoneMoves moves group
+group_still : (t : TagStates) (moves : SpanMapValue Move) (group : List (Action ℕ)) → HaveStayed (is_moved moves) (named_group t group) → NoneMoves moves group
 group_still t moves [] stay = tt
 group_still t moves (a ∷ group) stay =
     (record { inserted = stay.0.inserted; removed = removed_still t (is_moved moves) a.removed stay.0.removed }, group_still t moves group stay.1)
 
-pub still_after : (t : TagStates) (moves : Shown Move) (back : Stamp → Bool) (group : List (Action ℕ)) → ((s : Stamp) → is_moved moves s ≡ back s)
+pub still_after : (t : TagStates) (moves : SpanMapValue Move) (back : Stamp → Bool) (group : List (Action ℕ)) → ((s : Stamp) → is_moved moves s ≡ back s)
     → HaveStayed back (named_group t group) → NoneMoves moves group
 still_after t moves back group e stay =
     group_still t moves group (subst (λ (b : Stamp → Bool). HaveStayed b (named_group t group)) (λ j s. sym (e s) j) stay)
@@ -239,16 +239,16 @@ removed_stayed : (t : TagStates) (back : Stamp → Bool) (removed : List (Remove
 removed_stayed t back [] still = tt
 removed_stayed t back (r ∷ removed) still = (still.0, removed_stayed t back removed still.1)
 
-pub group_stayed : (t : TagStates) (moves : Shown Move) (group : List (Action ℕ)) → NoneMoves moves group → HaveStayed (is_moved moves) (named_group t group)
+pub group_stayed : (t : TagStates) (moves : SpanMapValue Move) (group : List (Action ℕ)) → NoneMoves moves group → HaveStayed (is_moved moves) (named_group t group)
 group_stayed t moves [] still = tt
 group_stayed t moves (a ∷ group) still =
     (record { inserted = still.0.inserted; removed = removed_stayed t (is_moved moves) a.removed still.0.removed }, group_stayed t moves group still.1)
 
 -- the next groups, with the names of tags
-pub undo_named : (t : TagStates) (h : History ℕ) → next_undo (named_history t h) ≡ option_map (named_group t) (next_undo h)
+pub undo_named : (t : TagStates) (h : UndoHistory ℕ) → next_undo (named_history t h) ≡ option_map (named_group t) (next_undo h)
 undo_named t h = ap (λ l. last l) (to_undo_named t h) ∙ last_map (named_group t) (to_undo h)
 
-pub redo_named : (t : TagStates) (h : History ℕ) → next_redo (named_history t h) ≡ option_map (named_group t) (next_redo h)
+pub redo_named : (t : TagStates) (h : UndoHistory ℕ) → next_redo (named_history t h) ≡ option_map (named_group t) (next_redo h)
 redo_named t h = last_map (named_group t) h.undone
 
 pub none_from : {A B : Type 0} (f : A → B) (o : Option A) → option_map f o ≡ None → o ≡ None
@@ -270,7 +270,7 @@ groups_given : (t : TagStates) (f : Stamp → Stamp) (groups : List (List (Actio
 groups_given t f [] given = tt
 groups_given t f (group ∷ groups) given = (group_given t f group given.0, groups_given t f groups given.1)
 
-pub given_renamed : (t : TagStates) (f : Stamp → Stamp) (h : History ℕ) → HistoryIsGiven t h → HistoryIsGiven t (renamed_by f h)
+pub given_renamed : (t : TagStates) (f : Stamp → Stamp) (h : UndoHistory ℕ) → HistoryIsGiven t h → HistoryIsGiven t (renamed_by f h)
 given_renamed t f h given = record {
   closed = groups_given t f h.closed given.closed;
   current = group_given t f h.current given.current;
@@ -281,22 +281,22 @@ as_group_given : (t : TagStates) (group : List (Action ℕ)) → AreGiven t grou
 as_group_given t [] given = tt
 as_group_given t (a ∷ group) given = (given, tt)
 
-to_undo_given : (t : TagStates) (h : History ℕ) → HistoryIsGiven t h → AllByRecursion (AreGiven t) (to_undo h)
+to_undo_given : (t : TagStates) (h : UndoHistory ℕ) → HistoryIsGiven t h → AllByRecursion (AreGiven t) (to_undo h)
 to_undo_given t h given = every_append (AreGiven t) h.closed (as_group h.current) given.closed (as_group_given t h.current given.current)
 
-pub given_undone : (t : TagStates) (reverted : List (Action ℕ)) (h : History ℕ) → HistoryIsGiven t h → AreGiven t reverted → HistoryIsGiven t (undo_done reverted h)
+pub given_undone : (t : TagStates) (reverted : List (Action ℕ)) (h : UndoHistory ℕ) → HistoryIsGiven t h → AreGiven t reverted → HistoryIsGiven t (undo_done reverted h)
 given_undone t reverted h given r = record {
   closed = every_take (AreGiven t) (length (to_undo h) - 1) (to_undo h) (to_undo_given t h given);
   current = tt;
   undone = every_append (AreGiven t) h.undone (reverted ∷ []) given.undone (r, tt);
 }
 
-given_limited : (t : TagStates) (h : History ℕ) → HistoryIsGiven t h → HistoryIsGiven t (limited h)
+given_limited : (t : TagStates) (h : UndoHistory ℕ) → HistoryIsGiven t h → HistoryIsGiven t (limited h)
 given_limited t h given = record { closed = every_drop (AreGiven t) (too_many h) h.closed given.closed; current = given.current; undone = given.undone }
 
-pub given_redone : (t : TagStates) (reverted : List (Action ℕ)) (h : History ℕ) → HistoryIsGiven t h → AreGiven t reverted → HistoryIsGiven t (redo_done reverted h)
+pub given_redone : (t : TagStates) (reverted : List (Action ℕ)) (h : UndoHistory ℕ) → HistoryIsGiven t h → AreGiven t reverted → HistoryIsGiven t (redo_done reverted h)
 given_redone t reverted h given r =
-    let all : History ℕ = record h { closed = to_undo h ++ reverted ∷ []; current = []; undone = but_last h.undone } in
+    let all : UndoHistory ℕ = record h { closed = to_undo h ++ reverted ∷ []; current = []; undone = but_last h.undone } in
     given_limited t all (record {
       closed = every_append (AreGiven t) (to_undo h) (reverted ∷ []) (to_undo_given t h given) (r, tt);
       current = tt;

@@ -295,97 +295,97 @@ back stamps places (x ∷ xs) (c ∷ cs) p pre r h =
 -- UNDONE
 
 -- a document that lacks the characters at some places of another one
-record Lacks (places : ℕ → Bool) (flat less : DocValue) : Type 0 where
-  pub cells : less.cells ≡ gone_at places 0 flat.cells
-  pub site : less.site ≡ flat.site
-  pub count : flat.count ≤ less.count
+record Lacks (places : ℕ → Bool) (document less : DocValue) : Type 0 where
+  pub cells : less.cells ≡ gone_at places 0 document.cells
+  pub site : less.site ≡ document.site
+  pub count : document.count ≤ less.count
 
 -- An edit took away the characters at some places, and put in others whose stamps have counts of its own. It is undone: the text is as
 -- it was.
-edit_back : (site : ℕ) (log : List Operation) (flat : DocValue) (places : ℕ → Bool) (kind : Kind) (new : DocValue) → 0 < site → IsHistory log → IsDocument site log flat
-    → new.site ≡ flat.site → flat.count ≤ new.count
-    → beside (stamps_of_span (counts_between flat.site flat.count new.count)) new.cells ≡ gone_at places 0 flat.cells
-    → tagged_text (reverted new (edit_action kind flat new (cells_at places 0 flat.cells) ∷ [])).cells ≡ tagged_text flat.cells
-edit_back site log flat places kind new p h doc same later old =
-    let stamps = stamps_of_span (counts_between flat.site flat.count new.count) in
-    let action = edit_action kind flat new (cells_at places 0 flat.cells) in
+edit_back : (site : ℕ) (log : List Operation) (document : DocValue) (places : ℕ → Bool) (kind : Kind) (new : DocValue) → 0 < site → IsHistory log → IsDocument site log document
+    → new.site ≡ document.site → document.count ≤ new.count
+    → beside (stamps_of_span (counts_between document.site document.count new.count)) new.cells ≡ gone_at places 0 document.cells
+    → tagged_text (reverted new (edit_action kind document new (cells_at places 0 document.cells) ∷ [])).cells ≡ tagged_text document.cells
+edit_back site log document places kind new p h doc same later old =
+    let stamps = stamps_of_span (counts_between document.site document.count new.count) in
+    let action = edit_action kind document new (cells_at places 0 document.cells) in
     let r = as_it_is new in
     let start = with_removal stamps r in
-    let removed = map as_removed (cells_at places 0 flat.cells) in
+    let removed = map as_removed (cells_at places 0 document.cells) in
     let gone = went stamps (are_at stamps new.cells) 0 new.cells (λ k. ap (are_at stamps new.cells) (omega arith)) in
-    let part : IsPart stamps places 0 [] start.doc.cells flat.cells start = record {
+    let part : IsPart stamps places 0 [] start.doc.cells document.cells start = record {
       cells = refl;
       gone = gone.gone;
       old = gone.others ∙ old;
-      none = counts_apart site log flat new.count p h doc;
+      none = counts_apart site log document new.count p h doc;
       site = omega (arith, same, doc.site, p);
-      older = below_later (greatest_last_count log) start.doc.count flat.cells (omega (arith, doc.count, later))
+      older = below_later (greatest_last_count log) start.doc.count document.cells (omega (arith, doc.count, later))
           (subst (AreBelowNext (greatest_last_count log)) (sym doc.cells) (cells_older log h));
       distinct = subst AreDistinct (sym doc.cells) (cells_distinct log h);
       apart = λ s k. refl;
       root = ap (λ (cells : List TaggedCell). is_among (stamps_of cells) ROOT) doc.cells ∙ root_absent log h;
       still = λ s k. refl;
-      named = rise_all flat.cells (subst CellsNamed (sym doc.cells) (every_named log h));
+      named = rise_all document.cells (subst CellsNamed (sym doc.cells) (every_named log h));
     } in
     ap (λ group. tagged_text (with_each_reverted group r).doc.cells) (one_reversed action)
     ∙ ap (λ ss. tagged_text (with_returns removed (with_removal ss r)).doc.cells) (map-id stamps)
-    ∙ back stamps places start.doc.cells flat.cells 0 [] start part
+    ∙ back stamps places start.doc.cells document.cells 0 [] start part
 
 -- what a document has that lacks some characters is apart from the counts of an edit
-less_apart : (site : ℕ) (log : List Operation) (flat less : DocValue) (places : ℕ → Bool) (after : ℕ) → 0 < site → IsHistory log → IsDocument site log flat → Lacks places flat less
-    → HaveNone (stamps_of_span (counts_between flat.site flat.count after)) less.cells
-less_apart site log flat less places after p h doc lacks =
-    subst (HaveNone (stamps_of_span (counts_between flat.site flat.count after))) (sym lacks.cells) (λ s k.
-    counts_apart site log flat after p h doc s (subst (λ (l : List Stamp). is_among l s ≡ true) (stamps_gone places 0 flat.cells) k))
+less_apart : (site : ℕ) (log : List Operation) (document less : DocValue) (places : ℕ → Bool) (after : ℕ) → 0 < site → IsHistory log → IsDocument site log document → Lacks places document less
+    → HaveNone (stamps_of_span (counts_between document.site document.count after)) less.cells
+less_apart site log document less places after p h doc lacks =
+    subst (HaveNone (stamps_of_span (counts_between document.site document.count after))) (sym lacks.cells) (λ s k.
+    counts_apart site log document after p h doc s (subst (λ (l : List Stamp). is_among l s ≡ true) (stamps_gone places 0 document.cells) k))
 
 -- characters are taken away, and that is undone
-removed_back : (site : ℕ) (log : List Operation) (flat : DocValue) (places : ℕ → Bool) (less : DocValue) → 0 < site → IsHistory log → IsDocument site log flat → Lacks places flat less
-    → tagged_text (reverted less (edit_action Delete flat less (cells_at places 0 flat.cells) ∷ [])).cells ≡ tagged_text flat.cells
-removed_back site log flat places less p h doc lacks =
-    let stamps = stamps_of_span (counts_between flat.site flat.count less.count) in
-    edit_back site log flat places Delete less p h doc lacks.site lacks.count
-    (all_beside stamps less.cells (less_apart site log flat less places less.count p h doc lacks) ∙ lacks.cells)
+removed_back : (site : ℕ) (log : List Operation) (document : DocValue) (places : ℕ → Bool) (less : DocValue) → 0 < site → IsHistory log → IsDocument site log document → Lacks places document less
+    → tagged_text (reverted less (edit_action Delete document less (cells_at places 0 document.cells) ∷ [])).cells ≡ tagged_text document.cells
+removed_back site log document places less p h doc lacks =
+    let stamps = stamps_of_span (counts_between document.site document.count less.count) in
+    edit_back site log document places Delete less p h doc lacks.site lacks.count
+    (all_beside stamps less.cells (less_apart site log document less places less.count p h doc lacks) ∙ lacks.cells)
 
 -- text is inserted into such a document, and that is undone together with the removal
-replaced_back : (site : ℕ) (log : List Operation) (flat : DocValue) (places : ℕ → Bool) (view : ViewValue) (place : ℕ) (pieces : List Piece) (rest : Word) → 0 < site → IsHistory log
-    → IsDocument site log flat → Lacks places flat view.doc
+replaced_back : (site : ℕ) (log : List Operation) (document : DocValue) (places : ℕ → Bool) (view : ViewValue) (place : ℕ) (pieces : List Piece) (rest : Word) → 0 < site → IsHistory log
+    → IsDocument site log document → Lacks places document view.doc
     → let new = (with_pieces_at view place pieces rest).doc in
-    tagged_text (reverted new (edit_action Replace flat new (cells_at places 0 flat.cells) ∷ [])).cells ≡ tagged_text flat.cells
-replaced_back site log flat places view place pieces rest p h doc lacks =
+    tagged_text (reverted new (edit_action Replace document new (cells_at places 0 document.cells) ∷ [])).cells ≡ tagged_text document.cells
+replaced_back site log document places view place pieces rest p h doc lacks =
     let less = view.doc in
     let begun = none_inserted view in
     let inserted = insertion_of less.site (left_neighbour (cells_shown view) place) (right_behind view place pieces) pieces rest begun in
     let after = left_stamp less.cells (in_text view place) in
     let new = (with_pieces_at view place pieces rest).doc in
-    let stamps = stamps_of_span (counts_between flat.site flat.count inserted.count) in
+    let stamps = stamps_of_span (counts_between document.site document.count inserted.count) in
     let is_new : IsNew less.site less.count inserted =
     new_insertion less.site less.count (left_neighbour (cells_shown view) place) (right_behind view place pieces) pieces rest begun (record { cells = tt; count = omega arith }) in
-    let between : AreBetween flat.site flat.count inserted.count inserted.cells =
-    between_wider flat.site less.count inserted.count flat.count inserted.count inserted.cells lacks.count (omega arith)
+    let between : AreBetween document.site document.count inserted.count inserted.cells =
+    between_wider document.site less.count inserted.count document.count inserted.count inserted.cells lacks.count (omega arith)
     (subst (λ s. AreBetween s less.count inserted.count inserted.cells) lacks.site is_new.cells) in
-    let fewer = less_apart site log flat less places inserted.count p h doc lacks in
-    edit_back site log flat places Replace new p h doc lacks.site (omega (arith, lacks.count, is_new.count))
-    (beside_put stamps less.cells inserted.cells after (all_beside stamps less.cells fewer) (none_beside flat.site flat.count inserted.count inserted.cells between)
+    let fewer = less_apart site log document less places inserted.count p h doc lacks in
+    edit_back site log document places Replace new p h doc lacks.site (omega (arith, lacks.count, is_new.count))
+    (beside_put stamps less.cells inserted.cells after (all_beside stamps less.cells fewer) (none_beside document.site document.count inserted.count inserted.cells between)
     ∙ lacks.cells)
 
 -- where a deletion takes no tags off the newline that stays, it does no more than to take characters away
-only_places : (flat : DocValue) (places : ℕ → Bool) (newline : Option TaggedCell) → unwrap_or (option_map (λ (cell : TaggedCell). names_on cell.state) newline) [] ≡ []
-    → let left = without_places flat places in
+only_places : (document : DocValue) (places : ℕ → Bool) (newline : Option TaggedCell) → unwrap_or (option_map (λ (cell : TaggedCell). names_on cell.state) newline) [] ≡ []
+    → let left = without_places document places in
     unwrap_or (option_map (λ (cell : TaggedCell). bared left cell.stamp (names_on cell.state)) newline) left ≡ left
-only_places flat places None e = refl
-only_places flat places (Some cell) e = ap (bared (without_places flat places) cell.stamp) e
+only_places document places None e = refl
+only_places document places (Some cell) e = ap (bared (without_places document places) cell.stamp) e
 
 -- ranges are deleted, with no tags taken off the newline that stays: the document lacks the characters at their places
 lacks_ranges : (view : ViewValue) (ranges : List Range) → tags_lost view ranges ≡ []
     → Lacks (loss_in (text_shown view) (begin_of view) ranges).places view.doc (without_ranges view ranges).doc
 lacks_ranges view ranges none =
-    let flat = view.doc in
+    let document = view.doc in
     let loss = loss_in (text_shown view) (begin_of view) ranges in
-    let less = only_places flat loss.places (newline_left flat loss) none in
+    let less = only_places document loss.places (newline_left document loss) none in
     record {
       cells = ap (λ (d : DocValue). d.cells) less;
       site = ap (λ (d : DocValue). d.site) less;
-      count = subst (λ (d : DocValue). flat.count ≤ d.count) (sym less) (omega arith);
+      count = subst (λ (d : DocValue). document.count ≤ d.count) (sym less) (omega arith);
     }
 
 -- a deletion that is undone at once leaves the text as it was

@@ -9,7 +9,7 @@ use Rattle.rt_rga.specs.Cells.{cells_of}
 use Rattle.rt_rga.specs.Histories.{IsHistory, greatest_last_count}
 use Rattle.rt_plans.specs.DocValue.{DocValue}
 use Rattle.rt_undo.specs.Actions.{Action}
-use Rattle.rt_undo.specs.Undo.{History, as_group, but_last, redo_done, renamed_by, to_undo, too_many, undo_done, with_stamps_in}
+use Rattle.rt_undo.specs.Undo.{UndoHistory, as_group, but_last, redo_done, renamed_by, to_undo, too_many, undo_done, with_stamps_in}
 use Rattle.rt_revert.specs.Reverting.{reversion, reverted, reverted_group}
 use Rattle.rt_revert.specs.ReversionLaws.{AllMayRevert}
 use Rattle.rt_revert.proofs.Soundness.{group_renamed}
@@ -17,7 +17,7 @@ use Rattle.rt_text.specs.Reversions.{reversion_check}
 use Rattle.rt_recording.specs.Recordings.{HaveStayed}
 use Rattle.rt_recording.specs.Returns.{IsOther, Return, stamp_after}
 use Rattle.rt_text.proofs.KeptLimits.{fits}
-use Rattle.rt_recording.specs.Settled.{AreGoneOnce, is_gone, taken_by}
+use Rattle.rt_recording.specs.Settled.{AreGoneOnce, is_gone_cell, taken_by}
 use Rattle.rt_recording.proofs.Every.{every_drop, every_take}
 use Rattle.rt_recording.proofs.OnceReverted.{reversion_once}
 use Rattle.rt_recording.proofs.Told.{IsReturned, reversion_told}
@@ -25,20 +25,20 @@ use Rattle.rt_recording.proofs.Told.{IsReturned, reversion_told}
 -- WHERE THE COUNTS FIT
 
 -- a document of a history, by which none of those who came back is visible, and a group of those who stayed
-pub told : (flat : DocValue) (group : List (Action (List Word))) (back : Stamp → Bool) (number : ℕ) → 0 < number → number ≡ flat.site → IsHistory flat.log
-    → flat.cells ≡ cells_of flat.log → flat.count ≡ greatest_last_count flat.log → AllMayRevert group → ((s : Stamp) → back s ≡ true → is_gone flat.cells s ≡ true)
-    → HaveStayed back group → reversion_check flat group ≡ None → IsReturned back flat group
-told flat group back number p site history cells count sound gone stay checked =
-    let positive : 0 < flat.site = omega (arith, p, site) in
-    reversion_told flat.site flat.log flat group back positive history (record { cells = cells; site = refl; count = count }) sound (fits flat group checked) gone stay
+pub told : (doc : DocValue) (group : List (Action (List Word))) (back : Stamp → Bool) (number : ℕ) → 0 < number → number ≡ doc.site → IsHistory doc.log
+    → doc.cells ≡ cells_of doc.log → doc.count ≡ greatest_last_count doc.log → AllMayRevert group → ((s : Stamp) → back s ≡ true → is_gone_cell doc.cells s ≡ true)
+    → HaveStayed back group → reversion_check doc group ≡ None → IsReturned back doc group
+told doc group back number p site history cells count sound gone stay checked =
+    let positive : 0 < doc.site = omega (arith, p, site) in
+    reversion_told doc.site doc.log doc group back positive history (record { cells = cells; site = refl; count = count }) sound (fits doc group checked) gone stay
 
 -- and who was taken away is gone once, by the stamps of then
-pub once_told : (flat : DocValue) (group : List (Action (List Word))) (others : List Stamp) (number : ℕ) → 0 < number → number ≡ flat.site → IsHistory flat.log
-    → flat.cells ≡ cells_of flat.log → flat.count ≡ greatest_last_count flat.log → AllMayRevert group → reversion_check flat group ≡ None → AreGoneOnce flat.cells (taken_by group ++ others)
-    → AreGoneOnce (reversion flat group).doc.cells (map (stamp_after (reversion flat group).returns) others ++ taken_by (reverted_group flat group))
-once_told flat group others number p site history cells count sound checked once =
-    let positive : 0 < flat.site = omega (arith, p, site) in
-    (reversion_once flat.site flat.log flat group others positive history (record { cells = cells; site = refl; count = count }) sound (fits flat group checked) once).once
+pub once_told : (doc : DocValue) (group : List (Action (List Word))) (others : List Stamp) (number : ℕ) → 0 < number → number ≡ doc.site → IsHistory doc.log
+    → doc.cells ≡ cells_of doc.log → doc.count ≡ greatest_last_count doc.log → AllMayRevert group → reversion_check doc group ≡ None → AreGoneOnce doc.cells (taken_by group ++ others)
+    → AreGoneOnce (reversion doc group).doc.cells (map (stamp_after (reversion doc group).returns) others ++ taken_by (reverted_group doc group))
+once_told doc group others number p site history cells count sound checked once =
+    let positive : 0 < doc.site = omega (arith, p, site) in
+    (reversion_once doc.site doc.log doc group others positive history (record { cells = cells; site = refl; count = count }) sound (fits doc group checked) once).once
 
 -- RESULTS
 
@@ -60,7 +60,7 @@ if_both P Q (Err e) p q = tt
 
 -- SOUND HISTORIES
 
-pub record HistoryIsSound (h : History (List Word)) : Type 0 where
+pub record HistoryIsSound (h : UndoHistory (List Word)) : Type 0 where
   pub closed : AllByRecursion AllMayRevert h.closed
   pub current : AllMayRevert h.current
   pub undone : AllByRecursion AllMayRevert h.undone
@@ -70,7 +70,7 @@ groups_renamed : (returns : List Return) (groups : List (List (Action (List Word
 groups_renamed returns [] h k = tt
 groups_renamed returns (group ∷ groups) h k = (group_renamed returns group h k.0, groups_renamed returns groups h k.1)
 
-renamed_sound : (returns : List Return) (h : History (List Word)) → AllByRecursion IsOther returns → HistoryIsSound h → HistoryIsSound (renamed_by (stamp_after returns) h)
+renamed_sound : (returns : List Return) (h : UndoHistory (List Word)) → AllByRecursion IsOther returns → HistoryIsSound h → HistoryIsSound (renamed_by (stamp_after returns) h)
 renamed_sound returns h others k = record {
   closed = groups_renamed returns h.closed others k.closed;
   current = group_renamed returns h.current others k.current;
@@ -81,10 +81,10 @@ as_group_sound : (group : List (Action (List Word))) → AllMayRevert group → 
 as_group_sound [] h = tt
 as_group_sound (a ∷ group) h = (h, tt)
 
-to_undo_sound : (h : History (List Word)) → HistoryIsSound h → AllByRecursion AllMayRevert (to_undo h)
+to_undo_sound : (h : UndoHistory (List Word)) → HistoryIsSound h → AllByRecursion AllMayRevert (to_undo h)
 to_undo_sound h k = every_append AllMayRevert h.closed (as_group h.current) k.closed (as_group_sound h.current k.current)
 
-pub sound_undone : (returns : List Return) (reverted : List (Action (List Word))) (old between new : History (List Word)) → AllByRecursion IsOther returns → AllMayRevert reverted
+pub sound_undone : (returns : List Return) (reverted : List (Action (List Word))) (old between new : UndoHistory (List Word)) → AllByRecursion IsOther returns → AllMayRevert reverted
     → HistoryIsSound old → between ≡ old → new ≡ undo_done reverted (renamed_by (stamp_after returns) between) → HistoryIsSound new
 sound_undone returns reverted old between new others r k b e =
     let h = renamed_by (stamp_after returns) between in
@@ -96,13 +96,13 @@ sound_undone returns reverted old between new others r k b e =
     } in
     subst HistoryIsSound (sym e) done
 
-pub sound_redone : (returns : List Return) (reverted : List (Action (List Word))) (old between new : History (List Word)) → AllByRecursion IsOther returns → AllMayRevert reverted
+pub sound_redone : (returns : List Return) (reverted : List (Action (List Word))) (old between new : UndoHistory (List Word)) → AllByRecursion IsOther returns → AllMayRevert reverted
     → HistoryIsSound old → between ≡ old → new ≡ redo_done reverted (renamed_by (stamp_after returns) between) → HistoryIsSound new
 sound_redone returns reverted old between new others r k b e =
     let h = renamed_by (stamp_after returns) between in
     let s = renamed_sound returns between others (subst HistoryIsSound (sym b) k) in
     let groups = to_undo h ++ reverted ∷ [] in
-    let all : History (List Word) = record h { closed = groups; current = []; undone = but_last h.undone } in
+    let all : UndoHistory (List Word) = record h { closed = groups; current = []; undone = but_last h.undone } in
     let done : HistoryIsSound (redo_done reverted h) = record {
       closed = every_drop AllMayRevert (too_many all) groups (every_append AllMayRevert (to_undo h) (reverted ∷ []) (to_undo_sound h s) (r, tt));
       current = tt;

@@ -32,7 +32,7 @@ use Rattle.rt_revert.proofs.Steps.{IsOnWay, action_step, all_grow, all_reversed,
 use Rattle.rt_text.proofs.KeptLimits.{below_on_way, real_on_way}
 use Rattle.rt_recording.specs.Recordings.{HasStayed, HaveStayed}
 use Rattle.rt_recording.specs.Returns.{AreReturns, IsReturn, Return, back_after, stamp_after}
-use Rattle.rt_recording.specs.Settled.{is_gone}
+use Rattle.rt_recording.specs.Settled.{is_gone_cell}
 use Rattle.rt_recording.proofs.Every.{every_drop}
 use Rattle.rt_recording.proofs.Gone.{each_among, found_gone, gone_known, gone_put, gone_still, visible_stays}
 use Rattle.rt_recording.proofs.Stayed.{Stays, back_one, returns_more, stays_here, stays_more}
@@ -86,7 +86,7 @@ kept_on_way site log r p h =
 
 -- who came back is gone; each came back for the first time, and not again
 pub record IsTold (back : Stamp → Bool) (r : Reversion) : Type 0 where
-  pub gone : (s : Stamp) → back_after r.returns back s ≡ true → is_gone r.doc.cells s ≡ true
+  pub gone : (s : Stamp) → back_after r.returns back s ≡ true → is_gone_cell r.doc.cells s ≡ true
   pub returns : AreReturns back r.returns
   pub newer : AllByRecursion (λ (x : Return). Stays back r.returns x.newer) r.returns
 
@@ -112,20 +112,20 @@ module _ (back : Stamp → Bool) (stamp : Stamp) (tags : List Word) (ch : ℕ) (
   fresh k t = false_from_ne_true (back_after r.returns back (next_in r.doc))
       (λ e. both_ways (is_among (stamps_of r.doc.cells) (next_in r.doc)) (fresh_cell k) (gone_known r.doc.cells (next_in r.doc) (t.gone (next_in r.doc) e)))
 
-  is_return : AreKept r → IsTold back r → is_gone r.doc.cells stamp ≡ true → is_same stamp FINAL ≡ false → back_after r.returns back stamp ≡ false
+  is_return : AreKept r → IsTold back r → is_gone_cell r.doc.cells stamp ≡ true → is_same stamp FINAL ≡ false → back_after r.returns back stamp ≡ false
       → next.doc.count ≤ GREATEST_COUNT → IsReturn (back_after r.returns back) came
   is_return k t g n f l =
       let older : stamp.count ≤ r.doc.count = k.older stamp (gone_known r.doc.cells stamp g) n in
       record { later = omega (arith, older); bounded = omega (arith, l); first_time = f; fresh = fresh k t }
 
-  pub gone_next : AreKept r → (s : Stamp) → is_gone r.doc.cells s ≡ true → is_gone next.doc.cells s ≡ true
+  pub gone_next : AreKept r → (s : Stamp) → is_gone_cell r.doc.cells s ≡ true → is_gone_cell next.doc.cells s ≡ true
   gone_next k s g =
       gone_put r.doc.cells stamp this s (differs (next_in r.doc) s (stamps_of r.doc.cells) (fresh_cell k) (gone_known r.doc.cells s g)) ∙ g
 
-  told_next : AreKept r → IsTold back r → is_gone r.doc.cells stamp ≡ true → IsReturn (back_after r.returns back) came → IsTold back next
+  told_next : AreKept r → IsTold back r → is_gone_cell r.doc.cells stamp ≡ true → IsReturn (back_after r.returns back) came → IsTold back next
   told_next k t g is = record {
     gone = λ s e. gone_next k s (split (is_same s stamp)
-        (λ same. ap (is_gone r.doc.cells) (same_from_true s stamp same) ∙ g)
+        (λ same. ap (is_gone_cell r.doc.cells) (same_from_true s stamp same) ∙ g)
         (λ other. t.gone s (back_one r.returns came back s e other)));
     returns = returns_more r.returns came back t.returns is;
     newer = every_append (λ (x : Return). Stays back next.returns x.newer) r.returns (came ∷ [])
@@ -147,7 +147,7 @@ return_told back removed r k t a m l s = by (gone_cell_of r.doc.cells stamp) ref
     by : (o : Option TaggedCell) → gone_cell_of r.doc.cells stamp ≡ o → (brought stamp removed.tags o r).doc.count ≤ GREATEST_COUNT → Leads back r (brought stamp removed.tags o r)
     by None e f = record { told = t; stays = λ u h. h }
     by (Some cell) e f =
-        let g : is_gone r.doc.cells stamp ≡ true = found_gone r.doc.cells stamp cell e in
+        let g : is_gone_cell r.doc.cells stamp ≡ true = found_gone r.doc.cells stamp cell e in
         let is = is_return back stamp removed.tags cell.ch r k t g (after_apart r.returns removed.stamp a m.stamp) s f in
         record { told = told_next back stamp removed.tags cell.ch r k t g is; stays = λ u h. stays_more r.returns (record { former = stamp; newer = next_in r.doc }) back u is h }
 
@@ -184,7 +184,7 @@ went_here back stamps r d t =
     let cells = r.doc.cells in
     let test : TaggedCell → Bool = λ cell. is_among stamps cell.stamp in
     let each = each_among P (visible_of cells) (λ s m. false_from_ne_true (back_after r.returns back s)
-    (λ e. both_ways (is_gone cells s) (visible_stays cells s d m) (t.gone s e))) in
+    (λ e. both_ways (is_gone_cell cells s) (visible_stays cells s d m) (t.gone s e))) in
     mapped (λ (x : Removed (List Word)). P x.stamp) as_removed (filter test (visible_of cells)) (every_filter (λ (c : TaggedCell). P c.stamp) test (visible_of cells) each)
 
 went_stay : (back : Stamp → Bool) (stamps : List Stamp) (r : Reversion) → AreDistinct r.doc.cells → IsTold back r
@@ -259,21 +259,21 @@ group_now back f (action ∷ group) h = (action_now back f action h.0, group_now
 -- GROUPS
 
 -- what a group's reversion tells
-pub record IsReturned (back : Stamp → Bool) (flat : DocValue) (group : List (Action (List Word))) : Type 0 where
-  pub returns : AreReturns back (reversion flat group).returns
-  pub others : AllByRecursion IsApart (reversion flat group).returns
-  pub stay : HaveStayed (back_after (reversion flat group).returns back) (reverted_group flat group)
-  pub gone : (s : Stamp) → back_after (reversion flat group).returns back s ≡ true → is_gone (reversion flat group).doc.cells s ≡ true
+pub record IsReturned (back : Stamp → Bool) (document : DocValue) (group : List (Action (List Word))) : Type 0 where
+  pub returns : AreReturns back (reversion document group).returns
+  pub others : AllByRecursion IsApart (reversion document group).returns
+  pub stay : HaveStayed (back_after (reversion document group).returns back) (reverted_group document group)
+  pub gone : (s : Stamp) → back_after (reversion document group).returns back s ≡ true → is_gone_cell (reversion document group).doc.cells s ≡ true
 
-pub reversion_told : (site : ℕ) (log : List Operation) (flat : DocValue) (group : List (Action (List Word))) (back : Stamp → Bool) → 0 < site → IsHistory log
-    → IsDocument site log flat → AllMayRevert group → (reversion flat group).doc.count ≤ GREATEST_COUNT → ((s : Stamp) → back s ≡ true → is_gone flat.cells s ≡ true)
-    → HaveStayed back group → IsReturned back flat group
-reversion_told site log flat group back p h doc c l g st =
-    let r = reversion flat group in
-    let way = on_way site log flat group p h doc c l in
+pub reversion_told : (site : ℕ) (log : List Operation) (document : DocValue) (group : List (Action (List Word))) (back : Stamp → Bool) → 0 < site → IsHistory log
+    → IsDocument site log document → AllMayRevert group → (reversion document group).doc.count ≤ GREATEST_COUNT → ((s : Stamp) → back s ≡ true → is_gone_cell document.cells s ≡ true)
+    → HaveStayed back group → IsReturned back document group
+reversion_told site log document group back p h doc c l g st =
+    let r = reversion document group in
+    let way = on_way site log document group p h doc c l in
     let removed : RemovedStay back [] group =
     every_weaker (HasStayed back) (λ (a : Action (List Word)). AllByRecursion (λ (x : Removed (List Word)). back x.stamp ≡ false) a.removed) (λ a k. k.removed) group st in
-    let all = all_told back site log (reverse group) (as_it_is flat) p (record { may = tt; history = h; document = doc; apart = tt; sound = tt }) (all_reversed MayRevert group c) l
+    let all = all_told back site log (reverse group) (as_it_is document) p (record { may = tt; history = h; document = doc; apart = tt; sound = tt }) (all_reversed MayRevert group c) l
     (record { gone = g; returns = tt; newer = tt })
     (all_reversed (λ (a : Action (List Word)). AllByRecursion (λ (x : Removed (List Word)). back x.stamp ≡ false) a.removed) group removed) tt in
     record { returns = all.leads.told.returns; others = way.apart; stay = group_now (back_after r.returns back) (stamp_after r.returns) r.actions all.stay; gone = all.leads.told.gone }

@@ -74,6 +74,6 @@ ReplacementIsTakenBack =
 -- reverted. They are told by their former stamps, in the order of reverting.
 abbrev pub AllComeBack : Type 0
 AllComeBack =
-    (site : ℕ) (log : List Operation) (flat : DocValue) (group : List (Action (List Word))) → 0 < site → IsHistory log → IsDocument site log flat
-    → AllMayRevert group → (reversion flat group).doc.count ≤ GREATEST_COUNT → AreGoneOnce flat.cells (taken_by group)
-    → map (λ r. r.former) (reversion flat group).returns ≡ taken_by (reverse group)
+    (site : ℕ) (log : List Operation) (doc : DocValue) (group : List (Action (List Word))) → 0 < site → IsHistory log → IsDocument site log doc
+    → AllMayRevert group → (reversion doc group).doc.count ≤ GREATEST_COUNT → AreGoneOnce doc.cells (taken_by group)
+    → map (λ r. r.former) (reversion doc group).returns ≡ taken_by (reverse group)

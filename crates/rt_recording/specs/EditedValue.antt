@@ -3,13 +3,13 @@ use Rattle.std.specs.Prelude.{Bool, List}
 use Rattle.rt_stamps.specs.Words.{Word}
 use Rattle.rt_recording.specs.Recordings.{Recording}
 use Rattle.rt_text.specs.Widgets.{ViewValue}
-use Rattle.rt_undo.specs.Undo.{History}
+use Rattle.rt_undo.specs.Undo.{UndoHistory}
 
 -- a text as its widget shows it; the history of its edits, with the tags of removed characters by their names, in which stands how
 -- many groups may be undone (-maxundo); whether edits are recorded (-undo), and whether separators are automatic (-autoseparators)
 pub record EditedValue : Type 0 where
   pub view : ViewValue
-  pub history : History (List Word)
+  pub history : UndoHistory (List Word)
   pub undo : Bool
   pub auto : Bool
 

@@ -12,7 +12,7 @@ use Rattle.rt_plans.specs.Insertions.{Piece}
 use Rattle.rt_undo.specs.declared.action.Kind.{Kind}
 use Rattle.rt_undo.specs.declared.action.Kind.TheVariants.{Insert, Delete, Replace}
 use Rattle.rt_undo.specs.Actions.{Action}
-use Rattle.rt_undo.specs.Undo.{History, forced_on, with_action}
+use Rattle.rt_undo.specs.Undo.{UndoHistory, forced_on, with_action}
 use Rattle.rt_revert.specs.Reverting.{as_removed}
 use Rattle.rt_recording.specs.Recordings.{span_action}
 use Rattle.rt_text.specs.Accepted.{view_with_new}
@@ -41,10 +41,10 @@ edit_action kind old new lost = span_action kind (counts_between old.site old.co
 
 -- An edit that changed the text is recorded where edits are, with automatic separators or without, and takes away what could be
 -- redone; else it forces the modified flag. One that changed no text leaves the history as it is.
-abbrev pub noted_by : Bool → Bool → Bool → Action (List Word) → History (List Word) → History (List Word)
+abbrev pub noted_by : Bool → Bool → Bool → Action (List Word) → UndoHistory (List Word) → UndoHistory (List Word)
 noted_by changed undo auto action history = if changed then (if undo then with_action auto action history else forced_on history) else history
 
-abbrev pub noted : Kind → List TaggedCell → EditedValue → DocValue → History (List Word)
+abbrev pub noted : Kind → List TaggedCell → EditedValue → DocValue → UndoHistory (List Word)
 noted kind lost text new = noted_by (text_changed text.view.doc new) text.undo text.auto (edit_action kind text.view.doc new lost) text.history
 
 -- an edit of the view, which takes some characters away, with what is recorded of it

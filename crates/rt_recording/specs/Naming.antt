@@ -3,10 +3,10 @@ use Rattle.std.specs.Prelude.{ℕ, List, map}
 use Rattle.std.specs.List.{AllByRecursion}
 use Rattle.rt_stamps.specs.Words.{Word}
 use Rattle.rt_tags.specs.States.{TagStates}
-use Rattle.rt_undo.specs.Undo.{History}
+use Rattle.rt_undo.specs.Undo.{UndoHistory}
 pub use Rattle.rt_revert.specs.Plans.{AreGiven, RemovedAreGiven, named_action, named_group, named_removed}
 
-abbrev pub named_history : TagStates → History ℕ → History (List Word)
+abbrev pub named_history : TagStates → UndoHistory ℕ → UndoHistory (List Word)
 named_history table h = record {
   closed = map (named_group table) h.closed;
   current = named_group table h.current;
@@ -17,7 +17,7 @@ named_history table h = record {
 }
 
 -- the tags of removed characters are states that a table gave out
-pub record HistoryIsGiven (table : TagStates) (h : History ℕ) : Type 0 where
+pub record HistoryIsGiven (table : TagStates) (h : UndoHistory ℕ) : Type 0 where
   pub closed : AllByRecursion (AreGiven table) h.closed
   pub current : AreGiven table h.current
   pub undone : AllByRecursion (AreGiven table) h.undone

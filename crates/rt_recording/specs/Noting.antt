@@ -14,7 +14,7 @@ pub record Keeps (old new : Recording) : Type 0 where
   pub back : (stamp : Stamp) → came_back new stamp ≡ came_back old stamp
 
 -- a document is that of its log
-pub record IsOfLog (flat : DocValue) : Type 0 where
-  pub history : IsHistory flat.log
-  pub cells : flat.cells ≡ cells_of flat.log
-  pub count : flat.count ≡ greatest_last_count flat.log
+pub record IsOfLog (doc : DocValue) : Type 0 where
+  pub history : IsHistory doc.log
+  pub cells : doc.cells ≡ cells_of doc.log
+  pub count : doc.count ≡ greatest_last_count doc.log

@@ -9,19 +9,19 @@ use Rattle.rt_tags.specs.States.{TagStates}
 use Rattle.rt_undo.specs.declared.action.Kind.{Kind}
 use Rattle.rt_undo.specs.declared.renames.Move.{Move}
 use Rattle.rt_undo.specs.Actions.{Action, Removed}
-use Rattle.rt_undo.specs.Renames.{Shown, is_moved}
-use Rattle.rt_undo.specs.Undo.{History}
+use Rattle.rt_undo.specs.Renames.{SpanMapValue, is_moved}
+use Rattle.rt_undo.specs.Undo.{UndoHistory}
 
 -- What a site has recorded: the actions by groups, with the names of tags, and how many groups may be undone (-maxundo); the
 -- widget's options -undo and -autoseparators; the characters that the next action takes away, if that is prepared; which characters
 -- came back under other stamps, with the room for more; whether there is room for a group that is undone or redone; and the states
 -- that the tags of planned actions stand for.
 pub record Recording : Type 0 where
-  pub history : History (List Word)
+  pub history : UndoHistory (List Word)
   pub undo : Bool
   pub auto : Bool
   pub pending : Option (List (Removed (List Word)))
-  pub moves : Shown Move
+  pub moves : SpanMapValue Move
   pub ready : Bool
   pub table : TagStates
 

@@ -4,11 +4,11 @@ use Rattle.rt_stamps.specs.declared.fault.Fault.{Fault}
 use Rattle.rt_stamps.specs.Words.{Word}
 use Rattle.rt_recording.specs.Reversals.{group_redone, group_undone}
 use Rattle.rt_text.specs.Widgets.{ViewValue}
-use Rattle.rt_undo.specs.Undo.{History}
+use Rattle.rt_undo.specs.Undo.{UndoHistory}
 use Rattle.rt_recording.specs.EditedValue.{EditedValue}
 
 -- a text after another view and history
-abbrev pub with_history : EditedValue → Result (ViewValue × History (List Word)) Fault → Result EditedValue Fault
+abbrev pub with_history : EditedValue → Result (ViewValue × UndoHistory (List Word)) Fault → Result EditedValue Fault
 with_history text (Ok left) = Ok (record text { view = left.0; history = left.1 })
 with_history text (Err fault) = Err fault
 

@@ -8,8 +8,8 @@ use Rattle.rt_recording.specs.declared.recorder.Recorder.TheInside.{Inside}
 use Rattle.rt_recording.specs.Naming.{HistoryIsGiven, RemovedAreGiven, named_history, named_removed}
 use Rattle.rt_recording.specs.Recordings.{Recording}
 
-abbrev pub shown : Inside → Recording
-shown s = record {
+abbrev pub recording_of : Inside → Recording
+recording_of s = record {
   history = named_history s.table s.stacks.history;
   undo = s.undo;
   auto = s.auto_separators;

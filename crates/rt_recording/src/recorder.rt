@@ -63,9 +63,9 @@ impl Model for Recorder {
 
     ghost Value = { Recording };
 
-    ghost use Rattle.rt_recording.specs.Seen.{IsRecorder, shown};
+    ghost use Rattle.rt_recording.specs.Seen.{IsRecorder, recording_of};
 
-    ghost view = { shown };
+    ghost view = { recording_of };
 
     ghost invariant = { IsRecorder };
 }

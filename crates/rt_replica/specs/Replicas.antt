@@ -8,7 +8,7 @@ use Rattle.rt_rga.specs.Texts.{tagged_text}
 use Rattle.rt_changes.specs.Replays.{replayed}
 use Rattle.rt_rga.specs.declared.taken.Change.{Change}
 use Rattle.rt_holding.specs.Grown.{AreTriedAt, HeldValue}
-use Rattle.rt_holding.specs.Holding.{Holding, Settles, put_held, without}
+use Rattle.rt_holding.specs.Holding.{Holding, Settles, put_held, without_op}
 use Rattle.rt_holding.specs.Replies.{Reply}
 use Rattle.rt_holding.specs.Replies as replies
 use Rattle.rt_replica.specs.declared.taken.Taken.{Taken}
@@ -48,7 +48,7 @@ pub record TakesAndTells (first log held : List Operation) (new : HoldingValue) 
 
 -- What an offer makes of a replica, by its answer. A new one is taken, and held no more.
 abbrev pub BecomesOf : Operation → HoldingValue → HoldingValue → Taken → Type 0
-BecomesOf op old new (takings.New changes) = TakesAndTells (op ∷ []) old.log (without op old.held) new changes.items
+BecomesOf op old new (takings.New changes) = TakesAndTells (op ∷ []) old.log (without_op op old.held) new changes.items
 BecomesOf op old new takings.Repeat = new ≡ old
 BecomesOf op old new takings.Held = new ≡ record old { held = put_held op old.held }
 

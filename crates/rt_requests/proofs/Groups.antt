@@ -6,7 +6,7 @@ use Rattle.std.proofs.lemmas.Str.Parse.{tells_all_ascii_digits}
 use Rattle.std.specs.Fmt.{decimal}
 use Rattle.std.specs.Str.{all_ascii_digits}
 use Rattle.rt_stamps.specs.Words.{Word}
-use Rattle.rt_requests.specs.MaxUndoWords.{groups_of, is_number, max_undo_of}
+use Rattle.rt_requests.specs.MaxUndoWords.{most_groups_of, is_number, max_undo_of}
 use Rattle.rt_requests.proofs.Numbers.{numbers}
 
 -- what a number is made of
@@ -27,7 +27,7 @@ pub too_many : (number : ℕ) → ¬ (number < 2 ^ 64) → 2 ^ 63 - 1 ≡ min nu
 too_many number h = omega (arith, h)
 
 -- a number has no minus in front
-number_read : (digits : Word) → is_number digits ≡ true → max_undo_of digits ≡ Some (groups_of digits)
+number_read : (digits : Word) → is_number digits ≡ true → max_undo_of digits ≡ Some (most_groups_of digits)
 number_read [] h = absurd (cc)
 number_read (c ∷ digits) h =
     let digit = (tells_all_ascii_digits.parts c digits h).0 in
@@ -37,5 +37,5 @@ number_read (c ∷ digits) h =
 pub groups_read : (number : ℕ) → number < 2 ^ 63 → max_undo_of (decimal number) ≡ Some number
 groups_read number h =
     let written = decimal_is_IsNumeral_wide number (omega (arith, h)) in
-    let few : groups_of (decimal number) ≡ number = omega (arith, h, written.1) in
+    let few : most_groups_of (decimal number) ≡ number = omega (arith, h, written.1) in
     number_read (decimal number) (is_some_digits (decimal number) written.0.0 (numbers.from (decimal number) written.0.1)) ∙ ap (λ n. Some n) few

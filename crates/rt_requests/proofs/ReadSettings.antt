@@ -6,7 +6,7 @@ use Rattle.std.proofs.lemmas.Slice.Eq.{bytes_eq-Decides}
 use Rattle.rt_stamps.specs.Words.{Word}
 use Rattle.rt_requests.specs.declared.options.WidgetOption.{WidgetOption}
 use Rattle.rt_requests.specs.declared.options.WidgetOption.TheVariants.{Undo, AutoSeparators}
-use Rattle.rt_requests.specs.OptionWords.{are_pairs, max_undo_in, option_of, option_word, value_of}
+use Rattle.rt_requests.specs.OptionWords.{are_pairs, max_undo_in, option_of, option_word, truth_given}
 use Rattle.rt_requests.specs.Truth.{truth_of}
 use Rattle.rt_requests.specs.declared.limits.Limit.{Limit}
 use Rattle.rt_requests.specs.declared.options.NamedOption.{NamedOption}
@@ -35,8 +35,8 @@ or_some (Some y) x rest = refl
 -- words set what they set behind those that were read, and else what those set
 pub record AreRead (words left : List Word) (settings : WidgetSettings) : Type 0 where
   pub sound : can_all_be_set words ≡ can_all_be_set left
-  pub undo : value_of Undo words ≡ option_or (value_of Undo left) settings.shared.undo
-  pub separators : value_of AutoSeparators words ≡ option_or (value_of AutoSeparators left) settings.shared.auto_separators
+  pub undo : truth_given Undo words ≡ option_or (truth_given Undo left) settings.shared.undo
+  pub separators : truth_given AutoSeparators words ≡ option_or (truth_given AutoSeparators left) settings.shared.auto_separators
   pub most : max_undo_in words ≡ option_or (max_undo_in left) settings.shared.max_undo
   pub start : limit_in (codes "-startline") words ≡ option_or (limit_in (codes "-startline") left) settings.start_line
   pub ends : limit_in (codes "-endline") words ≡ option_or (limit_in (codes "-endline") left) settings.end_line
@@ -98,8 +98,8 @@ undo_read words left value settings next None t e r = absurd (cc)
 undo_read words left value settings next (Some truth) t e r =
     let q : record settings { shared = record settings.shared { undo = Some truth } } ≡ next = cc in subst (AreRead words left) q (record {
       sound = r.sound ∙ rw t refl;
-      undo = r.undo ∙ rw t (or_some (value_of Undo left) truth settings.shared.undo);
-      separators = r.separators ∙ ap (λ v. option_or v settings.shared.auto_separators) (or_none (value_of AutoSeparators left));
+      undo = r.undo ∙ rw t (or_some (truth_given Undo left) truth settings.shared.undo);
+      separators = r.separators ∙ ap (λ v. option_or v settings.shared.auto_separators) (or_none (truth_given AutoSeparators left));
       most = r.most ∙ ap (λ v. option_or v settings.shared.max_undo) (or_none (max_undo_in left));
       start = r.start ∙ ap (λ v. option_or v settings.start_line) (or_none (limit_in (codes "-startline") left));
       ends = r.ends ∙ ap (λ v. option_or v settings.end_line) (or_none (limit_in (codes "-endline") left));
@@ -112,8 +112,8 @@ separators_read words left value settings next None t e r = absurd (cc)
 separators_read words left value settings next (Some truth) t e r =
     let q : record settings { shared = record settings.shared { auto_separators = Some truth } } ≡ next = cc in subst (AreRead words left) q (record {
       sound = r.sound ∙ rw t refl;
-      undo = r.undo ∙ ap (λ v. option_or v settings.shared.undo) (or_none (value_of Undo left));
-      separators = r.separators ∙ rw t (or_some (value_of AutoSeparators left) truth settings.shared.auto_separators);
+      undo = r.undo ∙ ap (λ v. option_or v settings.shared.undo) (or_none (truth_given Undo left));
+      separators = r.separators ∙ rw t (or_some (truth_given AutoSeparators left) truth settings.shared.auto_separators);
       most = r.most ∙ ap (λ v. option_or v settings.shared.max_undo) (or_none (max_undo_in left));
       start = r.start ∙ ap (λ v. option_or v settings.start_line) (or_none (limit_in (codes "-startline") left));
       ends = r.ends ∙ ap (λ v. option_or v settings.end_line) (or_none (limit_in (codes "-endline") left));
@@ -126,8 +126,8 @@ most_read words left value settings next None t e r = absurd (cc)
 most_read words left value settings next (Some most) t e r =
     let q : record settings { shared = record settings.shared { max_undo = Some most } } ≡ next = cc in subst (AreRead words left) q (record {
       sound = r.sound ∙ rw t refl;
-      undo = r.undo ∙ ap (λ v. option_or v settings.shared.undo) (or_none (value_of Undo left));
-      separators = r.separators ∙ ap (λ v. option_or v settings.shared.auto_separators) (or_none (value_of AutoSeparators left));
+      undo = r.undo ∙ ap (λ v. option_or v settings.shared.undo) (or_none (truth_given Undo left));
+      separators = r.separators ∙ ap (λ v. option_or v settings.shared.auto_separators) (or_none (truth_given AutoSeparators left));
       most = r.most ∙ rw t (or_some (max_undo_in left) most settings.shared.max_undo);
       start = r.start ∙ ap (λ v. option_or v settings.start_line) (or_none (limit_in (codes "-startline") left));
       ends = r.ends ∙ ap (λ v. option_or v settings.end_line) (or_none (limit_in (codes "-endline") left));
@@ -140,8 +140,8 @@ start_read words left value settings next None t e r = absurd (cc)
 start_read words left value settings next (Some limit) t e r =
     let q : record settings { start_line = Some limit } ≡ next = cc in subst (AreRead words left) q (record {
       sound = r.sound ∙ rw t refl;
-      undo = r.undo ∙ ap (λ v. option_or v settings.shared.undo) (or_none (value_of Undo left));
-      separators = r.separators ∙ ap (λ v. option_or v settings.shared.auto_separators) (or_none (value_of AutoSeparators left));
+      undo = r.undo ∙ ap (λ v. option_or v settings.shared.undo) (or_none (truth_given Undo left));
+      separators = r.separators ∙ ap (λ v. option_or v settings.shared.auto_separators) (or_none (truth_given AutoSeparators left));
       most = r.most ∙ ap (λ v. option_or v settings.shared.max_undo) (or_none (max_undo_in left));
       start = r.start ∙ rw t (or_some (limit_in (codes "-startline") left) limit settings.start_line);
       ends = r.ends ∙ ap (λ v. option_or v settings.end_line) (or_none (limit_in (codes "-endline") left));
@@ -154,8 +154,8 @@ end_read words left value settings next None t e r = absurd (cc)
 end_read words left value settings next (Some limit) t e r =
     let q : record settings { end_line = Some limit } ≡ next = cc in subst (AreRead words left) q (record {
       sound = r.sound ∙ rw t refl;
-      undo = r.undo ∙ ap (λ v. option_or v settings.shared.undo) (or_none (value_of Undo left));
-      separators = r.separators ∙ ap (λ v. option_or v settings.shared.auto_separators) (or_none (value_of AutoSeparators left));
+      undo = r.undo ∙ ap (λ v. option_or v settings.shared.undo) (or_none (truth_given Undo left));
+      separators = r.separators ∙ ap (λ v. option_or v settings.shared.auto_separators) (or_none (truth_given AutoSeparators left));
       most = r.most ∙ ap (λ v. option_or v settings.shared.max_undo) (or_none (max_undo_in left));
       start = r.start ∙ ap (λ v. option_or v settings.start_line) (or_none (limit_in (codes "-startline") left));
       ends = r.ends ∙ rw t (or_some (limit_in (codes "-endline") left) limit settings.end_line);

@@ -6,7 +6,7 @@ use Rattle.std.proofs.lemmas.Bool.{lt-ltb}
 use Rattle.rt_stamps.specs.Words.{Word}
 use Rattle.rt_requests.specs.declared.options.WidgetOption.{WidgetOption}
 use Rattle.rt_requests.specs.declared.options.WidgetOption.TheVariants.{Undo, AutoSeparators}
-use Rattle.rt_requests.specs.OptionWords.{are_pairs, max_undo_in, option_word, value_of}
+use Rattle.rt_requests.specs.OptionWords.{are_pairs, max_undo_in, option_word, truth_given}
 use Rattle.rt_requests.specs.declared.destroying.Destroy.{Destroy}
 use Rattle.rt_requests.specs.declared.limits.Limit.{Limit}
 use Rattle.rt_requests.specs.declared.limits.Limit.TheVariants.{Absent, Line, PastEveryLine}
@@ -17,7 +17,7 @@ use Rattle.rt_requests.specs.declared.peers.PeerRequest.{PeerRequest}
 use Rattle.rt_requests.specs.declared.peers.PeerRequest.TheVariants.{Create, Names}
 use Rattle.rt_requests.specs.LimitWords.{limit_of}
 use Rattle.rt_requests.specs.PeerWords.{CanBeAskedOfPeers, asked_destroy, asked_of_peers}
-use Rattle.rt_requests.specs.SettingWords.{AreKept, IsKept, IsMaxUndo, asked_named_option, asked_of_pairs, asked_settings, can_all_be_set, limit_in, sets_some}
+use Rattle.rt_requests.specs.SettingWords.{SettingsFit, LimitFits, IsMaxUndo, asked_named_option, asked_of_pairs, asked_settings, can_all_be_set, limit_in, sets_some}
 use Rattle.rt_requests.proofs.Groups.{groups_read}
 use Rattle.rt_requests.proofs.Numbers.{decimal_read}
 use Rattle.rt_requests.proofs.ReadSettings.{named_word, or_none}
@@ -29,7 +29,7 @@ limit_word Absent = []
 limit_word (Line number) = decimal number
 limit_word PastEveryLine = decimal (2 ^ 64)
 
-limit_read : (limit : Limit) → IsKept (Some limit) → limit_of (limit_word limit) ≡ Some limit
+limit_read : (limit : Limit) → LimitFits (Some limit) → limit_of (limit_word limit) ≡ Some limit
 limit_read Absent k = refl
 limit_read (Line number) k = decimal_read number (omega (arith, k)) ∙ rw (lt-ltb number (2 ^ 64) k) refl
 limit_read PastEveryLine k = decimal_read (2 ^ 64) (omega arith)
@@ -70,8 +70,8 @@ settings_words settings =
 record Says (words : List Word) (undo separators : Option Bool) (most : Option ℕ) (start ends : Option Limit) : Type 0 where
   pub pairs : are_pairs words ≡ true
   pub sound : can_all_be_set words ≡ true
-  pub is_undo : value_of Undo words ≡ undo
-  pub is_separators : value_of AutoSeparators words ≡ separators
+  pub is_undo : truth_given Undo words ≡ undo
+  pub is_separators : truth_given AutoSeparators words ≡ separators
   pub is_most : max_undo_in words ≡ most
   pub is_start : limit_in (codes "-startline") words ≡ start
   pub is_end : limit_in (codes "-endline") words ≡ ends
@@ -79,12 +79,12 @@ record Says (words : List Word) (undo separators : Option Bool) (most : Option �
 nothing_said : Says [] None None None None None
 nothing_said = record { pairs = refl; sound = refl; is_undo = refl; is_separators = refl; is_most = refl; is_start = refl; is_end = refl }
 
-end_said : (ends : Option Limit) → IsKept ends → Says (limit_words (codes "-endline") ends) None None None None ends
+end_said : (ends : Option Limit) → LimitFits ends → Says (limit_words (codes "-endline") ends) None None None None ends
 end_said None k = nothing_said
 end_said (Some limit) k = let read = limit_read limit k in
     record { pairs = refl; sound = rw read refl; is_undo = refl; is_separators = refl; is_most = refl; is_start = refl; is_end = read }
 
-start_said : (start ends : Option Limit) (words : List Word) → IsKept start → Says words None None None None ends
+start_said : (start ends : Option Limit) (words : List Word) → LimitFits start → Says words None None None None ends
     → Says (limit_words (codes "-startline") start ++ words) None None None start ends
 start_said None ends words k h = h
 start_said (Some limit) ends words k h = let read = limit_read limit k in record {
@@ -154,7 +154,7 @@ undo_said (Some true) separators most start ends words h = record {
   is_end = rw h.is_end (or_none ends);
 }
 
-all_said : (undo separators : Option Bool) (most : Option ℕ) (start ends : Option Limit) → IsMaxUndo most → IsKept start → IsKept ends
+all_said : (undo separators : Option Bool) (most : Option ℕ) (start ends : Option Limit) → IsMaxUndo most → LimitFits start → LimitFits ends
     → Says (words_by undo separators most start ends) undo separators most start ends
 all_said undo separators most start ends m k l =
     undo_said undo separators most start ends _ (separators_said separators most start ends _
@@ -164,7 +164,7 @@ pairs_asked : (undo separators : Option Bool) (most : Option ℕ) (start ends : 
     → asked_of_pairs words ≡ Ok (settings_by undo separators most start ends)
 pairs_asked undo separators most start ends words h = rw (h.pairs, h.sound, h.is_undo, h.is_separators, h.is_most, h.is_start, h.is_end) refl
 
-pub all_asked : (settings : WidgetSettings) → AreKept settings → asked_of_pairs (settings_words settings) ≡ Ok settings
+pub all_asked : (settings : WidgetSettings) → SettingsFit settings → asked_of_pairs (settings_words settings) ≡ Ok settings
 all_asked settings k =
     pairs_asked settings.shared.undo settings.shared.auto_separators settings.shared.max_undo settings.start_line settings.end_line _
     (all_said settings.shared.undo settings.shared.auto_separators settings.shared.max_undo settings.start_line settings.end_line k.2 k.0 k.1)
@@ -179,7 +179,7 @@ some_by None None None (Some start) ends h = refl
 some_by None None None None (Some ends) h = refl
 some_by None None None None None h = absurd (true≢false (sym h))
 
-pub settings_asked : (settings : WidgetSettings) → AreKept settings → IsTrue (sets_some settings) → asked_settings (settings_words settings) ≡ Ok settings
+pub settings_asked : (settings : WidgetSettings) → SettingsFit settings → IsTrue (sets_some settings) → asked_settings (settings_words settings) ≡ Ok settings
 settings_asked settings k s =
     some_by settings.shared.undo settings.shared.auto_separators settings.shared.max_undo settings.start_line settings.end_line s ∙ all_asked settings k
 

@@ -15,7 +15,7 @@ use Rattle.rt_requests.specs.MarkWords.{asked_of_marks}
 use Rattle.rt_requests.specs.Parts.{TaggedTextValue, TextsValue, of_several}
 use Rattle.rt_requests.specs.PeerWords.{CanBeAskedOfPeers, asked_of_peers}
 use Rattle.rt_requests.specs.SearchWords.{asked_of_search}
-use Rattle.rt_requests.specs.SettingWords.{AreKept, asked_named_option, asked_settings, sets_some}
+use Rattle.rt_requests.specs.SettingWords.{SettingsFit, asked_named_option, asked_settings, sets_some}
 use Rattle.rt_index.specs.Comparisons.{comparison_of}
 use Rattle.rt_requests.specs.Switches.{is_switch, kinds_of, measures_of, shows_some}
 use Rattle.rt_requests.specs.TagWords.{asked_of_tags}
@@ -166,6 +166,6 @@ CanBeAsked (Search request) = Unit {0}
 CanBeAsked (Mark request) = Unit {0}
 CanBeAsked (Tag request) = Unit {0}
 CanBeAsked (Edit request) = Unit {0}
-CanBeAsked (Configure settings) = IsTrue (sets_some settings) × AreKept settings
+CanBeAsked (Configure settings) = IsTrue (sets_some settings) × SettingsFit settings
 CanBeAsked (Cget option) = Unit {0}
 CanBeAsked (Peer request) = CanBeAskedOfPeers request

@@ -15,13 +15,13 @@ is_negated [] = false
 is_negated (c ∷ word) = c == 45 && is_number word
 
 -- as many groups as digits say, and 2^63 - 1 where they say more
-abbrev pub groups_of : Word → ℕ
-groups_of digits = min (digits_value 10 digits) (2 ^ 63 - 1)
+abbrev pub most_groups_of : Word → ℕ
+most_groups_of digits = min (digits_value 10 digits) (2 ^ 63 - 1)
 
 -- a number says the most groups that there may be, and 0 says that there is no limit; so does a number with a minus in front, which is
 -- zero or less; another word says nothing
 abbrev pub max_undo_of : Word → Option ℕ
 max_undo_of word =
     if is_negated word then Some 0
-    else if is_number word then Some (groups_of word)
+    else if is_number word then Some (most_groups_of word)
     else None

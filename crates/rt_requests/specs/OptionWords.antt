@@ -33,10 +33,10 @@ are_pairs (option ∷ []) = false
 are_pairs (option ∷ value ∷ words) = are_pairs words
 
 -- whether an option is given yes or no; of several values the last one counts
-abbrev pub value_of : WidgetOption → List Word → Option Bool
-value_of option [] = None
-value_of option (word ∷ []) = None
-value_of option (word ∷ value ∷ words) = option_or (value_of option words) (if bytes_eq word (option_word option) then truth_of value else None)
+abbrev pub truth_given : WidgetOption → List Word → Option Bool
+truth_given option [] = None
+truth_given option (word ∷ []) = None
+truth_given option (word ∷ value ∷ words) = option_or (truth_given option words) (if bytes_eq word (option_word option) then truth_of value else None)
 
 -- the most groups that the undo stack is given; of several values the last one counts
 abbrev pub max_undo_in : List Word → Option ℕ
@@ -46,4 +46,4 @@ max_undo_in (word ∷ value ∷ words) = option_or (max_undo_in words) (if bytes
 
 -- what pairs set
 abbrev pub settings_of : List Word → Settings
-settings_of words = record { undo = value_of Undo words; auto_separators = value_of AutoSeparators words; max_undo = max_undo_in words }
+settings_of words = record { undo = truth_given Undo words; auto_separators = truth_given AutoSeparators words; max_undo = max_undo_in words }

@@ -8,7 +8,7 @@ use Rattle.rt_requests.specs.declared.destroying.Destroy.{Destroy}
 use Rattle.rt_requests.specs.declared.peers.PeerRequest.{PeerRequest}
 use Rattle.rt_requests.specs.declared.peers.PeerRequest.TheVariants.{Create, Names}
 use Rattle.rt_requests.specs.Paths.{is_path}
-use Rattle.rt_requests.specs.SettingWords.{AreKept, AskedOfSettings, asked_of_pairs}
+use Rattle.rt_requests.specs.SettingWords.{SettingsFit, AskedOfSettings, asked_of_pairs}
 
 -- what is asked of peers, or why it is refused
 abbrev pub AskedOfPeers : Type 0
@@ -39,7 +39,7 @@ asked_of_peers (what ∷ words) =
 
 -- what can be asked: a new widget has a path that it can have
 abbrev pub CanBeAskedOfPeers : PeerRequest → Type 0
-CanBeAskedOfPeers (Create path settings) = IsTrue (is_path path) × AreKept settings
+CanBeAskedOfPeers (Create path settings) = IsTrue (is_path path) × SettingsFit settings
 CanBeAskedOfPeers Names = Unit {0}
 
 -- the words behind `destroy`: PATH

@@ -18,7 +18,7 @@ use Rattle.rt_stamps.specs.Words.{Word}
 use Rattle.rt_requests.specs.declared.request.SearchRequest.{SearchRequest}
 use Rattle.rt_requests.specs.declared.request.Wanted.{Wanted}
 use Rattle.rt_requests.specs.declared.request.Wanted.TheVariants.{One, Each}
-use Rattle.rt_requests.specs.Switches.{has, is_switch}
+use Rattle.rt_requests.specs.Switches.{has_switch, is_switch}
 
 -- SWITCHES AND ARGUMENTS
 
@@ -45,36 +45,36 @@ abbrev pub direction_of : List Word → Direction
 direction_of switches = fold redirected Forwards switches
 
 abbrev pub case_of : List Word → Case
-case_of switches = if has switches (codes "-nocase") then Ignored else Exact
+case_of switches = if has_switch switches (codes "-nocase") then Ignored else Exact
 
 abbrev pub strictness_of : List Word → Strictness
-strictness_of switches = if has switches (codes "-strictlimits") then Strict else First
+strictness_of switches = if has_switch switches (codes "-strictlimits") then Strict else First
 
 abbrev pub overlaps_of : List Word → Overlaps
-overlaps_of switches = if has switches (codes "-overlap") then Taken else PassedOver
+overlaps_of switches = if has_switch switches (codes "-overlap") then Taken else PassedOver
 
 abbrev pub search_of : List Word → Search
 search_of switches = record { direction = direction_of switches; case = case_of switches; strictness = strictness_of switches }
 
 -- one match, or each of them
 abbrev pub wanted_of : List Word → Wanted
-wanted_of switches = if has switches (codes "-all") then Each (overlaps_of switches) else One
+wanted_of switches = if has_switch switches (codes "-all") then Each (overlaps_of switches) else One
 
 -- CHECKS
 
 -- a search has such a switch
-abbrev pub is_known : Word → Bool
-is_known switch =
+abbrev pub is_known_switch : Word → Bool
+is_known_switch switch =
     list_any (λ name. bytes_eq switch name) (codes "-forwards" ∷ codes "-backwards" ∷ codes "-exact" ∷ codes "-nocase"
     ∷ codes "-all" ∷ codes "-overlap" ∷ codes "-strictlimits" ∷ [])
 
 -- `-overlap` is given with `-all` alone
 abbrev pub overlap_fits : List Word → Bool
-overlap_fits switches = has switches (codes "-all") || not (has switches (codes "-overlap"))
+overlap_fits switches = has_switch switches (codes "-all") || not (has_switch switches (codes "-overlap"))
 
 -- each switch is known, and each fits
 abbrev pub switch_check : List Word → Option Fault
-switch_check switches = if list_all is_known switches && overlap_fits switches then None else Some BadOption
+switch_check switches = if list_all is_known_switch switches && overlap_fits switches then None else Some BadOption
 
 -- REQUESTS
 

@@ -91,19 +91,19 @@ asked_settings (option ∷ words) = asked_of_pairs (option ∷ words)
 -- WHAT CAN BE ASKED
 
 -- a number of a line has 64 bits
-abbrev pub IsKept : Option Limit → Type 0
-IsKept None = Unit {0}
-IsKept (Some Absent) = Unit {0}
-IsKept (Some (Line number)) = number < 2 ^ 64
-IsKept (Some PastEveryLine) = Unit {0}
+abbrev pub LimitFits : Option Limit → Type 0
+LimitFits None = Unit {0}
+LimitFits (Some Absent) = Unit {0}
+LimitFits (Some (Line number)) = number < 2 ^ 64
+LimitFits (Some PastEveryLine) = Unit {0}
 
 -- a number of groups is below 2^63
 abbrev pub IsMaxUndo : Option ℕ → Type 0
 IsMaxUndo None = Unit {0}
 IsMaxUndo (Some most) = most < 2 ^ 63
 
-abbrev pub AreKept : WidgetSettings → Type 0
-AreKept settings = IsKept settings.start_line × IsKept settings.end_line × IsMaxUndo settings.shared.max_undo
+abbrev pub SettingsFit : WidgetSettings → Type 0
+SettingsFit settings = LimitFits settings.start_line × LimitFits settings.end_line × IsMaxUndo settings.shared.max_undo
 
 -- something is set
 abbrev pub sets_some : WidgetSettings → Bool

@@ -13,8 +13,8 @@ is_switch [] = false
 is_switch (c ∷ word) = c == 45
 
 -- a switch is given
-abbrev pub has : List Word → Word → Bool
-has switches name = list_any (λ switch. bytes_eq switch name) switches
+abbrev pub has_switch : List Word → Word → Bool
+has_switch switches name = list_any (λ switch. bytes_eq switch name) switches
 
 -- what switches ask for in turn; none where one of them is unknown
 abbrev pub measures_of : List Word → Option (List Measure)
@@ -28,7 +28,7 @@ is_dump_switch switch = list_any (λ name. bytes_eq switch name) (codes "-all" �
 -- elements of a kind are shown for its switch and for `-all`; where there is no switch, those of all kinds are
 abbrev pub shows : List Word → Word → Bool
 shows [] kind = true
-shows (switch ∷ switches) kind = has (switch ∷ switches) (codes "-all") || has (switch ∷ switches) kind
+shows (switch ∷ switches) kind = has_switch (switch ∷ switches) (codes "-all") || has_switch (switch ∷ switches) kind
 
 -- the kinds that switches ask for; none where one of them is unknown
 abbrev pub kinds_of : List Word → Option Kinds

@@ -1,6 +1,6 @@
 // The most groups that the undo stack may have.
 ghost use Rattle.std.specs.Prelude.{◌≡◌, true};
-ghost use Rattle.rt_requests.specs.MaxUndoWords.{groups_of, is_negated, is_number, max_undo_of};
+ghost use Rattle.rt_requests.specs.MaxUndoWords.{most_groups_of, is_negated, is_number, max_undo_of};
 
 use crate::digits::is_number;
 
@@ -34,7 +34,7 @@ fn is_negated(text: &[u8]) -> bool
 // The groups that digits say.
 fn groups_of(digits: &str) -> u64
     requires { is_number digits.now ≡ true }
-    ensures { result ≡ groups_of digits.now }
+    ensures { result ≡ most_groups_of digits.now }
 {
     match digits.parse::<u64>() {
         Ok(number) => number.min(GREATEST),

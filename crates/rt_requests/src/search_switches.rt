@@ -1,7 +1,7 @@
 // The switches of a search.
 ghost use Rattle.std.specs.Prelude.{◌≡◌, string_bytes};
 ghost use Rattle.std.specs.List.{list_all};
-ghost use Rattle.rt_requests.specs.SearchWords.{case_of, direction_of, is_known, strictness_of, overlap_fits, overlaps_of, search_of, switch_check, redirected, wanted_of};
+ghost use Rattle.rt_requests.specs.SearchWords.{case_of, direction_of, is_known_switch, strictness_of, overlap_fits, overlaps_of, search_of, switch_check, redirected, wanted_of};
 ghost use Rattle.rt_stamps.specs.Outcomes.{unless};
 ghost use Rattle.rt_stamps.specs.Words.{as_words};
 
@@ -12,7 +12,7 @@ use rt_stamps::Fault;
 
 // Whether a search has such a switch.
 fn is_known(switch: &str) -> bool
-    ensures { result ≡ is_known switch.now }
+    ensures { result ≡ is_known_switch switch.now }
 {
     matches!(
         switch,
@@ -43,14 +43,14 @@ fn direction_of(switches: &[String]) -> Direction
 
 // Whether a search has each of some switches.
 fn all_known(switches: &[String]) -> bool
-    ensures { result ≡ list_all is_known (as_words switches.now) }
+    ensures { result ≡ list_all is_known_switch (as_words switches.now) }
 {
     are_known(switches)
 }
 
 // What `all_known` asks, of the strings themselves.
 fn are_known(switches: &[String]) -> bool
-    ensures { result ≡ list_all (λ w. is_known (string_bytes w)) switches.now }
+    ensures { result ≡ list_all (λ w. is_known_switch (string_bytes w)) switches.now }
 {
     switches.iter().all(|switch| is_known(switch))
 }

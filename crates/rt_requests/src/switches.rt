@@ -3,7 +3,7 @@ ghost use Rattle.std.specs.Prelude.{◌≡◌, ◌≤◌, length, string_bytes};
 ghost use Rattle.std.specs.List.{list_any, prefix_len};
 ghost use Rattle.std.specs.Str.{bytes_eq};
 ghost use Rattle.rt_stamps.specs.Words.{as_words};
-ghost use Rattle.rt_requests.specs.Switches.{has, is_switch};
+ghost use Rattle.rt_requests.specs.Switches.{has_switch, is_switch};
 
 /// Whether a word is a switch.
 pub(crate) fn is_switch(word: &str) -> bool
@@ -30,12 +30,12 @@ fn count_switches(words: &[String]) -> usize
 
 /// Whether a switch is given.
 pub(crate) fn has(switches: &[String], name: &str) -> bool
-    ensures { result ≡ has (as_words switches.now) name.now }
+    ensures { result ≡ has_switch (as_words switches.now) name.now }
 {
     is_among(switches, name)
 }
 
-// What `has` asks, of the strings themselves.
+// What `has_switch` asks, of the strings themselves.
 fn is_among(switches: &[String], name: &str) -> bool
     ensures { result ≡ list_any (λ w. bytes_eq (string_bytes w) name.now) switches.now }
 {

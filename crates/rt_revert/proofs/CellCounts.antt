@@ -75,5 +75,5 @@ all_cells n (action ∷ actions) r h =
     let stamps = map (stamp_after r.returns) action.inserted in
     all_cells n actions (with_reverted action r) (returns_cells n action.removed (with_removal stamps r) (gone_cells n stamps r h))
 
-pub reversion_cells : (flat : DocValue) (group : List (Action (List Word))) → length flat.cells + characters_in_all (reversion flat group).drafts ≡ length (reversion flat group).doc.cells
-reversion_cells flat group = all_cells (length flat.cells) (reverse group) (as_it_is flat) (omega arith)
+pub reversion_cells : (doc : DocValue) (group : List (Action (List Word))) → length doc.cells + characters_in_all (reversion doc group).drafts ≡ length (reversion doc group).doc.cells
+reversion_cells doc group = all_cells (length doc.cells) (reverse group) (as_it_is doc) (omega arith)

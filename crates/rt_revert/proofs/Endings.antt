@@ -24,19 +24,19 @@ last_visible : (front : List TaggedCell) (last : TaggedCell) → last.gone ≡ f
 last_visible front last g =
     filter-append (λ (cell : TaggedCell). not cell.gone) front (last ∷ []) ∙ ap (λ b. visible_of front ++ cond (not b) (last ∷ []) []) g
 
-ends_apart : (stamps : List Stamp) (flat : DocValue) (front : List TaggedCell) (last : TaggedCell) → EndsAs flat front last → is_among stamps FINAL ≡ false
-    → SparesLast (are_at stamps flat.cells) (text_of flat.cells)
-ends_apart stamps flat front last e n =
-    let place : length (text_of flat.cells) - 1 ≡ length (visible_of front) = omega (arith, length_ends flat front last e) in
-    let seen : visible_of flat.cells ≡ visible_of front ++ last ∷ [] = ap visible_of e.is ∙ last_visible front last e.gone in
+ends_apart : (stamps : List Stamp) (document : DocValue) (front : List TaggedCell) (last : TaggedCell) → EndsAs document front last → is_among stamps FINAL ≡ false
+    → SparesLast (are_at stamps document.cells) (text_of document.cells)
+ends_apart stamps document front last e n =
+    let place : length (text_of document.cells) - 1 ≡ length (visible_of front) = omega (arith, length_ends document front last e) in
+    let seen : visible_of document.cells ≡ visible_of front ++ last ∷ [] = ap visible_of e.is ∙ last_visible front last e.gone in
     let test : Option TaggedCell → Bool = λ o. unwrap_or (option_map (λ (cell : TaggedCell). is_among stamps cell.stamp) o) false in
-    ap (are_at stamps flat.cells) place
+    ap (are_at stamps document.cells) place
     ∙ ap (λ (cells : List TaggedCell). test (slice_get cells (length (visible_of front)))) seen
     ∙ ap test (at_end (visible_of front) last)
     ∙ ap (is_among stamps) e.stamp
     ∙ n
 
-pub spares_final : (site : ℕ) (log : List Operation) (flat : DocValue) (stamps : List Stamp) → IsHistory log → IsDocument site log flat → is_among stamps FINAL ≡ false
-    → SparesLast (are_at stamps flat.cells) (text_of flat.cells)
-spares_final site log flat stamps h doc n =
-    ends_apart stamps flat (cells_last log h).0 (cell_in log final_character) (document_ends site log flat h doc) n
+pub spares_final : (site : ℕ) (log : List Operation) (document : DocValue) (stamps : List Stamp) → IsHistory log → IsDocument site log document → is_among stamps FINAL ≡ false
+    → SparesLast (are_at stamps document.cells) (text_of document.cells)
+spares_final site log document stamps h doc n =
+    ends_apart stamps document (cells_last log h).0 (cell_in log final_character) (document_ends site log document h doc) n

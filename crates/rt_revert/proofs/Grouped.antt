@@ -21,7 +21,7 @@ use Rattle.rt_store.specs.Spans.{is_among}
 use Rattle.rt_store.specs.Tagged.{AreStates}
 use Rattle.rt_store.proofs.Distinct.{split}
 use Rattle.rt_store.proofs.Shown.{length_shown, stamps_shown}
-use Rattle.rt_spans.specs.Shown.{Shown}
+use Rattle.rt_spans.specs.Shown.{SpanMapValue}
 use Rattle.rt_tags.specs.States.{KeepsIds, TagStates, names_on, state_at}
 use Rattle.rt_plans.specs.DocValue.{DocValue}
 use Rattle.rt_plans.specs.Insertions.{all_listed}
@@ -88,7 +88,7 @@ group_given table f (a ∷ group) h = (given_stamped table f a.removed h.0, grou
 -- THE BEGINNING
 
 -- nothing was reverted yet
-pub record IsNew (count : ℕ) (known : Shown ℕ) (plan : Progress) : Type 0 where
+pub record IsNew (count : ℕ) (known : SpanMapValue ℕ) (plan : Progress) : Type 0 where
   pub drafts : items_in plan.texts.drafts ≡ []
   pub greatest : plan.texts.count ≡ count
   pub now : (stamp : Stamp) → now_of plan.renames stamp ≡ stamp
@@ -104,7 +104,7 @@ abbrev pub has_of : ℕ → List (Action ℕ) → Stamp → Bool
 has_of count group s = is_in_group group s || nat_lt count s.count
 
 abbrev pub portion_of : DocValue → List (Action ℕ) → Portion
-portion_of flat group = record { doc = flat; has = has_of flat.count group }
+portion_of doc group = record { doc = doc; has = has_of doc.count group }
 
 -- nothing is newer at first
 only_named : (count : ℕ) (group : List (Action ℕ)) (cells : List (Cell ℕ)) → AreUpTo count cells → only (has_of count group) cells ≡ only (is_in_group group) cells
@@ -126,7 +126,7 @@ only_named count group (c ∷ cs) h =
     or_nothing false = refl
 
 -- how a group begins: the working copy looks like the cells that the group names, and their offsets are known
-pub record IsBegun (kept states : TagStates) (copy store : List (Cell ℕ)) (count : ℕ) (offsets : Shown ℕ) (group : List (Action ℕ)) (plan : Progress) : Type 0 where
+pub record IsBegun (kept states : TagStates) (copy store : List (Cell ℕ)) (count : ℕ) (offsets : SpanMapValue ℕ) (group : List (Action ℕ)) (plan : Progress) : Type 0 where
   pub new : IsNew count offsets plan
   pub alike : LookAlike (map (shown kept) copy) (map (shown states) (only (is_in_group group) store))
   pub given : AreStates kept copy
@@ -174,10 +174,10 @@ has_group part (a ∷ group) h =
       has_group part group (λ s e. h s (among_append (named_by a) (named_in group) s ∙ or_right (is_among (named_by a) s) _ e)),
     )
 
-pub group_had : (flat : DocValue) (group : List (Action ℕ)) → HasGroup (portion_of flat group) group
-group_had flat group = has_group (portion_of flat group) group (λ s e. or_left (is_in_group group s) _ (or_right (is_same FINAL s) _ e))
+pub group_had : (doc : DocValue) (group : List (Action ℕ)) → HasGroup (portion_of doc group) group
+group_had doc group = has_group (portion_of doc group) group (λ s e. or_left (is_in_group group s) _ (or_right (is_same FINAL s) _ e))
 
-module _ (kept states : TagStates) (copy store : List (Cell ℕ)) (number count : ℕ) (offsets : Shown ℕ) (group : List (Action ℕ)) (plan : Progress) where
+module _ (kept states : TagStates) (copy store : List (Cell ℕ)) (number count : ℕ) (offsets : SpanMapValue ℕ) (group : List (Action ℕ)) (plan : Progress) where
   abbrev group_cells : List (Cell ℕ)
   group_cells = only (is_in_group group) store
 
@@ -202,29 +202,29 @@ module _ (kept states : TagStates) (copy store : List (Cell ℕ)) (number count 
         offsets = subst AreSmall (sym n.offsets) b.small;
       }
 
-  pub begun_so_far : IsBegun kept states copy store count offsets group plan → (flat : DocValue) → IsOf states store number count flat
-      → IsSoFar kept number copy plan (portion_of flat group) (as_it_is flat)
-  begun_so_far b flat of =
+  pub begun_so_far : IsBegun kept states copy store count offsets group plan → (doc : DocValue) → IsOf states store number count doc
+      → IsSoFar kept number copy plan (portion_of doc group) (as_it_is doc)
+  begun_so_far b doc of =
       let n = b.new in
-      let has = has_of flat.count group in
-      let stamps : stamps_of flat.cells ≡ stamps_of store = ap stamps_of of.cells ∙ stamps_shown (state_at states) store in
-      let ours : only has flat.cells ≡ map (shown states) group_cells =
+      let has = has_of doc.count group in
+      let stamps : stamps_of doc.cells ≡ stamps_of store = ap stamps_of of.cells ∙ stamps_shown (state_at states) store in
+      let ours : only has doc.cells ≡ map (shown states) group_cells =
       ap (only has) of.cells ∙ only_shown has (state_at states) store
       ∙ ap (map (shown states)) (ap (λ m. only (has_of m group) store) of.count ∙ only_named count group store b.older) in
-      let like : LookAlike (map (shown kept) copy) (only has flat.cells) = subst (λ (l : List TaggedCell). LookAlike (map (shown kept) copy) l) (sym ours) b.alike in
+      let like : LookAlike (map (shown kept) copy) (only has doc.cells) = subst (λ (l : List TaggedCell). LookAlike (map (shown kept) copy) l) (sym ours) b.alike in
       record {
         cells = like;
         within = record {
-          newer = λ s lt. or_right (is_in_group group s) _ (let more : nat_lt flat.count s.count ≡ true = grind (arith, nat_tests, lt, of.count, n.greatest) in more);
+          newer = λ s lt. or_right (is_in_group group s) _ (let more : nat_lt doc.count s.count ≡ true = grind (arith, nat_tests, lt, of.count, n.greatest) in more);
           back = tt;
           offsets = λ s h a.
               let there : is_among (stamps_of copy) s ≡ true =
-              ap (λ l. is_among l s) (sym (stamps_shown (state_at kept) copy) ∙ alike_stamps (map (shown kept) copy) (only has flat.cells) like) ∙ only_among has flat.cells s h ∙ a in
-              let whole : visible_before_stamp flat.cells s ≡ visible_before_stamp store s = ap (λ (l : List TaggedCell). visible_before_stamp l s) of.cells ∙ place_in_shown (state_at states) store s in
-              let part : visible_before_stamp copy s ≡ visible_before_stamp (only has flat.cells) s = sym (place_in_shown (state_at kept) copy s) ∙ alike_place_in (map (shown kept) copy) (only has flat.cells) s like in
-              omega (arith, ap (λ m. offset_of m s) n.offsets, b.at s there, whole, part, place_law has flat.cells s h a);
+              ap (λ l. is_among l s) (sym (stamps_shown (state_at kept) copy) ∙ alike_stamps (map (shown kept) copy) (only has doc.cells) like) ∙ only_among has doc.cells s h ∙ a in
+              let whole : visible_before_stamp doc.cells s ≡ visible_before_stamp store s = ap (λ (l : List TaggedCell). visible_before_stamp l s) of.cells ∙ place_in_shown (state_at states) store s in
+              let part : visible_before_stamp copy s ≡ visible_before_stamp (only has doc.cells) s = sym (place_in_shown (state_at kept) copy s) ∙ alike_place_in (map (shown kept) copy) (only has doc.cells) s like in
+              omega (arith, ap (λ m. offset_of m s) n.offsets, b.at s there, whole, part, place_law has doc.cells s h a);
           distinct = subst (IsDistinct is_same) (sym stamps) b.distinct;
-          older = subst (λ (m : ℕ). AreUpTo m flat.cells) (sym n.greatest) (up_to_stamps count flat.cells store stamps b.older);
+          older = subst (λ (m : ℕ). AreUpTo m doc.cells) (sym n.greatest) (up_to_stamps count doc.cells store stamps b.older);
           few = omega (arith, ap length of.cells ∙ length_shown (state_at states) store, b.few);
         };
         site = of.site;
@@ -233,8 +233,8 @@ module _ (kept states : TagStates) (copy store : List (Cell ℕ)) (number count 
         returns = sym n.returns;
         actions = ap (λ l. named_group kept (group_of l)) (sym n.actions);
         changes = subst (AllByRecursion IsTextChange) (sym n.changes) tt;
-        marks = ap (λ l. marks_after l flat.marks) (sym n.changes);
-        tags = ap (λ l. all_listed (as_words l) flat.tags) (sym n.names);
+        marks = ap (λ l. marks_after l doc.marks) (sym n.changes);
+        tags = ap (λ l. all_listed (as_words l) doc.tags) (sym n.names);
       }
 
 -- THE END

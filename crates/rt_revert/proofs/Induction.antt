@@ -21,8 +21,8 @@ use Rattle.rt_revert.proofs.Stamps.{all_apart}
 use Rattle.rt_revert.proofs.Steps.{IsOnWay, action_step, all_grow, all_reversed}
 
 -- A fact of documents that stays where characters go and the last newline doesn't, and where a character comes in with names of tags.
-module _ (Q : DocValue → Type 0) (goes : (flat : DocValue) (removed : ℕ → Bool) → SparesLast removed (text_of flat.cells) → Q flat → Q (without_places flat removed))
-    (comes : (flat : DocValue) (stamp : Stamp) (tags : List Word) (ch : ℕ) → AreTagNames tags → Q flat → Q (with_copy flat stamp tags ch)) where
+module _ (Q : DocValue → Type 0) (goes : (document : DocValue) (removed : ℕ → Bool) → SparesLast removed (text_of document.cells) → Q document → Q (without_places document removed))
+    (comes : (document : DocValue) (stamp : Stamp) (tags : List Word) (ch : ℕ) → AreTagNames tags → Q document → Q (with_copy document stamp tags ch)) where
   return_keeps : (removed : Removed (List Word)) (r : Reversion) → MayReturn removed → Q r.doc → Q (with_return removed r).doc
   return_keeps removed r m h = by (gone_cell_of r.doc.cells (stamp_after r.returns removed.stamp))
     where
@@ -48,7 +48,7 @@ module _ (Q : DocValue → Type 0) (goes : (flat : DocValue) (removed : ℕ → 
       let few : next.doc.count ≤ GREATEST_COUNT = omega (arith, all_grow actions next, l) in
       all_keep site log actions next p (action_step site log action r p w s.0 few) s.1 l (action_keeps site log action r w s.0 h)
 
-  pub reversion_keeps : (site : ℕ) (log : List Operation) (flat : DocValue) (group : List (Action (List Word))) → 0 < site → IsHistory log → IsDocument site log flat → AllMayRevert group
-      → (reversion flat group).doc.count ≤ GREATEST_COUNT → Q flat → Q (reversion flat group).doc
-  reversion_keeps site log flat group p history doc s l h =
-      all_keep site log (reverse group) (as_it_is flat) p (record { may = tt; history = history; document = doc; apart = tt; sound = tt }) (all_reversed MayRevert group s) l h
+  pub reversion_keeps : (site : ℕ) (log : List Operation) (document : DocValue) (group : List (Action (List Word))) → 0 < site → IsHistory log → IsDocument site log document → AllMayRevert group
+      → (reversion document group).doc.count ≤ GREATEST_COUNT → Q document → Q (reversion document group).doc
+  reversion_keeps site log document group p history doc s l h =
+      all_keep site log (reverse group) (as_it_is document) p (record { may = tt; history = history; document = doc; apart = tt; sound = tt }) (all_reversed MayRevert group s) l h

@@ -13,7 +13,7 @@ use Rattle.rt_store.specs.declared.cell.Cell.{Cell}
 use Rattle.rt_store.specs.Cells.{position_of, stamps_of, visible_before}
 use Rattle.rt_store.specs.Spans.{is_among}
 use Rattle.rt_store.proofs.Distinct.{split}
-use Rattle.rt_spans.specs.Shown.{Shown, is_in_span, value_of}
+use Rattle.rt_spans.specs.Shown.{SpanMapValue, is_in_span, value_of}
 use Rattle.rt_plans.specs.Removals.{cells_at, stamps_at}
 use Rattle.rt_revert.specs.Plans.{AreUpTo, IsUpTo}
 use Rattle.rt_revert.specs.Portions.{AreSmall, offset_behind, offset_of, visible_before_stamp}
@@ -31,7 +31,7 @@ one_span t s = by s.count t.count s.site t.site
     by : (m n a b : ℕ) → ((a == b) && (nat_le n m && nat_le m n)) ≡ ((m == n) && (a == b))
     by m n a b = grind (arith, nat_tests)
 
-pub set_offset : (old new : Shown ℕ) (t : Stamp) (v : ℕ) → ((s : Stamp) → value_of new s ≡ cond (is_in_span (span_at t) s) (Some v) (value_of old s))
+pub set_offset : (old new : SpanMapValue ℕ) (t : Stamp) (v : ℕ) → ((s : Stamp) → value_of new s ≡ cond (is_in_span (span_at t) s) (Some v) (value_of old s))
     → (s : Stamp) → offset_of new s ≡ cond (is_same s t) v (offset_of old s)
 set_offset old new t v h s =
     ap (λ o. unwrap_or o 0) (h s) ∙ by (is_in_span (span_at t) s) ∙ ap (λ b. cond b v (offset_of old s)) (one_span t s)
@@ -40,17 +40,17 @@ set_offset old new t v h s =
     by true = refl
     by false = refl
 
-pub offset_kept : (old new : Shown ℕ) → ((s : Stamp) → value_of new s ≡ value_of old s) → (s : Stamp) → offset_of new s ≡ offset_of old s
+pub offset_kept : (old new : SpanMapValue ℕ) → ((s : Stamp) → value_of new s ≡ value_of old s) → (s : Stamp) → offset_of new s ≡ offset_of old s
 offset_kept old new h s = ap (λ o. unwrap_or o 0) (h s)
 
-pub set_small : (old new : Shown ℕ) (t : Stamp) (v : ℕ) → ((s : Stamp) → offset_of new s ≡ cond (is_same s t) v (offset_of old s)) → v ≤ MOST_CELLS → AreSmall old → AreSmall new
+pub set_small : (old new : SpanMapValue ℕ) (t : Stamp) (v : ℕ) → ((s : Stamp) → offset_of new s ≡ cond (is_same s t) v (offset_of old s)) → v ≤ MOST_CELLS → AreSmall old → AreSmall new
 set_small old new t v h le k s = subst (λ n. n ≤ MOST_CELLS) (sym (h s)) (by (is_same s t))
   where
     by : (b : Bool) → cond b v (offset_of old s) ≤ MOST_CELLS
     by true = le
     by false = k s
 
-pub behind_small : (offsets : Shown ℕ) (left : Stamp) → AreSmall offsets → offset_behind offsets left ≤ MOST_CELLS
+pub behind_small : (offsets : SpanMapValue ℕ) (left : Stamp) → AreSmall offsets → offset_behind offsets left ≤ MOST_CELLS
 behind_small offsets left h = by (is_same left ROOT)
   where
     by : (b : Bool) → cond b 0 (offset_of offsets left) ≤ MOST_CELLS
@@ -85,7 +85,7 @@ among_next {T} cells p c s e =
     or_nothing true = refl
     or_nothing false = refl
 
-pub offsets_next : {S T : Type 0} (whole : List (Cell S)) (cells : List (Cell T)) (p : ℕ) (c : Cell T) (old new : Shown ℕ) → slice_get cells p ≡ Some c
+pub offsets_next : {S T : Type 0} (whole : List (Cell S)) (cells : List (Cell T)) (p : ℕ) (c : Cell T) (old new : SpanMapValue ℕ) → slice_get cells p ≡ Some c
     → ((s : Stamp) → offset_of new s ≡ cond (is_same s c.stamp) (visible_before_stamp whole c.stamp - visible_before_stamp cells c.stamp) (offset_of old s))
     → ((s : Stamp) → is_among (stamps_of (take p cells)) s ≡ true → offset_of old s ≡ visible_before_stamp whole s - visible_before_stamp cells s)
     → (s : Stamp) → is_among (stamps_of (take (p + 1) cells)) s ≡ true → offset_of new s ≡ visible_before_stamp whole s - visible_before_stamp cells s
@@ -109,7 +109,7 @@ take_past zero (x ∷ xs) le = absurd (omega (arith, le))
 take_past (suc n) (x ∷ xs) le = ap (λ l. x ∷ l) (take_past n xs (omega (arith, le)))
 
 -- all of them are known
-pub offsets_all : {S T : Type 0} (whole : List (Cell S)) (cells : List (Cell T)) (p : ℕ) (offsets : Shown ℕ) → length cells ≤ p
+pub offsets_all : {S T : Type 0} (whole : List (Cell S)) (cells : List (Cell T)) (p : ℕ) (offsets : SpanMapValue ℕ) → length cells ≤ p
     → ((s : Stamp) → is_among (stamps_of (take p cells)) s ≡ true → offset_of offsets s ≡ visible_before_stamp whole s - visible_before_stamp cells s)
     → (s : Stamp) → is_among (stamps_of cells) s ≡ true → offset_of offsets s ≡ visible_before_stamp whole s - visible_before_stamp cells s
 offsets_all {S} {T} whole cells p offsets le h s a = h s (ap (λ (l : List (Cell T)). is_among (stamps_of l) s) (take_past p cells le) ∙ a)

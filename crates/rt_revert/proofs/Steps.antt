@@ -68,24 +68,24 @@ gone_step site log stamps r p h n l =
 -- CHARACTERS THAT COME BACK
 
 -- a document after a text was put in behind an element
-record IsPut (site : ℕ) (log : List Operation) (flat : DocValue) (stamp : Stamp) (tags : List Word) (text : List ℕ) (larger : List Operation) : Type 0 where
+record IsPut (site : ℕ) (log : List Operation) (doc_value : DocValue) (stamp : Stamp) (tags : List Word) (text : List ℕ) (larger : List Operation) : Type 0 where
   pub history : IsHistory larger
-  pub cells : put_after flat.cells stamp (tagged_cells flat.site flat.count tags text) ≡ cells_of larger
-  pub count : flat.count + counts_for tags text ≡ greatest_last_count larger
+  pub cells : put_after doc_value.cells stamp (tagged_cells doc_value.site doc_value.count tags text) ≡ cells_of larger
+  pub count : doc_value.count + counts_for tags text ≡ greatest_last_count larger
 
-text_step : (site : ℕ) (log : List Operation) (flat : DocValue) (stamp : Stamp) (tags : List Word) (text : List ℕ) → 0 < site → IsHistory log → IsDocument site log flat
-    → AreTagNames tags → all_scalars text ≡ true → IsElement log stamp → flat.count + counts_for tags text ≤ GREATEST_COUNT
-    → IsPut site log flat stamp tags text (with_drafts site (text_drafts MOST_CHARACTERS flat.site flat.count stamp tags text) log)
-text_step site log flat stamp tags text p h doc n t e l =
+text_step : (site : ℕ) (log : List Operation) (doc_value : DocValue) (stamp : Stamp) (tags : List Word) (text : List ℕ) → 0 < site → IsHistory log → IsDocument site log doc_value
+    → AreTagNames tags → all_scalars text ≡ true → IsElement log stamp → doc_value.count + counts_for tags text ≤ GREATEST_COUNT
+    → IsPut site log doc_value stamp tags text (with_drafts site (text_drafts MOST_CHARACTERS doc_value.site doc_value.count stamp tags text) log)
+text_step site log doc_value stamp tags text p h doc n t e l =
     let last = greatest_last_count log in
     let fits : last + counts_for tags text ≤ GREATEST_COUNT = omega (arith, doc.count, l) in
-    let drafts : text_drafts MOST_CHARACTERS site last stamp tags text ≡ text_drafts MOST_CHARACTERS flat.site flat.count stamp tags text =
+    let drafts : text_drafts MOST_CHARACTERS site last stamp tags text ≡ text_drafts MOST_CHARACTERS doc_value.site doc_value.count stamp tags text =
     sym (λ i. text_drafts MOST_CHARACTERS (doc.site i) (doc.count i) stamp tags text) in
     let made = text_is_made site log stamp tags text p h n t e fits in
-    let put : put_after flat.cells stamp (tagged_cells flat.site flat.count tags text) ≡ put_after (cells_of log) stamp (tagged_cells site last tags text) =
+    let put : put_after doc_value.cells stamp (tagged_cells doc_value.site doc_value.count tags text) ≡ put_after (cells_of log) stamp (tagged_cells site last tags text) =
     (λ i. put_after (doc.cells i) stamp (tagged_cells (doc.site i) (doc.count i) tags text)) in
-    let counted : flat.count + counts_for tags text ≡ last + counts_for tags text = ap (λ k. k + counts_for tags text) doc.count in
-    subst (λ drafts. IsPut site log flat stamp tags text (with_drafts site drafts log)) drafts
+    let counted : doc_value.count + counts_for tags text ≡ last + counts_for tags text = ap (λ k. k + counts_for tags text) doc.count in
+    subst (λ drafts. IsPut site log doc_value stamp tags text (with_drafts site drafts log)) drafts
     (record { history = made.history; cells = put ∙ sym made.cells; count = counted ∙ sym (text_is_counted site log stamp tags text) })
 
 character_step : (site : ℕ) (log : List Operation) (stamp : Stamp) (tags : List Word) (cell : TaggedCell) (r : Reversion) → 0 < site → IsOnWay site log r
@@ -198,21 +198,21 @@ pub all_reversed : {X : Type 0} (P : X → Type 0) (xs : List X) → AllByRecurs
 all_reversed P [] h = tt
 all_reversed P (x ∷ xs) h = subst (AllByRecursion P) (sym (reverse-cons x xs)) (every_append P (reverse xs) (x ∷ []) (all_reversed P xs h.1) (h.0, tt))
 
-pub on_way : (site : ℕ) (log : List Operation) (flat : DocValue) (group : List (Action (List Word))) → 0 < site → IsHistory log → IsDocument site log flat → AllMayRevert group
-    → (reversion flat group).doc.count ≤ GREATEST_COUNT → IsOnWay site log (reversion flat group)
-on_way site log flat group p h doc s l =
-    all_steps site log (reverse group) (as_it_is flat) p (record { may = tt; history = h; document = doc; apart = tt; sound = tt }) (all_reversed MayRevert group s) l
+pub on_way : (site : ℕ) (log : List Operation) (doc_value : DocValue) (group : List (Action (List Word))) → 0 < site → IsHistory log → IsDocument site log doc_value → AllMayRevert group
+    → (reversion doc_value group).doc.count ≤ GREATEST_COUNT → IsOnWay site log (reversion doc_value group)
+on_way site log doc_value group p h doc s l =
+    all_steps site log (reverse group) (as_it_is doc_value) p (record { may = tt; history = h; document = doc; apart = tt; sound = tt }) (all_reversed MayRevert group s) l
 
-pub reversion_may : (site : ℕ) (log : List Operation) (flat : DocValue) (group : List (Action (List Word))) → 0 < site → IsHistory log → IsDocument site log flat → AllMayRevert group
-    → (reversion flat group).doc.count ≤ GREATEST_COUNT → MayBeMade site log (reversion flat group).drafts
-reversion_may site log flat group p h doc s l = (on_way site log flat group p h doc s l).may
+pub reversion_may : (site : ℕ) (log : List Operation) (doc_value : DocValue) (group : List (Action (List Word))) → 0 < site → IsHistory log → IsDocument site log doc_value → AllMayRevert group
+    → (reversion doc_value group).doc.count ≤ GREATEST_COUNT → MayBeMade site log (reversion doc_value group).drafts
+reversion_may site log doc_value group p h doc s l = (on_way site log doc_value group p h doc s l).may
 
-pub reversion_made : (site : ℕ) (log : List Operation) (flat : DocValue) (group : List (Action (List Word))) → 0 < site → IsHistory log → IsDocument site log flat → AllMayRevert group
-    → (reversion flat group).doc.count ≤ GREATEST_COUNT → IsDocument site (with_drafts site (reversion flat group).drafts log) (reversion flat group).doc
-reversion_made site log flat group p h doc s l = (on_way site log flat group p h doc s l).document
+pub reversion_made : (site : ℕ) (log : List Operation) (doc_value : DocValue) (group : List (Action (List Word))) → 0 < site → IsHistory log → IsDocument site log doc_value → AllMayRevert group
+    → (reversion doc_value group).doc.count ≤ GREATEST_COUNT → IsDocument site (with_drafts site (reversion doc_value group).drafts log) (reversion doc_value group).doc
+reversion_made site log doc_value group p h doc s l = (on_way site log doc_value group p h doc s l).document
 
-pub reversion_sound : (site : ℕ) (log : List Operation) (flat : DocValue) (group : List (Action (List Word))) → 0 < site → IsHistory log → IsDocument site log flat → AllMayRevert group
-    → (reversion flat group).doc.count ≤ GREATEST_COUNT → AllMayRevert (reverted_group flat group)
-reversion_sound site log flat group p h doc s l =
-    let w = on_way site log flat group p h doc s l in
-    group_renamed (reversion flat group).returns (reversion flat group).actions w.apart w.sound
+pub reversion_sound : (site : ℕ) (log : List Operation) (doc_value : DocValue) (group : List (Action (List Word))) → 0 < site → IsHistory log → IsDocument site log doc_value → AllMayRevert group
+    → (reversion doc_value group).doc.count ≤ GREATEST_COUNT → AllMayRevert (reverted_group doc_value group)
+reversion_sound site log doc_value group p h doc s l =
+    let w = on_way site log doc_value group p h doc s l in
+    group_renamed (reversion doc_value group).returns (reversion doc_value group).actions w.apart w.sound

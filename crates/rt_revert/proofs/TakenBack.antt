@@ -42,14 +42,14 @@ use Rattle.rt_revert.specs.Reverting.{Return, Reversion, are_at, as_it_is, as_re
 one_reversed : {X : Type 0} (x : X) → reverse (x ∷ []) ≡ x ∷ []
 one_reversed x = reverse-cons x []
 
-pub insertion_back : (flat : DocValue) (action : Action (List Word)) → action.removed ≡ [] → text_of (reverted flat (action ∷ [])).cells ≡ left_at (are_at action.inserted flat.cells) 0 (text_of flat.cells)
-insertion_back flat action none =
-    let r = as_it_is flat in
+pub insertion_back : (document : DocValue) (action : Action (List Word)) → action.removed ≡ [] → text_of (reverted document (action ∷ [])).cells ≡ left_at (are_at action.inserted document.cells) 0 (text_of document.cells)
+insertion_back document action none =
+    let r = as_it_is document in
     let stamps = map (stamp_after []) action.inserted in
     ap (λ group. text_of (with_each_reverted group r).doc.cells) (one_reversed action)
     ∙ ap (λ removed. text_of (with_returns removed (with_removal stamps r)).doc.cells) none
     ∙ ap (λ stamps. text_of (with_removal stamps r).doc.cells) (map-id action.inserted)
-    ∙ text_left (are_at action.inserted flat.cells) 0 flat.cells
+    ∙ text_left (are_at action.inserted document.cells) 0 document.cells
 
 -- REMOVALS
 
@@ -238,40 +238,40 @@ rise_all [] h = tt
 rise_all (c ∷ cs) h = (rise_to (filter (λ (w : Write). w.on) c.state) (sorted_filter (λ (w : Write). w.on) c.state h.0.by_name), rise_all cs h.1)
 
 -- a document that lacks the characters at some places of another one
-record Lacks (places : ℕ → Bool) (flat less : DocValue) : Type 0 where
-  pub cells : less.cells ≡ gone_at places 0 flat.cells
-  pub site : less.site ≡ flat.site
-  pub count : flat.count ≤ less.count
+record Lacks (places : ℕ → Bool) (document less : DocValue) : Type 0 where
+  pub cells : less.cells ≡ gone_at places 0 document.cells
+  pub site : less.site ≡ document.site
+  pub count : document.count ≤ less.count
 
-taken_back : (site : ℕ) (log : List Operation) (flat less : DocValue) (places : ℕ → Bool) (action : Action (List Word)) → 0 < site → IsHistory log → IsDocument site log flat → Lacks places flat less
-    → HaveNone action.inserted flat.cells → action.removed ≡ map as_removed (cells_at places 0 flat.cells) → tagged_text (reverted less (action ∷ [])).cells ≡ tagged_text flat.cells
-taken_back site log flat less places action p h doc lacks none rem =
+taken_back : (site : ℕ) (log : List Operation) (document less : DocValue) (places : ℕ → Bool) (action : Action (List Word)) → 0 < site → IsHistory log → IsDocument site log document → Lacks places document less
+    → HaveNone action.inserted document.cells → action.removed ≡ map as_removed (cells_at places 0 document.cells) → tagged_text (reverted less (action ∷ [])).cells ≡ tagged_text document.cells
+taken_back site log document less places action p h doc lacks none rem =
     let r = as_it_is less in
-    let removed = map as_removed (cells_at places 0 flat.cells) in
+    let removed = map as_removed (cells_at places 0 document.cells) in
     let start = with_removal action.inserted r in
     let fewer : HaveNone action.inserted less.cells =
-    subst (HaveNone action.inserted) (sym lacks.cells) (λ s k. none s (subst (λ (l : List Stamp). is_among l s ≡ true) (stamps_gone places 0 flat.cells) k)) in
-    let part : IsPart places 0 [] flat.cells start = record {
+    subst (HaveNone action.inserted) (sym lacks.cells) (λ s k. none s (subst (λ (l : List Stamp). is_among l s ≡ true) (stamps_gone places 0 document.cells) k)) in
+    let part : IsPart places 0 [] document.cells start = record {
       cells = nowhere (are_at action.inserted less.cells) 0 less.cells (λ place. none_at action.inserted less.cells place fewer) ∙ lacks.cells;
       site = omega (arith, lacks.site, doc.site, p);
-      older = below_later (greatest_last_count log) start.doc.count flat.cells (omega (arith, doc.count, lacks.count))
+      older = below_later (greatest_last_count log) start.doc.count document.cells (omega (arith, doc.count, lacks.count))
           (subst (AreBelowNext (greatest_last_count log)) (sym doc.cells) (cells_older log h));
       distinct = subst AreDistinct (sym doc.cells) (cells_distinct log h);
       apart = λ s k. refl;
       root = ap (λ (cells : List TaggedCell). is_among (stamps_of cells) ROOT) doc.cells ∙ root_absent log h;
       still = λ s k. refl;
-      named = rise_all flat.cells (subst CellsNamed (sym doc.cells) (every_named log h));
+      named = rise_all document.cells (subst CellsNamed (sym doc.cells) (every_named log h));
     } in
     ap (λ group. tagged_text (with_each_reverted group r).doc.cells) (one_reversed action)
     ∙ ap (λ l. tagged_text (with_returns l (with_removal (map (stamp_after []) action.inserted) r)).doc.cells) rem
     ∙ ap (λ ss. tagged_text (with_returns removed (with_removal ss r)).doc.cells) (map-id action.inserted)
-    ∙ back places flat.cells 0 [] start part
+    ∙ back places document.cells 0 [] start part
 
-pub removal_back : (site : ℕ) (log : List Operation) (flat : DocValue) (places : ℕ → Bool) (action : Action (List Word)) → 0 < site → IsHistory log → IsDocument site log flat
-    → HaveNone action.inserted flat.cells → action.removed ≡ map as_removed (cells_at places 0 flat.cells)
-    → tagged_text (reverted (without_places flat places) (action ∷ [])).cells ≡ tagged_text flat.cells
-removal_back site log flat places action p h doc none rem =
-    taken_back site log flat (without_places flat places) places action p h doc (record { cells = refl; site = refl; count = omega arith }) none rem
+pub removal_back : (site : ℕ) (log : List Operation) (document : DocValue) (places : ℕ → Bool) (action : Action (List Word)) → 0 < site → IsHistory log → IsDocument site log document
+    → HaveNone action.inserted document.cells → action.removed ≡ map as_removed (cells_at places 0 document.cells)
+    → tagged_text (reverted (without_places document places) (action ∷ [])).cells ≡ tagged_text document.cells
+removal_back site log document places action p h doc none rem =
+    taken_back site log document (without_places document places) places action p h doc (record { cells = refl; site = refl; count = omega arith }) none rem
 
 -- REDONE
 
@@ -289,22 +289,22 @@ still_is stamps cells =
     let test : TaggedCell → Bool = λ cell. is_among stamps cell.stamp in
     ap (map as_removed) (sym (chosen_visible (are_at stamps cells) 0 cells ∙ at_tests test (are_at stamps cells) 0 (visible_of cells) (λ k. ap (are_at stamps cells) (omega arith))))
 
-redone : (site : ℕ) (log : List Operation) (flat : DocValue) (action : Action (List Word)) → 0 < site → IsHistory log → IsDocument site log flat
+redone : (site : ℕ) (log : List Operation) (document : DocValue) (action : Action (List Word)) → 0 < site → IsHistory log → IsDocument site log document
     → let undone : Action (List Word) = record action { removed = [] } in
-    tagged_text (reverted (reverted flat (undone ∷ [])) (reverted_group flat (undone ∷ []))).cells ≡ tagged_text flat.cells
-redone site log flat action p h doc =
+    tagged_text (reverted (reverted document (undone ∷ [])) (reverted_group document (undone ∷ []))).cells ≡ tagged_text document.cells
+redone site log document action p h doc =
     let undone : Action (List Word) = record action { removed = [] } in
     let stamps = map (stamp_after []) action.inserted in
-    let places = are_at stamps flat.cells in
-    let text : Reversion → List TaggedCharacter = λ r. tagged_text (reverted (logged flat r.drafts r.doc) (with_stamps_in (stamp_after r.returns) r.actions)).cells in
-    let r = with_reverted undone (as_it_is flat) in
-    let again : Action (List Word) = record { number = action.number; kind = action.kind; inserted = []; removed = map (restamped_one (stamp_after [])) (still_visible stamps flat.cells) } in
-    ap (λ group. text (with_each_reverted group (as_it_is flat))) (one_reversed undone)
-    ∙ taken_back site log flat (logged flat r.drafts r.doc) places again p h doc (record { cells = refl; site = refl; count = omega arith }) (λ s k. refl)
-    (map-id (still_visible stamps flat.cells) ∙ still_is stamps flat.cells)
+    let places = are_at stamps document.cells in
+    let text : Reversion → List TaggedCharacter = λ r. tagged_text (reverted (logged document r.drafts r.doc) (with_stamps_in (stamp_after r.returns) r.actions)).cells in
+    let r = with_reverted undone (as_it_is document) in
+    let again : Action (List Word) = record { number = action.number; kind = action.kind; inserted = []; removed = map (restamped_one (stamp_after [])) (still_visible stamps document.cells) } in
+    ap (λ group. text (with_each_reverted group (as_it_is document))) (one_reversed undone)
+    ∙ taken_back site log document (logged document r.drafts r.doc) places again p h doc (record { cells = refl; site = refl; count = omega arith }) (λ s k. refl)
+    (map-id (still_visible stamps document.cells) ∙ still_is stamps document.cells)
 
-pub insertion_redone : (site : ℕ) (log : List Operation) (flat : DocValue) (action : Action (List Word)) → 0 < site → IsHistory log → IsDocument site log flat → action.removed ≡ []
-    → tagged_text (reverted (reverted flat (action ∷ [])) (reverted_group flat (action ∷ []))).cells ≡ tagged_text flat.cells
-insertion_redone site log flat action p h doc none =
-    let text : Action (List Word) → List TaggedCharacter = λ a. tagged_text (reverted (reverted flat (a ∷ [])) (reverted_group flat (a ∷ []))).cells in
-    ap (λ l. text (record action { removed = l })) none ∙ redone site log flat action p h doc
+pub insertion_redone : (site : ℕ) (log : List Operation) (document : DocValue) (action : Action (List Word)) → 0 < site → IsHistory log → IsDocument site log document → action.removed ≡ []
+    → tagged_text (reverted (reverted document (action ∷ [])) (reverted_group document (action ∷ []))).cells ≡ tagged_text document.cells
+insertion_redone site log document action p h doc none =
+    let text : Action (List Word) → List TaggedCharacter = λ a. tagged_text (reverted (reverted document (a ∷ [])) (reverted_group document (a ∷ []))).cells in
+    ap (λ l. text (record action { removed = l })) none ∙ redone site log document action p h doc

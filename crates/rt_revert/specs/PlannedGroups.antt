@@ -13,9 +13,9 @@ use Rattle.rt_revert.specs.Reverting.{reversion, reverted_group}
 
 -- The operations; the group for the other stack, with states of a table; the characters that came back; the marks after the changes
 -- of the text; and the listed tags.
-pub record IsPlanOf (table : TagStates) (flat : DocValue) (group : List (Action (List Word))) (plan : Reversal) : Type 0 where
-  pub drafts : map body_of (items_in plan.drafts) ≡ (reversion flat group).drafts
-  pub actions : named_group table (group_of plan.actions.items) ≡ reverted_group flat group
-  pub returns : plan.returns.items ≡ (reversion flat group).returns
-  pub marks : marks_after plan.changes.items flat.marks ≡ (reversion flat group).doc.marks
-  pub tags : all_listed (as_words plan.names.items) flat.tags ≡ (reversion flat group).doc.tags
+pub record IsPlanOf (table : TagStates) (doc : DocValue) (group : List (Action (List Word))) (plan : Reversal) : Type 0 where
+  pub drafts : map body_of (items_in plan.drafts) ≡ (reversion doc group).drafts
+  pub actions : named_group table (group_of plan.actions.items) ≡ reverted_group doc group
+  pub returns : plan.returns.items ≡ (reversion doc group).returns
+  pub marks : marks_after plan.changes.items doc.marks ≡ (reversion doc group).doc.marks
+  pub tags : all_listed (as_words plan.names.items) doc.tags ≡ (reversion doc group).doc.tags

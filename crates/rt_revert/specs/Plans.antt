@@ -51,10 +51,10 @@ abbrev pub AreUpTo : {T : Type 0} → ℕ → List (Cell T) → Type 0
 AreUpTo count cells = All (λ cell. IsUpTo count cell.stamp) cells
 
 -- a document of a site with the cells of a store, whose states a table gave out, and with a greatest count
-pub record IsOf (table : TagStates) (store : List (Cell ℕ)) (number greatest : ℕ) (flat : DocValue) : Type 0 where
-  pub cells : flat.cells ≡ map (shown table) store
-  pub site : flat.site ≡ number
-  pub count : flat.count ≡ greatest
+pub record IsOf (table : TagStates) (store : List (Cell ℕ)) (number greatest : ℕ) (doc : DocValue) : Type 0 where
+  pub cells : doc.cells ≡ map (shown table) store
+  pub site : doc.site ≡ number
+  pub count : doc.count ≡ greatest
 
 -- CHANGES OF THE TEXT
 

@@ -8,7 +8,7 @@ use Rattle.rt_stamps.specs.Stamps.{is_same}
 use Rattle.rt_store.specs.declared.cell.Cell.{Cell}
 use Rattle.rt_store.specs.Cells.{position_of, stamps_of, visible_before}
 use Rattle.rt_store.specs.Spans.{is_among}
-use Rattle.rt_spans.specs.Shown.{Shown, value_of}
+use Rattle.rt_spans.specs.Shown.{SpanMapValue, value_of}
 use Rattle.rt_plans.specs.declared.range.Range.{Range}
 use Rattle.rt_plans.specs.DocValue.{DocValue}
 use Rattle.rt_undo.specs.Actions.{Action, Removed}
@@ -46,21 +46,21 @@ others_before has cells stamp =
     length (filter (λ cell. not cell.gone && not (has cell.stamp)) (take_while (λ cell. not (is_same cell.stamp stamp)) cells))
 
 -- the offset of a stamp, and that of what stands directly behind an element
-abbrev pub offset_of : Shown ℕ → Stamp → ℕ
+abbrev pub offset_of : SpanMapValue ℕ → Stamp → ℕ
 offset_of offsets stamp = unwrap_or (value_of offsets stamp) 0
 
-abbrev pub offset_behind : Shown ℕ → Stamp → ℕ
+abbrev pub offset_behind : SpanMapValue ℕ → Stamp → ℕ
 offset_behind offsets left = if is_same left ROOT then 0 else offset_of offsets left
 
 -- the offset of a cell that the copy has is how many visible characters that it hasn't stand before
-abbrev pub AreOffsets : {T : Type 0} → Shown ℕ → (Stamp → Bool) → List (Cell T) → Type 0
+abbrev pub AreOffsets : {T : Type 0} → SpanMapValue ℕ → (Stamp → Bool) → List (Cell T) → Type 0
 AreOffsets offsets has cells =
     (s : Stamp) → has s ≡ true → is_among (stamps_of cells) s ≡ true → offset_of offsets s ≡ others_before has cells s
 
-abbrev pub AreSmall : Shown ℕ → Type 0
+abbrev pub AreSmall : SpanMapValue ℕ → Type 0
 AreSmall offsets = (s : Stamp) → offset_of offsets s ≤ MOST_CELLS
 
 -- the places in the whole text of characters of a copy, each as a range
-abbrev pub whole_ranges : {T : Type 0} → Shown ℕ → List (Cell T) → List Stamp → List Range
+abbrev pub whole_ranges : {T : Type 0} → SpanMapValue ℕ → List (Cell T) → List Stamp → List Range
 whole_ranges offsets copy stamps =
     map (λ s. record { from = visible_before_stamp copy s + offset_of offsets s; to = visible_before_stamp copy s + offset_of offsets s + 1 }) stamps

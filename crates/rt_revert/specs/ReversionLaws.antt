@@ -31,24 +31,24 @@ AllMayRevert group = AllByRecursion MayRevert group
 -- Where the counts fit, the operations may be made.
 abbrev pub ReversionMayBeMade : Type 0
 ReversionMayBeMade =
-    (site : ℕ) (log : List Operation) (flat : DocValue) (group : List (Action (List Word))) → 0 < site → IsHistory log → IsDocument site log flat
-    → AllMayRevert group → (reversion flat group).doc.count ≤ GREATEST_COUNT → MayBeMade site log (reversion flat group).drafts
+    (site : ℕ) (log : List Operation) (doc : DocValue) (group : List (Action (List Word))) → 0 < site → IsHistory log → IsDocument site log doc
+    → AllMayRevert group → (reversion doc group).doc.count ≤ GREATEST_COUNT → MayBeMade site log (reversion doc group).drafts
 
 -- Then a document with the cells of a history has afterwards those of the history with the operations, and its greatest count.
 abbrev pub ReversionIsMade : Type 0
 ReversionIsMade =
-    (site : ℕ) (log : List Operation) (flat : DocValue) (group : List (Action (List Word))) → 0 < site → IsHistory log → IsDocument site log flat
-    → AllMayRevert group → (reversion flat group).doc.count ≤ GREATEST_COUNT
-    → IsDocument site (with_drafts site (reversion flat group).drafts log) (reversion flat group).doc
+    (site : ℕ) (log : List Operation) (doc : DocValue) (group : List (Action (List Word))) → 0 < site → IsHistory log → IsDocument site log doc
+    → AllMayRevert group → (reversion doc group).doc.count ≤ GREATEST_COUNT
+    → IsDocument site (with_drafts site (reversion doc group).drafts log) (reversion doc group).doc
 
 -- There is one cell more for each character that the operations insert.
 abbrev pub ReversionHasNewCells : Type 0
 ReversionHasNewCells =
-    (flat : DocValue) (group : List (Action (List Word)))
-    → length flat.cells + characters_in_all (reversion flat group).drafts ≡ length (reversion flat group).doc.cells
+    (doc : DocValue) (group : List (Action (List Word)))
+    → length doc.cells + characters_in_all (reversion doc group).drafts ≡ length (reversion doc group).doc.cells
 
 -- What is asked of a group holds of the one for the other stack.
 abbrev pub ReversionIsSound : Type 0
 ReversionIsSound =
-    (site : ℕ) (log : List Operation) (flat : DocValue) (group : List (Action (List Word))) → 0 < site → IsHistory log → IsDocument site log flat
-    → AllMayRevert group → (reversion flat group).doc.count ≤ GREATEST_COUNT → AllMayRevert (reverted_group flat group)
+    (site : ℕ) (log : List Operation) (doc : DocValue) (group : List (Action (List Word))) → 0 < site → IsHistory log → IsDocument site log doc
+    → AllMayRevert group → (reversion doc group).doc.count ≤ GREATEST_COUNT → AllMayRevert (reverted_group doc group)

@@ -36,7 +36,7 @@ pub record Reversion : Type 0 where
 
 -- nothing was reverted yet
 abbrev pub as_it_is : DocValue → Reversion
-as_it_is flat = record { doc = flat; returns = []; actions = []; drafts = [] }
+as_it_is document = record { doc = document; returns = []; actions = []; drafts = [] }
 
 -- CHARACTERS THAT GO
 
@@ -65,15 +65,15 @@ with_removal stamps so_far =
 
 -- the stamp of a document's next character
 abbrev pub next_in : DocValue → Stamp
-next_in flat = record { count = flat.count + 1; site = flat.site }
+next_in document = record { count = document.count + 1; site = document.site }
 
 -- A character once more, under some tags: a new one, directly after the old one. Marks move for it, and its tags are listed.
 abbrev pub with_copy : DocValue → Stamp → List Word → ℕ → DocValue
-with_copy flat stamp tags ch = record flat {
-  cells = put_after flat.cells stamp (tagged_cells flat.site flat.count tags (ch ∷ []));
-  count = flat.count + counts_for tags (ch ∷ []);
-  marks = marks_inserted (visible_before flat.cells (after_element flat.cells stamp)) 1 flat.marks;
-  tags = all_listed tags flat.tags;
+with_copy document stamp tags ch = record document {
+  cells = put_after document.cells stamp (tagged_cells document.site document.count tags (ch ∷ []));
+  count = document.count + counts_for tags (ch ∷ []);
+  marks = marks_inserted (visible_before document.cells (after_element document.cells stamp)) 1 document.marks;
+  tags = all_listed tags document.tags;
 }
 
 -- it comes back, by an Insert, and a Tag for each tag that this can't list
@@ -126,12 +126,12 @@ with_each_reverted (action ∷ actions) so_far = with_each_reverted actions (wit
 
 -- the actions of a group are reverted, from the last to the first
 abbrev pub reversion : DocValue → List (Action (List Word)) → Reversion
-reversion flat group = with_each_reverted (reverse group) (as_it_is flat)
+reversion document group = with_each_reverted (reverse group) (as_it_is document)
 
 -- the document after that, with the operations in its log
 abbrev pub reverted : DocValue → List (Action (List Word)) → DocValue
-reverted flat group = let r = reversion flat group in logged flat r.drafts r.doc
+reverted document group = let r = reversion document group in logged document r.drafts r.doc
 
 -- the group for the other stack, under the stamps that the characters have now: so redo is the same act
 abbrev pub reverted_group : DocValue → List (Action (List Word)) → List (Action (List Word))
-reverted_group flat group = let r = reversion flat group in with_stamps_in (stamp_after r.returns) r.actions
+reverted_group document group = let r = reversion document group in with_stamps_in (stamp_after r.returns) r.actions

@@ -17,21 +17,21 @@ use Rattle.rt_revert.specs.Reverting.{are_at, as_removed, reverted, reverted_gro
 -- An insertion, whatever was done since: the text is what stands beside those of its characters that are still visible.
 abbrev pub InsertionIsTakenBack : Type 0
 InsertionIsTakenBack =
-    (flat : DocValue) (action : Action (List Word)) → action.removed ≡ []
-    → text_of (reverted flat (action ∷ [])).cells ≡ left_at (are_at action.inserted flat.cells) 0 (text_of flat.cells)
+    (doc : DocValue) (action : Action (List Word)) → action.removed ≡ []
+    → text_of (reverted doc (action ∷ [])).cells ≡ left_at (are_at action.inserted doc.cells) 0 (text_of doc.cells)
 
 -- A removal, by an action none of whose own stamps a cell of the text has: the text is again what it was, each character with
 -- its tags.
 abbrev pub RemovalIsTakenBack : Type 0
 RemovalIsTakenBack =
-    (site : ℕ) (log : List Operation) (flat : DocValue) (places : ℕ → Bool) (action : Action (List Word)) → 0 < site → IsHistory log
-    → IsDocument site log flat → ((s : Stamp) → is_among (stamps_of flat.cells) s ≡ true → is_among action.inserted s ≡ false)
-    → action.removed ≡ map as_removed (cells_at places 0 flat.cells)
-    → tagged_text (reverted (without_places flat places) (action ∷ [])).cells ≡ tagged_text flat.cells
+    (site : ℕ) (log : List Operation) (doc : DocValue) (places : ℕ → Bool) (action : Action (List Word)) → 0 < site → IsHistory log
+    → IsDocument site log doc → ((s : Stamp) → is_among (stamps_of doc.cells) s ≡ true → is_among action.inserted s ≡ false)
+    → action.removed ≡ map as_removed (cells_at places 0 doc.cells)
+    → tagged_text (reverted (without_places doc places) (action ∷ [])).cells ≡ tagged_text doc.cells
 
 -- An insertion that was undone, and is redone: the text is again what it was, each character with its tags.
 abbrev pub InsertionIsRedone : Type 0
 InsertionIsRedone =
-    (site : ℕ) (log : List Operation) (flat : DocValue) (action : Action (List Word)) → 0 < site → IsHistory log → IsDocument site log flat
+    (site : ℕ) (log : List Operation) (doc : DocValue) (action : Action (List Word)) → 0 < site → IsHistory log → IsDocument site log doc
     → action.removed ≡ []
-    → tagged_text (reverted (reverted flat (action ∷ [])) (reverted_group flat (action ∷ []))).cells ≡ tagged_text flat.cells
+    → tagged_text (reverted (reverted doc (action ∷ [])) (reverted_group doc (action ∷ []))).cells ≡ tagged_text doc.cells

@@ -2,7 +2,8 @@
 ghost use Rattle.std.specs.Prelude.{◌≡◌, [], ◌∷◌, codes, map};
 ghost use Rattle.rt_ops.specs.Operations.{Delete, Insert};
 ghost use Rattle.rt_store.specs.Cells.{text_of};
-ghost use Rattle.rt_rga.specs.Examples.{at, only_t, span};
+ghost use Rattle.rt_ops.specs.Examples.{span};
+ghost use Rattle.rt_rga.specs.Examples.{at, only_t};
 ghost use Rattle.rt_plans.specs.Examples.{tags_of_each};
 ghost use Rattle.rt_revert.specs.Examples.{abc_inserted, abc_typed, b_gone, b_removed, beside_x, both_actions, c_removed, tagged_gone, tagged_removed, with_b_again, without_b};
 ghost use Rattle.rt_revert.specs.Reverting.{reversion, reverted, reverted_group};

@@ -52,17 +52,17 @@ pub fn planned_reversion<S: TextStore, C: TextStore>(
     requires count { author.count ≤ GREATEST_COUNT }
     requires given { AreGiven kept.old (group_of group.now) }
     requires sound { AllMayRevert (named_group kept.old (group_of group.now)) }
-    ensures plan { IfOk result (λ plan. (flat : DocValue) → IsOf states.now (S.list store.now) author.site.number author.count flat
-        → IsPlanOf kept.new flat (named_group kept.old (group_of group.now)) plan) }
-    ensures fits { OnOk result ((flat : DocValue) → IsOf states.now (S.list store.now) author.site.number author.count flat
-        → (reversion flat (named_group kept.old (group_of group.now))).doc.count ≤ GREATEST_COUNT) }
+    ensures plan { IfOk result (λ plan. (doc : DocValue) → IsOf states.now (S.list store.now) author.site.number author.count doc
+        → IsPlanOf kept.new doc (named_group kept.old (group_of group.now)) plan) }
+    ensures fits { OnOk result ((doc : DocValue) → IsOf states.now (S.list store.now) author.site.number author.count doc
+        → (reversion doc (named_group kept.old (group_of group.now))).doc.count ≤ GREATEST_COUNT) }
     ensures given { IfOk result (λ plan. AreGiven kept.new (group_of plan.actions.items)) }
     ensures changes { IfOk result (λ plan. AllByRecursion IsTextChange plan.changes.items) }
     ensures names { IfOk result (λ plan. list_all is_name (as_words plan.names.items) ≡ true) }
     ensures ids { KeepsIds kept.old kept.new }
     ensures err { IfErr result (λ fault. (fault ≡ Fault.NoMemory) ⊎ ((fault ≡ Fault.ClockSpent)
-        × ((flat : DocValue) → IsOf states.now (S.list store.now) author.site.number author.count flat
-        → GREATEST_COUNT < (reversion flat (named_group kept.old (group_of group.now))).doc.count))) }
+        × ((doc : DocValue) → IsOf states.now (S.list store.now) author.site.number author.count doc
+        → GREATEST_COUNT < (reversion doc (named_group kept.old (group_of group.now))).doc.count))) }
 {
     let Author { site, count } = author;
     let mut work = copy;

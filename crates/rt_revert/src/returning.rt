@@ -36,8 +36,9 @@ pub(crate) fn names_of(
     ensures ok { IfOk result (λ v. as_words v.items ≡ names_on (state_at kept.now state)) }
     ensures err { IsOkUnless result Fault.NoMemory }
 {
+    let on = kept.on(state)?;
     let mut names = Vec::new(alloc);
-    for tag in kept.on(state) {
+    for tag in on.as_slice() {
         names.push(String::from_str(alloc, kept.name(*tag))?)?;
     }
     Ok(names)

@@ -31,7 +31,7 @@ target_to older op s h k = elim k [
   | inr r ↦ (let m = r.0 in let j : (s.site == 0) ≡ true = grind (arith, nat_tests, r.1) in rw (j, m) refl)
 ]
 
-held_end : (older : List Operation) (op : Operation) → holds older op ≡ true → op.count ≤ known_end older op.site
+pub held_end : (older : List Operation) (op : Operation) → holds older op ≡ true → op.count ≤ known_end older op.site
 held_end [] op h = absurd (cc h)
 held_end (q ∷ older) op h = split (same_operation q op)
     (λ e. let i : q.count ≡ op.count = grind (arith, nat_tests) in

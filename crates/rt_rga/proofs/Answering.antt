@@ -10,13 +10,14 @@ use Rattle.rt_stamps.specs.declared.stamp.TheConstants.{FINAL}
 use Rattle.rt_stamps.specs.Stamps.{is_same}
 use Rattle.rt_stamps.proofs.Order.{same_sym, same_from_true}
 use Rattle.rt_stamps.specs.declared.fault.Fault.{Fault}
-use Rattle.rt_stamps.specs.declared.fault.Fault.TheVariants.{BadStamp}
-use Rattle.rt_ops.specs.Operations.{Operation, Body, Insert, Delete, Tag, has_bad_stamp, soundness, stamps_from, stamps_of_span, stamps_in}
-use Rattle.rt_oplog.specs.Logs.{known_end}
+use Rattle.rt_stamps.specs.declared.fault.Fault.TheVariants.{BadStamp, BadTarget, NotYet}
+use Rattle.rt_ops.specs.Operations.{Operation, Body, Insert, Delete, Tag, has_bad_stamp, named, soundness, stamps_from, stamps_of_span, stamps_in}
+use Rattle.rt_oplog.specs.Logs.{holds, known_end}
 use Rattle.rt_store.specs.declared.cell.Cell.{Cell}
 use Rattle.rt_rga.specs.Histories.{has_character, is_known, may_name}
-use Rattle.rt_rga.specs.Answers.{Answer, Refused, answer_to, can_never_be_known, has_gap, up_to}
+use Rattle.rt_rga.specs.Answers.{Answer, New, Refused, answer_to, can_never_be_known, has_gap, up_to}
 use Rattle.rt_rga.specs.Kept.{AreCellsOf, goes_past, is_kept_character}
+use Rattle.rt_rga.proofs.Accepting.{held_end}
 use Rattle.rt_rga.proofs.Corollaries.{cells_have, no_final}
 use Rattle.rt_rga.proofs.Scanning.{gap_in, known_in, target_in}
 use Rattle.rt_store.specs.Cells.{stamps_of}
@@ -195,3 +196,36 @@ bad_tests false rest fault h = absurd (cc h)
 
 pub bad_answer : (op : Operation) (set : List Operation) (fault : Fault) → soundness op ≡ Err fault → Refused fault ≡ answer_to op set
 bad_answer op set fault h = bad_tests (has_bad_stamp op) _ fault h
+
+-- a sound operation that goes on from no lower than its site's known end isn't there
+pub not_held_above : (set : List Operation) (op : Operation) → has_bad_stamp op ≡ false → nat_lt op.prev (known_end set op.site) ≡ false → holds set op ≡ false
+not_held_above set op h k = split (holds set op) (λ e. absurd (let l = held_end set op e in let p : op.prev < op.count = grind (arith, nat_tests, h) in grind (arith, nat_tests, k, l, p))) (λ e. e)
+
+-- what is answered by the known end of the site, by what can never be known, and by whether all is known
+abbrev pub later_by : Bool → Bool → Bool → Answer
+later_by late bad all = cond late (Refused NotYet) (cond bad (Refused BadTarget) (cond (not all) (Refused NotYet) New))
+
+is_sound : (bad : Bool) → sound_by bad ≡ Ok tt → bad ≡ false
+is_sound true h = absurd (cc h)
+is_sound false h = refl
+
+-- a sound operation that goes on from no lower than its site's known end
+pub later_answer : (op : Operation) (set : List Operation) → soundness op ≡ Ok tt → known_end set op.site ≤ op.prev
+    → later_by (nat_lt (known_end set op.site) op.prev) (list_any (can_never_be_known set op) (named op.body)) (list_all (is_known set op.body) (named op.body)) ≡ answer_to op set
+later_answer op set h l =
+    let sound : has_bad_stamp op ≡ false = is_sound (has_bad_stamp op) h in
+    let low : nat_lt op.prev (known_end set op.site) ≡ false = grind (arith, nat_tests, l) in
+    let new : holds set op ≡ false = not_held_above set op sound low in
+    rw (sound, new, low) refl
+
+pub by_late : (late bad all : Bool) → late ≡ true → Refused NotYet ≡ later_by late bad all
+by_late late bad all h = rw h refl
+
+pub by_bad : (late bad all : Bool) → late ≡ false → bad ≡ true → Refused BadTarget ≡ later_by late bad all
+by_bad late bad all h k = rw (h, k) refl
+
+pub by_unknown : (late bad all : Bool) → late ≡ false → bad ≡ false → not all ≡ true → Refused NotYet ≡ later_by late bad all
+by_unknown late bad all h k l = rw (h, k, l) refl
+
+pub by_known : (late bad all : Bool) → late ≡ false → bad ≡ false → not all ≡ false → New ≡ later_by late bad all
+by_known late bad all h k l = rw (h, k, l) refl

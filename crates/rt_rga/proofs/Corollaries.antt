@@ -12,7 +12,7 @@ use Rattle.rt_stamps.specs.declared.stamp.TheConstants.{FINAL, ROOT}
 use Rattle.rt_stamps.specs.Names.{name_order}
 use Rattle.rt_stamps.specs.Stamps.{is_before, is_same}
 use Rattle.rt_stamps.proofs.Order.{differ, same_refl, same_sym, same_from_true}
-use Rattle.rt_tags.specs.States.{Write, above, below, is_settled, write_of, written}
+use Rattle.rt_tags.specs.States.{Write, writes_above, writes_below, is_settled, write_of, written}
 use Rattle.rt_tags.specs.Writers.{listed_by, state_after}
 use Rattle.rt_tags.proofs.Sorted.{every_append}
 use Rattle.rt_ops.specs.Operations.{Operation, Body, Insert, Delete, Tag, Name, stamp_of}
@@ -147,9 +147,9 @@ every_filter P test (x ∷ xs) h = elim (test x) as (λ b. AllByRecursion P (con
 
 -- what holds of writes holds of those in the state that they leave
 written_every : (P : Write → Type 0) (w : Write) (state : List Write) → P w → AllByRecursion P state → AllByRecursion P (written w state)
-written_every P w state h k = elim (is_settled w state) as (λ b. AllByRecursion P (cond b state (below w.name state ++ w ∷ above w.name state))) [
+written_every P w state h k = elim (is_settled w state) as (λ b. AllByRecursion P (cond b state (writes_below w.name state ++ w ∷ writes_above w.name state))) [
   | true ↦ k
-  | false ↦ every_append P (below w.name state) (w ∷ above w.name state) (every_filter P (λ v. is_lt (name_order v.name w.name)) state k) (h, every_filter P (λ v. is_gt (name_order v.name w.name)) state k)
+  | false ↦ every_append P (writes_below w.name state) (w ∷ writes_above w.name state) (every_filter P (λ v. is_lt (name_order v.name w.name)) state k) (h, every_filter P (λ v. is_gt (name_order v.name w.name)) state k)
 ]
 
 state_every : (P : Write → Type 0) (state xs : List Write) → AllByRecursion P state → AllByRecursion P xs → AllByRecursion P (state_after state xs)

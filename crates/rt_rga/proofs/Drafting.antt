@@ -1,6 +1,8 @@
 -- A site's own operations continue what it knows, and are the newest.
-use Rattle.std.proofs.Common.{◌≡◌, ℕ, ◌+◌, ◌<◌, ◌≤◌, Bool, true, false, not, All, inl, inr, refl, sym, ap, subst, ◌∙◌, arith, List, [], ◌∷◌, ◌||◌, ◌==◌, length, drop, nat_le, nat_lt}
-use Rattle.std.specs.Prelude.{take_while}
+use Rattle.std.proofs.Common.{◌≡◌, ℕ, ◌+◌, ◌-◌, ◌<◌, ◌≤◌, Bool, true, false, not, All, inl, inr, refl, sym, ap, subst, ◌∙◌, arith, List, [], ◌∷◌, ◌||◌, ◌==◌, length, drop, get_or, Some, nat_le, nat_lt}
+use Rattle.std.specs.Prelude.{reverse, slice_get, take_while}
+use Rattle.std.proofs.lemmas.List.{get_or-reverse}
+use Rattle.std.proofs.lemmas.Option.{get_or_from_slice_get}
 use Rattle.std.proofs.lemmas.Bool.Decides.{nat_tests}
 use Rattle.std.proofs.lemmas.List.Elements.{All-drop, All-from_recursion}
 use Rattle.std.specs.List.{AllByRecursion}
@@ -8,6 +10,7 @@ use Rattle.rt_stamps.specs.declared.limits.TheConstants.{GREATEST_COUNT}
 use Rattle.rt_stamps.specs.declared.stamp.Stamp.{Stamp}
 use Rattle.rt_stamps.specs.declared.stamp.TheConstants.{FINAL, ROOT}
 use Rattle.rt_stamps.specs.Stamps.{is_before}
+use Rattle.rt_stamps.proofs.Order.{before_trans}
 use Rattle.rt_store.specs.declared.cell.Cell.{Cell}
 use Rattle.rt_store.specs.Cells.{after_element, skip_from}
 use Rattle.rt_ops.specs.Operations.{Operation, Body, Insert, Delete, Tag, stamp_of, last_of, last_count, named, reaches}
@@ -34,12 +37,37 @@ newest op (q ∷ older) h =
     let e : is_before (stamp_of q) (stamp_of op) ≡ true = lesser (stamp_of q) (stamp_of op) (grind (arith, g, h)) in
     rw e
 
+pub older_by_count : (op : Operation) (set : List Operation) → greatest_last_count set < op.count → AllByRecursion (λ q. is_before (stamp_of q) (stamp_of op) ≡ true) set
+older_by_count op [] h = tt
+older_by_count op (q ∷ older) h = let g = last_ge q.count q.body in (lesser (stamp_of q) (stamp_of op) (grind (arith, g, h)), older_by_count op older (grind (arith, h)))
+
 pub newer_than_all : (op : Operation) (set : List Operation) → greatest_last_count set < op.count → All (λ q. is_before (stamp_of q) (stamp_of op) ≡ true) set
-newer_than_all op set h = All-from_recursion (λ q. is_before (stamp_of q) (stamp_of op) ≡ true) set (each set h)
-  where
-    each : (set : List Operation) → greatest_last_count set < op.count → AllByRecursion (λ q. is_before (stamp_of q) (stamp_of op) ≡ true) set
-    each [] h = tt
-    each (q ∷ older) h = let g = last_ge q.count q.body in (lesser (stamp_of q) (stamp_of op) (grind (arith, g, h)), each older (grind (arith, h)))
+newer_than_all op set h = All-from_recursion (λ q. is_before (stamp_of q) (stamp_of op) ≡ true) set (older_by_count op set h)
+
+pub older_of_none : (op : Operation) (set : List Operation) → length set ≡ 0 → AllByRecursion (λ q. is_before (stamp_of q) (stamp_of op) ≡ true) set
+older_of_none op [] h = tt
+older_of_none op (q ∷ older) h = absurd (omega (arith, h))
+
+-- an operation before which all others are is put in front of them
+pub put_in_front : (op : Operation) (set : List Operation) → AllByRecursion (λ q. is_before (stamp_of q) (stamp_of op) ≡ true) set → with_operation op set ≡ op ∷ set
+put_in_front op [] h = refl
+put_in_front op (q ∷ older) h = rw h.0 refl
+
+all_before : (s t : Stamp) → is_before s t ≡ true → (older : List Operation) → AllByRecursion (λ q. is_before (stamp_of q) s ≡ true) older → AllByRecursion (λ q. is_before (stamp_of q) t ≡ true) older
+all_before s t h [] k = tt
+all_before s t h (q ∷ older) k = (before_trans (stamp_of q) s t k.0 h, all_before s t h older k.1)
+
+-- all operations of a history are before what its newest one is before
+pub all_before_newest : (op last : Operation) (set : List Operation) → IsHistory set → slice_get (reverse set) (length set - 1) ≡ Some last → is_before (stamp_of last) (stamp_of op) ≡ true
+    → AllByRecursion (λ q. is_before (stamp_of q) (stamp_of op) ≡ true) set
+all_before_newest op last [] h e b = tt
+all_before_newest op last (q ∷ older) h e b =
+    let all : List Operation = q ∷ older in
+    let zero : length all - 1 - (length all - 1) ≡ 0 = omega arith in
+    let read : get_or (reverse all) (length all - 1) last ≡ last = get_or_from_slice_get (reverse all) (length all - 1) last last e in
+    let is : q ≡ last = sym (get_or-reverse all (length all - 1) last (omega arith) ∙ ap (λ n. get_or all n last) zero) ∙ read in
+    let first : is_before (stamp_of q) (stamp_of op) ≡ true = ap (λ (o : Operation). is_before (stamp_of o) (stamp_of op)) is ∙ b in
+    (first, all_before (stamp_of q) (stamp_of op) first older h.0)
 
 pub end_within : (set : List Operation) (site : ℕ) → known_end set site ≤ greatest_last_count set
 end_within [] site = omega arith

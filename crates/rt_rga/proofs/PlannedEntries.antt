@@ -17,8 +17,8 @@ use Rattle.rt_stamps.specs.Stamps.{is_before, is_same}
 use Rattle.rt_stamps.proofs.Order.{before_irrefl}
 use Rattle.rt_ops.specs.Operations.{Operation, stamp_of, stamps_from, stamps_in}
 use Rattle.rt_store.specs.Spans.{is_in_spans, precedes}
-use Rattle.rt_tags.specs.declared.states.Entry.{Entry}
-use Rattle.rt_tags.specs.States.{IsTag, KeepsIds, TagStates, Write, above, below, is_kept, is_settled, write_at, write_of, writes_at, written}
+use Rattle.rt_tags.specs.declared.states.TagEntry.{TagEntry}
+use Rattle.rt_tags.specs.States.{IsTag, KeepsIds, TagStates, Write, writes_above, writes_below, is_kept, is_settled, write_at, write_of, writes_at, written}
 use Rattle.rt_tags.specs.Writers.{state_after}
 use Rattle.rt_tags.proofs.Greatest.{newer, write_of_written}
 use Rattle.rt_tags.proofs.Places.{name_itself}
@@ -29,7 +29,7 @@ use Rattle.rt_rga.proofs.Writes.{spans_name, state_append}
 
 -- GATHERED
 
-pub named_from : (entry : Entry) (done : List Named) (site count last : ℕ) → count < last + 1
+pub named_from : (entry : TagEntry) (done : List Named) (site count last : ℕ) → count < last + 1
     → done ++ map (named_with entry) (stamps_from site count (last + 1 - count)) ≡ (done ++ named_with entry (record { count = count; site = site }) ∷ []) ++ map (named_with entry) (stamps_from site (count + 1) (last + 1 - (count + 1)))
 named_from entry done site count last l =
     let e : last + 1 - count ≡ suc (last + 1 - (count + 1)) = omega arith in
@@ -49,14 +49,14 @@ twice w state =
     ap (λ o. is_kept o w) (write_of_written w.name w state)
     ∙ ap (λ b. is_kept (cond b (Some (newer (write_of w.name state) w)) (write_of w.name state)) w) (name_itself w.name)
     ∙ kept_itself w (write_of w.name state) in
-    ap (λ b. cond b (written w state) (below w.name (written w state) ++ w ∷ above w.name (written w state))) s
+    ap (λ b. cond b (written w state) (writes_below w.name (written w state) ++ w ∷ writes_above w.name (written w state))) s
 
 once : (b : Bool) (w : Write) (state : List Write) → state_after (written w state) (cond b (w ∷ []) []) ≡ written w state
 once true w state = twice w state
 once false w state = refl
 
 -- one entry on stamps, on each of them
-repeated : (table : TagStates) (e : Entry) (s : Stamp) (ss : List Stamp) (state : List Write)
+repeated : (table : TagStates) (e : TagEntry) (s : Stamp) (ss : List Stamp) (state : List Write)
     → state_after state (writes_at table (entries_on (map (named_with e) ss) s)) ≡ state_after state (cond (list_any (λ t. is_same t s) ss) (write_at table e.tag e.writer e.on ∷ []) [])
 repeated table e s [] state = refl
 repeated table e s (x ∷ ss) state = split (is_same x s)
@@ -73,34 +73,34 @@ entries_append xs ys s =
     ap (map (λ n. n.entry)) (filter-append (λ n. is_same n.stamp s) xs ys)
     ∙ map-append (λ n. n.entry) (filter (λ n. is_same n.stamp s) xs) (filter (λ n. is_same n.stamp s) ys)
 
-pub entries_kept : (old new : TagStates) → KeepsIds old new → (es : List Entry) → AllByRecursion (λ e. IsTag old e.tag) es → writes_at new es ≡ writes_at old es
+pub entries_kept : (old new : TagStates) → KeepsIds old new → (es : List TagEntry) → AllByRecursion (λ e. IsTag old e.tag) es → writes_at new es ≡ writes_at old es
 entries_kept old new k [] h = refl
 entries_kept old new k (e ∷ es) h = λ i. record { name = (k.tags e.tag h.0).1 i; writer = e.writer; on = e.on } ∷ entries_kept old new k es h.1 i
 
 pub tags_on : (table : TagStates) (named : List Named) (s : Stamp) → All (λ n. IsTag table n.entry.tag) named → All (λ e. IsTag table e.tag) (entries_on named s)
 tags_on table named s h =
-    All-map (λ (e : Entry). IsTag table e.tag) (λ (n : Named). n.entry) (filter (λ n. is_same n.stamp s) named) (All-filter (λ n. is_same n.stamp s) (λ n. IsTag table n.entry.tag) named h)
+    All-map (λ (e : TagEntry). IsTag table e.tag) (λ (n : Named). n.entry) (filter (λ n. is_same n.stamp s) named) (All-filter (λ n. is_same n.stamp s) (λ n. IsTag table n.entry.tag) named h)
 
 pub writes_kept : (old new : TagStates) (named : List Named) (s : Stamp) → KeepsIds old new → All (λ n. IsTag old n.entry.tag) named → writes_at new (entries_on named s) ≡ writes_at old (entries_on named s)
-writes_kept old new named s k h = entries_kept old new k (entries_on named s) (recursion_from_All (λ (e : Entry). IsTag old e.tag) (entries_on named s) (tags_on old named s h))
+writes_kept old new named s k h = entries_kept old new k (entries_on named s) (recursion_from_All (λ (e : TagEntry). IsTag old e.tag) (entries_on named s) (tags_on old named s h))
 
 pub tags_kept : (old new : TagStates) (named : List Named) → KeepsIds old new → All (λ n. IsTag old n.entry.tag) named → All (λ n. IsTag new n.entry.tag) named
 tags_kept old new named k h = All-weaker (λ (n : Named). IsTag old n.entry.tag) (λ (n : Named). IsTag new n.entry.tag) (λ n t. (k.tags n.entry.tag t).0) named h
 
 -- one entry more on spans
-pub spans_named : (old new : TagStates) (named : List Named) (e : Entry) (spans : List Span) → KeepsIds old new → All (λ n. IsTag old n.entry.tag) named → (state : List Write) (s : Stamp)
+pub spans_named : (old new : TagStates) (named : List Named) (e : TagEntry) (spans : List Span) → KeepsIds old new → All (λ n. IsTag old n.entry.tag) named → (state : List Write) (s : Stamp)
     → state_after state (writes_at new (entries_on (named ++ map (named_with e) (stamps_in spans)) s))
     ≡ state_after (state_after state (writes_at old (entries_on named s))) (cond (is_in_spans spans s) (write_at new e.tag e.writer e.on ∷ []) [])
 spans_named old new named e spans k h state s =
     let more : List Named = map (named_with e) (stamps_in spans) in
     ap (λ es. state_after state (writes_at new es)) (entries_append named more s)
-    ∙ ap (state_after state) (map-append (λ (e : Entry). write_at new e.tag e.writer e.on) (entries_on named s) (entries_on more s))
+    ∙ ap (state_after state) (map-append (λ (e : TagEntry). write_at new e.tag e.writer e.on) (entries_on named s) (entries_on more s))
     ∙ state_append state (writes_at new (entries_on named s)) (writes_at new (entries_on more s))
     ∙ ap (λ ws. state_after (state_after state ws) (writes_at new (entries_on more s))) (writes_kept old new named s k h)
     ∙ repeated new e s (stamps_in spans) (state_after state (writes_at old (entries_on named s)))
     ∙ ap (λ b. state_after (state_after state (writes_at old (entries_on named s))) (cond b (write_at new e.tag e.writer e.on ∷ []) [])) (spans_name spans s)
 
-pub tags_more : (old new : TagStates) (named : List Named) (e : Entry) (ss : List Stamp) → KeepsIds old new → All (λ n. IsTag old n.entry.tag) named → IsTag new e.tag
+pub tags_more : (old new : TagStates) (named : List Named) (e : TagEntry) (ss : List Stamp) → KeepsIds old new → All (λ n. IsTag old n.entry.tag) named → IsTag new e.tag
     → All (λ n. IsTag new n.entry.tag) (named ++ map (named_with e) ss)
 tags_more old new named e ss k h t =
     All-append (λ (n : Named). IsTag new n.entry.tag) named (map (named_with e) ss) (tags_kept old new named k h) (All-map (λ (n : Named). IsTag new n.entry.tag) (named_with e) ss (λ i d l. t))

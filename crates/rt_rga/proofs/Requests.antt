@@ -11,7 +11,7 @@ use Rattle.rt_rga.specs.Cells.{cells_of}
 use Rattle.rt_rga.specs.Drafts.{AreDraftsFor, IsDraftFor, next_operation, operations_of, with_drafts, with_operations}
 use Rattle.rt_rga.specs.Histories.{IsHistory, greatest_last_count, inserted, inserted_by}
 use Rattle.rt_rga.specs.Orders.{AreIn}
-use Rattle.rt_rga.specs.Requests.{AllMayBeAsked, MayBeAsked, MayBeMade, Make, Offer, Request, after_request, after_requests, characters_in, characters_in_all, last_count_after}
+use Rattle.rt_rga.specs.Requests.{AllMayBeAsked, MayBeAsked, MayBeMade, Make, Offer, ReplicaRequest, after_request, after_requests, characters_in, characters_in_all, last_count_after}
 use Rattle.rt_rga.proofs.Accepting.{history_if_new, new_if_continues, one_list}
 use Rattle.rt_rga.proofs.Changing.{length_text}
 use Rattle.rt_rga.proofs.Continuing.{sound_of}
@@ -100,14 +100,14 @@ drafted : (P : List Operation → Type 0) (b : Bool) (more set : List Operation)
 drafted P true more set h k = k refl
 drafted P false more set h k = h
 
-one_history : (site limit : ℕ) (request : Request) (set : List Operation) → 0 < site → IsHistory set → MayBeAsked site set request → IsHistory (after_request site limit request set)
+one_history : (site limit : ℕ) (request : ReplicaRequest) (set : List Operation) → 0 < site → IsHistory set → MayBeAsked site set request → IsHistory (after_request site limit request set)
 one_history site limit (Offer op) set p h m = offered IsHistory (answer_within limit op set) op set h
     (λ e. let (f, n) = new_within (nat_lt limit (length (cells_of set) + length (inserted op))) (answer_to op set) e in history_if_new set op h m n)
 one_history site limit (Make drafts) set p h m = drafted IsHistory (fits site limit drafts set) (with_drafts site drafts set) set h
     (λ e. let (a, b) = both (nat_le (last_count_after (greatest_last_count set) drafts) GREATEST_COUNT) (nat_le (length (cells_of (with_drafts site drafts set))) limit) e in
     (made site drafts set p h (drafts_for site set drafts m (grind (arith, nat_tests, a)))).history)
 
-one_room : (site limit : ℕ) (request : Request) (set : List Operation) → IsHistory set → MayBeAsked site set request → length (cells_of set) ≤ limit → length (cells_of (after_request site limit request set)) ≤ limit
+one_room : (site limit : ℕ) (request : ReplicaRequest) (set : List Operation) → IsHistory set → MayBeAsked site set request → length (cells_of set) ≤ limit → length (cells_of (after_request site limit request set)) ≤ limit
 one_room site limit (Offer op) set h m l = offered (λ s. length (cells_of s) ≤ limit) (answer_within limit op set) op set l (λ e. ((taken_within set op limit h m).0 e).1)
 one_room site limit (Make drafts) set h m l = drafted (λ s. length (cells_of s) ≤ limit) (fits site limit drafts set) (with_drafts site drafts set) set l
     (λ e. let (a, b) = both (nat_le (last_count_after (greatest_last_count set) drafts) GREATEST_COUNT) (nat_le (length (cells_of (with_drafts site drafts set))) limit) e in grind (arith, nat_tests, b))
@@ -116,28 +116,28 @@ more_in : (ops set : List Operation) (x : Operation) → HasOp set x → HasOp (
 more_in [] set x i = i
 more_in (op ∷ ops) set x i = more_in ops (with_operation op set) x (with_has op set x (inr i))
 
-one_in : (site limit : ℕ) (request : Request) (set : List Operation) (x : Operation) → HasOp set x → HasOp (after_request site limit request set) x
+one_in : (site limit : ℕ) (request : ReplicaRequest) (set : List Operation) (x : Operation) → HasOp set x → HasOp (after_request site limit request set) x
 one_in site limit (Offer op) set x i = offered (λ s. HasOp s x) (answer_within limit op set) op set i (λ e. with_has op set x (inr i))
 one_in site limit (Make drafts) set x i = drafted (λ s. HasOp s x) (fits site limit drafts set) (with_drafts site drafts set) set i (λ e. more_in (operations_of site drafts set) set x i)
 
 -- ALL REQUESTS
 
-pub all_history : (site limit : ℕ) (requests : List Request) (set : List Operation) → 0 < site → IsHistory set → AllMayBeAsked site limit set requests → IsHistory (after_requests site limit requests set)
+pub all_history : (site limit : ℕ) (requests : List ReplicaRequest) (set : List Operation) → 0 < site → IsHistory set → AllMayBeAsked site limit set requests → IsHistory (after_requests site limit requests set)
 all_history site limit [] set p h m = h
 all_history site limit (request ∷ requests) set p h m = all_history site limit requests (after_request site limit request set) p (one_history site limit request set p h m.0) m.1
 
-pub all_room : (site limit : ℕ) (requests : List Request) (set : List Operation) → 0 < site → IsHistory set → AllMayBeAsked site limit set requests
+pub all_room : (site limit : ℕ) (requests : List ReplicaRequest) (set : List Operation) → 0 < site → IsHistory set → AllMayBeAsked site limit set requests
     → length (cells_of set) ≤ limit → length (cells_of (after_requests site limit requests set)) ≤ limit
 all_room site limit [] set p h m l = l
 all_room site limit (request ∷ requests) set p h m l =
     all_room site limit requests (after_request site limit request set) p (one_history site limit request set p h m.0) m.1 (one_room site limit request set h m.0 l)
 
-pub all_in : (site limit : ℕ) (requests : List Request) (set : List Operation) → AreIn set (after_requests site limit requests set)
+pub all_in : (site limit : ℕ) (requests : List ReplicaRequest) (set : List Operation) → AreIn set (after_requests site limit requests set)
 all_in site limit [] set x i = i
 all_in site limit (request ∷ requests) set x i = all_in site limit requests (after_request site limit request set) x (one_in site limit request set x i)
 
 -- two sites that have the same operations
-pub all_agree : (site other limit most : ℕ) (asked more : List Request) → 0 < site → 0 < other → AllMayBeAsked site limit [] asked → AllMayBeAsked other most [] more
+pub all_agree : (site other limit most : ℕ) (asked more : List ReplicaRequest) → 0 < site → 0 < other → AllMayBeAsked site limit [] asked → AllMayBeAsked other most [] more
     → AreOf (after_requests site limit asked []) (after_requests other most more [])
     → cells_of (after_requests site limit asked []) ≡ cells_of (after_requests other most more [])
 all_agree site other limit most asked more p q m n same = ap cells_of (one_list (after_requests site limit asked []) (after_requests other most more []) (all_history site limit asked [] p tt m) (all_history other most more [] q tt n) same)

@@ -9,7 +9,7 @@ use Rattle.rt_store.specs.Cells.{cell_of, stamps_of, with_state}
 use Rattle.rt_store.specs.declared.cell.Cell.{Cell}
 use Rattle.rt_store.specs.Shown.{TaggedCell}
 use Rattle.rt_store.specs.Spans.{is_among, precedes}
-use Rattle.rt_tags.specs.declared.states.Entry.{Entry}
+use Rattle.rt_tags.specs.declared.states.TagEntry.{TagEntry}
 use Rattle.rt_tags.specs.States.{IsState, IsTag, TagStates, Write, state_at, writes_at}
 use Rattle.rt_tags.specs.Writers.{state_after}
 use Rattle.rt_rga.specs.Cells.{writes_by}
@@ -61,19 +61,19 @@ AreSound ops = AllByRecursion (λ op. has_bad_stamp op ≡ false) ops
 -- ON THE WAY
 
 -- an entry of a table on the character of a stamp
-abbrev pub named_with : Entry → Stamp → Named
+abbrev pub named_with : TagEntry → Stamp → Named
 named_with entry stamp = record { stamp = stamp; entry = entry }
 
 -- the entries on a character, the oldest first
-abbrev pub entries_on : List Named → Stamp → List Entry
+abbrev pub entries_on : List Named → Stamp → List TagEntry
 entries_on named stamp = map (λ n. n.entry) (filter (λ n. is_same n.stamp stamp) named)
 
 -- those of the writes in front that are on a character
-abbrev pub entries_in_front : List Named → Stamp → List Entry
+abbrev pub entries_in_front : List Named → Stamp → List TagEntry
 entries_in_front named stamp = map (λ n. n.entry) (take_while (λ n. is_same n.stamp stamp) named)
 
 -- the entry of a write, if there is one and it is on a character
-abbrev pub entry_if : Stamp → Option Named → Option Entry
+abbrev pub entry_if : Stamp → Option Named → Option TagEntry
 entry_if stamp None = None
 entry_if stamp (Some n) = if is_same n.stamp stamp then Some n.entry else None
 
@@ -98,7 +98,7 @@ abbrev pub IsCopied : List (Cell ℕ) → List (Cell ℕ) → Stamp → Type 0
 IsCopied cells copies stamp = is_among (stamps_of cells) stamp ≡ true → is_among (stamps_of copies) stamp ≡ true
 
 -- what a state came into by entries
-pub record IsWritten (table : TagStates) (last : Written) : Type 0 where
+pub record WrittenIsGiven (table : TagStates) (last : Written) : Type 0 where
   pub before : IsState table last.before
   pub tags : All (λ e. IsTag table e.tag) last.entries.items
   pub after : IsState table last.after

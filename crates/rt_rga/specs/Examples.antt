@@ -1,22 +1,19 @@
 -- The operations of the worked examples. Site 1 wrote `ab`, so `a` is (1,1) and `b` is (2,1).
 use Rattle.std.specs.Prelude.{ℕ, Bool, false, true, List, [], ◌∷◌, codes, map, slice_index_or}
-use Rattle.rt_stamps.specs.declared.stamp.Span.{Span}
 use Rattle.rt_stamps.specs.declared.stamp.Stamp.{Stamp}
 use Rattle.rt_stamps.specs.declared.stamp.TheConstants.{ROOT}
 use Rattle.rt_store.specs.Cells.{text_of, visible_of}
 use Rattle.rt_tags.specs.States.{is_on}
 use Rattle.rt_ops.specs.Operations.{Name, Operation, Insert, Delete, Tag}
+use Rattle.rt_ops.specs.Examples.{span}
 use Rattle.rt_rga.specs.Answers.{all_taken}
 use Rattle.rt_rga.specs.Cells.{cells_of}
-use Rattle.rt_rga.specs.Requests.{Make, Offer, Request}
+use Rattle.rt_rga.specs.Requests.{Make, Offer, ReplicaRequest}
 use Rattle.rt_store.specs.Shown.{TaggedCell}
 use Rattle.rt_rga.specs.Texts.{TaggedCharacter, tagged_text}
 
 abbrev pub at : ℕ → ℕ → Stamp
 at count site = record { count = count; site = site }
-
-abbrev pub span : ℕ → ℕ → ℕ → Span
-span site first last = record { site = site; first = first; last = last }
 
 -- the cells after operations were offered one after the other, the visible text, and where the tag `t` is on
 abbrev pub cells_after : List Operation → List TaggedCell
@@ -100,5 +97,5 @@ abbrev pub insert_after_zero : Operation
 insert_after_zero = record { count = 1; site = 1; prev = 0; body = Insert (at 0 5) [] (codes "a") }
 
 -- site 1 writes `ab`, is offered `Y` of site 2 and its own `ab`, and writes `XX` behind `a`
-abbrev pub asked_of_1 : List Request
+abbrev pub asked_of_1 : List ReplicaRequest
 asked_of_1 = Make (insert_ab.body ∷ []) ∷ Offer insert_y ∷ Offer insert_ab ∷ Make (insert_xx.body ∷ []) ∷ []

@@ -37,7 +37,7 @@ pub record IsWithin (log : List Operation) (table : TagStates) (kept : List (Cel
 
 -- what a replica keeps to: it is within its limit, what its store keeps of tags is right by its table of states, and so is what is
 -- noted by its log
-pub record IsSound (Within Agrees Noted : Type 0) : Type 0 where
+pub record ReplicaIsSound (Within Agrees Noted : Type 0) : Type 0 where
   pub within : Within
   pub agrees : Agrees
   pub noted : Noted

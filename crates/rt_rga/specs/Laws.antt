@@ -27,7 +27,7 @@ use Rattle.rt_rga.specs.Drafts.{AreDraftsFor, IsDraftFor, all_changed, next_oper
 use Rattle.rt_rga.specs.Made.{refusal_of, unless_refused}
 use Rattle.rt_rga.specs.Orders.{AreIn, ComeInTime, HasBasesIn}
 use Rattle.rt_rga.specs.Replicas.{IsReplica}
-use Rattle.rt_rga.specs.Requests.{AllMayBeAsked, Make, MayBeMade, Offer, Request, after_request, after_requests, characters_in_all, last_count_after}
+use Rattle.rt_rga.specs.Requests.{AllMayBeAsked, Make, MayBeMade, Offer, ReplicaRequest, after_request, after_requests, characters_in_all, last_count_after}
 use Rattle.rt_store.specs.Shown.{TaggedCell, shown}
 use Rattle.rt_store.specs.Spans.{gone_in_any, is_among, is_in_spans}
 use Rattle.rt_rga.specs.Texts.{tagged_text}
@@ -145,19 +145,19 @@ FullHasNone =
 
 abbrev pub RequestsLeaveHistory : Type 0
 RequestsLeaveHistory =
-    (site limit : ℕ) (requests : List Request) (set : List Operation) → 0 < site → IsHistory set
+    (site limit : ℕ) (requests : List ReplicaRequest) (set : List Operation) → 0 < site → IsHistory set
     → AllMayBeAsked site limit set requests → IsHistory (after_requests site limit requests set)
 
 abbrev pub RequestsKeepLimit : Type 0
 RequestsKeepLimit =
-    (site limit : ℕ) (requests : List Request) (set : List Operation) → 0 < site → IsHistory set
+    (site limit : ℕ) (requests : List ReplicaRequest) (set : List Operation) → 0 < site → IsHistory set
     → AllMayBeAsked site limit set requests → length (cells_of set) ≤ limit
     → length (cells_of (after_requests site limit requests set)) ≤ limit
 
 -- Two sites that were asked whatever it was, and have the same operations.
 abbrev pub SitesAgree : Type 0
 SitesAgree =
-    (site other limit most : ℕ) (asked more : List Request) → 0 < site → 0 < other
+    (site other limit most : ℕ) (asked more : List ReplicaRequest) → 0 < site → 0 < other
     → AllMayBeAsked site limit [] asked → AllMayBeAsked other most [] more
     → AreOf (after_requests site limit asked []) (after_requests other most more [])
     → cells_of (after_requests site limit asked []) ≡ cells_of (after_requests other most more [])

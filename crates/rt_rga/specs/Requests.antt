@@ -12,9 +12,9 @@ use Rattle.rt_rga.specs.Drafts.{next_operation, with_drafts}
 use Rattle.rt_rga.specs.Histories.{greatest_last_count, is_known}
 
 -- an operation is offered, or operations of the site's own are made from drafts
-pub data Request : Type 0 where
-  Offer : (op : Operation) → Request
-  Make : (drafts : List Body) → Request
+pub data ReplicaRequest : Type 0 where
+  Offer : (op : Operation) → ReplicaRequest
+  Make : (drafts : List Body) → ReplicaRequest
 
 -- the last count of drafts, where the first begins one above a count, and each other one above the one before it
 abbrev pub last_count_after : ℕ → List Body → ℕ
@@ -41,11 +41,11 @@ abbrev pub made_within : ℕ → ℕ → List Body → List Operation → List O
 made_within site limit drafts set = if fit site limit drafts set then with_drafts site drafts set else set
 
 -- the set after a request to the replica of a site that keeps at most so many cells
-abbrev pub after_request : ℕ → ℕ → Request → List Operation → List Operation
+abbrev pub after_request : ℕ → ℕ → ReplicaRequest → List Operation → List Operation
 after_request site limit (Offer op) set = set_after (answer_within limit op set) op set
 after_request site limit (Make drafts) set = made_within site limit drafts set
 
-abbrev pub after_requests : ℕ → ℕ → List Request → List Operation → List Operation
+abbrev pub after_requests : ℕ → ℕ → List ReplicaRequest → List Operation → List Operation
 after_requests site limit [] set = set
 after_requests site limit (request ∷ requests) set = after_requests site limit requests (after_request site limit request set)
 
@@ -59,10 +59,10 @@ MayBeMade site set (draft ∷ drafts) =
     × MayBeMade site (with_operation (next_operation site draft set) set) drafts
 
 -- an offered operation keeps the rules too, and may otherwise be any
-abbrev pub MayBeAsked : ℕ → List Operation → Request → Type 0
+abbrev pub MayBeAsked : ℕ → List Operation → ReplicaRequest → Type 0
 MayBeAsked site set (Offer op) = keeps_rules op.body ≡ true
 MayBeAsked site set (Make drafts) = MayBeMade site set drafts
 
-abbrev pub AllMayBeAsked : ℕ → ℕ → List Operation → List Request → Type 0
+abbrev pub AllMayBeAsked : ℕ → ℕ → List Operation → List ReplicaRequest → Type 0
 AllMayBeAsked site limit set [] = Unit {0}
 AllMayBeAsked site limit set (request ∷ requests) = MayBeAsked site set request × AllMayBeAsked site limit (after_request site limit request set) requests

@@ -5,7 +5,7 @@ ghost use Rattle.rt_stamps.specs.declared.stamp.Stamp.{Stamp as StampOf};
 ghost use Rattle.rt_stamps.specs.declared.stamp.TheConstants.{FINAL};
 ghost use Rattle.rt_stamps.specs.Words.{as_words};
 ghost use Rattle.rt_ops.specs.Operations.{Insert, Name, Operation, stamp_of};
-ghost use Rattle.rt_store.specs.Cells.{AreDistinct, IsPlaced, visible_before, visible_of};
+ghost use Rattle.rt_store.specs.Cells.{AreDistinct, IsPlaced, visible_of};
 ghost use Rattle.rt_store.specs.Shown.{TaggedCell, shown};
 ghost use Rattle.rt_tags.specs.States.{KeepsIds, TagStates};
 ghost use Rattle.rt_rga.specs.Cells.{deletes};
@@ -23,21 +23,10 @@ use rt_tags::StateTable;
 use std::alloc::Global;
 use std::slice;
 
-/// How many visible cells stand before a position.
-fn place_at<S: TextStore>(store: &S, position: usize) -> usize
-    requires within { position < length (S.list store.now) }
-    requires distinct { AreDistinct (S.list store.now) }
-    ensures { result ≡ visible_before (S.list store.now) position }
-{
-    let next = store.nth(position);
-    store.place_of(next.stamp).unwrap()
-}
-
 /// The place of the first character that an operation will insert, 0 if it inserts none.
 fn place_in<S: TextStore>(store: &S, op: &Op) -> usize
     requires placed { (after : StampOf) (tags : List Name) (text : List ℕ) → op.now.body ≡ Insert after tags text
         → IsPlaced (S.list store.now) after (stamp_of op.now) }
-    requires distinct { AreDistinct (S.list store.now) }
     ensures { result ≡ place_in op.now (S.list store.now) }
 {
     match op.edit() {
@@ -45,7 +34,7 @@ fn place_in<S: TextStore>(store: &S, op: &Op) -> usize
             after,
             tags: _,
             text: _,
-        } => place_at(store, store.after_skip(*after, op.stamp())),
+        } => store.visible_before(store.after_skip(*after, op.stamp())),
         Edit::Delete { spans: _ } => 0,
         Edit::Tag {
             on: _,
@@ -62,13 +51,12 @@ pub(crate) fn insertion_at<S: TextStore>(
     stamp: Stamp,
     after: Stamp,
 ) -> Change
-    requires placed { IsPlaced (S.list store.now) after stamp }
-    requires distinct { AreDistinct (S.list store.now) }
+    requires { IsPlaced (S.list store.now) after stamp }
     ensures { (table : TagStates) (op : Operation) (character : ℕ) → stamp_of op ≡ stamp → op.body ≡ Insert after [] (character ∷ [])
         → IsChange op (map (shown table) (S.list store.now)) result }
 {
     Change {
-        place: place_at(store, store.after_skip(after, stamp)),
+        place: store.visible_before(store.after_skip(after, stamp)),
         inserted: 1,
         removed: Vec::new(alloc),
         retagged: Vec::new(alloc),

@@ -20,6 +20,29 @@ use rt_store::TextStore;
 use rt_tags::{StateId, StateTable};
 use std::alloc::Global;
 
+/// The first stamp that an edit names, if it names one.
+#[inline(always)]
+pub(crate) fn first_named(edit: &Edit) -> Option<Stamp> {
+    let spans = match edit {
+        Edit::Insert {
+            after,
+            tags: _,
+            text: _,
+        } => return Some(*after),
+        Edit::Delete { spans } => spans,
+        Edit::Tag {
+            on: _,
+            name: _,
+            spans,
+        } => spans,
+    };
+    let span = spans.first()?;
+    Some(Stamp {
+        count: span.first,
+        site: span.site,
+    })
+}
+
 /// Makes the cells of spans gone; the final newline is in none of them. Takes no memory.
 pub(crate) fn set_all_gone<S: TextStore>(store: &mut S, states: &StateTable, spans: &[Span])
     requires states { S.agrees store.old states.now }

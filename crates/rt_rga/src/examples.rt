@@ -4,13 +4,14 @@ ghost use Rattle.rt_stamps.specs.declared.fault.Fault.TheVariants.{BadStamp, Bad
 ghost use Rattle.rt_store.specs.Cells.{text_of};
 ghost use Rattle.rt_ops.specs.Operations.{Delete};
 ghost use Rattle.rt_oplog.specs.Logs.{joined};
+ghost use Rattle.rt_ops.specs.Examples.{span};
 ghost use Rattle.rt_rga.specs.Answers.{New, Refused, Repeat, answer_to, answer_within};
 ghost use Rattle.rt_rga.specs.Cells.{cells_of};
 ghost use Rattle.rt_rga.specs.Changes.{changed};
 ghost use Rattle.rt_rga.specs.Drafts.{next_operation};
 ghost use Rattle.rt_rga.specs.Orders.{is_made_upon};
 ghost use Rattle.rt_rga.specs.Requests.{Make, after_requests};
-ghost use Rattle.rt_rga.specs.Examples.{asked_of_1, cells_after, delete_b, delete_final, insert_ab, insert_after_delete, insert_after_itself, insert_after_zero, insert_b, insert_q, insert_tagged_ab, insert_xx, insert_y, insert_z, only_t, span, tag_final, tag_off_by_1, tag_off_by_2, tag_off_by_2_later, tag_on_by_1, tagged, tagged_after, text_after, text_with_tags};
+ghost use Rattle.rt_rga.specs.Examples.{asked_of_1, cells_after, delete_b, delete_final, insert_ab, insert_after_delete, insert_after_itself, insert_after_zero, insert_b, insert_q, insert_tagged_ab, insert_xx, insert_y, insert_z, only_t, tag_final, tag_off_by_1, tag_off_by_2, tag_off_by_2_later, tag_on_by_1, tagged, tagged_after, text_after, text_with_tags};
 
 /// Two sites insert at one place: the greater stamp stands first, at each site, in whatever order they
 /// come. An insertion beside a character that another site removed keeps its place.

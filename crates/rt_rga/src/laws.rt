@@ -18,7 +18,7 @@ ghost use Rattle.rt_rga.specs.Changes.{changed};
 ghost use Rattle.rt_rga.specs.Answers.{New, Repeat, all_taken, answer_to, answer_within};
 ghost use Rattle.rt_rga.specs.Orders.{AreIn, ComeInTime};
 ghost use Rattle.rt_rga.specs.Replicas.{IsReplica};
-ghost use Rattle.rt_rga.specs.Requests.{Request, after_requests};
+ghost use Rattle.rt_rga.specs.Requests.{ReplicaRequest, after_requests};
 ghost use Rattle.rt_rga.specs.Texts.{tagged_text};
 ghost use Rattle.rt_store.specs.Spans.{is_among};
 ghost use Rattle.rt_store.specs.Shown.{TaggedCell};
@@ -78,7 +78,7 @@ pub fn requests()
     ensures history { RequestsLeaveHistory }
     ensures limit { RequestsKeepLimit }
     ensures agree { SitesAgree }
-    ensures kept { (site limit : ℕ) (requests : List Request) (set : List Operation) → AreIn set (after_requests site limit requests set) }
+    ensures kept { (site limit : ℕ) (requests : List ReplicaRequest) (set : List Operation) → AreIn set (after_requests site limit requests set) }
     ensures makes { RequestsMakeUnlessRefused }
 {}
 

@@ -8,6 +8,7 @@ mod edits;
 pub mod examples;
 mod extent;
 pub mod laws;
+mod logging;
 mod make;
 mod named;
 mod new_cells;

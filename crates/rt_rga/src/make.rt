@@ -9,11 +9,9 @@ ghost use Rattle.rt_store.specs.Cells.{HasRoom, Spends};
 ghost use Rattle.rt_store.specs.Shown.{shown};
 ghost use Rattle.rt_store.specs.Tagged.{AreStates};
 ghost use Rattle.rt_tags.specs.States.{KeepsIds, TagStates};
-ghost use Rattle.rt_oplog.specs.Logs.{with_operation};
 ghost use Rattle.rt_rga.specs.Drafts.{ContinueInTurn, with_operations};
 ghost use Rattle.rt_rga.specs.Noted.{AreNotedOf};
 ghost use Rattle.rt_rga.specs.OneOrMany.{items_in};
-ghost use Rattle.rt_rga.specs.Histories.{Continues, greatest_last_count};
 ghost use Rattle.rt_rga.specs.Made.{RefusesFor, refusal_from};
 ghost use Rattle.rt_rga.specs.Making.{AreNewest, CanAllBePut, CanBePut, cuts_by, cuts_of, fresh_by, fresh_cells, kept_after, operations_from, put_by_kept};
 ghost use Rattle.rt_rga.specs.Requests.{characters_in, last_count_after};
@@ -28,7 +26,7 @@ use crate::plan::planned_states;
 use crate::tagging::put_states;
 use crate::taken::Change;
 use rt_oplog::{Edit, Op, OpLog};
-use rt_stamps::{Clock, Fault, ROOT, Stamp, count_after};
+use rt_stamps::{Fault, ROOT, Stamp, count_after};
 use rt_store::{Cell, TextStore};
 use rt_tags::{StateId, StateTable};
 use std::alloc::Global;
@@ -369,52 +367,6 @@ pub(crate) fn make_room<S: TextStore>(
     match cuts(ops, runs) {
         Some(cuts) => store.reserve(cells, cuts, states.tags()),
         None => Err(Fault::NoMemory),
-    }
-}
-
-// Logs an operation that is newer than all before it, and continues the log, where there is room.
-#[inline(always)]
-fn push_newest(log: &mut OpLog, clock: &mut Clock, op: Op)
-    requires continues { Continues log.old.operations op }
-    requires newest { greatest_last_count log.old.operations < op.count }
-    requires room { 0 < log.old.room }
-    requires seen { clock.old ≡ greatest_last_count log.old.operations }
-    ensures operations { log.new.operations ≡ with_operation op log.old.operations }
-    ensures room { log.old.room ≤ log.new.room + 1 }
-    ensures seen { clock.new ≡ greatest_last_count log.new.operations }
-{
-    clock.saw(op.last_count());
-    log.append(op);
-}
-
-// Logs the operations of a list, as `push_newest` does one.
-fn push_all(log: &mut OpLog, clock: &mut Clock, ops: Vec<Op>)
-    requires continues { ContinueInTurn log.old.operations ops.items }
-    requires newest { AreNewest log.old.operations ops.items }
-    requires room { length ops.items ≤ log.old.room }
-    requires seen { clock.old ≡ greatest_last_count log.old.operations }
-    ensures operations { log.new.operations ≡ with_operations ops.items log.old.operations }
-    ensures seen { clock.new ≡ greatest_last_count log.new.operations }
-{
-    for op in ops {
-        push_newest(log, clock, op);
-    }
-}
-
-/// Logs operations that are newer than all before them, each of which continues the log with those before it, where
-/// there is room.
-#[inline(always)]
-pub(crate) fn push_few(log: &mut OpLog, clock: &mut Clock, ops: OneOrMany<Op>)
-    requires continues { ContinueInTurn log.old.operations (items_in ops) }
-    requires newest { AreNewest log.old.operations (items_in ops) }
-    requires room { length (items_in ops) ≤ log.old.room }
-    requires seen { clock.old ≡ greatest_last_count log.old.operations }
-    ensures operations { log.new.operations ≡ with_operations (items_in ops) log.old.operations }
-    ensures seen { clock.new ≡ greatest_last_count log.new.operations }
-{
-    match ops {
-        OneOrMany::One(op) => push_newest(log, clock, op),
-        OneOrMany::Many(ops) => push_all(log, clock, ops),
     }
 }
 

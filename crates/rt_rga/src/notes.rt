@@ -97,7 +97,8 @@ impl Notes {
         requires placed { IsPlaced (S.list store.now) after stamp }
         requires distinct { AreDistinct (S.list store.now) }
         ensures { IfSome result (λ changes. (log : List Operation) (table : TagStates) (op : Operation) (character : ℕ) → stamp_of op ≡ stamp
-            → op.body ≡ Insert after [] (character ∷ []) → map (shown table) (S.list store.now) ≡ cells_of log → AreNotedOf log (op ∷ []) changes.items) }
+            → op.body ≡ Insert after [] (character ∷ []) → map (shown table) (S.list store.now) ≡ cells_of log
+            → AreNotedOf log (op ∷ []) changes.items) }
     {
         if !self.are_kept() {
             return None;

@@ -12,25 +12,25 @@ ghost use Rattle.rt_store.specs.Spans.{is_among};
 ghost use Rattle.rt_store.specs.Tagged.{AreStates};
 ghost use Rattle.rt_tags.specs.States.{IsState, IsTag, KeepsIds, Write, state_at, writes_at};
 ghost use Rattle.rt_tags.specs.Writers.{state_after};
-ghost use Rattle.rt_rga.specs.Batches.{AreByStamp, CountsRise, IsCopied, IsWritten, HasEntries, after_tags, entries_in_front, entries_on, entry_if, named_with, tag_writes, tag_writes_by};
+ghost use Rattle.rt_rga.specs.Batches.{AreByStamp, CountsRise, IsCopied, WrittenIsGiven, HasEntries, after_tags, entries_in_front, entries_on, entry_if, named_with, tag_writes, tag_writes_by};
 ghost use Rattle.rt_rga.specs.Runs.{put_back, put_back_in_any};
 
 use crate::tagging::{StateRun, push_found, state_runs};
 use rt_oplog::{Edit, Op};
 use rt_stamps::{Fault, Span, Stamp};
 use rt_store::{Cell, TextStore};
-use rt_tags::{Entry, StateId, StateTable};
+use rt_tags::{StateId, StateTable, TagEntry};
 use std::alloc::Global;
 
 /// A write of a tag on the character of a stamp.
 #[derive(Clone, Copy)]
 struct Named {
     stamp: Stamp,
-    entry: Entry,
+    entry: TagEntry,
 }
 
 /// Adds a write on each character of a span. Want of memory.
-fn push_span(span: Span, entry: &Entry, named: &mut Vec<Named>) -> Result<(), Fault>
+fn push_span(span: Span, entry: &TagEntry, named: &mut Vec<Named>) -> Result<(), Fault>
     ensures ok { OnOk result (named.new.items ≡ named.old.items ++ map (named_with entry.now) (stamps_of_span span)) }
     ensures fault { IsOkUnless result Fault.NoMemory }
 {
@@ -48,7 +48,7 @@ fn push_span(span: Span, entry: &Entry, named: &mut Vec<Named>) -> Result<(), Fa
 }
 
 /// Adds a write on each character of spans. Want of memory.
-fn push_spans(spans: &[Span], entry: &Entry, named: &mut Vec<Named>) -> Result<(), Fault>
+fn push_spans(spans: &[Span], entry: &TagEntry, named: &mut Vec<Named>) -> Result<(), Fault>
     ensures ok { OnOk result (named.new.items ≡ named.old.items ++ map (named_with entry.now) (stamps_in spans.now)) }
     ensures fault { IsOkUnless result Fault.NoMemory }
 {
@@ -71,7 +71,7 @@ fn push_named(states: &mut StateTable, op: &Op, named: &mut Vec<Named>) -> Resul
     match op.edit() {
         Edit::Tag { on, name, spans } => {
             let tag = states.number(name)?;
-            let entry = Entry {
+            let entry = TagEntry {
                 tag,
                 writer: op.stamp(),
                 on: *on,
@@ -115,12 +115,12 @@ fn put_in_order(named: &mut Vec<Named>) -> Result<(), Fault>
 #[derive(Drop)]
 struct Written {
     before: StateId,
-    entries: Vec<Entry>,
+    entries: Vec<TagEntry>,
     after: StateId,
 }
 
 /// The entries of the writes in front that are on one character. Want of memory.
-fn entries_in_front(alloc: Global, named: &[Named], stamp: Stamp) -> Result<Vec<Entry>, Fault>
+fn entries_in_front(alloc: Global, named: &[Named], stamp: Stamp) -> Result<Vec<TagEntry>, Fault>
     ensures entries { IfOk result (λ entries. entries.items ≡ entries_in_front named.now stamp) }
     ensures fault { IsOkUnless result Fault.NoMemory }
 {
@@ -135,7 +135,7 @@ fn entries_in_front(alloc: Global, named: &[Named], stamp: Stamp) -> Result<Vec<
 }
 
 /// The entry of the write at a place, if that is on a character.
-fn entry_at(named: &[Named], at: usize, stamp: Stamp) -> Option<Entry>
+fn entry_at(named: &[Named], at: usize, stamp: Stamp) -> Option<TagEntry>
     ensures { result ≡ entry_if stamp (slice_get named.now at) }
 {
     match named.get(at) {
@@ -145,7 +145,7 @@ fn entry_at(named: &[Named], at: usize, stamp: Stamp) -> Option<Entry>
 }
 
 /// Whether the writes in front that are on one character have these entries.
-fn are_in_front(named: &[Named], stamp: Stamp, entries: &[Entry]) -> bool
+fn are_in_front(named: &[Named], stamp: Stamp, entries: &[TagEntry]) -> bool
     ensures { Decides result (entries_in_front named.now stamp ≡ entries.now) }
 {
     for (at, entry) in entries.iter().enumerate() {
@@ -168,11 +168,11 @@ fn new_state(
 ) -> Result<StateId, Fault>
     requires before { IsState states.old before }
     requires tags { All (λ e. IsTag states.old e.tag) (entries_in_front named.now stamp) }
-    requires last { IsWritten states.old last.old }
+    requires last { WrittenIsGiven states.old last.old }
     ensures given { IfOk result (IsState states.new) }
     ensures state { IfOk result (λ id. state_at states.new id
         ≡ state_after (state_at states.old before) (writes_at states.old (entries_in_front named.now stamp))) }
-    ensures last { OnOk result (IsWritten states.new last.new) }
+    ensures last { OnOk result (WrittenIsGiven states.new last.new) }
     ensures ids { KeepsIds states.old states.new }
     ensures fault { IsOkUnless result Fault.NoMemory }
 {
@@ -225,13 +225,13 @@ fn written_cell<S: TextStore>(
     requires tags { All (λ n. IsTag states.old n.entry.tag) named.now }
     requires counts { CountsRise new.now }
     requires states { AreStates states.old (new.now ++ S.list store.now) }
-    requires last { IsWritten states.old last.old }
+    requires last { WrittenIsGiven states.old last.old }
     ensures stamp { IfOk result (λ found. IfSome found (λ copy. (n : Named) → copy.stamp ≡ (slice_index_or named.now at n).stamp)) }
     ensures written { IfOk result (λ found. IfSome found (HasEntries states.old named.now (new.now ++ S.list store.now) states.new)) }
     ensures none { IfOk result (λ found. IfNone found ((n : Named)
         → ((0 < at) × ((slice_index_or named.now (at - 1) n).stamp ≡ (slice_index_or named.now at n).stamp))
         ⊎ (cell_of (new.now ++ S.list store.now) (slice_index_or named.now at n).stamp ≡ None))) }
-    ensures last { OnOk result (IsWritten states.new last.new) }
+    ensures last { OnOk result (WrittenIsGiven states.new last.new) }
     ensures ids { KeepsIds states.old states.new }
     ensures fault { IsOkUnless result Fault.NoMemory }
 {

@@ -25,8 +25,9 @@ use crate::Draft;
 use crate::answer::{Offer, answer_within, has_gap};
 use crate::character::{push_character, put_character};
 use crate::describe::describe;
-use crate::edits::change;
-use crate::make::{copied, list_of, prepared, push_few};
+use crate::edits::{change, first_named};
+use crate::logging::{push_few, push_next};
+use crate::make::{copied, list_of, prepared};
 use crate::notes::Notes;
 use crate::one_or_many::OneOrMany;
 use crate::taken::Change;
@@ -69,7 +70,7 @@ impl<S: TextStore> Drop for Replica<S> {
 
 impl<S: TextStore> Model for Replica<S> {
     ghost use Rattle.std.specs.Prelude.{map};
-    ghost use Rattle.rt_rga.specs.Kept.{IsSound, IsWithin, ReplicaValue};
+    ghost use Rattle.rt_rga.specs.Kept.{ReplicaIsSound, IsWithin, ReplicaValue};
     ghost use Rattle.rt_rga.specs.Noted.{AreNotes};
     ghost use Rattle.rt_store.specs.Shown.{shown};
 
@@ -83,7 +84,7 @@ impl<S: TextStore> Model for Replica<S> {
       limit = r.limit;
     } };
 
-    ghost invariant = { λ r. IsSound (IsWithin r.log.operations r.states (S.list r.store) r.clock r.limit) (S.agrees r.store r.states)
+    ghost invariant = { λ r. ReplicaIsSound (IsWithin r.log.operations r.states (S.list r.store) r.clock r.limit) (S.agrees r.store r.states)
         (AreNotes r.notes r.log.operations) };
 }
 
@@ -215,6 +216,33 @@ impl<S: TextStore> Replica<S> {
         ensures limit { self.new.limit ≡ self.old.limit }
         ensures ids { KeepsIds self.old.table self.new.table }
     {
+        self.focus_on(&op);
+        self.take_next(op)
+    }
+
+    // Says that what follows is about the text around the first character that an operation names.
+    #[inline(always)]
+    fn focus_on(&mut self, op: &Op)
+        ensures { self.new ≡ self.old }
+    {
+        if let Some(stamp) = first_named(op.edit()) {
+            self.store.focus_on(stamp);
+        }
+    }
+
+    // Takes an operation, as `take` does.
+    #[inline(always)]
+    fn take_next(&mut self, op: Op) -> Result<Change, Op>
+        requires continues { Continues self.old.log op }
+        requires room { length self.old.cells + length (inserted op) ≤ self.old.limit }
+        ensures log { OnOk result (self.new.log ≡ with_operation op self.old.log) }
+        ensures change { IfOk result (IsChange op self.old.cells) }
+        ensures same { OnErr result (self.new ≡ record self.old { table = self.new.table }) }
+        ensures back { IfErr result (λ back. back ≡ op) }
+        ensures site { self.new.site ≡ self.old.site }
+        ensures limit { self.new.limit ≡ self.old.limit }
+        ensures ids { KeepsIds self.old.table self.new.table }
+    {
         if self.log.reserve(1).is_err() {
             return Err(op);
         }
@@ -233,8 +261,7 @@ impl<S: TextStore> Replica<S> {
         {
             return Err(op);
         }
-        self.clock.saw(op.last_count());
-        let _added = self.log.push(op);
+        push_next(&mut self.log, &mut self.clock, op);
         self.notes.lose();
         Ok(told)
     }

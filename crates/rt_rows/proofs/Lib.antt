@@ -1,2 +1,2 @@
 pub mod InRows
-pub mod TypedRows
+pub mod Following

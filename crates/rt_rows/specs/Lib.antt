@@ -1,4 +1,4 @@
 pub mod Places
 pub mod Stored
-pub mod TypedRows
+pub mod Rows
 pub mod Views

@@ -1,13 +1,12 @@
-//! Operations in rows, where what a site typed one after the other is kept as one text.
+//! Operations in rows, where what a site typed or deleted one after the other is kept as one.
 #![tactic(auto)]
 
+mod deletes;
 pub mod laws;
 mod row;
 pub mod rows;
+pub mod single;
 mod stored;
-pub mod typed;
-pub mod view;
 
 pub use rows::{RowPlace, Rows};
-pub use typed::TypedOp;
-pub use view::{OpView, typed_op};
+pub use single::TypedOp;

@@ -1,44 +1,113 @@
 // Rows of typed characters.
-ghost use Rattle.std.specs.Prelude.{◌≡◌, ℕ, ◌+◌, ◌-◌, ◌<◌, ◌≤◌, ◌∷◌, [], ◌++◌, IfNone, IfSome, length, slice_index_or, IsOkUnless};
+ghost use Rattle.std.specs.Prelude.{◌≡◌, ℕ, ◌+◌, ◌-◌, ◌<◌, ◌≤◌, ◌∷◌, [], ◌++◌, IfNone, IfSome, length, slice_get, slice_index_or, Some, IsOkUnless, true};
 ghost use Rattle.rt_stamps.specs.declared.fault.Fault.TheVariants.{NoMemory};
 ghost use Rattle.rt_stamps.specs.declared.limits.TheConstants.{GREATEST_COUNT};
-ghost use Rattle.rt_ops.specs.Operations.{stamp_of};
+ghost use Rattle.rt_ops.specs.Operations.{Operation, stamp_of};
+ghost use Rattle.rt_ops.specs.Rules.{is_text, keeps_rules};
+ghost use Rattle.rt_ops.specs.Views.{body_in};
+ghost use Rattle.rt_rows.specs.Places.{nothing};
+ghost use Rattle.rt_rows.specs.Rows.{after_in, follows, is_next_of_row, operations_in_row, prev_in, stamp_in, row_with};
 ghost use Rattle.rt_rows.specs.Views.{operation_in, operation_typed};
-ghost use Rattle.rt_rows.specs.TypedRows.{nth, prev_at, after_at, operations_in_row, with_character, is_next, last_stamp};
 
-use crate::{OpView, TypedOp};
-use rt_stamps::{Fault, Stamp};
+use crate::TypedOp;
+use rt_ops::{EditView, OpView};
+use rt_stamps::{Fault, ROOT, Stamp};
 use smallvec::SmallVec;
 use std::alloc::Global;
 use std::marker::Model;
+use std::slice;
 
-/// Characters without tags that a site typed in a row: the first one's stamp, previous count and left element, and the
-/// characters, of which up to four take no memory of their own.
-#[derive(Drop)]
-pub(crate) struct Row {
+/// Where a row begins: the stamp and the previous count of its first operation.
+#[derive(Clone, Copy)]
+pub(crate) struct RowStart {
     count: u64,
     prev: u64,
     site: u32,
+}
+
+impl RowStart {
+    /// Where a row begins with an operation of this stamp and previous count.
+    pub(crate) fn of(stamp: Stamp, prev: u64) -> RowStart
+        ensures { result ≡ record { count = stamp.count; prev = prev; site = stamp.site } }
+    {
+        RowStart {
+            count: stamp.count,
+            prev,
+            site: stamp.site,
+        }
+    }
+
+    /// The stamp at a place of the row.
+    pub(crate) fn stamp_at(self, place: usize) -> Stamp
+        requires { self.count + place ≤ GREATEST_COUNT }
+        ensures { result ≡ stamp_in self place }
+    {
+        Stamp {
+            count: self.count + place as u64,
+            site: self.site,
+        }
+    }
+
+    /// The previous count at a place of the row.
+    pub(crate) fn prev_at(self, place: usize) -> u64
+        requires { self.count + place ≤ GREATEST_COUNT }
+        ensures { result ≡ prev_in self place }
+    {
+        if place == 0 {
+            return self.prev;
+        }
+        self.count + (place as u64 - 1)
+    }
+
+    /// Whether a stamp and a previous count are those of the next operation of a row of so many.
+    pub(crate) fn goes_on(self, many: usize, stamp: Stamp, prev: u64) -> bool
+        requires some { 0 < many }
+        requires counts { self.count + many ≤ GREATEST_COUNT + 1 }
+        ensures { (op : Operation) → stamp_of op ≡ stamp → op.prev ≡ prev → result ≡ follows self many op }
+    {
+        prev == self.count + (many as u64 - 1)
+            && stamp.count == self.count + many as u64
+            && stamp.site == self.site
+    }
+}
+
+/// A character by itself keeps the rules of a text.
+fn is_text_alone(character: char)
+    ensures { is_text (character ∷ []) ≡ true }
+{}
+
+/// A character as a text.
+fn one_of(character: &char) -> &[char]
+    ensures text { result.now ≡ character.now ∷ [] }
+    ensures rules { is_text result.now ≡ true }
+{
+    // Called for its clause.
+    is_text_alone(*character);
+    slice::from_ref(character)
+}
+
+/// Characters without tags that a site typed in a row: where the row begins, the first one's left element, and the
+/// characters, of which up to four take no memory of their own.
+#[derive(Drop)]
+pub(crate) struct Row {
+    start: RowStart,
     after: Stamp,
     text: SmallVec<char, 4>,
 }
 
-/// The most characters of a row, so that a growth copies few.
-const MOST_IN_ROW: usize = 4096;
+/// The most operations of a row, so that a growth copies few.
+pub(crate) const MOST_IN_ROW: usize = 4096;
 
 impl Model for Row {
     ghost use Rattle.std.specs.Prelude.{◌+◌, ◌<◌, ◌≤◌, length};
     ghost use Rattle.rt_stamps.specs.declared.limits.TheConstants.{GREATEST_COUNT};
-    ghost use Rattle.rt_rows.specs.TypedRows.{TypedRow};
+    ghost use Rattle.rt_rows.specs.Rows.{TypedRow};
 
     ghost Value = { TypedRow };
 
-    ghost view = { λ row. record {
-      start = record { count = row.count; site = row.site; prev = row.prev; after = row.after };
-      text = row.text.items;
-    } };
+    ghost view = { λ row. record { start = row.start; after = row.after; text = row.text.items } };
 
-    ghost invariant = { λ row. (0 < length row.text.items) × (row.count + length row.text.items ≤ GREATEST_COUNT + 1) };
+    ghost invariant = { λ row. (0 < length row.text.items) × (row.start.count + length row.text.items ≤ GREATEST_COUNT + 1) };
 }
 
 impl Row {
@@ -50,105 +119,65 @@ impl Row {
         let mut text = SmallVec::new(alloc);
         text.push_reserved(typed.character);
         Row {
-            count: typed.stamp.count,
-            prev: typed.prev,
-            site: typed.stamp.site,
+            start: RowStart::of(typed.stamp, typed.prev),
             after: typed.after,
             text,
         }
     }
 
-    /// How many characters there are.
-    pub(crate) fn len(&self) -> usize
-        ensures len { result ≡ length self.now.text }
-        ensures some { 0 < result }
-    {
-        self.text.len()
-    }
-
-    /// The stamp of the character at a place.
+    /// The stamp of the character at a place, `ROOT` where none stands there.
     pub(crate) fn stamp_at(&self, place: usize) -> Stamp
-        requires { place < length self.now.text }
-        ensures { (c : ℕ) → result ≡ stamp_of (nth self.now.start place c) }
+        ensures { result ≡ stamp_of (slice_index_or (operations_in_row self.now) place nothing) }
     {
-        Stamp {
-            count: self.count + place as u64,
-            site: self.site,
+        if place < self.text.len() {
+            self.start.stamp_at(place)
+        } else {
+            ROOT
         }
-    }
-
-    /// The previous count of the character at a place.
-    fn prev_at(&self, place: usize) -> u64
-        requires { place < length self.now.text }
-        ensures { result ≡ prev_at self.now.start place }
-    {
-        if place == 0 {
-            return self.prev;
-        }
-        self.count + (place as u64 - 1)
     }
 
     /// The element after which the character at a place stands.
     fn after_at(&self, place: usize) -> Stamp
         requires { place < length self.now.text }
-        ensures { result ≡ after_at self.now.start place }
+        ensures { result ≡ after_in self.now.start self.now.after place }
     {
         if place == 0 {
             return self.after;
         }
-        Stamp {
-            count: self.count + (place as u64 - 1),
-            site: self.site,
-        }
+        self.start.stamp_at(place - 1)
     }
 
     /// The operation of the character at a place.
     pub(crate) fn view(&self, place: usize) -> OpView<'_>
         requires { place < length self.now.text }
-        ensures { operation_in result ≡ nth self.now.start place (slice_index_or self.now.text place 0) }
+        ensures is { slice_get (operations_in_row self.now) place ≡ Some (operation_in result) }
+        ensures rules { keeps_rules (body_in result.edit) ≡ true }
     {
-        OpView::Typed {
-            stamp: self.stamp_at(place),
-            prev: self.prev_at(place),
-            after: self.after_at(place),
-            character: self.text.as_slice()[place],
-        }
-    }
-
-    /// The last stamp.
-    fn last(&self) -> Stamp
-        ensures stamp { result ≡ last_stamp self.now }
-        ensures count { result.count ≤ GREATEST_COUNT }
-        ensures next { result.count + 1 ≡ self.now.start.count + length self.now.text }
-    {
-        Stamp {
-            count: self.count + (self.text.len() as u64 - 1),
-            site: self.site,
+        OpView {
+            stamp: self.start.stamp_at(place),
+            prev: self.start.prev_at(place),
+            edit: EditView::Insert {
+                after: self.after_at(place),
+                tags: &[],
+                text: one_of(&self.text.as_slice()[place]),
+            },
         }
     }
 
     /// Whether a typed operation is the row's next one.
     fn goes_on(&self, typed: &TypedOp) -> bool
-        ensures next { result ≡ is_next self.now (operation_typed typed.now) }
+        ensures next { result ≡ is_next_of_row self.now (operation_typed typed.now) }
         ensures some { 0 < length self.now.text }
     {
-        let last = self.last();
-        if typed.prev != last.count {
-            return false;
-        }
-        if typed.stamp.count != last.count + 1 {
-            return false;
-        }
-        if typed.stamp.site != last.site {
-            return false;
-        }
-        typed.after == last
+        let many = self.text.len();
+        self.start.goes_on(many, typed.stamp, typed.prev)
+            && typed.after == self.start.stamp_at(many - 1)
     }
 
     /// One more character and its place, where there is room for it; else the row stays. Takes no memory.
     fn push(&mut self, character: char) -> Option<u32>
         requires { self.old.start.count + length self.old.text ≤ GREATEST_COUNT }
-        ensures more { IfSome result (λ at. (at ≡ length self.old.text) × (self.new ≡ with_character self.old character)) }
+        ensures more { IfSome result (λ at. (at ≡ length self.old.text) × (self.new ≡ row_with self.old character)) }
         ensures same { IfNone result (self.new ≡ self.old) }
     {
         let len = self.text.len();

@@ -1,17 +1,18 @@
 // Operations in rows.
-ghost use Rattle.std.specs.Prelude.{◌≡◌, ◌+◌, ◌<◌, ◌^◌, ◌≤◌, ◌∷◌, [], IfNone, IfSome, length, vec_len, vec_capacity, IsOk, OnOk, IsOkUnless};
+ghost use Rattle.std.specs.Prelude.{◌≡◌, ◌+◌, ◌<◌, ◌^◌, ◌≤◌, ◌∷◌, [], IfNone, IfSome, length, vec_len, vec_capacity, IsOk, OnOk, IsOkUnless, true};
 ghost use Rattle.rt_stamps.specs.declared.fault.Fault.TheVariants.{NoMemory};
 ghost use Rattle.rt_stamps.specs.declared.limits.TheConstants.{GREATEST_COUNT};
 ghost use Rattle.rt_ops.specs.Operations.{Operation, stamp_of};
-ghost use Rattle.rt_rows.specs.Places.{HasPlace, KeepsPlaces, op_at};
-ghost use Rattle.rt_rows.specs.Stored.{operations_of, rows_in};
-ghost use Rattle.rt_rows.specs.Views.{operation_in, operation_typed};
+ghost use Rattle.rt_rows.specs.Places.{HasPlace, IsOnlyNew, KeepsPlaces, StandsAt, op_at};
+ghost use Rattle.rt_rows.specs.Stored.{operations_stored, rows_in};
+ghost use Rattle.rt_ops.specs.Rules.{keeps_rules};
+ghost use Rattle.rt_ops.specs.Views.{body_in};
+ghost use Rattle.rt_rows.specs.Views.{MayStand, operation_in, operation_of, operation_typed};
 
-use crate::row::Row;
+use crate::TypedOp;
+use crate::single::{RowOp, row_op_in};
 use crate::stored::Stored;
-use crate::typed::typed_in;
-use crate::{OpView, TypedOp};
-use rt_ops::Op;
+use rt_ops::{Op, OpView};
 use rt_stamps::{Fault, ROOT, Stamp};
 use std::alloc::Global;
 use std::marker::Model;
@@ -25,20 +26,21 @@ pub struct RowPlace {
 
 /// Operations, each of which keeps its place. Inserts of one character without tags by one site, each after the one before
 /// with the following count, are kept as one text: a row, of 4,096 at most, also where other sites' operations come
-/// between. Each takes 4 bytes, up to 8 where the text has grown by doubling. Any other operation is a row by itself. A row
-/// takes some 110 bytes.
+/// between. So are Deletes of one span each with counts that follow one another, as spans. A character takes 4 bytes there, a
+/// span 24, up to twice that where the row has grown by doubling. Any other operation is a row by itself. A row takes some
+/// 110 bytes.
 pub struct Rows {
     alloc: Global,
     rows: Vec<Stored>,
-    /// The row of the newest operation.
+    /// The row that was pushed to last.
     latest: u32,
-    /// The last rows that were begun by characters, so that what some sites type at a time lies in rows.
+    /// The last rows that were begun by characters or Deletes, so that what some sites do at a time lies in rows.
     recent: [u32; RECENT],
     /// Which of them the next one takes the place of.
     oldest: usize,
 }
 
-/// How many rows, beside that of the newest operation, a further character is looked for in.
+/// How many rows, beside the one that was pushed to last, may take a further operation in.
 const RECENT: usize = 8;
 
 // Written out, so that where a log is let go its operations are one step for the crates above.
@@ -70,10 +72,12 @@ impl Model for Rows {
 /// The most rows, so that the place of one has 32 bits.
 const MOST_ROWS: usize = 1 << 32;
 
-/// Takes a typed operation into a row, where it goes on from that, with room, and tells its place there.
-fn take_at(rows: &mut Vec<Stored>, row: u32, typed: &TypedOp) -> Option<RowPlace>
-    requires { typed.now.stamp.count ≤ GREATEST_COUNT }
-    ensures there { IfSome result (λ place. HasPlace (rows_in rows.new.items) place × (op_at (rows_in rows.new.items) place ≡ operation_typed typed.now)) }
+/// Takes an operation into a row, where it goes on from that, with room, and tells its place there.
+#[inline(always)]
+fn take_at(rows: &mut Vec<Stored>, row: u32, one: &RowOp) -> Option<RowPlace>
+    requires { MayStand (operation_of one.now) }
+    ensures there { IfSome result (λ place. StandsAt (rows_in rows.new.items) (operation_of one.now) place) }
+    ensures one { IfSome result (λ place. IsOnlyNew (rows_in rows.old.items) (rows_in rows.new.items) place) }
     ensures kept { IfSome result (λ place. KeepsPlaces (rows_in rows.old.items) (rows_in rows.new.items)) }
     ensures same { IfNone result (rows.new.items ≡ rows.old.items) }
     ensures len { vec_len rows.new ≡ vec_len rows.old }
@@ -83,23 +87,24 @@ fn take_at(rows: &mut Vec<Stored>, row: u32, typed: &TypedOp) -> Option<RowPlace
     if index >= rows.len() {
         return None;
     }
-    match rows[index].take(typed) {
+    match rows[index].take(one) {
         Some(at) => Some(RowPlace { row, at }),
         None => None,
     }
 }
 
-/// Takes a typed operation into the first of some rows that it goes on from, with room, and tells its place there.
-fn take_any(rows: &mut Vec<Stored>, some: &[u32], typed: &TypedOp) -> Option<RowPlace>
-    requires { typed.now.stamp.count ≤ GREATEST_COUNT }
-    ensures there { IfSome result (λ place. HasPlace (rows_in rows.new.items) place × (op_at (rows_in rows.new.items) place ≡ operation_typed typed.now)) }
+/// Takes an operation into the first of some rows that it goes on from, with room, and tells its place there.
+fn take_any(rows: &mut Vec<Stored>, some: &[u32], one: &RowOp) -> Option<RowPlace>
+    requires { MayStand (operation_of one.now) }
+    ensures there { IfSome result (λ place. StandsAt (rows_in rows.new.items) (operation_of one.now) place) }
+    ensures one { IfSome result (λ place. IsOnlyNew (rows_in rows.old.items) (rows_in rows.new.items) place) }
     ensures kept { IfSome result (λ place. KeepsPlaces (rows_in rows.old.items) (rows_in rows.new.items)) }
     ensures same { IfNone result (rows.new.items ≡ rows.old.items) }
     ensures len { vec_len rows.new ≡ vec_len rows.old }
     ensures capacity { vec_capacity rows.new ≡ vec_capacity rows.old }
 {
     for row in some {
-        if let Some(place) = take_at(rows, *row, typed) {
+        if let Some(place) = take_at(rows, *row, one) {
             return Some(place);
         }
     }
@@ -110,9 +115,9 @@ fn take_any(rows: &mut Vec<Stored>, some: &[u32], typed: &TypedOp) -> Option<Row
 fn begin(rows: &mut Vec<Stored>, stored: Stored) -> RowPlace
     requires room { vec_len rows.old < vec_capacity rows.old }
     requires few { vec_len rows.old < 2 ^ 32 }
-    ensures there { (op : Operation) → operations_of stored ≡ op ∷ []
-        → HasPlace (rows_in rows.new.items) result × (op_at (rows_in rows.new.items) result ≡ op) }
-    ensures kept { (op : Operation) → operations_of stored ≡ op ∷ [] → KeepsPlaces (rows_in rows.old.items) (rows_in rows.new.items) }
+    ensures there { (op : Operation) → operations_stored stored ≡ op ∷ [] → StandsAt (rows_in rows.new.items) op result }
+    ensures one { (op : Operation) → operations_stored stored ≡ op ∷ [] → IsOnlyNew (rows_in rows.old.items) (rows_in rows.new.items) result }
+    ensures kept { (op : Operation) → operations_stored stored ≡ op ∷ [] → KeepsPlaces (rows_in rows.old.items) (rows_in rows.new.items) }
     ensures len { vec_len rows.new ≡ vec_len rows.old + 1 }
     ensures capacity { vec_capacity rows.new ≡ vec_capacity rows.old }
 {
@@ -142,8 +147,8 @@ impl Rows {
         self.rows.len()
     }
 
-    /// Makes room for `more` calls of `push`, which then take no memory, and for a further character of the newest row.
-    /// `NoMemory` where a growth was refused, or there would be more than 2^32 rows; the operations stay.
+    /// Makes room for `more` calls of `push` or `push_typed`, which then take no memory, and for a further operation of the
+    /// row that was pushed to last. `NoMemory` where a growth was refused, or there would be more than 2^32 rows; the operations stay.
     pub fn reserve(&mut self, more: usize) -> Result<(), Fault>
         ensures same { self.new.rows ≡ self.old.rows }
         ensures ok { OnOk result (more ≤ self.new.room) }
@@ -158,7 +163,7 @@ impl Rows {
         self.rows.reserve(more)?;
         let latest = self.latest as usize;
         if latest < len {
-            // Where this is refused, the next character begins a row.
+            // Where this is refused, the next operation begins a row.
             let _ = self.rows[latest].make_room();
         }
         Ok(())
@@ -167,7 +172,8 @@ impl Rows {
     /// The operation at a place, seen where it is kept.
     pub fn view(&self, place: RowPlace) -> OpView<'_>
         requires { HasPlace self.now.rows place }
-        ensures { op_at self.now.rows place ≡ operation_in result }
+        ensures is { op_at self.now.rows place ≡ operation_in result }
+        ensures rules { keeps_rules (body_in result.edit) ≡ true }
     {
         self.rows[place.row as usize].view(place.at as usize)
     }
@@ -182,56 +188,86 @@ impl Rows {
         }
     }
 
-    /// Takes a typed operation into the row of the newest one, or else into a recent row, where it goes on from that, with
+    /// Takes an operation into the row that was pushed to last, or else into a recent row, where it goes on from that, with
     /// room.
     #[inline(always)]
-    fn join(&mut self, typed: &TypedOp) -> Option<RowPlace>
-        requires { typed.now.stamp.count ≤ GREATEST_COUNT }
-        ensures there { IfSome result (λ place. HasPlace self.new.rows place × (op_at self.new.rows place ≡ operation_typed typed.now)) }
+    fn join(&mut self, one: &RowOp) -> Option<RowPlace>
+        requires { MayStand (operation_of one.now) }
+        ensures there { IfSome result (λ place. StandsAt self.new.rows (operation_of one.now) place) }
+        ensures one { IfSome result (λ place. IsOnlyNew self.old.rows self.new.rows place) }
         ensures kept { IfSome result (λ place. KeepsPlaces self.old.rows self.new.rows) }
         ensures same { IfNone result (self.new.rows ≡ self.old.rows) }
         ensures room { self.new.room ≡ self.old.room }
         ensures rows { length self.new.rows ≡ length self.old.rows }
     {
-        if let Some(place) = take_at(&mut self.rows, self.latest, typed) {
+        if let Some(place) = take_at(&mut self.rows, self.latest, one) {
             return Some(place);
         }
-        take_any(&mut self.rows, &self.recent, typed)
+        take_any(&mut self.rows, &self.recent, one)
     }
 
-    /// Puts a typed operation in, where there is room, and tells its place; all others keep theirs. Takes no memory: where it
-    /// goes on from the row of the newest operation or a recent row, with room, it joins that, else it begins a row.
-    pub fn push_typed(&mut self, typed: TypedOp) -> RowPlace
-        requires count { typed.stamp.count ≤ GREATEST_COUNT }
+    /// Begins a row with an operation that others may join there, where there is room.
+    fn begin_row(&mut self, one: &RowOp) -> RowPlace
+        requires stands { MayStand (operation_of one.now) }
         requires room { 0 < self.old.room }
-        ensures there { HasPlace self.new.rows result × (op_at self.new.rows result ≡ operation_typed typed) }
+        ensures there { StandsAt self.new.rows (operation_of one.now) result }
+        ensures one { IsOnlyNew self.old.rows self.new.rows result }
         ensures kept { KeepsPlaces self.old.rows self.new.rows }
         ensures room { self.old.room ≤ self.new.room + 1 }
         ensures rows { length self.new.rows ≤ length self.old.rows + 1 }
     {
-        if let Some(place) = self.join(&typed) {
-            self.latest = place.row;
-            return place;
-        }
-        let place = begin(&mut self.rows, Stored::Typed(Row::of(self.alloc, typed)));
-        self.latest = place.row;
+        let place = begin(&mut self.rows, Stored::of(self.alloc, one));
         let slot = self.oldest % RECENT;
         self.recent[slot] = place.row;
         self.oldest = (slot + 1) % RECENT;
         place
     }
 
-    /// Puts an operation in, where there is room, and tells its place; all others keep theirs. Takes no memory: a typed one
-    /// comes in as by `push_typed`, any other begins a row.
-    pub fn push(&mut self, op: Op) -> RowPlace
+    /// Puts in an operation that may lie in a row, where there is room, and tells its place; all others keep theirs.
+    #[inline(always)]
+    fn push_one(&mut self, one: &RowOp) -> RowPlace
+        requires stands { MayStand (operation_of one.now) }
         requires room { 0 < self.old.room }
-        ensures there { HasPlace self.new.rows result × (op_at self.new.rows result ≡ op) }
+        ensures there { StandsAt self.new.rows (operation_of one.now) result }
+        ensures one { IsOnlyNew self.old.rows self.new.rows result }
         ensures kept { KeepsPlaces self.old.rows self.new.rows }
         ensures room { self.old.room ≤ self.new.room + 1 }
         ensures rows { length self.new.rows ≤ length self.old.rows + 1 }
     {
-        if let Some(typed) = typed_in(&op) {
-            return self.push_typed(typed);
+        let place = match self.join(one) {
+            Some(place) => place,
+            None => self.begin_row(one),
+        };
+        self.latest = place.row;
+        place
+    }
+
+    /// Puts a typed operation in, where there is room, and tells its place; all others keep theirs. Takes no memory: where it
+    /// goes on from the row that was pushed to last, or from a recent row, with room, it joins that, else it begins a row.
+    pub fn push_typed(&mut self, typed: TypedOp) -> RowPlace
+        requires count { typed.stamp.count ≤ GREATEST_COUNT }
+        requires room { 0 < self.old.room }
+        ensures there { StandsAt self.new.rows (operation_typed typed) result }
+        ensures one { IsOnlyNew self.old.rows self.new.rows result }
+        ensures kept { KeepsPlaces self.old.rows self.new.rows }
+        ensures room { self.old.room ≤ self.new.room + 1 }
+        ensures rows { length self.new.rows ≤ length self.old.rows + 1 }
+    {
+        self.push_one(&RowOp::Typed(typed))
+    }
+
+    /// Puts an operation in, where there is room, and tells its place; all others keep theirs. Takes no memory: a typed one
+    /// comes in as by `push_typed`, and so does a Delete of one span; any other begins a row.
+    pub fn push(&mut self, op: Op) -> RowPlace
+        requires room { 0 < self.old.room }
+        ensures there { StandsAt self.new.rows op result }
+        ensures one { IsOnlyNew self.old.rows self.new.rows result }
+        ensures kept { KeepsPlaces self.old.rows self.new.rows }
+        ensures room { self.old.room ≤ self.new.room + 1 }
+        ensures rows { length self.new.rows ≤ length self.old.rows + 1 }
+    {
+        if let Some(one) = row_op_in(&op) {
+            return self.push_one(&one);
         }
         let place = begin(&mut self.rows, Stored::Single(op));
         self.latest = place.row;

@@ -1,74 +1,89 @@
-// What is kept of operations that came one after the other.
-ghost use Rattle.std.specs.Prelude.{◌≡◌, ◌∷◌, [], ◌++◌, ◌<◌, ◌≤◌, IfNone, IfSome, length, slice_get, slice_index_or, Some, IsOkUnless};
+// What is kept in a row: operations of a site with counts that follow one another, or one operation.
+ghost use Rattle.std.specs.Prelude.{◌≡◌, ◌∷◌, [], ◌++◌, ◌<◌, IfNone, IfSome, length, slice_get, slice_index_or, Some, IsOkUnless, true};
 ghost use Rattle.rt_stamps.specs.declared.fault.Fault.TheVariants.{NoMemory};
-ghost use Rattle.rt_stamps.specs.declared.limits.TheConstants.{GREATEST_COUNT};
 ghost use Rattle.rt_ops.specs.Operations.{stamp_of};
 ghost use Rattle.rt_rows.specs.Places.{nothing};
-ghost use Rattle.rt_rows.specs.Views.{operation_in, operation_typed};
-ghost use Rattle.rt_rows.specs.Stored.{operations_of};
+ghost use Rattle.rt_ops.specs.Rules.{keeps_rules};
+ghost use Rattle.rt_ops.specs.Views.{body_in};
+ghost use Rattle.rt_rows.specs.Views.{MayStand, operation_in, operation_of};
+ghost use Rattle.rt_rows.specs.Stored.{operations_stored};
 
+use crate::deletes::DeleteRow;
 use crate::row::Row;
-use crate::{OpView, TypedOp};
-use rt_ops::Op;
+use crate::single::RowOp;
+use rt_ops::{Op, OpView};
 use rt_stamps::{Fault, ROOT, Stamp};
+use std::alloc::Global;
 
-/// Characters typed in a row, each an operation of its own, or one operation.
+/// Characters typed in a row, each an operation of its own, or Deletes of one span each in a row, or one operation.
 #[derive(Drop)]
 pub(crate) enum Stored {
     Typed(Row),
+    Deleted(DeleteRow),
     Single(Op),
 }
 
 impl Stored {
+    /// A row of one operation so far. Takes no memory.
+    pub(crate) fn of(alloc: Global, one: &RowOp) -> Stored
+        requires { MayStand (operation_of one.now) }
+        ensures { operations_stored result ≡ operation_of one.now ∷ [] }
+    {
+        match one {
+            RowOp::Typed(typed) => Stored::Typed(Row::of(alloc, *typed)),
+            RowOp::Deleted(deleted) => Stored::Deleted(DeleteRow::of(alloc, *deleted)),
+        }
+    }
+
     /// The operation at a place.
     pub(crate) fn view(&self, place: usize) -> OpView<'_>
-        requires { place < length (operations_of self.now) }
-        ensures { slice_get (operations_of self.now) place ≡ Some (operation_in result) }
+        requires { place < length (operations_stored self.now) }
+        ensures is { slice_get (operations_stored self.now) place ≡ Some (operation_in result) }
+        ensures rules { keeps_rules (body_in result.edit) ≡ true }
     {
         match self {
             Stored::Typed(row) => row.view(place),
-            Stored::Single(op) => OpView::Single { op },
+            Stored::Deleted(row) => row.view(place),
+            Stored::Single(op) => OpView::of(op),
         }
     }
 
     /// The stamp of the operation at a place, `ROOT` where none stands there.
     pub(crate) fn stamp_at(&self, place: usize) -> Stamp
-        ensures { result ≡ stamp_of (slice_index_or (operations_of self.now) place nothing) }
+        ensures { result ≡ stamp_of (slice_index_or (operations_stored self.now) place nothing) }
     {
         match self {
-            Stored::Typed(row) => {
-                if place < row.len() {
-                    row.stamp_at(place)
-                } else {
-                    ROOT
-                }
-            }
+            Stored::Typed(row) => row.stamp_at(place),
+            Stored::Deleted(row) => row.stamp_at(place),
             Stored::Single(op) => { if place == 0 { op.stamp() } else { ROOT } }
         }
     }
 
-    /// Room for one more character of a row. `NoMemory` is its only fault; the operations stay.
+    /// Room for one more operation of a row. `NoMemory` is its only fault; the operations stay.
     pub(crate) fn make_room(&mut self) -> Result<(), Fault>
         ensures same { self.new ≡ self.old }
         ensures fault { IsOkUnless result NoMemory }
     {
         match self {
             Stored::Typed(row) => row.make_room(),
+            Stored::Deleted(row) => row.make_room(),
             Stored::Single(_) => Ok(()),
         }
     }
 
-    /// Takes a typed operation in at the end, where it goes on from a row that has room, and tells its place; else the
-    /// operations stay. Takes no memory.
-    pub(crate) fn take(&mut self, typed: &TypedOp) -> Option<u32>
-        requires { typed.now.stamp.count ≤ GREATEST_COUNT }
-        ensures place { IfSome result (λ at. at ≡ length (operations_of self.old)) }
-        ensures more { IfSome result (λ at. operations_of self.new ≡ operations_of self.old ++ operation_typed typed.now ∷ []) }
+    /// Takes an operation in at the end, where it goes on from a row that has room, and tells its place; else the operations
+    /// stay. Takes no memory.
+    #[inline(always)]
+    pub(crate) fn take(&mut self, one: &RowOp) -> Option<u32>
+        requires { MayStand (operation_of one.now) }
+        ensures place { IfSome result (λ at. at ≡ length (operations_stored self.old)) }
+        ensures more { IfSome result (λ at. operations_stored self.new ≡ operations_stored self.old ++ operation_of one.now ∷ []) }
         ensures same { IfNone result (self.new ≡ self.old) }
     {
-        match self {
-            Stored::Typed(row) => row.take(typed),
-            Stored::Single(_) => None,
+        match (self, one) {
+            (Stored::Typed(row), RowOp::Typed(typed)) => row.take(typed),
+            (Stored::Deleted(row), RowOp::Deleted(deleted)) => row.take(deleted),
+            _ => None,
         }
     }
 }

@@ -2,7 +2,7 @@
 use Rattle.std.specs.Prelude.{ℕ, ◌==◌, List, [], ◌∷◌, ◌++◌, flat_map, Option, Some, None, codes, if◌then◌else◌}
 use Rattle.std.specs.Fmt.{decimal}
 use Rattle.rt_stamps.specs.declared.fault.Fault.{Fault}
-use Rattle.rt_stamps.specs.Fault.{number_of, text_of}
+use Rattle.rt_stamps.specs.Fault.{number_of, fault_text}
 use Rattle.rt_words.specs.Writing.{text_of_word}
 use Rattle.rt_files.specs.Shown.{spaced}
 use Rattle.rt_script.specs.declared.answer.Answer.{Answer}
@@ -10,7 +10,7 @@ use Rattle.rt_script.specs.declared.answer.Answer.TheVariants.{Replied, Refused,
 
 -- a refusal is `!`, a space and the fault's number and name
 abbrev pub text_of_refusal : Fault → List ℕ
-text_of_refusal fault = 33 ∷ 32 ∷ text_of fault
+text_of_refusal fault = 33 ∷ 32 ∷ fault_text fault
 
 -- how many operations are held is told where some are
 abbrev pub held_alone : ℕ → List (List ℕ)

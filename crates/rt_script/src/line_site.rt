@@ -213,7 +213,7 @@ impl LineSite {
     }
 
     /// The lines of what the operation of a number changed, of those that `count_changes` counts, from 0; or `NoMemory`. None
-    /// where there is no such operation.
+    /// where there is no such operation, or nothing is known.
     pub fn lines_at(&self, number: usize) -> Option<Result<Vec<u8>, Fault>>
         ensures { MatchOption result (slice_get (known_changes self.now) number ≡ None)
             (λ made. (change : ToldChange) × (slice_get (known_changes self.now) number ≡ Some change)

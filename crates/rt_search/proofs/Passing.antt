@@ -5,7 +5,7 @@ use Rattle.std.proofs.lemmas.List.{get_or_default}
 use Rattle.rt_search.specs.declared.pass.Pass.{Pass}
 use Rattle.rt_search.specs.declared.search.Search.{Search}
 use Rattle.rt_lines.specs.declared.stretch.Stretch.{Stretch}
-use Rattle.rt_search.specs.Borders.{Agrees, IsBorder, IsFurther, IsNext, IsPass, key, left, pattern_read, place_read, read_at, text_read}
+use Rattle.rt_search.specs.Borders.{CharactersAgree, IsBorder, IsFurther, IsNextMatch, IsPass, as_compared, left, pattern_read, place_read, read_at, text_read}
 use Rattle.rt_search.specs.Searches.{matches_in, ordered_places, stands_at}
 use Rattle.rt_search.specs.Windows.{Shows}
 use Rattle.rt_search.proofs.Falling.{agrees_at, none_agree, none_before}
@@ -17,8 +17,8 @@ use Rattle.rt_search.proofs.Within.{place_in}
 -- what the character that is read tells
 pub goes_further : (search : Search) (pattern text : List ℕ) (room : Stretch) (start many place ahead x next : ℕ) → start < room.end - room.begin → many < length pattern
     → place ≡ get_or (ordered_places search.direction room) start place → ahead ≡ read_at search.direction (length pattern) many → slice_get text (place + ahead) ≡ Some x
-    → Agrees (pattern_read search pattern) (text_read search (length pattern) text room) start many
-    → ((t : ℕ → ℕ) (a : ℕ) → Agrees (pattern_read search pattern) t a many → t (a + many) ≡ key search.case x → IsFurther (pattern_read search pattern) t a many next)
+    → CharactersAgree (pattern_read search pattern) (text_read search (length pattern) text room) start many
+    → ((t : ℕ → ℕ) (a : ℕ) → CharactersAgree (pattern_read search pattern) t a many → t (a + many) ≡ as_compared search.case x → IsFurther (pattern_read search pattern) t a many next)
     → IsFurther (pattern_read search pattern) (text_read search (length pattern) text room) start many next
 goes_further search pattern text room start many place ahead x next h k is e g a f =
     let there : place + ahead ≡ place_read search.direction (length pattern) room (start + many) =
@@ -37,7 +37,7 @@ module _ (search : Search) (pattern text : List ℕ) (room : Stretch) (fits : (p
   fits_at k h = fits (place_of k) (place_in search.direction room k 0 h)
 
   not_at : (k many : ℕ) → k < length (ordered_places search.direction room) → many ≤ length pattern
-      → (Agrees (pattern_read search pattern) (text_read search (length pattern) text room) k many → ⊥) → stands_at search.case pattern text (place_of k) ≡ false
+      → (CharactersAgree (pattern_read search pattern) (text_read search (length pattern) text room) k many → ⊥) → stands_at search.case pattern text (place_of k) ≡ false
   not_at k many h m e =
       let inside : k < room.end - room.begin = omega (arith, length_ordered search.direction room) in
       stands_not search pattern text room k (place_of k) inside (is_place k inside) (fits_at k inside) many m e
@@ -51,7 +51,7 @@ module _ (search : Search) (pattern text : List ℕ) (room : Stretch) (fits : (p
       (λ e. f.first (k - start) (omega arith)
       (agrees_at (pattern_read search pattern) (text_read search (length pattern) text room) k (start + (k - start)) (many + 1 - (k - start)) (many + 1 - (k - start)) (omega arith) (omega arith) e)))
 
-  found_at : (start : ℕ) → start < room.end - room.begin → Agrees (pattern_read search pattern) (text_read search (length pattern) text room) start (length pattern)
+  found_at : (start : ℕ) → start < room.end - room.begin → CharactersAgree (pattern_read search pattern) (text_read search (length pattern) text room) start (length pattern)
       → left search pattern text room start ≡ place_of start ∷ left search pattern text room (start + 1)
   found_at start h a =
       takes (stands_at search.case pattern text) (ordered_places search.direction room) start (omega (arith, length_ordered search.direction room))
@@ -59,7 +59,7 @@ module _ (search : Search) (pattern text : List ℕ) (room : Stretch) (fits : (p
 
   -- the next match behind one is at the longest border, or later
   pub leaves_match : (old before start border : ℕ) → left search pattern text room old ≡ left search pattern text room before → left search pattern text room before ≡ left search pattern text room start
-      → start < room.end - room.begin → Agrees (pattern_read search pattern) (text_read search (length pattern) text room) start (length pattern)
+      → start < room.end - room.begin → CharactersAgree (pattern_read search pattern) (text_read search (length pattern) text room) start (length pattern)
       → IsBorder (pattern_read search pattern) (length pattern) border → left search pattern text room old ≡ place_of start ∷ left search pattern text room (start + (length pattern - border))
   leaves_match old before start border e f h a b =
       e ∙ f ∙ found_at start h a
@@ -95,7 +95,7 @@ pub all_left : (search : Search) (pattern text : List ℕ) (stretch room : Stret
 all_left search pattern text stretch room start s e = e ∙ ap (left search pattern text room) (sym s)
 
 -- what comes next of a stretch
-pub next_place : (search : Search) (pattern text : List ℕ) (room : Stretch) (old new index place : ℕ) → IsNext search pattern text room old new index
+pub next_place : (search : Search) (pattern text : List ℕ) (room : Stretch) (old new index place : ℕ) → IsNextMatch search pattern text room old new index
     → place ≡ get_or (ordered_places search.direction room) index place → left search pattern text room old ≡ place ∷ left search pattern text room new
 next_place search pattern text room old new index place n e =
     n.rest

@@ -5,7 +5,7 @@ use Rattle.rt_search.specs.declared.walk.Walk.{Walk}
 use Rattle.rt_search.specs.Windows.{Shows}
 
 -- at a place of the text, with its line and the first place of that
-pub record Stands (text : List ℕ) (walk : Walk) : Type 0 where
+pub record WalkStands (text : List ℕ) (walk : Walk) : Type 0 where
   pub within : walk.place ≤ length text
   pub line : walk.line ≡ line_of text walk.place
   pub start : walk.start ≡ line_start text (line_of text walk.place)

@@ -1,6 +1,6 @@
 // The borders of a pattern: the fronts of it that are ends of it too.
 ghost use Rattle.std.specs.Prelude.{◌≡◌, ◌+◌, ◌<◌, ◌≤◌, ℕ, IfOk, IsOkUnless, length};
-ghost use Rattle.rt_search.specs.Borders.{Agrees, AreBorders, IsFurther, key, pattern_read, read_at};
+ghost use Rattle.rt_search.specs.Borders.{CharactersAgree, AreBorders, IsFurther, as_compared, pattern_read, read_at};
 
 use crate::search::{Direction, Search, agree};
 use rt_stamps::Fault;
@@ -31,8 +31,8 @@ pub(crate) fn further(
     requires some { before ≤ length borders.now }
     requires borders { AreBorders (pattern_read search pattern.now) borders.now }
     ensures few { result ≤ before + 1 }
-    ensures further { (text : ℕ → ℕ) (start : ℕ) → Agrees (pattern_read search pattern.now) text start before
-        → text (start + before) ≡ key search.case character → IsFurther (pattern_read search pattern.now) text start before result }
+    ensures further { (text : ℕ → ℕ) (start : ℕ) → CharactersAgree (pattern_read search pattern.now) text start before
+        → text (start + before) ≡ as_compared search.case character → IsFurther (pattern_read search pattern.now) text start before result }
 {
     let mut agreed = before;
     while !agree(

@@ -1,6 +1,6 @@
 // A pass through the text that comes to each match.
 ghost use Rattle.std.specs.Prelude.{◌≡◌, ◌+◌, ◌-◌, ◌^◌, ◌<◌, ◌≤◌, ℕ, List, [], None, IfSome, filter, length};
-ghost use Rattle.rt_search.specs.Borders.{Agrees, AreBorders, IsNext, IsPass, left, pattern_read, text_read};
+ghost use Rattle.rt_search.specs.Borders.{CharactersAgree, AreBorders, IsNextMatch, IsPass, left, pattern_read, text_read};
 ghost use Rattle.rt_search.specs.Searches.{matches_in, ordered_places, stands_at};
 ghost use Rattle.rt_search.specs.Windows.{Shows};
 
@@ -74,7 +74,8 @@ impl Pass {
         requires within { self.old.start < room.end - room.begin }
         requires pass { IsPass search pattern.now text.now room self.old }
         ensures shows { Shows text.now self.new.window }
-        ensures agrees { Agrees (pattern_read search pattern.now) (text_read search (length pattern.now) text.now room) self.new.start self.new.agreed }
+        ensures agrees { CharactersAgree (pattern_read search pattern.now) (text_read search (length pattern.now) text.now room)
+            self.new.start self.new.agreed }
         ensures later { self.old.start ≤ self.new.start }
         ensures few { self.new.agreed ≤ length pattern.now }
         ensures more { self.new.start + self.new.agreed ≡ self.old.start + self.old.agreed + 1 }
@@ -103,7 +104,7 @@ impl Pass {
         requires fits { (place : ℕ) → place < room.end → place + length pattern.now ≤ length text.now }
         requires pass { IsPass search pattern.now text.now room self.old }
         ensures pass { IsPass search pattern.now text.now room self.new }
-        ensures found { IfSome result (λ index. IsNext search pattern.now text.now room self.old.start self.new.start index) }
+        ensures found { IfSome result (λ index. IsNextMatch search pattern.now text.now room self.old.start self.new.start index) }
         ensures none { result ≡ None → left search pattern.now text.now room self.old.start ≡ [] }
     {
         let end = places(room);

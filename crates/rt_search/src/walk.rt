@@ -1,7 +1,7 @@
 // The lines and characters of places of a text.
 ghost use Rattle.std.specs.Prelude.{◌≡◌, ◌+◌, ◌-◌, ◌^◌, ◌<◌, ◌≤◌, All, IfOk, IsOkUnless, length, map};
 ghost use Rattle.rt_stamps.specs.Places.{position_at};
-ghost use Rattle.rt_search.specs.Walks.{Stands};
+ghost use Rattle.rt_search.specs.Walks.{WalkStands};
 
 use crate::part::Part;
 use crate::window::Window;
@@ -22,7 +22,7 @@ impl Walk {
     /// One that stands at a character.
     fn at<S: TextStore>(text: &Part<'_, S>, place: usize) -> Walk
         requires { place < length text.now }
-        ensures stands { Stands text.now result }
+        ensures stands { WalkStands text.now result }
         ensures place { result.place ≡ place }
     {
         let (line, start) = text.line_at(place);
@@ -36,10 +36,10 @@ impl Walk {
 
     /// Goes to the next character, where there is one.
     fn step<S: TextStore>(&mut self, text: &Part<'_, S>)
-        requires stands { Stands text.now self.old }
+        requires stands { WalkStands text.now self.old }
         requires within { self.old.place + 1 < length text.now }
         requires fits { length text.now < 2 ^ 64 }
-        ensures stands { Stands text.now self.new }
+        ensures stands { WalkStands text.now self.new }
         ensures place { self.new.place ≡ self.old.place + 1 }
     {
         let character = self.window.at(text, self.place);
@@ -52,11 +52,11 @@ impl Walk {
 
     /// Goes on to a later character.
     fn go_to<S: TextStore>(&mut self, text: &Part<'_, S>, place: usize)
-        requires stands { Stands text.now self.old }
+        requires stands { WalkStands text.now self.old }
         requires later { self.old.place ≤ place }
         requires within { place < length text.now }
         requires fits { length text.now < 2 ^ 64 }
-        ensures stands { Stands text.now self.new }
+        ensures stands { WalkStands text.now self.new }
         ensures place { self.new.place ≡ place }
     {
         while self.place < place {

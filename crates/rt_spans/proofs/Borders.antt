@@ -1,19 +1,19 @@
 -- Whether an entry has a key.
 use Rattle.std.proofs.Common.{◌≡◌, ℕ, suc, ◌+◌, ◌<◌, ◌≤◌, inl, inr, Bool, List, ◌∷◌, ◌++◌, length, get_or, take, drop, true, false, not, refl, sym, subst, arith}
-use Rattle.rt_spans.specs.declared.entry.Entry.{Entry}
+use Rattle.rt_spans.specs.declared.entry.SpanEntry.{SpanEntry}
 use Rattle.rt_spans.specs.declared.block.Block.{Block}
-use Rattle.rt_spans.specs.Spans.{AreRisingBy, AreRisingFrom, Has, IsEntryAt, key}
+use Rattle.rt_spans.specs.Spans.{AreRisingBy, AreRisingFrom, Has, IsEntryAt, entry_key}
 use Rattle.rt_spans.specs.Blocks.{PartsAt, in_block, in_blocks, head_key}
 use Rattle.rt_spans.proofs.Cutting.{cut_has, has_back, has_front, has_here, none_below}
 use Rattle.rt_spans.proofs.Painting.{ahead, has_split}
 use Rattle.rt_spans.proofs.Parts.{around_block, heads_above}
 
 -- the last entry that doesn't come after a stamp has its key
-pub has_when : {V : Type 0} (k : ℕ) (h : Entry V) (items : List (Entry V)) (place : ℕ) (e : Entry V) → PartsAt key k items place → key h ≤ k → IsEntryAt (h ∷ items) place e → k ≤ key e → Has k (h ∷ items)
+pub has_when : {V : Type 0} (k : ℕ) (h : SpanEntry V) (items : List (SpanEntry V)) (place : ℕ) (e : SpanEntry V) → PartsAt entry_key k items place → entry_key h ≤ k → IsEntryAt (h ∷ items) place e → k ≤ entry_key e → Has k (h ∷ items)
 has_when k h items place e p l at m = cut_has k (h ∷ items) (h ∷ items) (has_here k h items place e p l at m)
 
 -- or none has
-pub none_here : {V : Type 0} (k : ℕ) (h : Entry V) (items : List (Entry V)) (place : ℕ) (e : Entry V) → AreRisingFrom 0 (h ∷ items) → PartsAt key k items place → IsEntryAt (h ∷ items) place e → key e < k → Has k (h ∷ items) → ⊥
+pub none_here : {V : Type 0} (k : ℕ) (h : SpanEntry V) (items : List (SpanEntry V)) (place : ℕ) (e : SpanEntry V) → AreRisingFrom 0 (h ∷ items) → PartsAt entry_key k items place → IsEntryAt (h ∷ items) place e → entry_key e < k → Has k (h ∷ items) → ⊥
 none_here k h items place e r p at l m =
     elim (has_split k (take place (h ∷ items)) (e ∷ drop (suc place) (h ∷ items)) (subst (λ v. Has k v) at m)) as (λ _. ⊥) [
       | inl f ↦ omega (arith, l, ahead 0 k (take place (h ∷ items)) e (drop (suc place) (h ∷ items)) (subst (λ v. AreRisingFrom 0 v) at r) f)

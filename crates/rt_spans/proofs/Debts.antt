@@ -3,7 +3,7 @@ use Rattle.std.proofs.Common.{◌≡◌, ℕ, zero, suc, ◌+◌, ◌-◌, ◌*�
 use Rattle.std.proofs.lemmas.Bool.Decides.{nat_tests}
 use Rattle.std.specs.List.{insert, AllByRecursion}
 use Rattle.rt_spans.specs.declared.block.Block.{Block}
-use Rattle.rt_spans.specs.Blocks.{HasRoom}
+use Rattle.rt_spans.specs.Blocks.{BlockHasRoom}
 use Rattle.rt_spans.specs.Room.{Affords, debt}
 
 -- a block that has more entries by so many
@@ -58,7 +58,7 @@ debt_split (x ∷ y ∷ xs) (suc (suc i)) b left right middle l e f p q s =
     omega (arith, debt_split (y ∷ xs) (suc i) b left right middle (omega (arith, l)) e f p q (behind_first (suc i) (length xs) middle s))
 
 -- blocks that have room
-pub debt_bound : {V : Type 0} (bs : List (Block V)) → AllByRecursion HasRoom bs → debt bs ≤ 64 * length bs + 64
+pub debt_bound : {V : Type 0} (bs : List (Block V)) → AllByRecursion BlockHasRoom bs → debt bs ≤ 64 * length bs + 64
 debt_bound [] h = omega arith
 debt_bound (b ∷ []) h = omega (arith, h.0.0)
 debt_bound (b ∷ c ∷ bs) h = omega (arith, h.0.0, debt_bound (c ∷ bs) h.1)

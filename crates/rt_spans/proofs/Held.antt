@@ -4,11 +4,11 @@ use Rattle.std.proofs.lemmas.Bool.Decides.{nat_tests}
 use Rattle.rt_stamps.specs.declared.stamp.Stamp.{Stamp}
 use Rattle.rt_stamps.specs.declared.stamp.Span.{Span}
 use Rattle.rt_spans.specs.declared.block.Block.{Block}
-use Rattle.rt_spans.specs.declared.entry.Entry.{Entry}
+use Rattle.rt_spans.specs.declared.entry.SpanEntry.{SpanEntry}
 use Rattle.rt_spans.specs.Blocks.{in_blocks}
 use Rattle.rt_spans.specs.Ranks.{rank}
 use Rattle.rt_spans.specs.Spans.{value_at}
-use Rattle.rt_spans.specs.Shown.{Shown, is_in_span}
+use Rattle.rt_spans.specs.Shown.{SpanMapValue, is_in_span}
 
 pub in_span : (site first last s c : ℕ) → c < 2 ^ 64 → first < 2 ^ 64 → last + 1 < 2 ^ 64 → (nat_le (rank site first) (rank s c) && nat_lt (rank s c) (rank site (last + 1))) ≡ ((s == site) && (nat_le first c && nat_le c last))
 unfolding rank
@@ -23,7 +23,7 @@ ge_of x y h = grind (arith, nat_tests)
 outside : (span : Span) (stamp : Stamp) → span.last + 1 < 2 ^ 64 → 2 ^ 64 ≤ stamp.count → is_in_span span stamp ≡ false
 outside span stamp l h = grind (arith, nat_tests)
 
-pub set_values : {V : Type 0} (span : Span) (stamp : Stamp) (value : V) (old new : List (Entry V)) (was : Option V) → ((s : ℕ) → value_at s new ≡ cond (nat_le (rank span.site span.first) s && nat_lt s (rank span.site (span.last + 1))) (Some value) (value_at s old)) → cond (nat_lt stamp.count (2 ^ 64)) (value_at (rank stamp.site stamp.count) old) None ≡ was → span.first < 2 ^ 64 → span.last + 1 < 2 ^ 64 → cond (nat_lt stamp.count (2 ^ 64)) (value_at (rank stamp.site stamp.count) new) None ≡ cond (is_in_span span stamp) (Some value) was
+pub set_values : {V : Type 0} (span : Span) (stamp : Stamp) (value : V) (old new : List (SpanEntry V)) (was : Option V) → ((s : ℕ) → value_at s new ≡ cond (nat_le (rank span.site span.first) s && nat_lt s (rank span.site (span.last + 1))) (Some value) (value_at s old)) → cond (nat_lt stamp.count (2 ^ 64)) (value_at (rank stamp.site stamp.count) old) None ≡ was → span.first < 2 ^ 64 → span.last + 1 < 2 ^ 64 → cond (nat_lt stamp.count (2 ^ 64)) (value_at (rank stamp.site stamp.count) new) None ≡ cond (is_in_span span stamp) (Some value) was
 set_values {V} span stamp value old new was h w f l = by (nat_lt stamp.count (2 ^ 64)) refl w where
   n : ℕ
   n = rank stamp.site stamp.count
@@ -34,5 +34,5 @@ set_values {V} span stamp value old new was h w f l = by (nat_lt stamp.count (2 
   by false e k = k ∙ sym (ap (λ v. cond v (Some value) was) (outside span stamp l (ge_of stamp.count (2 ^ 64) e)))
 
 -- a map with the same blocks looks the same
-pub same_shown : {V : Type 0} (now old : List (Block V)) (left : ℕ) → now ≡ old → ◌≡◌ {A = Shown V} (record { entries = in_blocks now; room = left / 2 }) (record { entries = in_blocks old; room = left / 2 })
+pub same_shown : {V : Type 0} (now old : List (Block V)) (left : ℕ) → now ≡ old → ◌≡◌ {A = SpanMapValue V} (record { entries = in_blocks now; room = left / 2 }) (record { entries = in_blocks old; room = left / 2 })
 same_shown {V} now old left e = λ j. record { entries = in_blocks (e j); room = left / 2 }

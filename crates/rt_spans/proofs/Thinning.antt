@@ -4,9 +4,9 @@ use Rattle.std.specs.List.{AllByRecursion}
 use Rattle.std.proofs.lemmas.Bool.{cases_lt}
 use Rattle.std.proofs.lemmas.List.{take-append-drop}
 use Rattle.std.proofs.lemmas.List.Concat.{flat_map-append}
-use Rattle.rt_spans.specs.declared.entry.Entry.{Entry}
+use Rattle.rt_spans.specs.declared.entry.SpanEntry.{SpanEntry}
 use Rattle.rt_spans.specs.declared.block.Block.{Block}
-use Rattle.rt_spans.specs.Spans.{AreRisingFrom, Has, PaintsOver, Thinned, ThinsOut, key, value_at, value_from, held}
+use Rattle.rt_spans.specs.Spans.{AreRisingFrom, Has, PaintsOver, Thinned, ThinsOut, entry_key, value_at, value_from, entry_value}
 use Rattle.rt_spans.specs.Blocks.{PartsAt, PartsBelow, head_key, in_block, in_blocks}
 use Rattle.rt_spans.specs.Room.{debt}
 use Rattle.rt_spans.proofs.Ranks.{is_le, is_lt}
@@ -19,28 +19,28 @@ use Rattle.rt_spans.proofs.Painting.{ahead, both, has_split}
 -- WHAT HOLDS THEN
 
 -- where an entry doesn't come after a stamp, what holds before the list says nothing
-value_skip : {V : Type 0} (before other : Option V) (s low k : ℕ) (ys : List (Entry V)) → AreRisingFrom low ys → Has k ys → k ≤ s → value_from before s ys ≡ value_from other s ys
+value_skip : {V : Type 0} (before other : Option V) (s low k : ℕ) (ys : List (SpanEntry V)) → AreRisingFrom low ys → Has k ys → k ≤ s → value_from before s ys ≡ value_from other s ys
 value_skip before other s low k [] h m l = absurd m
 value_skip before other s low k (y ∷ ys) h m l =
-    let first : key y ≤ s = omega (arith, l, none_below (key y) k (y ∷ ys) (omega arith, h.1) m) in
-    ap (λ v. cond v (value_from (held y) s ys) before) (is_le (key y) s first) ∙ sym (ap (λ v. cond v (value_from (held y) s ys) other) (is_le (key y) s first))
+    let first : entry_key y ≤ s = omega (arith, l, none_below (entry_key y) k (y ∷ ys) (omega arith, h.1) m) in
+    ap (λ v. cond v (value_from (entry_value y) s ys) before) (is_le (entry_key y) s first) ∙ sym (ap (λ v. cond v (value_from (entry_value y) s ys) other) (is_le (entry_key y) s first))
 
-value_over : {V : Type 0} (before : Option V) (s low k : ℕ) (xs ys : List (Entry V)) → AreRisingFrom low (xs ++ ys) → Has k ys → k ≤ s → value_from before s (xs ++ ys) ≡ value_from None s ys
+value_over : {V : Type 0} (before : Option V) (s low k : ℕ) (xs ys : List (SpanEntry V)) → AreRisingFrom low (xs ++ ys) → Has k ys → k ≤ s → value_from before s (xs ++ ys) ≡ value_from None s ys
 value_over before s low k [] ys h m l = value_skip before None s low k ys h m l
 value_over before s low k (x ∷ xs) ys h m l =
-    ap (λ v. cond v (value_from (held x) s (xs ++ ys)) before) (is_le (key x) s (omega (arith, l, none_below (key x + 1) k (xs ++ ys) h.1 (has_back k xs ys m)))) ∙ value_over (held x) s (key x + 1) k xs ys h.1 m l
+    ap (λ v. cond v (value_from (entry_value x) s (xs ++ ys)) before) (is_le (entry_key x) s (omega (arith, l, none_below (entry_key x + 1) k (xs ++ ys) h.1 (has_back k xs ys m)))) ∙ value_over (entry_value x) s (entry_key x + 1) k xs ys h.1 m l
 
-rising_thinned : {V : Type 0} (low : ℕ) (xs gone ys : List (Entry V)) → AreRisingFrom low (xs ++ (gone ++ ys)) → AreRisingFrom low (xs ++ ys)
-rising_thinned low [] gone ys h = skip key low gone ys h
-rising_thinned low (x ∷ xs) gone ys h = (h.0, rising_thinned (key x + 1) xs gone ys h.1)
+rising_thinned : {V : Type 0} (low : ℕ) (xs gone ys : List (SpanEntry V)) → AreRisingFrom low (xs ++ (gone ++ ys)) → AreRisingFrom low (xs ++ ys)
+rising_thinned low [] gone ys h = skip entry_key low gone ys h
+rising_thinned low (x ∷ xs) gone ys h = (h.0, rising_thinned (entry_key x + 1) xs gone ys h.1)
 
-pub thins_rising : {V : Type 0} (first end low : ℕ) (old new : List (Entry V)) → ThinsOut first end old new → AreRisingFrom low old → AreRisingFrom low new
+pub thins_rising : {V : Type 0} (first end low : ℕ) (old new : List (SpanEntry V)) → ThinsOut first end old new → AreRisingFrom low old → AreRisingFrom low new
 thins_rising first end low old new t h = elim t as (λ _. AreRisingFrom low new) [
   | inl same ↦ subst (λ v. AreRisingFrom low v) (sym same) h
   | inr p ↦ subst (λ v. AreRisingFrom low v) (sym p.is) (rising_thinned low p.front p.gone p.back (subst (λ v. AreRisingFrom low v) p.was h))
 ]
 
-pub thins_keeps : {V : Type 0} (first end q : ℕ) (old new : List (Entry V)) → ThinsOut first end old new → (q ≤ first) ⊎ (end ≤ q) → Has q old → Has q new
+pub thins_keeps : {V : Type 0} (first end q : ℕ) (old new : List (SpanEntry V)) → ThinsOut first end old new → (q ≤ first) ⊎ (end ≤ q) → Has q old → Has q new
 thins_keeps {V} first end q old new t o h = elim t as (λ _. Has q new) [
   | inl same ↦ subst (λ v. Has q v) (sym same) h
   | inr p ↦ subst (λ v. Has q v) (sym p.is) (kept p)
@@ -51,14 +51,14 @@ thins_keeps {V} first end q old new t o h = elim t as (λ _. Has q new) [
       | inl f ↦ has_front q p.front p.back f
       | inr r ↦ elim (has_split q p.gone p.back r) as (λ _. Has q (p.front ++ p.back)) [
         | inl g ↦ absurd (elim o as (λ _. ⊥) [
-          | inl l ↦ omega (arith, l, none_below (first + 1) q p.gone (front key (first + 1) p.gone p.back p.above) g)
+          | inl l ↦ omega (arith, l, none_below (first + 1) q p.gone (front entry_key (first + 1) p.gone p.back p.above) g)
           | inr l ↦ omega (arith, l, p.below q g)
         ])
         | inr b ↦ has_back q p.front p.back b
       ]
     ]
 
-thins_value : {V : Type 0} (first end s : ℕ) (old new : List (Entry V)) → ThinsOut first end old new → AreRisingFrom 0 old → Has end old → (s < first) ⊎ (end ≤ s) → value_at s new ≡ value_at s old
+thins_value : {V : Type 0} (first end s : ℕ) (old new : List (SpanEntry V)) → ThinsOut first end old new → AreRisingFrom 0 old → Has end old → (s < first) ⊎ (end ≤ s) → value_at s new ≡ value_at s old
 thins_value {V} first end s old new t h m o = elim t as (λ _. value_at s new ≡ value_at s old) [
   | inl same ↦ ap (λ v. value_at s v) same
   | inr p ↦ elim o as (λ _. value_at s new ≡ value_at s old) [ inl early ↦ before p early | inr late ↦ after p late ]
@@ -66,7 +66,7 @@ thins_value {V} first end s old new t h m o = elim t as (λ _. value_at s new �
   where
     before : (p : Thinned first end old new) → s < first → value_at s new ≡ value_at s old
     before p early =
-        ap (λ v. value_at s v) p.is ∙ (value_front None s p.front p.back (lower key (s + 1) (first + 1) p.back (omega (arith, early)) (skip key (first + 1) p.gone p.back p.above)) ∙ (sym (value_front None s p.front (p.gone ++ p.back) (lower key (s + 1) (first + 1) (p.gone ++ p.back) (omega (arith, early)) p.above)) ∙ sym (ap (λ v. value_at s v) p.was)))
+        ap (λ v. value_at s v) p.is ∙ (value_front None s p.front p.back (lower entry_key (s + 1) (first + 1) p.back (omega (arith, early)) (skip entry_key (first + 1) p.gone p.back p.above)) ∙ (sym (value_front None s p.front (p.gone ++ p.back) (lower entry_key (s + 1) (first + 1) (p.gone ++ p.back) (omega (arith, early)) p.above)) ∙ sym (ap (λ v. value_at s v) p.was)))
 
     after : (p : Thinned first end old new) → end ≤ s → value_at s new ≡ value_at s old
     after p late =
@@ -75,7 +75,7 @@ thins_value {V} first end s old new t h m o = elim t as (λ _. value_at s new �
         ap (λ v. value_at s v) p.is ∙ (value_over None s 0 end p.front p.back (rising_thinned 0 p.front p.gone p.back rising) (p.ends m) late ∙ (sym (value_over None s 0 end (p.front ++ p.gone) p.back (subst (λ v. AreRisingFrom 0 v) whole h) (p.ends m) late) ∙ sym (ap (λ v. value_at s v) whole)))
 
 -- thinned out, and then painted
-pub painted_within : {V : Type 0} (first end : ℕ) (value : V) (old mid new : List (Entry V)) → ThinsOut first end old mid → AreRisingFrom 0 old → Has end old → PaintsOver first end value mid new → PaintsOver first end value old new
+pub painted_within : {V : Type 0} (first end : ℕ) (value : V) (old mid new : List (SpanEntry V)) → ThinsOut first end old mid → AreRisingFrom 0 old → Has end old → PaintsOver first end value mid new → PaintsOver first end value old new
 painted_within {V} first end value old mid new t h m o = record {
   values = λ s. o.values s ∙ same s;
   rising = o.rising;
@@ -118,7 +118,7 @@ thins_blocks {V} first end from to last bs h p q is less = by bs refl where
     back = in_blocks (drop last bs);
     was = was;
     is = flat_map-append in_block (take from bs) (drop last bs);
-    above = subst (λ v. AreRisingFrom (first + 1) v) behind (heads_above 0 (first + 1) (drop from bs) (skip key 0 (in_blocks (take from bs)) (in_blocks (drop from bs)) (subst (λ v. AreRisingFrom 0 v) (parts from) h)) p.back);
+    above = subst (λ v. AreRisingFrom (first + 1) v) behind (heads_above 0 (first + 1) (drop from bs) (skip entry_key 0 (in_blocks (take from bs)) (in_blocks (drop from bs)) (subst (λ v. AreRisingFrom 0 v) (parts from) h)) p.back);
     below = λ k m. omega (arith, low, before k (subst (λ v. Has k v) (sym (flat_map-append in_block (take from bs) mid.0)) (has_back k (in_blocks (take from bs)) (in_blocks mid.0) m)));
     ends = ends;
   }

@@ -74,5 +74,5 @@ abbrev pub digits_of : ℕ → List ℕ
 digits_of n = if nat_lt n 10 then (n + 48) ∷ [] else (n / 10 + 48) ∷ (n % 10 + 48) ∷ []
 
 -- the number, a space and the name
-abbrev pub text_of : Fault → List ℕ
-text_of fault = digits_of (number_of fault) ++ 32 ∷ name_of fault
+abbrev pub fault_text : Fault → List ℕ
+fault_text fault = digits_of (number_of fault) ++ 32 ∷ name_of fault

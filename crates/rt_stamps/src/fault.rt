@@ -74,7 +74,7 @@ pub enum Fault {
 }
 
 impl Fault {
-    ghost use Rattle.rt_stamps.specs.Fault.{number_of, name_of, text_of};
+    ghost use Rattle.rt_stamps.specs.Fault.{number_of, name_of, fault_text};
 
     /// The fault's number, from 1 to 41.
     pub fn number(self) -> u8
@@ -156,7 +156,7 @@ impl Fault {
 
     /// The number, a space and the name, as `2 BadIndex`.
     pub fn text(self) -> &'static str
-        ensures { result.now ≡ text_of self }
+        ensures { result.now ≡ fault_text self }
     {
         match self {
             Fault::NoMemory => "1 NoMemory",
@@ -196,9 +196,9 @@ impl Fault {
 
 impl fmt::Display for Fault {
     ghost use Rattle.std.specs.Prelude.{Some};
-    ghost use Rattle.rt_stamps.specs.Fault.{text_of};
+    ghost use Rattle.rt_stamps.specs.Fault.{fault_text};
 
-    ghost output = { λ fault. Some (text_of fault) };
+    ghost output = { λ fault. Some (fault_text fault) };
 
     fn fmt<W: fmt::Write>(&self, f: &mut fmt::Formatter<W>) -> fmt::Result {
         f.write_str(self.text())

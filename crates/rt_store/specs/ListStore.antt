@@ -3,5 +3,5 @@ use Rattle.std.specs.Prelude.{ℕ, List}
 use Rattle.rt_store.specs.declared.cell.Cell.{Cell}
 use Rattle.rt_store.specs.declared.list.ListStore.{ListStore}
 
-abbrev pub cells_of : ListStore → List (Cell ℕ)
-cells_of store = store.cells.items
+abbrev pub list_cells : ListStore → List (Cell ℕ)
+list_cells store = store.cells.items

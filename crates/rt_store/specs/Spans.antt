@@ -16,7 +16,10 @@ precedes a b = nat_lt a.site b.site || ((a.site == b.site) && nat_lt a.count b.c
 abbrev pub next_stamp : Stamp → Stamp
 next_stamp stamp = record { count = stamp.count + 1; site = stamp.site }
 
--- the last stamp of a span
+-- the first stamp of a span, and the last one
+abbrev pub first_in_span : Span → Stamp
+first_in_span span = record { count = span.first; site = span.site }
+
 abbrev pub last_stamp : Span → Stamp
 last_stamp span = record { count = span.last; site = span.site }
 

@@ -28,11 +28,11 @@ impl Drop for ListStore {
 }
 
 impl ListStore {
-    ghost use Rattle.rt_store.specs.ListStore.{cells_of};
+    ghost use Rattle.rt_store.specs.ListStore.{list_cells};
 
     /// A store of the final newline alone. `NoMemory` is its only fault.
     pub fn new(alloc: Global) -> Result<ListStore, Fault>
-        ensures ok { IfOk result (λ store. cells_of store ≡ final_cell ∷ []) }
+        ensures ok { IfOk result (λ store. list_cells store ≡ final_cell ∷ []) }
         ensures err { IsOkUnless result Fault.NoMemory }
     {
         let mut cells = Vec::with_capacity(alloc, 1)?;
@@ -331,6 +331,10 @@ impl TextStore for ListStore {
         Some(visible_count(&self.cells[..position]))
     }
 
+    fn visible_before(&self, position: usize) -> usize {
+        visible_count(&self.cells[..position])
+    }
+
     fn lines(&self) -> usize {
         newline_count(&self.cells)
     }
@@ -374,6 +378,8 @@ impl TextStore for ListStore {
 
     // A list is gone through from its beginning each time.
     fn focus(&mut self, _place: usize) {}
+
+    fn focus_on(&mut self, _stamp: Stamp) {}
 
     fn splice(&mut self, _states: &StateTable, at: usize, cells: &[Cell<StateId>]) {
         insert_all(&mut self.cells, at, cells);

@@ -68,6 +68,11 @@ pub trait TextStore: Drop {
     fn place_of(&self, stamp: Stamp) -> Option<usize>
         ensures { result ≡ option_map (visible_before (list self.now)) (position_of (list self.now) stamp) };
 
+    /// How many visible cells stand before the one at a position.
+    fn visible_before(&self, position: usize) -> usize
+        requires { position < length (list self.now) }
+        ensures { result ≡ visible_before (list self.now) position };
+
     /// How many lines the text has.
     fn lines(&self) -> usize
         ensures { result ≡ newlines (text_of (list self.now)) };
@@ -128,6 +133,12 @@ pub trait TextStore: Drop {
     /// Says that what follows is about the text around a place, which may then be found sooner. Changes nothing that is
     /// seen, and takes no memory.
     fn focus(&mut self, place: usize)
+        ensures list { list self.new ≡ list self.old }
+        ensures room { room self.new ≡ room self.old }
+        ensures agrees { (table : TagStates) → agrees self.old table → agrees self.new table };
+
+    /// Says that what follows is about the text around the cell of a stamp, as `focus` does of a place.
+    fn focus_on(&mut self, stamp: Stamp)
         ensures list { list self.new ≡ list self.old }
         ensures room { room self.new ≡ room self.old }
         ensures agrees { (table : TagStates) → agrees self.old table → agrees self.new table };

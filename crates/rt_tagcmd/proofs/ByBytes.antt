@@ -6,7 +6,7 @@ use Rattle.std.specs.Str.{bytes_eq}
 use Rattle.std.specs.FinMap.{slice_cmp-IsAntisymmetric, nat_cmp-IsAntisymmetric}
 use Rattle.std.proofs.lemmas.Cmp.{nat_list_cmp_total}
 use Rattle.std.proofs.lemmas.Slice.Eq.{bytes_eq-Decides}
-use Rattle.rt_marks.specs.Marks.{Mark, name_order, named, HaveOwnNames, AreAscending}
+use Rattle.rt_marks.specs.Marks.{Mark, name_order, mark_of_name, HaveOwnNames, AreAscending}
 use Rattle.rt_marks.proofs.InOrder.{split}
 use Rattle.rt_marks.proofs.Names.{clash, same_name, name_itself, differ_back, names_differ}
 use Rattle.rt_marks.proofs.Order.{lt_trans, lt_asym, lt_neither}
@@ -87,10 +87,10 @@ has_sorted : (names : List Word) (q : Word) → has q (by_bytes names) ≡ has q
 has_sorted [] q = refl
 has_sorted (n ∷ names) q = has_with n (by_bytes names) q ∙ ap (λ v. bytes_eq n q || v) (has_sorted names q)
 
-has_named : (q : Word) (marks : List Mark) → has q (names_of marks) ≡ is_some (named q marks)
+has_named : (q : Word) (marks : List Mark) → has q (names_of marks) ≡ is_some (mark_of_name q marks)
 has_named q [] = refl
 has_named q (m ∷ marks) = by (bytes_eq m.name q) (has_named q marks) where
-  by : (b : Bool) → has q (names_of marks) ≡ is_some (named q marks) → (b || has q (names_of marks)) ≡ is_some (cond b (Some m) (named q marks))
+  by : (b : Bool) → has q (names_of marks) ≡ is_some (mark_of_name q marks) → (b || has q (names_of marks)) ≡ is_some (cond b (Some m) (mark_of_name q marks))
   by true e = refl
   by false e = e
 
@@ -149,10 +149,10 @@ has_contains q (x ∷ names) h =
     (λ t. (0, omega arith, same_name x q t))
     (λ f. let r = more (sym (ap (λ b. b || has q names) f) ∙ h) in (suc r.0, omega (arith, r.1), r.2))
 
-pub listed_by_bytes : (names : List Word) (marks : List Mark) → HaveOwnNames marks → AreAscending names → ((q : Word) → (Contains names q → IsSome (named q marks)) × (IsSome (named q marks) → Contains names q)) → names ≡ by_bytes (names_of marks)
+pub listed_by_bytes : (names : List Word) (marks : List Mark) → HaveOwnNames marks → AreAscending names → ((q : Word) → (Contains names q → IsSome (mark_of_name q marks)) × (IsSome (mark_of_name q marks) → Contains names q)) → names ≡ by_bytes (names_of marks)
 listed_by_bytes names marks own a h =
     one_list names (by_bytes (names_of marks)) a (sorted_ascend marks own)
-    (λ q. same_tests (has q names) (is_some (named q marks)) (λ t. (h q).0 (has_contains q names t)) (λ t. let c = (h q).1 t in contains_has q names c.0 c.1 c.2)
+    (λ q. same_tests (has q names) (is_some (mark_of_name q marks)) (λ t. (h q).0 (has_contains q names t)) (λ t. let c = (h q).1 t in contains_has q names c.0 c.1 c.2)
     ∙ sym (has_named q marks) ∙ sym (has_sorted (names_of marks) q))
 
 -- A NAME PUT IN

@@ -12,7 +12,7 @@ use Rattle.std.proofs.lemmas.Cmp.{ranked, by_ranked}
 use Rattle.rt_index.specs.Index.{index_of}
 use Rattle.rt_marks.specs.declared.gravity.Gravity.{Gravity}
 use Rattle.rt_marks.specs.declared.gravity.Gravity.TheVariants.{Left, Right}
-use Rattle.rt_marks.specs.Marks.{Mark, IsName, gravity_order, name_order, comes_before, named, find_last, mark_after, mark_before, first_mark_at, last_mark_before}
+use Rattle.rt_marks.specs.Marks.{Mark, IsName, gravity_order, name_order, comes_before, mark_of_name, find_last, mark_after, mark_before, first_mark_at, last_mark_before}
 use Rattle.rt_marks.proofs.Names.{clash}
 use Rattle.rt_stamps.specs.declared.fault.Fault.{Fault}
 use Rattle.rt_stamps.specs.Outcomes.{unless, Refuses}
@@ -115,7 +115,7 @@ first_test : (a b : Bool) → (a && b) ≡ true → a ≡ true
 first_test true b h = refl
 first_test false b h = h
 
-pub next_found : (view : ViewValue) (word : Word) → ((name : List ℕ) → named name (marks_of view) ≡ mark_of view name) → AllByRecursion (λ m. IsName m.name) (marks_of view) → mark_next view word ≡ found_from (λ m. found_name (find (comes_before m) (marks_of view))) (looked_from view word)
+pub next_found : (view : ViewValue) (word : Word) → ((name : List ℕ) → mark_of_name name (marks_of view) ≡ mark_of view name) → AllByRecursion (λ m. IsName m.name) (marks_of view) → mark_next view word ≡ found_from (λ m. found_name (find (comes_before m) (marks_of view))) (looked_from view word)
 next_found view word among names =
     let marks = marks_of view in
     either_way (names_mark view word) (mark_of view word) (index_of (widget_of view) word) (found_name (mark_after word marks)) (λ p. found_name (first_mark_at p marks)) (λ m. found_name (find (comes_before m) marks))
@@ -123,7 +123,7 @@ next_found view word among names =
     (λ x e. ap (λ o. found_name (option_and_then (λ m. find (comes_before m) marks) o)) (among word ∙ e))
     (λ p. ap found_name (first_from_edge p marks names))
 
-pub previous_found : (view : ViewValue) (word : Word) → ((name : List ℕ) → named name (marks_of view) ≡ mark_of view name) → AllByRecursion (λ m. IsName m.name) (marks_of view) → mark_previous view word ≡ found_from (λ m. found_name (find_last (λ x. comes_before x m) (marks_of view))) (looked_from view word)
+pub previous_found : (view : ViewValue) (word : Word) → ((name : List ℕ) → mark_of_name name (marks_of view) ≡ mark_of view name) → AllByRecursion (λ m. IsName m.name) (marks_of view) → mark_previous view word ≡ found_from (λ m. found_name (find_last (λ x. comes_before x m) (marks_of view))) (looked_from view word)
 previous_found view word among names =
     let marks = marks_of view in
     either_way (names_mark view word) (mark_of view word) (index_of (widget_of view) word) (found_name (mark_before word marks)) (λ p. found_name (last_mark_before p marks)) (λ m. found_name (find_last (λ x. comes_before x m) marks))

@@ -7,7 +7,7 @@ use Rattle.std.proofs.lemmas.List.Sorted.{IsPermutation-keeps, IsPermutation-map
 use Rattle.std.proofs.lemmas.Bool.{cond-false, cond-true, le-ltb}
 use Rattle.std.proofs.lemmas.Bool.Decides.{nat_tests}
 use Rattle.std.proofs.lemmas.List.{append-nil}
-use Rattle.rt_marks.specs.declared.spot.Spot.{Spot}
+use Rattle.rt_marks.specs.declared.mark_ref.MarkRef.{MarkRef}
 use Rattle.rt_marks.specs.Marks.{Mark, comes_before, in_order, with_mark}
 use Rattle.rt_marks.specs.Seen.{spotted}
 use Rattle.rt_marks.proofs.InOrder.{between, each_with, in_order_middle, split, with_comm, with_here, with_passing}
@@ -43,14 +43,14 @@ same_order : (old new : List Mark) → IsPermutation old new → in_order new �
 same_order old new h = IsPermutation-keeps old (λ l. in_order l ≡ in_order old) refl (λ l i j p q e. one_swap l i j p q ∙ e) new h
 
 -- what a sort leaves
-rising : (spots : List Spot) → IsSortedBy (λ a b. comes_before (spotted a) (spotted b)) spots → in_order (map spotted spots) ≡ map spotted spots
+rising : (spots : List MarkRef) → IsSortedBy (λ a b. comes_before (spotted a) (spotted b)) spots → in_order (map spotted spots) ≡ map spotted spots
 rising [] h = refl
 rising (s ∷ []) h = refl
 rising (s ∷ t ∷ spots) h =
     ap (with_mark (spotted s)) (rising (t ∷ spots) (λ k d l m. let e : suc k + 1 ≡ suc (k + 1) = omega arith in sym (ap (λ n. comes_before (spotted (slice_index_or (s ∷ t ∷ spots) n d)) (spotted (slice_index_or (t ∷ spots) k d))) e) ∙ h (suc k) d (omega arith) (omega arith)))
     ∙ with_here (spotted s) (spotted t) (map spotted spots) (h 0 s (omega arith) (omega arith))
 
-pub sorted_are : (old new : List Spot) → IsPermutation old new → IsSortedBy (λ a b. comes_before (spotted a) (spotted b)) new → map spotted new ≡ in_order (map spotted old)
+pub sorted_are : (old new : List MarkRef) → IsPermutation old new → IsSortedBy (λ a b. comes_before (spotted a) (spotted b)) new → map spotted new ≡ in_order (map spotted old)
 sorted_are old new p h = sym (rising new h) ∙ same_order (map spotted old) (map spotted new) (IsPermutation-map spotted old new p)
 
 -- THOSE OF A STRETCH

@@ -1,7 +1,7 @@
 -- A walk through marks in order, from the last to the first of them.
 use Rattle.std.proofs.Common.{◌≡◌, ℕ, zero, suc, ◌≤◌, ◌<◌, ◌-◌, ◌∙◌, List, [], ◌∷◌, length, drop, map, Option, Some, None, arith, ap, sym}
 use Rattle.std.specs.Prelude.{IfSome, option_map, slice_get}
-use Rattle.rt_marks.specs.declared.spot.Spot.{Spot}
+use Rattle.rt_marks.specs.declared.mark_ref.MarkRef.{MarkRef}
 use Rattle.rt_marks.specs.Seen.{spotted}
 use Rattle.rt_marks.specs.Marks.{Mark, HaveOwnNames, AreInOrder, in_order}
 use Rattle.rt_marks.proofs.Names.{ordered_in_order}
@@ -28,7 +28,7 @@ next_passed zero m (x ∷ marks) e = let same : x ≡ m = cc in ap (λ v. v ∷ 
 next_passed (suc at) m [] e = let bad : ⊥ = cc in absurd bad
 next_passed (suc at) m (x ∷ marks) e = next_passed at m marks e
 
-pub is_last : (o : Option Spot) (count : ℕ) (marks : List Mark) → 0 < count → option_map spotted o ≡ slice_get marks (count - 1)
+pub is_last : (o : Option MarkRef) (count : ℕ) (marks : List Mark) → 0 < count → option_map spotted o ≡ slice_get marks (count - 1)
     → IfSome o (λ mark. (0 < count) × (drop (count - 1) marks ≡ spotted mark ∷ drop count marks))
 is_last None count marks l e = tt
 is_last (Some mark) count marks l e =
@@ -40,6 +40,6 @@ some_within at [] l e = omega (arith, l)
 some_within zero (m ∷ marks) l e = cc
 some_within (suc at) (m ∷ marks) l e = some_within at marks (omega (arith, l)) e
 
-pub none_left : (o : Option Spot) (count : ℕ) (marks : List Mark) → 0 < count → count ≤ length marks → option_map spotted o ≡ slice_get marks (count - 1) → o ≡ None → count ≡ 0
+pub none_left : (o : Option MarkRef) (count : ℕ) (marks : List Mark) → 0 < count → count ≤ length marks → option_map spotted o ≡ slice_get marks (count - 1) → o ≡ None → count ≡ 0
 none_left o count marks l within e none =
     absurd (some_within (count - 1) marks (omega (arith, l, within)) (sym e ∙ ap (option_map spotted) none))

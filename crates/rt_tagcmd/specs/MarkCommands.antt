@@ -14,7 +14,7 @@ use Rattle.rt_stamps.specs.Words.{Word}
 use Rattle.rt_stamps.specs.Names.{name_check}
 use Rattle.rt_text.specs.declared.own_mark.OwnMark.{OwnMark}
 use Rattle.rt_text.specs.Index.{index_check, place_at_index}
-use Rattle.rt_text.specs.Widgets.{ViewValue, in_text, length_shown, mark_of, marks_of, own_mark_of, own_place, own_set, own_with_gravity, widget_of, with_marks}
+use Rattle.rt_text.specs.Widgets.{ViewValue, in_text, length_shown, mark_of, marks_of, own_mark_of, own_place, widget_with_place, widget_with_gravity, widget_of, with_marks}
 
 -- CHECKS
 
@@ -26,7 +26,7 @@ mark_check view name = if is_some (mark_of view name) then None else Some NoMark
 
 -- an own mark or one of the site set at a place: one that is there keeps its gravity, and a new one has right gravity
 abbrev pub set_at : Option OwnMark → ViewValue → Word → ℕ → ViewValue
-set_at (Some which) view name place = record view { own = own_set which (in_text view (own_place which (length_shown view) place)) view.own }
+set_at (Some which) view name place = record view { own = widget_with_place which (in_text view (own_place which (length_shown view) place)) view.own }
 set_at None view name place = with_marks view (marks_set name (in_text view place) view.doc.marks)
 
 abbrev pub mark_set : ViewValue → Word → Word → Result ViewValue Fault
@@ -47,7 +47,7 @@ mark_gravity view name =
 -- mark gravity NAME GRAVITY
 
 abbrev pub with_gravity : Option OwnMark → ViewValue → Word → Gravity → ViewValue
-with_gravity (Some which) view name gravity = record view { own = own_with_gravity which gravity view.own }
+with_gravity (Some which) view name gravity = record view { own = widget_with_gravity which gravity view.own }
 with_gravity None view name gravity = with_marks view (marks_with_gravity name gravity view.doc.marks)
 
 abbrev pub mark_gravity_set : ViewValue → Word → Gravity → Result ViewValue Fault

@@ -9,7 +9,7 @@ ghost use Rattle.rt_text.specs.Widgets.{mark_seen, marks_of};
 use crate::nearest::{first_after, last_of, shows_all};
 use crate::seen::{order, own_spot, seen};
 use rt_lines::Stretch;
-use rt_marks::{Gravity, Marks, Spot};
+use rt_marks::{Gravity, MarkRef, Marks};
 use rt_stamps::Fault;
 use rt_store::TextStore;
 use rt_text::{OwnMark, ViewRef};
@@ -19,9 +19,9 @@ use std::cmp::Ordering;
 /// The first mark of a widget after a spot, where it stands before a place.
 fn next_before<'a, S: TextStore>(
     view: &ViewRef<'a, S>,
-    here: &Spot<'_>,
+    here: &MarkRef<'_>,
     behind: usize,
-) -> Option<Spot<'a>>
+) -> Option<MarkRef<'a>>
     ensures some { IfSome result (λ spot. marks_ahead behind (spotted here.now) (marks_of view.now)
         ≡ spotted spot ∷ marks_ahead behind (spotted spot) (marks_of view.now)) }
     ensures none { result ≡ None → marks_ahead behind (spotted here.now) (marks_of view.now) ≡ [] }
@@ -41,13 +41,13 @@ fn one_by_one<'a, S: TextStore>(
     view: &ViewRef<'a, S>,
     from: usize,
     behind: usize,
-) -> Result<Vec<Spot<'a>>, Fault>
+) -> Result<Vec<MarkRef<'a>>, Fault>
     ensures ok { IfOk result (λ spots. map spotted spots.items ≡ marks_from from behind (marks_of view.now)) }
     ensures err { IsOkUnless result Fault.NoMemory }
 {
     order(view);
     let mut spots = Vec::new(alloc);
-    let mut here = Spot {
+    let mut here = MarkRef {
         place: from,
         gravity: Gravity::Left,
         name: "",
@@ -61,8 +61,8 @@ fn one_by_one<'a, S: TextStore>(
 
 /// Puts a mark behind others, where it stands at a place or behind it, and before another.
 fn push_within<'a>(
-    spots: &mut Vec<Spot<'a>>,
-    spot: Spot<'a>,
+    spots: &mut Vec<MarkRef<'a>>,
+    spot: MarkRef<'a>,
     from: usize,
     behind: usize,
 ) -> Result<(), Fault>
@@ -84,7 +84,7 @@ fn gathered<'a>(
     stretch: Stretch,
     from: usize,
     behind: usize,
-) -> Result<Vec<Spot<'a>>, Fault>
+) -> Result<Vec<MarkRef<'a>>, Fault>
     requires { stretch.begin ≤ stretch.end }
     ensures ok { IfOk result (λ spots. in_order (map spotted spots.items)
         ≡ marks_from from behind (in_order (map (mark_seen stretch) marks.now))) }
@@ -100,14 +100,14 @@ fn gathered<'a>(
 }
 
 /// How two spots compare in the order of marks.
-fn compare(a: &Spot<'_>, b: &Spot<'_>) -> Ordering
+fn compare(a: &MarkRef<'_>, b: &MarkRef<'_>) -> Ordering
     ensures { is_lt result ≡ comes_before (spotted a.now) (spotted b.now) }
 {
     a.cmp(b)
 }
 
 /// Puts marks in order.
-fn sort(spots: &mut Vec<Spot<'_>>) -> Result<(), Fault>
+fn sort(spots: &mut Vec<MarkRef<'_>>) -> Result<(), Fault>
     ensures ok { OnOk result (map spotted spots.new.items ≡ in_order (map spotted spots.old.items)) }
     ensures err { IsOkUnless result Fault.NoMemory }
 {
@@ -120,7 +120,7 @@ fn sorted<'a, S: TextStore>(
     view: &ViewRef<'a, S>,
     from: usize,
     behind: usize,
-) -> Result<Vec<Spot<'a>>, Fault>
+) -> Result<Vec<MarkRef<'a>>, Fault>
     ensures ok { IfOk result (λ spots. map spotted spots.items ≡ marks_from from behind (marks_of view.now)) }
     ensures err { IsOkUnless result Fault.NoMemory }
 {
@@ -140,7 +140,7 @@ pub fn marks_between<'a, S: TextStore>(
     view: &ViewRef<'a, S>,
     from: usize,
     behind: usize,
-) -> Result<Vec<Spot<'a>>, Fault>
+) -> Result<Vec<MarkRef<'a>>, Fault>
     ensures ok { IfOk result (λ spots. map spotted spots.items ≡ marks_from from behind (marks_of view.now)) }
     ensures err { IsOkUnless result Fault.NoMemory }
 {

@@ -9,13 +9,13 @@ ghost use Rattle.rt_text.specs.Widgets.{mark_of};
 use crate::nearest::{first_after, last_before};
 use crate::seen::{order, own_spot, seen};
 use rt_index::is_fixed;
-use rt_marks::{Gravity, Spot};
+use rt_marks::{Gravity, MarkRef};
 use rt_stamps::Fault;
 use rt_store::TextStore;
 use rt_text::{OwnMark, ViewRef};
 
 /// Where the mark of a name stands among the characters that the widget shows, an own one or one of the site.
-fn spot_of<'a, S: TextStore>(view: &ViewRef<'a, S>, name: &str) -> Option<Spot<'a>>
+fn spot_of<'a, S: TextStore>(view: &ViewRef<'a, S>, name: &str) -> Option<MarkRef<'a>>
     ensures { option_map spotted result ≡ mark_of view.now name.now }
 {
     order(view);
@@ -26,7 +26,7 @@ fn spot_of<'a, S: TextStore>(view: &ViewRef<'a, S>, name: &str) -> Option<Spot<'
 }
 
 /// Where a word looks from.
-fn look<'a, S: TextStore>(view: &ViewRef<'a, S>, word: &str) -> Result<Spot<'a>, Fault>
+fn look<'a, S: TextStore>(view: &ViewRef<'a, S>, word: &str) -> Result<MarkRef<'a>, Fault>
     ensures ok { IfOk result (λ spot. looked_from view.now word.now ≡ Ok (spotted spot)) }
     ensures err { IfErr result (Refuses (looked_from view.now word.now)) }
 {
@@ -36,7 +36,7 @@ fn look<'a, S: TextStore>(view: &ViewRef<'a, S>, word: &str) -> Result<Spot<'a>,
         }
     }
     let place = view.place(word)?;
-    Ok(Spot {
+    Ok(MarkRef {
         place,
         gravity: Gravity::Left,
         name: "",
@@ -44,7 +44,7 @@ fn look<'a, S: TextStore>(view: &ViewRef<'a, S>, word: &str) -> Result<Spot<'a>,
 }
 
 /// The name of the mark at a spot, if there is one.
-fn found_name<'a>(mark: Option<Spot<'a>>) -> Option<&'a str>
+fn found_name<'a>(mark: Option<MarkRef<'a>>) -> Option<&'a str>
     ensures { option_copied result ≡ found_name (option_map spotted mark.entry) }
 {
     Some(mark?.name)

@@ -7,12 +7,16 @@ ghost use Rattle.rt_text.specs.Widgets.{mark_seen, marks_of, marks_shown, stretc
 
 use crate::seen::{order, own_spot, seen};
 use rt_lines::Stretch;
-use rt_marks::{Marks, Spot};
+use rt_marks::{MarkRef, Marks};
 use rt_store::TextStore;
 use rt_text::{OwnMark, ViewRef};
 
 /// The first mark after a spot, of the one that was found and one more.
-fn nearer_after<'a>(here: &Spot<'_>, found: Option<Spot<'a>>, own: Spot<'a>) -> Option<Spot<'a>>
+fn nearer_after<'a>(
+    here: &MarkRef<'_>,
+    found: Option<MarkRef<'a>>,
+    own: MarkRef<'a>,
+) -> Option<MarkRef<'a>>
     ensures { (marks : List Mark) → AreInOrder marks → option_map spotted found.entry ≡ find (comes_before (spotted here.now)) marks
         → option_map spotted result ≡ find (comes_before (spotted here.now)) (with_mark (spotted own.entry) marks) }
 {
@@ -26,7 +30,11 @@ fn nearer_after<'a>(here: &Spot<'_>, found: Option<Spot<'a>>, own: Spot<'a>) -> 
 }
 
 /// The last mark before a spot, of the one that was found and one more.
-fn nearer_before<'a>(here: &Spot<'_>, found: Option<Spot<'a>>, own: Spot<'a>) -> Option<Spot<'a>>
+fn nearer_before<'a>(
+    here: &MarkRef<'_>,
+    found: Option<MarkRef<'a>>,
+    own: MarkRef<'a>,
+) -> Option<MarkRef<'a>>
     ensures { (marks : List Mark) → AreInOrder marks → option_map spotted found.entry ≡ find_last (λ m. comes_before m (spotted here.now)) marks
         → option_map spotted result ≡ find_last (λ m. comes_before m (spotted here.now)) (with_mark (spotted own.entry) marks) }
 {
@@ -40,7 +48,7 @@ fn nearer_before<'a>(here: &Spot<'_>, found: Option<Spot<'a>>, own: Spot<'a>) ->
 }
 
 /// The last of so many marks at the front of the order.
-pub(crate) fn last_of(marks: &Marks, count: usize) -> Option<Spot<'_>>
+pub(crate) fn last_of(marks: &Marks, count: usize) -> Option<MarkRef<'_>>
     requires { count ≤ length marks.now }
     ensures some { IfSome result (λ mark. (0 < count) × (drop (count - 1) marks.now ≡ spotted mark ∷ drop count marks.now)) }
     ensures none { result ≡ None → count ≡ 0 }
@@ -53,7 +61,7 @@ pub(crate) fn last_of(marks: &Marks, count: usize) -> Option<Spot<'_>>
 }
 
 /// The first mark after a spot, of marks at their places among the characters of a stretch: each of them is looked at.
-fn first_seen<'a>(marks: &'a Marks, stretch: Stretch, here: &Spot<'_>) -> Option<Spot<'a>>
+fn first_seen<'a>(marks: &'a Marks, stretch: Stretch, here: &MarkRef<'_>) -> Option<MarkRef<'a>>
     requires { stretch.begin ≤ stretch.end }
     ensures { option_map spotted result ≡ find (comes_before (spotted here.now)) (in_order (map (mark_seen stretch) marks.now)) }
 {
@@ -68,7 +76,7 @@ fn first_seen<'a>(marks: &'a Marks, stretch: Stretch, here: &Spot<'_>) -> Option
 }
 
 /// The last mark before a spot, of marks at their places among the characters of a stretch: each of them is looked at.
-fn last_seen<'a>(marks: &'a Marks, stretch: Stretch, here: &Spot<'_>) -> Option<Spot<'a>>
+fn last_seen<'a>(marks: &'a Marks, stretch: Stretch, here: &MarkRef<'_>) -> Option<MarkRef<'a>>
     requires { stretch.begin ≤ stretch.end }
     ensures { option_map spotted result ≡ find_last (λ m. comes_before m (spotted here.now)) (in_order (map (mark_seen stretch) marks.now)) }
 {
@@ -91,7 +99,7 @@ pub(crate) fn shows_all<S: TextStore>(view: &ViewRef<'_, S>) -> bool
 }
 
 /// The first mark of the site after a spot, as the widget sees them: a binary search where it shows all of the text.
-fn first_shown<'a, S: TextStore>(view: &ViewRef<'a, S>, here: &Spot<'_>) -> Option<Spot<'a>>
+fn first_shown<'a, S: TextStore>(view: &ViewRef<'a, S>, here: &MarkRef<'_>) -> Option<MarkRef<'a>>
     ensures { option_map spotted result ≡ find (comes_before (spotted here.now)) (marks_shown view.now) }
 {
     let marks = view.doc().marks();
@@ -104,7 +112,7 @@ fn first_shown<'a, S: TextStore>(view: &ViewRef<'a, S>, here: &Spot<'_>) -> Opti
 }
 
 /// The last mark of the site before a spot, as the widget sees them: a binary search where it shows all of the text.
-fn last_shown<'a, S: TextStore>(view: &ViewRef<'a, S>, here: &Spot<'_>) -> Option<Spot<'a>>
+fn last_shown<'a, S: TextStore>(view: &ViewRef<'a, S>, here: &MarkRef<'_>) -> Option<MarkRef<'a>>
     ensures { option_map spotted result ≡ find_last (λ m. comes_before m (spotted here.now)) (marks_shown view.now) }
 {
     let marks = view.doc().marks();
@@ -119,8 +127,8 @@ fn last_shown<'a, S: TextStore>(view: &ViewRef<'a, S>, here: &Spot<'_>) -> Optio
 /// The first mark of a widget after a spot.
 pub(crate) fn first_after<'a, S: TextStore>(
     view: &ViewRef<'a, S>,
-    here: &Spot<'_>,
-) -> Option<Spot<'a>>
+    here: &MarkRef<'_>,
+) -> Option<MarkRef<'a>>
     ensures { option_map spotted result ≡ find (comes_before (spotted here.now)) (marks_of view.now) }
 {
     order(view);
@@ -135,8 +143,8 @@ pub(crate) fn first_after<'a, S: TextStore>(
 /// The last mark of a widget before a spot.
 pub(crate) fn last_before<'a, S: TextStore>(
     view: &ViewRef<'a, S>,
-    here: &Spot<'_>,
-) -> Option<Spot<'a>>
+    here: &MarkRef<'_>,
+) -> Option<MarkRef<'a>>
     ensures { option_map spotted result ≡ find_last (λ m. comes_before m (spotted here.now)) (marks_of view.now) }
 {
     order(view);

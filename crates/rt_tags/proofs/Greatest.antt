@@ -13,7 +13,7 @@ use Rattle.rt_stamps.specs.declared.stamp.TheConstants.{ROOT}
 use Rattle.rt_stamps.specs.Names.{name_order}
 use Rattle.rt_stamps.specs.Stamps.{is_before}
 use Rattle.rt_tags.specs.Tags.{is_listed}
-use Rattle.rt_tags.specs.States.{Write, above, below, is_kept, is_on, is_settled, says_on, write_of, written}
+use Rattle.rt_tags.specs.States.{Write, writes_above, writes_below, is_kept, is_on, is_settled, says_on, write_of, written}
 use Rattle.rt_tags.specs.Writers.{greater, greatest, is_shared, listed_by, state_after, writes_of}
 use Rattle.rt_tags.proofs.Places.{split, clash, same_name}
 use Rattle.rt_tags.proofs.Sorted.{every}
@@ -61,9 +61,9 @@ abbrev pub newer : Option Write → Write → Write
 newer None w = w
 newer (Some v) w = greater v (Some w)
 
-put_other : (q : List ℕ) (w : Write) (state : List Write) → bytes_eq q w.name ≡ false → write_of q (below w.name state ++ w ∷ above w.name state) ≡ write_of q state
+put_other : (q : List ℕ) (w : Write) (state : List Write) → bytes_eq q w.name ≡ false → write_of q (writes_below w.name state ++ w ∷ writes_above w.name state) ≡ write_of q state
 put_other q w state f =
-    write_of_append q (below w.name state) (w ∷ above w.name state)
+    write_of_append q (writes_below w.name state) (w ∷ writes_above w.name state)
     ∙ (λ j. or_else (write_of_filter (λ n. is_lt (name_order n w.name)) q state j) (cond (f j) (Some w) (write_of_filter (λ n. is_gt (name_order n w.name)) q state j)))
     ∙ by (name_order q w.name) refl (write_of q state)
   where
@@ -74,12 +74,12 @@ put_other q w state f =
     by Greater e None = refl
     by Greater e (Some v) = refl
 
-put_itself : (q : List ℕ) (w : Write) (state : List Write) → bytes_eq q w.name ≡ true → write_of q (below w.name state ++ w ∷ above w.name state) ≡ Some w
+put_itself : (q : List ℕ) (w : Write) (state : List Write) → bytes_eq q w.name ≡ true → write_of q (writes_below w.name state ++ w ∷ writes_above w.name state) ≡ Some w
 put_itself q w state t =
     let itself : is_lt (name_order q w.name) ≡ false = ap (λ n. is_lt (name_order n w.name)) (same_name q w.name t) ∙ ap is_lt (tied_itself nat_list_cmp_total w.name) in
-    write_of_append q (below w.name state) (w ∷ above w.name state)
-    ∙ ap (λ o. or_else o (write_of q (w ∷ above w.name state))) (write_of_filter (λ n. is_lt (name_order n w.name)) q state ∙ ap (λ b. cond b (write_of q state) None) itself)
-    ∙ ap (λ b. cond b (Some w) (write_of q (above w.name state))) t
+    write_of_append q (writes_below w.name state) (w ∷ writes_above w.name state)
+    ∙ ap (λ o. or_else o (write_of q (w ∷ writes_above w.name state))) (write_of_filter (λ n. is_lt (name_order n w.name)) q state ∙ ap (λ b. cond b (write_of q state) None) itself)
+    ∙ ap (λ b. cond b (Some w) (write_of q (writes_above w.name state))) t
 
 settled_newer : (w : Write) (o : Option Write) → is_kept o w ≡ true → o ≡ Some (newer o w)
 settled_newer w None h = absurd (true≢false (sym h))
@@ -100,11 +100,11 @@ less_newer w (Some v) h = by (is_before v.writer w.writer) h
 pub write_of_written : (q : List ℕ) (w : Write) (state : List Write) → write_of q (written w state) ≡ cond (bytes_eq q w.name) (Some (newer (write_of w.name state) w)) (write_of q state)
 write_of_written q w state =
     split (is_settled w state)
-    (λ s. ap (λ b. write_of q (cond b state (below w.name state ++ w ∷ above w.name state))) s
+    (λ s. ap (λ b. write_of q (cond b state (writes_below w.name state ++ w ∷ writes_above w.name state))) s
     ∙ split (bytes_eq q w.name)
     (λ t. ap (λ n. write_of n state) (same_name q w.name t) ∙ settled_newer w (write_of w.name state) s ∙ sym (chosen t))
     (λ f. sym (other f)))
-    (λ s. ap (λ b. write_of q (cond b state (below w.name state ++ w ∷ above w.name state))) s
+    (λ s. ap (λ b. write_of q (cond b state (writes_below w.name state ++ w ∷ writes_above w.name state))) s
     ∙ split (bytes_eq q w.name)
     (λ t. put_itself q w state t ∙ less_newer w (write_of w.name state) s ∙ sym (chosen t))
     (λ f. put_other q w state f ∙ sym (other f)))

@@ -1,75 +1,140 @@
 -- Names and states as a table keeps them, and what is seen of it.
-use Rattle.std.proofs.Common.{◌≡◌, inl, inr, ℕ, zero, suc, ◌<◌, List, [], ◌∷◌, ◌++◌, map, filter, length, get_or, slice_get, true, false, cond, refl, sym, ap, subst, ◌∙◌, arith, Option, Some, None, option_map}
-use Rattle.std.specs.List.{All, AllByRecursion}
-use Rattle.std.specs.declared.cmp.Ordering.TheVariants.{Less, Greater}
-use Rattle.std.proofs.lemmas.List.{length-append}
-use Rattle.std.proofs.lemmas.List.Elements.{All-append, All-cons, All-filter, All-from_recursion, All-nil, All-weaker}
-use Rattle.std.proofs.lemmas.Option.{slice_get-get_or, slice_get-map, get_or_from_slice_get}
+use Rattle.std.proofs.Common.{◌≡◌, ◌||◌, ℕ, zero, suc, ◌+◌, ◌<◌, ◌≤◌, ◌^◌, List, [], ◌∷◌, ◌++◌, map, length, get_or, slice_get, true, false, cond, refl, sym, ap, subst, ◌∙◌, arith, Some, inl, inr}
+use Rattle.std.proofs.Math.ListN.{get_or-map}
+use Rattle.std.proofs.lemmas.Bool.{cases_lt}
+use Rattle.std.proofs.lemmas.List.{length-append, length-map}
+use Rattle.std.proofs.lemmas.Option.{get_or_from_slice_get}
 use Rattle.rt_tags.specs.Tags.{HaveNoRepeats, is_listed}
-use Rattle.rt_tags.specs.States.{Write, TagStates, AreDistinct, AreNumbered, Interns, IsByName, IsNew, IsState, IsTag, KeepsIds, above, below, is_kept, is_on, is_settled, name_at, names_on, numbered, says_on, state_at, write_of, written}
-use Rattle.rt_tags.specs.Kept.{AreKept, HaveNames, IsKept, IsNext, IsSorted, IsTable, is_on_side, all_seen, entry_of, is_entry_kept, seen, state_seen, states_seen, tags_on}
-use Rattle.rt_tags.specs.declared.states.Entry.{Entry}
-use Rattle.rt_tags.specs.declared.states.State.{State}
-use Rattle.rt_tags.proofs.Entries.{found_seen, not_written, written_seen, named, on_named, on_seen, seen_stays}
-use Rattle.rt_tags.proofs.Places.{split}
-use Rattle.rt_tags.proofs.Sorted.{every, put_sorted}
+use Rattle.rt_tags.specs.States.{TagStates, AreNumbered, IsByName, IsState, IsTag, KeepsIds, is_on, is_settled, name_at, names_on, numbered, says_on, state_at, write_at}
+use Rattle.rt_tags.specs.Kept.{IsStateTable, write_seen, state_of, states_seen}
+use Rattle.rt_tags.specs.SharedStates.{AreBelow, AreShared, Empty, HasMore, Tree, at_id, entries_of, is_setting_kept, puts_on, setting_of, trees_of}
+use Rattle.rt_tags.specs.Writers.{state_after}
+use Rattle.rt_tags.specs.declared.nodes.Node.{Node}
+use Rattle.rt_tags.specs.declared.states.TagEntry.{TagEntry}
+use Rattle.rt_tags.proofs.Entries.{seen_stays}
+use Rattle.rt_tags.proofs.OneId.{IsFull, full_below, none_from, one_id}
+use Rattle.rt_tags.proofs.Places.{clash, name_itself, split}
+use Rattle.rt_tags.proofs.SeenStates.{by_name_there, entries_named, listed_place, on_there, settings_there, settled_there, write_nowhere}
+use Rattle.rt_tags.proofs.Walking.{on_is_there}
+use Rattle.rt_tags.proofs.Commuting.{on_is_listed}
+use Rattle.rt_tags.proofs.Trees.{first_is, keeps_more, outside_is, trees_length}
 
-abbrev pub table_of : List (List ℕ) → List State → TagStates
-table_of names keys = record { names = names; states = states_seen names keys }
+abbrev pub table_of : List (List ℕ) → List Node → TagStates
+table_of names nodes = record { names = names; states = states_seen names nodes }
 
 -- A STATE OF THE LIST
 
-at_place : {X : Type 0} (P : X → Type 0) (xs : List X) (i : ℕ) (x : X) → AllByRecursion P xs → slice_get xs i ≡ Some x → P x
-at_place P [] i x h e = absurd (cc)
-at_place P (y ∷ xs) zero x h e = let one : y ≡ x = cc in subst P one h.0
-at_place P (y ∷ xs) (suc i) x h e = at_place P xs i x h.1 e
+pub state_there : (names : List (List ℕ)) (nodes : List Node) (id : ℕ) → state_at (table_of names nodes) id ≡ state_of names (at_id nodes id)
+state_there names nodes id = get_or-map (state_of names) (trees_of nodes) id Empty
 
-new_at : (s : List Write) (states : List (List Write)) (i : ℕ) → IsNew s states → i < length states → s ≡ get_or states i [] → ⊥
-new_at s [] i h k e = omega (arith, k)
-new_at s (x ∷ states) zero h k e = h.0 e
-new_at s (x ∷ states) (suc i) h k e = new_at s states i h.1 (omega (arith, k)) e
+pub states_length : (names : List (List ℕ)) (nodes : List Node) → length (states_seen names nodes) ≡ length nodes
+states_length names nodes = length-map (trees_of nodes) (state_of names) ∙ trees_length nodes
 
-pub one_id : (states : List (List Write)) (i j : ℕ) → AreDistinct states → i < length states → j < length states → get_or states i [] ≡ get_or states j [] → i ≡ j
-one_id [] i j d h k e = absurd (omega (arith, h))
-one_id (s ∷ states) zero zero d h k e = refl
-one_id (s ∷ states) zero (suc j) d h k e = absurd (new_at s states j d.0 (omega (arith, k)) e)
-one_id (s ∷ states) (suc i) zero d h k e = absurd (new_at s states i d.0 (omega (arith, h)) (sym e))
-one_id (s ∷ states) (suc i) (suc j) d h k e = ap (λ n. suc n) (one_id states i j d.1 (omega (arith, h)) (omega (arith, k)) e)
+same_map : {A : Type 0} (f g : Tree → A) (xs : List Tree) → ((i : ℕ) → f (get_or xs i Empty) ≡ g (get_or xs i Empty)) → map f xs ≡ map g xs
+same_map f g [] h = refl
+same_map f g (x ∷ xs) h = λ j. h 0 j ∷ same_map f g xs (λ i. h (suc i)) j
 
-pub by_name_at : (names : List (List ℕ)) (keys : List State) (i : ℕ) → AllByRecursion (IsKept names) keys → IsByName (get_or (states_seen names keys) i [])
-by_name_at names [] i h = tt
-by_name_at names (s ∷ keys) zero h = h.0.by_name
-by_name_at names (s ∷ keys) (suc i) h = by_name_at names keys i h.1
+pub given_new : (names : List (List ℕ)) (nodes : List Node) (id : ℕ) → id < length nodes → IsState (table_of names nodes) id
+given_new names nodes id w = let e = states_length names nodes in omega (arith, e, w)
 
-pub nowhere_on : (name : List ℕ) (names : List (List ℕ)) (keys : List State) (i : ℕ) → is_listed name names ≡ false → AllByRecursion (IsKept names) keys → is_on name (get_or (states_seen names keys) i []) ≡ false
-nowhere_on name names [] i n h = refl
-nowhere_on name names (s ∷ keys) zero n h = ap says_on (not_written name names s.entries.items n (named (length names) s.entries.items h.0.named))
-nowhere_on name names (s ∷ keys) (suc i) n h = nowhere_on name names keys i n h.1
+-- also of what wasn't given out
+pub full_at : (nodes : List Node) (id : ℕ) → AreShared nodes → IsFull (at_id nodes id)
+full_at nodes id are = elim (cases_lt id (length nodes)) as (λ w. IsFull (at_id nodes id)) [
+  | inl w ↦ full_below (suc id) id nodes are (omega arith) w
+  | inr w ↦ subst IsFull (sym (outside_is nodes id w)) tt
+]
 
--- MORE NAMES
+none_listed : (xs : List (List ℕ)) → ((q : List ℕ) → is_listed q xs ≡ false) → xs ≡ []
+none_listed [] h = refl
+none_listed (x ∷ xs) h = absurd (clash (is_listed x (x ∷ xs)) (ap (λ b. b || is_listed x xs) (name_itself x)) (h x))
 
-states_stay : (names more : List (List ℕ)) (keys : List State) → AllByRecursion (IsKept names) keys → states_seen (names ++ more) keys ≡ states_seen names keys
-states_stay names more [] h = refl
-states_stay names more (s ∷ keys) h = λ j. seen_stays names more s.entries.items (named (length names) s.entries.items h.0.named) j ∷ states_stay names more keys h.1 j
+module _ (names : List (List ℕ)) (nodes : List Node) (h : IsStateTable names nodes) where
+  pub given_there : (id : ℕ) → IsState (table_of names nodes) id → id < length nodes
+  given_there id w = let e = states_length names nodes in omega (arith, e, w)
 
-kept_longer : (names more : List (List ℕ)) (s : State) → IsKept names s → IsKept (names ++ more) s
-kept_longer names more s k = record {
-  named = All-weaker (λ (e : Entry). e.tag < length names) (λ (e : Entry). e.tag < length (names ++ more)) (λ e l. omega (arith, l, length-append names more)) s.entries.items k.named;
-  on = k.on;
-  by_name = subst IsByName (sym (seen_stays names more s.entries.items (named (length names) s.entries.items k.named))) k.by_name;
-}
+  pub by_name_at : (id : ℕ) → IsByName (state_at (table_of names nodes) id)
+  by_name_at id = subst IsByName (sym (state_there names nodes id)) (by_name_there names h.names_differ (at_id nodes id) (full_at nodes id h.shared) (h.named id))
 
-pub table_longer : (names more : List (List ℕ)) (keys : List State) → IsTable names keys → HaveNoRepeats (names ++ more) → IsTable (names ++ more) keys
-table_longer names more keys h own =
-    let stays = states_stay names more keys h.kept.each in
-    record {
-      kept = record {
-        names_differ = own;
-        each = every (IsKept names) (IsKept (names ++ more)) (λ s k. kept_longer names more s k) keys h.kept.each;
-        states_differ = subst AreDistinct (sym stays) h.kept.states_differ;
-      };
-      empty = subst (λ v. slice_get v 0 ≡ Some []) (sym stays) h.empty;
-    }
+  pub nowhere_on : (name : List ℕ) (id : ℕ) → is_listed name names ≡ false → is_on name (state_at (table_of names nodes) id) ≡ false
+  nowhere_on name id f =
+      ap (is_on name) (state_there names nodes id) ∙ ap says_on (write_nowhere names h.names_differ (at_id nodes id) (full_at nodes id h.shared) (h.named id) name f)
+
+  pub one_state_id : (a b : ℕ) → IsState (table_of names nodes) a → IsState (table_of names nodes) b → state_at (table_of names nodes) a ≡ state_at (table_of names nodes) b → a ≡ b
+  one_state_id a b v w e =
+      one_id nodes a b h.shared (given_there a v) (given_there b w)
+      (settings_there names h.names_differ (at_id nodes a) (at_id nodes b) (full_at nodes a h.shared) (h.named a) (full_at nodes b h.shared) (h.named b)
+      (sym (state_there names nodes a) ∙ (e ∙ state_there names nodes b)))
+
+  pub first_state : state_at (table_of names nodes) 0 ≡ []
+  first_state = state_there names nodes 0 ∙ ap (state_of names) (first_is nodes)
+
+  -- WHAT IS ON
+
+  pub on_state : (tag id : ℕ) → tag < length names → is_on (name_at (table_of names nodes) tag) (state_at (table_of names nodes) id) ≡ puts_on (setting_of (at_id nodes id) tag)
+  on_state tag id w = ap (is_on (get_or names tag [])) (state_there names nodes id) ∙ on_there names h.names_differ (at_id nodes id) (full_at nodes id h.shared) (h.named id) tag w
+
+  pub nothing_on : (id : ℕ) → ((t : ℕ) → puts_on (setting_of (at_id nodes id) t) ≡ false) → names_on (state_at (table_of names nodes) id) ≡ []
+  nothing_on id off =
+      let state = state_at (table_of names nodes) id in
+      none_listed (names_on state) (λ q. sym (on_is_listed q state (by_name_at id))
+      ∙ split (is_listed q names)
+      (λ t. let r = listed_place q names t in subst (λ (x : List ℕ). is_on x state ≡ false) r.2 (on_state r.0 id r.1 ∙ off r.0))
+      (λ f. nowhere_on q id f))
+
+  pub something_on : (id t : ℕ) → puts_on (setting_of (at_id nodes id) t) ≡ true → names_on (state_at (table_of names nodes) id) ≡ [] → ⊥
+  something_on id t on none =
+      let state = state_at (table_of names nodes) id in
+      let name = get_or names t [] in
+      let w : t < length names = h.named id t (on_is_there (setting_of (at_id nodes id) t) on) in
+      clash (is_on name state) (on_state t id w ∙ on) (on_is_listed name state (by_name_at id) ∙ ap (is_listed name) none)
+
+  -- AS CALLERS SEE IT
+
+  module _ (t : TagStates) (view : table_of names nodes ≡ t) where
+    -- an id that was given out is the place of a node
+    pub place_given : (p id : ℕ) → p ≡ id → IsState t id → p < length nodes
+    place_given p id e w = let k = given_there id (subst (λ (v : TagStates). IsState v id) (sym view) w) in omega (arith, e, k)
+
+    pub has_is : (p id q tag : ℕ) → p ≡ id → q ≡ tag → IsTag t tag → puts_on (setting_of (at_id nodes p) q) ≡ is_on (name_at t tag) (state_at t id)
+    has_is p id q tag a b w =
+        (λ j. puts_on (setting_of (at_id nodes (a j)) (b j)))
+        ∙ subst (λ (v : TagStates). puts_on (setting_of (at_id nodes id) tag) ≡ is_on (name_at v tag) (state_at v id)) view (sym (on_state tag id (subst (λ (v : TagStates). IsTag v tag) (sym view) w)))
+
+    pub kept_there : (p id : ℕ) (e : TagEntry) → p ≡ id → IsTag t e.tag → is_settled (write_at t e.tag e.writer e.on) (state_at t id) ≡ true → is_setting_kept (setting_of (at_id nodes p) e.tag) e.writer ≡ true
+    kept_there p id e a w settled =
+        let tag : e.tag < length names = subst (λ (v : TagStates). IsTag v e.tag) (sym view) w in
+        let here = subst (λ (v : TagStates). is_settled (write_at v e.tag e.writer e.on) (state_at v id) ≡ true) (sym view) settled in
+        sym (settled_there names h.names_differ (at_id nodes p) (full_at nodes p h.shared) (h.named p) e tag)
+        ∙ (ap (λ (i : ℕ). is_settled (write_seen names e) (state_of names (at_id nodes i))) a
+        ∙ (ap (is_settled (write_seen names e)) (sym (state_there names nodes id)) ∙ here))
+
+  -- a tag without a name is on in no state
+  pub off_past : (id tag : ℕ) → length names ≤ tag → puts_on (setting_of (at_id nodes id) tag) ≡ false
+  off_past id tag w = ap puts_on (none_from (setting_of (at_id nodes id) tag) (λ is. let k = h.named id tag is in absurd (omega (arith, k, w))))
+
+  pub table_after : (new : List Node) → AreShared new → AreBelow (length names) new → IsStateTable names new
+  table_after new kept below = record { names_differ = h.names_differ; few = h.few; shared = kept; named = below }
+
+  -- MORE NAMES
+
+  stays_seen : (more : List (List ℕ)) (id : ℕ) → state_of (names ++ more) (at_id nodes id) ≡ state_of names (at_id nodes id)
+  stays_seen more id = ap (state_after []) (seen_stays names more (entries_of (at_id nodes id)) (entries_named (length names) (at_id nodes id) (full_at nodes id h.shared) (h.named id)))
+
+  pub states_stay : (more : List (List ℕ)) → states_seen (names ++ more) nodes ≡ states_seen names nodes
+  states_stay more = same_map (state_of (names ++ more)) (state_of names) (trees_of nodes) (λ i. stays_seen more i)
+
+  pub table_longer : (more : List (List ℕ)) → length (names ++ more) ≤ 2 ^ 32 → HaveNoRepeats (names ++ more) → IsStateTable (names ++ more) nodes
+  table_longer more few own = record {
+    names_differ = own;
+    few = few;
+    shared = h.shared;
+    named = λ id t is. let w = h.named id t is in let e = length-append names more in omega (arith, w, e);
+  }
+
+  pub numbered_new : (name : List ℕ) → is_listed name names ≡ false → table_of (names ++ name ∷ []) nodes ≡ numbered name (table_of names nodes)
+  numbered_new name f =
+      (λ j. record { names = names ++ name ∷ []; states = states_stay (name ∷ []) j })
+      ∙ ap (λ b. record { names = cond b names (names ++ name ∷ []); states = states_seen names nodes }) (sym f)
 
 last_name : (names : List (List ℕ)) (name : List ℕ) → slice_get (names ++ name ∷ []) (length names) ≡ Some name
 last_name [] name = refl
@@ -78,25 +143,12 @@ last_name (x ∷ names) name = last_name names name
 pub stands_last : (names new : List (List ℕ)) (name : List ℕ) (n : ℕ) → new ≡ names ++ name ∷ [] → n ≡ length names → slice_get new n ≡ Some name
 stands_last names new name n e k = subst (λ v. slice_get v n ≡ Some name) (sym e) (subst (λ i. slice_get (names ++ name ∷ []) i ≡ Some name) (sym k) (last_name names name))
 
-pub numbered_new : (names : List (List ℕ)) (name : List ℕ) (keys : List State) → IsTable names keys → is_listed name names ≡ false → table_of (names ++ name ∷ []) keys ≡ numbered name (table_of names keys)
-numbered_new names name keys h f =
-    (λ j. record { names = names ++ name ∷ []; states = states_stay names (name ∷ []) keys h.kept.each j })
-    ∙ ap (λ b. record { names = cond b names (names ++ name ∷ []); states = states_seen names keys }) (sym f)
-
 -- IDS
 
 stays_at : {X : Type 0} (d : X) (xs more : List X) (i : ℕ) → i < length xs → get_or (xs ++ more) i d ≡ get_or xs i d
 stays_at d [] more i h = absurd (omega (arith, h))
 stays_at d (x ∷ xs) more zero h = refl
 stays_at d (x ∷ xs) more (suc i) h = stays_at d xs more i (omega (arith, h))
-
--- a state more
-keeps_longer : (t : TagStates) (s : List Write) → KeepsIds t (record { names = t.names; states = t.states ++ s ∷ [] })
-keeps_longer t s = record {
-  tags = λ i h. (h, refl);
-  states = λ i h. (omega (arith, h, length-append t.states (s ∷ [])), stays_at [] t.states (s ∷ []) i h);
-  later = λ tag state more given there. absurd (omega (arith, more, given));
-}
 
 pub keeps_itself : (t : TagStates) → KeepsIds t t
 keeps_itself t = record { tags = λ i h. (h, refl); states = λ i h. (h, refl); later = λ tag state more given there. absurd (omega (arith, more, given)) }
@@ -119,106 +171,18 @@ keeps_numbered name t numbered_all =
     (λ h. subst (λ b. KeepsIds t (record t { names = cond b t.names (t.names ++ name ∷ []) })) (sym h)
     (keeps_named name t (λ state. numbered_all name state h)))
 
-pub keeps_interned : (s : List Write) (t u : TagStates) (id : ℕ) → u.names ≡ t.names → Interns s t.states id u.states → KeepsIds t u
-keeps_interned s t u id n (at, inl e) = subst (KeepsIds t) (λ j. record { names = sym n j; states = sym e j }) (keeps_itself t)
-keeps_interned s t u id n (at, inr e) =
-    subst (KeepsIds t) (λ j. record { names = sym n j; states = sym e.0 j }) (keeps_longer t s)
+-- more nodes
+pub keeps_states : (names : List (List ℕ)) (old new : List Node) → HasMore old new → KeepsIds (table_of names old) (table_of names new)
+keeps_states names old new more = record {
+  tags = λ i w. (w, refl);
+  states = λ i w.
+      let given : i < length old = (let e = states_length names old in omega (arith, e, w)) in
+      let l : length new ≡ length (old ++ more.0) = ap (λ (v : List Node). length v) more.1 in
+      let f : length (old ++ more.0) ≡ length old + length more.0 = length-append old more.0 in
+      let k = states_length names new in
+      (omega (arith, l, f, k, given), state_there names new i ∙ (ap (state_of names) (keeps_more old new i more given) ∙ sym (state_there names old i)));
+  later = λ tag state more given there. absurd (omega (arith, more, given));
+}
 
--- WHAT IS SEEN OF A STATE
-
-module _ (names : List (List ℕ)) (keys : List State) (h : IsTable names keys) (id : ℕ) (s : State) (at : slice_get keys id ≡ Some s) where
-  pub state_there : state_at (table_of names keys) id ≡ all_seen names s.entries.items
-  state_there = get_or_from_slice_get (states_seen names keys) id (state_seen names s) [] (slice_get-map (state_seen names) keys id ∙ ap (option_map (state_seen names)) at)
-
-  is_kept_there : IsKept names s
-  is_kept_there = at_place (IsKept names) keys id s h.kept.each at
-
-  pub named_there : HaveNames (length names) s.entries.items
-  named_there = is_kept_there.named
-
-  pub sorted_there : IsSorted names s.entries.items
-  sorted_there = record { named = named_there; by_name = is_kept_there.by_name }
-
-  found : (tag : ℕ) → tag < length names → option_map (seen names) (entry_of tag s.entries.items) ≡ write_of (get_or names tag []) (state_at (table_of names keys) id)
-  found tag k = found_seen names tag s.entries.items h.kept.names_differ k (named (length names) s.entries.items named_there) ∙ ap (write_of (get_or names tag [])) (sym state_there)
-
-  pub has_some : (tag : ℕ) (e : Entry) → tag < length names → Some e ≡ entry_of tag s.entries.items → e.on ≡ is_on (name_at (table_of names keys) tag) (state_at (table_of names keys) id)
-  has_some tag e k r = ap (λ o. says_on (option_map (seen names) o)) r ∙ ap says_on (found tag k)
-
-  pub has_none : (tag : ℕ) → tag < length names → None ≡ entry_of tag s.entries.items → false ≡ is_on (name_at (table_of names keys) tag) (state_at (table_of names keys) id)
-  has_none tag k r = ap (λ (o : Option Entry). says_on (option_map (seen names) o)) r ∙ ap says_on (found tag k)
-
-  pub names_there : map (name_at (table_of names keys)) s.on.items ≡ names_on (state_at (table_of names keys) id)
-  names_there = ap (λ v. map (λ t. get_or names t []) v) is_kept_there.on ∙ on_seen names s.entries.items ∙ ap names_on (sym state_there)
-
-  pub tags_there : All (IsTag (table_of names keys)) s.on.items
-  tags_there = All-from_recursion (λ t. t < length names) s.on.items (subst (AllByRecursion (λ t. t < length names)) (sym is_kept_there.on) (on_named (length names) s.entries.items (named (length names) s.entries.items named_there)))
-
-  entry_kept : (e : Entry) (r : Option Entry) → is_entry_kept r e.writer ≡ is_kept (option_map (seen names) r) (seen names e)
-  entry_kept e None = refl
-  entry_kept e (Some d) = refl
-
-  pub settled_there : (e : Entry) → e.tag < length names → is_entry_kept (entry_of e.tag s.entries.items) e.writer ≡ is_settled (seen names e) (state_at (table_of names keys) id)
-  settled_there e k = entry_kept e (entry_of e.tag s.entries.items) ∙ ap (λ o. is_kept o (seen names e)) (found e.tag k)
-
-  -- ONE MORE WRITE
-
-  module _ (e : Entry) (k : e.tag < length names) (next : State) (n : IsNext names e s.entries.items next) where
-    seen_next : state_seen names next ≡ below (seen names e).name (all_seen names s.entries.items) ++ seen names e ∷ above (seen names e).name (all_seen names s.entries.items)
-    seen_next = ap (all_seen names) n.entries_of ∙ written_seen names e s.entries.items
-
-    pub next_seen : state_seen names next ≡ written (seen names e) (state_at (table_of names keys) id)
-    next_seen =
-        let w = seen names e in
-        let state = state_at (table_of names keys) id in
-        let less : is_settled w state ≡ false = sym (settled_there e k) ∙ n.is_less in
-        seen_next
-        ∙ ap (λ v. below w.name v ++ w ∷ above w.name v) (sym state_there)
-        ∙ sym (ap (λ b. cond b state (below w.name state ++ w ∷ above w.name state)) less)
-
-    pub next_kept : IsKept names next
-    next_kept =
-        let name = get_or names e.tag [] in
-        let P = λ (x : Entry). x.tag < length names in
-        let low = All-filter (is_on_side names name Less) P s.entries.items named_there in
-        let high = All-filter (is_on_side names name Greater) P s.entries.items named_there in
-        record {
-          named = subst (HaveNames (length names)) (sym n.entries_of) (All-append P (filter (is_on_side names name Less) s.entries.items) (e ∷ filter (is_on_side names name Greater) s.entries.items) low (All-cons P e (filter (is_on_side names name Greater) s.entries.items) k high));
-          on = n.on;
-          by_name = subst IsByName (sym seen_next) (put_sorted (seen names e) (all_seen names s.entries.items) is_kept_there.by_name);
-        }
-
--- THE FIRST STATE
-
-first_stays : (s : List Write) (old : List (List Write)) (id : ℕ) (new : List (List Write)) → Interns s old id new → slice_get old 0 ≡ Some [] → slice_get new 0 ≡ Some []
-first_stays s old id new (at, inl e) h = subst (λ v. slice_get v 0 ≡ Some []) (sym e) h
-first_stays s [] id new (at, inr e) h = absurd (cc)
-first_stays s (x ∷ old) id new (at, inr e) h = subst (λ v. slice_get v 0 ≡ Some []) (sym e.0) h
-
-pub table_more : (names : List (List ℕ)) (old new : List State) (s : List Write) (id : ℕ) → IsTable names old → AreKept names new → Interns s (states_seen names old) id (states_seen names new) → IsTable names new
-table_more names old new s id h k i = record { kept = k; empty = first_stays s (states_seen names old) id (states_seen names new) i h.empty }
-
-pub first_state : (names : List (List ℕ)) (new : List State) (id : ℕ) → AreKept names new → Interns [] [] id (states_seen names new) → IsTable names new
-first_state names new id k (at, inl e) = let got : slice_get [] id ≡ Some [] = subst (λ v. slice_get v id ≡ Some []) e at in absurd (cc)
-first_state names new id k (at, inr e) = record { kept = k; empty = subst (λ v. slice_get v 0 ≡ Some []) (sym e.0) refl }
-
-pub first_table : (names : List (List ℕ)) → HaveNoRepeats names → (old new : List State) (s : State) (id : ℕ) → old ≡ [] → s.entries.items ≡ [] → s.on.items ≡ []
-    → (AreKept names old → IsKept names s → AreKept names new)
-    → (AreKept names old → IsKept names s → Interns (state_seen names s) (states_seen names old) id (states_seen names new))
-    → IsTable names new
-first_table names own old new s id e f g k i =
-    let none : AreKept names old = subst (AreKept names) (sym e) (record { names_differ = own; each = tt; states_differ = tt }) in
-    let empty : IsKept names s = record {
-      named = subst (HaveNames (length names)) (sym f) (All-nil (λ (x : Entry). x.tag < length names));
-      on = g ∙ ap tags_on (sym f);
-      by_name = subst (λ v. IsByName (all_seen names v)) (sym f) tt;
-    } in
-    let one = subst (λ v. Interns (all_seen names v) (states_seen names old) id (states_seen names new)) f (i none empty) in
-    first_state names new id (k none empty) (subst (λ v. Interns [] (states_seen names v) id (states_seen names new)) e one)
-
--- a settled write leaves the state
-pub stays_interned : (w : Write) (t : TagStates) (id : ℕ) → is_settled w (state_at t id) ≡ true → IsState t id → Interns (written w (state_at t id)) t.states id t.states
-stays_interned w t id h k =
-    let state = state_at t id in
-    let stays : state ≡ written w state = sym (ap (λ b. cond b state (below w.name state ++ w ∷ above w.name state)) h) in
-    (slice_get-get_or t.states id [] k ∙ ap (λ v. Some v) stays, inl refl)
+pub keeps_there : (t : TagStates) (names : List (List ℕ)) (old new : List Node) → table_of names old ≡ t → HasMore old new → KeepsIds t (table_of names new)
+keeps_there t names old new e more = subst (λ (v : TagStates). KeepsIds v (table_of names new)) e (keeps_states names old new more)

@@ -6,7 +6,7 @@ use Rattle.rt_stamps.specs.declared.stamp.Stamp.{Stamp}
 use Rattle.rt_tags.specs.States.{TagStates, IsTag, KeepsIds, all_numbered, is_on, name_at, numbered, state_at, writes_at}
 use Rattle.rt_tags.specs.Writers.{listed_by}
 use Rattle.rt_tags.specs.Kept.{all_on}
-use Rattle.rt_tags.specs.declared.states.Entry.{Entry}
+use Rattle.rt_tags.specs.declared.states.TagEntry.{TagEntry}
 use Rattle.rt_tags.proofs.Places.{split}
 
 pub keeps_both : (a b c : TagStates) → KeepsIds a b → KeepsIds b c → KeepsIds a c
@@ -33,10 +33,10 @@ pub numbered_more : (names : List (List ℕ)) (name : List ℕ) (t : TagStates) 
 numbered_more [] name t = refl
 numbered_more (n ∷ names) name t = numbered_more names name (numbered n t)
 
-pub on_given : (n : ℕ) (writer : Stamp) (tags : List ℕ) → All (λ t. t < n) tags → All (λ (e : Entry). e.tag < n) (all_on writer tags)
-on_given n writer [] h = All-nil (λ (e : Entry). e.tag < n)
+pub on_given : (n : ℕ) (writer : Stamp) (tags : List ℕ) → All (λ t. t < n) tags → All (λ (e : TagEntry). e.tag < n) (all_on writer tags)
+on_given n writer [] h = All-nil (λ (e : TagEntry). e.tag < n)
 on_given n writer (t ∷ tags) h =
-    All-cons (λ (e : Entry). e.tag < n) (record { tag = t; writer = writer; on = true }) (all_on writer tags) (All-head (λ i. i < n) t tags h) (on_given n writer tags (All-tail (λ i. i < n) t tags h))
+    All-cons (λ (e : TagEntry). e.tag < n) (record { tag = t; writer = writer; on = true }) (all_on writer tags) (All-head (λ i. i < n) t tags h) (on_given n writer tags (All-tail (λ i. i < n) t tags h))
 
 pub listed_writes : (t : TagStates) (writer : Stamp) (tags : List ℕ) → writes_at t (all_on writer tags) ≡ listed_by writer (map (name_at t) tags)
 listed_writes t writer [] = refl

@@ -9,7 +9,7 @@ use Rattle.std.proofs.Math.Seq.{take-set-lt}
 use Rattle.std.proofs.lemmas.List.Sorted.{sum_by-IsPermutation}
 use Rattle.std.proofs.lemmas.List.Sums.{sum_by-append, sum_by-cons, sum_by-set, sum_by-take-drop}
 use Rattle.rt_tags.specs.declared.toggles.TagCount.{TagCount}
-use Rattle.rt_tags.specs.ManyCounts.{AreOnce, ArePlaced, lessened}
+use Rattle.rt_tags.specs.ManyCounts.{AreTagsOnce, ArePlaced, lessened}
 use Rattle.rt_tags.specs.Toggles.{AreFrom, count_in}
 use Rattle.rt_tags.proofs.Counts.{more_at, next, next_count, none_below, place, set_at, share, share_own, stands, tells, weaken}
 use Rattle.rt_tags.proofs.Places.{split}
@@ -97,7 +97,7 @@ absent tag (c ∷ cs) z e =
     let r : times tag cs ≡ 0 = absent tag cs (omega (arith, sum)) (omega (arith, parts)) in
     times_next tag c cs ∙ omega (arith, o, r)
 
-pushed : (c : TagCount) (cs : List TagCount) → AreOnce cs → count_in c.tag cs ≡ 0 → 0 < c.count → AreOnce (cs ++ c ∷ [])
+pushed : (c : TagCount) (cs : List TagCount) → AreTagsOnce cs → count_in c.tag cs ≡ 0 → 0 < c.count → AreTagsOnce (cs ++ c ∷ [])
 pushed c cs h z pos = record {
   once = λ tag.
       let e : times tag (cs ++ c ∷ []) ≡ times tag cs + times tag (c ∷ []) = sum_by-append (own tag) cs (c ∷ []) in
@@ -117,7 +117,7 @@ pushed c cs h z pos = record {
       omega (arith, e, f, o, s));
 }
 
-changed : (i : ℕ) (cs : List TagCount) (new d : TagCount) → AreOnce cs → i < length cs → (get_or cs i d).tag ≡ new.tag → 0 < new.count → AreOnce (set cs i new)
+changed : (i : ℕ) (cs : List TagCount) (new d : TagCount) → AreTagsOnce cs → i < length cs → (get_or cs i d).tag ≡ new.tag → 0 < new.count → AreTagsOnce (set cs i new)
 changed i cs new d h l e pos = record {
   once = λ tag.
       let s : times tag (set cs i new) + own tag (get_or cs i d) ≡ times tag cs + own tag new = sum_by-set (own tag) cs i new d l in
@@ -137,7 +137,7 @@ other_first : (tag : ℕ) (cs : List TagCount) (d : TagCount) → times tag cs �
 other_first tag [] d z l = absurd (omega (arith, l))
 other_first tag (c ∷ cs) d z l = λ s. let e = times_next tag c cs in let o = own_is tag c s in omega (arith, e, o, z)
 
-rising : (low : ℕ) (cs : List TagCount) → IsNonDecreasingBy (λ c. c.tag) cs → AreOnce cs → ((d : TagCount) → 0 < length cs → low ≤ (get_or cs 0 d).tag) → AreFrom low cs
+rising : (low : ℕ) (cs : List TagCount) → IsNonDecreasingBy (λ c. c.tag) cs → AreTagsOnce cs → ((d : TagCount) → 0 < length cs → low ≤ (get_or cs 0 d).tag) → AreFrom low cs
 rising low [] up h first = tt
 rising low (c ∷ cs) up h first =
     let e = empties_next c cs in
@@ -146,7 +146,7 @@ rising low (c ∷ cs) up h first =
     let o = own_is c.tag c refl in
     let m : times c.tag (c ∷ cs) ≤ 1 = h.once c.tag in
     let none : times c.tag cs ≡ 0 = omega (arith, t, o, m) in
-    let rest : AreOnce cs = record {
+    let rest : AreTagsOnce cs = record {
       once = λ tag. (let e = times_next tag c cs in let m : times tag (c ∷ cs) ≤ 1 = h.once tag in omega (arith, e, m));
       some = omega (arith, e, s);
     } in (
@@ -158,9 +158,9 @@ rising low (c ∷ cs) up h first =
           omega (arith, ne, le)),
     )
 
-pub sorted : (xs ys : List TagCount) → AreOnce xs → IsPermutation xs ys → IsNonDecreasingBy (λ c. c.tag) ys → AreFrom 0 ys
+pub sorted : (xs ys : List TagCount) → AreTagsOnce xs → IsPermutation xs ys → IsNonDecreasingBy (λ c. c.tag) ys → AreFrom 0 ys
 sorted xs ys h p up =
-    let once : AreOnce ys = record {
+    let once : AreTagsOnce ys = record {
       once = λ tag. (let e : times tag ys ≡ times tag xs = sum_by-IsPermutation (own tag) xs ys p in let m : times tag xs ≤ 1 = h.once tag in omega (arith, e, m));
       some = (let e : empties ys ≡ empties xs = sum_by-IsPermutation empty xs ys p in let s : empties xs ≡ 0 = h.some in omega (arith, e, s));
     } in
@@ -353,7 +353,7 @@ fits (suc n) cs most none =
     omega (arith, rest, e, m)
 
 -- one tag more than those that have counts is at most all tags
-pub room_once : (n tag : ℕ) (cs : List TagCount) → AreOnce cs → ((t : ℕ) → n ≤ t → count_in t cs ≡ 0) → tag < n → count_in tag cs ≡ 0 → length cs < n
+pub room_once : (n tag : ℕ) (cs : List TagCount) → AreTagsOnce cs → ((t : ℕ) → n ≤ t → count_in t cs ≡ 0) → tag < n → count_in tag cs ≡ 0 → length cs < n
 room_once n tag cs h none l z =
     let d : TagCount = record { tag = tag; count = 1 } in
     let all : suc (length cs) ≤ n = fits n (d ∷ cs)

@@ -6,7 +6,7 @@ use Rattle.std.specs.declared.cmp.Ordering.{Ordering}
 use Rattle.std.specs.declared.cmp.Ordering.TheVariants.{Less, Equal, Greater}
 use Rattle.std.proofs.lemmas.Cmp.{nat_list_cmp_total}
 use Rattle.rt_stamps.specs.Names.{name_order}
-use Rattle.rt_tags.specs.States.{Write, IsByName, below, above, written, is_settled}
+use Rattle.rt_tags.specs.States.{Write, IsByName, writes_below, writes_above, written, is_settled}
 use Rattle.rt_tags.proofs.Places.{split}
 
 lesser : (o : Ordering) → is_lt o ≡ true → o ≡ Less
@@ -63,16 +63,16 @@ sorted_join (v ∷ front) w back f g h k = (
   sorted_join front w back f.1 g.1 h k,
 )
 
-pub put_sorted : (w : Write) (state : List Write) → IsByName state → IsByName (below w.name state ++ w ∷ above w.name state)
+pub put_sorted : (w : Write) (state : List Write) → IsByName state → IsByName (writes_below w.name state ++ w ∷ writes_above w.name state)
 put_sorted w state h =
-    sorted_join (below w.name state) w (above w.name state)
+    sorted_join (writes_below w.name state) w (writes_above w.name state)
     (sorted_filter (λ v. is_lt (name_order v.name w.name)) state h)
-    (every (λ v. is_lt (name_order v.name w.name) ≡ true) (λ v. name_order v.name w.name ≡ Less) (λ v l. lesser (name_order v.name w.name) l) (below w.name state) (every_passes (λ v. is_lt (name_order v.name w.name)) state))
-    (every (λ v. is_gt (name_order v.name w.name) ≡ true) (λ v. name_order w.name v.name ≡ Less) (λ v l. turned v.name w.name (greater (name_order v.name w.name) l)) (above w.name state) (every_passes (λ v. is_gt (name_order v.name w.name)) state))
+    (every (λ v. is_lt (name_order v.name w.name) ≡ true) (λ v. name_order v.name w.name ≡ Less) (λ v l. lesser (name_order v.name w.name) l) (writes_below w.name state) (every_passes (λ v. is_lt (name_order v.name w.name)) state))
+    (every (λ v. is_gt (name_order v.name w.name) ≡ true) (λ v. name_order w.name v.name ≡ Less) (λ v l. turned v.name w.name (greater (name_order v.name w.name) l)) (writes_above w.name state) (every_passes (λ v. is_gt (name_order v.name w.name)) state))
     (sorted_filter (λ v. is_gt (name_order v.name w.name)) state h)
 
 pub written_sorted : (w : Write) (state : List Write) → IsByName state → IsByName (written w state)
 written_sorted w state h =
     split (is_settled w state)
-    (λ t. subst (λ b. IsByName (cond b state (below w.name state ++ w ∷ above w.name state))) (sym t) h)
-    (λ f. subst (λ b. IsByName (cond b state (below w.name state ++ w ∷ above w.name state))) (sym f) (put_sorted w state h))
+    (λ t. subst (λ b. IsByName (cond b state (writes_below w.name state ++ w ∷ writes_above w.name state))) (sym t) h)
+    (λ f. subst (λ b. IsByName (cond b state (writes_below w.name state ++ w ∷ writes_above w.name state))) (sym f) (put_sorted w state h))

@@ -1,9 +1,8 @@
 -- What the calls of a table make of its names.
-use Rattle.std.proofs.Common.{◌≡◌, ℕ, ◌-◌, List, [], ◌∷◌, ◌++◌, ◌||◌, Bool, true, false, refl, sym, ap, subst, ◌∙◌, take}
+use Rattle.std.proofs.Common.{◌≡◌, ℕ, List, [], ◌∷◌, ◌++◌, ◌||◌, Bool, true, false, refl, sym, ap, subst, ◌∙◌, take}
 use Rattle.std.specs.Str.{bytes_eq}
 use Rattle.std.proofs.lemmas.List.{take-append-le}
 use Rattle.std.proofs.lemmas.List.Folds.{list_any-append}
-use Rattle.indexmap.specs.IndexSet.{move_index}
 use Rattle.rt_tags.specs.Tags.{Tags, AlsoReady, SameReady, is_listed, with_name}
 use Rattle.rt_tags.specs.Kept.{IsListing}
 use Rattle.rt_tags.specs.Seen.{IsAt}

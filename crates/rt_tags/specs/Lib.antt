@@ -4,5 +4,6 @@ pub mod States
 pub mod Writers
 pub mod Toggles
 pub mod Borders
+pub mod SharedStates
 pub mod Kept
 pub mod ManyCounts

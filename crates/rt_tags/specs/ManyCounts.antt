@@ -9,7 +9,7 @@ abbrev pub is_tag_before : ℕ → TagCount → Bool
 is_tag_before tag c = nat_lt c.tag tag
 
 -- no tag stands twice, and none without a count, in whatever order
-pub record AreOnce (counts : List TagCount) : Type 0 where
+pub record AreTagsOnce (counts : List TagCount) : Type 0 where
   pub once : (tag : ℕ) → count_by (λ c. c.tag == tag) counts ≤ 1
   pub some : count_by (λ c. c.count == 0) counts ≡ 0
 
@@ -17,7 +17,7 @@ pub record AreOnce (counts : List TagCount) : Type 0 where
 pub record ArePlaced (ordered : ℕ) (counts : List TagCount) : Type 0 where
   pub within : ordered ≤ length counts
   pub order : AreFrom 0 (take ordered counts)
-  pub once : AreOnce counts
+  pub once : AreTagsOnce counts
 
 -- a count without those that others have of its tag
 abbrev pub lessened : List TagCount → TagCount → TagCount

@@ -1,6 +1,6 @@
 -- States of characters: for each tag that was written on a character, the write with the greatest stamp. A name is seen as the
 -- list of its bytes.
-use Rattle.std.specs.Prelude.{◌≡◌, ◌⊎◌, ℕ, ◌<◌, ◌≤◌, List, [], ◌∷◌, ◌++◌, Bool, false, not, length, map, filter, Option, Some, None, slice_get, slice_index_or, if◌then◌else◌}
+use Rattle.std.specs.Prelude.{◌≡◌, ℕ, ◌<◌, ◌≤◌, List, [], ◌∷◌, ◌++◌, Bool, false, not, length, map, filter, Option, Some, None, slice_index_or, if◌then◌else◌}
 use Rattle.std.specs.List.{AllByRecursion}
 use Rattle.std.specs.Ordering.{is_lt, is_gt}
 use Rattle.std.specs.Str.{bytes_eq}
@@ -8,7 +8,7 @@ use Rattle.std.specs.declared.cmp.Ordering.TheVariants.{Less}
 use Rattle.rt_stamps.specs.declared.stamp.Stamp.{Stamp}
 use Rattle.rt_stamps.specs.Names.{name_order}
 use Rattle.rt_stamps.specs.Stamps.{is_before}
-use Rattle.rt_tags.specs.declared.states.Entry.{Entry}
+use Rattle.rt_tags.specs.declared.states.TagEntry.{TagEntry}
 use Rattle.rt_tags.specs.Tags.{is_listed, with_name}
 
 -- a tag is put on a character or taken off: which one, under which stamp, and whether it is on
@@ -45,15 +45,15 @@ abbrev pub is_settled : Write → List Write → Bool
 is_settled w state = is_kept (write_of w.name state) w
 
 -- the writes of tags whose names come before a name, and of those whose names come after it
-abbrev pub below : List ℕ → List Write → List Write
-below name state = filter (λ w. is_lt (name_order w.name name)) state
+abbrev pub writes_below : List ℕ → List Write → List Write
+writes_below name state = filter (λ w. is_lt (name_order w.name name)) state
 
-abbrev pub above : List ℕ → List Write → List Write
-above name state = filter (λ w. is_gt (name_order w.name name)) state
+abbrev pub writes_above : List ℕ → List Write → List Write
+writes_above name state = filter (λ w. is_gt (name_order w.name name)) state
 
 -- the state after one more write: for each tag the greatest write stays
 abbrev pub written : Write → List Write → List Write
-written w state = if is_settled w state then state else below w.name state ++ w ∷ above w.name state
+written w state = if is_settled w state then state else writes_below w.name state ++ w ∷ writes_above w.name state
 
 -- one write of each tag, by the bytes of their names
 abbrev pub IsByName : List Write → Type 0
@@ -95,7 +95,7 @@ abbrev pub write_at : TagStates → ℕ → Stamp → Bool → Write
 write_at table tag writer on = record { name = name_at table tag; writer = writer; on = on }
 
 -- writes of tags that were given out
-abbrev pub writes_at : TagStates → List Entry → List Write
+abbrev pub writes_at : TagStates → List TagEntry → List Write
 writes_at table entries = map (λ e. write_at table e.tag e.writer e.on) entries
 
 -- a new name has the next number
@@ -106,20 +106,6 @@ numbered name table = record table { names = with_name name table.names }
 abbrev pub all_numbered : List (List ℕ) → TagStates → TagStates
 all_numbered [] table = table
 all_numbered (name ∷ names) table = all_numbered names (numbered name table)
-
--- no state of the list is the given one
-abbrev pub IsNew : List Write → List (List Write) → Type 0
-IsNew state [] = Unit {0}
-IsNew state (s ∷ states) = (state ≡ s → ⊥) × IsNew state states
-
--- no state is there twice
-abbrev pub AreDistinct : List (List Write) → Type 0
-AreDistinct [] = Unit {0}
-AreDistinct (s ∷ states) = IsNew s states × AreDistinct states
-
--- A state has an id. It is that of the same state, if this was given out before; else it is the next one.
-abbrev pub Interns : List Write → List (List Write) → ℕ → List (List Write) → Type 0
-Interns state old id new = (slice_get new id ≡ Some state) × ((new ≡ old) ⊎ ((new ≡ old ++ state ∷ []) × IsNew state old))
 
 -- the tags and states that were given out keep their meaning, and a tag that was given out later is on in none of these states
 pub record KeepsIds (old new : TagStates) : Type 0 where

@@ -9,12 +9,15 @@ mod forgetting;
 pub mod laws;
 mod many;
 mod names;
+mod nodes;
 mod sorting;
 pub mod states;
 pub mod table;
 pub mod toggles;
+mod walk;
 mod writes;
+mod writing;
 
-pub use states::{Entry, StateId, StateTable, TagId};
+pub use states::{StateId, StateTable, TagEntry, TagId};
 pub use table::TagTable;
 pub use toggles::{TagCount, Toggles};

@@ -1,11 +1,9 @@
 // Counts of many tags, added to others or taken off them in one go.
 ghost use Rattle.std.specs.Prelude.{◌≡◌, ℕ, ◌+◌, ◌^◌, ◌<◌, ◌≤◌, ◌==◌, length, map, take, drop, vec_len, vec_capacity, if◌then◌else◌};
-ghost use Rattle.rt_tags.specs.Borders.{HasRoomForAll, beyond, is_tagged};
 ghost use Rattle.rt_tags.specs.ManyCounts.{ArePlaced, lessened};
-ghost use Rattle.rt_tags.specs.States.{IsState, IsTag};
 ghost use Rattle.rt_tags.specs.Toggles.{AreFrom, count_in, more_tags};
 
-use crate::states::{StateId, StateTable, TagId};
+use crate::states::TagId;
 use crate::toggles::{TagCount, spot_of};
 
 /// Up to so many tags are cheaper one by one, though each moves all that stand behind its place.
@@ -63,35 +61,6 @@ pub(crate) fn add(counts: &mut Vec<TagCount>, others: &[TagCount])
     let ordered = counts.len();
     for c in others {
         put(counts, ordered, c.tag, c.count);
-    }
-    sort(counts, ordered);
-}
-
-/// One toggle more of each tag that is on in a state and not in another.
-pub(crate) fn add_beyond(
-    counts: &mut Vec<TagCount>,
-    states: &StateTable,
-    here: StateId,
-    there: StateId,
-)
-    requires here { IsState states.now here }
-    requires there { IsState states.now there }
-    requires order { AreFrom 0 counts.old.items }
-    requires room { length states.now.names ≤ vec_capacity counts.old }
-    requires given { (tag : ℕ) → length states.now.names ≤ tag → count_in tag counts.old.items ≡ 0 }
-    requires few { (tag : ℕ) → count_in tag counts.old.items + 1 < 2 ^ 32 }
-    ensures order { AreFrom 0 counts.new.items }
-    ensures given { (tag : ℕ) → IsTag states.now tag → count_in tag counts.new.items
-        ≡ count_in tag counts.old.items + beyond (is_tagged states.now tag here) (is_tagged states.now tag there) }
-    ensures others { (tag : ℕ) → length states.now.names ≤ tag → count_in tag counts.new.items ≡ 0 }
-    ensures capacity { vec_capacity counts.new ≡ vec_capacity counts.old }
-{
-    states.order();
-    let ordered = counts.len();
-    for tag in states.on(here) {
-        if !states.has(there, *tag) {
-            put(counts, ordered, *tag, 1);
-        }
     }
     sort(counts, ordered);
 }

@@ -3,25 +3,25 @@ ghost use Rattle.std.specs.Prelude.{◌≡◌, ◌+◌, ◌<◌, ◌∷◌, [], 
 ghost use Rattle.rt_stamps.specs.Names.{name_order};
 ghost use Rattle.rt_stamps.specs.Stamps.{is_before};
 ghost use Rattle.rt_stamps.specs.Words.{as_words};
-ghost use Rattle.rt_tags.specs.Kept.{HaveNames, IsFirst, IsSorted, all_seen, seen};
+ghost use Rattle.rt_tags.specs.Kept.{HaveNames, IsFirst, IsSorted, all_seen, write_seen};
 ghost use Rattle.rt_tags.specs.Writers.{state_after};
 
-use crate::states::Entry;
+use crate::states::TagEntry;
 use std::alloc::{AllocError, Global};
 use std::cmp::Ordering;
 
 // How the names of two entries' tags stand to each other.
-fn order(names: &[String], x: Entry, y: Entry) -> Ordering
+fn order(names: &[String], x: TagEntry, y: TagEntry) -> Ordering
     requires x { x.tag < length names.now }
     requires y { y.tag < length names.now }
-    ensures { result ≡ name_order (seen (as_words names.now) x).name (seen (as_words names.now) y).name }
+    ensures { result ≡ name_order (write_seen (as_words names.now) x).name (write_seen (as_words names.now) y).name }
 {
     let name = names[y.tag.place()].as_str();
     names[x.tag.place()].as_str().cmp(name)
 }
 
 // Of two entries of one tag the one that stays, where the second is the later write.
-fn newer(x: Entry, y: Entry) -> Entry
+fn newer(x: TagEntry, y: TagEntry) -> TagEntry
     ensures { result ≡ (if is_before x.writer y.writer then y else x) }
 {
     if x.writer < y.writer { y } else { x }
@@ -31,9 +31,9 @@ fn newer(x: Entry, y: Entry) -> Entry
 // either list.
 fn first<'a>(
     names: &[String],
-    old: &'a [Entry],
-    new: &'a [Entry],
-) -> Option<(Entry, &'a [Entry], &'a [Entry])>
+    old: &'a [TagEntry],
+    new: &'a [TagEntry],
+) -> Option<(TagEntry, &'a [TagEntry], &'a [TagEntry])>
     requires old { IsSorted (as_words names.now) old.now }
     requires new { IsSorted (as_words names.now) new.now }
     ensures none { IfNone result ((old.now ≡ []) × (new.now ≡ [])) }
@@ -59,9 +59,9 @@ fn first<'a>(
 pub(crate) fn merged(
     alloc: Global,
     names: &[String],
-    old: &[Entry],
-    new: &[Entry],
-) -> Result<Vec<Entry>, AllocError>
+    old: &[TagEntry],
+    new: &[TagEntry],
+) -> Result<Vec<TagEntry>, AllocError>
     requires old { IsSorted (as_words names.now) old.now }
     requires new { IsSorted (as_words names.now) new.now }
     ensures sorted { IfOk result (λ v. IsSorted (as_words names.now) v.items) }
@@ -80,7 +80,7 @@ pub(crate) fn merged(
 }
 
 // The entries of a list of at most one.
-fn copied(alloc: Global, entries: &[Entry]) -> Result<Vec<Entry>, AllocError>
+fn copied(alloc: Global, entries: &[TagEntry]) -> Result<Vec<TagEntry>, AllocError>
     ensures { IfOk result (λ v. v.items ≡ entries.now) }
 {
     let mut out = Vec::new(alloc);
@@ -95,8 +95,8 @@ fn copied(alloc: Global, entries: &[Entry]) -> Result<Vec<Entry>, AllocError>
 pub(crate) fn sorted(
     alloc: Global,
     names: &[String],
-    writes: &[Entry],
-) -> Result<Vec<Entry>, AllocError>
+    writes: &[TagEntry],
+) -> Result<Vec<TagEntry>, AllocError>
     requires { HaveNames (length names.now) writes.now }
     ensures sorted { IfOk result (λ v. IsSorted (as_words names.now) v.items) }
     ensures entries { IfOk result (λ v. all_seen (as_words names.now) v.items

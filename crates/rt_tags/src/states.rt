@@ -1,24 +1,22 @@
 // Interned tag states of characters.
-ghost use Rattle.std.specs.Prelude.{List, ℕ, ◌≡◌, IsOk, All, ◌==◌, [], ◌∷◌, ◌++◌, ◌<◌, ◌≤◌, ◌&&◌, OnOk, None, OnErr, IfOk, IsOkUnless, IfSome, IfNone, Ok, Some, true, false, map, filter, length, slice_get, slice_index_or, position, string_bytes, take, vec_len};
-ghost use Rattle.std.specs.List.{prefix_len};
-ghost use Rattle.std.specs.Ordering.{ordering_index};
-ghost use Rattle.std.specs.declared.cmp.Ordering.TheVariants.{Less};
-ghost use Rattle.std.specs.Str.{bytes_eq};
-ghost use Rattle.rt_stamps.specs.Names.{name_order};
+ghost use Rattle.std.specs.Prelude.{List, ℕ, ◌≡◌, ◌≢◌, IsOk, All, [], ◌∷◌, ◌+◌, ◌^◌, ◌<◌, ◌≤◌, OnOk, OnErr, IfOk, IsOkUnless, IfSome, IfNone, Ok, true, false, map, length, take};
+ghost use Rattle.rt_tags.specs.Borders.{HasRoomForAll, beyond, is_tagged};
 ghost use Rattle.rt_tags.specs.Tags.{is_listed};
-ghost use Rattle.rt_tags.specs.Kept.{HaveNames, IsKept, IsNext, AreKept, IsSorted, all_seen, is_entry_kept, entries_written, entry_of, if_of, is_on_side, state_seen, states_seen, tags_on};
-ghost use Rattle.rt_tags.specs.States.{AreNumbered, HaveOneNumber, Interns, IsByName, IsState, IsTag, KeepsIds, all_numbered, is_on, is_settled, name_at, names_on, numbered, state_at, write_at, writes_at, written};
+ghost use Rattle.rt_tags.specs.States.{AreNumbered, HaveOneNumber, IsByName, IsState, IsTag, KeepsIds, all_numbered, is_on, is_settled, name_at, names_on, numbered, state_at, write_at, writes_at, written};
+ghost use Rattle.rt_tags.specs.Toggles.{count_of};
 ghost use Rattle.rt_tags.specs.Writers.{listed_by, state_after};
 ghost use Rattle.rt_stamps.specs.declared.stamp.TheConstants.{ROOT};
 ghost use Rattle.rt_stamps.specs.Words.{as_words};
-ghost use Rattle.indexmap.specs.IndexSet.{index_set_len};
 
+use crate::nodes::{Node, setting_at};
+use crate::toggles::Toggles;
+use crate::walk::{add_beyond, add_entries, is_none_on, puts_on};
 use crate::writes::{listed, tags_on};
+use crate::writing::{write, write_all};
 use crate::{names, sorting};
 use indexmap::IndexSet;
 use rt_stamps::{Fault, ROOT, Stamp};
-use std::alloc::{AllocError, Global};
-use std::cmp::Ordering;
+use std::alloc::Global;
 use std::marker::Model;
 
 /// A tag's number in a table, for good.
@@ -38,6 +36,13 @@ impl Model for TagId {
 }
 
 impl TagId {
+    // The tag whose name stands at a place of the table.
+    pub(crate) fn at(place: usize) -> TagId
+        ensures { result ≡ place }
+    {
+        TagId { place }
+    }
+
     // Where its name stands in the table.
     pub(crate) fn place(self) -> usize
         ensures { result ≡ self }
@@ -65,200 +70,30 @@ impl Model for StateId {
 impl StateId {
     /// The state without tags and writers.
     pub const EMPTY: StateId = StateId { place: 0 };
+
+    // Where its node stands in the table.
+    pub(crate) fn place(self) -> u32
+        ensures { result ≡ self }
+    {
+        self.place
+    }
 }
 
 /// A write of a tag: which tag, under which stamp, and whether it is on.
 #[derive(Clone, Copy, Debug, PartialEq, Eq, Hash)]
-pub struct Entry {
+pub struct TagEntry {
     pub tag: TagId,
     pub writer: Stamp,
     pub on: bool,
 }
 
-// Of each tag the write with the greatest stamp, by the bytes of their names, and beside them the tags
-// that are on.
-#[derive(Drop)]
-#[derive_where(PartialEq, Eq, Hash)]
-struct State {
-    entries: Vec<Entry>,
-    #[derive_where(skip(EqHashOrd))]
-    on: Vec<TagId>,
-}
-
-// The entry of a tag.
-fn entry_of(entries: &[Entry], tag: TagId) -> Option<Entry>
-    ensures { result ≡ entry_of tag entries.now }
-{
-    for entry in entries {
-        if entry.tag == tag {
-            return Some(*entry);
-        }
-    }
-    None
-}
-
-// The name of a tag, or no text for a number that was not given out.
-fn name_at(names: &[String], tag: TagId) -> &str
-    ensures { result.now ≡ slice_index_or (as_words names.now) tag [] }
-{
-    match names.get(tag.place) {
-        Some(name) => name.as_str(),
-        None => "",
-    }
-}
-
-// Whether the name of an entry's tag stands on a side of a name.
-fn is_on_side(entry: Entry, names: &[String], name: &str, side: Ordering) -> bool
-    ensures { result ≡ is_on_side (as_words names.now) name.now side entry }
-{
-    name_at(names, entry.tag).cmp(name) == side
-}
-
-// How many entries stand before a name.
-fn entries_below(names: &[String], entries: &[Entry], name: &str) -> usize
-    requires { IsByName (all_seen (as_words names.now) entries.now) }
-    ensures place { result ≡ prefix_len (is_on_side (as_words names.now) name.now Less) entries.now }
-    ensures within { result ≤ length entries.now }
-{
-    entries.partition_point(|entry| is_on_side(*entry, names, name, Ordering::Less))
-}
-
-// An entry, if it is the tag's.
-fn if_of(entry: Option<Entry>, tag: TagId) -> Option<Entry>
-    ensures { result ≡ if_of tag entry }
-{
-    match entry {
-        Some(entry) if entry.tag == tag => Some(entry),
-        _ => None,
-    }
-}
-
-// The entry of a tag among entries that stand by the names of their tags.
-fn found(names: &[String], entries: &[Entry], tag: TagId) -> Option<Entry>
-    requires { IsByName (all_seen (as_words names.now) entries.now) }
-    ensures { result ≡ entry_of tag entries.now }
-{
-    let at = entries_below(names, entries, name_at(names, tag));
-    if_of(entries.get(at).copied(), tag)
-}
-
-// Adds the entries whose tags' names stand on a side of a name.
-fn add_side(
-    out: &mut Vec<Entry>,
-    entries: &[Entry],
-    names: &[String],
-    name: &str,
-    side: Ordering,
-) -> Result<(), AllocError>
-    requires { HaveNames (length names.now) entries.now }
-    ensures { OnOk result (out.new.items ≡ out.old.items ++ filter (is_on_side (as_words names.now) name.now side) entries.now) }
-{
-    for entry in entries {
-        if is_on_side(*entry, names, name, side) {
-            out.push(*entry)?;
-        }
-    }
-    Ok(())
-}
-
-// The entries after one more, which takes the place of the one of its tag.
-fn written(
-    alloc: Global,
-    entries: &[Entry],
-    names: &[String],
-    entry: Entry,
-) -> Result<Vec<Entry>, AllocError>
-    requires tag { entry.tag < length names.now }
-    requires named { HaveNames (length names.now) entries.now }
-    ensures { IfOk result (λ v. v.items ≡ entries_written (as_words names.now) entry entries.now) }
-{
-    let name = names[entry.tag.place].as_str();
-    let mut out = Vec::with_capacity(alloc, entries.len() + 1)?;
-    add_side(&mut out, entries, names, name, Ordering::Less)?;
-    out.push(entry)?;
-    add_side(&mut out, entries, names, name, Ordering::Greater)?;
-    Ok(out)
-}
-
-// The state with an id.
-fn state_of(states: &IndexSet<State>, id: StateId) -> &State
-    requires { id < index_set_len states.now }
-    ensures { slice_get states.now.keys id ≡ Some result.now }
-{
-    states.get_index(id.place as usize).unwrap()
-}
-
-// Keeps a state, if the same one isn't kept, and answers its place. Places have 32 bits.
-fn intern(states: &mut IndexSet<State>, state: State) -> Result<u32, Fault>
-    ensures kept { OnOk result ((names : List (List ℕ)) → AreKept names states.old.keys → IsKept names state → AreKept names states.new.keys) }
-    ensures interned { IfOk result (λ place. (names : List (List ℕ)) → AreKept names states.old.keys
-        → IsKept names state → Interns (state_seen names state) (states_seen names states.old.keys) place (states_seen names states.new.keys)) }
-    ensures err { OnErr result (states.new.keys ≡ states.old.keys) }
-    ensures fault { IsOkUnless result Fault.NoMemory }
-{
-    if states.len() > u32::MAX as usize {
-        return Err(Fault::NoMemory);
-    }
-    let (place, _) = states.insert_full(state)?;
-    Ok(place as u32)
-}
-
-// Whether the entries have one of a tag whose writer isn't less.
-fn is_settled(entries: &[Entry], tag: TagId, writer: Stamp) -> bool
-    ensures { result ≡ is_entry_kept (entry_of tag entries.now) writer }
-{
-    match entry_of(entries, tag) {
-        Some(entry) => entry.writer >= writer,
-        None => false,
-    }
-}
-
-// The state after one more entry, if the state has none of that tag that isn't less.
-fn next_state(
-    alloc: Global,
-    state: &State,
-    names: &[String],
-    entry: Entry,
-) -> Result<Option<State>, AllocError>
-    requires tag { entry.tag < length names.now }
-    requires named { HaveNames (length names.now) state.now.entries.items }
-    ensures settled { is_entry_kept (entry_of entry.tag state.now.entries.items) entry.writer ≡ true → result ≡ Ok None }
-    ensures next { IfOk result (λ next. IfSome next (λ s. IsNext (as_words names.now) entry state.now.entries.items s)) }
-    ensures none { IfOk result (λ next. IfNone next (is_entry_kept (entry_of entry.tag state.now.entries.items) entry.writer ≡ true)) }
-{
-    if is_settled(&state.entries, entry.tag, entry.writer) {
-        return Ok(None);
-    }
-    let entries = written(alloc, &state.entries, names, entry)?;
-    let on = tags_on(alloc, &entries)?;
-    Ok(Some(State { entries, on }))
-}
-
-// The state after writes.
-fn state_after(
-    alloc: Global,
-    state: &State,
-    names: &[String],
-    writes: &[Entry],
-) -> Result<State, AllocError>
-    requires named { HaveNames (length names.now) writes.now }
-    requires sorted { IsSorted (as_words names.now) state.now.entries.items }
-    ensures entries { IfOk result (λ s. state_seen (as_words names.now) s
-        ≡ state_after (state_seen (as_words names.now) state.now) (all_seen (as_words names.now) writes.now)) }
-    ensures kept { IfOk result (λ s. IsKept (as_words names.now) s) }
-{
-    let new = sorting::sorted(alloc, names, writes)?;
-    let entries = sorting::merged(alloc, names, &state.entries, &new)?;
-    let on = tags_on(alloc, &entries)?;
-    Ok(State { entries, on })
-}
-
 /// Tags by number and tag states of characters by id. Contracts see the names in the order of their
 /// numbers and the states in the order of their ids: each name has one number and each state one id.
+/// States share parts: one more write takes at most a node for each binary digit of the greatest number, and one.
 pub struct StateTable {
     alloc: Global,
     names: IndexSet<String>,
-    states: IndexSet<State>,
+    nodes: IndexSet<Node>,
 }
 
 // Written out, so that where it is let go is one step for the crates above, and not one for each
@@ -268,7 +103,7 @@ impl Drop for StateTable {
         let StateTable {
             alloc: _,
             names: _,
-            states: _,
+            nodes: _,
         } = self;
     }
 }
@@ -278,12 +113,12 @@ impl Model for StateTable {
 
     ghost Value = { TagStates };
 
-    ghost use Rattle.rt_tags.specs.Kept.{IsTable, states_seen};
+    ghost use Rattle.rt_tags.specs.Kept.{IsStateTable, states_seen};
     ghost use Rattle.rt_tags.specs.Seen.{names_of};
 
-    ghost view = { λ t. record { names = names_of t.names; states = states_seen (names_of t.names) t.states.keys } };
+    ghost view = { λ t. record { names = names_of t.names; states = states_seen (names_of t.names) t.nodes.keys } };
 
-    ghost invariant = { λ t. IsTable (names_of t.names) t.states.keys };
+    ghost invariant = { λ t. IsStateTable (names_of t.names) t.nodes.keys };
 }
 
 impl StateTable {
@@ -292,16 +127,18 @@ impl StateTable {
         ensures ok { IfOk result (λ table. table ≡ record { names = []; states = [] ∷ [] }) }
         ensures fault { IsOkUnless result Fault.NoMemory }
     {
-        let mut states = IndexSet::new(alloc);
-        let empty = State {
-            entries: Vec::new(alloc),
-            on: Vec::new(alloc),
+        let mut nodes = IndexSet::new(alloc);
+        let first = Node {
+            tag: 0,
+            setting: None,
+            odd: 0,
+            even: 0,
         };
-        let _ = intern(&mut states, empty)?;
+        let _ = nodes.insert(first)?;
         Ok(StateTable {
             alloc,
             names: IndexSet::new(alloc),
-            states,
+            nodes,
         })
     }
 
@@ -320,6 +157,9 @@ impl StateTable {
             Some(place) => Ok(TagId { place }),
             None => {
                 let place = self.names.len();
+                if place > u32::MAX as usize {
+                    return Err(Fault::NoMemory);
+                }
                 let name = String::from_str(self.alloc, name)?;
                 names::make_room(&mut self.names, 1)?;
                 names::add(&mut self.names, name);
@@ -369,53 +209,46 @@ impl StateTable {
         requires tag { IsTag self.old tag }
         ensures given { IfOk result (IsState self.new) }
         ensures state { IfOk result (λ id. state_at self.new id ≡ written (write_at self.old tag writer on) (state_at self.old state)) }
-        ensures interned { IfOk result (λ id. Interns
-            (written (write_at self.old tag writer on) (state_at self.old state)) self.old.states id self.new.states) }
         ensures same { is_settled (write_at self.old tag writer on) (state_at self.old state) ≡ true → result ≡ Ok state }
         ensures names { self.new.names ≡ self.old.names }
         ensures err { OnErr result (self.new ≡ self.old) }
         ensures fault { IsOkUnless result Fault.NoMemory }
         ensures ids { KeepsIds self.old self.new }
     {
-        let entry = Entry { tag, writer, on };
-        let old = state_of(&self.states, state);
-        match next_state(self.alloc, old, self.names.as_slice(), entry)? {
-            Some(new) => {
-                let place = intern(&mut self.states, new)?;
-                Ok(StateId { place })
-            }
-            None => Ok(state),
-        }
+        let entry = TagEntry { tag, writer, on };
+        let place = write(&mut self.nodes, state.place, entry)?;
+        Ok(StateId { place })
     }
 
-    /// The state after writes, one after the other, made at once: no state on the way is kept.
+    /// The state after writes, one after the other. The states on the way are kept, which share parts with it.
     /// `NoMemory` is its only fault, and the table is then as it was.
-    pub fn with_all(&mut self, state: StateId, writes: &[Entry]) -> Result<StateId, Fault>
+    pub fn with_all(&mut self, state: StateId, writes: &[TagEntry]) -> Result<StateId, Fault>
         requires state { IsState self.old state }
         requires tags { All (λ w. IsTag self.old w.tag) writes.now }
         ensures given { IfOk result (IsState self.new) }
         ensures state { IfOk result (λ id. state_at self.new id ≡ state_after (state_at self.old state) (writes_at self.old writes.now)) }
-        ensures interned { IfOk result (λ id. Interns
-            (state_after (state_at self.old state) (writes_at self.old writes.now)) self.old.states id self.new.states) }
         ensures names { self.new.names ≡ self.old.names }
         ensures err { OnErr result (self.new ≡ self.old) }
         ensures fault { IsOkUnless result Fault.NoMemory }
         ensures ids { KeepsIds self.old self.new }
     {
-        let old = state_of(&self.states, state);
-        let new = state_after(self.alloc, old, self.names.as_slice(), writes)?;
-        let place = intern(&mut self.states, new)?;
-        Ok(StateId { place })
+        let kept = self.nodes.len();
+        match write_all(&mut self.nodes, state.place, writes) {
+            Ok(place) => Ok(StateId { place }),
+            Err(fault) => {
+                self.nodes.truncate(kept);
+                Err(fault)
+            }
+        }
     }
 
-    /// The state in which a list of names is on under one writer, made at once: no state on the way is
-    /// kept. New names get numbers. `NoMemory` is its only fault; the states are then as they were, and names
-    /// that got a number keep it: after a fault the names are those that the first so many of the list gave.
+    /// The state in which a list of names is on under one writer. New names get numbers. `NoMemory` is its only
+    /// fault; the states are then as they were, and names that got a number keep it: after a fault the names are
+    /// those that the first so many of the list gave.
     #[inline(always)]
     pub fn state_of_list(&mut self, writer: Stamp, names: &[String]) -> Result<StateId, Fault>
         ensures given { IfOk result (IsState self.new) }
         ensures state { IfOk result (λ id. state_at self.new id ≡ state_after [] (listed_by writer (as_words names.now))) }
-        ensures interned { IfOk result (λ id. Interns (state_after [] (listed_by writer (as_words names.now))) self.old.states id self.new.states) }
         ensures names { OnOk result (self.new.names ≡ (all_numbered (as_words names.now) self.old).names) }
         ensures partly { OnErr result ((k : ℕ) × (self.new.names ≡ (all_numbered (take k (as_words names.now)) self.old).names)) }
         ensures err { OnErr result (self.new.states ≡ self.old.states) }
@@ -462,26 +295,50 @@ impl StateTable {
         Ok(tags_on(self.alloc, &sorted)?)
     }
 
-    /// Whether a tag is on. It compares about as many names as the number of the state's tags has binary digits.
+    /// Whether a tag is on. It looks at a node for each binary digit of the tag's number at most, and compares no names.
     pub fn has(&self, state: StateId, tag: TagId) -> bool
         requires state { IsState self.now state }
         requires tag { IsTag self.now tag }
         ensures { result ≡ is_on (name_at self.now tag) (state_at self.now state) }
     {
-        let names = self.names.as_slice();
-        match found(names, &state_of(&self.states, state).entries, tag) {
-            Some(entry) => entry.on,
-            None => false,
-        }
+        puts_on(setting_at(&self.nodes, state.place, tag.place as u32))
     }
 
-    /// The tags that are on, by the bytes of their names.
-    pub fn on(&self, state: StateId) -> &[TagId]
+    /// The tags that are on, by the bytes of their names. `NoMemory` is its only fault.
+    pub fn on(&self, state: StateId) -> Result<Vec<TagId>, Fault>
         requires { IsState self.now state }
-        ensures names { map (name_at self.now) result.now ≡ names_on (state_at self.now state) }
-        ensures tags { All (IsTag self.now) result.now }
+        ensures names { IfOk result (λ v. map (name_at self.now) v.items ≡ names_on (state_at self.now state)) }
+        ensures tags { IfOk result (λ v. All (IsTag self.now) v.items) }
+        ensures fault { IsOkUnless result Fault.NoMemory }
     {
-        state_of(&self.states, state).on.as_slice()
+        let mut entries = Vec::new(self.alloc);
+        add_entries(&mut entries, &self.nodes, state.place, 1, 0)?;
+        let sorted = sorting::sorted(self.alloc, self.names.as_slice(), &entries)?;
+        Ok(tags_on(self.alloc, &sorted)?)
+    }
+
+    /// Whether no tag is on. It takes no memory, and looks at nodes until one is on.
+    pub fn has_none(&self, state: StateId) -> bool
+        requires { IsState self.now state }
+        ensures yes { result ≡ true → names_on (state_at self.now state) ≡ [] }
+        ensures no { result ≡ false → names_on (state_at self.now state) ≢ [] }
+    {
+        is_none_on(&self.nodes, state.place)
+    }
+
+    // One toggle more of each tag that is on in a state and not in another. What both share is passed over.
+    pub(crate) fn count_beyond(&self, counts: &mut Toggles, here: StateId, there: StateId)
+        requires here { IsState self.now here }
+        requires there { IsState self.now there }
+        requires room { HasRoomForAll self.now counts.old }
+        requires few { (tag : ℕ) → count_of tag counts.old + 1 < 2 ^ 32 }
+        ensures given { (tag : ℕ) → IsTag self.now tag
+            → count_of tag counts.new ≡ count_of tag counts.old + beyond (is_tagged self.now tag here) (is_tagged self.now tag there) }
+        ensures others { (tag : ℕ) → length self.now.names ≤ tag → count_of tag counts.new ≡ count_of tag counts.old }
+        ensures capacity { counts.new.capacity ≡ counts.old.capacity }
+    {
+        let other = there.place;
+        add_beyond(counts, &self.nodes, here.place, other, other, 1, 0);
     }
 
     /// Each name has one number and each state one id; a name without a number is on in no state; a state
@@ -495,6 +352,6 @@ impl StateTable {
         ensures given { IsState self.now 0 }
         ensures empty { state_at self.now 0 ≡ [] }
     {
-        let _ = &self.states;
+        let _ = &self.nodes;
     }
 }

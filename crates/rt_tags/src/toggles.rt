@@ -38,7 +38,7 @@ impl Model for Toggles {
 
 // Where a tag's count stands among counts, or would stand, and how many toggles it tells.
 #[derive(Clone, Copy)]
-pub(crate) struct Spot {
+pub(crate) struct CountPlace {
     pub(crate) place: usize,
     pub(crate) count: u32,
 }
@@ -53,7 +53,7 @@ fn tags_below(counts: &[TagCount], tag: TagId) -> usize
 }
 
 // Where a tag's count is.
-pub(crate) fn spot_of(counts: &[TagCount], tag: TagId) -> Spot
+pub(crate) fn spot_of(counts: &[TagCount], tag: TagId) -> CountPlace
     requires { AreFrom 0 counts.now }
     ensures place { result.place ≡ prefix_len (is_tag_before tag) counts.now }
     ensures within { result.place ≤ length counts.now }
@@ -65,7 +65,7 @@ pub(crate) fn spot_of(counts: &[TagCount], tag: TagId) -> Spot
     } else {
         0
     };
-    Spot { place, count }
+    CountPlace { place, count }
 }
 
 // Puts a count in, where there is room.

@@ -2,17 +2,21 @@
 ghost use Rattle.std.specs.Prelude.{◌≡◌, IfOk};
 ghost use Rattle.rt_tags.specs.Kept.{all_on, tags_on};
 
-use crate::states::{Entry, TagId};
+use crate::states::{TagEntry, TagId};
 use rt_stamps::Stamp;
 use std::alloc::{AllocError, Global};
 
 /// Writes that put tags on, under one writer.
-pub(crate) fn listed(alloc: Global, writer: Stamp, tags: &[TagId]) -> Result<Vec<Entry>, AllocError>
+pub(crate) fn listed(
+    alloc: Global,
+    writer: Stamp,
+    tags: &[TagId],
+) -> Result<Vec<TagEntry>, AllocError>
     ensures { IfOk result (λ v. v.items ≡ all_on writer tags.now) }
 {
     let mut writes = Vec::with_capacity(alloc, tags.len())?;
     for tag in tags {
-        writes.push(Entry {
+        writes.push(TagEntry {
             tag: *tag,
             writer,
             on: true,
@@ -22,7 +26,7 @@ pub(crate) fn listed(alloc: Global, writer: Stamp, tags: &[TagId]) -> Result<Vec
 }
 
 /// The tags that are on.
-pub(crate) fn tags_on(alloc: Global, entries: &[Entry]) -> Result<Vec<TagId>, AllocError>
+pub(crate) fn tags_on(alloc: Global, entries: &[TagEntry]) -> Result<Vec<TagId>, AllocError>
     ensures { IfOk result (λ v. v.items ≡ tags_on entries.now) }
 {
     let mut on = Vec::new(alloc);

@@ -1,7 +1,7 @@
 // Marks of a few names: what rt_marks alone tells. Their order and their places are told by scripts (rt_tests_script).
 use crate::checks::same;
 use rt_marks::place::{place_inserted, place_removed};
-use rt_marks::{Gravity, Marks, Spot};
+use rt_marks::{Gravity, MarkRef, Marks};
 use rt_stamps::Fault;
 use std::alloc::Global;
 use std::process::Abort;
@@ -47,7 +47,7 @@ const ABOUT: &[Row] = &[
     (4, Gravity::Left, "", None, Some("c")),
 ];
 
-fn name_of(mark: Option<Spot<'_>>) -> Option<&str> {
+fn name_of(mark: Option<MarkRef<'_>>) -> Option<&str> {
     match mark {
         Some(spot) => Some(spot.name),
         None => None,
@@ -57,7 +57,7 @@ fn name_of(mark: Option<Spot<'_>>) -> Option<&str> {
 // Stops a test where other marks stand about a spot.
 fn stand_about(rt: &impl Abort, marks: &Marks, row: &Row) {
     let (place, gravity, name, after, before) = *row;
-    let here = Spot {
+    let here = MarkRef {
         place,
         gravity,
         name,

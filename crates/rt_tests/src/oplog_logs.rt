@@ -86,7 +86,7 @@ impl Log {
             return Ok(false);
         }
         let op = op(alloc, one)?;
-        Ok(self.log.contains(&op) && self.log.get(place).stamp() == op.stamp())
+        Ok(self.log.contains(&op) && self.log.get(place).stamp == op.stamp())
     }
 
     // Stops a test where the log has other operations, or knows other counts of the sites 1 and 2.

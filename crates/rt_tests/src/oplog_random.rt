@@ -143,9 +143,9 @@ impl Both {
         same(rt, lens, (self.list.len(), self.list.len()));
         let mut last = ROOT;
         for op in &ops {
-            let is_there = has_stamp(&self.list, op.stamp(), op.prev());
-            same(rt, (last < op.stamp(), is_there), (true, true));
-            last = op.stamp();
+            let is_there = has_stamp(&self.list, op.stamp, op.prev);
+            same(rt, (last < op.stamp, is_there), (true, true));
+            last = op.stamp;
         }
         Ok(())
     }

@@ -1,7 +1,7 @@
 // Operations in rows: what a site types in a row is kept as one.
 use crate::checks::same;
-use rt_ops::Op;
-use rt_rows::{RowPlace, Rows, typed_op};
+use rt_ops::{Edit, Op, Text};
+use rt_rows::{RowPlace, Rows};
 use rt_stamps::{Fault, ROOT, Span, Stamp};
 use std::alloc::Global;
 use std::process::Abort;
@@ -34,7 +34,7 @@ impl Kept {
         self.rows.reserve(1)?;
         let place = self.rows.push(op);
         let seen = self.rows.view(place);
-        same(rt, (seen.stamp(), seen.prev()), (stamp, prev));
+        same(rt, (seen.stamp, seen.prev), (stamp, prev));
         self.places.push((place, stamp))?;
         Ok(())
     }
@@ -48,6 +48,16 @@ impl Kept {
     }
 }
 
+// The Insert of one character behind an element.
+fn typed_op(alloc: Global, stamp: Stamp, prev: u64, after: Stamp) -> Op {
+    let edit = Edit::Insert {
+        after,
+        tags: Vec::new(alloc),
+        text: Text::of('x'),
+    };
+    Op::of(stamp, prev, edit)
+}
+
 // The character of a stamp, whose site types in a row from the count 1 on.
 fn next(alloc: Global, stamp: Stamp) -> Op {
     let prev = stamp.count.saturating_sub(1);
@@ -57,7 +67,7 @@ fn next(alloc: Global, stamp: Stamp) -> Op {
     } else {
         Stamp { count: prev, site }
     };
-    typed_op(alloc, stamp, prev, after, 'x')
+    typed_op(alloc, stamp, prev, after)
 }
 
 // Rows of one site that typed so many characters.
@@ -139,7 +149,7 @@ const TYPED: &[Typed] = &[
 fn a_row_takes_what_goes_on_from_it(rt: HostRuntime) -> Result<(), Fail> {
     for (stamp, prev, after, count) in TYPED {
         let mut kept = typed(&rt, rt.alloc(), 2)?;
-        kept.put(&rt, typed_op(rt.alloc(), *stamp, *prev, *after, 'x'))?;
+        kept.put(&rt, typed_op(rt.alloc(), *stamp, *prev, *after))?;
         kept.has_rows(&rt, *count);
     }
     Ok(())
@@ -154,14 +164,19 @@ fn inserted(alloc: Global, text: &[char], is_tagged: bool) -> Result<Op, Fault> 
     Op::insert(THIRD, 2, LAST, tags, Vec::from_slice(alloc, text)?)
 }
 
-// A Delete of the first of two characters of site 7.
-fn deleted(alloc: Global) -> Result<Op, Fault> {
+// A Delete of one character of site 7.
+fn deleting(alloc: Global, stamp: Stamp, prev: u64, count: u64) -> Result<Op, Fault> {
     let span = Span {
         site: 7,
-        first: 1,
-        last: 1,
+        first: count,
+        last: count,
     };
-    Op::delete(THIRD, 2, Vec::from_slice(alloc, &[span])?)
+    Op::delete(stamp, prev, Vec::from_slice(alloc, &[span])?)
+}
+
+// A Delete of the first of two characters of site 7.
+fn deleted(alloc: Global) -> Result<Op, Fault> {
+    deleting(alloc, THIRD, 2, 1)
 }
 
 #[test]
@@ -183,7 +198,17 @@ fn others_are_rows_by_themselves(rt: HostRuntime) -> Result<(), Fail> {
 fn a_delete_between_begins_a_row(rt: HostRuntime) -> Result<(), Fail> {
     let mut kept = typed(&rt, rt.alloc(), 2)?;
     kept.put(&rt, deleted(rt.alloc())?)?;
-    kept.put(&rt, typed_op(rt.alloc(), FOURTH, 3, LAST, 'x'))?;
+    kept.put(&rt, typed_op(rt.alloc(), FOURTH, 3, LAST))?;
     kept.has_rows(&rt, 3);
+    Ok(())
+}
+
+// Two characters of site 7 that it takes away again, the last one first.
+#[test]
+fn deletes_in_a_row_are_one_row(rt: HostRuntime) -> Result<(), Fail> {
+    let mut kept = typed(&rt, rt.alloc(), 2)?;
+    kept.put(&rt, deleting(rt.alloc(), THIRD, 2, 2)?)?;
+    kept.put(&rt, deleting(rt.alloc(), FOURTH, 3, 1)?)?;
+    kept.has_rows(&rt, 2);
     Ok(())
 }

@@ -1,7 +1,7 @@
 // Texts of a few cells.
 ghost use Rattle.std.specs.Prelude.{◌≡◌, ◌∷◌, [], false};
 ghost use Rattle.rt_store.specs.Cells.{final_cell};
-ghost use Rattle.rt_store.specs.ListStore.{cells_of};
+ghost use Rattle.rt_store.specs.ListStore.{list_cells};
 ghost use Rattle.rt_store.specs.Tagged.{AreStates};
 ghost use Rattle.rt_tags.specs.States.{IsState, IsTag};
 
@@ -22,7 +22,7 @@ pub struct Text {
     tagged: StateId,
     ghost tag_given: { IsTag states tag },
     ghost tagged_given: { IsState states tagged },
-    ghost cells_given: { AreStates states (cells_of store) },
+    ghost cells_given: { AreStates states (list_cells store) },
 }
 
 // Written out, so that each way out of a test lets a text go in one step of its proof.

@@ -1,6 +1,6 @@
 // One text in two stores, a list and a tree, by the calls that every store has.
 ghost use Rattle.std.specs.Prelude.{◌≡◌, false};
-ghost use Rattle.rt_store.specs.ListStore.{cells_of};
+ghost use Rattle.rt_store.specs.ListStore.{list_cells};
 ghost use Rattle.rt_store.specs.Tagged.{AreStates};
 ghost use Rattle.rt_tags.specs.States.{IsState, IsTag};
 ghost use Rattle.rt_tree.specs.Stores.{AgreesWith};
@@ -153,7 +153,7 @@ pub(crate) struct Pair {
     tree: TreeStore,
     ghost tag_given: { IsTag states tag },
     ghost tagged_given: { IsState states tagged },
-    ghost list_given: { AreStates states (cells_of list) },
+    ghost list_given: { AreStates states (list_cells list) },
     ghost tree_given: { AgreesWith states tree },
 }
 

@@ -3,7 +3,7 @@ ghost use Rattle.rt_tags.specs.States.{IsState, IsTag};
 
 use crate::checks::same;
 use rt_stamps::{Fault, ROOT, Stamp};
-use rt_tags::{Entry, StateId, StateTable, TagId};
+use rt_tags::{StateId, StateTable, TagEntry, TagId};
 use std::alloc::Global;
 use std::process::Abort;
 use std::test::Fail;
@@ -110,7 +110,7 @@ impl Typing {
 
     fn thrice(&mut self, first: bool, second: bool, third: bool) -> Result<bool, Fault> {
         let tag = self.tag;
-        let write = |count: u64, on: bool| Entry {
+        let write = |count: u64, on: bool| TagEntry {
             tag,
             writer: Stamp { count, site: 1 },
             on,
@@ -150,17 +150,17 @@ impl Typing {
     }
 
     // Whether the tags of the last character have these names.
-    fn lists(&self, names: &[&str]) -> bool {
-        let tags = self.table.on(self.after);
+    fn lists(&self, names: &[&str]) -> Result<bool, Fault> {
+        let tags = self.table.on(self.after)?;
         if tags.len() != names.len() {
-            return false;
+            return Ok(false);
         }
         for i in 0..names.len() {
             if self.table.name(tags[i]) != names[i] {
-                return false;
+                return Ok(false);
             }
         }
-        true
+        Ok(true)
     }
 
     // Whether the last character has the tag that is written.
@@ -242,8 +242,13 @@ const TABLES: &[(&str, &[Row])] = &[
 fn come_out(rt: &impl Abort, alloc: Global, name: &str, rows: &[Row]) -> Result<(), Fault> {
     let mut typing = Typing::new(alloc, name)?;
     for (step, names, has) in rows {
-        let told = typing.take(*step)? && typing.lists(*names);
-        same(rt, (*names, told, typing.has()), (*names, true, *has));
+        let told = typing.take(*step)?;
+        let listed = typing.lists(*names)?;
+        same(
+            rt,
+            (*names, told && listed, typing.has()),
+            (*names, true, *has),
+        );
     }
     Ok(())
 }

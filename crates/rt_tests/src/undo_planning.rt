@@ -2,7 +2,7 @@
 // is there. What an undo of a site plans is told by the operations that it makes (rt_tests_script).
 ghost use Rattle.std.specs.Prelude.{◌≡◌, ◌<◌, [], ◌∷◌, IfOk, false, length};
 ghost use Rattle.rt_store.specs.Cells.{final_cell};
-ghost use Rattle.rt_store.specs.ListStore.{cells_of};
+ghost use Rattle.rt_store.specs.ListStore.{list_cells};
 ghost use Rattle.rt_undo.specs.Actions.{group_of};
 ghost use Rattle.rt_revert.specs.Plans.{AreGiven, named_group};
 ghost use Rattle.rt_revert.specs.ReversionLaws.{AllMayRevert};
@@ -36,7 +36,7 @@ fn cell(count: u64, ch: char, gone: bool) -> Cell<StateId>
 #[tactic(auto, using(rt_store::proofs::GivenStates::spliced_states, rt_store::proofs::GivenStates::one_state))]
 fn text(alloc: Global, states: &StateTable, gone: bool) -> Result<ListStore, Fault>
     requires { 0 < length states.now.states }
-    ensures { IfOk result (λ store. cells_of store
+    ensures { IfOk result (λ store. list_cells store
         ≡ record { stamp = record { count = 1; site = 1 }; ch = 97; gone = false; state = 0 }
         ∷ record { stamp = record { count = 2; site = 1 }; ch = 98; gone = gone; state = 0 } ∷ final_cell ∷ []) }
 {

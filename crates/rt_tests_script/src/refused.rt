@@ -264,8 +264,9 @@ fn edits(rt: &impl Abort, alloc: Global, refused: usize) -> (EditedText, usize) 
 fn taken(rt: &impl Abort, alloc: Global, from: &EditedText, refused: usize) -> usize {
     let mut site = recorded(rt, alloc, new_text(rt, alloc, 2, refused));
     let mut refusals: usize = 0;
-    for op in from.view.doc().log().in_order().expect(rt, "memory") {
-        let op = op.copied(alloc).expect(rt, "memory");
+    let log = from.view.doc().log();
+    for place in 0..log.len() {
+        let op = log.get(place).copied(alloc).expect(rt, "memory");
         refusals = refusals.saturating_add(site.took(rt, op));
     }
     let text = site.view.shown().get("1.0", "end").expect(rt, "memory");

@@ -103,6 +103,10 @@ impl<S: TextStore> TextStore for Sparing<S> {
         self.store.place_of(stamp)
     }
 
+    fn visible_before(&self, position: usize) -> usize {
+        self.store.visible_before(position)
+    }
+
     fn lines(&self) -> usize {
         self.store.lines()
     }
@@ -145,6 +149,10 @@ impl<S: TextStore> TextStore for Sparing<S> {
 
     fn focus(&mut self, place: usize) {
         self.store.focus(place);
+    }
+
+    fn focus_on(&mut self, stamp: Stamp) {
+        self.store.focus_on(stamp);
     }
 
     fn splice(&mut self, states: &StateTable, at: usize, cells: &[Cell<StateId>]) {

@@ -302,44 +302,44 @@ seen_with replica marks names = record {
 }
 
 -- the document that it leaves is one
-pub accepted_is : (flat : DocValue) (op : Operation) → IsHistory flat.log → IsHistory (with_operation op flat.log) → flat.cells ≡ cells_of flat.log → keeps_rules op.body ≡ true → IsDoc flat.cells flat.marks flat.tags
-    → IsDoc (with_new op flat).cells (with_new op flat).marks (with_new op flat).tags
-accepted_is flat op h more known rules doc =
-    subst (λ l. IsDoc (cells_of (with_operation op flat.log)) (marks_left (takes_away op.body l) (marks_inserted (place_in op l) (length (inserted op)) flat.marks)) (all_listed (lists_of op.body) flat.tags)) (sym known)
-    (accepted_doc flat.log op h more flat.marks flat.tags rules (subst (λ l. IsDoc l flat.marks flat.tags) known doc))
+pub accepted_is : (document : DocValue) (op : Operation) → IsHistory document.log → IsHistory (with_operation op document.log) → document.cells ≡ cells_of document.log → keeps_rules op.body ≡ true → IsDoc document.cells document.marks document.tags
+    → IsDoc (with_new op document).cells (with_new op document).marks (with_new op document).tags
+accepted_is document op h more known rules doc =
+    subst (λ l. IsDoc (cells_of (with_operation op document.log)) (marks_left (takes_away op.body l) (marks_inserted (place_in op l) (length (inserted op)) document.marks)) (all_listed (lists_of op.body) document.tags)) (sym known)
+    (accepted_doc document.log op h more document.marks document.tags rules (subst (λ l. IsDoc l document.marks document.tags) known doc))
 
 -- a replica takes what is new to its document
-module _ (old : ReplicaValue) (op : Operation) (flat : DocValue) (marks : List Mark) (names : List Word) (view : seen_with old marks names ≡ flat) (is_new : answer_within flat.limit op flat.log ≡ New) where
+module _ (old : ReplicaValue) (op : Operation) (document : DocValue) (marks : List Mark) (names : List Word) (view : seen_with old marks names ≡ document) (is_new : answer_within document.limit op document.log ≡ New) where
   pub seen_new : answer_within old.limit op old.log ≡ New
   seen_new = ap (λ (f : DocValue). answer_within f.limit op f.log) view ∙ is_new
 
-  pub seen_continues : IsHistory flat.log → keeps_rules op.body ≡ true → Continues old.log op
+  pub seen_continues : IsHistory document.log → keeps_rules op.body ≡ true → Continues old.log op
   seen_continues history rules =
       (continues_new old.limit op old.log (subst IsHistory (sym (ap (λ (f : DocValue). f.log) view)) history) rules seen_new).0
 
-  pub seen_room : flat.cells ≡ cells_of flat.log → length old.cells + length (inserted op) ≤ old.limit
+  pub seen_room : document.cells ≡ cells_of document.log → length old.cells + length (inserted op) ≤ old.limit
   seen_room known =
       let cells : old.cells ≡ cells_of old.log = ap (λ (f : DocValue). f.cells) view ∙ known ∙ ap cells_of (sym (ap (λ (f : DocValue). f.log) view)) in
       omega (arith, accepted_room old.limit op old.log seen_new, ap length cells)
 
 module _ (old : ReplicaValue) (op : Operation) (change : Change) (is_new : answer_within old.limit op old.log ≡ New) (tells : IsChange op old.cells change) where
   -- no mark's place becomes too great
-  pub accepted_fits : (flat : DocValue) (marks : List Mark) (names : List Word) → seen_with old marks names ≡ flat → flat.cells ≡ cells_of flat.log → flat.limit ≤ MOST_CELLS → length (text_of old.cells) + change.inserted ≤ 2 ^ 64 - 1
-  accepted_fits flat marks names view known most =
+  pub accepted_fits : (document : DocValue) (marks : List Mark) (names : List Word) → seen_with old marks names ≡ document → document.cells ≡ cells_of document.log → document.limit ≤ MOST_CELLS → length (text_of old.cells) + change.inserted ≤ 2 ^ 64 - 1
+  accepted_fits document marks names view known most =
       let cells : old.cells ≡ cells_of old.log = ap (λ (f : DocValue). f.cells) view ∙ known ∙ ap cells_of (sym (ap (λ (f : DocValue). f.log) view)) in
       let room : length (cells_of old.log) + length (inserted op) ≤ old.limit = accepted_room old.limit op old.log is_new in
       let within : length (text_of old.cells) ≤ length old.cells = text_within old.cells in
       let same : length old.cells ≡ length (cells_of old.log) = ap length cells in
       let more : change.inserted ≡ length (inserted op) = tells.more in
-      let limit : old.limit ≡ flat.limit = ap (λ (f : DocValue). f.limit) view in
+      let limit : old.limit ≡ document.limit = ap (λ (f : DocValue). f.limit) view in
       omega (arith, room, within, same, more, limit, most)
 
   -- what is seen of it then
-  pub accepted_seen : (flat : DocValue) (new : ReplicaValue) (marks moved : List Mark) (names listed : List Word) → seen_with old marks names ≡ flat
+  pub accepted_seen : (document : DocValue) (new : ReplicaValue) (marks moved : List Mark) (names listed : List Word) → seen_with old marks names ≡ document
       → new.log ≡ with_operation op old.log → new.cells ≡ cells_of new.log → new.site ≡ old.site → new.limit ≡ old.limit
       → moved ≡ marks_left (is_in_runs change.removed.items) (marks_inserted change.place change.inserted marks) → listed ≡ all_listed (lists_of op.body) names
-      → seen_with new moved listed ≡ with_new op flat
-  accepted_seen flat new marks moved names listed view log cells site limit m l =
+      → seen_with new moved listed ≡ with_new op document
+  accepted_seen document new marks moved names listed view log cells site limit m l =
       (λ i. record {
         cells = (cells ∙ ap cells_of log) i;
         site = site i;

@@ -72,20 +72,20 @@ not_on true h = absurd (h refl)
 not_on false h = refl
 
 module _ (stamp : Stamp) (front rest : List TaggedCell) (apart : is_among (stamps_of front) stamp ≡ false) (later : is_among (stamps_of rest) stamp ≡ false) where
-  bares : (names : List Word) (flat : DocValue) (last : TaggedCell) → flat.cells ≡ front ++ last ∷ rest → last.stamp ≡ stamp → IsWritten flat.count last.state
-      → (new : TaggedCell) × IsBared names front last rest (bared flat stamp names).cells new
-  bares [] flat last e s known = (last, record { is = e; stamp = refl; gone = refl; before = λ q h. h; off = λ q h. absurd (cc h) })
-  bares (name ∷ names) flat last e s known =
-      let site = flat.site in
-      let count = flat.count in
-      let next : DocValue = with_tag flat name false (stamp ∷ []) in
+  bares : (names : List Word) (doc : DocValue) (last : TaggedCell) → doc.cells ≡ front ++ last ∷ rest → last.stamp ≡ stamp → IsWritten doc.count last.state
+      → (new : TaggedCell) × IsBared names front last rest (bared doc stamp names).cells new
+  bares [] doc last e s known = (last, record { is = e; stamp = refl; gone = refl; before = λ q h. h; off = λ q h. absurd (cc h) })
+  bares (name ∷ names) doc last e s known =
+      let site = doc.site in
+      let count = doc.count in
+      let next : DocValue = with_tag doc name false (stamp ∷ []) in
       let new : TaggedCell = off stamp site count name last in
       let there : is_among (stamp ∷ []) last.stamp ≡ true = ap (λ x. is_same stamp x || false) s ∙ ap (λ b. b || false) (same_refl stamp) in
       let change = tagged_state site count name false (stamp ∷ []) last in
       let cells : next.cells ≡ front ++ new ∷ rest =
       ap (map (off stamp site count name)) e ∙ map_append (off stamp site count name) front (last ∷ rest)
       ∙ (λ i. others_stay stamp site count name front apart i ++ new ∷ others_stay stamp site count name rest later i) in
-      let known_next : IsWritten next.count new.state = known_after flat name last there known in
+      let known_next : IsWritten next.count new.state = known_after doc name last there known in
       let kept = stamp_kept site count name false (stamp ∷ []) last in
       let rest_is = bares names next new cells (kept ∙ s) known_next in (
         rest_is.0,
@@ -108,13 +108,13 @@ module _ (stamp : Stamp) (front rest : List TaggedCell) (apart : is_among (stamp
       first true b h k = refl
       first false b h k = absurd (cc (h, k))
 
-      known_after : (flat : DocValue) (name : Word) (last : TaggedCell) → is_among (stamp ∷ []) last.stamp ≡ true → IsWritten flat.count last.state
-          → IsWritten (with_tag flat name false (stamp ∷ [])).count (cell_with_tag flat.site flat.count name false (stamp ∷ []) last).state
-      known_after flat name last there known =
-          let w : Write = tag_write flat.site flat.count name false (stamp ∷ []) last.stamp in
-          let within : w.writer.count ≤ (with_tag flat name false (stamp ∷ [])).count = operation_within flat.count (stamp ∷ []) last.stamp there in
-          let here : (cell_with_tag flat.site flat.count name false (stamp ∷ []) last).state ≡ written w last.state = ap (λ b. (cond b (record last { state = written w last.state }) last).state) there in
-          subst (IsWritten (with_tag flat name false (stamp ∷ [])).count) (sym here) (written_known flat.count (with_tag flat name false (stamp ∷ [])).count w last.state (omega arith) within known)
+      known_after : (doc : DocValue) (name : Word) (last : TaggedCell) → is_among (stamp ∷ []) last.stamp ≡ true → IsWritten doc.count last.state
+          → IsWritten (with_tag doc name false (stamp ∷ [])).count (cell_with_tag doc.site doc.count name false (stamp ∷ []) last).state
+      known_after doc name last there known =
+          let w : Write = tag_write doc.site doc.count name false (stamp ∷ []) last.stamp in
+          let within : w.writer.count ≤ (with_tag doc name false (stamp ∷ [])).count = operation_within doc.count (stamp ∷ []) last.stamp there in
+          let here : (cell_with_tag doc.site doc.count name false (stamp ∷ []) last).state ≡ written w last.state = ap (λ b. (cond b (record last { state = written w last.state }) last).state) there in
+          subst (IsWritten (with_tag doc name false (stamp ∷ [])).count) (sym here) (written_known doc.count (with_tag doc name false (stamp ∷ [])).count w last.state (omega arith) within known)
 
 -- a cell between others, bare of all tags
 pub record IsBare (front : List TaggedCell) (last : TaggedCell) (rest cells : List TaggedCell) (new : TaggedCell) : Type 0 where
@@ -123,10 +123,10 @@ pub record IsBare (front : List TaggedCell) (last : TaggedCell) (rest cells : Li
   pub gone : new.gone ≡ last.gone
   pub off : (q : Word) → is_on q new.state ≡ false
 
-pub all_bare : (flat : DocValue) (front : List TaggedCell) (last : TaggedCell) (rest : List TaggedCell) → flat.cells ≡ front ++ last ∷ rest → is_among (stamps_of front) last.stamp ≡ false → is_among (stamps_of rest) last.stamp ≡ false
-    → IsWritten flat.count last.state → IsByName last.state → (new : TaggedCell) × IsBare front last rest (bared flat last.stamp (names_on last.state)).cells new
-all_bare flat front last rest e apart behind known by_name =
-    let w = bares last.stamp front rest apart behind (names_on last.state) flat last e refl known in (
+pub all_bare : (doc : DocValue) (front : List TaggedCell) (last : TaggedCell) (rest : List TaggedCell) → doc.cells ≡ front ++ last ∷ rest → is_among (stamps_of front) last.stamp ≡ false → is_among (stamps_of rest) last.stamp ≡ false
+    → IsWritten doc.count last.state → IsByName last.state → (new : TaggedCell) × IsBare front last rest (bared doc last.stamp (names_on last.state)).cells new
+all_bare doc front last rest e apart behind known by_name =
+    let w = bares last.stamp front rest apart behind (names_on last.state) doc last e refl known in (
       w.0,
       record {
         is = w.1.is;

@@ -9,33 +9,33 @@ use Rattle.rt_plans.specs.Removals.{is_covered}
 use Rattle.rt_revert.specs.declared.plan.TextChange.{TextChange}
 use Rattle.rt_revert.specs.declared.plan.TextChange.TheVariants.{Inserted, Removed as Gone}
 use Rattle.rt_revert.specs.Plans.{IsTextChange, marks_after, marks_changed}
-use Rattle.rt_text.specs.Changes.{own_after, own_changed}
-use Rattle.rt_text.specs.Widgets.{WidgetValue, own_inserted, own_left}
+use Rattle.rt_text.specs.Changes.{widget_after, widget_changed}
+use Rattle.rt_text.specs.Widgets.{WidgetValue, widget_inserted, widget_without}
 
 -- OWN MARKS
 
 -- an own mark moves as the only mark of a site would
-pub insert_alone : (changes : List TextChange) (own : WidgetValue) → marks_after changes (own.insert ∷ []) ≡ (own_after changes own).insert ∷ []
+pub insert_alone : (changes : List TextChange) (own : WidgetValue) → marks_after changes (own.insert ∷ []) ≡ (widget_after changes own).insert ∷ []
 insert_alone [] own = refl
-insert_alone (Gone ranges ∷ changes) own = insert_alone changes (own_left (is_covered ranges.items) own)
-insert_alone (Inserted place ∷ changes) own = insert_alone changes (own_inserted place 1 own)
+insert_alone (Gone ranges ∷ changes) own = insert_alone changes (widget_without (is_covered ranges.items) own)
+insert_alone (Inserted place ∷ changes) own = insert_alone changes (widget_inserted place 1 own)
 
-pub current_alone : (changes : List TextChange) (own : WidgetValue) → marks_after changes (own.current ∷ []) ≡ (own_after changes own).current ∷ []
+pub current_alone : (changes : List TextChange) (own : WidgetValue) → marks_after changes (own.current ∷ []) ≡ (widget_after changes own).current ∷ []
 current_alone [] own = refl
-current_alone (Gone ranges ∷ changes) own = current_alone changes (own_left (is_covered ranges.items) own)
-current_alone (Inserted place ∷ changes) own = current_alone changes (own_inserted place 1 own)
+current_alone (Gone ranges ∷ changes) own = current_alone changes (widget_without (is_covered ranges.items) own)
+current_alone (Inserted place ∷ changes) own = current_alone changes (widget_inserted place 1 own)
 
 -- and what is selected stays so
-pub still_selected : (changes : List TextChange) (own : WidgetValue) → (own_after changes own).sel ≡ own.sel
+pub still_selected : (changes : List TextChange) (own : WidgetValue) → (widget_after changes own).sel ≡ own.sel
 still_selected [] own = refl
-still_selected (Gone ranges ∷ changes) own = still_selected changes (own_left (is_covered ranges.items) own)
-still_selected (Inserted place ∷ changes) own = still_selected changes (own_inserted place 1 own)
+still_selected (Gone ranges ∷ changes) own = still_selected changes (widget_without (is_covered ranges.items) own)
+still_selected (Inserted place ∷ changes) own = still_selected changes (widget_inserted place 1 own)
 
 -- as do its limits
-pub still_limited : (changes : List TextChange) (own : WidgetValue) → (own_after changes own).limits ≡ own.limits
+pub still_limited : (changes : List TextChange) (own : WidgetValue) → (widget_after changes own).limits ≡ own.limits
 still_limited [] own = refl
-still_limited (Gone ranges ∷ changes) own = still_limited changes (own_left (is_covered ranges.items) own)
-still_limited (Inserted place ∷ changes) own = still_limited changes (own_inserted place 1 own)
+still_limited (Gone ranges ∷ changes) own = still_limited changes (widget_without (is_covered ranges.items) own)
+still_limited (Inserted place ∷ changes) own = still_limited changes (widget_inserted place 1 own)
 
 -- ROOM FOR PLACES
 
@@ -72,11 +72,11 @@ changed_room (Gone ranges) n most marks h =
     each_in_order (λ (m : Mark). m.place + n ≤ most) (map (mark_left (is_covered ranges.items)) marks) (left_room (is_covered ranges.items) n most marks h)
 changed_room (Inserted place) n most marks h = inserted_room place n most marks h
 
-pub insert_room : (change : TextChange) (n most : ℕ) (own : WidgetValue) → own.insert.place + suc n ≤ most → (own_changed change own).insert.place + n ≤ most
+pub insert_room : (change : TextChange) (n most : ℕ) (own : WidgetValue) → own.insert.place + suc n ≤ most → (widget_changed change own).insert.place + n ≤ most
 insert_room (Gone ranges) n most own h = omega (arith, h, left_within (is_covered ranges.items) own.insert.place)
 insert_room (Inserted place) n most own h = moved_within (is_moved_on place own.insert.place own.insert.gravity) own.insert.place n most h
 
-pub current_room : (change : TextChange) (n most : ℕ) (own : WidgetValue) → own.current.place + suc n ≤ most → (own_changed change own).current.place + n ≤ most
+pub current_room : (change : TextChange) (n most : ℕ) (own : WidgetValue) → own.current.place + suc n ≤ most → (widget_changed change own).current.place + n ≤ most
 current_room (Gone ranges) n most own h = omega (arith, h, left_within (is_covered ranges.items) own.current.place)
 current_room (Inserted place) n most own h = moved_within (is_moved_on place own.current.place own.current.gravity) own.current.place n most h
 

@@ -116,27 +116,27 @@ off_on site count name stamps cell other h = by (is_among stamps cell.stamp) h
     by false k = k
 
 -- tags that are taken off a character leave those that are on listed
-bared_listed : (listed : List Word) (flat : DocValue) (stamp : Stamp) (names : List Word) → All (λ name. bytes_eq name sel ≡ false) names → AreListed listed flat.cells → AreListed listed (bared flat stamp names).cells
-bared_listed listed flat stamp [] others h = h
-bared_listed listed flat stamp (name ∷ names) others h =
+bared_listed : (listed : List Word) (doc : DocValue) (stamp : Stamp) (names : List Word) → All (λ name. bytes_eq name sel ≡ false) names → AreListed listed doc.cells → AreListed listed (bared doc stamp names).cells
+bared_listed listed doc stamp [] others h = h
+bared_listed listed doc stamp (name ∷ names) others h =
     let stamps = stamp ∷ [] in
-    bared_listed listed (with_tag flat name false stamps) stamp names (All-tail (λ (n : Word). bytes_eq n sel ≡ false) name names others)
-    (listed_less listed (cell_with_tag flat.site flat.count name false stamps) flat.cells (off_seen flat.site flat.count name stamps) (off_on flat.site flat.count name stamps)
-    (shared_tagged flat.site flat.count name false stamps (All-head (λ (n : Word). bytes_eq n sel ≡ false) name names others)) h)
+    bared_listed listed (with_tag doc name false stamps) stamp names (All-tail (λ (n : Word). bytes_eq n sel ≡ false) name names others)
+    (listed_less listed (cell_with_tag doc.site doc.count name false stamps) doc.cells (off_seen doc.site doc.count name stamps) (off_on doc.site doc.count name stamps)
+    (shared_tagged doc.site doc.count name false stamps (All-head (λ (n : Word). bytes_eq n sel ≡ false) name names others)) h)
 
-newline_shared : (flat : DocValue) (loss : Loss) (cell : TaggedCell) → All (λ cell. IsShared cell.state) flat.cells → newline_left flat loss ≡ Some cell → All (λ name. bytes_eq name sel ≡ false) (names_on cell.state)
-newline_shared flat loss cell h e =
-    let w = newline_at flat loss cell e in
+newline_shared : (doc : DocValue) (loss : Loss) (cell : TaggedCell) → All (λ cell. IsShared cell.state) doc.cells → newline_left doc loss ≡ Some cell → All (λ name. bytes_eq name sel ≡ false) (names_on cell.state)
+newline_shared doc loss cell h e =
+    let w = newline_at doc loss cell e in
     let P : TaggedCell → Type 0 = λ c. IsShared c.state in
-    let all : All P (visible_of flat.cells) = All-filter (λ (c : TaggedCell). not c.gone) P flat.cells h in
-    shared_names_on cell.state (subst P (get_or_from_slice_get (visible_of flat.cells) w.0 cell cell w.1) (all w.0 cell (slice_get_within (visible_of flat.cells) w.0 cell w.1)))
+    let all : All P (visible_of doc.cells) = All-filter (λ (c : TaggedCell). not c.gone) P doc.cells h in
+    shared_names_on cell.state (subst P (get_or_from_slice_get (visible_of doc.cells) w.0 cell cell w.1) (all w.0 cell (slice_get_within (visible_of doc.cells) w.0 cell w.1)))
 
 -- A DELETION
 
 -- the tags that are listed stay so
-pub deletion_listed : (flat : DocValue) (loss : Loss) (names : List Word) → AreListed names flat.cells → AreListed names (without_text flat loss).cells
-deletion_listed flat loss names h =
-    let left = without_places flat loss.places in
-    let gone : AreListed names left.cells = listed_gone names loss.places flat.cells h in
-    loss_has (λ (f : DocValue). AreListed names f.cells) flat loss gone
-    (λ cell e. bared_listed names left cell.stamp (names_on cell.state) (newline_shared flat loss cell h.shared e) gone)
+pub deletion_listed : (doc : DocValue) (loss : Loss) (names : List Word) → AreListed names doc.cells → AreListed names (without_text doc loss).cells
+deletion_listed doc loss names h =
+    let left = without_places doc loss.places in
+    let gone : AreListed names left.cells = listed_gone names loss.places doc.cells h in
+    loss_has (λ (f : DocValue). AreListed names f.cells) doc loss gone
+    (λ cell e. bared_listed names left cell.stamp (names_on cell.state) (newline_shared doc loss cell h.shared e) gone)

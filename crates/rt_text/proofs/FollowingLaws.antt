@@ -6,7 +6,7 @@ use Rattle.rt_marks.specs.Marks.{Mark, marks_removed, marks_left, place_removed,
 use Rattle.rt_marks.proofs.Leaving.{marks_then, place_then}
 use Rattle.rt_rga.specs.declared.taken.PlaceRun.{PlaceRun}
 use Rattle.rt_rga.specs.Taken.{AreFallingRuns, is_in_run, is_in_runs}
-use Rattle.rt_text.specs.Widgets.{WidgetValue, own_removed, own_left}
+use Rattle.rt_text.specs.Widgets.{WidgetValue, widget_removed, widget_without}
 
 -- no run is empty
 pub run_forward : (end : ℕ) (runs : List PlaceRun) (i : ℕ) (d : PlaceRun) → i < length runs → AreFallingRuns end runs → (get_or runs i d).from ≤ (get_or runs i d).to
@@ -60,7 +60,7 @@ marks_follow end runs i d marks h k =
     marks_then (is_in_runs (take i runs)) run.from run.to (not_before end runs i d h k) marks ∙ ap (λ r. marks_left r marks) (covers_more runs i d h)
 
 pub own_follow : (end : ℕ) (runs : List PlaceRun) (i : ℕ) (d : PlaceRun) (own : WidgetValue) → i < length runs → AreFallingRuns end runs
-    → own_removed (get_or runs i d).from ((get_or runs i d).to - (get_or runs i d).from) (own_left (is_in_runs (take i runs)) own) ≡ own_left (is_in_runs (take (i + 1) runs)) own
+    → widget_removed (get_or runs i d).from ((get_or runs i d).to - (get_or runs i d).from) (widget_without (is_in_runs (take i runs)) own) ≡ widget_without (is_in_runs (take (i + 1) runs)) own
 own_follow end runs i d own h k =
     let run = get_or runs i d in
     let before = is_in_runs (take i runs) in

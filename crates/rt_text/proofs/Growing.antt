@@ -14,9 +14,9 @@ use Rattle.rt_plans.specs.Deletions.{delete_drafts, loss_in}
 use Rattle.rt_plans.specs.DocValue.{DocValue, left_stamp, logged}
 use Rattle.rt_plans.specs.InsertionDrafts.{insertion_drafts}
 use Rattle.rt_plans.specs.Insertions.{Piece, insertion_of, left_neighbour}
-use Rattle.rt_text.specs.Accepted.{own_with_new, view_with_new}
+use Rattle.rt_text.specs.Accepted.{widget_with_new, view_with_new}
 use Rattle.rt_text.specs.Commands.{last_unselected, none_inserted, right_behind, with_pieces_at, with_range_replaced, without_ranges}
-use Rattle.rt_text.specs.Widgets.{WidgetValue, ViewValue, begin_of, in_text, length_shown, limits_of, own_inserted, own_left, reselected, cells_shown, text_shown, with_selections}
+use Rattle.rt_text.specs.Widgets.{WidgetValue, ViewValue, begin_of, in_text, length_shown, limits_of, widget_inserted, widget_without, reselected, cells_shown, text_shown, with_selections}
 
 -- LOGS
 
@@ -68,7 +68,7 @@ put_grows view place pieces rest =
     let left = left_neighbour (cells_shown view) place in
     let right = right_behind view place pieces in
     let new = insertion_of view.doc.site left right pieces rest (none_inserted view) in
-    let moves : WidgetValue → WidgetValue = own_inserted at (length new.cells) in
+    let moves : WidgetValue → WidgetValue = widget_inserted at (length new.cells) in
     record {
       log = grows_drafts view.doc.site (insertion_drafts MOST_CHARACTERS view.doc.site (left_stamp view.doc.cells at) left right pieces rest (none_inserted view)) view.doc.log;
       limits = ap (λ l. view.own.limits ∷ l) (selected_too new.others (map moves view.others)) ∙ by_rule moves (λ own. refl) view.own view.others;
@@ -80,7 +80,7 @@ without_grows view ranges =
     let loss = loss_in (text_shown view) (begin_of view) ranges in
     record {
       log = grows_drafts view.doc.site (delete_drafts MOST_SPANS view.doc loss) view.doc.log;
-      limits = by_rule (λ own. reselected (last_unselected view (is_some loss.newline)) (own_left loss.places own)) (λ own. refl) view.own view.others;
+      limits = by_rule (λ own. reselected (last_unselected view (is_some loss.newline)) (widget_without loss.places own)) (λ own. refl) view.own view.others;
     }
 
 -- a range is replaced
@@ -92,7 +92,7 @@ replaced_grows view range pieces rest =
 
 -- an operation is accepted
 pub grows_taken : (op : Operation) (view : ViewValue) → GrowsTo view (view_with_new op view)
-grows_taken op view = record { log = grows_with op view.doc.log; limits = by_rule (own_with_new op view.doc) (λ own. refl) view.own view.others }
+grows_taken op view = record { log = grows_with op view.doc.log; limits = by_rule (widget_with_new op view.doc) (λ own. refl) view.own view.others }
 
 -- tags are written
 pub logged_grows : (view : ViewValue) (drafts : List Body) (edited : DocValue) → GrowsTo view (record view { doc = logged view.doc drafts edited })

@@ -37,7 +37,7 @@ use Rattle.rt_plans.proofs.PremiseLaws.{may_begin, pieces_are}
 use Rattle.rt_text.specs.Commands.{cell_check, clock_check, names_in, none_inserted, right_behind, with_pieces_at}
 use Rattle.rt_text.specs.Kept.{IsDoc}
 use Rattle.rt_text.specs.Replacements.{drafts_at, insertion_at}
-use Rattle.rt_text.specs.Widgets.{AreSiteMarks, IsOwnOf, WidgetValue, ViewValue, in_text, own_inserted, selections_of, cells_shown, with_selections}
+use Rattle.rt_text.specs.Widgets.{AreSiteMarks, IsOwnOf, WidgetValue, ViewValue, in_text, widget_inserted, selections_of, cells_shown, with_selections}
 use Rattle.rt_text.proofs.InsertedSides.{IsFound, IsPlace, IsRight, at_text, drafts_any, left_there, near, near_within, right_any}
 use Rattle.rt_text.proofs.ListedText.{IsTaggedAmong, ListsAll, insertion_lists, insertion_tags, left_among, listed_put, names_of_all, text_among}
 use Rattle.rt_text.proofs.MadeDocument.{both_fit, refusal_is}
@@ -59,9 +59,9 @@ pub begun : {X : Type 0} (f : ℕ → Insertion → X) (site count : ℕ) (sel :
     → f site (record { cells = []; count = count; sel = sel; others = selections_of view.others; tags = view.doc.tags }) ≡ f view.doc.site (none_inserted view)
 begun f site count sel view s n e = λ i. f (s i) (record { cells = []; count = n i; sel = e i; others = selections_of view.others; tags = view.doc.tags })
 
-module _ (flat : DocValue) (own : WidgetValue) (others : List WidgetValue) (place : ℕ) (pieces : List Piece) (rest : Word) where
+module _ (doc : DocValue) (own : WidgetValue) (others : List WidgetValue) (place : ℕ) (pieces : List Piece) (rest : Word) where
   abbrev view : ViewValue
-  view = viewed flat own others
+  view = viewed doc own others
 
   -- the place in the text
   abbrev pub place_in : ℕ
@@ -82,45 +82,45 @@ module _ (flat : DocValue) (own : WidgetValue) (others : List WidgetValue) (plac
 
   -- the document but for its log
   abbrev pub made_flat : DocValue
-  made_flat = record flat {
-    cells = put_after flat.cells (left_stamp flat.cells place_in) made_new.cells;
+  made_flat = record doc {
+    cells = put_after doc.cells (left_stamp doc.cells place_in) made_new.cells;
     count = made_new.count;
-    marks = marks_inserted place_in (length made_new.cells) flat.marks;
+    marks = marks_inserted place_in (length made_new.cells) doc.marks;
     tags = made_new.tags;
   }
 
-  pub put_made : with_pieces_at (viewed flat own others) place pieces rest
+  pub put_made : with_pieces_at (viewed doc own others) place pieces rest
       ≡ record {
-        doc = logged flat made_drafts made_flat;
-        own = record (own_inserted place_in (length made_new.cells) own) { sel = made_new.sel };
-        others = with_selections made_new.others (map (own_inserted place_in (length made_new.cells)) others);
+        doc = logged doc made_drafts made_flat;
+        own = record (widget_inserted place_in (length made_new.cells) own) { sel = made_new.sel };
+        others = with_selections made_new.others (map (widget_inserted place_in (length made_new.cells)) others);
       }
   put_made = refl
 
   -- between the neighbours that the code finds it is the same, and so are its operations
-  module _ (after : Stamp) (l r : Option TaggedCell) (f : IsFound flat own others place pieces after l r) where
+  module _ (after : Stamp) (l r : Option TaggedCell) (f : IsFound doc own others place pieces after l r) where
     abbrev start : Insertion
     start = none_inserted view
 
-    which : ((l ≡ None) × ((with_pieces flat.site pieces start).cells ≡ [])) ⊎ (r ≡ right)
+    which : ((l ≡ None) × ((with_pieces doc.site pieces start).cells ≡ [])) ⊎ (r ≡ right)
     which = by f.next
       where
-        by : IsRight flat own others place pieces r → ((l ≡ None) × ((with_pieces flat.site pieces start).cells ≡ [])) ⊎ (r ≡ right)
+        by : IsRight doc own others place pieces r → ((l ≡ None) × ((with_pieces doc.site pieces start).cells ≡ [])) ⊎ (r ≡ right)
         by (inl w) = inl (f.before ∙ w.0, w.1)
         by (inr k) = inr k
 
-    pub new_is : insertion_of flat.site l r pieces rest start ≡ made_new
-    new_is = right_any flat.site l r right pieces rest start which ∙ ap (λ o. insertion_of flat.site o right pieces rest start) f.before
+    pub new_is : insertion_of doc.site l r pieces rest start ≡ made_new
+    new_is = right_any doc.site l r right pieces rest start which ∙ ap (λ o. insertion_of doc.site o right pieces rest start) f.before
 
-    pub drafts_are : insertion_drafts MOST_CHARACTERS flat.site after l r pieces rest start ≡ made_drafts
+    pub drafts_are : insertion_drafts MOST_CHARACTERS doc.site after l r pieces rest start ≡ made_drafts
     drafts_are =
-        ap (λ a. insertion_drafts MOST_CHARACTERS flat.site a l r pieces rest start) f.element
-        ∙ drafts_any flat.site (left_stamp flat.cells place_in) l r right pieces rest start which
-        ∙ ap (λ o. insertion_drafts MOST_CHARACTERS flat.site (left_stamp flat.cells place_in) o right pieces rest start) f.before
+        ap (λ a. insertion_drafts MOST_CHARACTERS doc.site a l r pieces rest start) f.element
+        ∙ drafts_any doc.site (left_stamp doc.cells place_in) l r right pieces rest start which
+        ∙ ap (λ o. insertion_drafts MOST_CHARACTERS doc.site (left_stamp doc.cells place_in) o right pieces rest start) f.before
 
-module _ (flat : DocValue) (own : WidgetValue) (others : List WidgetValue) (place : ℕ) (pieces : List Piece) (rest : Word) (is : IsPlace flat own others place) where
+module _ (doc : DocValue) (own : WidgetValue) (others : List WidgetValue) (place : ℕ) (pieces : List Piece) (rest : Word) (is : IsPlace doc own others place) where
   abbrev seen : ViewValue
-  seen = viewed flat own others
+  seen = viewed doc own others
 
   abbrev at : ℕ
   at = in_text seen place
@@ -132,100 +132,100 @@ module _ (flat : DocValue) (own : WidgetValue) (others : List WidgetValue) (plac
   r = right_behind seen place pieces
 
   abbrev a : Stamp
-  a = left_stamp flat.cells at
+  a = left_stamp doc.cells at
 
   abbrev none_yet : Insertion
   none_yet = none_inserted seen
 
   -- MAKING IT
 
-  begins : All IsPiece pieces → IsUtf8 rest → IsInsertion flat.site flat.log a l r pieces rest none_yet
+  begins : All IsPiece pieces → IsUtf8 rest → IsInsertion doc.site doc.log a l r pieces rest none_yet
   begins are utf8 =
-      let here = may_begin flat.site flat.log flat at r pieces rest none_yet is.history is.document (at_text flat own others place is) (pieces_are pieces are) utf8 refl refl in
-      let there = may_begin flat.site flat.log flat (near seen place) r pieces rest none_yet is.history is.document (near_within flat own others place is) (pieces_are pieces are) utf8 refl refl in
+      let here = may_begin doc.site doc.log doc at r pieces rest none_yet is.history is.document (at_text doc own others place is) (pieces_are pieces are) utf8 refl refl in
+      let there = may_begin doc.site doc.log doc (near seen place) r pieces rest none_yet is.history is.document (near_within doc own others place is) (pieces_are pieces are) utf8 refl refl in
       record {
         element = here.element;
         listed = here.listed;
-        unlisted = subst (λ (o : Option TaggedCell). IsText (tags_between (on_left o (with_pieces flat.site pieces none_yet).cells) r) (chars rest)) (sym (left_there flat own others place is)) there.unlisted;
+        unlisted = subst (λ (o : Option TaggedCell). IsText (tags_between (on_left o (with_pieces doc.site pieces none_yet).cells) r) (chars rest)) (sym (left_there doc own others place is)) there.unlisted;
         none = here.none;
         count = here.count;
       }
 
-  pub may_make : All IsPiece pieces → IsUtf8 rest → MayBeMade flat.site flat.log (made_drafts flat own others place pieces rest)
-  may_make are utf8 = insertion_may flat.site flat.log a l r pieces rest none_yet (begins are utf8)
+  pub may_make : All IsPiece pieces → IsUtf8 rest → MayBeMade doc.site doc.log (made_drafts doc own others place pieces rest)
+  may_make are utf8 = insertion_may doc.site doc.log a l r pieces rest none_yet (begins are utf8)
 
-  pub refused_made : refusal_of flat.limit (made_drafts flat own others place pieces rest) flat.log
-      ≡ first_of (clock_check (made_new flat own others place pieces rest).count ∷ cell_check flat.limit (length (made_flat flat own others place pieces rest).cells) ∷ [])
+  pub refused_made : refusal_of doc.limit (made_drafts doc own others place pieces rest) doc.log
+      ≡ first_of (clock_check (made_new doc own others place pieces rest).count ∷ cell_check doc.limit (length (made_flat doc own others place pieces rest).cells) ∷ [])
   refused_made =
-      let new = made_new flat own others place pieces rest in
-      let chars = insertion_length flat.site a l r pieces rest none_yet in
-      refusal_is flat.limit (made_drafts flat own others place pieces rest) flat.log new.count (length (put_after flat.cells a new.cells))
-      (sym (all_count_on flat.site (made_drafts flat own others place pieces rest) flat.log) ∙ insertion_counted flat.site flat.log a l r pieces rest none_yet is.document.count)
-      (omega (arith, chars, put_length flat.cells a new.cells, ap (λ (cells : List TaggedCell). length cells) is.document.cells))
+      let new = made_new doc own others place pieces rest in
+      let chars = insertion_length doc.site a l r pieces rest none_yet in
+      refusal_is doc.limit (made_drafts doc own others place pieces rest) doc.log new.count (length (put_after doc.cells a new.cells))
+      (sym (all_count_on doc.site (made_drafts doc own others place pieces rest) doc.log) ∙ insertion_counted doc.site doc.log a l r pieces rest none_yet is.document.count)
+      (omega (arith, chars, put_length doc.cells a new.cells, ap (λ (cells : List TaggedCell). length cells) is.document.cells))
 
-  pub refused_as : refusal_of flat.limit (made_drafts flat own others place pieces rest) flat.log ≡ first_of (late_checks flat (with_pieces_at seen place pieces rest))
+  pub refused_as : refusal_of doc.limit (made_drafts doc own others place pieces rest) doc.log ≡ first_of (late_checks doc (with_pieces_at seen place pieces rest))
   refused_as = refused_made
 
-  pub made_is : All IsPiece pieces → IsUtf8 rest → (made_new flat own others place pieces rest).count ≤ GREATEST_COUNT
-      → IsDocument flat.site (with_drafts flat.site (made_drafts flat own others place pieces rest) flat.log) (made_flat flat own others place pieces rest)
+  pub made_is : All IsPiece pieces → IsUtf8 rest → (made_new doc own others place pieces rest).count ≤ GREATEST_COUNT
+      → IsDocument doc.site (with_drafts doc.site (made_drafts doc own others place pieces rest) doc.log) (made_flat doc own others place pieces rest)
   made_is are utf8 fits =
-      let done = insertion_made flat.site flat.log a l r pieces rest none_yet is.real is.history (begins are utf8) fits in record {
-        cells = ap (λ (cells : List TaggedCell). put_after cells a (made_new flat own others place pieces rest).cells) is.document.cells ∙ sym done.cells;
+      let done = insertion_made doc.site doc.log a l r pieces rest none_yet is.real is.history (begins are utf8) fits in record {
+        cells = ap (λ (cells : List TaggedCell). put_after cells a (made_new doc own others place pieces rest).cells) is.document.cells ∙ sym done.cells;
         site = refl;
         count = sym done.count;
       }
 
   -- WHAT IT LEAVES
 
-  pub lists : All IsName (names_in pieces) → AreListed flat.tags flat.cells → ListsAll (made_new flat own others place pieces rest)
+  pub lists : All IsName (names_in pieces) → AreListed doc.tags doc.cells → ListsAll (made_new doc own others place pieces rest)
   lists names listed =
-      let sorted : All (λ (c : TaggedCell). IsByName c.state) flat.cells =
-      subst (All (λ (c : TaggedCell). IsByName c.state)) (sym is.document.cells) (all_states flat.log is.history IsByName (λ s. state_sorted [] (writes_on flat.log s) tt)) in
-      insertion_lists flat.site l r pieces rest none_yet names
-      (subst (λ (o : Option TaggedCell). IfSome o (IsTaggedAmong flat.tags)) (sym (left_there flat own others place is)) (left_among flat.cells flat.tags (near seen place) listed sorted))
-      (record { cells = All-nil (IsTaggedAmong flat.tags); names = listed.names })
+      let sorted : All (λ (c : TaggedCell). IsByName c.state) doc.cells =
+      subst (All (λ (c : TaggedCell). IsByName c.state)) (sym is.document.cells) (all_states doc.log is.history IsByName (λ s. state_sorted [] (writes_on doc.log s) tt)) in
+      insertion_lists doc.site l r pieces rest none_yet names
+      (subst (λ (o : Option TaggedCell). IfSome o (IsTaggedAmong doc.tags)) (sym (left_there doc own others place is)) (left_among doc.cells doc.tags (near seen place) listed sorted))
+      (record { cells = All-nil (IsTaggedAmong doc.tags); names = listed.names })
 
   -- the text grows by the new characters
-  pub text_more : All IsPiece pieces → AreListed flat.tags flat.cells → length (text_of (made_flat flat own others place pieces rest).cells) ≡ length (text_of flat.cells) + length (made_new flat own others place pieces rest).cells
+  pub text_more : All IsPiece pieces → AreListed doc.tags doc.cells → length (text_of (made_flat doc own others place pieces rest).cells) ≡ length (text_of doc.cells) + length (made_new doc own others place pieces rest).cells
   text_more are listed =
-      length_put flat.cells a (made_new flat own others place pieces rest).cells ∙ ap (λ n. length (text_of flat.cells) + n) (text_among (made_new flat own others place pieces rest).tags (made_new flat own others place pieces rest).cells (lists (pieces_named pieces are) listed).cells)
+      length_put doc.cells a (made_new doc own others place pieces rest).cells ∙ ap (λ n. length (text_of doc.cells) + n) (text_among (made_new doc own others place pieces rest).tags (made_new doc own others place pieces rest).cells (lists (pieces_named pieces are) listed).cells)
 
-  pub kept_made : All IsPiece pieces → IsDoc flat.cells flat.marks flat.tags → IsDoc (made_flat flat own others place pieces rest).cells (made_flat flat own others place pieces rest).marks (made_flat flat own others place pieces rest).tags
+  pub kept_made : All IsPiece pieces → IsDoc doc.cells doc.marks doc.tags → IsDoc (made_flat doc own others place pieces rest).cells (made_flat doc own others place pieces rest).marks (made_flat doc own others place pieces rest).tags
   kept_made are kept =
       let all = lists (pieces_named pieces are) kept.listed in
-      let more : AreListed (made_new flat own others place pieces rest).tags flat.cells =
-      listed_more flat.tags (made_new flat own others place pieces rest).tags flat.cells
-      (λ n e. insertion_tags flat.site l r pieces rest none_yet n e) all.names kept.listed in record {
-        placed = subst (λ (n : ℕ). AreSiteMarks n (made_flat flat own others place pieces rest).marks) (sym (text_more are kept.listed)) (site_inserted (length (text_of flat.cells)) at (length (made_new flat own others place pieces rest).cells) flat.marks kept.placed);
-        listed = listed_put (made_new flat own others place pieces rest).tags flat.cells a (made_new flat own others place pieces rest).cells more all.cells;
+      let more : AreListed (made_new doc own others place pieces rest).tags doc.cells =
+      listed_more doc.tags (made_new doc own others place pieces rest).tags doc.cells
+      (λ n e. insertion_tags doc.site l r pieces rest none_yet n e) all.names kept.listed in record {
+        placed = subst (λ (n : ℕ). AreSiteMarks n (made_flat doc own others place pieces rest).marks) (sym (text_more are kept.listed)) (site_inserted (length (text_of doc.cells)) at (length (made_new doc own others place pieces rest).cells) doc.marks kept.placed);
+        listed = listed_put (made_new doc own others place pieces rest).tags doc.cells a (made_new doc own others place pieces rest).cells more all.cells;
       }
 
-  pub own_made : All IsPiece pieces → AreListed flat.tags flat.cells → IsOwnOf (length (text_of flat.cells)) own
-      → IsOwnOf (length (text_of (made_flat flat own others place pieces rest).cells)) (record (own_inserted at (length (made_new flat own others place pieces rest).cells) own) { sel = (made_new flat own others place pieces rest).sel })
+  pub own_made : All IsPiece pieces → AreListed doc.tags doc.cells → IsOwnOf (length (text_of doc.cells)) own
+      → IsOwnOf (length (text_of (made_flat doc own others place pieces rest).cells)) (record (widget_inserted at (length (made_new doc own others place pieces rest).cells) own) { sel = (made_new doc own others place pieces rest).sel })
   own_made are listed stands =
-      subst (λ (n : ℕ). IsOwnOf n (record (own_inserted at (length (made_new flat own others place pieces rest).cells) own) { sel = (made_new flat own others place pieces rest).sel })) (sym (text_more are listed))
-      (own_of_selecting _ _ (made_new flat own others place pieces rest).sel (own_of_inserted (length (text_of flat.cells)) at (length (made_new flat own others place pieces rest).cells) own stands))
+      subst (λ (n : ℕ). IsOwnOf n (record (widget_inserted at (length (made_new doc own others place pieces rest).cells) own) { sel = (made_new doc own others place pieces rest).sel })) (sym (text_more are listed))
+      (own_of_selecting _ _ (made_new doc own others place pieces rest).sel (own_of_inserted (length (text_of doc.cells)) at (length (made_new doc own others place pieces rest).cells) own stands))
 
   -- the other widgets stand in it too
-  pub others_made : All IsPiece pieces → AreListed flat.tags flat.cells → AllByRecursion (IsOwnOf (length (text_of flat.cells))) others
-      → AllByRecursion (IsOwnOf (length (text_of (made_flat flat own others place pieces rest).cells)))
-      (with_selections (made_new flat own others place pieces rest).others (map (own_inserted at (length (made_new flat own others place pieces rest).cells)) others))
+  pub others_made : All IsPiece pieces → AreListed doc.tags doc.cells → AllByRecursion (IsOwnOf (length (text_of doc.cells))) others
+      → AllByRecursion (IsOwnOf (length (text_of (made_flat doc own others place pieces rest).cells)))
+      (with_selections (made_new doc own others place pieces rest).others (map (widget_inserted at (length (made_new doc own others place pieces rest).cells)) others))
   others_made are listed h =
-      let n = length (text_of flat.cells) in
-      let k = length (made_new flat own others place pieces rest).cells in
-      subst (λ (m : ℕ). AllByRecursion (IsOwnOf m) (with_selections (made_new flat own others place pieces rest).others (map (own_inserted at k) others))) (sym (text_more are listed))
-      (each_selecting (n + k) (made_new flat own others place pieces rest).others (map (own_inserted at k) others)
-      (each_by (IsOwnOf n) (IsOwnOf (n + k)) (own_inserted at k) (λ other stands. own_of_inserted n at k other stands) others h))
+      let n = length (text_of doc.cells) in
+      let k = length (made_new doc own others place pieces rest).cells in
+      subst (λ (m : ℕ). AllByRecursion (IsOwnOf m) (with_selections (made_new doc own others place pieces rest).others (map (widget_inserted at k) others))) (sym (text_more are listed))
+      (each_selecting (n + k) (made_new doc own others place pieces rest).others (map (widget_inserted at k) others)
+      (each_by (IsOwnOf n) (IsOwnOf (n + k)) (widget_inserted at k) (λ other stands. own_of_inserted n at k other stands) others h))
 
-  pub names_given : (plan : Plan) → Plans plan own.sel (selections_of others) flat.tags (made_new flat own others place pieces rest) → All IsPiece pieces → AreListed flat.tags flat.cells → All (λ w. IsName (string_bytes w)) plan.names.items
+  pub names_given : (plan : Plan) → Plans plan own.sel (selections_of others) doc.tags (made_new doc own others place pieces rest) → All IsPiece pieces → AreListed doc.tags doc.cells → All (λ w. IsName (string_bytes w)) plan.names.items
   names_given plan plans are listed =
       let names = as_words plan.names.items in
-      unmapped IsName (λ w. string_bytes w) plan.names.items (names_of_all names flat.tags (subst (All IsName) (sym plans.tags) (lists (pieces_named pieces are) listed).names))
+      unmapped IsName (λ w. string_bytes w) plan.names.items (names_of_all names doc.tags (subst (All IsName) (sym plans.tags) (lists (pieces_named pieces are) listed).names))
 
   -- where nothing is refused there is room for all
-  pub all_fit : refusal_of flat.limit (made_drafts flat own others place pieces rest) flat.log ≡ None
-      → ((made_new flat own others place pieces rest).count ≤ GREATEST_COUNT) × (length flat.cells + length (made_new flat own others place pieces rest).cells ≤ flat.limit)
+  pub all_fit : refusal_of doc.limit (made_drafts doc own others place pieces rest) doc.log ≡ None
+      → ((made_new doc own others place pieces rest).count ≤ GREATEST_COUNT) × (length doc.cells + length (made_new doc own others place pieces rest).cells ≤ doc.limit)
   all_fit none =
-      let new = made_new flat own others place pieces rest in
-      let fit = both_fit new.count flat.limit (length (put_after flat.cells a new.cells)) (sym refused_made ∙ none) in
-      (fit.0, omega (arith, fit.1, put_length flat.cells a new.cells))
+      let new = made_new doc own others place pieces rest in
+      let fit = both_fit new.count doc.limit (length (put_after doc.cells a new.cells)) (sym refused_made ∙ none) in
+      (fit.0, omega (arith, fit.1, put_length doc.cells a new.cells))

@@ -20,18 +20,18 @@ use Rattle.rt_store.proofs.Shown.{visible_shown, length_shown}
 
 -- WRITTEN TAGS
 
-pub listed_as : (on : Bool) (name : Word) (flat : DocValue) (cells : List TaggedCell) (count : ℕ)
-    → listed_if on name (record flat { cells = cells; count = count }) ≡ record flat { cells = cells; count = count; tags = cond on (with_name name flat.tags) flat.tags }
-listed_as true name flat cells count = refl
-listed_as false name flat cells count = refl
+pub listed_as : (on : Bool) (name : Word) (doc : DocValue) (cells : List TaggedCell) (count : ℕ)
+    → listed_if on name (record doc { cells = cells; count = count }) ≡ record doc { cells = cells; count = count; tags = cond on (with_name name doc.tags) doc.tags }
+listed_as true name doc cells count = refl
+listed_as false name doc cells count = refl
 
 -- what a written tag leaves
-pub written_stays : (on : Bool) (name : Word) (flat new : DocValue) (places : ℕ → Bool) → IsName name → bytes_eq name sel ≡ false → AreListed flat.tags flat.cells → listed_if on name (with_tag_at flat places on name) ≡ new → AreListed new.tags new.cells
-written_stays on name flat new places h other listed e = subst (λ (f : DocValue). AreListed f.tags f.cells) e (written_listed on flat places name h listed other)
+pub written_stays : (on : Bool) (name : Word) (doc new : DocValue) (places : ℕ → Bool) → IsName name → bytes_eq name sel ≡ false → AreListed doc.tags doc.cells → listed_if on name (with_tag_at doc places on name) ≡ new → AreListed new.tags new.cells
+written_stays on name doc new places h other listed e = subst (λ (f : DocValue). AreListed f.tags f.cells) e (written_listed on doc places name h listed other)
 
 -- as many characters are visible
-pub as_visible : (table : TagStates) (cells : List (Cell ℕ)) (flat : DocValue) → map (shown table) cells ≡ flat.cells → length (visible_of flat.cells) ≡ length (visible_of cells)
-as_visible table cells flat e = ap (λ l. length (visible_of l)) (sym e) ∙ ap length (visible_shown (state_at table) cells) ∙ length_shown (state_at table) (visible_of cells)
+pub as_visible : (table : TagStates) (cells : List (Cell ℕ)) (doc : DocValue) → map (shown table) cells ≡ doc.cells → length (visible_of doc.cells) ≡ length (visible_of cells)
+as_visible table cells doc e = ap (λ l. length (visible_of l)) (sym e) ∙ ap length (visible_shown (state_at table) cells) ∙ length_shown (state_at table) (visible_of cells)
 
 -- CLOCKS
 

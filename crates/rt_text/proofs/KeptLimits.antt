@@ -40,13 +40,13 @@ use Rattle.rt_text.specs.declared.own_mark.OwnMark.{OwnMark}
 use Rattle.rt_text.specs.declared.own_mark.OwnMark.TheVariants.{Current, Insert}
 use Rattle.rt_text.specs.Changes.{limits_after}
 use Rattle.rt_text.specs.Commands.{cell_check}
-use Rattle.rt_text.specs.Reversions.{own_reverted, reversion_check, view_reverted}
-use Rattle.rt_text.specs.Widgets.{AreWidgetsOf, WidgetValue, ViewValue, limits_of, own_set, own_with_gravity}
+use Rattle.rt_text.specs.Reversions.{widget_reverted, reversion_check, view_reverted}
+use Rattle.rt_text.specs.Widgets.{AreWidgetsOf, WidgetValue, ViewValue, limits_of, widget_with_place, widget_with_gravity}
 use Rattle.rt_lines.specs.declared.choice.Choice.{Choice}
 use Rattle.rt_lines.specs.declared.limits.Limits.{Limits}
 use Rattle.rt_lines.specs.Choices.{limits_chosen}
 use Rattle.rt_lines.specs.Limits.{limits_renamed}
-use Rattle.rt_lines.specs.Ordered.{AreInOrder}
+use Rattle.rt_lines.specs.Ordered.{LimitsAreInOrder}
 use Rattle.rt_lines.proofs.ChosenOrder.{order_chosen}
 use Rattle.rt_lines.proofs.InOrder.{order_grown, order_renamed, position_is}
 use Rattle.rt_text.proofs.Among.{cells_among}
@@ -55,20 +55,20 @@ use Rattle.rt_text.proofs.MarkLaws.{own_of_selecting}
 
 -- the limits of some widgets are in their order
 abbrev pub InOrder : List TaggedCell → List WidgetValue → Type 0
-InOrder cells widgets = AllByRecursion (AreInOrder cells) (map (λ (own : WidgetValue). own.limits) widgets)
+InOrder cells widgets = AllByRecursion (LimitsAreInOrder cells) (map (λ (own : WidgetValue). own.limits) widgets)
 
 -- those of all widgets of a view
 abbrev pub HaveOrder : ViewValue → Type 0
-HaveOrder view = AllByRecursion (AreInOrder view.doc.cells) (limits_of view)
+HaveOrder view = AllByRecursion (LimitsAreInOrder view.doc.cells) (limits_of view)
 
 -- WHILE A LOG GROWS
 
-pub order_more : (old new : List Operation) (limits : Limits) → IsHistory old → IsHistory new → Grows old new → AreInOrder (cells_of old) limits → AreInOrder (cells_of new) limits
+pub order_more : (old new : List Operation) (limits : Limits) → IsHistory old → IsHistory new → Grows old new → LimitsAreInOrder (cells_of old) limits → LimitsAreInOrder (cells_of new) limits
 order_more old new limits h k grows o =
     order_grown (cells_of old) (cells_of new) limits (cells_distinct old h) (ends_final old h) (cells_distinct new k) (cells_among old new h k grows) o
 
-all_more : (old new : List Operation) (limits : List Limits) → IsHistory old → IsHistory new → Grows old new → AllByRecursion (AreInOrder (cells_of old)) limits
-    → AllByRecursion (AreInOrder (cells_of new)) limits
+all_more : (old new : List Operation) (limits : List Limits) → IsHistory old → IsHistory new → Grows old new → AllByRecursion (LimitsAreInOrder (cells_of old)) limits
+    → AllByRecursion (LimitsAreInOrder (cells_of new)) limits
 all_more old new [] h k grows o = tt
 all_more old new (l ∷ limits) h k grows o = (order_more old new l h k grows o.0, all_more old new limits h k grows o.1)
 
@@ -76,10 +76,10 @@ all_more old new (l ∷ limits) h k grows o = (order_more old new l h k grows o.
 pub limits_more : (view new : ViewValue) → IsHistory view.doc.log → view.doc.cells ≡ cells_of view.doc.log → IsHistory new.doc.log → new.doc.cells ≡ cells_of new.doc.log → GrowsTo view new
     → HaveOrder view → HaveOrder new
 limits_more view new h cells k more grows o =
-    subst (λ (limits : List Limits). AllByRecursion (AreInOrder new.doc.cells) limits) (sym grows.limits)
-    (subst (λ (l : List TaggedCell). AllByRecursion (AreInOrder l) (limits_of view)) (sym more)
+    subst (λ (limits : List Limits). AllByRecursion (LimitsAreInOrder new.doc.cells) limits) (sym grows.limits)
+    (subst (λ (l : List TaggedCell). AllByRecursion (LimitsAreInOrder l) (limits_of view)) (sym more)
     (all_more view.doc.log new.doc.log (limits_of view) h k grows.log
-    (subst (λ (l : List TaggedCell). AllByRecursion (AreInOrder l) (limits_of view)) cells o)))
+    (subst (λ (l : List TaggedCell). AllByRecursion (LimitsAreInOrder l) (limits_of view)) cells o)))
 
 pub order_same : (view new : ViewValue) → new ≡ view → HaveOrder view → HaveOrder new
 order_same view new e o = subst (λ (v : ViewValue). HaveOrder v) (sym e) o
@@ -94,7 +94,7 @@ order_made (Err e) view made new h cells k more grows is same o = order_same vie
 
 -- limits are in their order, by the stamps of then
 abbrev HasOrder : Reversion → Limits → Type 0
-HasOrder r limits = AreInOrder r.doc.cells (limits_after r.returns limits)
+HasOrder r limits = LimitsAreInOrder r.doc.cells (limits_after r.returns limits)
 
 gone_order : (site : ℕ) (log : List Operation) (stamps : List Stamp) (r : Reversion) (limits : Limits) → IsOnWay site log r → IsOnWay site log (with_removal stamps r) → HasOrder r limits
     → HasOrder (with_removal stamps r) limits
@@ -104,8 +104,8 @@ gone_order site log stamps r limits h k o =
     let now = limits_after r.returns limits in
     let drafts = removal_drafts MOST_SPANS (are_at stamps r.doc.cells) r.doc.cells in
     let grows : Grows old new = subst (Grows old) (sym (drafts_append site r.drafts drafts log)) (grows_drafts site drafts old) in
-    subst (λ (cells : List TaggedCell). AreInOrder cells now) (sym k.document.cells)
-    (order_more old new now h.history k.history grows (subst (λ (cells : List TaggedCell). AreInOrder cells now) h.document.cells o))
+    subst (λ (cells : List TaggedCell). LimitsAreInOrder cells now) (sym k.document.cells)
+    (order_more old new now h.history k.history grows (subst (λ (cells : List TaggedCell). LimitsAreInOrder cells now) h.document.cells o))
 
 after_one_more : (returns : List Return) (r : Return) (limits : Limits) → limits_after (returns ++ r ∷ []) limits ≡ limits_renamed r.former r.newer (limits_after returns limits)
 after_one_more [] r limits = refl
@@ -151,8 +151,8 @@ character_order site log stamp tags cell r limits p h e o =
     let limits_are = after_one_more r.returns (record { former = stamp; newer = next_in r.doc }) limits in
     let put : put_after cells stamp (this ∷ []) ≡ put_at (after_element cells stamp) (this ∷ []) cells =
     append_assoc (take (after_element cells stamp) cells) (this ∷ []) (drop (after_element cells stamp) cells) in
-    subst (λ (x : _). x) (λ i. AreInOrder (sym put i) (sym limits_are i))
-    (subst (λ n. AreInOrder (put_at n (this ∷ []) cells) (limits_renamed stamp (next_in r.doc) (limits_after r.returns limits))) (sym at) renamed)
+    subst (λ (x : _). x) (λ i. LimitsAreInOrder (sym put i) (sym limits_are i))
+    (subst (λ n. LimitsAreInOrder (put_at n (this ∷ []) cells) (limits_renamed stamp (next_in r.doc) (limits_after r.returns limits))) (sym at) renamed)
 
 return_order : (site : ℕ) (log : List Operation) (removed : Removed (List Word)) (r : Reversion) (limits : Limits) → 0 < site → IsOnWay site log r → HasOrder r limits
     → HasOrder (with_return removed r) limits
@@ -188,31 +188,31 @@ all_order site log (action ∷ actions) r limits p h c l o =
     let few : next.doc.count ≤ GREATEST_COUNT = omega (arith, all_grow actions next, l) in
     all_order site log actions next limits p (action_step site log action r p h c.0 few) c.1 l (action_order site log action r limits p h c.0 few o)
 
-reversion_order : (site : ℕ) (log : List Operation) (flat : DocValue) (group : List (Action (List Word))) (limits : Limits) → 0 < site → IsHistory log → IsDocument site log flat
-    → AllMayRevert group → (reversion flat group).doc.count ≤ GREATEST_COUNT → AreInOrder flat.cells limits
-    → AreInOrder (reversion flat group).doc.cells (limits_after (reversion flat group).returns limits)
-reversion_order site log flat group limits p h doc c l o =
-    all_order site log (reverse group) (as_it_is flat) limits p (record { may = tt; history = h; document = doc; apart = tt; sound = tt }) (all_reversed MayRevert group c) l o
+reversion_order : (site : ℕ) (log : List Operation) (document : DocValue) (group : List (Action (List Word))) (limits : Limits) → 0 < site → IsHistory log → IsDocument site log document
+    → AllMayRevert group → (reversion document group).doc.count ≤ GREATEST_COUNT → LimitsAreInOrder document.cells limits
+    → LimitsAreInOrder (reversion document group).doc.cells (limits_after (reversion document group).returns limits)
+reversion_order site log document group limits p h doc c l o =
+    all_order site log (reverse group) (as_it_is document) limits p (record { may = tt; history = h; document = doc; apart = tt; sound = tt }) (all_reversed MayRevert group c) l o
 
 -- each widget's limits, in the view after a group was reverted
 reverted_order : (site : ℕ) (log : List Operation) (view : ViewValue) (group : List (Action (List Word))) → 0 < site → IsHistory log → IsDocument site log view.doc
     → AllMayRevert group → (reversion view.doc group).doc.count ≤ GREATEST_COUNT → HaveOrder view → HaveOrder (view_reverted view group)
 reverted_order site log view group p h doc c l o = each (view.own ∷ view.others) o
   where
-    each : (widgets : List WidgetValue) → AllByRecursion (AreInOrder view.doc.cells) (map (λ (own : WidgetValue). own.limits) widgets)
-        → AllByRecursion (AreInOrder (reversion view.doc group).doc.cells) (map (λ (own : WidgetValue). own.limits) (map (own_reverted view.doc group) widgets))
+    each : (widgets : List WidgetValue) → AllByRecursion (LimitsAreInOrder view.doc.cells) (map (λ (own : WidgetValue). own.limits) widgets)
+        → AllByRecursion (LimitsAreInOrder (reversion view.doc group).doc.cells) (map (λ (own : WidgetValue). own.limits) (map (widget_reverted view.doc group) widgets))
     each [] k = tt
     each (own ∷ widgets) k = (reversion_order site log view.doc group own.limits p h doc c l k.0, each widgets k.1)
 
 -- where the counts fit
-pub fits : (flat : DocValue) (group : List (Action (List Word))) → reversion_check flat group ≡ None → (reversion flat group).doc.count ≤ GREATEST_COUNT
-fits flat group e = by (nat_lt GREATEST_COUNT count) refl e
+pub fits : (document : DocValue) (group : List (Action (List Word))) → reversion_check document group ≡ None → (reversion document group).doc.count ≤ GREATEST_COUNT
+fits document group e = by (nat_lt GREATEST_COUNT count) refl e
   where
     count : ℕ
-    count = (reversion flat group).doc.count
+    count = (reversion document group).doc.count
 
     by : (b : Bool) → nat_lt GREATEST_COUNT count ≡ b
-        → first_of ((if b then Some ClockSpent else None) ∷ cell_check flat.limit (length (reverted flat group).cells) ∷ []) ≡ None → count ≤ GREATEST_COUNT
+        → first_of ((if b then Some ClockSpent else None) ∷ cell_check document.limit (length (reverted document group).cells) ∷ []) ≡ None → count ≤ GREATEST_COUNT
     by true lt f = absurd (cc f)
     by false lt f = ltb-false GREATEST_COUNT count lt
 
@@ -224,11 +224,11 @@ order_reverted (Err e) view new group p h doc sound is checked same o = order_sa
 
 -- LIMITS THAT ARE ASKED FOR
 
-pub order_asked : (flat : DocValue) (start end : Choice) (limits chosen : Limits) → IsHistory flat.log → IsDocument flat.site flat.log flat → AreInOrder flat.cells limits
-    → limits_chosen flat.cells start end limits ≡ Ok chosen → AreInOrder flat.cells chosen
-order_asked flat start end limits chosen h doc o e =
-    order_chosen flat.cells start end limits chosen (subst (λ (cells : List TaggedCell). AreDistinct cells) (sym doc.cells) (cells_distinct flat.log h))
-    (subst (λ (cells : List TaggedCell). EndsFinal cells) (sym doc.cells) (ends_final flat.log h)) o e
+pub order_asked : (document : DocValue) (start end : Choice) (limits chosen : Limits) → IsHistory document.log → IsDocument document.site document.log document → LimitsAreInOrder document.cells limits
+    → limits_chosen document.cells start end limits ≡ Ok chosen → LimitsAreInOrder document.cells chosen
+order_asked document start end limits chosen h doc o e =
+    order_chosen document.cells start end limits chosen (subst (λ (cells : List TaggedCell). AreDistinct cells) (sym doc.cells) (cells_distinct document.log h))
+    (subst (λ (cells : List TaggedCell). EndsFinal cells) (sym doc.cells) (ends_final document.log h)) o e
 
 -- WIDGETS
 
@@ -236,14 +236,14 @@ pub order_append : (cells : List TaggedCell) (xs ys : List WidgetValue) → InOr
 order_append cells [] ys h k = k
 order_append cells (x ∷ xs) ys h k = (h.0, order_append cells xs ys h.1 k)
 
-pub order_at : (cells : List TaggedCell) (xs : List WidgetValue) (k : ℕ) (own : WidgetValue) → slice_get xs k ≡ Some own → InOrder cells xs → AreInOrder cells own.limits
+pub order_at : (cells : List TaggedCell) (xs : List WidgetValue) (k : ℕ) (own : WidgetValue) → slice_get xs k ≡ Some own → InOrder cells xs → LimitsAreInOrder cells own.limits
 order_at cells [] k own e h = absurd (cc e)
 order_at cells (x ∷ xs) zero own e h =
     let same : x ≡ own = cc e in
-    subst (λ (w : WidgetValue). AreInOrder cells w.limits) same h.0
+    subst (λ (w : WidgetValue). LimitsAreInOrder cells w.limits) same h.0
 order_at cells (x ∷ xs) (suc k) own e h = order_at cells xs k own e h.1
 
-pub order_set : (cells : List TaggedCell) (xs : List WidgetValue) (k : ℕ) (own : WidgetValue) → InOrder cells xs → AreInOrder cells own.limits → InOrder cells (set xs k own)
+pub order_set : (cells : List TaggedCell) (xs : List WidgetValue) (k : ℕ) (own : WidgetValue) → InOrder cells xs → LimitsAreInOrder cells own.limits → InOrder cells (set xs k own)
 order_set cells [] k own h o = tt
 order_set cells (x ∷ xs) zero own h o = (o, h.1)
 order_set cells (x ∷ xs) (suc k) own h o = (h.0, order_set cells xs k own h.1 o)
@@ -254,11 +254,11 @@ order_removed cells [] (suc k) h = tt
 order_removed cells (x ∷ xs) zero h = h.1
 order_removed cells (x ∷ xs) (suc k) h = (h.0, order_removed cells xs k h.1)
 
-pub set_limits : (which : OwnMark) (place : ℕ) (own : WidgetValue) → (own_set which place own).limits ≡ own.limits
+pub set_limits : (which : OwnMark) (place : ℕ) (own : WidgetValue) → (widget_with_place which place own).limits ≡ own.limits
 set_limits Insert place own = refl
 set_limits Current place own = refl
 
-pub gravity_limits : (which : OwnMark) (gravity : Gravity) (own : WidgetValue) → (own_with_gravity which gravity own).limits ≡ own.limits
+pub gravity_limits : (which : OwnMark) (gravity : Gravity) (own : WidgetValue) → (widget_with_gravity which gravity own).limits ≡ own.limits
 gravity_limits Insert gravity own = refl
 gravity_limits Current gravity own = refl
 

@@ -47,15 +47,15 @@ plain_changed : (g : TaggedCell → TaggedCell) → ChangesState g → (cells : 
 plain_changed g h [] = refl
 plain_changed g h (c ∷ cs) = λ i. plain (h c i) ∷ plain_changed g h cs i
 
-plain_bared : (names : List Word) (flat : DocValue) (stamp : Stamp) → map plain (bared flat stamp names).cells ≡ map plain flat.cells
-plain_bared [] flat stamp = refl
-plain_bared (name ∷ names) flat stamp =
-    plain_bared names (with_tag flat name false (stamp ∷ [])) stamp
-    ∙ plain_changed (cell_with_tag flat.site flat.count name false (stamp ∷ [])) (tagged_state flat.site flat.count name false (stamp ∷ [])) flat.cells
+plain_bared : (names : List Word) (document : DocValue) (stamp : Stamp) → map plain (bared document stamp names).cells ≡ map plain document.cells
+plain_bared [] document stamp = refl
+plain_bared (name ∷ names) document stamp =
+    plain_bared names (with_tag document name false (stamp ∷ [])) stamp
+    ∙ plain_changed (cell_with_tag document.site document.count name false (stamp ∷ [])) (tagged_state document.site document.count name false (stamp ∷ [])) document.cells
 
-plain_left : (flat : DocValue) (loss : Loss) → map plain (without_text flat loss).cells ≡ map plain (gone_at loss.places 0 flat.cells)
-plain_left flat loss =
-    loss_has (λ (f : DocValue). map plain f.cells ≡ map plain (gone_at loss.places 0 flat.cells)) flat loss refl (λ cell e. plain_bared (names_on cell.state) (without_places flat loss.places) cell.stamp)
+plain_left : (document : DocValue) (loss : Loss) → map plain (without_text document loss).cells ≡ map plain (gone_at loss.places 0 document.cells)
+plain_left document loss =
+    loss_has (λ (f : DocValue). map plain f.cells ≡ map plain (gone_at loss.places 0 document.cells)) document loss refl (λ cell e. plain_bared (names_on cell.state) (without_places document loss.places) cell.stamp)
 
 stretch_plain : (xs ys : List TaggedCell) (limits : Limits) → map plain xs ≡ map plain ys → stretch_of xs limits ≡ stretch_of ys limits
 stretch_plain xs ys limits e = sym (stretch_shown (λ _. 0) xs limits) ∙ ap (λ (l : List (Cell ℕ)). stretch_of l limits) e ∙ stretch_shown (λ _. 0) ys limits
@@ -71,30 +71,30 @@ first_false : (a b : Bool) → a ≡ false → (a && b) ≡ false
 first_false true b h = absurd (cc h)
 first_false false b h = refl
 
-module _ (flat : DocValue) (own : WidgetValue) (others : List WidgetValue) (range : Range) (h : IsHistory flat.log) (doc : IsDocument flat.site flat.log flat) where
+module _ (document : DocValue) (own : WidgetValue) (others : List WidgetValue) (range : Range) (h : IsHistory document.log) (doc : IsDocument document.site document.log document) where
   abbrev pub loss : Loss
-  loss = loss_of flat own.limits (range ∷ [])
+  loss = loss_of document own.limits (range ∷ [])
 
   abbrev pub stretch : Stretch
-  stretch = stretch_of flat.cells own.limits
+  stretch = stretch_of document.cells own.limits
 
   abbrev pub left : ViewValue
-  left = left_by (viewed flat own others) range
+  left = left_by (viewed document own others) range
 
-  final : EndsFinal flat.cells
-  final = document_final flat h doc
+  final : EndsFinal document.cells
+  final = document_final document h doc
 
-  pub within : stretch.end ≤ length (visible_of flat.cells)
-  within = stretch_within flat.cells own.limits final
+  pub within : stretch.end ≤ length (visible_of document.cells)
+  within = stretch_within document.cells own.limits final
 
   pub some : stretch.begin < stretch.end
-  some = stretch_some flat.cells own.limits final
+  some = stretch_some document.cells own.limits final
 
   abbrev shown_text : List ℕ
-  shown_text = map (λ cell. cell.ch) (part stretch (visible_of flat.cells))
+  shown_text = map (λ cell. cell.ch) (part stretch (visible_of document.cells))
 
   pub size : length shown_text ≡ stretch.end - stretch.begin
-  size = shown_length flat.cells stretch within
+  size = shown_length document.cells stretch within
 
   -- the newline that ends what is shown stays
   pub end_stays : loss.places (stretch.end - 1) ≡ false
@@ -112,7 +112,7 @@ module _ (flat : DocValue) (own : WidgetValue) (others : List WidgetValue) (rang
       less : (a b : ℕ) → b < a → nat_le a b ≡ false
       less a b k = grind (arith, nat_tests, k)
 
-  pub are_shown : AreShown loss.places flat.cells own.limits
+  pub are_shown : AreShown loss.places document.cells own.limits
   are_shown = record { final = final; before = before_stays; spared = end_stays }
 
   -- the place of that newline in what is left
@@ -120,7 +120,7 @@ module _ (flat : DocValue) (own : WidgetValue) (others : List WidgetValue) (rang
   last_place = place_left loss.places (stretch.end - 1)
 
   pub stretch_left : stretch_by left ≡ record { begin = stretch.begin; end = last_place + 1 }
-  stretch_left = stretch_plain (without_text flat loss).cells (gone_at loss.places 0 flat.cells) own.limits (plain_left flat loss) ∙ stretch_gone loss.places flat.cells own.limits are_shown
+  stretch_left = stretch_plain (without_text document loss).cells (gone_at loss.places 0 document.cells) own.limits (plain_left document loss) ∙ stretch_gone loss.places document.cells own.limits are_shown
 
   pub begin_low : stretch.begin ≤ last_place
   begin_low = omega (arith, place_same loss.places stretch.begin before_stays, place_rising loss.places stretch.begin (stretch.end - 1) (omega (arith, some)))
@@ -129,10 +129,10 @@ module _ (flat : DocValue) (own : WidgetValue) (others : List WidgetValue) (rang
   left_within =
       let end = stretch.end - 1 in
       let next : place_left loss.places (suc end) ≡ last_place + 1 = ap (λ b. last_place + cond b 0 1) end_stays in
-      let all : length (text_of left.doc.cells) ≡ place_left loss.places (length (text_of flat.cells)) = deletion_length flat own.limits (range ∷ []) in
-      let was : length (text_of flat.cells) ≡ length (visible_of flat.cells) = length-map (visible_of flat.cells) (λ (cell : TaggedCell). cell.ch) in
+      let all : length (text_of left.doc.cells) ≡ place_left loss.places (length (text_of document.cells)) = deletion_length document own.limits (range ∷ []) in
+      let was : length (text_of document.cells) ≡ length (visible_of document.cells) = length-map (visible_of document.cells) (λ (cell : TaggedCell). cell.ch) in
       let now : length (text_of left.doc.cells) ≡ length (visible_of left.doc.cells) = length-map (visible_of left.doc.cells) (λ (cell : TaggedCell). cell.ch) in
-      let rising = place_rising loss.places (suc end) (length (text_of flat.cells)) (omega (arith, within, some, was)) in
+      let rising = place_rising loss.places (suc end) (length (text_of document.cells)) (omega (arith, within, some, was)) in
       omega (arith, ap (λ (x : Stretch). x.end) stretch_left, next, all, now, rising)
 
   pub length_left : length_shown left ≡ last_place + 1 - stretch.begin
@@ -151,15 +151,15 @@ module _ (flat : DocValue) (own : WidgetValue) (others : List WidgetValue) (rang
 
   -- THE DOCUMENT THAT IS LEFT
 
-  site_left : left.doc.site ≡ flat.site
-  site_left = ap (λ (f : DocValue). f.site) (deletion_rest flat own.limits (range ∷ []))
+  site_left : left.doc.site ≡ document.site
+  site_left = ap (λ (f : DocValue). f.site) (deletion_rest document own.limits (range ∷ []))
 
-  pub is_place : (at : ℕ) → at ≡ min (stretch.begin + range.from) last_place → 0 < flat.site → (without_text flat loss).count ≤ GREATEST_COUNT → IsPlace left.doc left.own left.others (at - stretch.begin)
+  pub is_place : (at : ℕ) → at ≡ min (stretch.begin + range.from) last_place → 0 < document.site → (without_text document loss).count ≤ GREATEST_COUNT → IsPlace left.doc left.own left.others (at - stretch.begin)
   is_place at e real fits =
-      let spares = spared flat own.limits (range ∷ []) h doc in
-      let made : IsDocument flat.site left.doc.log (without_text flat loss) = loss_made flat.site flat.log flat loss real h doc spares fits in
+      let spares = spared document own.limits (range ∷ []) h doc in
+      let made : IsDocument document.site left.doc.log (without_text document loss) = loss_made document.site document.log document loss real h doc spares fits in
       record {
-        history = loss_history flat.site flat.log flat loss real h doc spares fits;
+        history = loss_history document.site document.log document loss real h doc spares fits;
         document = record { cells = made.cells; site = refl; count = made.count };
         real = omega (arith, real, site_left);
         within = omega (arith, place_is at e, length_left, begin_low);

@@ -12,7 +12,7 @@ use Rattle.rt_store.specs.Shown.{TaggedCell}
 use Rattle.rt_plans.specs.Removals.{gone_at}
 use Rattle.rt_plans.proofs.RemovedText.{text_left}
 use Rattle.rt_lines.specs.declared.limits.Limits.{Limits}
-use Rattle.rt_lines.specs.Limits.{first_line, is_gone, last_line, place_of}
+use Rattle.rt_lines.specs.Limits.{first_line, is_gone_cell, last_line, place_of}
 use Rattle.rt_lines.specs.Ordered.{IsNewline}
 use Rattle.rt_lines.specs.Stretches.{stretch_of}
 use Rattle.rt_lines.proofs.Places.{ends_text, first_line_within, last_line_within}
@@ -90,7 +90,7 @@ newline_gone removed cells (Some s) h = character_from removed 0 cells s ∙ h
 -- CELLS THAT ARE GONE
 
 still_gone : {T : Type 0} (removed : ℕ → Bool) (k : ℕ) (cells : List (Cell T)) (s : Stamp)
-    → is_gone (gone_at removed k cells) s ≡ (is_gone cells s || unwrap_or (option_map (λ p. removed (k + p)) (place_of cells s)) false)
+    → is_gone_cell (gone_at removed k cells) s ≡ (is_gone_cell cells s || unwrap_or (option_map (λ p. removed (k + p)) (place_of cells s)) false)
 still_gone removed k [] s = refl
 still_gone {T} removed k (c ∷ cs) s =
     by c.gone refl (place_of cs s) (still_gone removed k cs s) (still_gone removed (k + 1) cs s)
@@ -107,21 +107,21 @@ still_gone {T} removed k (c ∷ cs) s =
     same None = refl
     same (Some p) = refl
 
-    whole : (d : Bool) (o : Option ℕ) → c.gone ≡ true → is_gone (gone_at removed k cs) s ≡ (is_gone cs s || unwrap_or (option_map (λ p. removed (k + p)) o) false)
+    whole : (d : Bool) (o : Option ℕ) → c.gone ≡ true → is_gone_cell (gone_at removed k cs) s ≡ (is_gone_cell cs s || unwrap_or (option_map (λ p. removed (k + p)) o) false)
         → unwrap_or (option_map (λ (cell : Cell T). cell.gone) (cond d (Some c) (cell_of (gone_at removed k cs) s))) false
         ≡ (unwrap_or (option_map (λ (cell : Cell T). cell.gone) (cond d (Some c) (cell_of cs s))) false || unwrap_or (option_map (λ p. removed (k + p)) (cond d (Some 0) (option_map (further c.gone) o))) false)
     whole true o e f = e ∙ ap (λ x. x || removed (k + 0)) (sym e)
-    whole false o e f = f ∙ (λ i. is_gone cs s || unwrap_or (same o i) false) ∙ ap (λ x. is_gone cs s || unwrap_or (option_map (λ p. removed (k + p)) (option_map (further x) o)) false) (sym e)
+    whole false o e f = f ∙ (λ i. is_gone_cell cs s || unwrap_or (same o i) false) ∙ ap (λ x. is_gone_cell cs s || unwrap_or (option_map (λ p. removed (k + p)) (option_map (further x) o)) false) (sym e)
 
-    taken : (d : Bool) (o : Option ℕ) → c.gone ≡ false → is_gone (gone_at removed (k + 1) cs) s ≡ (is_gone cs s || unwrap_or (option_map (λ p. removed (k + 1 + p)) o) false)
+    taken : (d : Bool) (o : Option ℕ) → c.gone ≡ false → is_gone_cell (gone_at removed (k + 1) cs) s ≡ (is_gone_cell cs s || unwrap_or (option_map (λ p. removed (k + 1 + p)) o) false)
         → unwrap_or (option_map (λ (cell : Cell T). cell.gone) (cond d (Some (record c { gone = removed k })) (cell_of (gone_at removed (k + 1) cs) s))) false
         ≡ (unwrap_or (option_map (λ (cell : Cell T). cell.gone) (cond d (Some c) (cell_of cs s))) false || unwrap_or (option_map (λ p. removed (k + p)) (cond d (Some 0) (option_map (further c.gone) o))) false)
     taken true o e g = ap removed start ∙ ap (λ x. x || removed (k + 0)) (sym e)
-    taken false o e g = g ∙ (λ i. is_gone cs s || unwrap_or (back o i) false) ∙ ap (λ x. is_gone cs s || unwrap_or (option_map (λ p. removed (k + p)) (option_map (further x) o)) false) (sym e)
+    taken false o e g = g ∙ (λ i. is_gone_cell cs s || unwrap_or (back o i) false) ∙ ap (λ x. is_gone_cell cs s || unwrap_or (option_map (λ p. removed (k + p)) (option_map (further x) o)) false) (sym e)
 
-    by : (b : Bool) → c.gone ≡ b → (o : Option ℕ) → is_gone (gone_at removed k cs) s ≡ (is_gone cs s || unwrap_or (option_map (λ p. removed (k + p)) o) false)
-        → is_gone (gone_at removed (k + 1) cs) s ≡ (is_gone cs s || unwrap_or (option_map (λ p. removed (k + 1 + p)) o) false)
-        → is_gone (cond b (c ∷ gone_at removed k cs) (record c { gone = removed k } ∷ gone_at removed (k + 1) cs)) s
+    by : (b : Bool) → c.gone ≡ b → (o : Option ℕ) → is_gone_cell (gone_at removed k cs) s ≡ (is_gone_cell cs s || unwrap_or (option_map (λ p. removed (k + p)) o) false)
+        → is_gone_cell (gone_at removed (k + 1) cs) s ≡ (is_gone_cell cs s || unwrap_or (option_map (λ p. removed (k + 1 + p)) o) false)
+        → is_gone_cell (cond b (c ∷ gone_at removed k cs) (record c { gone = removed k } ∷ gone_at removed (k + 1) cs)) s
         ≡ (unwrap_or (option_map (λ (cell : Cell T). cell.gone) (cond (is_same c.stamp s) (Some c) (cell_of cs s))) false
         || unwrap_or (option_map (λ p. removed (k + p)) (cond (is_same c.stamp s) (Some 0) (option_map (further c.gone) o))) false)
     by true e o f g = whole (is_same c.stamp s) o e f
@@ -169,8 +169,8 @@ module _ (removed : ℕ → Bool) (cells : List TaggedCell) (limits : Limits) (a
   first_gone None = tt
   first_gone (Some s) = by (place_of cells s) (still_gone removed 0 cells s)
     where
-      by : (o : Option ℕ) → is_gone left s ≡ (is_gone cells s || unwrap_or (option_map (λ p. removed (0 + p)) o) false)
-          → IfSome o (λ n. (is_gone cells s ≡ true → is_gone left s ≡ true) × (is_gone cells s ≡ false → n < (stretch_of cells limits).begin → is_gone left s ≡ false))
+      by : (o : Option ℕ) → is_gone_cell left s ≡ (is_gone_cell cells s || unwrap_or (option_map (λ p. removed (0 + p)) o) false)
+          → IfSome o (λ n. (is_gone_cell cells s ≡ true → is_gone_cell left s ≡ true) × (is_gone_cell cells s ≡ false → n < (stretch_of cells limits).begin → is_gone_cell left s ≡ false))
       by None e = tt
       by (Some n) e =
           let same : 0 + n ≡ n = omega arith in (

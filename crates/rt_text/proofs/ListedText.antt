@@ -13,7 +13,7 @@ use Rattle.rt_stamps.specs.declared.stamp.TheConstants.{ROOT}
 use Rattle.rt_stamps.specs.Words.{Word}
 use Rattle.rt_store.specs.declared.cell.Cell.{Cell}
 use Rattle.rt_store.specs.Cells.{after_element, text_of, visible_of, cells_from}
-use Rattle.rt_tags.specs.States.{IsByName, Write, above, below, is_on, is_settled, names_on, says_on, write_of, written}
+use Rattle.rt_tags.specs.States.{IsByName, Write, writes_above, writes_below, is_on, is_settled, names_on, says_on, write_of, written}
 use Rattle.rt_tags.specs.Tags.{IsName, is_listed, sel, with_name}
 use Rattle.rt_tags.specs.Writers.{listed_by, state_after}
 use Rattle.rt_tags.proofs.Commuting.{on_is_listed}
@@ -34,11 +34,11 @@ HaveNamed P state = All (λ w. P w.name) state
 named_written : (P : Word → Type 0) (w : Write) (state : List Write) → P w.name → HaveNamed P state → HaveNamed P (written w state)
 named_written P w state p h = by (is_settled w state)
   where
-    by : (b : Bool) → HaveNamed P (cond b state (below w.name state ++ w ∷ above w.name state))
+    by : (b : Bool) → HaveNamed P (cond b state (writes_below w.name state ++ w ∷ writes_above w.name state))
     by true = h
     by false =
         let Q : Write → Type 0 = λ v. P v.name in
-        All-append Q (below w.name state) (w ∷ above w.name state) (All-filter _ Q state h) (All-cons Q w (above w.name state) p (All-filter _ Q state h))
+        All-append Q (writes_below w.name state) (w ∷ writes_above w.name state) (All-filter _ Q state h) (All-cons Q w (writes_above w.name state) p (All-filter _ Q state h))
 
 pub named_after : (P : Word → Type 0) (writes state : List Write) → HaveNamed P state → HaveNamed P writes → HaveNamed P (state_after state writes)
 named_after P [] state h k = h

@@ -34,9 +34,9 @@ seen replica marks tags = record {
 }
 
 -- what a replica has made is seen as the edited document, which is one of the larger log
-pub seen_made : (flat edited : DocValue) (drafts : List Body) (new : ReplicaValue) → new.log ≡ with_drafts flat.site drafts flat.log → new.cells ≡ cells_of new.log → new.site ≡ flat.site → new.limit ≡ flat.limit
-    → edited.limit ≡ flat.limit → IsDocument flat.site (with_drafts flat.site drafts flat.log) edited → seen new edited.marks edited.tags ≡ logged flat drafts edited
-seen_made flat edited drafts new log cells site limit same doc =
+pub seen_made : (document edited : DocValue) (drafts : List Body) (new : ReplicaValue) → new.log ≡ with_drafts document.site drafts document.log → new.cells ≡ cells_of new.log → new.site ≡ document.site → new.limit ≡ document.limit
+    → edited.limit ≡ document.limit → IsDocument document.site (with_drafts document.site drafts document.log) edited → seen new edited.marks edited.tags ≡ logged document drafts edited
+seen_made document edited drafts new log cells site limit same doc =
     λ i. record {
       cells = (cells ∙ ap cells_of log ∙ sym doc.cells) i;
       site = (site ∙ sym doc.site) i;
@@ -92,5 +92,5 @@ both_fit count limit cells e = by (nat_lt GREATEST_COUNT count) (nat_lt limit ce
 -- WRITES
 
 -- no write in a document that has the cells of a history is newer than its count
-pub document_written : (flat : DocValue) → IsHistory flat.log → IsDocument flat.site flat.log flat → AreWritten flat.count flat.cells
-document_written flat history doc = subst (λ (p : _). p) (λ i. AreWritten (sym doc.count i) (sym doc.cells i)) (cells_written flat.log history)
+pub document_written : (document : DocValue) → IsHistory document.log → IsDocument document.site document.log document → AreWritten document.count document.cells
+document_written document history doc = subst (λ (p : _). p) (λ i. AreWritten (sym doc.count i) (sym doc.cells i)) (cells_written document.log history)

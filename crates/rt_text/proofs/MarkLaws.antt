@@ -5,7 +5,7 @@ use Rattle.std.specs.Prelude.{◌↔◌, IsSome, OnErr, option_map}
 use Rattle.std.specs.Option.{option_map_or}
 use Rattle.std.proofs.lemmas.Bool.{cases_lt}
 use Rattle.rt_marks.specs.declared.gravity.Gravity.{Gravity}
-use Rattle.rt_marks.specs.Marks.{Mark, IsName, named, is_named, is_one_of, is_moved_on, marks_inserted, place_left, mark_left, marks_left, without, without_all, put_mark, marks_set, marks_with_gravity, gravity_or_right}
+use Rattle.rt_marks.specs.Marks.{Mark, IsName, mark_of_name, is_named, is_one_of, is_moved_on, marks_inserted, place_left, mark_left, marks_left, without_mark, without_all, put_mark, marks_set, marks_with_gravity, gravity_or_right}
 use Rattle.rt_marks.proofs.InOrder.{each_with, each_in_order}
 use Rattle.rt_marks.proofs.Leaving.{place_rising, place_kept}
 use Rattle.rt_marks.proofs.Names.{same_name}
@@ -17,7 +17,7 @@ use Rattle.rt_store.specs.declared.cell.Cell.{Cell}
 use Rattle.rt_store.specs.Cells.{text_of, after_element}
 use Rattle.rt_plans.specs.DocValue.{put_after}
 use Rattle.rt_plans.specs.Removals.{gone_at, left_at}
-use Rattle.rt_text.specs.Widgets.{WidgetValue, IsOwnOf, IsSiteMark, AreSiteMarks, is_own, own_inserted, own_left}
+use Rattle.rt_text.specs.Widgets.{WidgetValue, IsOwnOf, IsSiteMark, AreSiteMarks, is_own, widget_inserted, widget_without}
 use Rattle.rt_plans.proofs.InsertedText.{text_append}
 use Rattle.rt_plans.proofs.RemovedText.{text_left}
 
@@ -29,18 +29,18 @@ by_test n m o true h k place e = let q : m.place ≡ place = cc in omega (arith,
 by_test n m o false h k place e = k place e
 
 -- its place is within the text
-pub site_within : (n : ℕ) (marks : List Mark) → AreSiteMarks n marks → (name : List ℕ) (place : ℕ) → option_map (λ (m : Mark). m.place) (named name marks) ≡ Some place → place ≤ n
+pub site_within : (n : ℕ) (marks : List Mark) → AreSiteMarks n marks → (name : List ℕ) (place : ℕ) → option_map (λ (m : Mark). m.place) (mark_of_name name marks) ≡ Some place → place ≤ n
 site_within n [] h name place e = let bad : ⊥ = cc in absurd bad
-site_within n (m ∷ marks) h name place e = by_test n m (named name marks) (is_named name m) h.0 (λ p q. site_within n marks h.1 name p q) place e
+site_within n (m ∷ marks) h name place e = by_test n m (mark_of_name name marks) (is_named name m) h.0 (λ p q. site_within n marks h.1 name p q) place e
 
 found_named : (name : List ℕ) (m : Mark) (o : Option Mark) (b : Bool) → is_named name m ≡ b → IsName m.name → (IsSome o → IsName name) → IsSome (cond b (Some m) o) → IsName name
 found_named name m o true e h k s = subst IsName (same_name m.name name e) h
 found_named name m o false e h k s = k s
 
 -- its name is a name
-pub site_named : (n : ℕ) (marks : List Mark) → AreSiteMarks n marks → (name : List ℕ) → IsSome (named name marks) → IsName name
+pub site_named : (n : ℕ) (marks : List Mark) → AreSiteMarks n marks → (name : List ℕ) → IsSome (mark_of_name name marks) → IsName name
 site_named n [] h name s = cc
-site_named n (m ∷ marks) h name s = found_named name m (named name marks) (is_named name m) refl h.0.name (site_named n marks h.1 name) s
+site_named n (m ∷ marks) h name s = found_named name m (mark_of_name name marks) (is_named name m) refl h.0.name (site_named n marks h.1 name) s
 
 -- AN INSERTION
 
@@ -62,7 +62,7 @@ site_inserted n place k [] s = tt
 site_inserted n place k (m ∷ marks) s =
     (record { place = moved_within n k m.place (is_moved_on place m.place m.gravity) s.0.place; name = s.0.name; other = s.0.other }, site_inserted n place k marks s.1)
 
-pub own_of_inserted : (n place k : ℕ) (own : WidgetValue) → IsOwnOf n own → IsOwnOf (n + k) (own_inserted place k own)
+pub own_of_inserted : (n place k : ℕ) (own : WidgetValue) → IsOwnOf n own → IsOwnOf (n + k) (widget_inserted place k own)
 own_of_inserted n place k own h = record {
   insert = moved_before n k own.insert.place (is_moved_on place own.insert.place own.insert.gravity) h.insert;
   current = moved_within n k own.current.place (is_moved_on place own.current.place own.current.gravity) h.current;
@@ -116,7 +116,7 @@ site_left n removed marks s = each_in_order (IsSiteMark (place_left removed n)) 
     all (m ∷ marks) s = (record { place = place_rising removed m.place n s.0.place; name = s.0.name; other = s.0.other }, all marks s.1)
 
 -- where the last newline stays
-pub own_of_left : (n : ℕ) (removed : ℕ → Bool) (own : WidgetValue) → removed (n - 1) ≡ false → IsOwnOf n own → IsOwnOf (place_left removed n) (own_left removed own)
+pub own_of_left : (n : ℕ) (removed : ℕ → Bool) (own : WidgetValue) → removed (n - 1) ≡ false → IsOwnOf n own → IsOwnOf (place_left removed n) (widget_without removed own)
 own_of_left zero removed own f h = absurd (omega (arith, h.insert))
 own_of_left (suc n) removed own f h =
     let last : suc n - 1 ≡ n = omega arith in
@@ -132,7 +132,7 @@ own_of_left (suc n) removed own f h =
 
 -- NOTHING IS REMOVED
 
-pub own_kept : (removed : ℕ → Bool) (own : WidgetValue) → ((p : ℕ) → removed p ≡ false) → own_left removed own ≡ own
+pub own_kept : (removed : ℕ → Bool) (own : WidgetValue) → ((p : ℕ) → removed p ≡ false) → widget_without removed own ≡ own
 own_kept removed own h = λ i. record own { insert = record own.insert { place = place_kept removed h own.insert.place i }; current = record own.current { place = place_kept removed h own.current.place i } }
 
 -- SOMETHING ELSE IS SELECTED
@@ -147,24 +147,24 @@ kept_by : (n : ℕ) (m : Mark) (rest : List Mark) (b : Bool) → IsSiteMark n m 
 kept_by n m rest true h s = (h, s)
 kept_by n m rest false h s = s
 
-pub site_without : (n : ℕ) (name : List ℕ) (marks : List Mark) → AreSiteMarks n marks → AreSiteMarks n (without name marks)
+pub site_without : (n : ℕ) (name : List ℕ) (marks : List Mark) → AreSiteMarks n marks → AreSiteMarks n (without_mark name marks)
 site_without n name [] s = tt
-site_without n name (m ∷ marks) s = kept_by n m (without name marks) (not (is_named name m)) s.0 (site_without n name marks s.1)
+site_without n name (m ∷ marks) s = kept_by n m (without_mark name marks) (not (is_named name m)) s.0 (site_without n name marks s.1)
 
 pub site_without_all : (n : ℕ) (names : List (List ℕ)) (marks : List Mark) → AreSiteMarks n marks → AreSiteMarks n (without_all names marks)
 site_without_all n names [] s = tt
 site_without_all n names (m ∷ marks) s = kept_by n m (without_all names marks) (not (is_one_of names m)) s.0 (site_without_all n names marks s.1)
 
 site_put : (n : ℕ) (m : Mark) (marks : List Mark) → IsSiteMark n m → AreSiteMarks n marks → AreSiteMarks n (put_mark m marks)
-site_put n m marks h s = each_with (IsSiteMark n) m (without m.name marks) h (site_without n m.name marks s)
+site_put n m marks h s = each_with (IsSiteMark n) m (without_mark m.name marks) h (site_without n m.name marks s)
 
 found_by : (n : ℕ) (m found : Mark) (o : Option Mark) (b : Bool) → IsSiteMark n m → (o ≡ Some found → IsSiteMark n found) → cond b (Some m) o ≡ Some found → IsSiteMark n found
 found_by n m found o true h k e = let same : m ≡ found = cc in subst (IsSiteMark n) same h
 found_by n m found o false h k e = k e
 
-site_found : (n : ℕ) (name : List ℕ) (marks : List Mark) (found : Mark) → AreSiteMarks n marks → named name marks ≡ Some found → IsSiteMark n found
+site_found : (n : ℕ) (name : List ℕ) (marks : List Mark) (found : Mark) → AreSiteMarks n marks → mark_of_name name marks ≡ Some found → IsSiteMark n found
 site_found n name [] found s e = let bad : ⊥ = cc in absurd bad
-site_found n name (m ∷ marks) found s e = found_by n m found (named name marks) (is_named name m) s.0 (λ k. site_found n name marks found s.1 k) e
+site_found n name (m ∷ marks) found s e = found_by n m found (mark_of_name name marks) (is_named name m) s.0 (λ k. site_found n name marks found s.1 k) e
 
 turned_by : (n : ℕ) (gravity : Gravity) (marks : List Mark) (o : Option Mark) → ((found : Mark) → o ≡ Some found → IsSiteMark n found) → AreSiteMarks n marks
     → AreSiteMarks n (option_map_or (λ (m : Mark). put_mark (record m { gravity = gravity }) marks) o marks)
@@ -174,7 +174,7 @@ turned_by n gravity marks (Some m) h s =
     site_put n (record m { gravity = gravity }) marks (record { place = k.place; name = k.name; other = k.other }) s
 
 pub site_with_gravity : (n : ℕ) (name : List ℕ) (gravity : Gravity) (marks : List Mark) → AreSiteMarks n marks → AreSiteMarks n (marks_with_gravity name gravity marks)
-site_with_gravity n name gravity marks s = turned_by n gravity marks (named name marks) (λ found e. site_found n name marks found s e) s
+site_with_gravity n name gravity marks s = turned_by n gravity marks (mark_of_name name marks) (λ found e. site_found n name marks found s e) s
 
 -- a name that isn't refused
 fine : (name : List ℕ) → ((IsName name → ⊥) → ⊥) → IsName name

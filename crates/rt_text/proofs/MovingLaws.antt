@@ -5,7 +5,7 @@ use Rattle.rt_marks.specs.Marks.{Mark, marks_removed, marks_left, place_removed,
 use Rattle.rt_marks.proofs.Leaving.{marks_then, place_then}
 use Rattle.rt_plans.specs.declared.range.Range.{Range}
 use Rattle.rt_plans.specs.Removals.{is_covered, RangesFollow}
-use Rattle.rt_text.specs.Widgets.{WidgetValue, own_removed, own_left}
+use Rattle.rt_text.specs.Widgets.{WidgetValue, widget_removed, widget_without}
 use Rattle.rt_plans.proofs.StampLaws.{before_all, order_weaker}
 
 order_drop : (place : ℕ) (ranges : List Range) (i : ℕ) → RangesFollow place ranges → RangesFollow 0 (drop i ranges)
@@ -41,7 +41,7 @@ place_back ranges i d p h k =
     place_then (is_covered (drop (i + 1) ranges)) range.from range.to (not_later ranges i d h k) p ∙ ap (λ r. place_left r p) (covers ranges i d h)
 
 pub own_back : (ranges : List Range) (i : ℕ) (d : Range) (own : WidgetValue) → i < length ranges → RangesFollow 0 ranges
-    → own_removed (get_or ranges i d).from ((get_or ranges i d).to - (get_or ranges i d).from) (own_left (is_covered (drop (i + 1) ranges)) own) ≡ own_left (is_covered (drop i ranges)) own
+    → widget_removed (get_or ranges i d).from ((get_or ranges i d).to - (get_or ranges i d).from) (widget_without (is_covered (drop (i + 1) ranges)) own) ≡ widget_without (is_covered (drop i ranges)) own
 own_back ranges i d own h k =
     λ j. record own {
       insert = record own.insert { place = place_back ranges i d own.insert.place h k j };

@@ -7,8 +7,8 @@ use Rattle.rt_plans.specs.declared.inserting.Between.{Between}
 use Rattle.rt_plans.specs.InsertionPlans.{selected_between}
 use Rattle.rt_plans.proofs.SelectionLaws.{same_here}
 use Rattle.rt_text.specs.declared.widget.Widget.{Widget}
-use Rattle.rt_text.specs.Owned.{own_of}
-use Rattle.rt_text.specs.Widgets.{IsOwnOf, WidgetValue, own_inserted, own_left, reselected, selections_of, with_selections}
+use Rattle.rt_text.specs.Owned.{widget_value}
+use Rattle.rt_text.specs.Widgets.{IsOwnOf, WidgetValue, widget_inserted, widget_without, reselected, selections_of, with_selections}
 use Rattle.rt_text.proofs.MarkLaws.{own_of_selecting}
 
 -- what a loop hasn't reached yet is as it was
@@ -27,7 +27,7 @@ each_selecting n [] (own ∷ widgets) h = h
 each_selecting n (selection ∷ selections) (own ∷ widgets) h = (own_of_selecting n own selection h.0, each_selecting n selections widgets h.1)
 
 -- there is room for places further on
-pub each_room : (n k most : ℕ) (others : List Widget) → n + k ≤ most → AllByRecursion (IsOwnOf n) (map own_of others)
+pub each_room : (n k most : ℕ) (others : List Widget) → n + k ≤ most → AllByRecursion (IsOwnOf n) (map widget_value others)
     → All (λ (p : Widget). (p.insert.place + k ≤ most) × (p.current.place + k ≤ most)) others
 each_room n k most [] f h = All-nil (λ (p : Widget). (p.insert.place + k ≤ most) × (p.current.place + k ≤ most))
 each_room n k most (p ∷ others) f h =
@@ -43,17 +43,17 @@ none_selecting [] = refl
 none_selecting (own ∷ widgets) = ap (λ l. own ∷ l) (none_selecting widgets)
 
 -- selected first and moved then, they are as moved and given their selections
-pub put_each : (place n : ℕ) (rule : List Stamp → List Stamp) (widgets : List WidgetValue) → map (own_inserted place n) (map (reselected rule) widgets)
-    ≡ with_selections (map rule (selections_of widgets)) (map (own_inserted place n) widgets)
+pub put_each : (place n : ℕ) (rule : List Stamp → List Stamp) (widgets : List WidgetValue) → map (widget_inserted place n) (map (reselected rule) widgets)
+    ≡ with_selections (map rule (selections_of widgets)) (map (widget_inserted place n) widgets)
 put_each place n rule [] = refl
-put_each place n rule (own ∷ widgets) = ap (λ l. own_inserted place n (reselected rule own) ∷ l) (put_each place n rule widgets)
+put_each place n rule (own ∷ widgets) = ap (λ l. widget_inserted place n (reselected rule own) ∷ l) (put_each place n rule widgets)
 
-pub leave_then : (removed : ℕ → Bool) (f : List Stamp → List Stamp) (widgets : List WidgetValue) → map (reselected f) (map (own_left removed) widgets) ≡ map (λ own. reselected f (own_left removed own)) widgets
+pub leave_then : (removed : ℕ → Bool) (f : List Stamp → List Stamp) (widgets : List WidgetValue) → map (reselected f) (map (widget_without removed) widgets) ≡ map (λ own. reselected f (widget_without removed own)) widgets
 leave_then removed f [] = refl
-leave_then removed f (own ∷ widgets) = ap (λ l. reselected f (own_left removed own) ∷ l) (leave_then removed f widgets)
+leave_then removed f (own ∷ widgets) = ap (λ l. reselected f (widget_without removed own) ∷ l) (leave_then removed f widgets)
 
 -- given selections and moved then, in the order of a replacement, they are as moved and given these
-pub leave_last : (removed : ℕ → Bool) (f : List Stamp → List Stamp) (between : Option Between) (widgets : List WidgetValue) → map (own_left removed) (map (selecting between) (map (reselected f) widgets))
-    ≡ map (selecting between) (map (λ own. reselected f (own_left removed own)) widgets)
+pub leave_last : (removed : ℕ → Bool) (f : List Stamp → List Stamp) (between : Option Between) (widgets : List WidgetValue) → map (widget_without removed) (map (selecting between) (map (reselected f) widgets))
+    ≡ map (selecting between) (map (λ own. reselected f (widget_without removed own)) widgets)
 leave_last removed f between [] = refl
-leave_last removed f between (own ∷ widgets) = ap (λ l. own_left removed (selecting between (reselected f own)) ∷ l) (leave_last removed f between widgets)
+leave_last removed f between (own ∷ widgets) = ap (λ l. widget_without removed (selecting between (reselected f own)) ∷ l) (leave_last removed f between widgets)

@@ -24,7 +24,7 @@ use Rattle.rt_store.proofs.Shown.{visible_shown}
 -- THE COMMAND, BY ITS CHECKS
 
 abbrev pub late_checks : DocValue → ViewValue → List (Option Fault)
-late_checks flat edited = clock_check edited.doc.count ∷ cell_check flat.limit (length edited.doc.cells) ∷ []
+late_checks doc edited = clock_check edited.doc.count ∷ cell_check doc.limit (length edited.doc.cells) ∷ []
 
 -- an edit by an outcome of its index
 abbrev at_index : ViewValue → List Piece → Word → Result ℕ Fault → ViewValue

@@ -21,41 +21,41 @@ use Rattle.rt_text.proofs.ReadyLaws.{first_none, first_some}
 
 -- its outcome, by the checks of names, those of the two indices, and the range
 abbrev outcome : List (Option Fault) → DocValue → (Range → ViewValue) → Option Fault → Option Fault → Range → Result ViewValue Fault
-outcome names flat edit i j range =
-    unless (first_of (names ++ ((i ∷ j ∷ backwards_check range ∷ []) ++ (clock_check (edit range).doc.count ∷ cell_check flat.limit (length (edit range).doc.cells) ∷ [])))) (edit range)
+outcome names doc edit i j range =
+    unless (first_of (names ++ ((i ∷ j ∷ backwards_check range ∷ []) ++ (clock_check (edit range).doc.count ∷ cell_check doc.limit (length (edit range).doc.cells) ∷ [])))) (edit range)
 
-module _ (names : List (Option Fault)) (flat : DocValue) (edit : Range → ViewValue) where
-  at_name : (i j : Option Fault) (range : Range) (fault : Fault) → first_of names ≡ Some fault → outcome names flat edit i j range ≡ Err fault
-  at_name i j range fault h = ap (λ o. unless o (edit range)) (first_some names (i ∷ j ∷ backwards_check range ∷ late_checks flat (edit range)) fault h)
+module _ (names : List (Option Fault)) (doc : DocValue) (edit : Range → ViewValue) where
+  at_name : (i j : Option Fault) (range : Range) (fault : Fault) → first_of names ≡ Some fault → outcome names doc edit i j range ≡ Err fault
+  at_name i j range fault h = ap (λ o. unless o (edit range)) (first_some names (i ∷ j ∷ backwards_check range ∷ late_checks doc (edit range)) fault h)
 
   module _ (h : first_of names ≡ None) where
-    passed : (i j : Option Fault) (range : Range) → outcome names flat edit i j range ≡ unless (first_of (i ∷ j ∷ backwards_check range ∷ late_checks flat (edit range))) (edit range)
-    passed i j range = ap (λ o. unless o (edit range)) (first_none names (i ∷ j ∷ backwards_check range ∷ late_checks flat (edit range)) h)
+    passed : (i j : Option Fault) (range : Range) → outcome names doc edit i j range ≡ unless (first_of (i ∷ j ∷ backwards_check range ∷ late_checks doc (edit range))) (edit range)
+    passed i j range = ap (λ o. unless o (edit range)) (first_none names (i ∷ j ∷ backwards_check range ∷ late_checks doc (edit range)) h)
 
-    at_from : (i j : Option Fault) (range : Range) (fault : Fault) → i ≡ Some fault → outcome names flat edit i j range ≡ Err fault
-    at_from i j range fault e = passed i j range ∙ ap (λ o. unless (first_of (o ∷ j ∷ backwards_check range ∷ late_checks flat (edit range))) (edit range)) e
+    at_from : (i j : Option Fault) (range : Range) (fault : Fault) → i ≡ Some fault → outcome names doc edit i j range ≡ Err fault
+    at_from i j range fault e = passed i j range ∙ ap (λ o. unless (first_of (o ∷ j ∷ backwards_check range ∷ late_checks doc (edit range))) (edit range)) e
 
-    at_to : (i j : Option Fault) (range : Range) (fault : Fault) → i ≡ None → j ≡ Some fault → outcome names flat edit i j range ≡ Err fault
-    at_to i j range fault e f = passed i j range ∙ (λ k. unless (first_of (e k ∷ f k ∷ backwards_check range ∷ late_checks flat (edit range))) (edit range))
+    at_to : (i j : Option Fault) (range : Range) (fault : Fault) → i ≡ None → j ≡ Some fault → outcome names doc edit i j range ≡ Err fault
+    at_to i j range fault e f = passed i j range ∙ (λ k. unless (first_of (e k ∷ f k ∷ backwards_check range ∷ late_checks doc (edit range))) (edit range))
 
     module _ (i j : Option Fault) (a b begin end : ℕ) (e : i ≡ None) (f : j ≡ None) (p : a ≡ begin) (q : b ≡ end) where
-      at_both : outcome names flat edit i j (record { from = a; to = b })
-          ≡ unless (first_of (backwards_check (record { from = begin; to = end }) ∷ late_checks flat (edit (record { from = begin; to = end })))) (edit (record { from = begin; to = end }))
-      at_both = (λ k. outcome names flat edit (e k) (f k) (record { from = p k; to = q k })) ∙ passed None None (record { from = begin; to = end })
+      at_both : outcome names doc edit i j (record { from = a; to = b })
+          ≡ unless (first_of (backwards_check (record { from = begin; to = end }) ∷ late_checks doc (edit (record { from = begin; to = end })))) (edit (record { from = begin; to = end }))
+      at_both = (λ k. outcome names doc edit (e k) (f k) (record { from = p k; to = q k })) ∙ passed None None (record { from = begin; to = end })
 
-      at_range : (fault : Fault) → backwards_check (record { from = begin; to = end }) ≡ Some fault → outcome names flat edit i j (record { from = a; to = b }) ≡ Err fault
-      at_range fault c = at_both ∙ ap (λ o. unless (first_of (o ∷ late_checks flat (edit (record { from = begin; to = end })))) (edit (record { from = begin; to = end }))) c
+      at_range : (fault : Fault) → backwards_check (record { from = begin; to = end }) ≡ Some fault → outcome names doc edit i j (record { from = a; to = b }) ≡ Err fault
+      at_range fault c = at_both ∙ ap (λ o. unless (first_of (o ∷ late_checks doc (edit (record { from = begin; to = end })))) (edit (record { from = begin; to = end }))) c
 
       -- where the range is one, the counts and the cells decide
-      at_late : (o : Option Fault) → backwards_check (record { from = begin; to = end }) ≡ None → first_of (late_checks flat (edit (record { from = begin; to = end }))) ≡ o
-          → outcome names flat edit i j (record { from = a; to = b }) ≡ unless o (edit (record { from = begin; to = end }))
+      at_late : (o : Option Fault) → backwards_check (record { from = begin; to = end }) ≡ None → first_of (late_checks doc (edit (record { from = begin; to = end }))) ≡ o
+          → outcome names doc edit i j (record { from = a; to = b }) ≡ unless o (edit (record { from = begin; to = end }))
       at_late o c d =
-          at_both ∙ ap (λ x. unless (first_of (x ∷ late_checks flat (edit (record { from = begin; to = end })))) (edit (record { from = begin; to = end }))) c
+          at_both ∙ ap (λ x. unless (first_of (x ∷ late_checks doc (edit (record { from = begin; to = end })))) (edit (record { from = begin; to = end }))) c
           ∙ ap (λ x. unless x (edit (record { from = begin; to = end }))) d
 
-      at_end : (new : ViewValue) → backwards_check (record { from = begin; to = end }) ≡ None → new ≡ edit (record { from = begin; to = end }) → first_of (late_checks flat new) ≡ None
-          → outcome names flat edit i j (record { from = a; to = b }) ≡ Ok new
-      at_end new c made checked = at_late None c (sym (ap (λ x. first_of (late_checks flat x)) made) ∙ checked) ∙ ap (λ x. Ok x) (sym made)
+      at_end : (new : ViewValue) → backwards_check (record { from = begin; to = end }) ≡ None → new ≡ edit (record { from = begin; to = end }) → first_of (late_checks doc new) ≡ None
+          → outcome names doc edit i j (record { from = a; to = b }) ≡ Ok new
+      at_end new c made checked = at_late None c (sym (ap (λ x. first_of (late_checks doc x)) made) ∙ checked) ∙ ap (λ x. Ok x) (sym made)
 
 -- THE COMMAND
 

@@ -78,18 +78,18 @@ both_one : (xs ys : List Body) → AllByRecursion (λ draft. (n : ℕ) → last_
 both_one [] ys h k = k
 both_one (x ∷ xs) ys h k = (h.0, both_one xs ys h.1 k)
 
-delete_one : (flat : DocValue) (loss : Loss) → AllByRecursion (λ draft. (n : ℕ) → last_of n draft ≡ n) (delete_drafts MOST_SPANS flat loss)
-delete_one flat loss =
-    both_one (removal_drafts MOST_SPANS loss.places flat.cells) _ (deletes_one (λ spans. Delete spans) _ (λ x n. refl)) (by (newline_left flat loss))
+delete_one : (document : DocValue) (loss : Loss) → AllByRecursion (λ draft. (n : ℕ) → last_of n draft ≡ n) (delete_drafts MOST_SPANS document loss)
+delete_one document loss =
+    both_one (removal_drafts MOST_SPANS loss.places document.cells) _ (deletes_one (λ spans. Delete spans) _ (λ x n. refl)) (by (newline_left document loss))
   where
     by : (o : Option TaggedCell) → AllByRecursion (λ draft. (n : ℕ) → last_of n draft ≡ n) (unwrap_or (option_map (λ (cell : TaggedCell). newline_drafts cell.stamp (names_on cell.state)) o) [])
     by None = tt
     by (Some cell) = deletes_one _ (names_on cell.state) (λ x n. refl)
 
-pub deletion_count : (flat : DocValue) (loss : Loss) → IsHistory flat.log → IsDocument flat.site flat.log flat → (without_text flat loss).count ≡ flat.count + length (delete_drafts MOST_SPANS flat loss)
-deletion_count flat loss h doc =
-    let drafts = delete_drafts MOST_SPANS flat loss in
-    sym (loss_counted flat.site flat.log flat loss h doc) ∙ all_count_on flat.site drafts flat.log ∙ counted_one drafts (greatest_last_count flat.log) (delete_one flat loss)
+pub deletion_count : (document : DocValue) (loss : Loss) → IsHistory document.log → IsDocument document.site document.log document → (without_text document loss).count ≡ document.count + length (delete_drafts MOST_SPANS document loss)
+deletion_count document loss h doc =
+    let drafts = delete_drafts MOST_SPANS document loss in
+    sym (loss_counted document.site document.log document loss h doc) ∙ all_count_on document.site drafts document.log ∙ counted_one drafts (greatest_last_count document.log) (delete_one document loss)
     ∙ ap (λ n. n + length drafts) (sym doc.count)
 
 -- PLACES
@@ -140,12 +140,12 @@ element_left cells zero = refl
 element_left cells (suc p) = refl
 
 -- the left neighbour that is shown, by that of the text
-left_side : (flat : DocValue) (own : WidgetValue) (others : List WidgetValue) (place : ℕ) (before : Option TaggedCell) → IsPlace flat own others place → before ≡ left_neighbour (visible_of flat.cells) (in_text (viewed flat own others) place)
-    → cond (nat_eq place 0) None before ≡ left_neighbour (cells_shown (viewed flat own others)) place
-left_side flat own others zero before is e = refl
-left_side flat own others (suc p) before is e =
+left_side : (document : DocValue) (own : WidgetValue) (others : List WidgetValue) (place : ℕ) (before : Option TaggedCell) → IsPlace document own others place → before ≡ left_neighbour (visible_of document.cells) (in_text (viewed document own others) place)
+    → cond (nat_eq place 0) None before ≡ left_neighbour (cells_shown (viewed document own others)) place
+left_side document own others zero before is e = refl
+left_side document own others (suc p) before is e =
     let later : nat_eq (suc p) 0 ≡ false = grind (arith, nat_tests) in
-    ap (λ b. cond b None before) later ∙ e ∙ sym (left_there flat own others (suc p) is)
+    ap (λ b. cond b None before) later ∙ e ∙ sym (left_there document own others (suc p) is)
 
 -- SELECTIONS
 
@@ -173,31 +173,31 @@ abbrev pub shown_in : List TaggedCell → Limits → ℕ → List Piece → Bool
 shown_in cells limits at pieces =
     are_sides_shown (option_and_then (place_of cells) limits.start) (option_and_then (place_of cells) limits.end) at (pieces_text pieces)
 
-module _ (flat : DocValue) (own : WidgetValue) (others : List WidgetValue) (range : Range) (h : IsHistory flat.log) (doc : IsDocument flat.site flat.log flat) where
+module _ (document : DocValue) (own : WidgetValue) (others : List WidgetValue) (range : Range) (h : IsHistory document.log) (doc : IsDocument document.site document.log document) where
   abbrev lost : Loss
-  lost = loss flat own others range h doc
+  lost = loss document own others range h doc
 
   abbrev shows : Stretch
-  shows = stretch flat own others range h doc
+  shows = stretch document own others range h doc
 
   abbrev after_all : ViewValue
-  after_all = left flat own others range h doc
+  after_all = left document own others range h doc
 
   abbrev end_place : ℕ
-  end_place = last_place flat own others range h doc
+  end_place = last_place document own others range h doc
 
   abbrev pub gone : DocValue
-  gone = without_places flat lost.places
+  gone = without_places document lost.places
 
   abbrev shown_text : List ℕ
-  shown_text = map (λ cell. cell.ch) (part shows (visible_of flat.cells))
+  shown_text = map (λ cell. cell.ch) (part shows (visible_of document.cells))
 
   -- a range that holds the last newline begins no earlier than this comes to stand
   held_last : is_some lost.newline ≡ true → end_place ≤ shows.begin + range.from
   held_last e =
       let last = length shown_text - 1 in
-      let n = size flat own others range h doc in
-      let one = some flat own others range h doc in
+      let n = size document own others range h doc in
+      let one = some document own others range h doc in
       let inside : is_in range last ≡ true = covered (is_in range last) (by (is_covered (range ∷ []) last) e) in
       let p = and_parts (nat_le range.from last) (nat_lt last range.to) inside in
       let begun : range.from ≤ last = grind (arith, nat_tests, p.0) in
@@ -225,15 +225,15 @@ module _ (flat : DocValue) (own : WidgetValue) (others : List WidgetValue) (rang
       covered false k = absurd (cc k)
 
   -- where the last newline isn't held, the removal alone
-  left_plain : is_some lost.newline ≡ false → without_text flat lost ≡ gone
+  left_plain : is_some lost.newline ≡ false → without_text document lost ≡ gone
   left_plain e = by lost.newline e
     where
-      by : (o : Option ℕ) → is_some o ≡ false → unwrap_or (option_map (λ (cell : TaggedCell). bared gone cell.stamp (names_on cell.state)) (option_and_then (slice_get (visible_of flat.cells)) o)) gone ≡ gone
+      by : (o : Option ℕ) → is_some o ≡ false → unwrap_or (option_map (λ (cell : TaggedCell). bared gone cell.stamp (names_on cell.state)) (option_and_then (slice_get (visible_of document.cells)) o)) gone ≡ gone
       by None k = refl
       by (Some p) k = absurd (cc k)
 
   pub sel_kept : is_some lost.newline ≡ false → after_all.own.sel ≡ own.sel
-  sel_kept e = ap (λ b. cond b (unselected (last_newline (viewed flat own others) ∷ []) own.sel) own.sel) e
+  sel_kept e = ap (λ b. cond b (unselected (last_newline (viewed document own others) ∷ []) own.sel) own.sel) e
 
   -- the insertion, by neighbours
   abbrev inserting : List Piece → Word → Option TaggedCell → Option TaggedCell → Insertion
@@ -247,19 +247,19 @@ module _ (flat : DocValue) (own : WidgetValue) (others : List WidgetValue) (rang
     pub insertion : inserting pieces rest l r ≡ insertion_at after_all place pieces rest
     pub drafts : drafting pieces rest after l r ≡ drafts_at after_all place pieces rest
 
-  module _ (real : 0 < flat.site) (known : AreNewlines flat.cells own.limits) (fits : (without_text flat lost).count ≤ GREATEST_COUNT) (pieces : List Piece) (rest : Word) (at : ℕ) (here : at ≡ min (shows.begin + range.from) end_place) where
+  module _ (real : 0 < document.site) (known : AreNewlines document.cells own.limits) (fits : (without_text document lost).count ≤ GREATEST_COUNT) (pieces : List Piece) (rest : Word) (at : ℕ) (here : at ≡ min (shows.begin + range.from) end_place) where
     abbrev place : ℕ
     place = at - shows.begin
 
     is : IsPlace after_all.doc after_all.own after_all.others place
-    is = is_place flat own others range h doc at here real fits
+    is = is_place document own others range h doc at here real fits
 
     in_left : in_text after_all place ≡ at
-    in_left = at_is flat own others range h doc at here
+    in_left = at_is document own others range h doc at here
 
     -- limits stay newlines where these go
     still : AreNewlines gone.cells own.limits
-    still = (newline_gone lost.places flat.cells own.limits.start known.0, newline_gone lost.places flat.cells own.limits.end known.1)
+    still = (newline_gone lost.places document.cells own.limits.start known.0, newline_gone lost.places document.cells own.limits.end known.1)
 
     between_plain : (before : Option TaggedCell) (after : Stamp) (l r : Option TaggedCell) → is_some lost.newline ≡ false → before ≡ left_neighbour (visible_of gone.cells) at → l ≡ cond (nat_eq place 0) None before
         → after ≡ unwrap_or (option_map (λ cell. cell.stamp) before) ROOT → r ≡ cond (shown_in gone.cells own.limits at pieces) (right_neighbour (visible_of gone.cells) at) None → IsBetween pieces rest place after l r
@@ -282,55 +282,55 @@ module _ (flat : DocValue) (own : WidgetValue) (others : List WidgetValue) (rang
     -- THE LAST NEWLINE, WHERE IT IS HELD
 
     abbrev newest : Stamp
-    newest = last_newline (viewed flat own others)
+    newest = last_newline (viewed document own others)
 
-    last_cell : (cell : TaggedCell) × (slice_get (visible_of flat.cells) (shows.end - 1) ≡ Some cell)
-    last_cell = by (slice_get_cases (visible_of flat.cells) (shows.end - 1)).1
+    last_cell : (cell : TaggedCell) × (slice_get (visible_of document.cells) (shows.end - 1) ≡ Some cell)
+    last_cell = by (slice_get_cases (visible_of document.cells) (shows.end - 1)).1
       where
-        by : ((x : TaggedCell) × (shows.end - 1 < length (visible_of flat.cells)) × (slice_get (visible_of flat.cells) (shows.end - 1) ≡ Some x) × (get_or (visible_of flat.cells) (shows.end - 1) x ≡ x))
-            ⊎ ((length (visible_of flat.cells) ≤ shows.end - 1) × (slice_get (visible_of flat.cells) (shows.end - 1) ≡ None)) → (cell : TaggedCell) × (slice_get (visible_of flat.cells) (shows.end - 1) ≡ Some cell)
+        by : ((x : TaggedCell) × (shows.end - 1 < length (visible_of document.cells)) × (slice_get (visible_of document.cells) (shows.end - 1) ≡ Some x) × (get_or (visible_of document.cells) (shows.end - 1) x ≡ x))
+            ⊎ ((length (visible_of document.cells) ≤ shows.end - 1) × (slice_get (visible_of document.cells) (shows.end - 1) ≡ None)) → (cell : TaggedCell) × (slice_get (visible_of document.cells) (shows.end - 1) ≡ Some cell)
         by (inl w) = (w.0, w.2)
-        by (inr w) = absurd (omega (arith, w.0, within flat own others range h doc, some flat own others range h doc))
+        by (inr w) = absurd (omega (arith, w.0, within document own others range h doc, some document own others range h doc))
 
     newest_is : newest ≡ last_cell.0.stamp
     newest_is = ap (λ o. unwrap_or (option_map (λ (c : TaggedCell). c.stamp) o) FINAL) last_cell.1
 
-    left_held : is_some lost.newline ≡ true → without_text flat lost ≡ bared gone last_cell.0.stamp (names_on last_cell.0.state)
+    left_held : is_some lost.newline ≡ true → without_text document lost ≡ bared gone last_cell.0.stamp (names_on last_cell.0.state)
     left_held e =
         ap (λ o. unwrap_or (option_map (λ (cell : TaggedCell). bared gone cell.stamp (names_on cell.state)) o) gone) (by (is_covered (range ∷ []) (length shown_text - 1)) e ∙ there)
       where
         by : (b : Bool) → is_some (cond b (Some (shows.begin + (length shown_text - 1))) None) ≡ true
-            → option_and_then (slice_get (visible_of flat.cells)) (cond b (Some (shows.begin + (length shown_text - 1))) None) ≡ slice_get (visible_of flat.cells) (shows.begin + (length shown_text - 1))
+            → option_and_then (slice_get (visible_of document.cells)) (cond b (Some (shows.begin + (length shown_text - 1))) None) ≡ slice_get (visible_of document.cells) (shows.begin + (length shown_text - 1))
         by true k = refl
         by false k = absurd (cc k)
 
-        there : slice_get (visible_of flat.cells) (shows.begin + (length shown_text - 1)) ≡ Some last_cell.0
+        there : slice_get (visible_of document.cells) (shows.begin + (length shown_text - 1)) ≡ Some last_cell.0
         there =
-            let n : shows.begin + (length shown_text - 1) ≡ shows.end - 1 = omega (arith, size flat own others range h doc, some flat own others range h doc) in
-            ap (slice_get (visible_of flat.cells)) n ∙ last_cell.1
+            let n : shows.begin + (length shown_text - 1) ≡ shows.end - 1 = omega (arith, size document own others range h doc, some document own others range h doc) in
+            ap (slice_get (visible_of document.cells)) n ∙ last_cell.1
 
     seen_left : IsSeen gone.cells end_place last_cell.0
-    seen_left = seen_at gone.cells end_place last_cell.0 (stays_at lost.places flat.cells (shows.end - 1) end_place (end_stays flat own others range h doc) refl ∙ last_cell.1)
+    seen_left = seen_at gone.cells end_place last_cell.0 (stays_at lost.places document.cells (shows.end - 1) end_place (end_stays document own others range h doc) refl ∙ last_cell.1)
 
     split_left : gone.cells ≡ take seen_left.position gone.cells ++ last_cell.0 ∷ drop (suc seen_left.position) gone.cells
     split_left = split_at gone.cells seen_left.position last_cell.0 seen_left.is
 
-    of_last : (P : TaggedCell → Type 0) → All P flat.cells → P last_cell.0
+    of_last : (P : TaggedCell → Type 0) → All P document.cells → P last_cell.0
     of_last P all =
-        let s = seen_at flat.cells (shows.end - 1) last_cell.0 last_cell.1 in
-        subst P (get_or_from_slice_get flat.cells s.position last_cell.0 last_cell.0 s.is) (all s.position last_cell.0 (slice_get_within flat.cells s.position last_cell.0 s.is))
+        let s = seen_at document.cells (shows.end - 1) last_cell.0 last_cell.1 in
+        subst P (get_or_from_slice_get document.cells s.position last_cell.0 last_cell.0 s.is) (all s.position last_cell.0 (slice_get_within document.cells s.position last_cell.0 s.is))
 
     bare : (new : TaggedCell) × IsBare (take seen_left.position gone.cells) last_cell.0 (drop (suc seen_left.position) gone.cells) (bared gone last_cell.0.stamp (names_on last_cell.0.state)).cells new
     bare =
         let first = take seen_left.position gone.cells in
         let later = drop (suc seen_left.position) gone.cells in
         let cell = last_cell.0 in
-        let all : AreDistinct flat.cells = subst AreDistinct (sym doc.cells) (cells_distinct flat.log h) in
-        let distinct : AreDistinct (first ++ cell ∷ later) = subst (IsDistinct is_same) (sym (stamps_gone lost.places 0 flat.cells) ∙ ap (λ (l : List TaggedCell). stamps_of l) split_left) all in
-        let was : IsWritten flat.count cell.state = of_last (λ c. IsWritten flat.count c.state) (document_written flat h doc) in
+        let all : AreDistinct document.cells = subst AreDistinct (sym doc.cells) (cells_distinct document.log h) in
+        let distinct : AreDistinct (first ++ cell ∷ later) = subst (IsDistinct is_same) (sym (stamps_gone lost.places 0 document.cells) ∙ ap (λ (l : List TaggedCell). stamps_of l) split_left) all in
+        let was : IsWritten document.count cell.state = of_last (λ c. IsWritten document.count c.state) (document_written document h doc) in
         let known : IsWritten gone.count cell.state = λ name w e. let l = was name w e in omega (arith, l) in
-        let sorted : All (λ (c : TaggedCell). IsByName c.state) flat.cells =
-        subst (All (λ (c : TaggedCell). IsByName c.state)) (sym doc.cells) (all_states flat.log h IsByName (λ s. state_sorted [] (writes_on flat.log s) tt)) in
+        let sorted : All (λ (c : TaggedCell). IsByName c.state) document.cells =
+        subst (All (λ (c : TaggedCell). IsByName c.state)) (sym doc.cells) (all_states document.log h IsByName (λ s. state_sorted [] (writes_on document.log s) tt)) in
         all_bare gone first cell later split_left (apart_front first cell later distinct) (apart_rest first cell later distinct) known (of_last (λ c. IsByName c.state) sorted)
 
     -- whether the right neighbour is shown behind the pieces

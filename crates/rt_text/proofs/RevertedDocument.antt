@@ -50,8 +50,8 @@ use Rattle.rt_revert.proofs.Induction.{reversion_keeps}
 use Rattle.rt_revert.proofs.Steps.{reversion_made, reversion_may}
 use Rattle.rt_text.specs.Commands.{cell_check}
 use Rattle.rt_text.specs.Kept.{IsDoc}
-use Rattle.rt_text.specs.Reversions.{own_reverted, reversion_check}
-use Rattle.rt_text.specs.Widgets.{AreSiteMarks, IsOwnOf, WidgetValue, own_inserted, own_left}
+use Rattle.rt_text.specs.Reversions.{widget_reverted, reversion_check}
+use Rattle.rt_text.specs.Widgets.{AreSiteMarks, IsOwnOf, WidgetValue, widget_inserted, widget_without}
 use Rattle.rt_text.proofs.AcceptedDocument.{names_are}
 use Rattle.rt_text.proofs.DeletionLaws.{listed_gone}
 use Rattle.rt_text.proofs.KeptDocument.{clock_spent}
@@ -72,14 +72,14 @@ which true b e f = refl
 which false b e f = let bad : ⊥ = cc in absurd bad
 
 -- no cell of a history but the final newline's is newer than its greatest count
-pub store_older : (table : TagStates) (store : List (Cell ℕ)) (flat : DocValue) (count : ℕ) → map (shown table) store ≡ flat.cells → IsHistory flat.log → IsDocument flat.site flat.log flat → count ≡ flat.count
+pub store_older : (table : TagStates) (store : List (Cell ℕ)) (doc_value : DocValue) (count : ℕ) → map (shown table) store ≡ doc_value.cells → IsHistory doc_value.log → IsDocument doc_value.site doc_value.log doc_value → count ≡ doc_value.count
     → AreUpTo count store
-store_older table store flat count e history doc n =
+store_older table store doc_value count e history doc n =
     all_among (IsUpTo count) store
     (λ s there apart.
-    let known : (has_character flat.log s || is_same FINAL s) ≡ true =
-    sym (cells_have flat.log history s) ∙ ap (λ ss. is_among ss s) (ap stamps_of (sym doc.cells ∙ sym e) ∙ stamps_shown (state_at table) store) ∙ there in
-    omega (arith, character_count flat.log s (which (has_character flat.log s) (is_same FINAL s) known (same_sym FINAL s ∙ apart)), doc.count, n))
+    let known : (has_character doc_value.log s || is_same FINAL s) ≡ true =
+    sym (cells_have doc_value.log history s) ∙ ap (λ ss. is_among ss s) (ap stamps_of (sym doc.cells ∙ sym e) ∙ stamps_shown (state_at table) store) ∙ there in
+    omega (arith, character_count doc_value.log s (which (has_character doc_value.log s) (is_same FINAL s) known (same_sym FINAL s ∙ apart)), doc.count, n))
 
 -- NAMES
 
@@ -96,168 +96,168 @@ others_than_sel (name ∷ names) h =
 
 -- A CHARACTER THAT COMES BACK
 
-new_among : (flat : DocValue) (tags : List Word) (ch : ℕ) → AreTagNames tags → All (IsTaggedAmong (all_listed tags flat.tags)) (tagged_cells flat.site flat.count tags (ch ∷ []))
-new_among flat tags ch names =
-    inserts_among (all_listed tags flat.tags) (inserts_for (length (ch ∷ []))) flat.site flat.count tags (ch ∷ []) (all_there tags flat.tags) (others_than_sel tags names.each)
+new_among : (doc_value : DocValue) (tags : List Word) (ch : ℕ) → AreTagNames tags → All (IsTaggedAmong (all_listed tags doc_value.tags)) (tagged_cells doc_value.site doc_value.count tags (ch ∷ []))
+new_among doc_value tags ch names =
+    inserts_among (all_listed tags doc_value.tags) (inserts_for (length (ch ∷ []))) doc_value.site doc_value.count tags (ch ∷ []) (all_there tags doc_value.tags) (others_than_sel tags names.each)
 
 -- the text has one character more
-copy_length : (flat : DocValue) (stamp : Stamp) (tags : List Word) (ch : ℕ) → AreTagNames tags → length (text_of (with_copy flat stamp tags ch).cells) ≡ length (text_of flat.cells) + 1
-copy_length flat stamp tags ch names =
+copy_length : (doc_value : DocValue) (stamp : Stamp) (tags : List Word) (ch : ℕ) → AreTagNames tags → length (text_of (with_copy doc_value stamp tags ch).cells) ≡ length (text_of doc_value.cells) + 1
+copy_length doc_value stamp tags ch names =
     let text = ch ∷ [] in
-    let new = tagged_cells flat.site flat.count tags text in
-    let one : length new ≡ 1 = cells_length (inserts_for (length text)) flat.site flat.count tags text (cut MOST_CHARACTERS (length text) (omega arith)).enough in
-    length_put flat.cells stamp new ∙ ap (λ n. length (text_of flat.cells) + n) (text_among (all_listed tags flat.tags) new (new_among flat tags ch names) ∙ one)
+    let new = tagged_cells doc_value.site doc_value.count tags text in
+    let one : length new ≡ 1 = cells_length (inserts_for (length text)) doc_value.site doc_value.count tags text (cut MOST_CHARACTERS (length text) (omega arith)).enough in
+    length_put doc_value.cells stamp new ∙ ap (λ n. length (text_of doc_value.cells) + n) (text_among (all_listed tags doc_value.tags) new (new_among doc_value tags ch names) ∙ one)
 
 -- where marks move for it
 abbrev place_of : DocValue → Stamp → ℕ
-place_of flat stamp = visible_before flat.cells (after_element flat.cells stamp)
+place_of doc_value stamp = visible_before doc_value.cells (after_element doc_value.cells stamp)
 
 -- WHAT IS SO OF A DOCUMENT
 
 abbrev MakesDoc : DocValue → Type 0
-MakesDoc flat = IsDoc flat.cells flat.marks flat.tags
+MakesDoc doc_value = IsDoc doc_value.cells doc_value.marks doc_value.tags
 
-kept_goes : (flat : DocValue) (removed : ℕ → Bool) → SparesLast removed (text_of flat.cells) → MakesDoc flat → MakesDoc (without_places flat removed)
-kept_goes flat removed spared h = record {
-  placed = subst (λ (n : ℕ). AreSiteMarks n (marks_left removed flat.marks)) (sym (length_gone removed flat.cells)) (site_left (length (text_of flat.cells)) removed flat.marks h.placed);
-  listed = listed_gone flat.tags removed flat.cells h.listed;
+kept_goes : (doc_value : DocValue) (removed : ℕ → Bool) → SparesLast removed (text_of doc_value.cells) → MakesDoc doc_value → MakesDoc (without_places doc_value removed)
+kept_goes doc_value removed spared h = record {
+  placed = subst (λ (n : ℕ). AreSiteMarks n (marks_left removed doc_value.marks)) (sym (length_gone removed doc_value.cells)) (site_left (length (text_of doc_value.cells)) removed doc_value.marks h.placed);
+  listed = listed_gone doc_value.tags removed doc_value.cells h.listed;
 }
 
-kept_comes : (flat : DocValue) (stamp : Stamp) (tags : List Word) (ch : ℕ) → AreTagNames tags → MakesDoc flat → MakesDoc (with_copy flat stamp tags ch)
-kept_comes flat stamp tags ch names h =
-    let all = all_listed tags flat.tags in
-    let more = listed_more flat.tags all flat.cells (λ n e. all_still n tags flat.tags e) (all_named tags flat.tags (names_are tags names.each) h.listed.names) h.listed in
+kept_comes : (doc_value : DocValue) (stamp : Stamp) (tags : List Word) (ch : ℕ) → AreTagNames tags → MakesDoc doc_value → MakesDoc (with_copy doc_value stamp tags ch)
+kept_comes doc_value stamp tags ch names h =
+    let all = all_listed tags doc_value.tags in
+    let more = listed_more doc_value.tags all doc_value.cells (λ n e. all_still n tags doc_value.tags e) (all_named tags doc_value.tags (names_are tags names.each) h.listed.names) h.listed in
     record {
-      placed = subst (λ (n : ℕ). AreSiteMarks n (marks_inserted (place_of flat stamp) 1 flat.marks)) (sym (copy_length flat stamp tags ch names))
-          (site_inserted (length (text_of flat.cells)) (place_of flat stamp) 1 flat.marks h.placed);
-      listed = listed_put all flat.cells stamp (tagged_cells flat.site flat.count tags (ch ∷ [])) more (new_among flat tags ch names);
+      placed = subst (λ (n : ℕ). AreSiteMarks n (marks_inserted (place_of doc_value stamp) 1 doc_value.marks)) (sym (copy_length doc_value stamp tags ch names))
+          (site_inserted (length (text_of doc_value.cells)) (place_of doc_value stamp) 1 doc_value.marks h.placed);
+      listed = listed_put all doc_value.cells stamp (tagged_cells doc_value.site doc_value.count tags (ch ∷ [])) more (new_among doc_value tags ch names);
     }
 
 -- OWN MARKS
 
-own_goes : (flat : DocValue) (removed : ℕ → Bool) (own : WidgetValue) → SparesLast removed (text_of flat.cells) → IsOwnOf (length (text_of flat.cells)) own
-    → IsOwnOf (length (text_of (gone_at removed 0 flat.cells))) (own_left removed own)
-own_goes flat removed own spared h =
-    subst (λ (n : ℕ). IsOwnOf n (own_left removed own)) (sym (length_gone removed flat.cells)) (own_of_left (length (text_of flat.cells)) removed own spared h)
+own_goes : (doc_value : DocValue) (removed : ℕ → Bool) (own : WidgetValue) → SparesLast removed (text_of doc_value.cells) → IsOwnOf (length (text_of doc_value.cells)) own
+    → IsOwnOf (length (text_of (gone_at removed 0 doc_value.cells))) (widget_without removed own)
+own_goes doc_value removed own spared h =
+    subst (λ (n : ℕ). IsOwnOf n (widget_without removed own)) (sym (length_gone removed doc_value.cells)) (own_of_left (length (text_of doc_value.cells)) removed own spared h)
 
-own_comes : (flat : DocValue) (stamp : Stamp) (tags : List Word) (ch : ℕ) (own : WidgetValue) → AreTagNames tags → IsOwnOf (length (text_of flat.cells)) own
-    → IsOwnOf (length (text_of (with_copy flat stamp tags ch).cells)) (own_inserted (place_of flat stamp) 1 own)
-own_comes flat stamp tags ch own names h =
-    subst (λ (n : ℕ). IsOwnOf n (own_inserted (place_of flat stamp) 1 own)) (sym (copy_length flat stamp tags ch names)) (own_of_inserted (length (text_of flat.cells)) (place_of flat stamp) 1 own h)
+own_comes : (doc_value : DocValue) (stamp : Stamp) (tags : List Word) (ch : ℕ) (own : WidgetValue) → AreTagNames tags → IsOwnOf (length (text_of doc_value.cells)) own
+    → IsOwnOf (length (text_of (with_copy doc_value stamp tags ch).cells)) (widget_inserted (place_of doc_value stamp) 1 own)
+own_comes doc_value stamp tags ch own names h =
+    subst (λ (n : ℕ). IsOwnOf n (widget_inserted (place_of doc_value stamp) 1 own)) (sym (copy_length doc_value stamp tags ch names)) (own_of_inserted (length (text_of doc_value.cells)) (place_of doc_value stamp) 1 own h)
 
 -- the only mark of a document stands as the one of a widget does, as its insertion cursor, and as the mark that follows the mouse
-record HasInsert (flat : DocValue) : Type 0 where
+record HasInsert (doc_value : DocValue) : Type 0 where
   own : WidgetValue
-  alone : flat.marks ≡ own.insert ∷ []
-  stands : IsOwnOf (length (text_of flat.cells)) own
+  alone : doc_value.marks ≡ own.insert ∷ []
+  stands : IsOwnOf (length (text_of doc_value.cells)) own
 
-record HasCurrent (flat : DocValue) : Type 0 where
+record HasCurrent (doc_value : DocValue) : Type 0 where
   own : WidgetValue
-  alone : flat.marks ≡ own.current ∷ []
-  stands : IsOwnOf (length (text_of flat.cells)) own
+  alone : doc_value.marks ≡ own.current ∷ []
+  stands : IsOwnOf (length (text_of doc_value.cells)) own
 
-insert_goes : (flat : DocValue) (removed : ℕ → Bool) → SparesLast removed (text_of flat.cells) → HasInsert flat → HasInsert (without_places flat removed)
-insert_goes flat removed spared h = record { own = own_left removed h.own; alone = ap (marks_left removed) h.alone; stands = own_goes flat removed h.own spared h.stands }
+insert_goes : (doc_value : DocValue) (removed : ℕ → Bool) → SparesLast removed (text_of doc_value.cells) → HasInsert doc_value → HasInsert (without_places doc_value removed)
+insert_goes doc_value removed spared h = record { own = widget_without removed h.own; alone = ap (marks_left removed) h.alone; stands = own_goes doc_value removed h.own spared h.stands }
 
-insert_comes : (flat : DocValue) (stamp : Stamp) (tags : List Word) (ch : ℕ) → AreTagNames tags → HasInsert flat → HasInsert (with_copy flat stamp tags ch)
-insert_comes flat stamp tags ch names h = record {
-  own = own_inserted (place_of flat stamp) 1 h.own;
-  alone = ap (marks_inserted (place_of flat stamp) 1) h.alone;
-  stands = own_comes flat stamp tags ch h.own names h.stands;
+insert_comes : (doc_value : DocValue) (stamp : Stamp) (tags : List Word) (ch : ℕ) → AreTagNames tags → HasInsert doc_value → HasInsert (with_copy doc_value stamp tags ch)
+insert_comes doc_value stamp tags ch names h = record {
+  own = widget_inserted (place_of doc_value stamp) 1 h.own;
+  alone = ap (marks_inserted (place_of doc_value stamp) 1) h.alone;
+  stands = own_comes doc_value stamp tags ch h.own names h.stands;
 }
 
-current_goes : (flat : DocValue) (removed : ℕ → Bool) → SparesLast removed (text_of flat.cells) → HasCurrent flat → HasCurrent (without_places flat removed)
-current_goes flat removed spared h = record { own = own_left removed h.own; alone = ap (marks_left removed) h.alone; stands = own_goes flat removed h.own spared h.stands }
+current_goes : (doc_value : DocValue) (removed : ℕ → Bool) → SparesLast removed (text_of doc_value.cells) → HasCurrent doc_value → HasCurrent (without_places doc_value removed)
+current_goes doc_value removed spared h = record { own = widget_without removed h.own; alone = ap (marks_left removed) h.alone; stands = own_goes doc_value removed h.own spared h.stands }
 
-current_comes : (flat : DocValue) (stamp : Stamp) (tags : List Word) (ch : ℕ) → AreTagNames tags → HasCurrent flat → HasCurrent (with_copy flat stamp tags ch)
-current_comes flat stamp tags ch names h = record {
-  own = own_inserted (place_of flat stamp) 1 h.own;
-  alone = ap (marks_inserted (place_of flat stamp) 1) h.alone;
-  stands = own_comes flat stamp tags ch h.own names h.stands;
+current_comes : (doc_value : DocValue) (stamp : Stamp) (tags : List Word) (ch : ℕ) → AreTagNames tags → HasCurrent doc_value → HasCurrent (with_copy doc_value stamp tags ch)
+current_comes doc_value stamp tags ch names h = record {
+  own = widget_inserted (place_of doc_value stamp) 1 h.own;
+  alone = ap (marks_inserted (place_of doc_value stamp) 1) h.alone;
+  stands = own_comes doc_value stamp tags ch h.own names h.stands;
 }
 
 -- THE REVERSION
 
 -- a group that is reverted in a document of a history, where the counts fit
-pub record IsReverted (flat : DocValue) (group : List (Action (List Word))) : Type 0 where
-  pub real : 0 < flat.site
-  pub history : IsHistory flat.log
-  pub document : IsDocument flat.site flat.log flat
+pub record IsReverted (doc_value : DocValue) (group : List (Action (List Word))) : Type 0 where
+  pub real : 0 < doc_value.site
+  pub history : IsHistory doc_value.log
+  pub document : IsDocument doc_value.site doc_value.log doc_value
   pub sound : AllMayRevert group
-  pub fits : (reversion flat group).doc.count ≤ GREATEST_COUNT
+  pub fits : (reversion doc_value group).doc.count ≤ GREATEST_COUNT
 
 -- what is too much for the counts is refused
-pub spent_check : (flat : DocValue) (group : List (Action (List Word))) → GREATEST_COUNT < (reversion flat group).doc.count → reversion_check flat group ≡ Some ClockSpent
-spent_check flat group h =
-    let left = (reversion flat group).doc in
-    ap (λ (o : Option Fault). first_of (o ∷ cell_check flat.limit (length left.cells) ∷ [])) (clock_spent left.count h)
+pub spent_check : (doc_value : DocValue) (group : List (Action (List Word))) → GREATEST_COUNT < (reversion doc_value group).doc.count → reversion_check doc_value group ≡ Some ClockSpent
+spent_check doc_value group h =
+    let left = (reversion doc_value group).doc in
+    ap (λ (o : Option Fault). first_of (o ∷ cell_check doc_value.limit (length left.cells) ∷ [])) (clock_spent left.count h)
 
-module _ (flat : DocValue) (group : List (Action (List Word))) (i : IsReverted flat group) where
+module _ (doc_value : DocValue) (group : List (Action (List Word))) (i : IsReverted doc_value group) where
   abbrev drafts : List Body
-  drafts = (reversion flat group).drafts
+  drafts = (reversion doc_value group).drafts
 
   abbrev left : DocValue
-  left = (reversion flat group).doc
+  left = (reversion doc_value group).doc
 
-  pub all_may : MayBeMade flat.site flat.log drafts
-  all_may = reversion_may flat.site flat.log flat group i.real i.history i.document i.sound i.fits
+  pub all_may : MayBeMade doc_value.site doc_value.log drafts
+  all_may = reversion_may doc_value.site doc_value.log doc_value group i.real i.history i.document i.sound i.fits
 
-  pub left_made : IsDocument flat.site (with_drafts flat.site drafts flat.log) left
-  left_made = reversion_made flat.site flat.log flat group i.real i.history i.document i.sound i.fits
+  pub left_made : IsDocument doc_value.site (with_drafts doc_value.site drafts doc_value.log) left
+  left_made = reversion_made doc_value.site doc_value.log doc_value group i.real i.history i.document i.sound i.fits
 
-  pub all_refused : refusal_of flat.limit drafts flat.log ≡ reversion_check flat group
+  pub all_refused : refusal_of doc_value.limit drafts doc_value.log ≡ reversion_check doc_value group
   all_refused =
-      let count : last_count_after (greatest_last_count flat.log) drafts ≡ left.count = sym (all_count_on flat.site drafts flat.log) ∙ sym left_made.count in
-      let cells : length (cells_of flat.log) + characters_in_all drafts ≡ length left.cells =
-      ap (λ n. n + characters_in_all drafts) (sym (ap length i.document.cells)) ∙ reversion_cells flat group in
-      refusal_is flat.limit drafts flat.log left.count (length left.cells) count cells
+      let count : last_count_after (greatest_last_count doc_value.log) drafts ≡ left.count = sym (all_count_on doc_value.site drafts doc_value.log) ∙ sym left_made.count in
+      let cells : length (cells_of doc_value.log) + characters_in_all drafts ≡ length left.cells =
+      ap (λ n. n + characters_in_all drafts) (sym (ap length i.document.cells)) ∙ reversion_cells doc_value group in
+      refusal_is doc_value.limit drafts doc_value.log left.count (length left.cells) count cells
 
-  left_limit : left.limit ≡ flat.limit
-  left_limit = reversion_keeps (λ (f : DocValue). f.limit ≡ flat.limit) (λ f removed s h. h) (λ f stamp tags ch n h. h) flat.site flat.log flat group i.real i.history i.document i.sound i.fits refl
+  left_limit : left.limit ≡ doc_value.limit
+  left_limit = reversion_keeps (λ (f : DocValue). f.limit ≡ doc_value.limit) (λ f removed s h. h) (λ f stamp tags ch n h. h) doc_value.site doc_value.log doc_value group i.real i.history i.document i.sound i.fits refl
 
   -- what the replica has then made
-  pub left_seen : (new : ReplicaValue) → new.log ≡ with_drafts flat.site drafts flat.log → new.cells ≡ cells_of new.log → new.site ≡ flat.site → new.limit ≡ flat.limit
-      → seen new left.marks left.tags ≡ reverted flat group
-  left_seen new log cells site limit = seen_made flat left drafts new log cells site limit left_limit left_made
+  pub left_seen : (new : ReplicaValue) → new.log ≡ with_drafts doc_value.site drafts doc_value.log → new.cells ≡ cells_of new.log → new.site ≡ doc_value.site → new.limit ≡ doc_value.limit
+      → seen new left.marks left.tags ≡ reverted doc_value group
+  left_seen new log cells site limit = seen_made doc_value left drafts new log cells site limit left_limit left_made
 
   -- it is a document
-  pub left_kept : IsDoc flat.cells flat.marks flat.tags → IsDoc left.cells left.marks left.tags
-  left_kept kept = reversion_keeps MakesDoc kept_goes kept_comes flat.site flat.log flat group i.real i.history i.document i.sound i.fits kept
+  pub left_kept : IsDoc doc_value.cells doc_value.marks doc_value.tags → IsDoc left.cells left.marks left.tags
+  left_kept kept = reversion_keeps MakesDoc kept_goes kept_comes doc_value.site doc_value.log doc_value group i.real i.history i.document i.sound i.fits kept
 
   -- where the only mark of a document is a widget's
-  insert_left : (own : WidgetValue) → flat.marks ≡ own.insert ∷ [] → IsOwnOf (length (text_of flat.cells)) own → HasInsert left
+  insert_left : (own : WidgetValue) → doc_value.marks ≡ own.insert ∷ [] → IsOwnOf (length (text_of doc_value.cells)) own → HasInsert left
   insert_left own alone stands =
-      reversion_keeps HasInsert insert_goes insert_comes flat.site flat.log flat group i.real i.history i.document i.sound i.fits (record { own = own; alone = alone; stands = stands })
+      reversion_keeps HasInsert insert_goes insert_comes doc_value.site doc_value.log doc_value group i.real i.history i.document i.sound i.fits (record { own = own; alone = alone; stands = stands })
 
-  current_left : (own : WidgetValue) → flat.marks ≡ own.current ∷ [] → IsOwnOf (length (text_of flat.cells)) own → HasCurrent left
+  current_left : (own : WidgetValue) → doc_value.marks ≡ own.current ∷ [] → IsOwnOf (length (text_of doc_value.cells)) own → HasCurrent left
   current_left own alone stands =
-      reversion_keeps HasCurrent current_goes current_comes flat.site flat.log flat group i.real i.history i.document i.sound i.fits (record { own = own; alone = alone; stands = stands })
+      reversion_keeps HasCurrent current_goes current_comes doc_value.site doc_value.log doc_value group i.real i.history i.document i.sound i.fits (record { own = own; alone = alone; stands = stands })
 
 -- a document with a mark alone
 abbrev pub only : DocValue → Mark → DocValue
-only flat m = record flat { marks = m ∷ [] }
+only doc_value m = record doc_value { marks = m ∷ [] }
 
 -- the same operations leave the same cells
-same_cells : (flat other : DocValue) (group : List (Action (List Word))) → IsReverted flat group → IsReverted other group → other.site ≡ flat.site → other.log ≡ flat.log → (reversion other group).drafts ≡ (reversion flat group).drafts
-    → (reversion other group).doc.cells ≡ (reversion flat group).doc.cells
-same_cells flat other group i j site log e = (left_made other group j).cells ∙ (λ k. cells_of (with_drafts (site k) (e k) (log k))) ∙ sym (left_made flat group i).cells
+same_cells : (doc_value other : DocValue) (group : List (Action (List Word))) → IsReverted doc_value group → IsReverted other group → other.site ≡ doc_value.site → other.log ≡ doc_value.log → (reversion other group).drafts ≡ (reversion doc_value group).drafts
+    → (reversion other group).doc.cells ≡ (reversion doc_value group).doc.cells
+same_cells doc_value other group i j site log e = (left_made other group j).cells ∙ (λ k. cells_of (with_drafts (site k) (e k) (log k))) ∙ sym (left_made doc_value group i).cells
 
 -- the first of some marks
 abbrev pub head_or : Mark → List Mark → Mark
 head_or m marks = unwrap_or (slice_get marks 0) m
 
 -- a widget's own marks stand in the text that is left
-pub own_stands : (flat : DocValue) (group : List (Action (List Word))) (own : WidgetValue) → IsReverted flat group → IsReverted (only flat own.insert) group → IsReverted (only flat own.current) group
-    → (reversion (only flat own.insert) group).drafts ≡ (reversion flat group).drafts → (reversion (only flat own.current) group).drafts ≡ (reversion flat group).drafts
-    → IsOwnOf (length (text_of flat.cells)) own → IsOwnOf (length (text_of (reversion flat group).doc.cells)) (own_reverted flat group own)
-own_stands flat group own i ii ic ei ec h =
-    let first = insert_left (only flat own.insert) group ii own refl h in
-    let second = current_left (only flat own.current) group ic own refl h in
-    let n = length (text_of (reversion flat group).doc.cells) in
-    let m : length (text_of (reversion (only flat own.insert) group).doc.cells) ≡ n = ap (λ (l : List TaggedCell). length (text_of l)) (same_cells flat (only flat own.insert) group i ii refl refl ei) in
-    let k : length (text_of (reversion (only flat own.current) group).doc.cells) ≡ n = ap (λ (l : List TaggedCell). length (text_of l)) (same_cells flat (only flat own.current) group i ic refl refl ec) in
-    let insert : (own_reverted flat group own).insert ≡ first.own.insert = ap (head_or own.insert) first.alone in
-    let current : (own_reverted flat group own).current ≡ second.own.current = ap (head_or own.current) second.alone in record {
+pub own_stands : (doc_value : DocValue) (group : List (Action (List Word))) (own : WidgetValue) → IsReverted doc_value group → IsReverted (only doc_value own.insert) group → IsReverted (only doc_value own.current) group
+    → (reversion (only doc_value own.insert) group).drafts ≡ (reversion doc_value group).drafts → (reversion (only doc_value own.current) group).drafts ≡ (reversion doc_value group).drafts
+    → IsOwnOf (length (text_of doc_value.cells)) own → IsOwnOf (length (text_of (reversion doc_value group).doc.cells)) (widget_reverted doc_value group own)
+own_stands doc_value group own i ii ic ei ec h =
+    let first = insert_left (only doc_value own.insert) group ii own refl h in
+    let second = current_left (only doc_value own.current) group ic own refl h in
+    let n = length (text_of (reversion doc_value group).doc.cells) in
+    let m : length (text_of (reversion (only doc_value own.insert) group).doc.cells) ≡ n = ap (λ (l : List TaggedCell). length (text_of l)) (same_cells doc_value (only doc_value own.insert) group i ii refl refl ei) in
+    let k : length (text_of (reversion (only doc_value own.current) group).doc.cells) ≡ n = ap (λ (l : List TaggedCell). length (text_of l)) (same_cells doc_value (only doc_value own.current) group i ic refl refl ec) in
+    let insert : (widget_reverted doc_value group own).insert ≡ first.own.insert = ap (head_or own.insert) first.alone in
+    let current : (widget_reverted doc_value group own).current ≡ second.own.current = ap (head_or own.current) second.alone in record {
       insert = subst (λ (x : Mark). x.place < n) (sym insert) (omega (arith, first.stands.insert, m));
       current = subst (λ (x : Mark). x.place ≤ n) (sym current) (omega (arith, second.stands.current, k));
       insert_name = subst (λ (x : Mark). x.name ≡ codes "insert") (sym insert) first.stands.insert_name;

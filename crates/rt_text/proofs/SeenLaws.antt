@@ -6,7 +6,7 @@ use Rattle.std.proofs.lemmas.Bool.{le-ltb, lt-ltb, cases_lt}
 use Rattle.std.proofs.lemmas.List.Elements.{All-filter}
 use Rattle.std.proofs.lemmas.Option.{get_or_from_slice_get, slice_get_within}
 use Rattle.rt_index.specs.Widget.{TagEnds, tag_first, tag_last}
-use Rattle.rt_marks.specs.Marks.{Mark, HaveOwnNames, named}
+use Rattle.rt_marks.specs.Marks.{Mark, HaveOwnNames, mark_of_name}
 use Rattle.rt_marks.proofs.Moving.{named_moved, own_moved}
 use Rattle.rt_marks.proofs.Names.{named_in_order}
 use Rattle.rt_stamps.specs.declared.stamp.Stamp.{Stamp}
@@ -19,7 +19,7 @@ use Rattle.rt_tags.specs.Tags.{is_listed}
 use Rattle.rt_store.specs.Shown.{TaggedCell, shown}
 use Rattle.rt_text.specs.Proper.{ends_by, tag_by, ends_in}
 use Rattle.rt_text.specs.Grounds.{widget_over}
-use Rattle.rt_text.specs.Widgets.{WidgetValue, ViewValue, shows_tag, is_tagged_in, length_shown, mark_among, mark_seen, marks_shown, own_mark_of, own_or, own_seen, own_shown, cells_shown, stretch_by, tag_ends, tags_shown, text_shown, widget_of}
+use Rattle.rt_text.specs.Widgets.{WidgetValue, ViewValue, shows_tag, is_tagged_in, length_shown, mark_among, mark_seen, marks_shown, own_mark_of, own_or, widget_seen, widget_shown, cells_shown, stretch_by, tag_ends, tags_shown, text_shown, widget_of}
 use Rattle.rt_lines.specs.declared.stretch.Stretch.{Stretch}
 use Rattle.rt_lines.specs.Stretches.{part, seen_place, stretch_of}
 use Rattle.rt_lines.specs.declared.limits.Limits.{Limits}
@@ -143,10 +143,10 @@ pub text_seen : (view : ViewValue) → part (stretch_by view) (text_of view.doc.
 text_seen view = sym (part_map (λ (cell : TaggedCell). cell.ch) (stretch_by view) (visible_of view.doc.cells))
 
 -- by the stretch of a store
-pub store_seen : (view : ViewValue) (flat : DocValue) (own : WidgetValue) (others : List WidgetValue) (limits : Limits) (stretch : Stretch) (t : List ℕ) → record { doc = flat; own = own; others = others } ≡ view → limits ≡ own.limits
-    → stretch ≡ stretch_of flat.cells limits → t ≡ text_of flat.cells → part stretch t ≡ text_shown view
-store_seen view flat own others limits stretch t v l s e =
-    (λ i. part (s i) (e i)) ∙ ap (λ limits. part (stretch_of flat.cells limits) (text_of flat.cells)) l ∙ text_seen (record { doc = flat; own = own; others = others }) ∙ ap text_shown v
+pub store_seen : (view : ViewValue) (doc : DocValue) (own : WidgetValue) (others : List WidgetValue) (limits : Limits) (stretch : Stretch) (t : List ℕ) → record { doc = doc; own = own; others = others } ≡ view → limits ≡ own.limits
+    → stretch ≡ stretch_of doc.cells limits → t ≡ text_of doc.cells → part stretch t ≡ text_shown view
+store_seen view doc own others limits stretch t v l s e =
+    (λ i. part (s i) (e i)) ∙ ap (λ limits. part (stretch_of doc.cells limits) (text_of doc.cells)) l ∙ text_seen (record { doc = doc; own = own; others = others }) ∙ ap text_shown v
 
 -- how long it is
 pub length_seen : (view : ViewValue) → (stretch_by view).end ≤ length (text_of view.doc.cells) → length_shown view ≡ (stretch_by view).end - (stretch_by view).begin
@@ -155,11 +155,11 @@ length_seen view h = ap length (sym (text_seen view)) ∙ part_length (stretch_b
 -- WHAT INDEX EXPRESSIONS SEE
 
 -- where a mark of the site is seen
-pub site_mark_seen : (stretch : Stretch) (own : WidgetValue) (marks : List Mark) (name : List ℕ) (o : Option ℕ) → None ≡ own_mark_of name → o ≡ option_map (λ (m : Mark). m.place) (named name marks)
-    → option_map (seen_place stretch) o ≡ option_map (λ (m : Mark). m.place) (mark_among (own_seen stretch own) (map (mark_seen stretch) marks) name)
+pub site_mark_seen : (stretch : Stretch) (own : WidgetValue) (marks : List Mark) (name : List ℕ) (o : Option ℕ) → None ≡ own_mark_of name → o ≡ option_map (λ (m : Mark). m.place) (mark_of_name name marks)
+    → option_map (seen_place stretch) o ≡ option_map (λ (m : Mark). m.place) (mark_among (widget_seen stretch own) (map (mark_seen stretch) marks) name)
 site_mark_seen stretch own marks name o n e =
-    ap (option_map (seen_place stretch)) e ∙ by (named name marks) ∙ ap (option_map (λ (m : Mark). m.place)) (sym (named_moved (λ m. seen_place stretch m.place) name marks))
-    ∙ ap (λ w. option_map (λ (m : Mark). m.place) (own_or w (own_seen stretch own) (named name (map (mark_seen stretch) marks)))) n
+    ap (option_map (seen_place stretch)) e ∙ by (mark_of_name name marks) ∙ ap (option_map (λ (m : Mark). m.place)) (sym (named_moved (λ m. seen_place stretch m.place) name marks))
+    ∙ ap (λ w. option_map (λ (m : Mark). m.place) (own_or w (widget_seen stretch own) (mark_of_name name (map (mark_seen stretch) marks)))) n
   where
     by : (o : Option Mark) → option_map (seen_place stretch) (option_map (λ (m : Mark). m.place) o) ≡ option_map (λ (m : Mark). m.place) (option_map (mark_seen stretch) o)
     by None = refl
@@ -175,10 +175,10 @@ ground_shown view stretch cells marks tags own s c m t o names =
     seen =
         let moved : Mark → Mark = mark_seen (stretch_by view) in
         let text = text_seen view in
-        let mark : (name : List ℕ) → named name (map moved view.doc.marks) ≡ named name (marks_shown view) =
+        let mark : (name : List ℕ) → mark_of_name name (map moved view.doc.marks) ≡ mark_of_name name (marks_shown view) =
         λ name. sym (named_in_order (map moved view.doc.marks) (own_moved (λ m. seen_place (stretch_by view) m.place) view.doc.marks names) name) in
         λ i. record {
           text = text i;
-          marks = λ name. option_map (λ (m : Mark). m.place) (own_or (own_mark_of name) (own_shown view) (mark name i));
+          marks = λ name. option_map (λ (m : Mark). m.place) (own_or (own_mark_of name) (widget_shown view) (mark name i));
           tags = tag_ends view.own (cells_shown view) view.doc.tags;
         }

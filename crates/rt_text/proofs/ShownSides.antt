@@ -18,7 +18,7 @@ use Rattle.rt_rga.proofs.PlacesAt.{position_at}
 use Rattle.rt_plans.specs.DocValue.{left_stamp, put_after}
 use Rattle.rt_plans.proofs.InsertedText.{text_inserted}
 use Rattle.rt_lines.specs.declared.limits.Limits.{Limits}
-use Rattle.rt_lines.specs.Limits.{first_line, is_gone, last_line, line_at, line_behind, place_of}
+use Rattle.rt_lines.specs.Limits.{first_line, is_gone_cell, last_line, line_at, line_behind, place_of}
 use Rattle.rt_lines.specs.Ordered.{IsNewline}
 use Rattle.rt_lines.specs.Stretches.{stretch_of}
 use Rattle.rt_lines.proofs.Places.{ends_text, place_of_within}
@@ -33,7 +33,7 @@ use Rattle.rt_text.proofs.PutPlaces.{IsCut, cell_more, cut_behind, cut_none, pla
 -- whether it is gone
 abbrev pub gone_by : List TaggedCell → Option Stamp → Bool
 gone_by cells None = false
-gone_by cells (Some stamp) = is_gone cells stamp
+gone_by cells (Some stamp) = is_gone_cell cells stamp
 
 -- limits are none or newlines
 abbrev pub AreNewlines : List TaggedCell → Limits → Type 0
@@ -57,7 +57,7 @@ newline_at cells (Some s) h = by (place_of cells s) refl
     seen n (Some cell) e k g p =
         slice_get-map (λ (c : TaggedCell). c.ch) (visible_of cells) n ∙ ap (option_map (λ (c : TaggedCell). c.ch)) (place_found cells s cell n e g p) ∙ k
 
-    by : (o : Option ℕ) → place_of cells s ≡ o → IfSome o (λ n. is_gone cells s ≡ false → slice_get (text_of cells) n ≡ Some 10)
+    by : (o : Option ℕ) → place_of cells s ≡ o → IfSome o (λ n. is_gone_cell cells s ≡ false → slice_get (text_of cells) n ≡ Some 10)
     by None e = tt
     by (Some n) e = λ g. seen n (cell_of cells s) refl h g e
 

@@ -5,4 +5,4 @@ use Rattle.rt_text.specs.Widgets.{WidgetValue, ViewValue}
 
 -- a document on which a widget works, beside others
 abbrev pub viewed : DocValue → WidgetValue → List WidgetValue → ViewValue
-viewed flat own others = record { doc = flat; own = own; others = others }
+viewed doc own others = record { doc = doc; own = own; others = others }

@@ -33,7 +33,7 @@ use Rattle.rt_plans.specs.TagDrafts.{tag_deletion_drafts, tag_drafts_at}
 use Rattle.rt_plans.specs.TagWrites.{listed_if, with_tag_at, without_tags}
 use Rattle.rt_lines.specs.declared.stretch.Stretch.{Stretch}
 use Rattle.rt_lines.specs.Stretches.{stretch_of}
-use Rattle.rt_text.specs.Widgets.{ViewValue, begin_of, each_widget, in_text, last_newline, length_shown, own_inserted, own_left, places_in_text, reselected, selections_of, cells_shown, text_shown, widget_of, with_selections}
+use Rattle.rt_text.specs.Widgets.{ViewValue, begin_of, each_widget, in_text, last_newline, length_shown, widget_inserted, widget_without, places_in_text, reselected, selections_of, cells_shown, text_shown, widget_of, with_selections}
 
 -- CHECKS
 
@@ -57,9 +57,9 @@ none_inserted view = record { cells = []; count = view.doc.count; sel = view.own
 -- of theirs may be the nearer
 abbrev pub stretch_with : ViewValue → ℕ → List Piece → Stretch
 stretch_with view place pieces =
-    let flat = view.doc in
-    let new = with_pieces flat.site pieces (none_inserted view) in
-    stretch_of (put_after flat.cells (left_stamp flat.cells (in_text view place)) new.cells) view.own.limits
+    let doc = view.doc in
+    let new = with_pieces doc.site pieces (none_inserted view) in
+    stretch_of (put_after doc.cells (left_stamp doc.cells (in_text view place)) new.cells) view.own.limits
 
 -- the right neighbour of characters without a list, behind the pieces: none where the widget then no longer shows both neighbours
 abbrev pub right_behind : ViewValue → ℕ → List Piece → Option TaggedCell
@@ -72,19 +72,19 @@ right_behind view place pieces =
 -- the visible left neighbour, and all marks move for them, those of each widget too
 abbrev pub with_pieces_at : ViewValue → ℕ → List Piece → Word → ViewValue
 with_pieces_at view place pieces rest =
-    let flat = view.doc in
+    let doc = view.doc in
     let at = in_text view place in
     let left = left_neighbour (cells_shown view) place in
     let right = right_behind view place pieces in
-    let after = left_stamp flat.cells at in
+    let after = left_stamp doc.cells at in
     let start = none_inserted view in
-    let new = insertion_of flat.site left right pieces rest start in
-    let moved = each_widget (own_inserted at (length new.cells)) view in
+    let new = insertion_of doc.site left right pieces rest start in
+    let moved = each_widget (widget_inserted at (length new.cells)) view in
     record {
-      doc = logged flat (insertion_drafts MOST_CHARACTERS flat.site after left right pieces rest start) (record flat {
-        cells = put_after flat.cells after new.cells;
+      doc = logged doc (insertion_drafts MOST_CHARACTERS doc.site after left right pieces rest start) (record doc {
+        cells = put_after doc.cells after new.cells;
         count = new.count;
-        marks = marks_inserted at (length new.cells) flat.marks;
+        marks = marks_inserted at (length new.cells) doc.marks;
         tags = new.tags;
       });
       own = record moved.own { sel = new.sel };
@@ -99,11 +99,11 @@ last_unselected view held selection = if held then unselected (last_newline view
 -- holds it, it loses its tags, and is nowhere selected
 abbrev pub without_ranges : ViewValue → List Range → ViewValue
 without_ranges view ranges =
-    let flat = view.doc in
+    let doc = view.doc in
     let loss = loss_in (text_shown view) (begin_of view) ranges in
     let held = is_some loss.newline in
-    each_widget (λ own. reselected (last_unselected view held) (own_left loss.places own))
-    (record view { doc = logged flat (delete_drafts MOST_SPANS flat loss) (without_text flat loss) })
+    each_widget (λ own. reselected (last_unselected view held) (widget_without loss.places own))
+    (record view { doc = logged doc (delete_drafts MOST_SPANS doc loss) (without_text doc loss) })
 
 -- the characters that this takes, in the text's order
 abbrev pub lost_in : ViewValue → List Range → List TaggedCell
@@ -119,10 +119,10 @@ with_range_replaced view range pieces rest =
 -- a tag put on the characters in ranges, or taken off: `sel` is the widget's own
 abbrev pub with_tag_in : ViewValue → Bool → Word → List Range → ViewValue
 with_tag_in view on name ranges =
-    let flat = view.doc in
+    let doc = view.doc in
     let places = places_in_text view (is_covered ranges) in
-    if bytes_eq name sel then record view { own = record view.own { sel = selection_with on (stamps_at places 0 flat.cells) view.own.sel } }
-    else record view { doc = logged flat (tag_drafts_at MOST_SPANS places on name flat.cells) (listed_if on name (with_tag_at flat places on name)) }
+    if bytes_eq name sel then record view { own = record view.own { sel = selection_with on (stamps_at places 0 doc.cells) view.own.sel } }
+    else record view { doc = logged doc (tag_drafts_at MOST_SPANS places on name doc.cells) (listed_if on name (with_tag_at doc places on name)) }
 
 -- tags taken off all characters of the whole text, and no longer listed; `sel` is passed over
 abbrev pub with_tags_deleted : ViewValue → List Word → ViewValue

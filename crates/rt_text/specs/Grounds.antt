@@ -7,12 +7,12 @@ use Rattle.rt_store.specs.Cells.{text_of, visible_of}
 use Rattle.rt_store.specs.Shown.{TaggedCell}
 use Rattle.rt_lines.specs.declared.stretch.Stretch.{Stretch}
 use Rattle.rt_lines.specs.Stretches.{part}
-use Rattle.rt_text.specs.Widgets.{WidgetValue, mark_among, mark_seen, own_seen, tag_ends}
+use Rattle.rt_text.specs.Widgets.{WidgetValue, mark_among, mark_seen, widget_seen, tag_ends}
 
 -- the characters of a stretch, the places of marks among them, and the tags of a widget
 abbrev pub widget_over : Stretch → List TaggedCell → List Mark → List Word → WidgetValue → IndexedWidget
 widget_over stretch cells marks tags own = record {
   text = part stretch (text_of cells);
-  marks = λ name. option_map (λ m. m.place) (mark_among (own_seen stretch own) (map (mark_seen stretch) marks) name);
+  marks = λ name. option_map (λ m. m.place) (mark_among (widget_seen stretch own) (map (mark_seen stretch) marks) name);
   tags = tag_ends own (part stretch (visible_of cells)) tags;
 }

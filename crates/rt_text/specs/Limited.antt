@@ -2,7 +2,7 @@
 use Rattle.std.specs.Prelude.{◌++◌, [], ◌∷◌, Result, Ok, Err}
 use Rattle.rt_plans.specs.DocValue.{DocValue}
 use Rattle.rt_stamps.specs.declared.fault.Fault.{Fault}
-use Rattle.rt_text.specs.Widgets.{WidgetValue, ViewValue, own_at}
+use Rattle.rt_text.specs.Widgets.{WidgetValue, ViewValue, widget_at}
 use Rattle.rt_lines.specs.declared.choice.Choice.{Choice}
 use Rattle.rt_lines.specs.declared.limits.Limits.{Limits}
 use Rattle.rt_lines.specs.Choices.{limits_chosen}
@@ -19,7 +19,7 @@ view_limited view start end = with_limits view (limits_chosen view.doc.cells sta
 
 -- a new widget of a document, with limits
 abbrev pub new_peer : DocValue → Limits → WidgetValue
-new_peer flat limits = own_at (stretch_of flat.cells limits).begin limits
+new_peer doc limits = widget_at (stretch_of doc.cells limits).begin limits
 
 abbrev pub with_new_peer : ViewValue → Result Limits Fault → Result ViewValue Fault
 with_new_peer view (Ok limits) = Ok (record view { others = view.others ++ new_peer view.doc limits ∷ [] })

@@ -9,8 +9,8 @@ use Rattle.rt_text.specs.declared.widget.Widget.{Widget}
 use Rattle.rt_text.specs.Widgets.{ViewValue, WidgetValue}
 
 -- a widget's own marks, the stamps of the characters that it has selected, and its limits
-abbrev pub own_of : Widget → WidgetValue
-own_of widget = record {
+abbrev pub widget_value : Widget → WidgetValue
+widget_value widget = record {
   insert = record { name = codes "insert"; place = widget.insert.place; gravity = widget.insert.gravity };
   current = record { name = codes "current"; place = widget.current.place; gravity = widget.current.gravity };
   sel = selected_stamps widget.selection;
@@ -19,7 +19,7 @@ own_of widget = record {
 
 -- a document, the widget that commands, and each other one
 abbrev pub view_of : DocValue → Widget → List Widget → ViewValue
-view_of doc widget others = record { doc = doc; own = own_of widget; others = map own_of others }
+view_of doc widget others = record { doc = doc; own = widget_value widget; others = map widget_value others }
 
 -- both characters are selected
 abbrev pub selects_both : Stamp → Stamp → Widget → Bool

@@ -5,7 +5,7 @@ use Rattle.std.specs.List.{position_or_len}
 use Rattle.std.specs.Str.{bytes_eq}
 use Rattle.std.proofs.lemmas.List.{length-drop, length-map, length-take}
 use Rattle.rt_index.specs.Widget.{TagEnds, IsProper, IsName}
-use Rattle.rt_marks.specs.Marks.{Mark, is_named, named}
+use Rattle.rt_marks.specs.Marks.{Mark, is_named, mark_of_name}
 use Rattle.rt_stamps.specs.declared.limits.TheConstants.{MOST_CELLS}
 use Rattle.rt_stamps.specs.Words.{Word}
 use Rattle.rt_store.specs.Cells.{text_of, visible_of}
@@ -17,7 +17,7 @@ use Rattle.rt_stamps.specs.Places.{EndsWithNewline}
 use Rattle.rt_text.specs.declared.own_mark.OwnMark.TheVariants.{Insert, Current}
 use Rattle.rt_text.specs.Lines.{AreLines}
 use Rattle.rt_text.specs.Grounds.{widget_over}
-use Rattle.rt_text.specs.Widgets.{WidgetValue, own_or, own_seen, mark_seen, ends_of, shows_tag}
+use Rattle.rt_text.specs.Widgets.{WidgetValue, own_or, widget_seen, mark_seen, ends_of, shows_tag}
 use Rattle.rt_lines.specs.declared.stretch.Stretch.{Stretch}
 use Rattle.rt_lines.specs.Stretches.{part, seen_cursor, seen_place}
 
@@ -126,10 +126,10 @@ one_seen n false m o h k place e = k place e
 
 -- each is seen in the stretch
 all_seen : (stretch : Stretch) (name : List ℕ) (marks : List Mark) → stretch.begin ≤ stretch.end → (place : ℕ)
-    → place_if (named name (map (mark_seen stretch) marks)) ≡ Some place → place ≤ stretch.end - stretch.begin
+    → place_if (mark_of_name name (map (mark_seen stretch) marks)) ≡ Some place → place ≤ stretch.end - stretch.begin
 all_seen stretch name [] h place e = let bad : ⊥ = cc in absurd bad
 all_seen stretch name (m ∷ marks) h place e =
-    one_seen (stretch.end - stretch.begin) (is_named name m) (mark_seen stretch m) (named name (map (mark_seen stretch) marks))
+    one_seen (stretch.end - stretch.begin) (is_named name m) (mark_seen stretch m) (mark_of_name name (map (mark_seen stretch) marks))
     (seen_within stretch m.place h) (all_seen stretch name marks h) place e
 
 one_there : (b : Bool) (m n : Mark) (o p : Option Mark) → (IsSome o → IsSome p) → IsSome (cond b (Some m) o) → IsSome (cond b (Some n) p)
@@ -137,10 +137,10 @@ one_there true m n o p h k = k
 one_there false m n o p h k = h k
 
 -- and has the name that it has
-names_seen : (stretch : Stretch) (name : List ℕ) (marks : List Mark) → IsSome (named name (map (mark_seen stretch) marks)) → IsSome (named name marks)
+names_seen : (stretch : Stretch) (name : List ℕ) (marks : List Mark) → IsSome (mark_of_name name (map (mark_seen stretch) marks)) → IsSome (mark_of_name name marks)
 names_seen stretch name [] h = h
 names_seen stretch name (m ∷ marks) h =
-    one_there (is_named name m) (mark_seen stretch m) m (named name (map (mark_seen stretch) marks)) (named name marks) (names_seen stretch name marks) h
+    one_there (is_named name m) (mark_seen stretch m) m (mark_of_name name (map (mark_seen stretch) marks)) (mark_of_name name marks) (names_seen stretch name marks) h
 
 -- A TEXT'S PART
 
@@ -165,7 +165,7 @@ lines_end t stretch lines =
 
 -- whole lines, marks seen in them, and listed tags
 pub proper_over : (stretch : Stretch) (cells : List TaggedCell) (marks : List Mark) (tags : List Word) (own : WidgetValue) → AreLines (text_of cells) stretch
-    → length (text_of cells) ≤ MOST_CELLS → ((name : List ℕ) → IsSome (named name marks) → IsName name) → AreListed tags cells
+    → length (text_of cells) ≤ MOST_CELLS → ((name : List ℕ) → IsSome (mark_of_name name marks) → IsName name) → AreListed tags cells
     → IsProper (widget_over stretch cells marks tags own)
 proper_over stretch cells marks tags own lines few names listed =
     let size = stretch.end - stretch.begin in
@@ -183,8 +183,8 @@ proper_over stretch cells marks tags own lines few names listed =
       length-take size (drop stretch.begin (visible_of cells)),
       length-drop stretch.begin (visible_of cells),
     ) in
-    let seen : WidgetValue = own_seen stretch own in
-    let found : List ℕ → Option Mark = λ name. named name (map (mark_seen stretch) marks) in
+    let seen : WidgetValue = widget_seen stretch own in
+    let found : List ℕ → Option Mark = λ name. mark_of_name name (map (mark_seen stretch) marks) in
     let order : stretch.begin ≤ stretch.end = omega (arith, lines.some) in
     record {
       newline = lines_end (text_of cells) stretch lines;

@@ -5,7 +5,7 @@ use Rattle.std.specs.Str.{bytes_eq}
 use Rattle.rt_index.specs.Widget.{IndexedWidget, TagEnds}
 use Rattle.rt_marks.specs.declared.gravity.Gravity.{Gravity}
 use Rattle.rt_marks.specs.declared.gravity.Gravity.TheVariants.{Right}
-use Rattle.rt_marks.specs.Marks.{Mark, IsName, named, in_order, with_mark, mark_inserted, mark_removed, mark_left}
+use Rattle.rt_marks.specs.Marks.{Mark, IsName, mark_of_name, in_order, with_mark, mark_inserted, mark_removed, mark_left}
 use Rattle.rt_stamps.specs.declared.stamp.Stamp.{Stamp}
 use Rattle.rt_stamps.specs.declared.stamp.TheConstants.{FINAL}
 use Rattle.rt_stamps.specs.Words.{Word}
@@ -22,7 +22,7 @@ use Rattle.rt_store.specs.Spans.{is_among}
 use Rattle.rt_lines.specs.declared.limits.Limits.{Limits}
 use Rattle.rt_lines.specs.declared.stretch.Stretch.{Stretch}
 use Rattle.rt_lines.specs.Limits.{no_limits}
-use Rattle.rt_lines.specs.Ordered.{AreInOrder}
+use Rattle.rt_lines.specs.Ordered.{LimitsAreInOrder}
 use Rattle.rt_lines.specs.Stretches.{part, seen_cursor, seen_place, stretch_of}
 
 -- OWN MARKS
@@ -40,8 +40,8 @@ own_name Insert = codes "insert"
 own_name Current = codes "current"
 
 -- a new widget's own marks stand where what it shows begins, with right gravity, and nothing is selected
-abbrev pub own_at : ℕ → Limits → WidgetValue
-own_at begin limits = record {
+abbrev pub widget_at : ℕ → Limits → WidgetValue
+widget_at begin limits = record {
   insert = record { name = codes "insert"; place = begin; gravity = Right };
   current = record { name = codes "current"; place = begin; gravity = Right };
   sel = [];
@@ -49,8 +49,8 @@ own_at begin limits = record {
 }
 
 -- the first widget shows all lines
-abbrev pub new_own : WidgetValue
-new_own = own_at 0 no_limits
+abbrev pub new_widget : WidgetValue
+new_widget = widget_at 0 no_limits
 
 -- the own mark that a name names
 abbrev pub own_mark_of : List ℕ → Option OwnMark
@@ -68,33 +68,33 @@ own_mark Insert own = own.insert
 own_mark Current own = own.current
 
 -- the own marks with one of them changed
-abbrev pub own_with : OwnMark → Mark → WidgetValue → WidgetValue
-own_with Insert m own = record own { insert = m }
-own_with Current m own = record own { current = m }
+abbrev pub widget_with : OwnMark → Mark → WidgetValue → WidgetValue
+widget_with Insert m own = record own { insert = m }
+widget_with Current m own = record own { current = m }
 
 -- one of them set at a place: it keeps its gravity
-abbrev pub own_set : OwnMark → ℕ → WidgetValue → WidgetValue
-own_set which place own = own_with which (record (own_mark which own) { place = place }) own
+abbrev pub widget_with_place : OwnMark → ℕ → WidgetValue → WidgetValue
+widget_with_place which place own = widget_with which (record (own_mark which own) { place = place }) own
 
 -- where an own mark comes to stand in a text of n characters: `insert` never behind the last newline
 abbrev pub own_place : OwnMark → ℕ → ℕ → ℕ
 own_place Insert n place = min place (n - 1)
 own_place Current n place = place
 
-abbrev pub own_with_gravity : OwnMark → Gravity → WidgetValue → WidgetValue
-own_with_gravity which gravity own = own_with which (record (own_mark which own) { gravity = gravity }) own
+abbrev pub widget_with_gravity : OwnMark → Gravity → WidgetValue → WidgetValue
+widget_with_gravity which gravity own = widget_with which (record (own_mark which own) { gravity = gravity }) own
 
 -- they move with the text as all marks do: n characters inserted at a place
-abbrev pub own_inserted : ℕ → ℕ → WidgetValue → WidgetValue
-own_inserted place n own = record own { insert = mark_inserted place n own.insert; current = mark_inserted place n own.current }
+abbrev pub widget_inserted : ℕ → ℕ → WidgetValue → WidgetValue
+widget_inserted place n own = record own { insert = mark_inserted place n own.insert; current = mark_inserted place n own.current }
 
 -- n characters removed from a place on
-abbrev pub own_removed : ℕ → ℕ → WidgetValue → WidgetValue
-own_removed place n own = record own { insert = mark_removed place n own.insert; current = mark_removed place n own.current }
+abbrev pub widget_removed : ℕ → ℕ → WidgetValue → WidgetValue
+widget_removed place n own = record own { insert = mark_removed place n own.insert; current = mark_removed place n own.current }
 
 -- the characters at some places removed
-abbrev pub own_left : (ℕ → Bool) → WidgetValue → WidgetValue
-own_left removed own = record own { insert = mark_left removed own.insert; current = mark_left removed own.current }
+abbrev pub widget_without : (ℕ → Bool) → WidgetValue → WidgetValue
+widget_without removed own = record own { insert = mark_left removed own.insert; current = mark_left removed own.current }
 
 -- own marks of a text of n characters: they stand in it, and `insert` never behind the last newline
 pub record IsOwnOf (n : ℕ) (own : WidgetValue) : Type 0 where
@@ -108,7 +108,7 @@ pub record IsOwnOf (n : ℕ) (own : WidgetValue) : Type 0 where
 pub record AreWidgetsOf (cells : List TaggedCell) (first : WidgetValue) (rest : List WidgetValue) : Type 0 where
   pub own : IsOwnOf (length (text_of cells)) first
   pub others : AllByRecursion (IsOwnOf (length (text_of cells))) rest
-  pub limits : AllByRecursion (AreInOrder cells) (map (λ own. own.limits) (first ∷ rest))
+  pub limits : AllByRecursion (LimitsAreInOrder cells) (map (λ own. own.limits) (first ∷ rest))
 
 -- ALL MARKS OF A WIDGET
 
@@ -128,7 +128,7 @@ own_or (Some which) own other = Some (own_mark which own)
 own_or None own other = other
 
 abbrev pub mark_among : WidgetValue → List Mark → List ℕ → Option Mark
-mark_among own marks name = own_or (own_mark_of name) own (named name marks)
+mark_among own marks name = own_or (own_mark_of name) own (mark_of_name name marks)
 
 -- WHAT A WIDGET SHOWS
 
@@ -200,16 +200,16 @@ abbrev pub mark_seen : Stretch → Mark → Mark
 mark_seen stretch m = record m { place = seen_place stretch m.place }
 
 -- own marks likewise, the insertion cursor never behind the last newline
-abbrev pub own_seen : Stretch → WidgetValue → WidgetValue
-own_seen stretch own =
+abbrev pub widget_seen : Stretch → WidgetValue → WidgetValue
+widget_seen stretch own =
     record own { insert = record own.insert { place = seen_cursor stretch own.insert.place }; current = mark_seen stretch own.current }
 
 -- the site's marks, in order, and the widget's own, by their places among the characters that it shows
 abbrev pub marks_shown : ViewValue → List Mark
 marks_shown view = in_order (map (mark_seen (stretch_by view)) view.doc.marks)
 
-abbrev pub own_shown : ViewValue → WidgetValue
-own_shown view = own_seen (stretch_by view) view.own
+abbrev pub widget_shown : ViewValue → WidgetValue
+widget_shown view = widget_seen (stretch_by view) view.own
 
 -- other marks of the site, or another order of its tags
 abbrev pub with_marks : ViewValue → List Mark → ViewValue
@@ -227,11 +227,11 @@ abbrev pub places_in_text : ViewValue → (ℕ → Bool) → ℕ → Bool
 places_in_text view test = places_from (begin_of view) (λ place. nat_lt place (length_shown view) && test place)
 
 abbrev pub mark_of : ViewValue → List ℕ → Option Mark
-mark_of view name = mark_among (own_shown view) (marks_shown view) name
+mark_of view name = mark_among (widget_shown view) (marks_shown view) name
 
 -- all marks that the widget has, in order
 abbrev pub marks_of : ViewValue → List Mark
-marks_of view = with_mark (own_shown view).insert (with_mark (own_shown view).current (marks_shown view))
+marks_of view = with_mark (widget_shown view).insert (with_mark (widget_shown view).current (marks_shown view))
 
 -- TAGS
 

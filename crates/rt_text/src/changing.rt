@@ -2,8 +2,8 @@
 ghost use Rattle.std.specs.Prelude.{◌≡◌, ◌+◌, ◌≤◌, All, length, map};
 ghost use Rattle.std.specs.List.{AllByRecursion};
 ghost use Rattle.rt_revert.specs.Plans.{IsTextChange, marks_after, marks_changed};
-ghost use Rattle.rt_text.specs.Changes.{own_after, own_changed, own_renamed};
-ghost use Rattle.rt_text.specs.Owned.{own_of};
+ghost use Rattle.rt_text.specs.Changes.{widget_after, widget_changed, widget_renamed};
+ghost use Rattle.rt_text.specs.Owned.{widget_value};
 
 use crate::Widget;
 use crate::moving::move_back;
@@ -40,7 +40,7 @@ impl Widget {
         requires change { IsTextChange change.now }
         requires insert { self.old.insert.place + 1 ≤ usize.MAX }
         requires current { self.old.current.place + 1 ≤ usize.MAX }
-        ensures { own_of self.new ≡ own_changed change.now (own_of self.old) }
+        ensures { widget_value self.new ≡ widget_changed change.now (widget_value self.old) }
     {
         match change {
             TextChange::Removed(ranges) => self.leave(ranges),
@@ -53,7 +53,7 @@ impl Widget {
         requires changes { AllByRecursion IsTextChange changes.now }
         requires insert { self.old.insert.place + length changes.now ≤ usize.MAX }
         requires current { self.old.current.place + length changes.now ≤ usize.MAX }
-        ensures { own_of self.new ≡ own_after changes.now (own_of self.old) }
+        ensures { widget_value self.new ≡ widget_after changes.now (widget_value self.old) }
     {
         for change in changes {
             self.change(change);
@@ -62,7 +62,7 @@ impl Widget {
 
     // Has its limits follow characters that came back. It takes no memory.
     fn rename(&mut self, returns: &[Return])
-        ensures { own_of self.new ≡ own_renamed returns.now (own_of self.old) }
+        ensures { widget_value self.new ≡ widget_renamed returns.now (widget_value self.old) }
     {
         for r in returns {
             self.limits = self.limits.renamed(r.former, r.newer);
@@ -75,7 +75,7 @@ impl Widget {
         requires changes { AllByRecursion IsTextChange changes.now }
         requires insert { self.old.insert.place + length changes.now ≤ usize.MAX }
         requires current { self.old.current.place + length changes.now ≤ usize.MAX }
-        ensures { own_of self.new ≡ own_renamed returns.now (own_after changes.now (own_of self.old)) }
+        ensures { widget_value self.new ≡ widget_renamed returns.now (widget_after changes.now (widget_value self.old)) }
     {
         self.change_all(changes);
         self.rename(returns);
@@ -98,8 +98,8 @@ pub(crate) fn revert_all(
     requires others { All (λ other. (other.insert.place + length changes.now ≤ usize.MAX)
         × (other.current.place + length changes.now ≤ usize.MAX)) others.old }
     ensures marks { marks.new ≡ marks_after changes.now marks.old }
-    ensures own { own_of widget.new ≡ own_renamed returns.now (own_after changes.now (own_of widget.old)) }
-    ensures others { map own_of others.new ≡ map (λ own. own_renamed returns.now (own_after changes.now own)) (map own_of others.old) }
+    ensures own { widget_value widget.new ≡ widget_renamed returns.now (widget_after changes.now (widget_value widget.old)) }
+    ensures others { map widget_value others.new ≡ map (λ own. widget_renamed returns.now (widget_after changes.now own)) (map widget_value others.old) }
 {
     move_for_all(marks, changes);
     widget.revert(changes, returns);

@@ -6,8 +6,8 @@ ghost use Rattle.rt_tags.specs.Tags.{is_listed, is_ready};
 ghost use Rattle.rt_ops.specs.Edits.{body_of};
 ghost use Rattle.rt_ops.specs.Rules.{keeps_rules};
 ghost use Rattle.rt_rga.specs.Taken.{AreFallingRuns, is_in_runs, lists_of};
-ghost use Rattle.rt_text.specs.Owned.{own_of};
-ghost use Rattle.rt_text.specs.Widgets.{own_inserted, own_left};
+ghost use Rattle.rt_text.specs.Owned.{widget_value};
+ghost use Rattle.rt_text.specs.Widgets.{widget_inserted, widget_without};
 
 use crate::Widget;
 use crate::preparing::prepare_tags;
@@ -63,7 +63,8 @@ impl Widget {
         requires runs { (end : ℕ) × AreFallingRuns end change.now.removed.items }
         requires insert { self.old.insert.place + change.now.inserted ≤ usize.MAX }
         requires current { self.old.current.place + change.now.inserted ≤ usize.MAX }
-        ensures { own_of self.new ≡ own_left (is_in_runs change.now.removed.items) (own_inserted change.now.place change.now.inserted (own_of self.old)) }
+        ensures { widget_value self.new ≡ widget_without (is_in_runs change.now.removed.items)
+            (widget_inserted change.now.place change.now.inserted (widget_value self.old)) }
     {
         self.inserted(change.place, change.inserted);
         for run in &change.removed {

@@ -1,12 +1,12 @@
 // What index expressions see of a widget.
 ghost use Rattle.std.specs.Prelude.{◌≡◌, ℕ, ◌≤◌, List, IsSome, map, length};
-ghost use Rattle.rt_marks.specs.Marks.{IsName, named};
+ghost use Rattle.rt_marks.specs.Marks.{IsName, mark_of_name};
 ghost use Rattle.rt_stamps.specs.declared.limits.TheConstants.{MOST_CELLS};
 ghost use Rattle.rt_stamps.specs.Places.{line_of};
 ghost use Rattle.rt_store.specs.Cells.{text_of};
 ghost use Rattle.rt_plans.specs.Listed.{AreListed};
 ghost use Rattle.rt_store.specs.Shown.{shown};
-ghost use Rattle.rt_text.specs.Owned.{own_of};
+ghost use Rattle.rt_text.specs.Owned.{widget_value};
 ghost use Rattle.rt_text.specs.Lines.{AreLines};
 
 use crate::characters::{last_within, next_within};
@@ -36,7 +36,7 @@ pub(crate) struct WidgetGround<'a, S: TextStore> {
     ghost few: { length (text_of (map (shown states.now) (S.list store.now))) ≤ MOST_CELLS },
     ghost lines: { AreLines (text_of (map (shown states.now) (S.list store.now))) stretch },
     ghost begins: { first ≡ line_of (text_of (map (shown states.now) (S.list store.now))) stretch.begin },
-    ghost names: { (name : List ℕ) → IsSome (named name marks.now) → IsName name },
+    ghost names: { (name : List ℕ) → IsSome (mark_of_name name marks.now) → IsName name },
 }
 
 impl<'a, S: TextStore> Ground for WidgetGround<'a, S> {
@@ -45,7 +45,7 @@ impl<'a, S: TextStore> Ground for WidgetGround<'a, S> {
     ghost use Rattle.std.specs.Prelude.{map};
     ghost use Rattle.rt_store.specs.Shown.{shown};
 
-    ghost widget = { λ g. widget_over g.stretch (map (shown g.states.now) (S.list g.store.now)) g.marks.now g.tags.now.names (own_of g.widget.now) };
+    ghost widget = { λ g. widget_over g.stretch (map (shown g.states.now) (S.list g.store.now)) g.marks.now g.tags.now.names (widget_value g.widget.now) };
 
     fn len(&self) -> usize {
         self.stretch.end - self.stretch.begin
@@ -114,6 +114,6 @@ impl<'a, S: TextStore> Ground for WidgetGround<'a, S> {
         Some(last + 1)
     }
 
-    ghost proper = { λ g. proper_over g.stretch (map (shown g.states.now) (S.list g.store.now)) g.marks.now g.tags.now.names (own_of g.widget.now)
+    ghost proper = { λ g. proper_over g.stretch (map (shown g.states.now) (S.list g.store.now)) g.marks.now g.tags.now.names (widget_value g.widget.now)
         g.lines g.few g.names g.listed };
 }

@@ -5,8 +5,8 @@ ghost use Rattle.rt_marks.specs.Marks.{marks_inserted};
 ghost use Rattle.rt_plans.specs.InsertionPlans.{selected_between};
 ghost use Rattle.rt_plans.specs.Selected.{room_in, selected_stamps};
 ghost use Rattle.rt_plans.specs.Selections.{with_stamps};
-ghost use Rattle.rt_text.specs.Owned.{HaveRoomFor, own_of};
-ghost use Rattle.rt_text.specs.Widgets.{own_inserted, reselected};
+ghost use Rattle.rt_text.specs.Owned.{HaveRoomFor, widget_value};
+ghost use Rattle.rt_text.specs.Widgets.{widget_inserted, reselected};
 
 use crate::Widget;
 use crate::others::insert_each;
@@ -28,7 +28,7 @@ pub(crate) fn select_all(
     requires selected { length selected.now ≤ room_in selection.old }
     requires between { HaveRoomFor between.now others.old }
     ensures selection { selected_stamps selection.new ≡ with_stamps selected.now (selected_stamps selection.old) }
-    ensures others { map own_of others.new ≡ map (reselected (selected_between between.now)) (map own_of others.old) }
+    ensures others { map widget_value others.new ≡ map (reselected (selected_between between.now)) (map widget_value others.old) }
 {
     selection.add(selected);
     select_between(others, between);
@@ -49,8 +49,8 @@ pub(crate) fn insert_all(
     requires current { widget.old.current.place + n ≤ usize.MAX }
     requires others { All (λ other. (other.insert.place + n ≤ usize.MAX) × (other.current.place + n ≤ usize.MAX)) others.old }
     ensures marks { marks.new ≡ marks_inserted place n marks.old }
-    ensures own { own_of widget.new ≡ own_inserted place n (own_of widget.old) }
-    ensures others { map own_of others.new ≡ map (own_inserted place n) (map own_of others.old) }
+    ensures own { widget_value widget.new ≡ widget_inserted place n (widget_value widget.old) }
+    ensures others { map widget_value others.new ≡ map (widget_inserted place n) (map widget_value others.old) }
 {
     marks.inserted(place, n);
     widget.inserted(place, n);

@@ -4,8 +4,8 @@ ghost use Rattle.rt_marks.specs.Marks.{marks_left};
 ghost use Rattle.rt_plans.specs.Removals.{is_covered, RangesFollow};
 ghost use Rattle.rt_plans.specs.Selected.{room_in, selected_stamps};
 ghost use Rattle.rt_plans.specs.Selections.{unselected};
-ghost use Rattle.rt_text.specs.Owned.{own_of};
-ghost use Rattle.rt_text.specs.Widgets.{own_left, reselected};
+ghost use Rattle.rt_text.specs.Owned.{widget_value};
+ghost use Rattle.rt_text.specs.Widgets.{widget_without, reselected};
 
 use crate::Widget;
 use crate::others::{leave_each, remove_from_each};
@@ -32,7 +32,7 @@ impl Widget {
     /// Moves its marks for ranges that are removed, the last range first.
     pub(crate) fn leave(&mut self, removed: &[Range])
         requires { RangesFollow 0 removed.now }
-        ensures { own_of self.new ≡ own_left (is_covered removed.now) (own_of self.old) }
+        ensures { widget_value self.new ≡ widget_without (is_covered removed.now) (widget_value self.old) }
     {
         let mut i = removed.len();
         while i > 0 {
@@ -52,8 +52,8 @@ pub(crate) fn leave_all(
 )
     requires { RangesFollow 0 removed.now }
     ensures marks { marks.new ≡ marks_left (is_covered removed.now) marks.old }
-    ensures own { own_of widget.new ≡ own_left (is_covered removed.now) (own_of widget.old) }
-    ensures others { map own_of others.new ≡ map (own_left (is_covered removed.now)) (map own_of others.old) }
+    ensures own { widget_value widget.new ≡ widget_without (is_covered removed.now) (widget_value widget.old) }
+    ensures others { map widget_value others.new ≡ map (widget_without (is_covered removed.now)) (map widget_value others.old) }
 {
     move_back(marks, removed);
     widget.leave(removed);
@@ -64,8 +64,8 @@ pub(crate) fn leave_all(
 /// holds it. It takes no memory.
 pub(crate) fn unselect(held: bool, last: Stamp, selection: &mut Selection, others: &mut [Widget])
     ensures sel { selected_stamps selection.new ≡ (if held then unselected (last ∷ []) (selected_stamps selection.old) else selected_stamps selection.old) }
-    ensures others { map own_of others.new
-        ≡ map (reselected (λ sel. if held then unselected (last ∷ []) sel else sel)) (map own_of others.old) }
+    ensures others { map widget_value others.new
+        ≡ map (reselected (λ sel. if held then unselected (last ∷ []) sel else sel)) (map widget_value others.old) }
     ensures room { room_in selection.old ≤ room_in selection.new }
     ensures kept { held ≡ false → others.new ≡ others.old }
 {
@@ -77,9 +77,9 @@ pub(crate) fn unselect(held: bool, last: Stamp, selection: &mut Selection, other
 
 /// What `unselect` does, for a widget and the others.
 pub(crate) fn unselect_last(held: bool, last: Stamp, widget: &mut Widget, others: &mut [Widget])
-    ensures own { own_of widget.new ≡ reselected (λ sel. if held then unselected (last ∷ []) sel else sel) (own_of widget.old) }
-    ensures others { map own_of others.new
-        ≡ map (reselected (λ sel. if held then unselected (last ∷ []) sel else sel)) (map own_of others.old) }
+    ensures own { widget_value widget.new ≡ reselected (λ sel. if held then unselected (last ∷ []) sel else sel) (widget_value widget.old) }
+    ensures others { map widget_value others.new
+        ≡ map (reselected (λ sel. if held then unselected (last ∷ []) sel else sel)) (map widget_value others.old) }
 {
     unselect(held, last, &mut widget.selection, others);
 }

@@ -10,7 +10,7 @@ ghost use Rattle.rt_plans.specs.Insertions.{all_listed};
 ghost use Rattle.rt_plans.specs.InsertionPlans.{selected_between};
 ghost use Rattle.rt_plans.specs.Selected.{room_in, selected_stamps};
 ghost use Rattle.rt_text.specs.Widgets.{reselected};
-ghost use Rattle.rt_text.specs.Owned.{HaveRoomFor, own_of};
+ghost use Rattle.rt_text.specs.Owned.{HaveRoomFor, widget_value};
 ghost use Rattle.rt_ops.specs.Edits.{body_of};
 ghost use Rattle.rt_rga.specs.Cells.{cells_of};
 ghost use Rattle.rt_rga.specs.Drafts.{with_drafts};
@@ -73,7 +73,7 @@ pub(crate) fn list_tags(table: &mut TagTable, names: &[String])
 // Makes room for characters between two others in the selections that have both.
 #[inline(always)]
 fn reserve_others(others: &mut [Widget], between: &Option<Between>) -> Result<(), Fault>
-    ensures same { map own_of others.new ≡ map own_of others.old }
+    ensures same { map widget_value others.new ≡ map widget_value others.old }
     ensures room { OnOk result (HaveRoomFor between.now others.new) }
     ensures err { IsOkUnless result Fault.NoMemory }
 {
@@ -90,7 +90,7 @@ fn reserve_others(others: &mut [Widget], between: &Option<Between>) -> Result<()
 #[inline(always)]
 pub(crate) fn select_between(others: &mut [Widget], between: &Option<Between>)
     requires { HaveRoomFor between.now others.old }
-    ensures { map own_of others.new ≡ map (reselected (selected_between between.now)) (map own_of others.old) }
+    ensures { map widget_value others.new ≡ map (reselected (selected_between between.now)) (map widget_value others.old) }
 {
     match between {
         Some(between) => {
@@ -112,7 +112,7 @@ fn make_room(
     requires { All (λ w. IsName (string_bytes w)) plan.now.names.items }
     ensures tags { tags.new.names ≡ tags.old.names }
     ensures selection { selected_stamps selection.new ≡ selected_stamps selection.old }
-    ensures others { map own_of others.new ≡ map own_of others.old }
+    ensures others { map widget_value others.new ≡ map widget_value others.old }
     ensures ready { OnOk result (All (λ w. is_ready (string_bytes w) tags.new ≡ true) plan.now.names.items) }
     ensures selects { OnOk result (length plan.now.selected.items ≤ room_in selection.new) }
     ensures between { OnOk result (HaveRoomFor plan.now.between others.new) }
@@ -146,7 +146,7 @@ pub(crate) fn make_planned<S: TextStore>(
     ensures limit { replica.new.limit ≡ replica.old.limit }
     ensures tags { tags.new.names ≡ tags.old.names }
     ensures selection { selected_stamps selection.new ≡ selected_stamps selection.old }
-    ensures others { map own_of others.new ≡ map own_of others.old }
+    ensures others { map widget_value others.new ≡ map widget_value others.old }
     ensures ready { OnOk result (All (λ w. is_ready (string_bytes w) tags.new ≡ true) plan.now.names.items) }
     ensures selects { OnOk result (length plan.now.selected.items ≤ room_in selection.new) }
     ensures between { OnOk result (HaveRoomFor plan.now.between others.new) }

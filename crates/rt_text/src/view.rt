@@ -4,9 +4,9 @@ ghost use Rattle.std.specs.List.{AllByRecursion, remove};
 ghost use Rattle.rt_stamps.specs.declared.limits.TheConstants.{MOST_CELLS};
 ghost use Rattle.rt_store.specs.Cells.{final_cell, text_of};
 ghost use Rattle.rt_plans.specs.DocValue.{new_doc};
-ghost use Rattle.rt_text.specs.Owned.{own_of};
-ghost use Rattle.rt_text.specs.Widgets.{IsOwnOf, limits_of, new_own};
-ghost use Rattle.rt_lines.specs.Ordered.{AreInOrder};
+ghost use Rattle.rt_text.specs.Owned.{widget_value};
+ghost use Rattle.rt_text.specs.Widgets.{IsOwnOf, limits_of, new_widget};
+ghost use Rattle.rt_lines.specs.Ordered.{LimitsAreInOrder};
 
 mod accepting;
 mod editing;
@@ -50,14 +50,14 @@ impl<S: TextStore> Drop for View<S> {
 
 impl<S: TextStore> Model for View<S> {
     ghost use Rattle.std.specs.Prelude.{map};
-    ghost use Rattle.rt_text.specs.Owned.{own_of, view_of};
+    ghost use Rattle.rt_text.specs.Owned.{widget_value, view_of};
     ghost use Rattle.rt_text.specs.Widgets.{AreWidgetsOf, ViewValue};
 
     ghost Value = { ViewValue };
 
     ghost view = { λ v. view_of v.doc v.widget v.others.items };
 
-    ghost invariant = { λ v. AreWidgetsOf v.doc.cells (own_of v.widget) (map own_of v.others.items) };
+    ghost invariant = { λ v. AreWidgetsOf v.doc.cells (widget_value v.widget) (map widget_value v.others.items) };
 }
 
 impl<S: TextStore> View<S> {
@@ -66,7 +66,7 @@ impl<S: TextStore> View<S> {
     pub fn new(alloc: Global, store: S, site: Site, limit: usize) -> Result<View<S>, Fault>
         requires store { S.list store ≡ final_cell ∷ [] }
         requires limit { (1 ≤ limit) × (limit ≤ MOST_CELLS) }
-        ensures ok { IfOk result (λ view. view ≡ record { doc = new_doc site.number limit; own = new_own; others = [] }) }
+        ensures ok { IfOk result (λ view. view ≡ record { doc = new_doc site.number limit; own = new_widget; others = [] }) }
         ensures err { IsOkUnless result Fault.NoMemory }
     {
         let doc = Doc::new(alloc, store, site, limit)?;
@@ -88,9 +88,9 @@ impl<S: TextStore> View<S> {
     /// The widget. The limits of each widget of the site are none or newlines of the text, gone or not, that at the start
     /// before the one at the end.
     pub fn widget(&self) -> &Widget
-        ensures own { own_of result.now ≡ self.now.own }
+        ensures own { widget_value result.now ≡ self.now.own }
         ensures stands { IsOwnOf (length (text_of self.now.doc.cells)) self.now.own }
-        ensures limits { AllByRecursion (AreInOrder self.now.doc.cells) (limits_of self.now) }
+        ensures limits { AllByRecursion (LimitsAreInOrder self.now.doc.cells) (limits_of self.now) }
     {
         &self.widget
     }

@@ -2,8 +2,8 @@
 ghost use Rattle.std.specs.Prelude.{◌≡◌, length, map};
 ghost use Rattle.std.specs.List.{AllByRecursion};
 ghost use Rattle.rt_store.specs.Cells.{text_of};
-ghost use Rattle.rt_lines.specs.Ordered.{AreInOrder};
-ghost use Rattle.rt_text.specs.Owned.{own_of, view_of};
+ghost use Rattle.rt_lines.specs.Ordered.{LimitsAreInOrder};
+ghost use Rattle.rt_text.specs.Owned.{widget_value, view_of};
 ghost use Rattle.rt_text.specs.Widgets.{AreWidgetsOf, IsOwnOf, limits_of};
 
 mod cursors;
@@ -28,14 +28,14 @@ pub struct ViewRef<'a, S: TextStore> {
 
 impl<'a, S: TextStore> Model for ViewRef<'a, S> {
     ghost use Rattle.std.specs.Prelude.{map};
-    ghost use Rattle.rt_text.specs.Owned.{own_of, view_of};
+    ghost use Rattle.rt_text.specs.Owned.{widget_value, view_of};
     ghost use Rattle.rt_text.specs.Widgets.{AreWidgetsOf, ViewValue};
 
     ghost Value = { ViewValue };
 
     ghost view = { λ v. view_of v.doc.now v.widget.now v.others.now };
 
-    ghost invariant = { λ v. AreWidgetsOf v.doc.now.cells (own_of v.widget.now) (map own_of v.others.now) };
+    ghost invariant = { λ v. AreWidgetsOf v.doc.now.cells (widget_value v.widget.now) (map widget_value v.others.now) };
 }
 
 impl<'a, S: TextStore> ViewRef<'a, S> {
@@ -46,7 +46,7 @@ impl<'a, S: TextStore> ViewRef<'a, S> {
         widget: &'a Widget,
         others: &'a [Widget],
     ) -> ViewRef<'a, S>
-        requires { AreWidgetsOf doc.now.cells (own_of widget.now) (map own_of others.now) }
+        requires { AreWidgetsOf doc.now.cells (widget_value widget.now) (map widget_value others.now) }
         ensures { result ≡ view_of doc.now widget.now others.now }
     {
         ViewRef {
@@ -67,9 +67,9 @@ impl<'a, S: TextStore> ViewRef<'a, S> {
     /// The widget. The limits of each widget of the site are none or newlines of the text, gone or not, that at the start
     /// before the one at the end.
     pub fn widget(&self) -> &'a Widget
-        ensures own { own_of result.now ≡ self.now.own }
+        ensures own { widget_value result.now ≡ self.now.own }
         ensures stands { IsOwnOf (length (text_of self.now.doc.cells)) self.now.own }
-        ensures limits { AllByRecursion (AreInOrder self.now.doc.cells) (limits_of self.now) }
+        ensures limits { AllByRecursion (LimitsAreInOrder self.now.doc.cells) (limits_of self.now) }
     {
         self.widget
     }

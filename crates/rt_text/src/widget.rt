@@ -5,8 +5,8 @@ ghost use Rattle.rt_plans.specs.Removals.{RangesFollow, is_covered, stamps_at};
 ghost use Rattle.rt_plans.specs.Selected.{room_in, selected_stamps};
 ghost use Rattle.rt_plans.specs.Selections.{selection_with, unselected};
 ghost use Rattle.rt_store.specs.Cells.{visible_of};
-ghost use Rattle.rt_text.specs.Owned.{own_of, selects_both};
-ghost use Rattle.rt_text.specs.Widgets.{new_own, own_at, own_inserted, own_mark, own_removed, own_set, own_with_gravity, reselected};
+ghost use Rattle.rt_text.specs.Owned.{widget_value, selects_both};
+ghost use Rattle.rt_text.specs.Widgets.{new_widget, widget_at, widget_inserted, own_mark, widget_removed, widget_with_place, widget_with_gravity, reselected};
 
 use crate::OwnMark;
 use rt_lines::Limits;
@@ -52,14 +52,14 @@ impl Widget {
     /// A new widget, whose marks stand at the beginning with right gravity, which has selected nothing,
     /// and shows all lines. It takes no memory.
     pub(crate) fn new(alloc: Global) -> Widget
-        ensures { own_of result ≡ new_own }
+        ensures { widget_value result ≡ new_widget }
     {
         Widget::at(alloc, 0, Limits::none())
     }
 
     /// A new widget with limits, whose marks stand where what it shows begins.
     pub(crate) fn at(alloc: Global, begin: usize, limits: Limits) -> Widget
-        ensures { own_of result ≡ own_at begin limits }
+        ensures { widget_value result ≡ widget_at begin limits }
     {
         let start = NamelessMark {
             place: begin,
@@ -75,21 +75,21 @@ impl Widget {
 
     /// The limits of what it shows.
     pub fn limits(&self) -> Limits
-        ensures { result ≡ (own_of self.now).limits }
+        ensures { result ≡ (widget_value self.now).limits }
     {
         self.limits
     }
 
     /// Sets the limits of what it shows.
     pub(crate) fn set_limits(&mut self, limits: Limits)
-        ensures { own_of self.new ≡ record (own_of self.old) { limits = limits } }
+        ensures { widget_value self.new ≡ record (widget_value self.old) { limits = limits } }
     {
         self.limits = limits;
     }
 
     /// The place of one of its marks.
     pub fn place(&self, which: OwnMark) -> usize
-        ensures { result ≡ (own_mark which (own_of self.now)).place }
+        ensures { result ≡ (own_mark which (widget_value self.now)).place }
     {
         match which {
             OwnMark::Insert => self.insert.place,
@@ -99,7 +99,7 @@ impl Widget {
 
     /// The gravity of one of its marks.
     pub fn gravity(&self, which: OwnMark) -> Gravity
-        ensures { result ≡ (own_mark which (own_of self.now)).gravity }
+        ensures { result ≡ (own_mark which (widget_value self.now)).gravity }
     {
         match which {
             OwnMark::Insert => self.insert.gravity,
@@ -109,7 +109,7 @@ impl Widget {
 
     /// Sets one of its marks at a place. The mark keeps its gravity.
     pub(crate) fn set(&mut self, which: OwnMark, place: usize)
-        ensures { own_of self.new ≡ own_set which place (own_of self.old) }
+        ensures { widget_value self.new ≡ widget_with_place which place (widget_value self.old) }
     {
         match which {
             OwnMark::Insert => self.insert.place = place,
@@ -119,7 +119,7 @@ impl Widget {
 
     /// Gives one of its marks a gravity. The mark keeps its place.
     pub(crate) fn set_gravity(&mut self, which: OwnMark, gravity: Gravity)
-        ensures { own_of self.new ≡ own_with_gravity which gravity (own_of self.old) }
+        ensures { widget_value self.new ≡ widget_with_gravity which gravity (widget_value self.old) }
     {
         match which {
             OwnMark::Insert => self.insert.gravity = gravity,
@@ -129,7 +129,7 @@ impl Widget {
 
     /// The characters that it has selected.
     pub(crate) fn selection(&self) -> &Selection
-        ensures { selected_stamps result.now ≡ (own_of self.now).sel }
+        ensures { selected_stamps result.now ≡ (widget_value self.now).sel }
     {
         &self.selection
     }
@@ -145,9 +145,9 @@ impl Widget {
     ) -> Result<(), Fault>
         requires order { RangesFollow 0 ranges.now }
         requires within { All (λ range. range.to ≤ length (visible_of (S.list store.now))) ranges.now }
-        ensures ok { OnOk result (own_of self.new
-            ≡ reselected (selection_with on (stamps_at (is_covered ranges.now) 0 (S.list store.now))) (own_of self.old)) }
-        ensures unchanged { OnErr result (own_of self.new ≡ own_of self.old) }
+        ensures ok { OnOk result (widget_value self.new
+            ≡ reselected (selection_with on (stamps_at (is_covered ranges.now) 0 (S.list store.now))) (widget_value self.old)) }
+        ensures unchanged { OnErr result (widget_value self.new ≡ widget_value self.old) }
         ensures err { IsOkUnless result Fault.NoMemory }
     {
         listing::select(alloc, store, &mut self.selection, ranges, on)
@@ -157,7 +157,7 @@ impl Widget {
     pub(crate) fn inserted(&mut self, place: usize, n: usize)
         requires insert { self.old.insert.place + n ≤ usize.MAX }
         requires current { self.old.current.place + n ≤ usize.MAX }
-        ensures { own_of self.new ≡ own_inserted place n (own_of self.old) }
+        ensures { widget_value self.new ≡ widget_inserted place n (widget_value self.old) }
     {
         self.insert.place = place_inserted(place, n, self.insert.place, self.insert.gravity);
         self.current.place = place_inserted(place, n, self.current.place, self.current.gravity);
@@ -165,7 +165,7 @@ impl Widget {
 
     /// Moves its marks for the `n` characters from a place on that were removed.
     pub(crate) fn removed(&mut self, place: usize, n: usize)
-        ensures { own_of self.new ≡ own_removed place n (own_of self.old) }
+        ensures { widget_value self.new ≡ widget_removed place n (widget_value self.old) }
     {
         self.insert.place = place_removed(place, n, self.insert.place);
         self.current.place = place_removed(place, n, self.current.place);
@@ -180,7 +180,7 @@ impl Widget {
 
     /// Makes room for more selected characters where both neighbours are selected. Want of memory.
     pub(crate) fn reserve_if(&mut self, left: Stamp, right: Stamp, more: usize) -> Result<(), Fault>
-        ensures same { own_of self.new ≡ own_of self.old }
+        ensures same { widget_value self.new ≡ widget_value self.old }
         ensures room { OnOk result (selects_both left right self.new ≡ true → more ≤ room_in self.new.selection) }
         ensures err { IsOkUnless result Fault.NoMemory }
     {
@@ -193,7 +193,7 @@ impl Widget {
     /// Selects characters where both neighbours are selected, within the room that there is.
     pub(crate) fn select_if(&mut self, left: Stamp, right: Stamp, stamps: &[Stamp])
         requires { selects_both left right self.old ≡ true → length stamps.now ≤ room_in self.old.selection }
-        ensures { own_of self.new ≡ reselected (selected_with left right stamps.now) (own_of self.old) }
+        ensures { widget_value self.new ≡ reselected (selected_with left right stamps.now) (widget_value self.old) }
     {
         if self.has_both(left, right) {
             self.selection.add(stamps);
@@ -202,7 +202,7 @@ impl Widget {
 
     /// Takes a character out of what is selected. It takes no memory.
     pub(crate) fn unselect(&mut self, stamp: Stamp)
-        ensures { own_of self.new ≡ reselected (unselected (stamp ∷ [])) (own_of self.old) }
+        ensures { widget_value self.new ≡ reselected (unselected (stamp ∷ [])) (widget_value self.old) }
     {
         self.selection.remove_one(stamp);
     }

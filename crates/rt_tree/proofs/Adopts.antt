@@ -9,7 +9,7 @@ use Rattle.rt_tree.specs.declared.node.Run.{Run}
 use Rattle.rt_tree.specs.declared.node.Entry.{Entry}
 use Rattle.rt_tree.specs.declared.node.Entry.TheVariants.{Down, Here}
 use Rattle.rt_tree.specs.Changes.{links, bare, IsAdopted, strip, blank}
-use Rattle.rt_tree.specs.Shape.{level_of, parent_of, head_at, Memory, count_of}
+use Rattle.rt_tree.specs.Shape.{level_of, parent_of, head_at, Memory, child_count}
 use Rattle.rt_tree.proofs.Around.{count-append}
 use Rattle.rt_tree.proofs.Bares.{bare-entries}
 use Rattle.rt_tree.proofs.Raise.{not_counted, link-counted}
@@ -34,8 +34,8 @@ module _ (m m1 m2 : Memory) (q c : NodeId) (i : ℕ) (e : Entry) (a : IsAdopted 
   abbrev m3 : Memory
   m3 = with_head m1 c.index (child_head m1 q c)
 
-  counts : (x : ℕ) → count_of x (take (i + 1) (entries (bare m) q.index)) ≡ count_of x (take i (entries (bare m) q.index)) + count_of x (Down c blank ∷ [])
-  counts x = ap (count_of x) (links-more m m1 q.index i e a.rows within is ∙ ap (λ l. take i (entries (bare m) q.index) ++ l ∷ []) link) ∙ count-append x (take i (entries (bare m) q.index)) (Down c blank ∷ [])
+  counts : (x : ℕ) → child_count x (take (i + 1) (entries (bare m) q.index)) ≡ child_count x (take i (entries (bare m) q.index)) + child_count x (Down c blank ∷ [])
+  counts x = ap (child_count x) (links-more m m1 q.index i e a.rows within is ∙ ap (λ l. take i (entries (bare m) q.index) ++ l ∷ []) link) ∙ count-append x (take i (entries (bare m) q.index)) (Down c blank ∷ [])
 
   none : Head
   none = record { parent = record { index = 0 }; level = 0 }
@@ -60,7 +60,7 @@ module _ (m m1 m2 : Memory) (q c : NodeId) (i : ℕ) (e : Entry) (a : IsAdopted 
       | inr ne ↦ ap (λ (h : Head). h.parent.index) (there x ne) ∙ a.moved x xis (let z = not_counted x c (λ w. ne (sym w)) in omega (arith, counts x))
     ];
     stay = λ x z. elim (cases_eq x c.index) [
-      | inl w ↦ absurd (let o = counted_self c.index in let k = counts x in let d = ap (λ y. count_of y (Down c blank ∷ [])) w in omega arith)
+      | inl w ↦ absurd (let o = counted_self c.index in let k = counts x in let d = ap (λ y. child_count y (Down c blank ∷ [])) w in omega arith)
       | inr ne ↦ ap (λ (h : Head). h.parent.index) (there x ne) ∙ a.stay x (omega (arith, counts x))
     ];
   }
@@ -72,7 +72,7 @@ module _ (m m1 m2 : Memory) (q c : NodeId) (i : ℕ) (e : Entry) (a : IsAdopted 
 pub passed : (m m1 : Memory) (q i : ℕ) (e : Entry) (r : Run) → IsAdopted m m1 q (take i (entries (bare m) q)) → i < length (entries m1 q) → e ≡ get_or (entries m1 q) i e → (strip e) ≡ Here r → IsAdopted m m1 q (take (i + 1) (entries (bare m) q))
 passed m m1 q i e r a within is link =
     let ls = entries (bare m) q in
-    let counts = λ (x : ℕ). ap (count_of x) (links-more m m1 q i e a.rows within is ∙ ap (λ l. take i ls ++ l ∷ []) link) ∙ count-append x (take i ls) (Here r ∷ []) in
+    let counts = λ (x : ℕ). ap (child_count x) (links-more m m1 q i e a.rows within is ∙ ap (λ l. take i ls ++ l ∷ []) link) ∙ count-append x (take i ls) (Here r ∷ []) in
     record {
       rows = a.rows;
       room = a.room;
@@ -83,11 +83,11 @@ passed m m1 q i e r a within is link =
     }
 
 -- a child that stands in an entry is counted among the links
-pub kid_in : (m m1 : Memory) (q i : ℕ) (e : Entry) (c : NodeId) → m1.rows ≡ m.rows → i < length (entries m1 q) → e ≡ get_or (entries m1 q) i e → (strip e) ≡ Down c blank → 0 < count_of c.index (entries (bare m) q)
+pub kid_in : (m m1 : Memory) (q i : ℕ) (e : Entry) (c : NodeId) → m1.rows ≡ m.rows → i < length (entries m1 q) → e ≡ get_or (entries m1 q) i e → (strip e) ≡ Down c blank → 0 < child_count c.index (entries (bare m) q)
 kid_in m m1 q i e c same lt is link =
     let es = ap (λ (x : List (List Entry)). get_or x q []) same in
     let k = link-counted c.index (entries m1 q) i e lt is in
     let one = counted_self c.index in
-    let l = ap (λ x. count_of c.index (x ∷ [])) link in
-    let b = ap (count_of c.index) (bare-entries m q ∙ ap links (sym es)) in
+    let l = ap (λ x. child_count c.index (x ∷ [])) link in
+    let b = ap (child_count c.index) (bare-entries m q ∙ ap links (sym es)) in
     omega arith

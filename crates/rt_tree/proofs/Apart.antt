@@ -7,7 +7,7 @@ use Rattle.std.proofs.lemmas.List.Elements.{filter-append}
 use Rattle.rt_stamps.specs.declared.stamp.Stamp.{Stamp}
 use Rattle.rt_store.proofs.Distinct.{split}
 use Rattle.rt_tree.specs.declared.node.Run.{Run}
-use Rattle.rt_tree.specs.Runs.{IsRun, has}
+use Rattle.rt_tree.specs.Runs.{IsRun, has_cell}
 use Rattle.rt_tree.specs.Sharing.{AreApart, AreParts, BeginsAt, IsInside, is_long_with, long_with}
 use Rattle.rt_tree.specs.Stretches.{back_of, front_of}
 use Rattle.rt_tree.proofs.CellLaws.{all_left}
@@ -40,11 +40,11 @@ apart_cut r k b some lt a is stamp =
     omega (arith, n, m, o, c, h)
 
 front_begins : (stamp : Stamp) (r : Run) (k : ℕ) → k < r.len → BeginsAt stamp r → BeginsAt stamp (front_of k r)
-front_begins stamp r k lt is h = let there : has r stamp ≡ true = grind (arith, nat_tests) in is there
+front_begins stamp r k lt is h = let there : has_cell r stamp ≡ true = grind (arith, nat_tests) in is there
 
 back_begins : (stamp : Stamp) (r : Run) (k : ℕ) → 0 < k → k < r.len → BeginsAt stamp r → BeginsAt stamp (back_of k r)
 back_begins stamp r k some lt is h =
-    let there : has r stamp ≡ true = grind (arith, nat_tests) in
+    let there : has_cell r stamp ≡ true = grind (arith, nat_tests) in
     let e = is there in
     absurd (grind (arith, nat_tests))
 
@@ -61,7 +61,7 @@ alone_begins stamp text (r ∷ rs) none some =
     let c = long-cons stamp r rs in
     (λ h. short r h (omega (arith, c, none)) some.0.some, alone_begins stamp text rs (omega (arith, c, none)) some.1)
   where
-    short : (x : Run) → has x stamp ≡ true → bit (is_long_with stamp x) ≡ 0 → 0 < x.len → x.first ≡ stamp.count
+    short : (x : Run) → has_cell x stamp ≡ true → bit (is_long_with stamp x) ≡ 0 → 0 < x.len → x.first ≡ stamp.count
     short x h e some = grind (arith, nat_tests)
 
 all_right : (text : List ℕ) (a b : List Run) → AllByRecursion (IsRun text) (a ++ b) → AllByRecursion (IsRun text) b

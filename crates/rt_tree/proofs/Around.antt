@@ -7,7 +7,7 @@ use Rattle.rt_tree.specs.declared.node.Run.{Run}
 use Rattle.rt_tree.specs.declared.node.Entry.{Entry}
 use Rattle.rt_tree.specs.declared.node.Entry.TheVariants.{Down, Here}
 use Rattle.rt_tree.specs.declared.node.Totals.{Totals}
-use Rattle.rt_tree.specs.Shape.{Memory, IsShape, all_below, below, runs, count_of, left_of, right_of, around, ahead, behind, level_of, parent_of}
+use Rattle.rt_tree.specs.Shape.{Memory, IsShape, all_below, below, runs, child_count, left_of, right_of, around, ahead, behind, level_of, parent_of}
 
 -- a test that holds, or not
 pub test_same : {X : Type 0} (a b : ℕ) (x y : X) → a ≡ b → (if a == b then x else y) ≡ x
@@ -28,7 +28,7 @@ leads_to (Here r) id = ⊥
 leads_to (Down c t) id = c.index ≡ id
 
 -- a node that is found is counted
-pub count-at : (id : ℕ) (es : List Entry) (i : ℕ) (e : Entry) → i < length es → e ≡ get_or es i e → leads_to e id → 0 < count_of id es
+pub count-at : (id : ℕ) (es : List Entry) (i : ℕ) (e : Entry) → i < length es → e ≡ get_or es i e → leads_to e id → 0 < child_count id es
 count-at id [] i e lt is to = absurd (omega arith)
 count-at id (Here r ∷ es) zero e lt is to = absurd (subst (λ (x : Entry). leads_to x id) is to)
 count-at id (Down d t ∷ es) zero e lt is to = let h : d.index ≡ id = subst (λ (x : Entry). leads_to x id) is to in let t = test_same {X = ℕ} d.index id 1 0 h in omega arith
@@ -40,7 +40,7 @@ pub record Cut (id : ℕ) (es : List Entry) : Type 0 where
   pub totals : Totals
   pub is : es ≡ left_of id es ++ Down (node id) totals ∷ right_of id es
 
-pub cut_around : (id : ℕ) (es : List Entry) → 0 < count_of id es → Cut id es
+pub cut_around : (id : ℕ) (es : List Entry) → 0 < child_count id es → Cut id es
 cut_around id [] some = absurd (omega arith)
 cut_around id (Here r ∷ es) some = let c = cut_around id es some in record { totals = c.totals; is = ap (λ l. Here r ∷ l) c.is }
 cut_around id (Down d t ∷ es) some = elim (cases_eq d.index id) [
@@ -55,7 +55,7 @@ cut_around id (Down d t ∷ es) some = elim (cases_eq d.index id) [
 ]
 
 -- the entries before the place where a node stands
-pub take-left : (id : ℕ) (es : List Entry) (i : ℕ) (e : Entry) → count_of id es ≡ 1 → i < length es → e ≡ get_or es i e → leads_to e id → take i es ≡ left_of id es
+pub take-left : (id : ℕ) (es : List Entry) (i : ℕ) (e : Entry) → child_count id es ≡ 1 → i < length es → e ≡ get_or es i e → leads_to e id → take i es ≡ left_of id es
 take-left id [] i e once lt is to = absurd (omega arith)
 take-left id (Here r ∷ es) zero e once lt is to = absurd (subst (λ (x : Entry). leads_to x id) is to)
 take-left id (Down d t ∷ es) zero e once lt is to = let h : d.index ≡ id = subst (λ (x : Entry). leads_to x id) is to in sym (test_same d.index id [] (Down d t ∷ left_of id es) h)
@@ -70,7 +70,7 @@ take-left id (Down d t ∷ es) (suc i) e once lt is to =
 pub regroup : (a l m r b : List Run) → a ++ ((l ++ (m ++ r)) ++ b) ≡ (a ++ l) ++ (m ++ (r ++ b))
 regroup a l m r b = simp append_assoc
 
-pub count-append : (id : ℕ) (a b : List Entry) → count_of id (a ++ b) ≡ count_of id a + count_of id b
+pub count-append : (id : ℕ) (a b : List Entry) → child_count id (a ++ b) ≡ child_count id a + child_count id b
 count-append id [] b = omega arith
 count-append id (Here r ∷ a) b = count-append id a b
 count-append id (Down c t ∷ a) b = omega (arith, count-append id a b)

@@ -13,7 +13,7 @@ use Rattle.rt_store.proofs.Distinct.{split}
 use Rattle.rt_store.proofs.Nearest.{next_here, next_none}
 use Rattle.rt_tree.specs.declared.node.Run.{Run}
 use Rattle.rt_tree.specs.Reaches.{is_here, reached}
-use Rattle.rt_tree.specs.Runs.{IsRun, cells_of, characters, run_cells}
+use Rattle.rt_tree.specs.Runs.{IsRun, cells_of_runs, run_characters, run_cells}
 use Rattle.rt_tree.proofs.CellLaws.{gone_run, run_length, shown_run, visible-append}
 use Rattle.rt_tree.proofs.Reaching.{goes_on, here, none_gone, none_passes, own, visible}
 use Rattle.rt_tree.proofs.Tagging.{all_as, all_drop, next_past, row_states, there_is}
@@ -42,17 +42,17 @@ module _ (text : List ℕ) (f : ℕ → Bool) where
   passes cell = f cell.state
 
   abbrev pub shown_cells : List Run → List (Cell ℕ)
-  shown_cells rs = visible_of (cells_of text rs)
+  shown_cells rs = visible_of (cells_of_runs text rs)
 
   -- behind other characters
   shifted : (a b : List (Cell ℕ)) (k : ℕ) → next_place passes (a ++ b) (length a + k) ≡ option_map (λ x. length a + x) (next_place passes b k)
   shifted a b k = ap (λ l. option_map (λ x. length a + k + x) (position passes l)) (drop-append-add a b k) ∙ two_steps (length a) k (position passes (drop k b))
 
   pub gone_cells : (r : Run) (rs : List Run) → r.gone ≡ true → shown_cells (r ∷ rs) ≡ shown_cells rs
-  gone_cells r rs g = visible-append (run_cells text r) (cells_of text rs) ∙ ap (λ l. l ++ shown_cells rs) (gone_run text r g)
+  gone_cells r rs g = visible-append (run_cells text r) (cells_of_runs text rs) ∙ ap (λ l. l ++ shown_cells rs) (gone_run text r g)
 
   pub run_and_more : (r : Run) (rs : List Run) → r.gone ≡ false → shown_cells (r ∷ rs) ≡ run_cells text r ++ shown_cells rs
-  run_and_more r rs s = visible-append (run_cells text r) (cells_of text rs) ∙ ap (λ l. l ++ shown_cells rs) (shown_run text r s)
+  run_and_more r rs s = visible-append (run_cells text r) (cells_of_runs text rs) ∙ ap (λ l. l ++ shown_cells rs) (shown_run text r s)
 
   pub own_gone : (r : Run) → r.gone ≡ true → own r ≡ zero
   own_gone r g = rw g refl
@@ -61,7 +61,7 @@ module _ (text : List ℕ) (f : ℕ → Bool) where
   own_shown r s = rw s refl
 
   pub states_of : (r : Run) → AllByRecursion (λ (c : Cell ℕ). c.state ≡ r.state) (run_cells text r)
-  states_of r = row_states r.gone r.first r.site r.state (characters text r)
+  states_of r = row_states r.gone r.first r.site r.state (run_characters text r)
 
   is_there : (place : ℕ) (r : Run) → place < own r → f r.state ≡ true → is_here f place r ≡ true
   is_there place r l e = grind (arith, nat_tests)

@@ -8,7 +8,7 @@ use Rattle.rt_store.specs.Cells.{text_of, visible_of}
 use Rattle.rt_tree.specs.declared.node.Counts.{Counts}
 use Rattle.rt_tree.specs.declared.node.CountedBy.TheVariants.{Visible}
 use Rattle.rt_tree.specs.declared.node.Run.{Run}
-use Rattle.rt_tree.specs.Runs.{IsRun, cells_of, characters, run_cells}
+use Rattle.rt_tree.specs.Runs.{IsRun, cells_of_runs, run_characters, run_cells}
 use Rattle.rt_tree.specs.Walks.{StandsAt}
 use Rattle.rt_tree.proofs.CellLaws.{cells_around, characters_length, counted_left, is_run, shown_text, text-append, visible_run}
 use Rattle.rt_tree.proofs.Skipping.{drop-right}
@@ -51,18 +51,18 @@ rest_of first old new done more e n = n ∙ sym (drop-drop more done old) ∙ ap
 
 -- the characters of a text from a place on, as far as a run goes
 module _ (text : List ℕ) (all : List Run) (run : Run) (front : Counts) (offset place : ℕ) (runs : AllByRecursion (IsRun text) all) where
-  pub run_part : StandsAt Visible all run front offset place → (k : ℕ) → k ≤ run.len - offset → take k (drop place (text_of (cells_of text all))) ≡ take k (drop (run.at + offset) text)
+  pub run_part : StandsAt Visible all run front offset place → (k : ℕ) → k ≤ run.len - offset → take k (drop place (text_of (cells_of_runs text all))) ≡ take k (drop (run.at + offset) text)
   run_part st k le =
       let s = visible_run text all run front offset place runs st in
-      let before = cells_of text st.left in
-      let after = cells_of text st.right in
+      let before = cells_of_runs text st.left in
+      let after = cells_of_runs text st.right in
       let own = is_run text all run front offset place runs st.left st.right st.here in
       let l = counted_left text all run front offset place runs st.left st.right st.here in
       let f = ap (λ (x : Counts). x.visible) st.before in
-      let chars = characters text run in
+      let chars = run_characters text run in
       let long = characters_length text run own in
       let n = length-map (visible_of before) (λ (c : Cell ℕ). c.ch) in
-      let whole : text_of (cells_of text all) ≡ text_of before ++ (chars ++ text_of after) =
+      let whole : text_of (cells_of_runs text all) ≡ text_of before ++ (chars ++ text_of after) =
       ap text_of (cells_around text all run front offset place runs st.left st.right st.here)
       ∙ text-append before (run_cells text run ++ after)
       ∙ ap (λ xs. text_of before ++ xs) (text-append (run_cells text run) after ∙ ap (λ xs. xs ++ text_of after) (shown_text text run s.0)) in

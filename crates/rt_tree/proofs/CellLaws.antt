@@ -11,7 +11,7 @@ use Rattle.rt_store.proofs.Places.{length_from}
 use Rattle.rt_tree.specs.declared.node.Counts.{Counts}
 use Rattle.rt_tree.specs.declared.node.CountedBy.TheVariants.{Cells, Visible}
 use Rattle.rt_tree.specs.declared.node.Run.{Run}
-use Rattle.rt_tree.specs.Runs.{IsRun, cells_of, characters, run_cells, with_gone}
+use Rattle.rt_tree.specs.Runs.{IsRun, cells_of_runs, run_characters, run_cells, with_gone}
 use Rattle.rt_tree.specs.Sums.{counts_of}
 use Rattle.rt_tree.specs.Walks.{StandsAt}
 use Rattle.rt_tree.proofs.Down.{each-mid}
@@ -36,27 +36,27 @@ characters_from gone count site state [] = refl
 characters_from gone count site state (c ∷ text) = ap (λ l. c ∷ l) (characters_from gone (count + 1) site state text)
 
 -- how many characters and cells a run has
-pub characters_length : (text : List ℕ) (r : Run) → IsRun text r → length (characters text r) ≡ r.len
+pub characters_length : (text : List ℕ) (r : Run) → IsRun text r → length (run_characters text r) ≡ r.len
 characters_length text r is = length-take-le r.len (drop r.at text) (let h = length-drop r.at text in omega (arith, h, is.stands))
 
 pub run_length : (text : List ℕ) (r : Run) → IsRun text r → length (run_cells text r) ≡ r.len
-run_length text r is = length-map (cells_from r.first r.site r.state (characters text r)) (with_gone r.gone) ∙ length_from r.first r.site r.state (characters text r) ∙ characters_length text r is
+run_length text r is = length-map (cells_from r.first r.site r.state (run_characters text r)) (with_gone r.gone) ∙ length_from r.first r.site r.state (run_characters text r) ∙ characters_length text r is
 
 -- the text and the visible cells of a run that isn't gone, and of one that is
 pub shown_run : (text : List ℕ) (r : Run) → r.gone ≡ false → visible_of (run_cells text r) ≡ run_cells text r
 shown_run text r shown =
-    let cs = cells_from r.first r.site r.state (characters text r) in
+    let cs = cells_from r.first r.site r.state (run_characters text r) in
     let P : Bool → Type 0 = λ g. visible_of (map (with_gone g) cs) ≡ map (with_gone g) cs in
     subst P (sym shown) (all_shown cs)
 
 pub gone_run : (text : List ℕ) (r : Run) → r.gone ≡ true → visible_of (run_cells text r) ≡ []
 gone_run text r gone =
-    let cs = cells_from r.first r.site r.state (characters text r) in
+    let cs = cells_from r.first r.site r.state (run_characters text r) in
     let P : Bool → Type 0 = λ g. visible_of (map (with_gone g) cs) ≡ [] in
     subst P (sym gone) (none_shown cs)
 
-pub shown_text : (text : List ℕ) (r : Run) → r.gone ≡ false → text_of (run_cells text r) ≡ characters text r
-shown_text text r shown = ap (map (λ (c : Cell ℕ). c.ch)) (shown_run text r shown) ∙ characters_from r.gone r.first r.site r.state (characters text r)
+pub shown_text : (text : List ℕ) (r : Run) → r.gone ≡ false → text_of (run_cells text r) ≡ run_characters text r
+shown_text text r shown = ap (map (λ (c : Cell ℕ). c.ch)) (shown_run text r shown) ∙ characters_from r.gone r.first r.site r.state (run_characters text r)
 
 pub gone_text : (text : List ℕ) (r : Run) → r.gone ≡ true → text_of (run_cells text r) ≡ []
 gone_text text r gone = ap (map (λ (c : Cell ℕ). c.ch)) (gone_run text r gone)
@@ -71,16 +71,16 @@ run_newlines text r is false e = ap newlines (shown_text text r e) ∙ is.ends
 
 -- runs count what their cells do
 pub record Counted (text : List ℕ) (rs : List Run) : Type 0 where
-  pub cells : length (cells_of text rs) ≡ (counts_of rs).cells
-  pub visible : length (visible_of (cells_of text rs)) ≡ (counts_of rs).visible
-  pub newlines : newlines (text_of (cells_of text rs)) ≡ (counts_of rs).newlines
+  pub cells : length (cells_of_runs text rs) ≡ (counts_of rs).cells
+  pub visible : length (visible_of (cells_of_runs text rs)) ≡ (counts_of rs).visible
+  pub newlines : newlines (text_of (cells_of_runs text rs)) ≡ (counts_of rs).newlines
 
 pub counted : (text : List ℕ) (rs : List Run) → AllByRecursion (IsRun text) rs → Counted text rs
 counted text [] all = record { cells = refl; visible = refl; newlines = refl }
 counted text (r ∷ rs) all =
     let more = counted text rs all.1 in
     let mine = run_cells text r in
-    let rest = cells_of text rs in
+    let rest = cells_of_runs text rs in
     let c = length-append mine rest in
     let d = run_length text r all.0 in
     let v = ap length (visible-append mine rest) ∙ length-append (visible_of mine) (visible_of rest) in
@@ -119,21 +119,21 @@ module _ (text : List ℕ) (all : List Run) (run : Run) (front : Counts) (offset
   pub counted_left : (left right : List Run) → all ≡ left ++ run ∷ right → Counted text left
   counted_left left right here = counted text left (all_left text left (run ∷ right) (subst (AllByRecursion (IsRun text)) here runs))
 
-  pub cells_around : (left right : List Run) → all ≡ left ++ run ∷ right → cells_of text all ≡ cells_of text left ++ (run_cells text run ++ cells_of text right)
-  cells_around left right here = ap (cells_of text) here ∙ flat_map-append (run_cells text) left (run ∷ right)
+  pub cells_around : (left right : List Run) → all ≡ left ++ run ∷ right → cells_of_runs text all ≡ cells_of_runs text left ++ (run_cells text run ++ cells_of_runs text right)
+  cells_around left right here = ap (cells_of_runs text) here ∙ flat_map-append (run_cells text) left (run ∷ right)
 
   -- the cell at a position
-  pub nth_found : StandsAt Cells all run front offset place → slice_get (cells_of text all) place ≡ slice_get (run_cells text run) offset
+  pub nth_found : StandsAt Cells all run front offset place → slice_get (cells_of_runs text all) place ≡ slice_get (run_cells text run) offset
   nth_found st =
       let here = st.here in
       let mine = run_cells text run in
-      let before = cells_of text st.left in
+      let before = cells_of_runs text st.left in
       let l = counted_left st.left st.right here in
       let f = ap (λ (x : Counts). x.cells) st.before in
       let long = run_length text run (is_run st.left st.right here) in
       ap (λ xs. slice_get xs place) (cells_around st.left st.right here)
-      ∙ get-right before (mine ++ cells_of text st.right) place offset (omega (arith, l.cells, f, st.at))
-      ∙ get-left mine (cells_of text st.right) offset (omega (arith, long, st.inside))
+      ∙ get-right before (mine ++ cells_of_runs text st.right) place offset (omega (arith, l.cells, f, st.at))
+      ∙ get-left mine (cells_of_runs text st.right) offset (omega (arith, long, st.inside))
 
   -- a run in which a visible place is isn't gone
   pub visible_run : StandsAt Visible all run front offset place → (run.gone ≡ false) × (offset < run.len)
@@ -142,14 +142,14 @@ module _ (text : List ℕ) (all : List Run) (run : Run) (front : Counts) (offset
     shown true lt = absurd (omega arith)
     shown false lt = (refl, lt)
 
-  pub visible_around : (left right : List Run) → all ≡ left ++ run ∷ right → run.gone ≡ false → visible_of (cells_of text all) ≡ visible_of (cells_of text left) ++ (run_cells text run ++ visible_of (cells_of text right))
+  pub visible_around : (left right : List Run) → all ≡ left ++ run ∷ right → run.gone ≡ false → visible_of (cells_of_runs text all) ≡ visible_of (cells_of_runs text left) ++ (run_cells text run ++ visible_of (cells_of_runs text right))
   visible_around left right here shown =
       ap visible_of (cells_around left right here)
-      ∙ visible-append (cells_of text left) (run_cells text run ++ cells_of text right)
-      ∙ ap (λ l. visible_of (cells_of text left) ++ l) (visible-append (run_cells text run) (cells_of text right) ∙ ap (λ l. l ++ visible_of (cells_of text right)) (shown_run text run shown))
+      ∙ visible-append (cells_of_runs text left) (run_cells text run ++ cells_of_runs text right)
+      ∙ ap (λ l. visible_of (cells_of_runs text left) ++ l) (visible-append (run_cells text run) (cells_of_runs text right) ∙ ap (λ l. l ++ visible_of (cells_of_runs text right)) (shown_run text run shown))
 
   -- the visible cell at a place
-  pub visible_found : StandsAt Visible all run front offset place → slice_get (visible_of (cells_of text all)) place ≡ slice_get (run_cells text run) offset
+  pub visible_found : StandsAt Visible all run front offset place → slice_get (visible_of (cells_of_runs text all)) place ≡ slice_get (run_cells text run) offset
   visible_found st =
       let here = st.here in
       let s = visible_run st in
@@ -158,5 +158,5 @@ module _ (text : List ℕ) (all : List Run) (run : Run) (front : Counts) (offset
       let f = ap (λ (x : Counts). x.visible) st.before in
       let long = run_length text run (is_run st.left st.right here) in
       ap (λ xs. slice_get xs place) (visible_around st.left st.right here s.0)
-      ∙ get-right (visible_of (cells_of text st.left)) (mine ++ visible_of (cells_of text st.right)) place offset (omega (arith, l.visible, f, st.at))
-      ∙ get-left mine (visible_of (cells_of text st.right)) offset (omega (arith, long, s.1))
+      ∙ get-right (visible_of (cells_of_runs text st.left)) (mine ++ visible_of (cells_of_runs text st.right)) place offset (omega (arith, l.visible, f, st.at))
+      ∙ get-left mine (visible_of (cells_of_runs text st.right)) offset (omega (arith, long, s.1))

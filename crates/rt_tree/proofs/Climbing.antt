@@ -4,7 +4,7 @@ use Rattle.std.specs.Prelude.{IfSome, option_map}
 use Rattle.std.specs.List.{AllByRecursion}
 use Rattle.rt_nodes.specs.declared.memory.NodeId.{NodeId}
 use Rattle.rt_nodes.specs.Nodes.{entries}
-use Rattle.rt_spans.specs.Shown.{Shown, value_of}
+use Rattle.rt_spans.specs.Shown.{SpanMapValue, value_of}
 use Rattle.rt_stamps.specs.declared.stamp.Stamp.{Stamp}
 use Rattle.rt_store.specs.Cells.{position_of, visible_before}
 use Rattle.rt_store.proofs.Distinct.{split}
@@ -12,7 +12,7 @@ use Rattle.rt_tree.specs.declared.node.Entry.{Entry}
 use Rattle.rt_tree.specs.declared.node.Entry.TheVariants.{Down, Here}
 use Rattle.rt_tree.specs.declared.node.Run.{Run}
 use Rattle.rt_tree.specs.Homes.{AreHome, holders}
-use Rattle.rt_tree.specs.Runs.{IsRun, cells_of, has}
+use Rattle.rt_tree.specs.Runs.{IsRun, cells_of_runs, has_cell}
 use Rattle.rt_tree.specs.Shape.{Fits, IsShape, IsTree, Memory, all_below, below, level_of, runs, tree_runs}
 use Rattle.rt_tree.specs.Standing.{AreHoused, Stands}
 use Rattle.rt_tree.specs.Walks.{IsPlaceIn}
@@ -59,16 +59,16 @@ module _ (m : Memory) (height root : ℕ) (t : IsShape m height root) where
 
 -- WHERE A STAMP IS
 
-no_holders : (stamp : Stamp) (rs : List Run) → AllByRecursion (λ (r : Run). has r stamp ≡ false) rs → holders stamp rs ≡ 0
+no_holders : (stamp : Stamp) (rs : List Run) → AllByRecursion (λ (r : Run). has_cell r stamp ≡ false) rs → holders stamp rs ≡ 0
 no_holders stamp [] none = refl
-no_holders stamp (r ∷ rs) none = let c = holders-cons stamp r rs in let b : bit (has r stamp) ≡ 0 = ap bit none.0 in let z = no_holders stamp rs none.1 in omega (arith, c, b, z)
+no_holders stamp (r ∷ rs) none = let c = holders-cons stamp r rs in let b : bit (has_cell r stamp) ≡ 0 = ap bit none.0 in let z = no_holders stamp rs none.1 in omega (arith, c, b, z)
 
 -- if no run of the leaf that the map has for a stamp has it, none has
-pub not_there : (m : Memory) (root : ℕ) → IsTree m root → (leaves : Shown NodeId) → AreHoused m root leaves → (stamp : Stamp) (leaf : NodeId) → value_of leaves stamp ≡ Some leaf
-    → ((i : ℕ) (run : Run) → leaf.index < length m.heads → level_of m leaf.index ≡ 0 → slice_get (entries m leaf.index) i ≡ Some (Here run) → has run stamp ≡ false) → holders stamp (tree_runs m root) ≡ 0
+pub not_there : (m : Memory) (root : ℕ) → IsTree m root → (leaves : SpanMapValue NodeId) → AreHoused m root leaves → (stamp : Stamp) (leaf : NodeId) → value_of leaves stamp ≡ Some leaf
+    → ((i : ℕ) (run : Run) → leaf.index < length m.heads → level_of m leaf.index ≡ 0 → slice_get (entries m leaf.index) i ≡ Some (Here run) → has_cell run stamp ≡ false) → holders stamp (tree_runs m root) ≡ 0
 not_there m root t leaves h stamp leaf at none =
-    no_holders stamp (tree_runs m root) (each-all (Somewhere m (level_of m root) root t.shape) (λ (r : Run). has r stamp ≡ false)
-    (λ r somewhere. split (has r stamp)
+    no_holders stamp (tree_runs m root) (each-all (Somewhere m (level_of m root) root t.shape) (λ (r : Run). has_cell r stamp ≡ false)
+    (λ r somewhere. split (has_cell r stamp)
     (λ there.
     let same : Some leaf ≡ Some (record { index = somewhere.0 }) = sym at ∙ h.there somewhere.0 r somewhere.1 stamp there in
     let leaf_is : leaf ≡ record { index = somewhere.0 } = cc in
@@ -78,20 +78,20 @@ not_there m root t leaves h stamp leaf at none =
     (tree_runs m root) (below_node m (level_of m root) root t.shape (level_of m root) root t.shape.root_is refl))
 
 -- what was found by the leaf is the place of the stamp's cell, if there is one
-module _ (m : Memory) (root leaf : ℕ) (t : IsTree m root) (text : List ℕ) (leaves : Shown NodeId) (stamp : Stamp) (kept : AllByRecursion (IsRun text) (tree_runs m root)) (home : AreHome leaves (tree_runs m root)) where
+module _ (m : Memory) (root leaf : ℕ) (t : IsTree m root) (text : List ℕ) (leaves : SpanMapValue NodeId) (stamp : Stamp) (kept : AllByRecursion (IsRun text) (tree_runs m root)) (home : AreHome leaves (tree_runs m root)) where
   abbrev all : List Run
   all = tree_runs m root
 
-  pub nothing_climbed : holders stamp all ≡ 0 → ◌≡◌ {A = Option ℕ} None (option_map (visible_before (cells_of text all)) (position_of (cells_of text all) stamp))
-  nothing_climbed none = ap (option_map (visible_before (cells_of text all))) (no_holder text all stamp kept none)
+  pub nothing_climbed : holders stamp all ≡ 0 → ◌≡◌ {A = Option ℕ} None (option_map (visible_before (cells_of_runs text all)) (position_of (cells_of_runs text all) stamp))
+  nothing_climbed none = ap (option_map (visible_before (cells_of_runs text all))) (no_holder text all stamp kept none)
 
   pub climbed : leaf < length m.heads → level_of m leaf ≡ 0 → (found : Option ℕ) → IfSome found (IsPlaceIn m root leaf stamp) → (found ≡ None → holders stamp all ≡ 0)
-      → found ≡ option_map (visible_before (cells_of text all)) (position_of (cells_of text all) stamp)
+      → found ≡ option_map (visible_before (cells_of_runs text all)) (position_of (cells_of_runs text all) stamp)
   climbed is low (Some place) some none =
       let r = some.run in
       let offset = stamp.count - r.first in
       let stands = parted m root t leaf some.entry r some.front is low some.here some.before in
       let here = is_here text all leaves stamp kept home r some.front stands some.there in
       let shown = visible_there text all r some.front offset (some.front.cells + offset) kept (there_at all r some.front stamp stands some.there) in
-      ap Some some.is ∙ ap Some shown ∙ ap (option_map (visible_before (cells_of text all))) here
+      ap Some some.is ∙ ap Some shown ∙ ap (option_map (visible_before (cells_of_runs text all))) here
   climbed is low None some none = nothing_climbed (none refl)

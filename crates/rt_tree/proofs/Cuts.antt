@@ -7,7 +7,7 @@ use Rattle.rt_tree.specs.declared.node.Entry.{Entry}
 use Rattle.rt_tree.specs.declared.node.Totals.{Totals}
 use Rattle.rt_tree.specs.declared.node.Entry.TheVariants.{Down, Here}
 use Rattle.rt_tree.specs.Changes.{links, AreStill, bare, IsSplit, IsCut, IsExactAt, AreExact, strip, kid, entry_totals, adds_up, IsLocal, join}
-use Rattle.rt_tree.specs.Shape.{runs, level_of, parent_of, Memory, Fits, count_of, IsShape}
+use Rattle.rt_tree.specs.Shape.{runs, level_of, parent_of, Memory, Fits, child_count, IsShape}
 use Rattle.rt_tree.proofs.Around.{node, count-append}
 use Rattle.rt_tree.proofs.Bares.{bare-entries}
 use Rattle.rt_tree.proofs.Exact.{each-both, each-links, fits-entries}
@@ -58,10 +58,10 @@ module _ (m m' : Memory) (height root : ℕ) (t : IsShape (bare m) height root) 
   within : p < length m.heads
   within = pis (bare m) (bare m') height root t n q p (links front) (links back) (links left) (links right) nis nroot up split
 
-  once : count_of n (links left) + (count_of n (kid n ∷ []) + count_of n (links right)) ≡ 1
+  once : child_count n (links left) + (child_count n (kid n ∷ []) + child_count n (links right)) ≡ 1
   once =
       let a = ponce (bare m) (bare m') height root t n q p (links front) (links back) (links left) (links right) nis nroot up split in
-      let b = ap (count_of n) split.was ∙ count-append n (links left) (kid n ∷ links right) in
+      let b = ap (child_count n) split.was ∙ count-append n (links left) (kid n ∷ links right) in
       omega arith
 
   exact-p : AllByRecursion (IsLocal m) (left ++ e ∷ right)
@@ -86,16 +86,16 @@ module _ (m m' : Memory) (height root : ℕ) (t : IsShape (bare m) height root) 
     | inr np ↦ ap adds_up (cut.others c lt nn np)
   ]
 
-  keep : (id k : ℕ) (l : Entry) (x : Totals) → Fits (bare m) id k l → count_of n (l ∷ []) ≡ 0 → IsExactAt m l x → IsExactAt m' l x
+  keep : (id k : ℕ) (l : Entry) (x : Totals) → Fits (bare m) id k l → child_count n (l ∷ []) ≡ 0 → IsExactAt m l x → IsExactAt m' l x
   keep id k (Here r) x f z h = h
   keep id zero (Down c ts) x f z h = absurd f
   keep id (suc k) (Down c ts) x f z h = h ∙ sym (sum-same c.index (omega (arith, f.is, cut.new)) (other_child n c z))
 
   -- entries of an old node that aren't the node's
-  keeps : (id : ℕ) → id < length m.heads → (es : List Entry) → AllByRecursion (λ (x : Entry). Fits (bare m) id (level_of (bare m) id) (strip x)) es → AllByRecursion (IsLocal m) es → AllByRecursion (λ l. count_of n (l ∷ []) ≡ 0) (links es) → AllByRecursion (IsLocal m') es
+  keeps : (id : ℕ) → id < length m.heads → (es : List Entry) → AllByRecursion (λ (x : Entry). Fits (bare m) id (level_of (bare m) id) (strip x)) es → AllByRecursion (IsLocal m) es → AllByRecursion (λ l. child_count n (l ∷ []) ≡ 0) (links es) → AllByRecursion (IsLocal m') es
   keeps id is es f h z =
-      each-both (λ (x : Entry). Fits (bare m) id (level_of (bare m) id) (strip x) × (count_of n ((strip x) ∷ []) ≡ 0)) (IsLocal m) (IsLocal m') (λ x a b. keep id (level_of (bare m) id) (strip x) (entry_totals x) a.0 a.1 b) es
-      (each-both (λ (x : Entry). Fits (bare m) id (level_of (bare m) id) (strip x)) (λ (x : Entry). count_of n ((strip x) ∷ []) ≡ 0) (λ (x : Entry). Fits (bare m) id (level_of (bare m) id) (strip x) × (count_of n ((strip x) ∷ []) ≡ 0)) (λ x a b. (a, b)) es f (each-links (λ l. count_of n (l ∷ []) ≡ 0) es z)) h
+      each-both (λ (x : Entry). Fits (bare m) id (level_of (bare m) id) (strip x) × (child_count n ((strip x) ∷ []) ≡ 0)) (IsLocal m) (IsLocal m') (λ x a b. keep id (level_of (bare m) id) (strip x) (entry_totals x) a.0 a.1 b) es
+      (each-both (λ (x : Entry). Fits (bare m) id (level_of (bare m) id) (strip x)) (λ (x : Entry). child_count n ((strip x) ∷ []) ≡ 0) (λ (x : Entry). Fits (bare m) id (level_of (bare m) id) (strip x) × (child_count n ((strip x) ∷ []) ≡ 0)) (λ x a b. (a, b)) es f (each-links (λ l. child_count n (l ∷ []) ≡ 0) es z)) h
 
   fits-of : (id : ℕ) → id < length m.heads → AllByRecursion (λ (x : Entry). Fits (bare m) id (level_of (bare m) id) (strip x)) (entries m id)
   fits-of id is = fits-entries m height root t id (level_of (bare m) id) is refl
@@ -103,11 +103,11 @@ module _ (m m' : Memory) (height root : ℕ) (t : IsShape (bare m) height root) 
   abbrev Old : ℕ → List Entry → Type 0
   Old id es = AllByRecursion (λ (x : Entry). Fits (bare m) id (level_of (bare m) id) (strip x)) es
 
-  each-own : (es : List Entry) → Old n es → AllByRecursion (λ l. count_of n (l ∷ []) ≡ 0) (links es)
+  each-own : (es : List Entry) → Old n es → AllByRecursion (λ l. child_count n (l ∷ []) ≡ 0) (links es)
   each-own [] all = tt
   each-own (x ∷ es) all = (not-own (bare m) (bare m') height root t n q p (links front) (links back) (links left) (links right) nis nroot up split (level_of (bare m) n) refl (strip x) all.0, each-own es all.1)
 
-  each-in : (id : ℕ) → (id ≡ p → ⊥) → (es : List Entry) → Old id es → AllByRecursion (λ l. count_of n (l ∷ []) ≡ 0) (links es)
+  each-in : (id : ℕ) → (id ≡ p → ⊥) → (es : List Entry) → Old id es → AllByRecursion (λ l. child_count n (l ∷ []) ≡ 0) (links es)
   each-in id np [] all = tt
   each-in id np (x ∷ es) all = (not-in (bare m) (bare m') height root t n q p (links front) (links back) (links left) (links right) nis nroot up split id (level_of (bare m) id) np (strip x) all.0, each-in id np es all.1)
 

@@ -9,7 +9,7 @@ use Rattle.rt_tree.specs.declared.node.Run.{Run}
 use Rattle.rt_tree.specs.Runs.{IsRun}
 use Rattle.rt_tree.specs.Shape.{IsTree, Memory, level_of, tree_runs}
 use Rattle.rt_tree.specs.Sharing.{AreParts, IsRecut}
-use Rattle.rt_tree.specs.Stretches.{AreKept, IsEdge, back_of, front_of, lengths}
+use Rattle.rt_tree.specs.Stretches.{AreRunsOfText, IsEdge, back_of, front_of, lengths}
 use Rattle.rt_tree.specs.Sums.{AreFew, counts_of, counts_of_run, plus}
 use Rattle.rt_tree.specs.Walks.{IsPutAt, IsReplacedAt, StandsAt}
 use Rattle.rt_tree.proofs.Edges.{counts_mid, edge_mid, edge_there, one_spot, IsSameSpot}
@@ -17,13 +17,13 @@ use Rattle.rt_tree.proofs.Filled.{full_tree}
 use Rattle.rt_tree.proofs.Kept.{below_cells, one_below}
 use Rattle.rt_tree.proofs.Pieces.{back_run, kept_set, recut}
 
-pub few_all : (rs : List Run) → AreKept rs → (counts_of rs).cells ≤ MOST_CELLS → AreFew (counts_of rs)
+pub few_all : (rs : List Run) → AreRunsOfText rs → (counts_of rs).cells ≤ MOST_CELLS → AreFew (counts_of rs)
 few_all rs kept few =
     let b = below_cells kept.text rs kept.runs in
     record { cells = omega (arith, few); visible = omega (arith, few, b.visible); newlines = omega (arith, few, b.newlines) }
 
 -- with one run more
-pub few_with : (r : Run) (rs : List Run) → 0 < r.len → r.len ≤ MOST_CELLS → AreKept rs → (counts_of rs).cells ≤ MOST_CELLS → AreFew (plus (counts_of_run r) (counts_of rs))
+pub few_with : (r : Run) (rs : List Run) → 0 < r.len → r.len ≤ MOST_CELLS → AreRunsOfText rs → (counts_of rs).cells ≤ MOST_CELLS → AreFew (plus (counts_of_run r) (counts_of rs))
 few_with r rs some low kept few =
     let b = below_cells kept.text rs kept.runs in
     let one = one_below r.len r.gone r.newline some in
@@ -39,7 +39,7 @@ wide zero = omega arith
 wide (suc n) = let h = wide n in let p = pow-succ' 8 n in omega (arith, h, p)
 
 -- a tree isn't high
-pub low_tree : (m : Memory) (root : ℕ) → IsTree m root → AreKept (tree_runs m root) → (counts_of (tree_runs m root)).cells ≤ MOST_CELLS → level_of m root + 1 < 2 ^ 32
+pub low_tree : (m : Memory) (root : ℕ) → IsTree m root → AreRunsOfText (tree_runs m root) → (counts_of (tree_runs m root)).cells ≤ MOST_CELLS → level_of m root + 1 < 2 ^ 32
 low_tree m root t kept few = of_level (level_of m root) refl where
   of_level : (n : ℕ) → level_of m root ≡ n → level_of m root + 1 < 2 ^ 32
   of_level zero e = omega (arith, e)
@@ -61,7 +61,7 @@ module _ (old mid : List Run) (run : Run) (front : Counts) (offset at : ℕ) (st
   pub mid_is : mid ≡ st.left ++ back_of offset run ∷ st.right
   mid_is = rep.is ∙ ap (λ l. l ++ back_of offset run ∷ rep.was.right) (sym same.left) ∙ ap (λ l. st.left ++ back_of offset run ∷ l) (sym same.right)
 
-  pub mid_kept : AreKept old → AreKept mid
+  pub mid_kept : AreRunsOfText old → AreRunsOfText mid
   mid_kept kept =
       record { text = kept.text; short = kept.short; runs = subst (AllByRecursion (IsRun kept.text)) (sym mid_is) (kept_set kept.text st.left run (back_of offset run) st.right (λ is. back_run kept.text run offset is some st.inside) (subst (AllByRecursion (IsRun kept.text)) st.here kept.runs)) }
 

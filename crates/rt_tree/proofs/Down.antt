@@ -7,7 +7,7 @@ use Rattle.rt_tree.specs.declared.node.Run.{Run}
 use Rattle.rt_tree.specs.declared.node.Entry.{Entry}
 use Rattle.rt_tree.specs.declared.node.Entry.TheVariants.{Down, Here}
 use Rattle.rt_tree.specs.declared.node.Totals.{Totals}
-use Rattle.rt_tree.specs.Shape.{Memory, Fits, IsChild, IsExact, IsTree, all_below, below, runs, count_of, entry_counts, left_of, ahead, level_of, sum_of}
+use Rattle.rt_tree.specs.Shape.{Memory, Fits, IsChild, IsExact, IsTree, all_below, below, runs, child_count, entry_counts, left_of, ahead, level_of, sum_of}
 use Rattle.rt_tree.specs.Sums.{counts_of, plus}
 use Rattle.rt_tree.proofs.Around.{below_top, leads_to, take-left}
 use Rattle.rt_tree.proofs.Amounts.{counts-append, counts-exact, sum-exact}
@@ -69,7 +69,7 @@ module _ (m : Memory) (root : ℕ) (t : IsTree m root) where
       let up : level_of m id ≡ suc (level_of m c.index) = lvl ∙ ap suc (sym ch.level) in
       let top = t.shape.low id is in
       let kn = t.shape.known c.index ch.is (below_top m (level_of m root) root t.shape c.index ch.is (omega (arith, up, top))) in
-      let once = subst (λ p. count_of c.index (entries m p) ≡ 1) ch.parent kn.once in
+      let once = subst (λ p. child_count c.index (entries m p) ≡ 1) ch.parent kn.once in
       let front = take-left c.index (entries m id) i e once lt here (subst (λ (y : Entry). leads_to y c.index) (sym to) refl) in
       let exact = each-at (IsExact m (level_of m id)) (entries m id) i e (t.totals id is) lt here in
       record {

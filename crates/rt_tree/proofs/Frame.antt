@@ -7,7 +7,7 @@ use Rattle.rt_nodes.specs.declared.memory.NodeId.{NodeId}
 use Rattle.rt_tree.specs.declared.node.Run.{Run}
 use Rattle.rt_tree.specs.declared.node.Totals.{Totals}
 use Rattle.rt_tree.specs.declared.node.Entry.TheVariants.{Down, Here}
-use Rattle.rt_tree.specs.Shape.{below, runs, left_of, right_of, around, ahead, behind, level_of, parent_of, Memory, Fits, count_of, IsShape, all_below}
+use Rattle.rt_tree.specs.Shape.{below, runs, left_of, right_of, around, ahead, behind, level_of, parent_of, Memory, Fits, child_count, IsShape, all_below}
 use Rattle.rt_tree.specs.Changes.{above, links, blank}
 use Rattle.rt_tree.proofs.Around.{test_same, cut_around, cut_at, count-append, below_top, node}
 use Rattle.rt_tree.proofs.Exact.{each-all, each-both}
@@ -26,7 +26,7 @@ module _ {X : Type 0} (P : X → Type 0) where
   each-append [] b p q = q
   each-append (x ∷ a) b p q = (p.0, each-append a b p.1 q)
 
-pub each-zero : (id : ℕ) (ls : List Entry) → count_of id ls ≡ 0 → AllByRecursion (λ l. count_of id (l ∷ []) ≡ 0) ls
+pub each-zero : (id : ℕ) (ls : List Entry) → child_count id ls ≡ 0 → AllByRecursion (λ l. child_count id (l ∷ []) ≡ 0) ls
 each-zero id [] z = tt
 each-zero id (Here r ∷ ls) z = (refl, each-zero id ls z)
 each-zero id (Down c ts ∷ ls) z = (omega arith, each-zero id ls (omega arith))
@@ -39,20 +39,20 @@ flat-same f g [] all = refl
 flat-same f g (l ∷ ls) all = ap (λ x. x ++ flat_map f ls) all.0 ∙ ap (λ y. g l ++ y) (flat-same f g ls all.1)
 
 -- a child is another node than the one that its link is not counted for
-pub other_child : (id : ℕ) (c : NodeId) → count_of id (Down c blank ∷ []) ≡ 0 → c.index ≡ id → ⊥
+pub other_child : (id : ℕ) (c : NodeId) → child_count id (Down c blank ∷ []) ≡ 0 → c.index ≡ id → ⊥
 other_child id c z e = let t = test_same {X = ℕ} c.index id 1 0 e in omega arith
 
 -- around a node that stands once
 pub record Apart (id : ℕ) (ls : List Entry) : Type 0 where
   pub totals : Totals
   pub cut : ls ≡ left_of id ls ++ Down (node id) totals ∷ right_of id ls
-  pub left : AllByRecursion (λ l. count_of id (l ∷ []) ≡ 0) (left_of id ls)
-  pub right : AllByRecursion (λ l. count_of id (l ∷ []) ≡ 0) (right_of id ls)
+  pub left : AllByRecursion (λ l. child_count id (l ∷ []) ≡ 0) (left_of id ls)
+  pub right : AllByRecursion (λ l. child_count id (l ∷ []) ≡ 0) (right_of id ls)
 
-pub apart : (id : ℕ) (ls : List Entry) → count_of id ls ≡ 1 → Apart id ls
+pub apart : (id : ℕ) (ls : List Entry) → child_count id ls ≡ 1 → Apart id ls
 apart id ls once =
     let cut = cut_around id ls (omega arith) in
-    let counts = ap (count_of id) cut.is ∙ count-append id (left_of id ls) (Down (node id) cut.totals ∷ right_of id ls) in
+    let counts = ap (child_count id) cut.is ∙ count-append id (left_of id ls) (Down (node id) cut.totals ∷ right_of id ls) in
     let one = test_same {X = ℕ} id id 1 0 refl in
     record { totals = cut.totals; cut = cut.is; left = each-zero id (left_of id ls) (omega arith); right = each-zero id (right_of id ls) (omega arith) }
 
@@ -97,7 +97,7 @@ module _ (s : Memory) (height root : ℕ) (t : IsShape s height root) (x : ℕ) 
       ∙ flat-same (below after (suc k)) (below s (suc k)) (entries s c)
       (each-all (Fits s c (suc k)) (λ l. below after (suc k) l ≡ below s (suc k) l) (λ l f. link-one k c off (λ d dis dat doff. frame k d dis dat doff) l f) (entries s c) fits)
 
-  pub side-one : (i id p q : ℕ) → q ≡ suc (level_of s x + i) → id ≡ above s i x → (l : Entry) → Fits s p q l → count_of id (l ∷ []) ≡ 0 → below after q l ≡ below s q l
+  pub side-one : (i id p q : ℕ) → q ≡ suc (level_of s x + i) → id ≡ above s i x → (l : Entry) → Fits s p q l → child_count id (l ∷ []) ≡ 0 → below after q l ≡ below s q l
   side-one i id p zero at top l f z = absurd (omega arith)
   side-one i id p (suc k) at top (Here r) f z = refl
   side-one i id p (suc k) at top (Down c ts) f z = frame k c.index f.is f.level (λ j e same. let h : j ≡ i = omega arith in other_child id c z (same ∙ ap (λ n. above s n x) h ∙ sym top))
@@ -114,7 +114,7 @@ module _ (s : Memory) (height root : ℕ) (t : IsShape s height root) (x : ℕ) 
       let left = left_of id (around s id) in
       ap (λ es. ahead after depth p ++ all_below after (level_of s p) (left_of id es)) (same-at p ne)
       ∙ ap (λ l. ahead after depth p ++ l) (flat-same (below after (level_of s p)) (below s (level_of s p)) left
-      (each-both (Fits s p (level_of s p)) (λ l. count_of id (l ∷ []) ≡ 0) (λ l. below after (level_of s p) l ≡ below s (level_of s p) l) (λ l f z. side-one i id p (level_of s p) lvl top l f z) left (each-front (Fits s p (level_of s p)) left (Down (node id) ap'.totals ∷ right_of id (around s id)) fits) ap'.left))
+      (each-both (Fits s p (level_of s p)) (λ l. child_count id (l ∷ []) ≡ 0) (λ l. below after (level_of s p) l ≡ below s (level_of s p) l) (λ l f z. side-one i id p (level_of s p) lvl top l f z) left (each-front (Fits s p (level_of s p)) left (Down (node id) ap'.totals ∷ right_of id (around s id)) fits) ap'.left))
       ∙ ap (λ a. a ++ all_below s (level_of s p) left) (ahead-same depth (suc i) p kn.is (omega arith) (omega arith) (ap (parent_of s) top))
 
   pub behind-same : (depth i id : ℕ) → id < length s.heads → level_of s id ≡ level_of s x + i → depth + (level_of s x + i) ≡ height → id ≡ above s i x → behind after depth id ≡ behind s depth id
@@ -130,7 +130,7 @@ module _ (s : Memory) (height root : ℕ) (t : IsShape s height root) (x : ℕ) 
       let right = right_of id (around s id) in
       ap (λ es. all_below after (level_of s p) (right_of id es) ++ behind after depth p) (same-at p ne)
       ∙ ap (λ l. l ++ behind after depth p) (flat-same (below after (level_of s p)) (below s (level_of s p)) right
-      (each-both (Fits s p (level_of s p)) (λ l. count_of id (l ∷ []) ≡ 0) (λ l. below after (level_of s p) l ≡ below s (level_of s p) l) (λ l f z. side-one i id p (level_of s p) lvl top l f z) right (each-back (Fits s p (level_of s p)) left (Down (node id) ap'.totals ∷ right) fits).1 ap'.right))
+      (each-both (Fits s p (level_of s p)) (λ l. child_count id (l ∷ []) ≡ 0) (λ l. below after (level_of s p) l ≡ below s (level_of s p) l) (λ l f z. side-one i id p (level_of s p) lvl top l f z) right (each-back (Fits s p (level_of s p)) left (Down (node id) ap'.totals ∷ right) fits).1 ap'.right))
       ∙ ap (λ a. all_below s (level_of s p) right ++ a) (behind-same depth (suc i) p kn.is (omega arith) (omega arith) (ap (parent_of s) top))
 
   fits-after : (id k : ℕ) (l : Entry) → Fits s id k l → Fits after id k l
@@ -155,7 +155,7 @@ module _ (s : Memory) (height root : ℕ) (t : IsShape s height root) (x : ℕ) 
       known = λ id is ne.
           let kn = t.known id is ne in
           let up : parent_of s id ≡ x → ⊥ = λ e. no (omega (arith, ap (level_of s) e, kn.up, leaf)) in
-          record { is = kn.is; up = kn.up; once = ap (count_of id) (same-at (parent_of s id) up) ∙ kn.once };
+          record { is = kn.is; up = kn.up; once = ap (child_count id) (same-at (parent_of s id) up) ∙ kn.once };
     }
 
     -- the runs of the tree with it

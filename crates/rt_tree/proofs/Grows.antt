@@ -6,7 +6,7 @@ use Rattle.rt_tree.specs.declared.node.Entry.{Entry}
 use Rattle.rt_tree.specs.declared.node.Totals.{Totals}
 use Rattle.rt_tree.specs.declared.node.Entry.TheVariants.{Down, Here}
 use Rattle.rt_tree.specs.Changes.{links, bare, IsGrown, IsExactAt, AreExact, strip, kid, blank, entry_totals, adds_up, IsLocal}
-use Rattle.rt_tree.specs.Shape.{below, runs, level_of, parent_of, Memory, Fits, count_of, IsShape, all_below}
+use Rattle.rt_tree.specs.Shape.{below, runs, level_of, parent_of, Memory, Fits, child_count, IsShape, all_below}
 use Rattle.rt_tree.proofs.Bares.{bare-entries}
 use Rattle.rt_tree.proofs.Exact.{each-all, each-both, fits-entries}
 use Rattle.rt_tree.proofs.Frame.{flat-same, no}
@@ -81,7 +81,7 @@ module _ (m m' : Memory) (height root q : ℕ) (t : IsShape (bare m) height root
               record {
                 is = omega (arith, p, g.longer);
                 up = ap (level_of s') p ∙ g.level ∙ (omega arith);
-                once = ap (λ x. count_of id (entries s' x)) p ∙ ap (count_of id) at-q ∙ ap (λ x. count_of id (kid x ∷ [])) (sym e) ∙ counted_self id;
+                once = ap (λ x. child_count id (entries s' x)) p ∙ ap (child_count id) at-q ∙ ap (λ x. child_count id (kid x ∷ [])) (sym e) ∙ counted_self id;
               }
           | inr nr ↦
               let k = t.known id (omega (arith, g.new)) nr in
@@ -90,7 +90,7 @@ module _ (m m' : Memory) (height root q : ℕ) (t : IsShape (bare m) height root
               record {
                 is = omega (arith, p, plt, g.longer);
                 up = ap (level_of s') p ∙ g.levels (parent_of (bare m) id) plt ∙ k.up ∙ ap suc (sym l);
-                once = ap (λ x. count_of id (entries s' x)) p ∙ ap (count_of id) (same-at (parent_of (bare m) id) plt) ∙ k.once;
+                once = ap (λ x. child_count id (entries s' x)) p ∙ ap (child_count id) (same-at (parent_of (bare m) id) plt) ∙ k.once;
               }
         ];
   }

@@ -4,7 +4,7 @@ use Rattle.std.specs.Prelude.{◌==◌, ◌&&◌, nat_le, nat_lt, if◌then◌el
 use Rattle.std.specs.List.{AllByRecursion}
 use Rattle.std.proofs.lemmas.Bool.Decides.{nat_tests}
 use Rattle.rt_nodes.specs.declared.memory.NodeId.{NodeId}
-use Rattle.rt_spans.specs.Shown.{IsBorder, Shown, value_of}
+use Rattle.rt_spans.specs.Shown.{IsValueBorder, SpanMapValue, value_of}
 use Rattle.rt_stamps.specs.declared.stamp.Span.{Span}
 use Rattle.rt_stamps.specs.declared.stamp.Stamp.{Stamp}
 use Rattle.rt_store.specs.Cells.{is_in_span}
@@ -12,9 +12,9 @@ use Rattle.rt_store.proofs.Distinct.{split}
 use Rattle.rt_tree.specs.declared.update.CellUpdate.{CellUpdate}
 use Rattle.rt_tree.specs.declared.update.CellUpdate.TheVariants.{Gone, State}
 use Rattle.rt_tree.specs.declared.node.Run.{Run}
-use Rattle.rt_tree.specs.Additions.{are_joint, joined}
+use Rattle.rt_tree.specs.Additions.{are_joint, run_joined}
 use Rattle.rt_tree.specs.Homes.{AreOnceEach, IsNew}
-use Rattle.rt_tree.specs.Runs.{first_stamp, has}
+use Rattle.rt_tree.specs.Runs.{first_stamp, has_cell}
 use Rattle.rt_tree.specs.Shape.{IsTree, Memory, tree_runs}
 use Rattle.rt_tree.specs.Sharing.{run_in}
 use Rattle.rt_tree.specs.Skips.{HasCells}
@@ -29,10 +29,10 @@ use Rattle.rt_tree.proofs.Leaves.{ShareNone, each_bordered, leaf_kept, new_share
 
 -- where no stamp is in two runs, one of several shares none with those before it, and none with those behind it
 pub once_left : (left right : List Run) (run : Run) → AreOnceEach (left ++ run ∷ right) → AllByRecursion (ShareNone run) left
-once_left left right run once = new_share_none run left (λ stamp own. let m = holders-mid stamp left run right in let o = once stamp in let b : bit (has run stamp) ≡ 1 = ap bit own in omega (arith, m, o, b))
+once_left left right run once = new_share_none run left (λ stamp own. let m = holders-mid stamp left run right in let o = once stamp in let b : bit (has_cell run stamp) ≡ 1 = ap bit own in omega (arith, m, o, b))
 
 pub once_right : (left right : List Run) (run : Run) → AreOnceEach (left ++ run ∷ right) → AllByRecursion (ShareNone run) right
-once_right left right run once = new_share_none run right (λ stamp own. let m = holders-mid stamp left run right in let o = once stamp in let b : bit (has run stamp) ≡ 1 = ap bit own in omega (arith, m, o, b))
+once_right left right run once = new_share_none run right (λ stamp own. let m = holders-mid stamp left run right in let o = once stamp in let b : bit (has_cell run stamp) ≡ 1 = ap bit own in omega (arith, m, o, b))
 
 -- one run more, each of which has cells
 pub put_many : (old new : List Run) (at : ℕ) (run : Run) → IsPutAt old new at run → length new ≡ length old + 1
@@ -48,17 +48,17 @@ put_some old new at run put own some =
     let rest = put.next ∷ put.was.right in
     subst (AllByRecursion HasCells) (sym put.is) (each-append HasCells left (run ∷ rest) (each-front HasCells left rest all) (own, each-back HasCells left rest all))
 
-pub told_some : (leaves after : Shown NodeId) (run : Run) (leaf : NodeId) → IsEntered leaves after run leaf → HasCells run
+pub told_some : (leaves after : SpanMapValue NodeId) (run : Run) (leaf : NodeId) → IsEntered leaves after run leaf → HasCells run
 told_some leaves after run leaf told = let a = told.is.some in let b = told.is.last in let c = told.is.first in omega (arith, a, b, c)
 
 -- the stamps of two runs that were joined are those of the two, and the stamps of the back part of a run are its own
-joined_has : (a b : Run) (stamp : Stamp) → are_joint a b ≡ true → has (joined a b) stamp ≡ true → (has a stamp ≡ true) ⊎ (has b stamp ≡ true)
-joined_has a b stamp joint there = split (has a stamp) (λ t. inl t) (λ f. inr (let j = joint_true a b joint in grind (arith, nat_tests)))
+joined_has : (a b : Run) (stamp : Stamp) → are_joint a b ≡ true → has_cell (run_joined a b) stamp ≡ true → (has_cell a stamp ≡ true) ⊎ (has_cell b stamp ≡ true)
+joined_has a b stamp joint there = split (has_cell a stamp) (λ t. inl t) (λ f. inr (let j = joint_true a b joint in grind (arith, nat_tests)))
 
-back_has : (k : ℕ) (r : Run) (stamp : Stamp) → k < r.len → has (back_of k r) stamp ≡ true → has r stamp ≡ true
+back_has : (k : ℕ) (r : Run) (stamp : Stamp) → k < r.len → has_cell (back_of k r) stamp ≡ true → has_cell r stamp ≡ true
 back_has k r stamp less there = grind (arith, nat_tests)
 
-module _ (leaves after : Shown NodeId) (run : Run) (leaf : NodeId) (told : IsEntered leaves after run leaf) where
+module _ (leaves after : SpanMapValue NodeId) (run : Run) (leaf : NodeId) (told : IsEntered leaves after run leaf) where
   own_there : (b : ℕ) (r : Run) → b ≡ leaf.index → r ≡ run → HasLeaf after b r
   own_there b r e f = subst (λ n. HasLeaf after n r) (sym e) (subst (λ s. HasLeaf after leaf.index s) (sym f) (own_leaf leaves after run leaf told))
 
@@ -83,15 +83,15 @@ module _ (leaves after : Shown NodeId) (run : Run) (leaf : NodeId) (told : IsEnt
 
   -- A RUN MADE LONGER
 
-  module _ (m n : Memory) (root : ℕ) (t : IsTree m root) (h : AreHoused m root leaves) (a b : Run) (left right : List Run) (joint : are_joint a b ≡ true) (whole : run ≡ joined a b)
+  module _ (m n : Memory) (root : ℕ) (t : IsTree m root) (h : AreHoused m root leaves) (a b : Run) (left right : List Run) (joint : are_joint a b ≡ true) (whole : run ≡ run_joined a b)
       (was : tree_runs m root ≡ left ++ a ∷ right) (is : tree_runs n root ≡ left ++ run ∷ right) (once : AreOnceEach (tree_runs m root)) (once_now : AreOnceEach (tree_runs n root))
       (fresh : IsNew b (tree_runs m root)) (stood : Stands m leaf.index a) where
     joined_there : StayBut m n leaf.index run → length n.heads ≡ length m.heads → (at : ℕ) (r : Run) → Stands n at r → HasLeaf after at r
     joined_there stay same at r stands stamp own = elim (stay at r stands) [
       | inl high ↦ let low = stands.is in absurd (omega (arith, high, low, same))
       | inr rest ↦ elim rest [
-        | inl before ↦ split (has run stamp)
-            (λ there. elim (joined_has a b stamp joint (sym (ap (λ x. has x stamp) whole) ∙ there)) [
+        | inl before ↦ split (has_cell run stamp)
+            (λ there. elim (joined_has a b stamp joint (sym (ap (λ x. has_cell x stamp) whole) ∙ there)) [
               | inl in_a ↦ let one = one_leaf m root t once leaf.index at a r stood before stamp in_a own in
                   subst (λ k. value_of after stamp ≡ Some (record { index = k })) one.0 (own_leaf leaves after run leaf told stamp there)
               | inr in_b ↦ absurd (stands_in m root t (ShareNone b) (new_share_none b (tree_runs m root) fresh) at r before stamp in_b own)
@@ -118,13 +118,13 @@ module _ (leaves after : Shown NodeId) (run : Run) (leaf : NodeId) (told : IsEnt
 
 -- A RUN CUT IN TWO
 
-module _ (leaves after : Shown NodeId) (m n : Memory) (root next : ℕ) (front : Run) (leaf : NodeId) (told : IsEntered leaves after front leaf) (cut : IsParted m n root next front leaf.index)
+module _ (leaves after : SpanMapValue NodeId) (m n : Memory) (root next : ℕ) (front : Run) (leaf : NodeId) (told : IsEntered leaves after front leaf) (cut : IsParted m n root next front leaf.index)
     (now : IsTree n next) (once : AreOnceEach (tree_runs n next)) (h : AreHoused m root leaves) where
   abbrev back : Run
   back = back_of cut.count cut.run
 
   pub parted_leaves : HaveLeavesBelow (length m.heads) n after
-  parted_leaves at r stands lt stamp own = split (has front stamp)
+  parted_leaves at r stands lt stamp own = split (has_cell front stamp)
       (λ there. let one = one_leaf n next now once leaf.index at front r cut.there stands stamp there own in
       subst (λ k. value_of after stamp ≡ Some (record { index = k })) one.0 (own_leaf leaves after front leaf told stamp there))
       (λ off. value_kept leaves after front leaf told stamp off ∙ elim (cut.stay at r stands) [
@@ -132,9 +132,9 @@ module _ (leaves after : Shown NodeId) (m n : Memory) (root next : ℕ) (front :
         | inr rest ↦ elim rest [
           | inl before ↦ h.there at r before stamp own
           | inr parts ↦ elim parts [
-            | inl this ↦ absurd (true≢false (sym own ∙ ap (λ x. has x stamp) this.1 ∙ off))
+            | inl this ↦ absurd (true≢false (sym own ∙ ap (λ x. has_cell x stamp) this.1 ∙ off))
             | inr that ↦ subst (λ k. value_of leaves stamp ≡ Some (record { index = k })) (sym that.0)
-                (h.there cut.at cut.run cut.stood stamp (back_has cut.count cut.run stamp cut.less (sym (ap (λ x. has x stamp) that.1) ∙ own)))
+                (h.there cut.at cut.run cut.stood stamp (back_has cut.count cut.run stamp cut.less (sym (ap (λ x. has_cell x stamp) that.1) ∙ own)))
           ]
         ]
       ])
@@ -154,8 +154,8 @@ module _ (leaves after : Shown NodeId) (m n : Memory) (root next : ℕ) (front :
       let end : cut.run.first + cut.run.len ≡ cut.run.first + cut.count + (cut.run.len - cut.count) = omega (arith, less) in
       let last = told.kept cut.run.site (cut.run.first + cut.run.len) own.bound own.ends (λ e. inr (omega (arith, begins, less))) in
       let back_bordered : IsBordered after back = record {
-        begins = subst (λ k. IsBorder after k (cut.run.first + cut.count)) site (subst (λ k. IsBorder after told.span.site k) begins told.ends);
-        ends = subst (λ k. IsBorder after cut.run.site k) end last;
+        begins = subst (λ k. IsValueBorder after k (cut.run.first + cut.count)) site (subst (λ k. IsValueBorder after told.span.site k) begins told.ends);
+        ends = subst (λ k. IsValueBorder after cut.run.site k) end last;
         bound = let low = own.bound in omega (arith, low, less);
       } in
       subst (AllByRecursion (IsBordered after)) (sym cut.is)
@@ -170,10 +170,10 @@ module _ (leaves after : Shown NodeId) (m n : Memory) (root next : ℕ) (front :
 
 -- RUNS MARKED
 
-has_alike : (a b : Run) (stamp : Stamp) → HaveSameStamps a b → has b stamp ≡ has a stamp
+has_alike : (a b : Run) (stamp : Stamp) → HaveSameStamps a b → has_cell b stamp ≡ has_cell a stamp
 has_alike a b stamp same i = (same.site i == stamp.site) && (nat_le (same.first i) stamp.count && nat_lt (stamp.count - same.first i) (same.len i))
 
-module _ (leaves : Shown NodeId) where
+module _ (leaves : SpanMapValue NodeId) where
   updated_border : (in_span : Bool) (update : CellUpdate) (r : Run) → IsBordered leaves r → IsBordered leaves (if in_span then updated_run update r else r)
   updated_border true Gone r was = record { begins = was.begins; ends = was.ends; bound = was.bound }
   updated_border true (State state) r was = record { begins = was.begins; ends = was.ends; bound = was.bound }

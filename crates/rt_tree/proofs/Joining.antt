@@ -7,7 +7,7 @@ use Rattle.std.proofs.lemmas.Bool.{and_parts, eqb-true}
 use Rattle.std.proofs.lemmas.List.{drop-drop, take-take}
 use Rattle.rt_stamps.specs.Places.{newlines}
 use Rattle.rt_tree.specs.declared.node.Run.{Run}
-use Rattle.rt_tree.specs.Additions.{are_joint, joined}
+use Rattle.rt_tree.specs.Additions.{are_joint, run_joined}
 use Rattle.rt_tree.specs.Runs.{IsRun, run_cells}
 use Rattle.rt_tree.specs.Stretches.{back_of, front_of}
 use Rattle.rt_tree.proofs.Pieces.{run_parts}
@@ -54,7 +54,7 @@ module _ (text : List ℕ) (a b : Run) (isa : IsRun text a) (isb : IsRun text b)
   none : newlines (take a.len here) ≡ 0
   none = isa.ends ∙ ap (λ (n : Bool). if n then 1 else 0) j.plain
 
-  pub joined_run : IsRun text (joined a b)
+  pub joined_run : IsRun text (run_joined a b)
   joined_run = record {
     some = omega (arith, isa.some);
     stands = omega (arith, isb.stands, j.at);
@@ -71,16 +71,16 @@ module _ (text : List ℕ) (a b : Run) (isa : IsRun text a) (isb : IsRun text b)
         s ∙ isb.ends);
   }
 
-  front : front_of a.len (joined a b) ≡ a
+  front : front_of a.len (run_joined a b) ≡ a
   front = ap (λ (n : Bool). record a { newline = n }) (sym j.plain)
 
-  back : back_of a.len (joined a b) ≡ b
+  back : back_of a.len (run_joined a b) ≡ b
   back =
       let len : a.len + b.len - a.len ≡ b.len = omega arith in
       λ i. record { first = sym j.first i; state = sym j.state i; at = sym j.at i; len = len i; site = sym j.site i; gone = sym j.gone i; newline = b.newline }
 
-  pub joined_cells : run_cells text (joined a b) ≡ run_cells text a ++ run_cells text b
+  pub joined_cells : run_cells text (run_joined a b) ≡ run_cells text a ++ run_cells text b
   joined_cells =
-      run_parts text (joined a b) a.len joined_run isa.some (omega (arith, isb.some))
-      ∙ ap (λ r. run_cells text r ++ run_cells text (back_of a.len (joined a b))) front
+      run_parts text (run_joined a b) a.len joined_run isa.some (omega (arith, isb.some))
+      ∙ ap (λ r. run_cells text r ++ run_cells text (back_of a.len (run_joined a b))) front
       ∙ ap (λ r. run_cells text a ++ run_cells text r) back

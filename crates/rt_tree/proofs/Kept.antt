@@ -8,10 +8,10 @@ use Rattle.rt_stamps.specs.Places.{newlines}
 use Rattle.rt_tree.specs.declared.node.Counts.{Counts}
 use Rattle.rt_tree.specs.declared.node.Run.{Run}
 use Rattle.rt_tree.specs.declared.summary.Summary.{Summary}
-use Rattle.rt_tree.specs.Runs.{IsRun, characters, run_cells}
+use Rattle.rt_tree.specs.Runs.{IsRun, run_characters, run_cells}
 use Rattle.rt_tree.specs.Shape.{Memory, sum_of, tree_runs}
 use Rattle.rt_tree.specs.Sums.{AreFew, counts_of}
-use Rattle.rt_tree.specs.Trees.{IsKept, Shown, shown}
+use Rattle.rt_tree.specs.Trees.{IsTreeOfText, TreeValue, tree_value}
 use Rattle.rt_tree.proofs.CellLaws.{counted, characters_length, get-from}
 use Rattle.rt_tree.proofs.Down.{sum-node}
 use Rattle.rt_tree.proofs.Going.{get-at}
@@ -33,7 +33,7 @@ below_cells text (r ∷ rs) all =
     let more = below_cells text rs all.1 in
     record { visible = omega (arith, one.0, more.visible); newlines = omega (arith, one.1, more.newlines) }
 
-module _ (m : Memory) (root : ℕ) (text : List ℕ) (n : ℕ) (kept : IsKept m root text n) where
+module _ (m : Memory) (root : ℕ) (text : List ℕ) (n : ℕ) (kept : IsTreeOfText m root text n) where
   pub few_runs : AreFew (counts_of (tree_runs m root))
   few_runs = let b = below_cells text (tree_runs m root) kept.kept in record { cells = omega (arith, kept.few); visible = omega (arith, kept.few, b.visible); newlines = omega (arith, kept.few, b.newlines) }
 
@@ -42,12 +42,12 @@ module _ (m : Memory) (root : ℕ) (text : List ℕ) (n : ℕ) (kept : IsKept m 
   sum_root = sum-node m root kept.tree root kept.tree.shape.root_is
 
   -- the runs count what the cells that are shown do
-  pub record Shows (now : Shown) : Type 0 where
+  pub record Shows (now : TreeValue) : Type 0 where
     pub cells : length now.cells ≡ (counts_of (tree_runs m root)).cells
     pub visible : length (visible_of now.cells) ≡ (counts_of (tree_runs m root)).visible
     pub newlines : newlines (text_of now.cells) ≡ (counts_of (tree_runs m root)).newlines
 
-  pub shows : (sums : List Summary) {room : Room} {sure : Bool} (now : Shown) → shown m root text sums room sure ≡ now → Shows now
+  pub shows : (sums : List Summary) {room : Room} {sure : Bool} (now : TreeValue) → tree_value m root text sums room sure ≡ now → Shows now
   shows sums now is =
       let c = counted text (tree_runs m root) kept.kept in
       subst Shows is (record { cells = c.cells; visible = c.visible; newlines = c.newlines })
@@ -56,6 +56,6 @@ module _ (m : Memory) (root : ℕ) (text : List ℕ) (n : ℕ) (kept : IsKept m 
 pub cell_found : (text : List ℕ) (r : Run) (offset ch : ℕ) → IsRun text r → offset < r.len → ch ≡ get_or text (r.at + offset) ch → slice_get (run_cells text r) offset ≡ Some (record { stamp = record { count = r.first + offset; site = r.site }; ch = ch; gone = r.gone; state = r.state })
 cell_found text r offset ch is lt at =
     let long = characters_length text r is in
-    get-from r.gone r.first r.site r.state (characters text r) offset ch
-    (get-at (characters text r) offset ch (omega (arith, long))
+    get-from r.gone r.first r.site r.state (run_characters text r) offset ch
+    (get-at (run_characters text r) offset ch (omega (arith, long))
     (at ∙ sym (get_or-drop r.at text offset ch) ∙ sym (get_or-take r.len (drop r.at text) offset ch lt)))

@@ -9,7 +9,7 @@ use Rattle.rt_tree.specs.declared.node.Entry.TheVariants.{Down, Here}
 use Rattle.rt_tree.specs.declared.node.Totals.{Totals}
 use Rattle.rt_nodes.specs.declared.memory.NodeId.{NodeId}
 use Rattle.rt_tree.specs.Changes.{AreExact, AreExactBut, IsExactAt, IsLocal, Lacks, adds_up, bare, blank, entry_totals, join, strip}
-use Rattle.rt_tree.specs.Shape.{IsKnown, IsShape, Memory, count_of, level_of, parent_of}
+use Rattle.rt_tree.specs.Shape.{IsKnown, IsShape, Memory, child_count, level_of, parent_of}
 use Rattle.rt_tree.proofs.Adding.{adds-append, join_assoc, join_comm}
 use Rattle.rt_tree.proofs.Exact.{each-all}
 use Rattle.rt_tree.proofs.Around.{below_top, test_same}
@@ -32,10 +32,10 @@ adds-insert es i y =
     adds-append front (y ∷ back) ∙ join_swap (adds_up front) (entry_totals y) (adds_up back) ∙ ap (join (entry_totals y)) (sym (adds-append front back) ∙ ap adds_up (take-append-drop i es))
 
 pub exact-but : (but : ℕ) (m : Memory) → AreExact m → AreExactBut but m
-exact-but but m exact id is = each-all (IsLocal m) (λ (e : Entry). count_of but (strip e ∷ []) ≡ 0 → IsLocal m e) (λ e x z. x) (entries m id) (exact id is)
+exact-but but m exact id is = each-all (IsLocal m) (λ (e : Entry). child_count but (strip e ∷ []) ≡ 0 → IsLocal m e) (λ e x z. x) (entries m id) (exact id is)
 
 module _ (m : Memory) (q p : ℕ) (other : q ≡ p → ⊥) where
-  kept-one : (l : Entry) (x : Totals) → 0 < count_of p (l ∷ []) → (count_of q (l ∷ []) ≡ 0 → IsExactAt m l x) → x ≡ adds_up (entries m p)
+  kept-one : (l : Entry) (x : Totals) → 0 < child_count p (l ∷ []) → (child_count q (l ∷ []) ≡ 0 → IsExactAt m l x) → x ≡ adds_up (entries m p)
   kept-one (Here r) x some e = absurd (omega (arith, some))
   kept-one (Down c ts) x some e = elim (cases_eq c.index p) [
     | inl same ↦ e (not_counted q c (λ w. other (sym w ∙ same))) ∙ ap (λ n. adds_up (entries m n)) same
@@ -47,9 +47,9 @@ module _ (m : Memory) (q p : ℕ) (other : q ≡ p → ⊥) where
   lacks height root t more es is exact sum id idis ne =
       let new = with_entries m p es in
       let own : entries new p ≡ es = get_or-set_same m.rows p es [] (omega (arith, is, t.same, length-rows m)) in
-      let R : Entry → Type 0 = λ x. 0 < count_of p (strip x ∷ []) → adds_up (entries new p) ≡ join more (entry_totals x) in
+      let R : Entry → Type 0 = λ x. 0 < child_count p (strip x ∷ []) → adds_up (entries new p) ≡ join more (entry_totals x) in
       subst (AllByRecursion R) (sym (get_or-set_other m.rows p id es [] ne))
-      (each-all (λ (x : Entry). count_of q (strip x ∷ []) ≡ 0 → IsLocal m x) R
+      (each-all (λ (x : Entry). child_count q (strip x ∷ []) ≡ 0 → IsLocal m x) R
       (λ x ex some. ap adds_up own ∙ sum ∙ ap (join more) (sym (kept-one (strip x) (entry_totals x) some ex))) (entries m id) (exact id idis))
 
 module _ (m : Memory) (height root : ℕ) (t : IsShape (bare m) height root) (c : NodeId) (p slot : ℕ) (e : Entry) (more : Totals) (is : c.index < length m.heads) (lt : level_of (bare m) c.index < height) (up : p ≡ parent_of (bare m) c.index) (within : slot < length (entries m p)) (here : e ≡ get_or (entries m p) slot e) where
@@ -66,8 +66,8 @@ module _ (m : Memory) (height root : ℕ) (t : IsShape (bare m) height root) (c 
   pub lacking : strip e ≡ Down c blank → Lacks c.index more m → adds_up (entries m c.index) ≡ join more (entry_totals e)
   lacking mine all =
       let o = test_same {X = ℕ} c.index c.index 1 0 refl in
-      let h = ap (λ l. count_of c.index (l ∷ [])) mine in
-      let R : Entry → Type 0 = λ x. 0 < count_of c.index (strip x ∷ []) → adds_up (entries m c.index) ≡ join more (entry_totals x) in
+      let h = ap (λ l. child_count c.index (l ∷ [])) mine in
+      let R : Entry → Type 0 = λ x. 0 < child_count c.index (strip x ∷ []) → adds_up (entries m c.index) ≡ join more (entry_totals x) in
       each-at R (entries m p) slot e (all p known-up (λ w. apart (sym w))) within here (omega (arith, o, h))
 
   -- one level up

@@ -6,7 +6,7 @@ use Rattle.std.proofs.lemmas.Bool.{cases_eq}
 use Rattle.std.proofs.lemmas.Bool.Decides.{nat_tests}
 use Rattle.rt_nodes.specs.declared.memory.NodeId.{NodeId}
 use Rattle.rt_nodes.specs.Nodes.{entries}
-use Rattle.rt_spans.specs.Shown.{IsBorder, Shown, value_of}
+use Rattle.rt_spans.specs.Shown.{IsValueBorder, SpanMapValue, value_of}
 use Rattle.rt_stamps.specs.declared.stamp.Span.{Span}
 use Rattle.rt_stamps.specs.declared.stamp.Stamp.{Stamp}
 use Rattle.rt_store.specs.Cells.{is_in_span}
@@ -16,7 +16,7 @@ use Rattle.rt_tree.specs.declared.node.Entry.TheVariants.{Down, Here}
 use Rattle.rt_tree.specs.declared.node.Run.{Run}
 use Rattle.rt_tree.specs.declared.node.Totals.{Totals}
 use Rattle.rt_tree.specs.Homes.{AreOnceEach, IsAmong, IsNew, IsSpanOf, holders}
-use Rattle.rt_tree.specs.Runs.{first_stamp, has}
+use Rattle.rt_tree.specs.Runs.{first_stamp, has_cell}
 use Rattle.rt_tree.specs.Shape.{Fits, IsShape, IsTree, Memory, ahead, all_below, behind, below, level_of, runs, runs_before, tree_runs}
 use Rattle.rt_tree.specs.Skips.{HasCells}
 use Rattle.rt_tree.specs.Standing.{HasLeaf, HaveLeavesBelow, IsBordered, IsEntered, Stands}
@@ -45,24 +45,24 @@ pub stands_in : (m : Memory) (root : ℕ) → IsTree m root → (P : Run → Typ
     → (leaf : ℕ) (run : Run) → Stands m leaf run → P run
 stands_in m root t P all leaf run at = in_shape m (level_of m root) root t.shape P all leaf run at
 
-one_holds : (m : Memory) (es : List Entry) (i : ℕ) (r : Run) (stamp : Stamp) → slice_get es i ≡ Some (Here r) → has r stamp ≡ true → 0 < holders stamp (all_below m 0 es)
+one_holds : (m : Memory) (es : List Entry) (i : ℕ) (r : Run) (stamp : Stamp) → slice_get es i ≡ Some (Here r) → has_cell r stamp ≡ true → 0 < holders stamp (all_below m 0 es)
 one_holds m es i r stamp here there =
     let left = all_below m 0 (take i es) in
     let right = all_below m 0 (drop (suc i) es) in
     let c = ap (holders stamp) (cut_leaf m es i r here) ∙ holders-mid stamp left r right in
-    let b = is_bit (has r stamp) there in
+    let b = is_bit (has_cell r stamp) there in
     omega (arith, c, b)
 
-first_holds : (m : Memory) (e : Entry) (es : List Entry) (r : Run) (stamp : Stamp) → slice_get (e ∷ es) 0 ≡ Some (Here r) → has r stamp ≡ true
+first_holds : (m : Memory) (e : Entry) (es : List Entry) (r : Run) (stamp : Stamp) → slice_get (e ∷ es) 0 ≡ Some (Here r) → has_cell r stamp ≡ true
     → holders stamp (all_below m 0 (e ∷ es)) ≡ 1 + holders stamp (all_below m 0 es)
 first_holds m e es r stamp here there =
     let h : e ≡ Here r = cc in
     let c = ap (λ x. holders stamp (below m 0 x ++ all_below m 0 es)) h ∙ holders-cons stamp r (all_below m 0 es) in
-    let b = is_bit (has r stamp) there in
+    let b = is_bit (has_cell r stamp) there in
     omega (arith, c, b)
 
 -- two entries of a leaf with one stamp are one entry
-same_entry : (m : Memory) (es : List Entry) (i j : ℕ) (r s : Run) (stamp : Stamp) → slice_get es i ≡ Some (Here r) → slice_get es j ≡ Some (Here s) → has r stamp ≡ true → has s stamp ≡ true
+same_entry : (m : Memory) (es : List Entry) (i j : ℕ) (r s : Run) (stamp : Stamp) → slice_get es i ≡ Some (Here r) → slice_get es j ≡ Some (Here s) → has_cell r stamp ≡ true → has_cell s stamp ≡ true
     → holders stamp (all_below m 0 es) ≤ 1 → i ≡ j
 same_entry m [] i j r s stamp here there mine own once = cc
 same_entry m (e ∷ es) zero zero r s stamp here there mine own once = refl
@@ -79,11 +79,11 @@ same_entry m (e ∷ es) (suc i) (suc j) r s stamp here there mine own once =
     ap suc (same_entry m es i j r s stamp here there mine own (omega (arith, c, once)))
 
 -- no run of a list has a stamp that none holds
-pub none_has : (stamp : Stamp) (rs : List Run) → holders stamp rs ≡ 0 → AllByRecursion (λ (r : Run). has r stamp ≡ false) rs
+pub none_has : (stamp : Stamp) (rs : List Run) → holders stamp rs ≡ 0 → AllByRecursion (λ (r : Run). has_cell r stamp ≡ false) rs
 none_has stamp [] none = tt
 none_has stamp (r ∷ rs) none = let h = had_not r rs stamp none in (h.0, none_has stamp rs h.1)
 
-module _ (m : Memory) (root : ℕ) (t : IsTree m root) (once : AreOnceEach (tree_runs m root)) (a b : ℕ) (r s : Run) (at : Stands m a r) (bt : Stands m b s) (stamp : Stamp) (mine : has r stamp ≡ true) (own : has s stamp ≡ true) where
+module _ (m : Memory) (root : ℕ) (t : IsTree m root) (once : AreOnceEach (tree_runs m root)) (a b : ℕ) (r s : Run) (at : Stands m a r) (bt : Stands m b s) (stamp : Stamp) (mine : has_cell r stamp ≡ true) (own : has_cell s stamp ≡ true) where
   abbrev top : ℕ
   top = level_of m root
 
@@ -99,14 +99,14 @@ module _ (m : Memory) (root : ℕ) (t : IsTree m root) (once : AreOnceEach (tree
   apart ne =
       let o = once stamp in
       let h = one_holds m (entries m a) at.entry r stamp at.here mine in
-      let P : Run → Type 0 = λ x. has x stamp ≡ false in
+      let P : Run → Type 0 = λ x. has_cell x stamp ≡ false in
       let front = none_has stamp (ahead m top a) (omega (arith, parts, o, h)) in
       let back = none_has stamp (behind m top a) (omega (arith, parts, o, h)) in
       let is = leaf_runs m top root t.shape a at.is [] at.low tt in
       let all = subst (AllByRecursion P) (sym is) (each-append P (ahead m top a) (behind m top a) front back) in
       let same = same-at m top root t.shape a at.is [] b ne in
       let late : Stands (after m top root t.shape a at.is []) b s = record { is = bt.is; low = bt.low; entry = bt.entry; here = ap (λ es. slice_get es bt.entry) same ∙ bt.here } in
-      let none : has s stamp ≡ false = in_shape (after m top root t.shape a at.is []) top root (leaf_tree m top root t.shape a at.is [] at.low tt) P all b s late in
+      let none : has_cell s stamp ≡ false = in_shape (after m top root t.shape a at.is []) top root (leaf_tree m top root t.shape a at.is [] at.low tt) P all b s late in
       absurd (cc (none, own))
 
   same_leaf : b ≡ a
@@ -138,19 +138,19 @@ here_low m root t id i run is here = low (level_of m id) (entries m id) i (t.sha
 
 -- two runs share no stamp
 abbrev pub ShareNone : Run → Run → Type 0
-ShareNone r s = (stamp : Stamp) → has r stamp ≡ true → has s stamp ≡ true → ⊥
+ShareNone r s = (stamp : Stamp) → has_cell r stamp ≡ true → has_cell s stamp ≡ true → ⊥
 
-pub in_span : (r : Run) (span : Span) (stamp : Stamp) → IsSpanOf r span → is_in_span span stamp ≡ has r stamp
+pub in_span : (r : Run) (span : Span) (stamp : Stamp) → IsSpanOf r span → is_in_span span stamp ≡ has_cell r stamp
 in_span r span stamp is = let a = is.site in let b = is.first in let c = is.last in let d = is.some in grind (arith, nat_tests)
 
 -- the last stamp of a run
 abbrev last_stamp : Run → Stamp
 last_stamp r = record { count = r.first + r.len - 1; site = r.site }
 
-has_last : (r : Run) → HasCells r → has r (last_stamp r) ≡ true
+has_last : (r : Run) → HasCells r → has_cell r (last_stamp r) ≡ true
 has_last r some = grind (arith, nat_tests)
 
-module _ (old new : Shown NodeId) (r : Run) (leaf : NodeId) (told : IsEntered old new r leaf) where
+module _ (old new : SpanMapValue NodeId) (r : Run) (leaf : NodeId) (told : IsEntered old new r leaf) where
   -- the run that was told has the leaf
   pub own_leaf : HasLeaf new leaf.index r
   own_leaf stamp there = told.values stamp ∙ rw (in_span r told.span stamp told.is ∙ there) refl
@@ -158,22 +158,22 @@ module _ (old new : Shown NodeId) (r : Run) (leaf : NodeId) (told : IsEntered ol
   -- and spans begin and end where it does
   pub own_borders : IsBordered new r
   own_borders = record {
-    begins = subst (λ n. IsBorder new n r.first) told.is.site (subst (λ n. IsBorder new told.span.site n) told.is.first told.begins);
-    ends = subst (λ n. IsBorder new n (r.first + r.len)) told.is.site (subst (λ n. IsBorder new told.span.site n) told.is.last told.ends);
+    begins = subst (λ n. IsValueBorder new n r.first) told.is.site (subst (λ n. IsValueBorder new told.span.site n) told.is.first told.begins);
+    ends = subst (λ n. IsValueBorder new n (r.first + r.len)) told.is.site (subst (λ n. IsValueBorder new told.span.site n) told.is.last told.ends);
     bound = let l = told.is.last in let b = told.is.bound in omega (arith, l, b);
   }
 
   -- a stamp that it hasn't has the leaf that it had
-  pub value_kept : (stamp : Stamp) → has r stamp ≡ false → value_of new stamp ≡ value_of old stamp
+  pub value_kept : (stamp : Stamp) → has_cell r stamp ≡ false → value_of new stamp ≡ value_of old stamp
   value_kept stamp out = told.values stamp ∙ rw (in_span r told.span stamp told.is ∙ out) refl
 
   module _ (s : Run) (none : ShareNone r s) where
     -- so have those of a run that shares no stamp with it
     pub leaf_kept : (b : ℕ) → HasLeaf old b s → HasLeaf new b s
-    leaf_kept b was stamp there = value_kept stamp (split (has r stamp) (λ t. absurd (none stamp t there)) (λ f. f)) ∙ was stamp there
+    leaf_kept b was stamp there = value_kept stamp (split (has_cell r stamp) (λ t. absurd (none stamp t there)) (λ f. f)) ∙ was stamp there
 
     -- a count doesn't stand within the span, if a stamp of the other run would be in it then
-    clear : (count : ℕ) → (stamp : Stamp) → has s stamp ≡ true → s.site ≡ told.span.site
+    clear : (count : ℕ) → (stamp : Stamp) → has_cell s stamp ≡ true → s.site ≡ told.span.site
         → (told.span.first < count → count ≤ told.span.last → is_in_span told.span stamp ≡ true) → (count ≤ told.span.first) ⊎ (told.span.last < count)
     clear count stamp there site within =
         elim (or_below count) [
@@ -204,12 +204,12 @@ module _ (old new : Shown NodeId) (r : Run) (leaf : NodeId) (told : IsEntered ol
 pub new_share_none : (r : Run) (rs : List Run) → IsNew r rs → AllByRecursion (ShareNone r) rs
 new_share_none r [] fresh = tt
 new_share_none r (s ∷ rs) fresh = (
-  (λ stamp mine own. let c = holders-cons stamp s rs in let n = fresh stamp mine in let b = is_bit (has s stamp) own in omega (arith, c, n, b)),
+  (λ stamp mine own. let c = holders-cons stamp s rs in let n = fresh stamp mine in let b = is_bit (has_cell s stamp) own in omega (arith, c, n, b)),
   new_share_none r rs (λ stamp mine. let c = holders-cons stamp s rs in let n = fresh stamp mine in omega (arith, c, n)),
 )
 
 -- so of many runs that share no stamp with one that was told
-pub each_bordered : (old new : Shown NodeId) (r : Run) (leaf : NodeId) → IsEntered old new r leaf
+pub each_bordered : (old new : SpanMapValue NodeId) (r : Run) (leaf : NodeId) → IsEntered old new r leaf
     → (rs : List Run) → AllByRecursion (ShareNone r) rs → AllByRecursion HasCells rs → AllByRecursion (IsBordered old) rs → AllByRecursion (IsBordered new) rs
 each_bordered old new r leaf told [] none some was = tt
 each_bordered old new r leaf told (s ∷ rs) none some was = (borders_kept old new r leaf told s none.0 some.0 was.0, each_bordered old new r leaf told rs none.1 some.1 was.1)
@@ -218,15 +218,15 @@ each_bordered old new r leaf told (s ∷ rs) none some was = (borders_kept old n
 pub new_to_others : (all : List Run) (r : Run) → AreOnceEach all → (among : IsAmong all r) → IsNew r among.left × IsNew r among.right
 new_to_others all r once among = ((λ stamp mine. (none stamp mine).0), (λ stamp mine. (none stamp mine).1))
   where
-    none : (stamp : Stamp) → has r stamp ≡ true → (holders stamp among.left ≡ 0) × (holders stamp among.right ≡ 0)
+    none : (stamp : Stamp) → has_cell r stamp ≡ true → (holders stamp among.left ≡ 0) × (holders stamp among.right ≡ 0)
     none stamp mine =
         let m = ap (holders stamp) among.here ∙ holders-mid stamp among.left r among.right in
         let o = once stamp in
-        let b = is_bit (has r stamp) mine in
+        let b = is_bit (has_cell r stamp) mine in
         (omega (arith, m, o, b), omega (arith, m, o, b))
 
 -- spans still begin and end where each run does, once one of them was told
-pub all_bordered : (old new : Shown NodeId) (r : Run) (leaf : NodeId) → IsEntered old new r leaf
+pub all_bordered : (old new : SpanMapValue NodeId) (r : Run) (leaf : NodeId) → IsEntered old new r leaf
     → (all : List Run) → IsAmong all r → AreOnceEach all → AllByRecursion HasCells all → AllByRecursion (IsBordered old) all → AllByRecursion (IsBordered new) all
 all_bordered old new r leaf told all among once some was =
     let P = IsBordered old in let Q = IsBordered new in
@@ -245,22 +245,22 @@ stands_among m root t leaf run at =
     record { left = b.left; right = b.right; here = b.here }
 
 -- once a run was told of the leaf in which it stands, each run has the leaf that it had
-pub stands_kept : (m : Memory) (root : ℕ) → IsTree m root → AreOnceEach (tree_runs m root) → (old new : Shown NodeId) (r : Run) (leaf : NodeId)
+pub stands_kept : (m : Memory) (root : ℕ) → IsTree m root → AreOnceEach (tree_runs m root) → (old new : SpanMapValue NodeId) (r : Run) (leaf : NodeId)
     → Stands m leaf.index r → IsEntered old new r leaf → (b : ℕ) (s : Run) → Stands m b s → HasLeaf old b s → HasLeaf new b s
-stands_kept m root t once old new r leaf at told b s bt was stamp own = split (has r stamp)
+stands_kept m root t once old new r leaf at told b s bt was stamp own = split (has_cell r stamp)
     (λ mine. let o = one_leaf m root t once leaf.index b r s at bt stamp mine own in own_leaf old new r leaf told stamp mine ∙ ap (λ n. Some (record { index = n })) o.0)
     (λ out. value_kept old new r leaf told stamp out ∙ was stamp own)
 
 -- TELLING THE RUNS OF A NODE
 
 -- the runs of leaves before a node have their leaves, and so have those that are a node's first entries
-pub record AreToldTo (m : Memory) (root node i : ℕ) (leaves : Shown NodeId) : Type 0 where
+pub record AreToldTo (m : Memory) (root node i : ℕ) (leaves : SpanMapValue NodeId) : Type 0 where
   pub bordered : AllByRecursion (IsBordered leaves) (tree_runs m root)
   pub below : HaveLeavesBelow node m leaves
   pub here : (run : Run) (at : Stands m node run) → at.entry < i → HasLeaf leaves node run
 
 -- once they have all, so have the runs of leaves up to the node
-pub all_told : (m : Memory) (root node i : ℕ) (leaves : Shown NodeId) → length (entries m node) ≤ i → AreToldTo m root node i leaves → HaveLeavesBelow (node + 1) m leaves
+pub all_told : (m : Memory) (root node i : ℕ) (leaves : SpanMapValue NodeId) → length (entries m node) ≤ i → AreToldTo m root node i leaves → HaveLeavesBelow (node + 1) m leaves
 all_told m root node i leaves end told leaf run at lt = elim (cases_eq leaf node) [
   | inl e ↦ subst (λ n. HasLeaf leaves n run) (sym e) (told.here run (subst (λ n. Stands m n run) e at) (omega (arith, end, within (entries m node) at.entry run (ap (λ n. slice_get (entries m n) at.entry) (sym e) ∙ at.here))))
   | inr ne ↦ told.below leaf run at (omega (arith, lt, ne))
@@ -276,7 +276,7 @@ same_run m node i e run at here same = let h : Some e ≡ Some (Here run) = sym 
 
 -- the next entry's run is told
 pub told_here : (m : Memory) (root : ℕ) → IsTree m root → AreOnceEach (tree_runs m root) → AllByRecursion HasCells (tree_runs m root)
-    → (old new : Shown NodeId) (leaf : NodeId) (i : ℕ) (r : Run) → leaf.index < length m.heads → slice_get (entries m leaf.index) i ≡ Some (Here r)
+    → (old new : SpanMapValue NodeId) (leaf : NodeId) (i : ℕ) (r : Run) → leaf.index < length m.heads → slice_get (entries m leaf.index) i ≡ Some (Here r)
     → (0 < r.len → IsBordered old r → IsEntered old new r leaf) → AreToldTo m root leaf.index i old → AreToldTo m root leaf.index (i + 1) new
 told_here m root t once some old new leaf i r is here hint was =
     let node = leaf.index in
@@ -292,7 +292,7 @@ told_here m root t once some old new leaf i r is here hint was =
     }
 
 -- the next entry is no run
-pub told_down : (m : Memory) (root node i : ℕ) (leaves : Shown NodeId) (c : NodeId) (ts : Totals) → slice_get (entries m node) i ≡ Some (Down c ts)
+pub told_down : (m : Memory) (root node i : ℕ) (leaves : SpanMapValue NodeId) (c : NodeId) (ts : Totals) → slice_get (entries m node) i ≡ Some (Down c ts)
     → AreToldTo m root node i leaves → AreToldTo m root node (i + 1) leaves
 told_down m root node i leaves c ts here was = record {
   bordered = was.bordered;

@@ -9,33 +9,33 @@ use Rattle.rt_store.specs.Cells.{text_of, visible_of}
 use Rattle.rt_tree.specs.declared.node.Counts.{Counts}
 use Rattle.rt_tree.specs.declared.node.CountedBy.TheVariants.{Visible, Newlines}
 use Rattle.rt_tree.specs.declared.node.Run.{Run}
-use Rattle.rt_tree.specs.Runs.{IsRun, cells_of, characters, run_cells}
+use Rattle.rt_tree.specs.Runs.{IsRun, cells_of_runs, run_characters, run_cells}
 use Rattle.rt_tree.specs.Walks.{StandsAt}
 use Rattle.rt_tree.proofs.CellLaws.{cells_around, characters_length, counted_left, is_run, shown_text, text-append, visible_run}
 use Rattle.rt_tree.proofs.Texts.{after-append, after-last, newlines-append, newlines-take}
 
 module _ (text : List ℕ) (all : List Run) (run : Run) (front : Counts) (offset place : ℕ) (runs : AllByRecursion (IsRun text) all) where
   -- the text around a run that isn't gone
-  text_around : (left right : List Run) → all ≡ left ++ run ∷ right → run.gone ≡ false → text_of (cells_of text all) ≡ text_of (cells_of text left) ++ (characters text run ++ text_of (cells_of text right))
+  text_around : (left right : List Run) → all ≡ left ++ run ∷ right → run.gone ≡ false → text_of (cells_of_runs text all) ≡ text_of (cells_of_runs text left) ++ (run_characters text run ++ text_of (cells_of_runs text right))
   text_around left right here shown =
       ap text_of (cells_around text all run front offset place runs left right here)
-      ∙ text-append (cells_of text left) (run_cells text run ++ cells_of text right)
-      ∙ ap (λ l. text_of (cells_of text left) ++ l) (text-append (run_cells text run) (cells_of text right) ∙ ap (λ l. l ++ text_of (cells_of text right)) (shown_text text run shown))
+      ∙ text-append (cells_of_runs text left) (run_cells text run ++ cells_of_runs text right)
+      ∙ ap (λ l. text_of (cells_of_runs text left) ++ l) (text-append (run_cells text run) (cells_of_runs text right) ∙ ap (λ l. l ++ text_of (cells_of_runs text right)) (shown_text text run shown))
 
-  length_left : (left : List Run) → length (text_of (cells_of text left)) ≡ length (visible_of (cells_of text left))
-  length_left left = length-map (visible_of (cells_of text left)) (λ (c : Cell ℕ). c.ch)
+  length_left : (left : List Run) → length (text_of (cells_of_runs text left)) ≡ length (visible_of (cells_of_runs text left))
+  length_left left = length-map (visible_of (cells_of_runs text left)) (λ (c : Cell ℕ). c.ch)
 
   -- the newlines before a visible place are those of the runs before its own
-  pub newlines_found : StandsAt Visible all run front offset place → newlines (take place (text_of (cells_of text all))) ≡ front.newlines
+  pub newlines_found : StandsAt Visible all run front offset place → newlines (take place (text_of (cells_of_runs text all))) ≡ front.newlines
   newlines_found st =
       let s = visible_run text all run front offset place runs st in
       let l = counted_left text all run front offset place runs st.left st.right st.here in
       let v = ap (λ (x : Counts). x.visible) st.before in
       let n = ap (λ (x : Counts). x.newlines) st.before in
       let own = is_run text all run front offset place runs st.left st.right st.here in
-      let a = text_of (cells_of text st.left) in
-      let mine = characters text run in
-      let b = text_of (cells_of text st.right) in
+      let a = text_of (cells_of_runs text st.left) in
+      let mine = run_characters text run in
+      let b = text_of (cells_of_runs text st.right) in
       let long = characters_length text run own in
       let at : place ≡ length a + offset = omega (arith, length_left st.left, l.visible, v, st.at) in
       let few = newlines-take offset (run.len - 1) mine (omega (arith, s.1)) in
@@ -55,16 +55,16 @@ module _ (text : List ℕ) (all : List Run) (run : Run) (front : Counts) (offset
     ends false false lt = absurd (omega arith)
 
   -- the place after a newline is that after its run
-  pub start_found : StandsAt Newlines all run front offset place → after_newlines (place + 1) (text_of (cells_of text all)) ≡ front.visible + run.len
+  pub start_found : StandsAt Newlines all run front offset place → after_newlines (place + 1) (text_of (cells_of_runs text all)) ≡ front.visible + run.len
   start_found st =
       let s = newline_run st in
       let l = counted_left text all run front offset place runs st.left st.right st.here in
       let v = ap (λ (x : Counts). x.visible) st.before in
       let n = ap (λ (x : Counts). x.newlines) st.before in
       let own = is_run text all run front offset place runs st.left st.right st.here in
-      let a = text_of (cells_of text st.left) in
-      let mine = characters text run in
-      let b = text_of (cells_of text st.right) in
+      let a = text_of (cells_of_runs text st.left) in
+      let mine = run_characters text run in
+      let b = text_of (cells_of_runs text st.right) in
       let long = characters_length text run own in
       let at : place + 1 ≡ newlines a + 1 = omega (arith, l.newlines, n, st.at, s.2) in
       let one : newlines mine ≡ 1 = own.ends ∙ ap (λ x. if x then 1 else 0) s.1 in

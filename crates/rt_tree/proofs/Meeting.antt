@@ -4,7 +4,7 @@ use Rattle.std.specs.Prelude.{◌&&◌, nat_lt}
 use Rattle.std.specs.List.{AllByRecursion}
 use Rattle.std.proofs.lemmas.Bool.Decides.{nat_tests}
 use Rattle.rt_nodes.specs.declared.memory.NodeId.{NodeId}
-use Rattle.rt_spans.specs.Shown.{Shown}
+use Rattle.rt_spans.specs.Shown.{SpanMapValue}
 use Rattle.rt_stamps.specs.declared.stamp.Span.{Span}
 use Rattle.rt_stamps.specs.declared.stamp.Stamp.{Stamp}
 use Rattle.rt_store.specs.Cells.{is_in_span}
@@ -14,10 +14,10 @@ use Rattle.rt_tree.specs.declared.update.CellUpdate.TheVariants.{Gone, State}
 use Rattle.rt_tree.specs.declared.node.Counts.{Counts}
 use Rattle.rt_tree.specs.declared.node.Run.{Run}
 use Rattle.rt_tree.specs.Homes.{AreHome, AreOnceEach, IsNew, UpdatesOn, holders, run_to}
-use Rattle.rt_tree.specs.Runs.{IsRun, first_stamp, has}
+use Rattle.rt_tree.specs.Runs.{IsRun, first_stamp, has_cell}
 use Rattle.rt_tree.specs.Sharing.{IsChangedAt, run_in}
 use Rattle.rt_tree.specs.Skips.{HasCells}
-use Rattle.rt_tree.specs.Stretches.{AreKept, updated_run}
+use Rattle.rt_tree.specs.Stretches.{AreRunsOfText, updated_run}
 use Rattle.rt_tree.specs.Sums.{counts_of}
 use Rattle.rt_tree.specs.Walks.{IsBehind}
 use Rattle.rt_tree.proofs.Apart.{bit}
@@ -32,7 +32,7 @@ update_if : (t : Bool) (update : CellUpdate) (r : Run) (P : Run → Type 0) → 
 update_if true update r P old new = new
 update_if false update r P old new = old
 
-update_has : (update : CellUpdate) (r : Run) (stamp : Stamp) → has (updated_run update r) stamp ≡ has r stamp
+update_has : (update : CellUpdate) (r : Run) (stamp : Stamp) → has_cell (updated_run update r) stamp ≡ has_cell r stamp
 update_has Gone r stamp = refl
 update_has (State state) r stamp = refl
 
@@ -48,8 +48,8 @@ module _ (span : Span) (update : CellUpdate) (count : ℕ) where
   abbrev test : Run → Bool
   test r = is_in_span span (first_stamp r) && nat_lt r.first count
 
-  pub has_to : (r : Run) (stamp : Stamp) → has (run_to span count update r) stamp ≡ has r stamp
-  has_to r stamp = update_if (test r) update r (λ (x : Run). has x stamp ≡ has r stamp) refl (update_has update r stamp)
+  pub has_to : (r : Run) (stamp : Stamp) → has_cell (run_to span count update r) stamp ≡ has_cell r stamp
+  has_to r stamp = update_if (test r) update r (λ (x : Run). has_cell x stamp ≡ has_cell r stamp) refl (update_has update r stamp)
 
   pub len_to : (r : Run) → (run_to span count update r).len ≡ r.len
   len_to r = update_if (test r) update r (λ (x : Run). x.len ≡ r.len) refl (update_len update r)
@@ -66,14 +66,14 @@ module _ (span : Span) (update : CellUpdate) (count : ℕ) where
       let i = holders_to rs stamp in
       omega (arith, a, b, h, i)
 
-  pub home_to : (leaves : Shown NodeId) (old new : List Run) → new ≡ map (run_to span count update) old → AreHome leaves old → AreHome leaves new
+  pub home_to : (leaves : SpanMapValue NodeId) (old new : List Run) → new ≡ map (run_to span count update) old → AreHome leaves old → AreHome leaves new
   home_to leaves old new is home = same_home leaves old new (λ stamp. ap (holders stamp) is ∙ holders_to old stamp) home
 
   kept_each : (text : List ℕ) (rs : List Run) → AllByRecursion (IsRun text) rs → AllByRecursion (IsRun text) (map (run_to span count update) rs)
   kept_each text [] all = tt
   kept_each text (r ∷ rs) all = (update_if (test r) update r (IsRun text) all.0 (run_updated text update r all.0), kept_each text rs all.1)
 
-  pub kept_to : (old new : List Run) → new ≡ map (run_to span count update) old → AreKept old → AreKept new
+  pub kept_to : (old new : List Run) → new ≡ map (run_to span count update) old → AreRunsOfText old → AreRunsOfText new
   kept_to old new is kept = record { text = kept.text; short = kept.short; runs = subst (AllByRecursion (IsRun kept.text)) (sym is) (kept_each kept.text old kept.runs) }
 
   counts_each : (rs : List Run) → (counts_of (map (run_to span count update) rs)).cells ≡ (counts_of rs).cells
@@ -159,7 +159,7 @@ rest_on span update count next old new low on = record {
 
 -- FROM STAMP TO STAMP
 
-pub in_it : (span : Span) (count : ℕ) (run : Run) → span.first ≤ count → count ≤ span.last → has run (record { count = count; site = span.site }) ≡ true → run.first ≡ count → (run.site ≡ span.site) × (is_in_span span (first_stamp run) ≡ true)
+pub in_it : (span : Span) (count : ℕ) (run : Run) → span.first ≤ count → count ≤ span.last → has_cell run (record { count = count; site = span.site }) ≡ true → run.first ≡ count → (run.site ≡ span.site) × (is_in_span span (first_stamp run) ≡ true)
 in_it span count run low high h first =
     let s : run.site ≡ span.site = grind (arith, nat_tests) in
     (s, grind (arith, nat_tests))
@@ -186,7 +186,7 @@ module _ (span : Span) (update : CellUpdate) (count : ℕ) where
   abbrev now : Stamp
   now = record { count = count; site = span.site }
 
-  begins : (r : Run) → 0 < r.len → is_in_span span (first_stamp r) ≡ true → count ≤ r.first → r.first < count + 1 → has r now ≡ true
+  begins : (r : Run) → 0 < r.len → is_in_span span (first_stamp r) ≡ true → count ≤ r.first → r.first < count + 1 → has_cell r now ≡ true
   begins r some y a b = grind (arith, nat_tests)
 
   -- no run has the stamp
@@ -207,10 +207,10 @@ module _ (span : Span) (update : CellUpdate) (count : ℕ) where
 
   -- a run has the stamp and begins with it
   module _ (run : Run) (site : run.site ≡ span.site) (first : run.first ≡ count) (long : 0 < run.len) (within : is_in_span span (first_stamp run) ≡ true) where
-    covers : (r : Run) → is_in_span span (first_stamp r) ≡ true → count ≤ r.first → r.first < count + run.len → has run (first_stamp r) ≡ true
+    covers : (r : Run) → is_in_span span (first_stamp r) ≡ true → count ≤ r.first → r.first < count + run.len → has_cell run (first_stamp r) ≡ true
     covers r y a b = grind (arith, nat_tests)
 
-    other : (r : Run) → (has run (first_stamp r) ≡ true → ⊥) → run_to span (count + run.len) update r ≡ run_to span count update r
+    other : (r : Run) → (has_cell run (first_stamp r) ≡ true → ⊥) → run_to span (count + run.len) update r ≡ run_to span count update r
     other r out = same_to (count + run.len) r (omega arith) (λ y a b. out (covers r y a b))
 
     others : (rs : List Run) → AllByRecursion HasCells (map (run_to span count update) rs) → IsNew run (map (run_to span count update) rs) → map (run_to span (count + run.len) update) rs ≡ map (run_to span count update) rs
@@ -219,7 +219,7 @@ module _ (span : Span) (update : CellUpdate) (count : ℕ) where
         let e = other r (λ h. apart r rs some.0 new h) in
         ap (λ x. x ∷ map (run_to span (count + run.len) update) rs) e ∙ ap (λ m. run_to span count update r ∷ m) (others rs some.1 (rest r rs new))
       where
-        apart : (r : Run) (rs : List Run) → 0 < (run_to span count update r).len → IsNew run (map (run_to span count update) (r ∷ rs)) → has run (first_stamp r) ≡ true → ⊥
+        apart : (r : Run) (rs : List Run) → 0 < (run_to span count update r).len → IsNew run (map (run_to span count update) (r ∷ rs)) → has_cell run (first_stamp r) ≡ true → ⊥
         apart r rs some new h =
             let s = first_stamp r in
             let n = new s h in
@@ -258,8 +258,8 @@ module _ (span : Span) (update : CellUpdate) (count : ℕ) where
         let t : left ++ run ∷ right ≡ map (run_to span count update) rs = cc in
         let f : first_stamp x ≡ first_stamp r = ap first_stamp h ∙ first_to span update count r in
         let c = λ (s : Stamp). holders-cons s x left in
-        let out : has run (first_stamp r) ≡ true → ⊥ = λ y.
-        let z = ap (has run) f ∙ y in
+        let out : has_cell run (first_stamp r) ≡ true → ⊥ = λ y.
+        let z = ap (has_cell run) f ∙ y in
         let n = nl (first_stamp x) z in
         let d = c (first_stamp x) in
         let b = ap bit (first_has x sl.0) in

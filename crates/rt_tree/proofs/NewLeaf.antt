@@ -7,7 +7,7 @@ use Rattle.rt_tree.specs.declared.node.Entry.{Entry}
 use Rattle.rt_tree.specs.declared.node.Totals.{Totals}
 use Rattle.rt_tree.specs.declared.node.Entry.TheVariants.{Down, Here}
 use Rattle.rt_tree.specs.Changes.{links, bare, IsExactAt, AreExact, AreExactBut, strip, entry_totals, IsLocal}
-use Rattle.rt_tree.specs.Shape.{runs, ahead, behind, level_of, Memory, Fits, count_of, IsShape, all_below}
+use Rattle.rt_tree.specs.Shape.{runs, ahead, behind, level_of, Memory, Fits, child_count, IsShape, all_below}
 use Rattle.rt_tree.proofs.Exact.{each-all, each-both, fits-entries}
 use Rattle.rt_tree.proofs.Frame.{leaf_tree, leaf_runs, each-append, each-front, each-back}
 use Rattle.rt_tree.proofs.Raise.{length-rows, exact-frame, bare_of}
@@ -48,7 +48,7 @@ module _ (m : Memory) (height root : ℕ) (t : IsShape (bare m) height root) (ex
 
   exact-new : (es : List Entry) → AllByRecursion IsLeafEntry es → AreExactBut x (new es)
   exact-new es all id is =
-      let R : Entry → Type 0 = λ e. count_of x ((strip e) ∷ []) ≡ 0 → IsLocal (new es) e in
+      let R : Entry → Type 0 = λ e. child_count x ((strip e) ∷ []) ≡ 0 → IsLocal (new es) e in
       elim (cases_eq id x) [
         | inl e ↦ subst (AllByRecursion R) (sym (ap (λ n. entries (new es) n) e ∙ get_or-set_same m.rows x es [] (omega (arith, xis, t.same, length-rows m)))) (each-all IsLeafEntry R (λ y h z. exact-run es (strip y) (entry_totals y) h) es all)
         | inr ne ↦ subst (AllByRecursion R) (sym (get_or-set_other m.rows x id es [] ne)) (each-all (IsLocal m) R (λ y h z. exact-frame m x es y z h) (entries m id) (exact id is))

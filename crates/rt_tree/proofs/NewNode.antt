@@ -6,7 +6,7 @@ use Rattle.rt_nodes.specs.declared.memory.NodeId.{NodeId}
 use Rattle.rt_tree.specs.declared.node.Head.{Head}
 use Rattle.rt_tree.specs.declared.node.Entry.{Entry}
 use Rattle.rt_tree.specs.Changes.{links, bare, IsAdopted, IsHalved, strip}
-use Rattle.rt_tree.specs.Shape.{level_of, parent_of, head_at, Memory, count_of}
+use Rattle.rt_tree.specs.Shape.{level_of, parent_of, head_at, Memory, child_count}
 use Rattle.rt_tree.proofs.Around.{count-append}
 use Rattle.rt_tree.proofs.Halves.{cases_zero}
 use Rattle.rt_tree.proofs.Bares.{bare-entries}
@@ -68,28 +68,28 @@ module _ (m m1 m2 : Memory) (n p q : NodeId) (k : ℕ) (nis : n.index < length m
     e3 : (c : ℕ) → entries m3 c ≡ entries m2 c
     e3 c = ap (λ (r : List (List Entry)). get_or r c []) a.rows
 
-    unheard : count_of q.index (entries (bare m2) q.index) ≡ 0 → parent_of (bare m3) q.index ≡ p.index
+    unheard : child_count q.index (entries (bare m2) q.index) ≡ 0 → parent_of (bare m3) q.index ≡ p.index
     unheard z = a.stay q.index z ∙ ap (λ (h : Head). h.parent.index) (heads3 q.index ∙ head1q)
 
-    pub halved : ((c : ℕ) → 0 < count_of c (links (entries m n.index)) → c < q.index) → count_of q.index (links (drop k (entries m n.index))) ≡ 0 → IsHalved m m3 n.index q.index p.index k
+    pub halved : ((c : ℕ) → 0 < child_count c (links (entries m n.index)) → c < q.index) → child_count q.index (links (drop k (entries m n.index))) ≡ 0 → IsHalved m m3 n.index q.index p.index k
     halved old z = record {
       new = qh;
       longer = a.heads ∙ ap length heads2 ∙ lens-heads;
       same = let r = ap length a.rows in let r2 = ap (λ (x : Memory). length x.rows) is2 in let s1 = length-set rows2 q.index (entries m1 q.index ++ drop k (entries m1 n.index)) in let s2 = length-set m1.rows n.index (take k (entries m1 n.index)) in let h = a.heads in let hh = ap length heads2 in let l = lens in let lh = lens-heads in omega arith;
       levels = λ c lt. a.levels c ∙ ap (λ (h : Head). h.level) (heads3 c ∙ head1 c lt);
       level = a.levels q.index ∙ ap (λ (h : Head). h.level) (heads3 q.index ∙ head1q);
-      moved = λ c lt some. a.moved c (omega (arith, ap length heads2, lens-heads)) (omega (arith, ap (count_of c) kids));
-      stay = λ c lt zz. a.stay c (ap (count_of c) kids ∙ zz) ∙ ap (λ (h : Head). h.parent.index) (heads3 c ∙ head1 c lt);
-      parent = unheard (ap (count_of q.index) kids ∙ z);
+      moved = λ c lt some. a.moved c (omega (arith, ap length heads2, lens-heads)) (omega (arith, ap (child_count c) kids));
+      stay = λ c lt zz. a.stay c (ap (child_count c) kids ∙ zz) ∙ ap (λ (h : Head). h.parent.index) (heads3 c ∙ head1 c lt);
+      parent = unheard (ap (child_count q.index) kids ∙ z);
       at_n = e3 n.index ∙ e2n;
       at_q = e3 q.index ∙ e2q;
       others = λ c lt ne. e3 c ∙ e2 c lt ne;
       room = let r = a.room in let r2 = ap (λ (x : Memory). x.room) is2 in omega (arith, room1);
     }
 
-pub drop-count : (c k : ℕ) (es : List Entry) → count_of c (links (drop k es)) ≤ count_of c (links es)
+pub drop-count : (c k : ℕ) (es : List Entry) → child_count c (links (drop k es)) ≤ child_count c (links es)
 drop-count c k es =
-    let w = ap (λ l. count_of c (links l)) (sym (take-append-drop k es)) ∙ ap (count_of c) (map-append strip (take k es) (drop k es)) ∙ count-append c (links (take k es)) (links (drop k es)) in
+    let w = ap (λ l. child_count c (links l)) (sym (take-append-drop k es)) ∙ ap (child_count c) (map-append strip (take k es) (drop k es)) ∙ count-append c (links (take k es)) (links (drop k es)) in
     omega arith
 
 abbrev pub head_of : NodeId → ℕ → Head
@@ -99,11 +99,11 @@ head_of p l = record { parent = p; level = l }
 pub head-is : (m m1 : Memory) (p : NodeId) (n level : ℕ) → level ≡ level_of (bare m) n → m1.heads ≡ m.heads ++ (record { parent = p; level = level }) ∷ [] → m1.heads ≡ m.heads ++ (record { parent = p; level = level_of (bare m) n }) ∷ []
 head-is m m1 p n level e is = is ∙ ap (λ l. m.heads ++ head_of p l ∷ []) e
 
-pub none_new : (m : Memory) (n q k : ℕ) → q ≡ length m.heads → ((c : ℕ) → 0 < count_of c (links (entries m n)) → c < length m.heads) → count_of q (links (drop k (entries m n))) ≡ 0
-none_new m n q k qh kids = elim (cases_zero (count_of q (links (drop k (entries m n))))) [ inl z ↦ z | inr some ↦ absurd (let d = drop-count q k (entries m n) in let l = kids q (omega arith) in omega arith) ]
+pub none_new : (m : Memory) (n q k : ℕ) → q ≡ length m.heads → ((c : ℕ) → 0 < child_count c (links (entries m n)) → c < length m.heads) → child_count q (links (drop k (entries m n))) ≡ 0
+none_new m n q k qh kids = elim (cases_zero (child_count q (links (drop k (entries m n))))) [ inl z ↦ z | inr some ↦ absurd (let d = drop-count q k (entries m n) in let l = kids q (omega arith) in omega arith) ]
 
 -- nothing is to be adopted where no node stands among the entries
-pub unadopted : (m : Memory) (q : ℕ) (es : List Entry) → ((c : ℕ) → 0 < count_of c es → ⊥) → IsAdopted m m q es
+pub unadopted : (m : Memory) (q : ℕ) (es : List Entry) → ((c : ℕ) → 0 < child_count c es → ⊥) → IsAdopted m m q es
 unadopted m q es none = record {
   rows = refl;
   room = refl;

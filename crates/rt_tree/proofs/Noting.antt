@@ -14,7 +14,7 @@ use Rattle.rt_tree.specs.declared.node.Entry.{Entry}
 use Rattle.rt_tree.specs.declared.node.Entry.TheVariants.{Down, Here}
 use Rattle.rt_tree.specs.declared.summary.Summary.{Summary}
 use Rattle.rt_tree.specs.Changes.{above, bare, kid, strip}
-use Rattle.rt_tree.specs.Shape.{Fits, IsShape, Memory, all_below, below, count_of, left_of, level_of, parent_of, right_of, runs}
+use Rattle.rt_tree.specs.Shape.{Fits, IsShape, Memory, all_below, below, child_count, left_of, level_of, parent_of, right_of, runs}
 use Rattle.rt_tree.specs.Summaries.{AreSummedBut, HasEnds, IsSummary, left_in, right_in, shown_before, shown_behind, shown_states, summary_of}
 use Rattle.rt_tree.proofs.Around.{below_top, leads_to, node, take-left}
 use Rattle.rt_tree.proofs.Bares.{bare-entries}
@@ -136,12 +136,12 @@ module _ (m : Memory) (height root : ℕ) (t : IsShape m height root) where
       pub child_at : (child < length m.heads) × (level_of m child ≡ j)
       child_at = let n = at m height root t x xis low j (omega (arith, le)) in subst (λ d. (d < length m.heads) × (level_of m d ≡ j)) (sym child_is) n
 
-      pub stands_in : 0 < count_of child (entries (bare m) p)
+      pub stands_in : 0 < child_count child (entries (bare m) p)
       stands_in =
           let kn = t.known child child_at.0 (below_top m height root t child child_at.0 (omega (arith, child_at.1, le))) in
           let up : parent_of m child ≡ p = ap (parent_of m) child_is ∙ sym p_is in
-          let once = ap (λ q. count_of child (entries m q)) (sym up) ∙ kn.once in
-          let same = ap (count_of child) (bare-entries m p) ∙ count-bare m child (entries m p) in
+          let once = ap (λ q. child_count child (entries m q)) (sym up) ∙ kn.once in
+          let same = ap (child_count child) (bare-entries m p) ∙ count-bare m child (entries m p) in
           omega (arith, once, same)
 
       abbrev LastIs : ℕ → ℕ → Type 0

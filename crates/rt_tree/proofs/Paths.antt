@@ -8,7 +8,7 @@ use Rattle.rt_tree.specs.declared.node.Entry.{Entry}
 use Rattle.rt_tree.specs.declared.node.Entry.TheVariants.{Down}
 use Rattle.rt_tree.specs.declared.node.Run.{Run}
 use Rattle.rt_tree.specs.Changes.{above}
-use Rattle.rt_tree.specs.Shape.{Fits, IsShape, Memory, all_below, below, count_of, left_of, level_of, right_of, runs}
+use Rattle.rt_tree.specs.Shape.{Fits, IsShape, Memory, all_below, below, child_count, left_of, level_of, right_of, runs}
 use Rattle.rt_tags.specs.Borders.{one_or_none}
 use Rattle.rt_tags.specs.States.{TagStates}
 use Rattle.rt_tree.specs.declared.summary.Summary.{Summary}
@@ -65,11 +65,11 @@ module _ (s : Memory) (height root : ℕ) (t : IsShape s height root) (x : ℕ) 
         let F : Entry → Type 0 = Fits s p (suc j) in
         let fits : AllByRecursion F (left ++ Down (node id) ap'.totals ∷ right) = subst (AllByRecursion F) ap'.cut (subst (λ k. AllByRecursion (Fits s p k) (entries s p)) up.1 (t.fits p up.0)) in
         let q : suc j ≡ suc (level_of s x + j) = omega (arith, low) in
-        let one = λ (l : Entry) (f : F l) (z : count_of id (l ∷ []) ≡ 0). side-one s height root t x xis ls j id p (suc j) q refl l f z in (
+        let one = λ (l : Entry) (f : F l) (z : child_count id (l ∷ []) ≡ 0). side-one s height root t x xis ls j id p (suc j) q refl l f z in (
           (ap (λ es. all_below new (suc j) (left_of id es)) (same-at s height root t x xis ls p ne)
-              ∙ flat-same (below new (suc j)) (below s (suc j)) left (each-both F (λ l. count_of id (l ∷ []) ≡ 0) (λ l. below new (suc j) l ≡ below s (suc j) l) one left (each-front F left (Down (node id) ap'.totals ∷ right) fits) ap'.left)),
+              ∙ flat-same (below new (suc j)) (below s (suc j)) left (each-both F (λ l. child_count id (l ∷ []) ≡ 0) (λ l. below new (suc j) l ≡ below s (suc j) l) one left (each-front F left (Down (node id) ap'.totals ∷ right) fits) ap'.left)),
           (ap (λ es. all_below new (suc j) (right_of id es)) (same-at s height root t x xis ls p ne)
-              ∙ flat-same (below new (suc j)) (below s (suc j)) right (each-both F (λ l. count_of id (l ∷ []) ≡ 0) (λ l. below new (suc j) l ≡ below s (suc j) l) one right (each-back F left (Down (node id) ap'.totals ∷ right) fits).1 ap'.right)),
+              ∙ flat-same (below new (suc j)) (below s (suc j)) right (each-both F (λ l. child_count id (l ∷ []) ≡ 0) (λ l. below new (suc j) l ≡ below s (suc j) l) one right (each-back F left (Down (node id) ap'.totals ∷ right) fits).1 ap'.right)),
         )
 
     -- what stands beside the leaf is as it was

@@ -9,7 +9,7 @@ use Rattle.rt_store.specs.Cells.{cells_from}
 use Rattle.rt_tree.specs.declared.update.CellUpdate.{CellUpdate}
 use Rattle.rt_tree.specs.declared.update.CellUpdate.TheVariants.{Gone, State}
 use Rattle.rt_tree.specs.declared.node.Run.{Run}
-use Rattle.rt_tree.specs.Runs.{IsRun, cells_of, characters, run_cells, with_gone}
+use Rattle.rt_tree.specs.Runs.{IsRun, cells_of_runs, run_characters, run_cells, with_gone}
 use Rattle.rt_tree.specs.Sharing.{IsRecut}
 use Rattle.rt_tree.specs.Stretches.{back_of, front_of, updated_cell, updated_run}
 use Rattle.rt_tree.proofs.Apart.{apart_cut, begins_cut}
@@ -85,9 +85,9 @@ module _ (r : Run) (k : ℕ) (b : List Run) (some : 0 < k) (lt : k < r.len) wher
   kept_cut text [] all = (front_run text r k all.0 some lt, (back_run text r k all.0 some lt, all.1))
   kept_cut text (x ∷ a) all = (all.0, kept_cut text a all.1)
 
-  cells_cut : (text : List ℕ) (a : List Run) → AllByRecursion (IsRun text) (a ++ r ∷ b) → cells_of text (a ++ front_of k r ∷ back_of k r ∷ b) ≡ cells_of text (a ++ r ∷ b)
+  cells_cut : (text : List ℕ) (a : List Run) → AllByRecursion (IsRun text) (a ++ r ∷ b) → cells_of_runs text (a ++ front_of k r ∷ back_of k r ∷ b) ≡ cells_of_runs text (a ++ r ∷ b)
   cells_cut text [] all =
-      sym (ap (λ l. l ++ cells_of text b) (run_parts text r k all.0 some lt) ∙ append_assoc (run_cells text (front_of k r)) (run_cells text (back_of k r)) (cells_of text b))
+      sym (ap (λ l. l ++ cells_of_runs text b) (run_parts text r k all.0 some lt) ∙ append_assoc (run_cells text (front_of k r)) (run_cells text (back_of k r)) (cells_of_runs text b))
   cells_cut text (x ∷ a) all = ap (λ l. run_cells text x ++ l) (cells_cut text a all.1)
 
   pub recut : (a : List Run) → IsRecut (a ++ r ∷ b) (a ++ front_of k r ∷ back_of k r ∷ b)
@@ -110,8 +110,8 @@ from-state gone count site old new [] = refl
 from-state gone count site old new (c ∷ cs) = ap (λ l. record { stamp = record { count = count; site = site }; ch = c; gone = gone; state = new } ∷ l) (from-state gone (count + 1) site old new cs)
 
 pub updated_cells : (text : List ℕ) (update : CellUpdate) (r : Run) → run_cells text (updated_run update r) ≡ map (updated_cell update) (run_cells text r)
-updated_cells text Gone r = from-gone r.gone r.first r.site r.state (characters text r)
-updated_cells text (State state) r = from-state r.gone r.first r.site r.state state (characters text r)
+updated_cells text Gone r = from-gone r.gone r.first r.site r.state (run_characters text r)
+updated_cells text (State state) r = from-state r.gone r.first r.site r.state state (run_characters text r)
 
 pub run_updated : (text : List ℕ) (update : CellUpdate) (r : Run) → IsRun text r → IsRun text (updated_run update r)
 run_updated text Gone r is = record { some = is.some; stands = is.stands; counts = is.counts; plain = is.plain; ends = is.ends }
@@ -131,12 +131,12 @@ pub kept_more : (text : List ℕ) (a : List Run) (x : Run) (b : List Run) → Is
 kept_more text [] x b is all = (is, all)
 kept_more text (z ∷ a) x b is all = (all.0, kept_more text a x b is all.1)
 
-pub cells_mid : (text : List ℕ) (a : List Run) (x : Run) (b : List Run) → cells_of text (a ++ x ∷ b) ≡ cells_of text a ++ (run_cells text x ++ cells_of text b)
+pub cells_mid : (text : List ℕ) (a : List Run) (x : Run) (b : List Run) → cells_of_runs text (a ++ x ∷ b) ≡ cells_of_runs text a ++ (run_cells text x ++ cells_of_runs text b)
 cells_mid text a x b = flat_map-append (run_cells text) a (x ∷ b)
 
 -- A LONGER TEXT
 
-grown_characters : (text more : List ℕ) (r : Run) → r.at + r.len ≤ length text → characters (text ++ more) r ≡ characters text r
+grown_characters : (text more : List ℕ) (r : Run) → r.at + r.len ≤ length text → run_characters (text ++ more) r ≡ run_characters text r
 grown_characters text more r le =
     let l = length-drop r.at text in
     ap (take r.len) (drop-append-le r.at text more (omega (arith, le))) ∙ take-append-le r.len (drop r.at text) more (omega (arith, l, le))
@@ -157,8 +157,8 @@ pub grown_kept : (text more : List ℕ) (rs : List Run) → AllByRecursion (IsRu
 grown_kept text more [] all = tt
 grown_kept text more (r ∷ rs) all = (grown_run text more r all.0, grown_kept text more rs all.1)
 
-pub grown_cells : (text more : List ℕ) (rs : List Run) → AllByRecursion (IsRun text) rs → cells_of (text ++ more) rs ≡ cells_of text rs
+pub grown_cells : (text more : List ℕ) (rs : List Run) → AllByRecursion (IsRun text) rs → cells_of_runs (text ++ more) rs ≡ cells_of_runs text rs
 grown_cells text more [] all = refl
 grown_cells text more (r ∷ rs) all =
-    ap (λ cs. map (with_gone r.gone) (cells_from r.first r.site r.state cs) ++ cells_of (text ++ more) rs) (grown_characters text more r all.0.stands)
+    ap (λ cs. map (with_gone r.gone) (cells_from r.first r.site r.state cs) ++ cells_of_runs (text ++ more) rs) (grown_characters text more r all.0.stands)
     ∙ ap (λ l. run_cells text r ++ l) (grown_cells text more rs all.1)

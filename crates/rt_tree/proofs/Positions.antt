@@ -11,7 +11,7 @@ use Rattle.rt_store.proofs.Distinct.{split}
 use Rattle.rt_tree.specs.declared.node.Counts.{Counts}
 use Rattle.rt_tree.specs.declared.node.CountedBy.TheVariants.{Cells}
 use Rattle.rt_tree.specs.declared.node.Run.{Run}
-use Rattle.rt_tree.specs.Runs.{IsRun, cells_of, characters, has, run_cells, with_gone}
+use Rattle.rt_tree.specs.Runs.{IsRun, cells_of_runs, run_characters, has_cell, run_cells, with_gone}
 use Rattle.rt_tree.specs.Walks.{StandsAt}
 use Rattle.rt_tree.proofs.CellLaws.{cells_around, characters_length, counted_left, is_run, run_length, visible-append}
 
@@ -92,10 +92,10 @@ visible-row true (c ∷ cs) rest (suc k) le = visible-row true cs rest k (omega 
 visible-row false (c ∷ cs) rest (suc k) le = ap suc (visible-row false cs rest k (omega (arith, le)))
 
 module _ (text : List ℕ) (all : List Run) (run : Run) (front : Counts) (offset place : ℕ) (runs : AllByRecursion (IsRun text) all) where
-  pub visible_there : StandsAt Cells all run front offset place → front.visible + (if run.gone then 0 else offset) ≡ visible_before (cells_of text all) place
+  pub visible_there : StandsAt Cells all run front offset place → front.visible + (if run.gone then 0 else offset) ≡ visible_before (cells_of_runs text all) place
   visible_there st =
-      let before_it = cells_of text st.left in
-      let rest = cells_of text st.right in
+      let before_it = cells_of_runs text st.left in
+      let rest = cells_of_runs text st.right in
       let l = counted_left text all run front offset place runs st.left st.right st.here in
       let f = ap (λ (x : Counts). x.cells) st.before in
       let v = ap (λ (x : Counts). x.visible) st.before in
@@ -104,46 +104,46 @@ module _ (text : List ℕ) (all : List Run) (run : Run) (front : Counts) (offset
       ∙ ap visible_of (take-right before_it (run_cells text run ++ rest) place offset (omega (arith, l.cells, f, st.at)))
       ∙ visible-append before_it (take offset (run_cells text run ++ rest)) in
       let n = ap length cut ∙ length-append (visible_of before_it) (visible_of (take offset (run_cells text run ++ rest))) in
-      let own = visible-row run.gone (cells_from run.first run.site run.state (characters text run)) rest offset (omega (arith, long, st.inside)) in
+      let own = visible-row run.gone (cells_from run.first run.site run.state (run_characters text run)) rest offset (omega (arith, long, st.inside)) in
       omega (arith, n, l.visible, v, own)
 
   -- a run in which a walk for a stamp is
-  module _ (stamp : Stamp) (low : place ≤ before (cells_of text all) stamp) where
-    ahead_of : StandsAt Cells all run front offset place → (rest : List (Cell ℕ)) × (before (cells_of text all) stamp ≡ place - offset + before (run_cells text run ++ rest) stamp)
+  module _ (stamp : Stamp) (low : place ≤ before (cells_of_runs text all) stamp) where
+    ahead_of : StandsAt Cells all run front offset place → (rest : List (Cell ℕ)) × (before (cells_of_runs text all) stamp ≡ place - offset + before (run_cells text run ++ rest) stamp)
     ahead_of st =
-        let rest = cells_of text st.right in
-        let mine = cells_of text st.left in
+        let rest = cells_of_runs text st.right in
+        let mine = cells_of_runs text st.left in
         let l = counted_left text all run front offset place runs st.left st.right st.here in
         let f = ap (λ (x : Counts). x.cells) st.before in
         let cut = ap (λ cs. before cs stamp) (cells_around text all run front offset place runs st.left st.right st.here) in
         let b = before-append mine (run_cells text run ++ rest) stamp (omega (arith, low, cut, l.cells, f, st.at)) in
         (rest, omega (arith, cut, b, l.cells, f, st.at))
 
-    pub stamp_here : StandsAt Cells all run front offset place → has run stamp ≡ true → place - offset + (stamp.count - run.first) ≡ before (cells_of text all) stamp
+    pub stamp_here : StandsAt Cells all run front offset place → has_cell run stamp ≡ true → place - offset + (stamp.count - run.first) ≡ before (cells_of_runs text all) stamp
     stamp_here st h =
         let a = ahead_of st in
         let long = characters_length text run (is_run text all run front offset place runs st.left st.right st.here) in
-        let b = before-row run.gone run.first run.site run.state (characters text run) a.0 stamp (ap (λ n. among run.first run.site n stamp) long ∙ h) in
+        let b = before-row run.gone run.first run.site run.state (run_characters text run) a.0 stamp (ap (λ n. among run.first run.site n stamp) long ∙ h) in
         omega (arith, a.1, b)
 
-    pub stamp_later : StandsAt Cells all run front offset place → has run stamp ≡ false → place - offset + run.len ≤ before (cells_of text all) stamp
+    pub stamp_later : StandsAt Cells all run front offset place → has_cell run stamp ≡ false → place - offset + run.len ≤ before (cells_of_runs text all) stamp
     stamp_later st h =
         let a = ahead_of st in
         let long = characters_length text run (is_run text all run front offset place runs st.left st.right st.here) in
-        let b = before-none run.gone run.first run.site run.state (characters text run) a.0 stamp (ap (λ n. among run.first run.site n stamp) long ∙ h) in
+        let b = before-none run.gone run.first run.site run.state (run_characters text run) a.0 stamp (ap (λ n. among run.first run.site n stamp) long ∙ h) in
         omega (arith, a.1, b, long)
 
     -- the run ends within the cells
-    pub fits_here : StandsAt Cells all run front offset place → place - offset + run.len ≤ length (cells_of text all)
+    pub fits_here : StandsAt Cells all run front offset place → place - offset + run.len ≤ length (cells_of_runs text all)
     fits_here st =
-        let rest = cells_of text st.right in
+        let rest = cells_of_runs text st.right in
         let l = counted_left text all run front offset place runs st.left st.right st.here in
         let f = ap (λ (x : Counts). x.cells) st.before in
         let long = run_length text run (is_run text all run front offset place runs st.left st.right st.here) in
         let cut = ap length (cells_around text all run front offset place runs st.left st.right st.here)
-        ∙ length-append (cells_of text st.left) (run_cells text run ++ rest) in
+        ∙ length-append (cells_of_runs text st.left) (run_cells text run ++ rest) in
         let more = length-append (run_cells text run) rest in
         omega (arith, cut, more, l.cells, f, st.at, long)
 
-pub has_within : (r : Run) (stamp : Stamp) → has r stamp ≡ true → stamp.count - r.first < r.len
+pub has_within : (r : Run) (stamp : Stamp) → has_cell r stamp ≡ true → stamp.count - r.first < r.len
 has_within r stamp h = grind (arith, nat_tests)

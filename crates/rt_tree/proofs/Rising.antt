@@ -10,7 +10,7 @@ use Rattle.rt_tree.specs.declared.node.Totals.{Totals}
 use Rattle.rt_tree.specs.declared.node.Counts.{Counts}
 use Rattle.rt_tree.specs.declared.node.Entry.{Entry}
 use Rattle.rt_tree.specs.declared.node.Entry.TheVariants.{Down, Here}
-use Rattle.rt_tree.specs.Shape.{Memory, IsExact, IsTree, ahead, all_below, around, behind, below, count_of, entry_counts, is_of, left_of, level_of, parent_of, runs_before, sum_of, tree_runs}
+use Rattle.rt_tree.specs.Shape.{Memory, IsExact, IsTree, ahead, all_below, around, behind, below, child_count, entry_counts, is_of, left_of, level_of, parent_of, runs_before, sum_of, tree_runs}
 use Rattle.rt_tree.specs.Sums.{AreFew, counts_of, plus}
 use Rattle.rt_tree.proofs.Around.{cut_at, cut_around, test_other, test_same}
 use Rattle.rt_tree.proofs.Down.{sum-front}
@@ -65,7 +65,7 @@ miss id (Down c t ∷ es) (suc i) e low lt is to = elim (cases_eq c.index id) [
       subst (λ ls. Within ls (suc i) e) (sym (left_later id c t es ne)) (omega (arith, more.0), more.1)
 ]
 
-pub shorter : (id : ℕ) (es : List Entry) → 0 < count_of id es → length (left_of id es) < length es
+pub shorter : (id : ℕ) (es : List Entry) → 0 < child_count id es → length (left_of id es) < length es
 shorter id [] some = absurd (omega arith)
 shorter id (Here r ∷ es) some = let less = shorter id es some in omega (arith, less)
 shorter id (Down c t ∷ es) some = elim (cases_eq c.index id) [

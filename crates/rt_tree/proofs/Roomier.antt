@@ -5,7 +5,7 @@ use Rattle.std.proofs.lemmas.Bool.{ltb-false, ltb-true}
 use Rattle.std.specs.List.{AllByRecursion}
 use Rattle.rt_nodes.specs.declared.memory.NodeId.{NodeId}
 use Rattle.rt_nodes.specs.Nodes.{entries, with_room}
-use Rattle.rt_spans.specs.Shown.{KeepsBorders, Shown, value_of}
+use Rattle.rt_spans.specs.Shown.{KeepsBorders, SpanMapValue, value_of}
 use Rattle.rt_stamps.specs.declared.stamp.Stamp.{Stamp}
 use Rattle.rt_tags.proofs.Places.{split}
 use Rattle.rt_tree.specs.declared.node.Entry.{Entry}
@@ -14,13 +14,13 @@ use Rattle.rt_stamps.specs.declared.limits.TheConstants.{MOST_CELLS}
 use Rattle.rt_store.specs.Cells.{Room}
 use Rattle.rt_tree.specs.declared.node.Run.{Run}
 use Rattle.rt_tree.specs.declared.summary.Summary.{Summary}
-use Rattle.rt_tree.specs.Runs.{IsRun, cells_of}
+use Rattle.rt_tree.specs.Runs.{IsRun, cells_of_runs}
 use Rattle.rt_tree.specs.Shape.{Fits, IsExact, IsTree, Memory, all_below, below, level_of, runs, tree_runs}
 use Rattle.rt_tree.specs.Sharing.{AreApart}
 use Rattle.rt_tree.specs.Standing.{AreHoused, IsBordered}
 use Rattle.rt_tree.specs.Sums.{counts_of, totals_of}
 use Rattle.rt_tree.specs.Summaries.{TellsAs, summary_of}
-use Rattle.rt_tree.specs.Trees.{HasNodes, IsKept, Stretch, came_of, shown, stretches_of}
+use Rattle.rt_tree.specs.Trees.{HasNodes, IsTreeOfText, NodeStretch, came_of, tree_value, node_stretches}
 use Rattle.rt_tree.proofs.Showing.{stretches_same}
 use Rattle.rt_tree.proofs.Telling.{tells_same}
 
@@ -73,7 +73,7 @@ module _ (m : Memory) (n : ℕ) where
   node_room : (id : ℕ) → runs more (level_of more id) id ≡ runs m (level_of m id) id
   node_room id = flat-room (level_of m id) (below-room (level_of m id)) (entries m id)
 
-  pub stretches_room : (sums : List Summary) → stretches_of more sums (length m.heads) ≡ stretches_of m sums (length m.heads)
+  pub stretches_room : (sums : List Summary) → node_stretches more sums (length m.heads) ≡ node_stretches m sums (length m.heads)
   stretches_room sums = stretches_same m more sums sums (length m.heads) node_room (λ id lt. tells_same (summary_of sums id))
 
   pub runs_room : (root : ℕ) → tree_runs more root ≡ tree_runs m root
@@ -85,12 +85,12 @@ nodes_enough runs heads had =
     let r = le-max_right had (runs / 7 + 1 - heads) in
     omega (arith, r)
 
-borders_stay : (leaves after : Shown NodeId) → KeepsBorders leaves after → (rs : List Run) → AllByRecursion (IsBordered leaves) rs → AllByRecursion (IsBordered after) rs
+borders_stay : (leaves after : SpanMapValue NodeId) → KeepsBorders leaves after → (rs : List Run) → AllByRecursion (IsBordered leaves) rs → AllByRecursion (IsBordered after) rs
 borders_stay leaves after keeps [] was = tt
 borders_stay leaves after keeps (r ∷ rs) was =
     (record { begins = keeps r.site r.first was.0.begins; ends = keeps r.site (r.first + r.len) was.0.ends; bound = was.0.bound }, borders_stay leaves after keeps rs was.1)
 
-pub map_housed : (m : Memory) (root : ℕ) (leaves after : Shown NodeId) → ((stamp : Stamp) → value_of after stamp ≡ value_of leaves stamp) → KeepsBorders leaves after → AreHoused m root leaves → AreHoused m root after
+pub map_housed : (m : Memory) (root : ℕ) (leaves after : SpanMapValue NodeId) → ((stamp : Stamp) → value_of after stamp ≡ value_of leaves stamp) → KeepsBorders leaves after → AreHoused m root leaves → AreHoused m root after
 map_housed m root leaves after same keeps h = record {
   bordered = borders_stay leaves after keeps (tree_runs m root) h.bordered;
   there = λ leaf run s stamp own. same stamp ∙ h.there leaf run s stamp own;
@@ -100,7 +100,7 @@ module _ (m : Memory) (n : ℕ) (root : ℕ) (text : List ℕ) (runs : ℕ) (m' 
   pub room_runs : tree_runs m' root ≡ tree_runs m root
   room_runs = ap (λ (x : Memory). tree_runs x root) is ∙ runs_room m n root
 
-  pub room_kept : IsKept m root text runs → IsKept m' root text runs
+  pub room_kept : IsTreeOfText m root text runs → IsTreeOfText m' root text runs
   room_kept k =
       let same = sym room_runs in
       record {
@@ -113,7 +113,7 @@ module _ (m : Memory) (n : ℕ) (root : ℕ) (text : List ℕ) (runs : ℕ) (m' 
       }
 
   -- each run's stamps still have its leaf, if the map tells the same and keeps its borders
-  pub room_housed : (leaves after : Shown NodeId) → ((stamp : Stamp) → value_of after stamp ≡ value_of leaves stamp) → KeepsBorders leaves after → AreHoused m root leaves → AreHoused m' root after
+  pub room_housed : (leaves after : SpanMapValue NodeId) → ((stamp : Stamp) → value_of after stamp ≡ value_of leaves stamp) → KeepsBorders leaves after → AreHoused m root leaves → AreHoused m' root after
   room_housed leaves after same keeps h =
       let now = map_housed m root leaves after same keeps h in
       subst (λ (x : Memory). AreHoused x root after) (sym is) (record {
@@ -122,16 +122,16 @@ module _ (m : Memory) (n : ℕ) (root : ℕ) (text : List ℕ) (runs : ℕ) (m' 
       })
 
 module _ (m : Memory) (n : ℕ) (root : ℕ) (text : List ℕ) (sums : List Summary) (room : Room) (m' : Memory) (is : m' ≡ with_room m n) where
-  pub room_shown : (sure : Bool) → shown m' root text sums room sure ≡ shown m root text sums room sure
+  pub room_shown : (sure : Bool) → tree_value m' root text sums room sure ≡ tree_value m root text sums room sure
   room_shown sure =
-      ap (λ (x : Memory). shown x root text sums room sure) is
-      ∙ ap (λ (l : List Run). record { cells = cells_of text l; came = came_of l; runs = length l; height = level_of m root + 1; room = room; stretches = stretches_of (with_room m n) sums (length m.heads); sure = sure }) (runs_room m n root)
-      ∙ ap (λ (l : List Stretch). record { cells = cells_of text (tree_runs m root); came = came_of (tree_runs m root); runs = length (tree_runs m root); height = level_of m root + 1; room = room; stretches = l; sure = sure }) (stretches_room m n sums)
+      ap (λ (x : Memory). tree_value x root text sums room sure) is
+      ∙ ap (λ (l : List Run). record { cells = cells_of_runs text l; came = came_of l; runs = length l; height = level_of m root + 1; room = room; stretches = node_stretches (with_room m n) sums (length m.heads); sure = sure }) (runs_room m n root)
+      ∙ ap (λ (l : List NodeStretch). record { cells = cells_of_runs text (tree_runs m root); came = came_of (tree_runs m root); runs = length (tree_runs m root); height = level_of m root + 1; room = room; stretches = l; sure = sure }) (stretches_room m n sums)
 
 -- a tree is shown alike where summaries tell the same
-pub sums_shown : (m : Memory) (root : ℕ) (text : List ℕ) (sums sums' : List Summary) (room : Room) (sure : Bool) → length m.heads ≤ length sums → ((id : ℕ) → id < length sums → TellsAs (summary_of sums id) (summary_of sums' id)) → shown m root text sums' room sure ≡ shown m root text sums room sure
+pub sums_shown : (m : Memory) (root : ℕ) (text : List ℕ) (sums sums' : List Summary) (room : Room) (sure : Bool) → length m.heads ≤ length sums → ((id : ℕ) → id < length sums → TellsAs (summary_of sums id) (summary_of sums' id)) → tree_value m root text sums' room sure ≡ tree_value m root text sums room sure
 sums_shown m root text sums sums' room sure many tells =
-    ap (λ (l : List Stretch). record { cells = cells_of text (tree_runs m root); came = came_of (tree_runs m root); runs = length (tree_runs m root); height = level_of m root + 1; room = room; stretches = l; sure = sure })
+    ap (λ (l : List NodeStretch). record { cells = cells_of_runs text (tree_runs m root); came = came_of (tree_runs m root); runs = length (tree_runs m root); height = level_of m root + 1; room = room; stretches = l; sure = sure })
     (stretches_same m m sums sums' (length m.heads) (λ id. refl) (λ id lt. tells id (omega (arith, lt, many))))
 
 -- there are summaries for as many nodes

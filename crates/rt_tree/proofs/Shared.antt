@@ -14,8 +14,8 @@ use Rattle.rt_store.specs.declared.cell.Cell.{Cell}
 use Rattle.rt_store.specs.Cells.{AreDistinct, cells_from, put_at, stamps_of}
 use Rattle.rt_store.specs.Spans.{is_among}
 use Rattle.rt_tree.specs.declared.node.Run.{Run}
-use Rattle.rt_tree.specs.Additions.{IsFrontOf, are_joint, joined}
-use Rattle.rt_tree.specs.Runs.{IsRun, cells_of, characters, first_stamp, has, run_cells, with_gone}
+use Rattle.rt_tree.specs.Additions.{IsFrontOf, are_joint, run_joined}
+use Rattle.rt_tree.specs.Runs.{IsRun, cells_of_runs, run_characters, first_stamp, has_cell, run_cells, with_gone}
 use Rattle.rt_tree.specs.Sharing.{AreApart, AreOnce, is_long_with, is_shared_by, long_with, occurrences}
 use Rattle.rt_tree.specs.Walks.{IsPutAt}
 use Rattle.rt_tree.proofs.Apart.{bit, long-cons, long-mid}
@@ -40,10 +40,10 @@ one_shared run [] r b e = rw e refl
 one_shared run (x ∷ a) r b e = let h = one_shared run a r b e in split (is_shared_by run x) (λ t. rw t refl) (λ f. rw f h)
 
 -- a stamp of a run that shares none with runs of more than one cell is in none of them
-not_long : (run r : Run) (stamp : Stamp) → is_shared_by run r ≡ false → has run stamp ≡ true → is_long_with stamp r ≡ false
+not_long : (run r : Run) (stamp : Stamp) → is_shared_by run r ≡ false → has_cell run stamp ≡ true → is_long_with stamp r ≡ false
 not_long run r stamp apart there = split (is_long_with stamp r) (λ l. absurd (grind (arith, nat_tests))) (λ n. n)
 
-pub none_long : (run : Run) (stamp : Stamp) (rs : List Run) → list_any (is_shared_by run) rs ≡ false → has run stamp ≡ true → long_with stamp rs ≡ 0
+pub none_long : (run : Run) (stamp : Stamp) (rs : List Run) → list_any (is_shared_by run) rs ≡ false → has_cell run stamp ≡ true → long_with stamp rs ≡ 0
 none_long run stamp [] apart there = refl
 none_long run stamp (r ∷ rs) apart there =
     let p = or_parts (is_shared_by run r) (list_any (is_shared_by run) rs) apart in
@@ -52,7 +52,7 @@ none_long run stamp (r ∷ rs) apart there =
     let h = none_long run stamp rs p.1 there in
     omega (arith, c, b, h)
 
-not_with : (stamp : Stamp) (r : Run) → has r stamp ≡ false → is_long_with stamp r ≡ false
+not_with : (stamp : Stamp) (r : Run) → has_cell r stamp ≡ false → is_long_with stamp r ≡ false
 not_with stamp r h = split (is_long_with stamp r) (λ l. absurd (grind (arith, nat_tests))) (λ n. n)
 
 -- one more run that shares none
@@ -60,7 +60,7 @@ pub apart_more : (run : Run) (rs : List Run) → list_any (is_shared_by run) rs 
 apart_more run rs apart is stamp =
     let c = long-cons stamp run rs in
     let h = is stamp in
-    split (has run stamp)
+    split (has_cell run stamp)
     (λ t. let n = none_long run stamp rs apart t in let o = bit_low (is_long_with stamp run) in omega (arith, c, n, o))
     (λ f. let n = bit_none (is_long_with stamp run) (not_with stamp run f) in omega (arith, c, n, h))
 
@@ -89,35 +89,35 @@ apart_put old new at run put is stamp =
 
 -- A RUN THAT GOES ON
 
-pub either_has : (a b : Run) (stamp : Stamp) → AreJoint a b → has (joined a b) stamp ≡ true → has a stamp ≡ false → has b stamp ≡ true
+pub either_has : (a b : Run) (stamp : Stamp) → AreJoint a b → has_cell (run_joined a b) stamp ≡ true → has_cell a stamp ≡ false → has_cell b stamp ≡ true
 either_has a b stamp j there not_a = let s = j.site in let f = j.first in grind (arith, nat_tests)
 
-long_there : (a : Run) (stamp : Stamp) → 2 ≤ a.len → has a stamp ≡ true → bit (is_long_with stamp a) ≡ 1
+long_there : (a : Run) (stamp : Stamp) → 2 ≤ a.len → has_cell a stamp ≡ true → bit (is_long_with stamp a) ≡ 1
 long_there a stamp two there = let e : is_long_with stamp a ≡ true = grind (arith, nat_tests) in ap bit e
 
-pub apart_joined : (a b : Run) (left right : List Run) → are_joint a b ≡ true → 0 < a.len → list_any (is_shared_by (if a.len == 1 then joined a b else b)) (left ++ a ∷ right) ≡ false → AreApart (left ++ a ∷ right) → AreApart (left ++ joined a b ∷ right)
+pub apart_joined : (a b : Run) (left right : List Run) → are_joint a b ≡ true → 0 < a.len → list_any (is_shared_by (if a.len == 1 then run_joined a b else b)) (left ++ a ∷ right) ≡ false → AreApart (left ++ a ∷ right) → AreApart (left ++ run_joined a b ∷ right)
 apart_joined a b left right j some apart is stamp =
     let old = left ++ a ∷ right in
-    let n = long-mid stamp left (joined a b) right in
+    let n = long-mid stamp left (run_joined a b) right in
     let o = long-mid stamp left a right in
     let h = is stamp in
-    let l = bit_low (is_long_with stamp (joined a b)) in
-    split (has (joined a b) stamp)
+    let l = bit_low (is_long_with stamp (run_joined a b)) in
+    split (has_cell (run_joined a b) stamp)
     (λ there.
     split (a.len == 1)
     (λ one.
-    let e : list_any (is_shared_by (joined a b)) old ≡ false = ap (λ (t : Bool). list_any (is_shared_by (if t then joined a b else b)) old) (sym one) ∙ apart in
-    let z = none_long (joined a b) stamp old e there in
+    let e : list_any (is_shared_by (run_joined a b)) old ≡ false = ap (λ (t : Bool). list_any (is_shared_by (if t then run_joined a b else b)) old) (sym one) ∙ apart in
+    let z = none_long (run_joined a b) stamp old e there in
     omega (arith, n, o, h, l, z))
     (λ more.
     let two : 2 ≤ a.len = grind (arith, nat_tests) in
-    split (has a stamp)
+    split (has_cell a stamp)
     (λ mine. let z = long_there a stamp two mine in omega (arith, n, o, h, l, z))
     (λ other.
-    let e : list_any (is_shared_by b) old ≡ false = ap (λ (t : Bool). list_any (is_shared_by (if t then joined a b else b)) old) (sym more) ∙ apart in
+    let e : list_any (is_shared_by b) old ≡ false = ap (λ (t : Bool). list_any (is_shared_by (if t then run_joined a b else b)) old) (sym more) ∙ apart in
     let z = none_long b stamp old e (either_has a b stamp (joint_true a b j) there other) in
     omega (arith, n, o, h, l, z))))
-    (λ none. let z = bit_none (is_long_with stamp (joined a b)) (not_with stamp (joined a b) none) in omega (arith, n, o, h, z))
+    (λ none. let z = bit_none (is_long_with stamp (run_joined a b)) (not_with stamp (run_joined a b) none) in omega (arith, n, o, h, z))
 
 -- CELLS THAT HAVE A STAMP
 
@@ -156,20 +156,20 @@ occurs_row gone count site state (c ∷ text) stamp h =
     let i = occurs_row gone (count + 1) site state text stamp h' in
     omega (arith, o, i))
 
-pub occurs_run : (text : List ℕ) (r : Run) (stamp : Stamp) → IsRun text r → has r stamp ≡ true → 1 ≤ occurrences stamp (run_cells text r)
-occurs_run text r stamp is h = occurs_row r.gone r.first r.site r.state (characters text r) stamp (ap (λ n. among r.first r.site n stamp) (characters_length text r is) ∙ h)
+pub occurs_run : (text : List ℕ) (r : Run) (stamp : Stamp) → IsRun text r → has_cell r stamp ≡ true → 1 ≤ occurrences stamp (run_cells text r)
+occurs_run text r stamp is h = occurs_row r.gone r.first r.site r.state (run_characters text r) stamp (ap (λ n. among r.first r.site n stamp) (characters_length text r is) ∙ h)
 
-pub first_has : (r : Run) → 0 < r.len → has r (first_stamp r) ≡ true
+pub first_has : (r : Run) → 0 < r.len → has_cell r (first_stamp r) ≡ true
 first_has r some = grind (arith, nat_tests)
 
-pub shared_first : (run r : Run) → is_shared_by run r ≡ true → has r (first_stamp run) ≡ false → has run (first_stamp r) ≡ true
+pub shared_first : (run r : Run) → is_shared_by run r ≡ true → has_cell r (first_stamp run) ≡ false → has_cell run (first_stamp r) ≡ true
 shared_first run r e f = grind (arith, nat_tests)
 
 -- a stamp that is in a run, and in new cells
-pub shared_twice : (text : List ℕ) (rs : List Run) (run : Run) (cells : List (Cell ℕ)) → AllByRecursion (IsRun text) rs → IsFrontOf text cells run → AreOnce (cells_of text rs) cells → list_any (is_shared_by run) rs ≡ true → ⊥
+pub shared_twice : (text : List ℕ) (rs : List Run) (run : Run) (cells : List (Cell ℕ)) → AllByRecursion (IsRun text) rs → IsFrontOf text cells run → AreOnce (cells_of_runs text rs) cells → list_any (is_shared_by run) rs ≡ true → ⊥
 shared_twice text [] run cells kept front once e = both_ways false refl e
 shared_twice text (r ∷ rs) run cells kept front once e = split (is_shared_by run r)
-    (λ here. split (has r (first_stamp run))
+    (λ here. split (has_cell r (first_stamp run))
     (λ t.
     let s = first_stamp run in
     let a = occurs_run text r s kept.0 t in
@@ -181,7 +181,7 @@ shared_twice text (r ∷ rs) run cells kept front once e = split (is_shared_by r
     let b = occurs_run text run s front.run (shared_first run r here f) in
     twice s a b))
     (λ later.
-    let o = λ (s : Stamp). occurs-append s (run_cells text r) (cells_of text rs) in
+    let o = λ (s : Stamp). occurs-append s (run_cells text r) (cells_of_runs text rs) in
     shared_twice text rs run cells kept.1 front (λ s. let h = once s in let p = o s in omega (arith, h, p)) (rest later e))
   where
     rest : is_shared_by run r ≡ false → list_any (is_shared_by run) (r ∷ rs) ≡ true → list_any (is_shared_by run) rs ≡ true
@@ -190,12 +190,12 @@ shared_twice text (r ∷ rs) run cells kept front once e = split (is_shared_by r
     twice : (s : Stamp) → 1 ≤ occurrences s (run_cells text r) → 1 ≤ occurrences s (run_cells text run) → ⊥
     twice s a b =
         let h = once s in
-        let p = occurs-append s (run_cells text r) (cells_of text rs) in
+        let p = occurs-append s (run_cells text r) (cells_of_runs text rs) in
         let q = occurs-parts s run.len cells in
         let i = ap (occurrences s) front.same in
         omega (arith, a, b, h, p, q, i)
 
-pub chosen_twice : (text : List ℕ) (rs : List Run) (run : Run) (cells : List (Cell ℕ)) → AllByRecursion (IsRun text) rs → IsFrontOf text cells run → AreOnce (cells_of text rs) cells → (nat_lt 1 run.len && list_any (is_shared_by run) rs) ≡ true → ⊥
+pub chosen_twice : (text : List ℕ) (rs : List Run) (run : Run) (cells : List (Cell ℕ)) → AllByRecursion (IsRun text) rs → IsFrontOf text cells run → AreOnce (cells_of_runs text rs) cells → (nat_lt 1 run.len && list_any (is_shared_by run) rs) ≡ true → ⊥
 chosen_twice text rs run cells kept front once e = shared_twice text rs run cells kept front once (and_parts (nat_lt 1 run.len) (list_any (is_shared_by run) rs) e).1
 
 -- CELLS WITH DISTINCT STAMPS

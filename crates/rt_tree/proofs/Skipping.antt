@@ -11,8 +11,8 @@ use Rattle.rt_store.specs.Cells.{cells_from, final_cell, stamps_of}
 use Rattle.rt_store.proofs.Distinct.{split}
 use Rattle.rt_store.proofs.Places.{past, past_is}
 use Rattle.rt_tree.specs.declared.node.Run.{Run}
-use Rattle.rt_tree.specs.Runs.{IsRun, cells_of, characters, first_stamp, run_cells, with_gone}
-use Rattle.rt_tree.specs.Sharing.{AreUpTo}
+use Rattle.rt_tree.specs.Runs.{IsRun, cells_of_runs, run_characters, first_stamp, run_cells, with_gone}
+use Rattle.rt_tree.specs.Sharing.{NoneIsNewer}
 use Rattle.rt_tree.specs.Skips.{HasCells, passed, stops}
 use Rattle.rt_tree.proofs.CellLaws.{characters_length, get-right, run_length}
 use Rattle.rt_tree.proofs.Passing.{goes_on, stopped}
@@ -75,11 +75,11 @@ module _ (text : List ℕ) (new : Stamp) where
   past_cells cs = past new (stamps_of cs)
 
   -- from where a run begins
-  pub past-passed : (rs : List Run) → AllByRecursion (IsRun text) rs → past_cells (cells_of text rs) ≡ passed 0 new rs
+  pub past-passed : (rs : List Run) → AllByRecursion (IsRun text) rs → past_cells (cells_of_runs text rs) ≡ passed 0 new rs
   past-passed [] all = refl
   past-passed (r ∷ rs) all = split (is_before new (first_stamp r))
       (λ e.
-      let a = past-row new r.gone r.first r.site r.state (characters text r) (cells_of text rs) e in
+      let a = past-row new r.gone r.first r.site r.state (run_characters text r) (cells_of_runs text rs) e in
       let l = characters_length text r all.0 in
       let no : stops 0 new r ≡ false = ap not e in
       let g = goes_on 0 new r rs no in
@@ -92,16 +92,16 @@ module _ (text : List ℕ) (new : Stamp) where
       let g = stopped 0 new r rs yes in
       low r rs all.0 e ∙ sym g)
     where
-      low : (r : Run) (rs : List Run) → IsRun text r → is_before new (first_stamp r) ≡ false → past_cells (cells_of text (r ∷ rs)) ≡ 0
-      low r rs is e = low-row (characters text r) (let l = characters_length text r is in omega (arith, l, is.some))
+      low : (r : Run) (rs : List Run) → IsRun text r → is_before new (first_stamp r) ≡ false → past_cells (cells_of_runs text (r ∷ rs)) ≡ 0
+      low r rs is e = low-row (run_characters text r) (let l = characters_length text r is in omega (arith, l, is.some))
         where
-          low-row : (cs : List ℕ) → 0 < length cs → past_cells (row r.gone r.first r.site r.state cs ++ cells_of text rs) ≡ 0
+          low-row : (cs : List ℕ) → 0 < length cs → past_cells (row r.gone r.first r.site r.state cs ++ cells_of_runs text rs) ≡ 0
           low-row [] lt = absurd (omega (arith, lt))
-          low-row (c ∷ cs) lt = stop-one new (first_stamp r) (stamps_of (row r.gone (r.first + 1) r.site r.state cs ++ cells_of text rs)) e
+          low-row (c ∷ cs) lt = stop-one new (first_stamp r) (stamps_of (row r.gone (r.first + 1) r.site r.state cs ++ cells_of_runs text rs)) e
 
   -- from a cell whose stamp is greater
-  pub past-from : (rs : List Run) (at : ℕ) (cell : Cell ℕ) → AllByRecursion (IsRun text) rs → slice_get (cells_of text rs) at ≡ Some cell → is_before new cell.stamp ≡ true
-      → at + past_cells (drop at (cells_of text rs)) ≡ passed (at + 1) new rs
+  pub past-from : (rs : List Run) (at : ℕ) (cell : Cell ℕ) → AllByRecursion (IsRun text) rs → slice_get (cells_of_runs text rs) at ≡ Some cell → is_before new cell.stamp ≡ true
+      → at + past_cells (drop at (cells_of_runs text rs)) ≡ passed (at + 1) new rs
   past-from [] at cell all is h = absurd (nothing is) where
     nothing : {x : Cell ℕ} → slice_get [] at ≡ Some x → ⊥
     nothing e = cc
@@ -112,9 +112,9 @@ module _ (text : List ℕ) (new : Stamp) where
       let low : r.len ≤ at = grind (arith, nat_tests) in
       let k = at - r.len in
       let at_is : length (run_cells text r) + k ≡ at = omega (arith, l, low) in
-      let there = sym (get-right (run_cells text r) (cells_of text rs) at k at_is) ∙ is in
+      let there = sym (get-right (run_cells text r) (cells_of_runs text rs) at k at_is) ∙ is in
       let i = past-from rs k cell all.1 there h in
-      let d = ap past_cells (drop-right (run_cells text r) (cells_of text rs) at k at_is) in
+      let d = ap past_cells (drop-right (run_cells text r) (cells_of_runs text rs) at k at_is) in
       let g = goes_on (at + 1) new r rs (no_stop at r) in
       let e : at + 1 - r.len ≡ k + 1 = omega (arith, low) in
       let j = ap (λ n. passed n new rs) e in
@@ -122,9 +122,9 @@ module _ (text : List ℕ) (new : Stamp) where
       (λ gt.
       let l = characters_length text r all.0 in
       let less : at < r.len = grind (arith, nat_tests) in
-      let inside : at < length (characters text r) = omega (arith, l, less) in
-      let own = stamp-at r.gone r.first r.site r.state (characters text r) (cells_of text rs) at cell inside is in
-      let w = past-within new r.gone r.first r.site r.state (characters text r) (cells_of text rs) at inside (ap (is_before new) (sym own) ∙ h) in
+      let inside : at < length (run_characters text r) = omega (arith, l, less) in
+      let own = stamp-at r.gone r.first r.site r.state (run_characters text r) (cells_of_runs text rs) at cell inside is in
+      let w = past-within new r.gone r.first r.site r.state (run_characters text r) (cells_of_runs text rs) at inside (ap (is_before new) (sym own) ∙ h) in
       let p = past-passed rs all.1 in
       let g = goes_on (at + 1) new r rs (no_stop at r) in
       let e : at + 1 - r.len ≡ 0 = omega (arith, less) in
@@ -135,9 +135,9 @@ module _ (text : List ℕ) (new : Stamp) where
       no_stop at r = grind (arith, nat_tests)
 
 -- the position that is reached from a cell whose stamp is greater
-pub skip_is : (text : List ℕ) (new : Stamp) (rs : List Run) (at : ℕ) (cell : Cell ℕ) → AllByRecursion (IsRun text) rs → slice_get (cells_of text rs) at ≡ Some cell → is_before new cell.stamp ≡ true
-    → passed (at + 1) new rs ≡ at + length (take_while (λ (c : Cell ℕ). is_before new c.stamp) (drop at (cells_of text rs)))
-skip_is text new rs at cell all is h = sym (past-from text new rs at cell all is h) ∙ ap (λ n. at + n) (sym (past_is new (drop at (cells_of text rs))))
+pub skip_is : (text : List ℕ) (new : Stamp) (rs : List Run) (at : ℕ) (cell : Cell ℕ) → AllByRecursion (IsRun text) rs → slice_get (cells_of_runs text rs) at ≡ Some cell → is_before new cell.stamp ≡ true
+    → passed (at + 1) new rs ≡ at + length (take_while (λ (c : Cell ℕ). is_before new c.stamp) (drop at (cells_of_runs text rs)))
+skip_is text new rs at cell all is h = sym (past-from text new rs at cell all is h) ∙ ap (λ n. at + n) (sym (past_is new (drop at (cells_of_runs text rs))))
 
 -- and from one whose stamp isn't
 pub skip_none : (new : Stamp) (cs : List (Cell ℕ)) (at : ℕ) (cell : Cell ℕ) → slice_get cs at ≡ Some cell → is_before new cell.stamp ≡ false
@@ -151,7 +151,7 @@ skip_none new cs at cell is h = let p = past_is new (drop at cs) in let z = none
   none (c ∷ cs) (suc at) is = none cs at is
 
 -- where no cell has so great a count, none is passed
-upto_at : (n : ℕ) (cs : List (Cell ℕ)) (at : ℕ) (d : Cell ℕ) → AreUpTo n cs → at < length cs → (get_or cs at d).stamp.count ≤ n
+upto_at : (n : ℕ) (cs : List (Cell ℕ)) (at : ℕ) (d : Cell ℕ) → NoneIsNewer n cs → at < length cs → (get_or cs at d).stamp.count ≤ n
 upto_at n [] at d all lt = absurd (omega (arith, lt))
 upto_at n (c ∷ cs) zero d all lt = all.0
 upto_at n (c ∷ cs) (suc at) d all lt = upto_at n cs at d all.1 (omega (arith, lt))
@@ -159,7 +159,7 @@ upto_at n (c ∷ cs) (suc at) d all lt = upto_at n cs at d all.1 (omega (arith, 
 not_above : (a b : Stamp) → b.count < a.count → is_before a b ≡ false
 not_above a b lt = grind (arith, nat_tests)
 
-pub skip_newest : (new : Stamp) (n : ℕ) (cs : List (Cell ℕ)) (at : ℕ) → n < new.count → AreUpTo n cs → at < length cs
+pub skip_newest : (new : Stamp) (n : ℕ) (cs : List (Cell ℕ)) (at : ℕ) → n < new.count → NoneIsNewer n cs → at < length cs
     → at ≡ at + length (take_while (λ (c : Cell ℕ). is_before new c.stamp) (drop at cs))
 skip_newest new n cs at above all lt =
     let low = upto_at n cs at final_cell all lt in

@@ -5,7 +5,7 @@ use Rattle.std.proofs.lemmas.Bool.{cases_eq}
 use Rattle.rt_nodes.specs.Nodes.{entries}
 use Rattle.rt_tree.specs.declared.node.Entry.{Entry}
 use Rattle.rt_tree.specs.declared.node.Entry.TheVariants.{Down, Here}
-use Rattle.rt_tree.specs.Shape.{AreFilled, Fits, IsShape, IsTree, Memory, all_below, around, count_of, level_of, parent_of, runs, tree_runs}
+use Rattle.rt_tree.specs.Shape.{AreFilled, Fits, IsShape, IsTree, Memory, all_below, around, child_count, level_of, parent_of, runs, tree_runs}
 use Rattle.rt_tree.specs.Changes.{bare}
 use Rattle.rt_tree.specs.Trees.{HasNodes}
 use Rattle.rt_tree.proofs.Fills.{links_long, other_filled}
@@ -54,7 +54,7 @@ abbrev nodes_of : Memory → ℕ → ℕ → List ℕ
 nodes_of m k id = id ∷ flat_map (nodes_below m k) (entries m id)
 
 -- a node's nodes stand below its parent
-in_parent : (m : Memory) (k id c : ℕ) (es : List Entry) → 0 < count_of id es → times c (nodes_of m k id) ≤ times c (flat_map (nodes_below m (suc k)) es)
+in_parent : (m : Memory) (k id c : ℕ) (es : List Entry) → 0 < child_count id es → times c (nodes_of m k id) ≤ times c (flat_map (nodes_below m (suc k)) es)
 in_parent m k id c [] some = absurd (omega arith)
 in_parent m k id c (Here r ∷ es) some = in_parent m k id c es some
 in_parent m k id c (Down d t ∷ es) some =

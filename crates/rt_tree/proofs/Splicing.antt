@@ -10,12 +10,12 @@ use Rattle.rt_store.specs.Cells.{put_at}
 use Rattle.rt_tree.specs.declared.node.Counts.{Counts}
 use Rattle.rt_tree.specs.declared.node.CountedBy.TheVariants.{Cells}
 use Rattle.rt_tree.specs.declared.node.Run.{Run}
-use Rattle.rt_tree.specs.Additions.{EndsWith, IsFrontOf, IsRunOf, IsStretch, are_joint, joined, stretches}
+use Rattle.rt_tree.specs.Additions.{EndsWith, IsFrontOf, IsRunOf, IsStretch, are_joint, run_joined, stretch_count}
 use Rattle.rt_tree.specs.Growing.{EndsThere}
-use Rattle.rt_tree.specs.Runs.{IsRun, cells_of, run_cells}
+use Rattle.rt_tree.specs.Runs.{IsRun, cells_of_runs, run_cells}
 use Rattle.rt_tree.specs.Shape.{IsTree, Memory, level_of, tree_runs}
 use Rattle.rt_tree.specs.Sharing.{AreApart, AreOnce, IsRecut, is_shared_by, occurrences}
-use Rattle.rt_tree.specs.Stretches.{AreChanged, AreKept, IsEdge, lengths}
+use Rattle.rt_tree.specs.Stretches.{AreChanged, AreRunsOfText, IsEdge, lengths}
 use Rattle.rt_tree.specs.Sums.{AreFew, counts_of, counts_of_run, plus}
 use Rattle.rt_tree.specs.Walks.{IsPutAt, IsReplacedAt, StandsAt}
 use Rattle.rt_tree.proofs.CellLaws.{counted, counted_left, is_run, run_length}
@@ -72,7 +72,7 @@ pub record IsSpliced (text : List ℕ) (old now : List Run) (at done more lone :
   pub runs : length now ≡ length old + more
   pub most : more ≤ done
   pub apart : AreApart now
-  pub few : AreOnce (cells_of text old) cells → (more + stretches (drop done cells) ≤ stretches cells) × (lone ≡ 0)
+  pub few : AreOnce (cells_of_runs text old) cells → (more + stretch_count (drop done cells) ≤ stretch_count cells) × (lone ≡ 0)
 
 pub none_spliced : (text : List ℕ) (old : List Run) (at : ℕ) (cells : List (Cell ℕ)) → AllByRecursion (IsRun text) old → IsEdge (lengths old) at → AreApart old → IsSpliced text old old at 0 0 0 cells
 none_spliced text old at cells all edge apart =
@@ -80,7 +80,7 @@ none_spliced text old at cells all edge apart =
     record {
       low = omega arith;
       edge = subst (IsEdge (lengths old)) z edge;
-      changed = record { kept = all; cells = sym (put_none at (cells_of text old)) };
+      changed = record { kept = all; cells = sym (put_none at (cells_of_runs text old)) };
       runs = omega arith;
       most = omega arith;
       apart = apart;
@@ -93,11 +93,11 @@ module _ (text : List ℕ) (old now : List Run) (at done more lone : ℕ) (cells
   spliced_cells =
       let a = counted text old all in
       let b = counted text now is.changed.kept in
-      let c = ap length is.changed.cells ∙ put_length at (take done cells) (cells_of text old) (omega (arith, a.cells, within)) in
+      let c = ap length is.changed.cells ∙ put_length at (take done cells) (cells_of_runs text old) (omega (arith, a.cells, within)) in
       let d = length-take-le done cells is.low in
       omega (arith, a.cells, b.cells, c, d)
 
-  now_kept : AreKept now
+  now_kept : AreRunsOfText now
   now_kept = record { text = text; short = short; runs = is.changed.kept }
 
   pub spliced_within : at + done < (counts_of now).cells
@@ -107,15 +107,15 @@ module _ (text : List ℕ) (old now : List Run) (at done more lone : ℕ) (cells
   spliced_few = omega (arith, spliced_cells, few, is.low)
 
   pub spliced_low : (m : Memory) (root : ℕ) → IsTree m root → tree_runs m root ≡ now → level_of m root + 1 < 2 ^ 32
-  spliced_low m root t e = low_tree m root t (subst AreKept (sym e) now_kept) (subst (λ (l : List Run). (counts_of l).cells ≤ MOST_CELLS) (sym e) spliced_few)
+  spliced_low m root t e = low_tree m root t (subst AreRunsOfText (sym e) now_kept) (subst (λ (l : List Run). (counts_of l).cells ≤ MOST_CELLS) (sym e) spliced_few)
 
   pub spliced_runs : length now ≤ length old + length cells
   spliced_runs = omega (arith, is.runs, is.most, is.low)
 
-  pub spliced_once : AreOnce (cells_of text old) cells → AreOnce (cells_of text now) (drop done cells)
+  pub spliced_once : AreOnce (cells_of_runs text old) cells → AreOnce (cells_of_runs text now) (drop done cells)
   spliced_once once stamp =
       let h = once stamp in
-      let a = ap (occurrences stamp) is.changed.cells ∙ occurs-put stamp at (take done cells) (cells_of text old) in
+      let a = ap (occurrences stamp) is.changed.cells ∙ occurs-put stamp at (take done cells) (cells_of_runs text old) in
       let b = occurs-parts stamp done cells in
       omega (arith, h, a, b)
 
@@ -141,34 +141,34 @@ module _ (text : List ℕ) (old now : List Run) (at done more lone : ℕ) (cells
           subst (λ (l : List Run). IsEdge (lengths l) (at + (done + run.len))) (append_assoc put.was.left (run ∷ []) (put.next ∷ put.was.right) ∙ sym put.is)
           (edge_there (put.was.left ++ run ∷ []) (put.next ∷ put.was.right) (at + (done + run.len)) (omega (arith, e, first.1)))
 
-      new_cells : cells_of text new ≡ put_at at (take (done + run.len) cells) (cells_of text old)
+      new_cells : cells_of_runs text new ≡ put_at at (take (done + run.len) cells) (cells_of_runs text old)
       new_cells =
-          let left = cells_of text put.was.left in
-          let right = cells_of text (put.next ∷ put.was.right) in
+          let left = cells_of_runs text put.was.left in
+          let right = cells_of_runs text (put.next ∷ put.was.right) in
           let a = counted text old all in
           let l = counted_left text now put.next put.front put.offset (at + done) is.changed.kept put.was.left put.was.right put.was.here in
           let long : length left ≡ at + done = l.cells ∙ first.1 in
           let d = length-take-le done cells is.low in
-          let was : left ++ right ≡ put_at at (take done cells) (cells_of text old) = sym (cells_around_left put.was.left (put.next ∷ put.was.right)) ∙ ap (cells_of text) (sym put.was.here) ∙ is.changed.cells in
+          let was : left ++ right ≡ put_at at (take done cells) (cells_of_runs text old) = sym (cells_around_left put.was.left (put.next ∷ put.was.right)) ∙ ap (cells_of_runs text) (sym put.was.here) ∙ is.changed.cells in
           let n : at + done ≡ at + length (take done cells) = ap (λ i. at + i) (sym d) in
-          ap (cells_of text) put.is
+          ap (cells_of_runs text) put.is
           ∙ cells_mid text put.was.left run (put.next ∷ put.was.right)
           ∙ ap (λ m. left ++ (m ++ right)) rest.same
           ∙ sym (put_between (at + done) left right (take run.len (drop done cells)) long)
           ∙ ap (put_at (at + done) (take run.len (drop done cells))) was
-          ∙ ap (λ i. put_at i (take run.len (drop done cells)) (put_at at (take done cells) (cells_of text old))) n
-          ∙ put_more at (take done cells) (take run.len (drop done cells)) (cells_of text old) (omega (arith, a.cells, within))
-          ∙ ap (λ c. put_at at c (cells_of text old)) (sym (take-add done run.len cells))
+          ∙ ap (λ i. put_at i (take run.len (drop done cells)) (put_at at (take done cells) (cells_of_runs text old))) n
+          ∙ put_more at (take done cells) (take run.len (drop done cells)) (cells_of_runs text old) (omega (arith, a.cells, within))
+          ∙ ap (λ c. put_at at c (cells_of_runs text old)) (sym (take-add done run.len cells))
         where
-          cells_around_left : (a b : List Run) → cells_of text (a ++ b) ≡ cells_of text a ++ cells_of text b
+          cells_around_left : (a b : List Run) → cells_of_runs text (a ++ b) ≡ cells_of_runs text a ++ cells_of_runs text b
           cells_around_left [] b = refl
-          cells_around_left (x ∷ a) b = ap (λ l. run_cells text x ++ l) (cells_around_left a b) ∙ sym (append_assoc (run_cells text x) (cells_of text a) (cells_of text b))
+          cells_around_left (x ∷ a) b = ap (λ l. run_cells text x ++ l) (cells_around_left a b) ∙ sym (append_assoc (run_cells text x) (cells_of_runs text a) (cells_of_runs text b))
 
-      pub more_spliced : (lone' : ℕ) → AreApart (run ∷ now) → (lone ≡ 0 → AreOnce (cells_of text now) (drop done cells) → IsStretch (drop done cells) run.len × (lone' ≡ 0)) → IsSpliced text old new at (done + run.len) (more + 1) lone' cells
+      pub more_spliced : (lone' : ℕ) → AreApart (run ∷ now) → (lone ≡ 0 → AreOnce (cells_of_runs text now) (drop done cells) → IsStretch (drop done cells) run.len × (lone' ≡ 0)) → IsSpliced text old new at (done + run.len) (more + 1) lone' cells
       more_spliced lone' apart chosen =
           let a = ap length put.is ∙ length-append put.was.left (run ∷ put.next ∷ put.was.right) in
           let b = ap length put.was.here ∙ length-append put.was.left (put.next ∷ put.was.right) in
-          let d = ap stretches (drop-drop run.len done cells) in
+          let d = ap stretch_count (drop-drop run.len done cells) in
           let some = rest.run.some in
           record {
             low = omega (arith, within_rest);
@@ -191,9 +191,9 @@ module _ (text : List ℕ) (old now : List Run) (at done more lone : ℕ) (cells
       fewer_cells = omega (arith, rest.run.some, within_rest)
 
 -- all are in
-pub all_spliced : (text : List ℕ) (old now : List Run) (at done more lone : ℕ) (cells : List (Cell ℕ)) → IsSpliced text old now at done more lone cells → length cells ≤ done → AreChanged old now text (put_at at cells) × (AreOnce (cells_of text old) cells → more ≤ stretches cells)
+pub all_spliced : (text : List ℕ) (old now : List Run) (at done more lone : ℕ) (cells : List (Cell ℕ)) → IsSpliced text old now at done more lone cells → length cells ≤ done → AreChanged old now text (put_at at cells) × (AreOnce (cells_of_runs text old) cells → more ≤ stretch_count cells)
 all_spliced text old now at done more lone cells is end =
-    (record { kept = is.changed.kept; cells = is.changed.cells ∙ ap (λ l. put_at at l (cells_of text old)) (take_all done cells end) }, λ once. (let f = (is.few once).0 in omega (arith, f)))
+    (record { kept = is.changed.kept; cells = is.changed.cells ∙ ap (λ l. put_at at l (cells_of_runs text old)) (take_all done cells end) }, λ once. (let f = (is.few once).0 in omega (arith, f)))
 
 -- A RUN THAT GOES ON
 
@@ -204,39 +204,39 @@ module _ (text : List ℕ) (old : List Run) (at : ℕ) (cells : List (Cell ℕ))
   left_cells : (counts_of st.left).cells + offset ≡ at - 1
   left_cells = let f = ap (λ (c : Counts). c.cells) st.before in omega (arith, f, st.at)
 
-  module _ (new : List Run) (rep : IsReplacedAt old new (at - 1) (joined run b)) where
+  module _ (new : List Run) (rep : IsReplacedAt old new (at - 1) (run_joined run b)) where
     same : IsSameSpot st.left run st.right rep.was.left rep.before rep.was.right
     same =
         let f = ap (λ (c : Counts). c.cells) rep.was.before in
         one_spot st.left run st.right offset rep.was.left rep.before rep.was.right rep.offset (sym st.here ∙ rep.was.here) (omega (arith, left_cells, f, rep.was.at)) st.inside rep.was.inside
 
-    pub new_is : new ≡ st.left ++ joined run b ∷ st.right
-    new_is = rep.is ∙ ap (λ l. l ++ joined run b ∷ rep.was.right) (sym same.left) ∙ ap (λ l. st.left ++ joined run b ∷ l) (sym same.right)
+    pub new_is : new ≡ st.left ++ run_joined run b ∷ st.right
+    new_is = rep.is ∙ ap (λ l. l ++ run_joined run b ∷ rep.was.right) (sym same.left) ∙ ap (λ l. st.left ++ run_joined run b ∷ l) (sym same.right)
 
-    extended_cells : cells_of text new ≡ put_at at (take b.len cells) (cells_of text old)
+    extended_cells : cells_of_runs text new ≡ put_at at (take b.len cells) (cells_of_runs text old)
     extended_cells =
-        let left = cells_of text st.left in let mid = run_cells text run in let right = cells_of text st.right in
+        let left = cells_of_runs text st.left in let mid = run_cells text run in let right = cells_of_runs text st.right in
         let l = counted_left text old run front offset (at - 1) all st.left st.right st.here in
         let m = run_length text run there in
         let long : length (left ++ mid) ≡ at = (let p = length-append left mid in omega (arith, p, l.cells, left_cells, m, last, some)) in
-        ap (cells_of text) new_is
-        ∙ cells_mid text st.left (joined run b) st.right
+        ap (cells_of_runs text) new_is
+        ∙ cells_mid text st.left (run_joined run b) st.right
         ∙ ap (λ c. left ++ (c ++ right)) (joined_cells text run b there rest.front.run (joint_true run b j) ∙ ap (λ c. mid ++ c) rest.front.same)
         ∙ ap (λ c. left ++ c) (append_assoc mid (take b.len cells) right)
         ∙ sym (append_assoc left mid (take b.len cells ++ right))
         ∙ sym (put_between at (left ++ mid) right (take b.len cells) long)
-        ∙ ap (put_at at (take b.len cells)) (append_assoc left mid right ∙ sym (cells_mid text st.left run st.right) ∙ ap (cells_of text) (sym st.here))
+        ∙ ap (put_at at (take b.len cells)) (append_assoc left mid right ∙ sym (cells_mid text st.left run st.right) ∙ ap (cells_of_runs text) (sym st.here))
 
     pub extended : AreChanged old new text (put_at at (take b.len cells))
     extended = record {
-      kept = subst (AllByRecursion (IsRun text)) (sym new_is) (kept_set text st.left run (joined run b) st.right (λ is. joined_run text run b is rest.front.run (joint_true run b j)) (subst (AllByRecursion (IsRun text)) st.here all));
+      kept = subst (AllByRecursion (IsRun text)) (sym new_is) (kept_set text st.left run (run_joined run b) st.right (λ is. joined_run text run b is rest.front.run (joint_true run b j)) (subst (AllByRecursion (IsRun text)) st.here all));
       cells = extended_cells;
     }
 
-    pub extended_apart : AreApart old → list_any (is_shared_by (if run.len == 1 then joined run b else b)) old ≡ false → AreApart new
+    pub extended_apart : AreApart old → list_any (is_shared_by (if run.len == 1 then run_joined run b else b)) old ≡ false → AreApart new
     extended_apart is apart =
         subst AreApart (sym new_is)
-        (apart_joined run b st.left st.right j there.some (subst (λ (l : List Run). list_any (is_shared_by (if run.len == 1 then joined run b else b)) l ≡ false) st.here apart) (subst AreApart st.here is))
+        (apart_joined run b st.left st.right j there.some (subst (λ (l : List Run). list_any (is_shared_by (if run.len == 1 then run_joined run b else b)) l ≡ false) st.here apart) (subst AreApart st.here is))
 
 -- THE CELLS THAT ARE LEFT
 
@@ -255,15 +255,15 @@ module _ (text : List ℕ) (old m1 : List Run) (at k : ℕ) (cells : List (Cell 
   put_count =
       let a = counted text old all in
       let b = counted text m1 is.kept in
-      let c = ap length is.cells ∙ put_length at (take k cells) (cells_of text old) (omega (arith, a.cells, within)) in
+      let c = ap length is.cells ∙ put_length at (take k cells) (cells_of_runs text old) (omega (arith, a.cells, within)) in
       let d = length-take-le k cells low in
       omega (arith, a.cells, b.cells, c, d)
 
   module _ (m2 : List Run) (cut : IsRecut m1 m2) where
-    pub rest_once : AreOnce (cells_of text old) cells → AreOnce (cells_of text m2) (drop k cells)
+    pub rest_once : AreOnce (cells_of_runs text old) cells → AreOnce (cells_of_runs text m2) (drop k cells)
     rest_once once stamp =
         let h = once stamp in
-        let a = ap (occurrences stamp) (cut.cells text is.kept ∙ is.cells) ∙ occurs-put stamp at (take k cells) (cells_of text old) in
+        let a = ap (occurrences stamp) (cut.cells text is.kept ∙ is.cells) ∙ occurs-put stamp at (take k cells) (cells_of_runs text old) in
         let b = occurs-parts stamp k cells in
         omega (arith, h, a, b)
 
@@ -285,9 +285,9 @@ module _ (text : List ℕ) (old m1 : List Run) (at k : ℕ) (cells : List (Cell 
           cells =
               (rest.cells
               ∙ ap (put_at (at + k) (drop k cells)) (cut.cells text is.kept ∙ is.cells)
-              ∙ ap (λ i. put_at i (drop k cells) (put_at at front (cells_of text old))) n
-              ∙ put_more at front (drop k cells) (cells_of text old) (omega (arith, a.cells, within))
-              ∙ ap (λ l. put_at at l (cells_of text old)) (take-append-drop k cells));
+              ∙ ap (λ i. put_at i (drop k cells) (put_at at front (cells_of_runs text old))) n
+              ∙ put_more at front (drop k cells) (cells_of_runs text old) (omega (arith, a.cells, within))
+              ∙ ap (λ l. put_at at l (cells_of_runs text old)) (take-append-drop k cells));
         }
 
 -- A LONGER TEXT
@@ -305,15 +305,15 @@ module _ (text longer : List ℕ) (old : List Run) (cells : List (Cell ℕ)) (ke
   pub longer_text : length longer ≡ length text + length cells
   longer_text = ap length more ∙ length-append text new_characters ∙ ap (λ n. length text + n) (length-map cells (λ (c : Cell ℕ). c.ch))
 
-  pub longer_cells : cells_of longer old ≡ cells_of text old
-  longer_cells = ap (λ (t : List ℕ). cells_of t old) more ∙ grown_cells text new_characters old kept
+  pub longer_cells : cells_of_runs longer old ≡ cells_of_runs text old
+  longer_cells = ap (λ (t : List ℕ). cells_of_runs t old) more ∙ grown_cells text new_characters old kept
 
-  pub longer_shown : (new : List Run) (at : ℕ) → AreChanged old new longer (put_at at cells) → cells_of longer new ≡ put_at at cells (cells_of text old)
+  pub longer_shown : (new : List Run) (at : ℕ) → AreChanged old new longer (put_at at cells) → cells_of_runs longer new ≡ put_at at cells (cells_of_runs text old)
   longer_shown new at is = is.cells ∙ ap (put_at at cells) longer_cells
 
   pub longer_count : (new : List Run) (at : ℕ) → AreChanged old new longer (put_at at cells) → at < (counts_of old).cells → (counts_of new).cells ≡ (counts_of old).cells + length cells
   longer_count new at is within =
       let a = counted longer old longer_kept in
       let b = counted longer new is.kept in
-      let c = ap length is.cells ∙ put_length at cells (cells_of longer old) (omega (arith, a.cells, within)) in
+      let c = ap length is.cells ∙ put_length at cells (cells_of_runs longer old) (omega (arith, a.cells, within)) in
       omega (arith, a.cells, b.cells, c)

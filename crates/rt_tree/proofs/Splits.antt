@@ -10,7 +10,7 @@ use Rattle.rt_tree.specs.declared.node.Totals.{Totals}
 use Rattle.rt_tree.specs.declared.node.Entry.TheVariants.{Down}
 use Rattle.rt_tree.proofs.Adding.{IsSmall, adds-append, le-first, small-drop, small-is, small-le}
 use Rattle.rt_tree.specs.Changes.{links, bare, IsHalved, IsCut, AreHalves, AreStill, AreExact, strip, blank, adds_up}
-use Rattle.rt_tree.specs.Shape.{level_of, parent_of, head_at, runs, Memory, count_of, IsShape}
+use Rattle.rt_tree.specs.Shape.{level_of, parent_of, head_at, runs, Memory, child_count, IsShape}
 use Rattle.rt_tree.proofs.Around.{node}
 use Rattle.rt_tree.proofs.Bares.{bare-entries}
 use Rattle.rt_tree.proofs.Cuts.{cut_other, cut_tree, cut_exact, cut_runs, cut_still}
@@ -106,9 +106,9 @@ module _ (m : Memory) (height root : ℕ) (t : IsShape (bare m) height root) (ex
   small-back k = small-drop (entries m n) k small-sum
 
   -- the children of a node are nodes, and it is no leaf then
-  pub kids-in : (c : ℕ) → 0 < count_of c (links (entries m n)) → (c < length m.heads) × (0 < level_of (bare m) n)
+  pub kids-in : (c : ℕ) → 0 < child_count c (links (entries m n)) → (c < length m.heads) × (0 < level_of (bare m) n)
   kids-in c some =
-      let k = child-of (bare m) n (level_of (bare m) n) (entries (bare m) n) (t.fits n nis) c (omega (arith, ap (count_of c) (bare-entries m n))) in
+      let k = child-of (bare m) n (level_of (bare m) n) (entries (bare m) n) (t.fits n nis) c (omega (arith, ap (child_count c) (bare-entries m n))) in
       (k.0, let up = k.1 in omega (arith, up))
 
 -- what a split keeps
@@ -187,9 +187,9 @@ halves_of m m' height root n q p k left right e t nis cut is = record {
   levels = cut.levels;
   first = cut.at_n ∙ ap (λ j. take j (entries m n)) is;
   second = cut.at_q ∙ ap (λ j. drop j (entries m n)) is;
-  parents = λ c lt. elim (cases_zero (count_of c (links (drop k (entries m n))))) [
+  parents = λ c lt. elim (cases_zero (child_count c (links (drop k (entries m n))))) [
     | inl z ↦ inl (cut.stay c lt z)
-    | inr some ↦ inr ((child-of (bare m) n (level_of (bare m) n) (entries (bare m) n) (t.fits n nis) c (let d = drop-count c k (entries m n) in omega (arith, ap (count_of c) (bare-entries m n)))).2, cut.moved c lt some)
+    | inr some ↦ inr ((child-of (bare m) n (level_of (bare m) n) (entries (bare m) n) (t.fits n nis) c (let d = drop-count c k (entries m n) in omega (arith, ap (child_count c) (bare-entries m n)))).2, cut.moved c lt some)
   ];
 }
 

@@ -10,11 +10,11 @@ use Rattle.rt_store.proofs.Steps.{newlines_count}
 use Rattle.rt_nodes.specs.Nodes.{entries}
 use Rattle.rt_stamps.specs.declared.limits.TheConstants.{MOST_CELLS}
 use Rattle.rt_tree.specs.declared.node.Counts.{Counts}
-use Rattle.rt_tree.specs.Runs.{IsRun, cells_of}
+use Rattle.rt_tree.specs.Runs.{IsRun, cells_of_runs}
 use Rattle.rt_tree.specs.Shape.{IsTree, Memory, sum_of, tree_runs}
 use Rattle.rt_tree.specs.Sums.{AreFew, counts_of}
 use Rattle.rt_tree.specs.Tallies.{IsCountOf}
-use Rattle.rt_tree.specs.Trees.{IsKept}
+use Rattle.rt_tree.specs.Trees.{IsTreeOfText}
 use Rattle.rt_tree.proofs.CellLaws.{counted, text-append, visible-append}
 use Rattle.rt_tree.proofs.Down.{sum-node}
 use Rattle.rt_tree.proofs.Kept.{below_cells, sum_root}
@@ -52,7 +52,7 @@ counts_more counts sum at new old is c v n =
     }
 
 -- a root's entries add up to the cells
-pub counts_are : (m : Memory) (root : ℕ) (text : List ℕ) (n : ℕ) (kept : IsKept m root text n) (counts : Counts) → counts ≡ sum_of (entries m root) → IsCountOf counts (cells_of text (tree_runs m root))
+pub counts_are : (m : Memory) (root : ℕ) (text : List ℕ) (n : ℕ) (kept : IsTreeOfText m root text n) (counts : Counts) → counts ≡ sum_of (entries m root) → IsCountOf counts (cells_of_runs text (tree_runs m root))
 counts_are m root text n kept counts is =
     let same = is ∙ sum_root m root text n kept in
     let c = counted text (tree_runs m root) kept.kept in

@@ -11,8 +11,8 @@ use Rattle.rt_tree.specs.declared.update.CellUpdate.{CellUpdate}
 use Rattle.rt_tree.specs.declared.update.CellUpdate.TheVariants.{Gone, State}
 use Rattle.rt_tree.specs.declared.node.Run.{Run}
 use Rattle.rt_tree.specs.Additions.{IsFrontOf}
-use Rattle.rt_tree.specs.Runs.{IsRun, characters, run_cells, with_gone}
-use Rattle.rt_tree.specs.Stretches.{AreKept, IsGiven, updated_run}
+use Rattle.rt_tree.specs.Runs.{IsRun, run_characters, run_cells, with_gone}
+use Rattle.rt_tree.specs.Stretches.{AreRunsOfText, IsGiven, updated_run}
 use Rattle.rt_tree.specs.declared.summed.Summaries.{Summaries}
 use Rattle.rt_tree.specs.Shape.{Memory}
 use Rattle.rt_tree.specs.Summaries.{AreSummed, AreTold, HaveMemory, shown_states}
@@ -47,7 +47,7 @@ shown_few [] = omega arith
 shown_few (r ∷ rs) = let l = longer r.gone r.state (shown_states rs) (length rs) (shown_few rs) in omega (arith, l)
 
 -- a text has few runs
-pub short_kept : (rs : List Run) → AreKept rs → (counts_of rs).cells ≤ MOST_CELLS → length rs + 5 < 2 ^ 32
+pub short_kept : (rs : List Run) → AreRunsOfText rs → (counts_of rs).cells ≤ MOST_CELLS → length rs + 5 < 2 ^ 32
 short_kept rs kept few = let n = runs_few kept.text rs kept.runs in omega (arith, n, few)
 
 given_append : (table : TagStates) (a b : List Run) → AreGiven table a → AreGiven table b → AreGiven table (a ++ b)
@@ -111,7 +111,7 @@ first_given table r [] lt all = absurd (omega (arith, lt))
 first_given table r (ch ∷ chars) lt all = all 0 final_cell (omega arith)
 
 pub cells_given : (table : TagStates) (text : List ℕ) (r : Run) → IsRun text r → AreStates table (run_cells text r) → IsState table r.state
-cells_given table text r is all = let long = characters_length text r is in first_given table r (characters text r) (omega (arith, long, is.some)) all
+cells_given table text r is all = let long = characters_length text r is in first_given table r (run_characters text r) (omega (arith, long, is.some)) all
 
 pub front_given : (table : TagStates) (text : List ℕ) (cells : List (Cell ℕ)) (r : Run) → IsFrontOf text cells r → AreStates table cells → IsState table r.state
 front_given table text cells r front all =

@@ -16,12 +16,12 @@ use Rattle.rt_store.specs.Cells.{put_at}
 use Rattle.rt_tree.specs.declared.node.Counts.{Counts}
 use Rattle.rt_tree.specs.declared.node.CountedBy.TheVariants.{Cells}
 use Rattle.rt_tree.specs.declared.node.Run.{Run}
-use Rattle.rt_tree.specs.Additions.{IsFrontOf, IsStretch, are_joint, follows, joined, stretches}
+use Rattle.rt_tree.specs.Additions.{IsFrontOf, IsStretch, are_joint, follows, run_joined, stretch_count}
 use Rattle.rt_tree.specs.Growing.{EndsThere, GoOnIn}
-use Rattle.rt_tree.specs.Runs.{IsRun, cells_of, characters, first_stamp, has, run_cells}
+use Rattle.rt_tree.specs.Runs.{IsRun, cells_of_runs, run_characters, first_stamp, has_cell, run_cells}
 use Rattle.rt_tree.specs.Sharing.{AreOnce, is_shared_by, occurrences}
 use Rattle.rt_tree.specs.Sums.{counts_of}
-use Rattle.rt_tree.specs.Trees.{Shown, came_of, numbers_from}
+use Rattle.rt_tree.specs.Trees.{TreeValue, came_of, numbers_from}
 use Rattle.rt_tree.specs.Typing.{AreTypedOn, GoOn}
 use Rattle.rt_tree.specs.Walks.{StandsAt}
 use Rattle.rt_tree.proofs.CellLaws.{all_left, characters_length, counted, get-from, get-left, get-right, is_run, nth_found}
@@ -78,10 +78,10 @@ put_last at new xs x le is =
     ∙ is
 
 -- a run that got longer ends there
-pub longer_ends : (new : List Run) (at begun : ℕ) (left : List Run) (a b : Run) (right : List Run) → AreJoint a b → new ≡ left ++ joined a b ∷ right → (counts_of left).cells + a.len ≡ at → b.at ≡ begun → 0 < b.len → EndsThere new (at + b.len) (begun + b.len)
+pub longer_ends : (new : List Run) (at begun : ℕ) (left : List Run) (a b : Run) (right : List Run) → AreJoint a b → new ≡ left ++ run_joined a b ∷ right → (counts_of left).cells + a.len ≡ at → b.at ≡ begun → 0 < b.len → EndsThere new (at + b.len) (begun + b.len)
 longer_ends new at begun left a b right j is end from some = record {
   left = left;
-  run = joined a b;
+  run = run_joined a b;
   right = right;
   here = is;
   some = omega (arith, some);
@@ -91,19 +91,19 @@ longer_ends new at begun left a b right j is end from some = record {
 
 -- A CELL THAT FOLLOWS
 
-one_follows : (before a : Cell ℕ) (rest : List (Cell ℕ)) → stretches (before ∷ a ∷ rest) ≡ 1 → (follows before a ≡ true) × (stretches (a ∷ rest) ≡ 1)
+one_follows : (before a : Cell ℕ) (rest : List (Cell ℕ)) → stretch_count (before ∷ a ∷ rest) ≡ 1 → (follows before a ≡ true) × (stretch_count (a ∷ rest) ≡ 1)
 one_follows before a rest one =
     let some = stretches_some a rest in
     split (follows before a)
-    (λ t. let z : stretches (before ∷ a ∷ rest) ≡ 0 + stretches (a ∷ rest) = ap (λ (b : Bool). (if b then 0 else 1) + stretches (a ∷ rest)) t in (t, omega (arith, z, one)))
-    (λ f. let z : stretches (before ∷ a ∷ rest) ≡ 1 + stretches (a ∷ rest) = ap (λ (b : Bool). (if b then 0 else 1) + stretches (a ∷ rest)) f in absurd (omega (arith, z, one, some)))
+    (λ t. let z : stretch_count (before ∷ a ∷ rest) ≡ 0 + stretch_count (a ∷ rest) = ap (λ (b : Bool). (if b then 0 else 1) + stretch_count (a ∷ rest)) t in (t, omega (arith, z, one)))
+    (λ f. let z : stretch_count (before ∷ a ∷ rest) ≡ 1 + stretch_count (a ∷ rest) = ap (λ (b : Bool). (if b then 0 else 1) + stretch_count (a ∷ rest)) f in absurd (omega (arith, z, one, some)))
 
-none_left : (cells : List (Cell ℕ)) → stretches cells ≡ 0 → length cells ≡ 0
+none_left : (cells : List (Cell ℕ)) → stretch_count cells ≡ 0 → length cells ≡ 0
 none_left [] e = refl
 none_left (a ∷ cells) e = let s = stretches_some a cells in absurd (omega (arith, e, s))
 
 -- cells that go on from one are one stretch
-pub whole_stretch : (before : Cell ℕ) (cells : List (Cell ℕ)) (len : ℕ) → stretches (before ∷ cells) ≡ 1 → IsStretch cells len → len ≡ length cells
+pub whole_stretch : (before : Cell ℕ) (cells : List (Cell ℕ)) (len : ℕ) → stretch_count (before ∷ cells) ≡ 1 → IsStretch cells len → len ≡ length cells
 whole_stretch before [] len one is = let w = is.within in omega (arith, w)
 whole_stretch before (a ∷ rest) len one is =
     let o = (one_follows before a rest one).1 in
@@ -130,12 +130,12 @@ last_plain (c ∷ cs) (suc n) ch long at plain none = split (c == 10)
     let h = last_plain cs n ch (omega (arith, long)) at plain (omega (arith, z, none)) in
     omega (arith, w, h))
 
-no_newline : (text : List ℕ) (run : Run) (offset ch : ℕ) → IsRun text run → offset + 1 ≡ run.len → slice_get (characters text run) offset ≡ Some ch → (ch ≡ 10 → ⊥) → run.newline ≡ false
+no_newline : (text : List ℕ) (run : Run) (offset ch : ℕ) → IsRun text run → offset + 1 ≡ run.len → slice_get (run_characters text run) offset ≡ Some ch → (ch ≡ 10 → ⊥) → run.newline ≡ false
 no_newline text run offset ch is last at plain =
     let long = characters_length text run is in
     let n : run.len - 1 ≡ offset = omega (arith, last) in
-    let front : newlines (take offset (characters text run)) ≡ 0 = ap (λ i. newlines (take i (characters text run))) (sym n) ∙ is.plain in
-    let none = last_plain (characters text run) offset ch (omega (arith, long, last)) at plain front in
+    let front : newlines (take offset (run_characters text run)) ≡ 0 = ap (λ i. newlines (take i (run_characters text run))) (sym n) ∙ is.plain in
+    let none = last_plain (run_characters text run) offset ch (omega (arith, long, last)) at plain front in
     let ends = is.ends in
     split run.newline
     (λ t. let z : ◌≡◌ {A = ℕ} (if run.newline then 1 else 0) 1 = ap (λ (b : Bool). if b then 1 else 0) t in absurd (omega (arith, none, ends, z)))
@@ -147,11 +147,11 @@ record IsIn (text : List ℕ) (run : Run) (offset : ℕ) (a : Cell ℕ) : Type 0
   site : a.stamp.site ≡ run.site
   state : a.state ≡ run.state
   gone : a.gone ≡ run.gone
-  ch : slice_get (characters text run) offset ≡ Some a.ch
+  ch : slice_get (run_characters text run) offset ≡ Some a.ch
 
 there_is : (text : List ℕ) (run : Run) (offset : ℕ) (a : Cell ℕ) → IsRun text run → offset < run.len → slice_get (run_cells text run) offset ≡ Some a → IsIn text run offset a
 there_is text run offset a is lt at =
-    let cs = characters text run in
+    let cs = run_characters text run in
     let long = characters_length text run is in
     let ch = get_or cs offset 0 in
     let here : slice_get cs offset ≡ Some ch = get-at cs offset ch (omega (arith, long, lt)) (get-any cs offset 0 ch (omega (arith, long, lt))) in
@@ -205,7 +205,7 @@ module _ (text : List ℕ) (old : List Run) (at : ℕ) (cells : List (Cell ℕ))
 
   joint_first : (a : Cell ℕ) (rest : List (Cell ℕ)) (b : Run) → cells ≡ a ∷ rest → IsFrontOf text cells b → AreJoint run b
   joint_first a rest b are f =
-      let g = follows_true on.before a (one_follows on.before a rest (ap (λ (l : List (Cell ℕ)). stretches (on.before ∷ l)) (sym are) ∙ on.one)).0 in
+      let g = follows_true on.before a (one_follows on.before a rest (ap (λ (l : List (Cell ℕ)). stretch_count (on.before ∷ l)) (sym are) ∙ on.one)).0 in
       let h = first_is text b a rest (subst (λ (l : List (Cell ℕ)). IsFrontOf text l b) are f) in
       let w = before_is in
       let e = typed_end in
@@ -239,46 +239,46 @@ all_mid P [] x right a p b = (p, b)
 all_mid P (y ∷ left) x right a p b = (a.0, all_mid P left x right a.1 p b)
 
 module _ (text : List ℕ) (cells : List (Cell ℕ)) (run b : Run) (is : IsRun text run) (f : IsFrontOf text cells b) (j : AreJoint run b) where
-  new_stamp : (s : Stamp) → has b s ≡ true → 1 ≤ occurrences s cells
+  new_stamp : (s : Stamp) → has_cell b s ≡ true → 1 ≤ occurrences s cells
   new_stamp s h = let a = occurs_run text b s f.run h in let q = occurs-parts s b.len cells in let i = ap (occurrences s) f.same in omega (arith, a, q, i)
 
-  none_in : (rs : List Run) → AllByRecursion (IsRun text) rs → ((s : Stamp) → occurrences s (cells_of text rs) + (occurrences s (run_cells text run) + occurrences s cells) ≤ 1) → AllByRecursion (λ (r : Run). is_shared_by (joined run b) r ≡ false) rs
+  none_in : (rs : List Run) → AllByRecursion (IsRun text) rs → ((s : Stamp) → occurrences s (cells_of_runs text rs) + (occurrences s (run_cells text run) + occurrences s cells) ≤ 1) → AllByRecursion (λ (r : Run). is_shared_by (run_joined run b) r ≡ false) rs
   none_in [] kept once = tt
   none_in (r ∷ rs) kept once = (
-    split (is_shared_by (joined run b) r)
-        (λ t. split (has r (first_stamp run))
+    split (is_shared_by (run_joined run b) r)
+        (λ t. split (has_cell r (first_stamp run))
         (λ h.
         let s = first_stamp run in
         let x = occurs_run text r s kept.0 h in
         let y = occurs_run text run s is (first_has run is.some) in
-        let p = occurs-append s (run_cells text r) (cells_of text rs) in
+        let p = occurs-append s (run_cells text r) (cells_of_runs text rs) in
         let o = once s in
         absurd (omega (arith, x, y, p, o)))
         (λ n.
         let s = first_stamp r in
         let x = occurs_run text r s kept.0 (first_has r kept.0.some) in
-        let p = occurs-append s (run_cells text r) (cells_of text rs) in
+        let p = occurs-append s (run_cells text r) (cells_of_runs text rs) in
         let o = once s in
-        let h = shared_first (joined run b) r t n in
-        split (has run s)
+        let h = shared_first (run_joined run b) r t n in
+        split (has_cell run s)
         (λ mine. let y = occurs_run text run s is mine in absurd (omega (arith, x, y, p, o)))
         (λ other. let y = new_stamp s (either_has run b s j h other) in absurd (omega (arith, x, y, p, o)))))
         (λ n. n),
-    none_in rs kept.1 (λ s. let p = occurs-append s (run_cells text r) (cells_of text rs) in let o = once s in omega (arith, p, o)),
+    none_in rs kept.1 (λ s. let p = occurs-append s (run_cells text r) (cells_of_runs text rs) in let o = once s in omega (arith, p, o)),
   )
 
 right_runs : (text : List ℕ) (a : List Run) (x : Run) (b : List Run) → AllByRecursion (IsRun text) (a ++ x ∷ b) → AllByRecursion (IsRun text) b
 right_runs text [] x b h = h.1
 right_runs text (y ∷ a) x b h = right_runs text a x b h.1
 
-pub typed_apart : (text : List ℕ) (left : List Run) (run : Run) (right : List Run) (cells : List (Cell ℕ)) (b : Run) → AllByRecursion (IsRun text) (left ++ run ∷ right) → IsFrontOf text cells b → AreJoint run b → AreOnce (cells_of text (left ++ run ∷ right)) cells
-    → list_any (is_shared_by (if run.len == 1 then joined run b else b)) (left ++ run ∷ right) ≡ true → ⊥
+pub typed_apart : (text : List ℕ) (left : List Run) (run : Run) (right : List Run) (cells : List (Cell ℕ)) (b : Run) → AllByRecursion (IsRun text) (left ++ run ∷ right) → IsFrontOf text cells b → AreJoint run b → AreOnce (cells_of_runs text (left ++ run ∷ right)) cells
+    → list_any (is_shared_by (if run.len == 1 then run_joined run b else b)) (left ++ run ∷ right) ≡ true → ⊥
 typed_apart text left run right cells b all f j once e = split (run.len == 1)
     (λ one.
-    let own : is_shared_by (joined run b) run ≡ false = ap (λ (x : Bool). x && (has run (first_stamp (joined run b)) || has (joined run b) (first_stamp run))) (ap (nat_lt 1) (eqb-true run.len 1 one)) in
-    let none = none_shared (joined run b) old (all_mid (λ (r : Run). is_shared_by (joined run b) r ≡ false) left run right (none_in text cells run b is f j left lefts once_left) own (none_in text cells run b is f j right rights once_right)) in
-    true≢false (sym e ∙ ap (λ (t : Bool). list_any (is_shared_by (if t then joined run b else b)) old) one ∙ none))
-    (λ more. shared_twice text old b cells all f once (sym (ap (λ (t : Bool). list_any (is_shared_by (if t then joined run b else b)) old) more) ∙ e))
+    let own : is_shared_by (run_joined run b) run ≡ false = ap (λ (x : Bool). x && (has_cell run (first_stamp (run_joined run b)) || has_cell (run_joined run b) (first_stamp run))) (ap (nat_lt 1) (eqb-true run.len 1 one)) in
+    let none = none_shared (run_joined run b) old (all_mid (λ (r : Run). is_shared_by (run_joined run b) r ≡ false) left run right (none_in text cells run b is f j left lefts once_left) own (none_in text cells run b is f j right rights once_right)) in
+    true≢false (sym e ∙ ap (λ (t : Bool). list_any (is_shared_by (if t then run_joined run b else b)) old) one ∙ none))
+    (λ more. shared_twice text old b cells all f once (sym (ap (λ (t : Bool). list_any (is_shared_by (if t then run_joined run b else b)) old) more) ∙ e))
   where
     old : List Run
     old = left ++ run ∷ right
@@ -292,16 +292,16 @@ typed_apart text left run right cells b all f j once e = split (run.len == 1)
     rights : AllByRecursion (IsRun text) right
     rights = right_runs text left run right all
 
-    parts : (s : Stamp) → occurrences s (cells_of text old) ≡ occurrences s (cells_of text left) + (occurrences s (run_cells text run) + occurrences s (cells_of text right))
+    parts : (s : Stamp) → occurrences s (cells_of_runs text old) ≡ occurrences s (cells_of_runs text left) + (occurrences s (run_cells text run) + occurrences s (cells_of_runs text right))
     parts s =
-        let a = ap (occurrences s) (flat_map-append (run_cells text) left (run ∷ right)) ∙ occurs-append s (cells_of text left) (run_cells text run ++ cells_of text right) in
-        let c = occurs-append s (run_cells text run) (cells_of text right) in
+        let a = ap (occurrences s) (flat_map-append (run_cells text) left (run ∷ right)) ∙ occurs-append s (cells_of_runs text left) (run_cells text run ++ cells_of_runs text right) in
+        let c = occurs-append s (run_cells text run) (cells_of_runs text right) in
         omega (arith, a, c)
 
-    once_left : (s : Stamp) → occurrences s (cells_of text left) + (occurrences s (run_cells text run) + occurrences s cells) ≤ 1
+    once_left : (s : Stamp) → occurrences s (cells_of_runs text left) + (occurrences s (run_cells text run) + occurrences s cells) ≤ 1
     once_left s = let p = parts s in let o = once s in omega (arith, p, o)
 
-    once_right : (s : Stamp) → occurrences s (cells_of text right) + (occurrences s (run_cells text run) + occurrences s cells) ≤ 1
+    once_right : (s : Stamp) → occurrences s (cells_of_runs text right) + (occurrences s (run_cells text run) + occurrences s cells) ≤ 1
     once_right s = let p = parts s in let o = once s in omega (arith, p, o)
 
 -- WHAT IS SHOWN
@@ -310,8 +310,8 @@ low_runs : (text longer : List ℕ) (n : ℕ) (rs : List Run) → length longer 
 low_runs text longer n [] more kept = tt
 low_runs text longer n (r ∷ rs) more kept = (let s = kept.0.stands in omega (arith, s, more), low_runs text longer n rs more kept.1)
 
-pub typed_in : (text longer : List ℕ) (rs : List Run) (at : ℕ) (cells : List (Cell ℕ)) (s : Shown) → AllByRecursion (IsRun text) rs → length longer ≡ length text + length cells → length text ≡ (counts_of rs).cells
-    → cells_of longer rs ≡ cells_of text rs → cells_of text rs ≡ s.cells → came_of rs ≡ s.came → AreTypedOn s at cells → GoOnIn longer rs at cells
+pub typed_in : (text longer : List ℕ) (rs : List Run) (at : ℕ) (cells : List (Cell ℕ)) (s : TreeValue) → AllByRecursion (IsRun text) rs → length longer ≡ length text + length cells → length text ≡ (counts_of rs).cells
+    → cells_of_runs longer rs ≡ cells_of_runs text rs → cells_of_runs text rs ≡ s.cells → came_of rs ≡ s.came → AreTypedOn s at cells → GoOnIn longer rs at cells
 typed_in text longer rs at cells s kept more all grown shown came on =
     let n = counted text rs kept in
     let l = ap (λ (x : List (Cell ℕ)). length x) shown in
@@ -326,7 +326,7 @@ typed_in text longer rs at cells s kept more all grown shown came on =
     }
 
 -- what goes on from the last of cells that were put in is typed on
-pub typed_next : (text : List ℕ) (new : List Run) (at : ℕ) (was added more : List (Cell ℕ)) (s : Shown) → s.cells ≡ put_at at added was → s.came ≡ came_of new → at ≤ length was
+pub typed_next : (text : List ℕ) (new : List Run) (at : ℕ) (was added more : List (Cell ℕ)) (s : TreeValue) → s.cells ≡ put_at at added was → s.came ≡ came_of new → at ≤ length was
     → EndsThere new (at + length added) (length text) → length s.cells ≡ length text → GoOn added more → AreTypedOn s (at + length added) more
 typed_next text new at was added more s cells came le ends all on =
     let lt = slice_get_within added (length added - 1) on.last on.is in

@@ -15,9 +15,9 @@ use Rattle.rt_tree.specs.declared.update.CellUpdate.TheVariants.{Gone, State}
 use Rattle.rt_tree.specs.declared.node.Counts.{Counts}
 use Rattle.rt_tree.specs.declared.node.CountedBy.TheVariants.{Cells}
 use Rattle.rt_tree.specs.declared.node.Run.{Run}
-use Rattle.rt_tree.specs.Runs.{IsRun, cells_of, characters, first_stamp, has, run_cells, with_gone}
-use Rattle.rt_tree.specs.Sharing.{AreApart, BeginsAt, IsChangedAt, IsRecut, cell_in, is_long_with, long_with, run_in}
-use Rattle.rt_tree.specs.Stretches.{AreChanged, AreKept, updated_cell, updated_run}
+use Rattle.rt_tree.specs.Runs.{IsRun, cells_of_runs, run_characters, first_stamp, has_cell, run_cells, with_gone}
+use Rattle.rt_tree.specs.Sharing.{AreApart, BeginsAt, IsChangedAt, IsRecut, cell_updated_in, is_long_with, long_with, run_in}
+use Rattle.rt_tree.specs.Stretches.{AreChanged, AreRunsOfText, updated_cell, updated_run}
 use Rattle.rt_tree.specs.Sums.{AreFew, counts_of, counts_of_run, plus}
 use Rattle.rt_tree.specs.Walks.{IsReplacedAt, StandsAt}
 use Rattle.rt_tree.proofs.Apart.{bit, long-cons}
@@ -30,10 +30,10 @@ use Rattle.rt_tree.proofs.Walking.{IsNext, all_right, next_is, none_left}
 
 -- RUNS THAT WERE CUT
 
-pub recut_kept : (old new : List Run) → IsRecut old new → AreKept old → AreKept new
+pub recut_kept : (old new : List Run) → IsRecut old new → AreRunsOfText old → AreRunsOfText new
 recut_kept old new is kept = record { text = kept.text; short = kept.short; runs = is.kept kept.text kept.runs }
 
-pub recut_cells : (old new : List Run) → IsRecut old new → AreKept old → (counts_of new).cells ≡ (counts_of old).cells
+pub recut_cells : (old new : List Run) → IsRecut old new → AreRunsOfText old → (counts_of new).cells ≡ (counts_of old).cells
 recut_cells old new is kept =
     let a = counted kept.text old kept.runs in
     let b = counted kept.text new (is.kept kept.text kept.runs) in
@@ -53,7 +53,7 @@ module _ (span : Span) (update : CellUpdate) (old : List Run) (run : Run) (front
     long = refl;
   }
 
-  pub changed_in : (new : List Run) → AreKept old → (st : StandsAt Cells old run front offset at) → is_in_span span (first_stamp run) ≡ true → IsReplacedAt old new at (updated_run update run) → IsChangedAt old new at (run_in span update) run.len
+  pub changed_in : (new : List Run) → AreRunsOfText old → (st : StandsAt Cells old run front offset at) → is_in_span span (first_stamp run) ≡ true → IsReplacedAt old new at (updated_run update run) → IsChangedAt old new at (run_in span update) run.len
   changed_in new kept st within rep =
       let f = ap (λ (c : Counts). c.cells) rep.was.before in
       let g = ap (λ (c : Counts). c.cells) st.before in
@@ -70,7 +70,7 @@ module _ (span : Span) (update : CellUpdate) (old : List Run) (run : Run) (front
         long = refl;
       }
 
-pub updated_few : (update : CellUpdate) (old : List Run) (run : Run) (front : Counts) (offset at : ℕ) → AreKept old → (counts_of old).cells ≤ MOST_CELLS → StandsAt Cells old run front offset at → AreFew (plus (counts_of_run (updated_run update run)) (counts_of old))
+pub updated_few : (update : CellUpdate) (old : List Run) (run : Run) (front : Counts) (offset at : ℕ) → AreRunsOfText old → (counts_of old).cells ≤ MOST_CELLS → StandsAt Cells old run front offset at → AreFew (plus (counts_of_run (updated_run update run)) (counts_of old))
 updated_few update old run front offset at kept few st =
     let l = updated_length update run in
     let w = ap (λ l. (counts_of l).cells) st.here ∙ counts_mid st.left run st.right in
@@ -135,8 +135,8 @@ module _ (span : Span) (update : CellUpdate) where
   count_parts [] b = refl
   count_parts (r ∷ a) b = let e = run_len r in let h = count_parts a b in omega (arith, e, h)
 
-  module _ (old now : List Run) (at : ℕ) (kept : AreKept old) (few : (counts_of old).cells ≤ MOST_CELLS) (m : AreUpdated old now at) where
-    pub now_kept : AreKept now
+  module _ (old now : List Run) (at : ℕ) (kept : AreRunsOfText old) (few : (counts_of old).cells ≤ MOST_CELLS) (m : AreUpdated old now at) where
+    pub now_kept : AreRunsOfText now
     now_kept = record {
       text = kept.text;
       short = kept.short;
@@ -197,7 +197,7 @@ module _ (span : Span) (update : CellUpdate) where
   abbrev in_it : ℕ → ℕ → Bool
   in_it count site = is_in_span span (record { count = count; site = site })
 
-  cells_out : (gone : Bool) (count site state : ℕ) (text : List ℕ) → ((i : ℕ) → i < length text → in_it (count + i) site ≡ false) → map (cell_in span update) (row gone count site state text) ≡ row gone count site state text
+  cells_out : (gone : Bool) (count site state : ℕ) (text : List ℕ) → ((i : ℕ) → i < length text → in_it (count + i) site ≡ false) → map (cell_updated_in span update) (row gone count site state text) ≡ row gone count site state text
   cells_out gone count site state [] out = refl
   cells_out gone count site state (c ∷ text) out =
       let z : count + 0 ≡ count = omega arith in
@@ -205,7 +205,7 @@ module _ (span : Span) (update : CellUpdate) where
       let rest = cells_out gone (count + 1) site state text (λ i lt. let n : count + suc i ≡ count + 1 + i = omega arith in subst (λ n. in_it n site ≡ false) n (out (suc i) (omega (arith, lt)))) in
       rw (here, rest) refl
 
-  cells_within : (gone : Bool) (count site state : ℕ) (text : List ℕ) → ((i : ℕ) → i < length text → in_it (count + i) site ≡ true) → map (cell_in span update) (row gone count site state text) ≡ map (updated_cell update) (row gone count site state text)
+  cells_within : (gone : Bool) (count site state : ℕ) (text : List ℕ) → ((i : ℕ) → i < length text → in_it (count + i) site ≡ true) → map (cell_updated_in span update) (row gone count site state text) ≡ map (updated_cell update) (row gone count site state text)
   cells_within gone count site state [] out = refl
   cells_within gone count site state (c ∷ text) out =
       let z : count + 0 ≡ count = omega arith in
@@ -215,28 +215,28 @@ module _ (span : Span) (update : CellUpdate) where
 
   module _ (text : List ℕ) (r : Run) (is : IsRun text r) (first : BeginsAt (record { count = span.first; site = span.site }) r) (behind : BeginsAt (next_stamp (last_stamp span)) r) where
     stays_in : (i : ℕ) → i < r.len → is_in_span span (first_stamp r) ≡ true → in_it (r.first + i) r.site ≡ true
-    stays_in i lt e = split (has r (next_stamp (last_stamp span)))
+    stays_in i lt e = split (has_cell r (next_stamp (last_stamp span)))
         (λ h. let b = behind h in absurd (grind (arith, nat_tests)))
         (λ h. grind (arith, nat_tests))
 
     stays_out : (i : ℕ) → i < r.len → is_in_span span (first_stamp r) ≡ false → in_it (r.first + i) r.site ≡ false
-    stays_out i lt e = split (has r (record { count = span.first; site = span.site }))
+    stays_out i lt e = split (has_cell r (record { count = span.first; site = span.site }))
         (λ h. let b = first h in split (in_it (r.first + i) r.site) (λ y. absurd (grind (arith, nat_tests))) (λ n. n))
         (λ h. split (in_it (r.first + i) r.site) (λ y. absurd (grind (arith, nat_tests))) (λ n. n))
 
-    one_updated : run_cells text (f r) ≡ map (cell_in span update) (run_cells text r)
+    one_updated : run_cells text (f r) ≡ map (cell_updated_in span update) (run_cells text r)
     one_updated =
         let long = characters_length text r is in
         split (is_in_span span (first_stamp r))
-        (λ e. rw e (updated_cells text update r ∙ sym (cells_within r.gone r.first r.site r.state (characters text r) (λ i lt. stays_in i (omega (arith, lt, long)) e))))
-        (λ e. rw e (sym (cells_out r.gone r.first r.site r.state (characters text r) (λ i lt. stays_out i (omega (arith, lt, long)) e))))
+        (λ e. rw e (updated_cells text update r ∙ sym (cells_within r.gone r.first r.site r.state (run_characters text r) (λ i lt. stays_in i (omega (arith, lt, long)) e))))
+        (λ e. rw e (sym (cells_out r.gone r.first r.site r.state (run_characters text r) (λ i lt. stays_out i (omega (arith, lt, long)) e))))
 
-  pub span_updated : (text : List ℕ) (rs : List Run) → AllByRecursion (IsRun text) rs → AllByRecursion (BeginsAt (record { count = span.first; site = span.site })) rs → AllByRecursion (BeginsAt (next_stamp (last_stamp span))) rs → cells_of text (map f rs) ≡ map (cell_in span update) (cells_of text rs)
+  pub span_updated : (text : List ℕ) (rs : List Run) → AllByRecursion (IsRun text) rs → AllByRecursion (BeginsAt (record { count = span.first; site = span.site })) rs → AllByRecursion (BeginsAt (next_stamp (last_stamp span))) rs → cells_of_runs text (map f rs) ≡ map (cell_updated_in span update) (cells_of_runs text rs)
   span_updated text [] all first behind = refl
   span_updated text (r ∷ rs) all first behind =
-      ap (λ l. l ++ cells_of text (map f rs)) (one_updated text r all.0 first.0 behind.0)
-      ∙ ap (λ l. map (cell_in span update) (run_cells text r) ++ l) (span_updated text rs all.1 first.1 behind.1)
-      ∙ sym (map-append (cell_in span update) (run_cells text r) (cells_of text rs))
+      ap (λ l. l ++ cells_of_runs text (map f rs)) (one_updated text r all.0 first.0 behind.0)
+      ∙ ap (λ l. map (cell_updated_in span update) (run_cells text r) ++ l) (span_updated text rs all.1 first.1 behind.1)
+      ∙ sym (map-append (cell_updated_in span update) (run_cells text r) (cells_of_runs text rs))
 
 -- no run goes behind the greatest count
 pub none_behind : (text : List ℕ) (rs : List Run) (stamp : Stamp) → 2 ^ 64 ≤ stamp.count → AllByRecursion (IsRun text) rs → AllByRecursion (BeginsAt stamp) rs
@@ -248,18 +248,18 @@ pub span_count : (old new : List Run) (text : List ℕ) (g : Cell ℕ → Cell �
 span_count old new text g all is =
     let a = counted text old all in
     let b = counted text new is.kept in
-    let c = ap length is.cells ∙ length-map (cells_of text old) g in
+    let c = ap length is.cells ∙ length-map (cells_of_runs text old) g in
     omega (arith, a.cells, b.cells, c)
 
 pub span_changed : (old mid cut new : List Run) (span : Span) (update : CellUpdate) → IsRecut old mid → IsRecut mid cut → AllByRecursion (BeginsAt (record { count = span.first; site = span.site })) mid → AllByRecursion (BeginsAt (next_stamp (last_stamp span))) cut → new ≡ map (run_in span update) cut
-    → (text : List ℕ) → AllByRecursion (IsRun text) old → AreChanged old new text (map (cell_in span update))
+    → (text : List ℕ) → AllByRecursion (IsRun text) old → AreChanged old new text (map (cell_updated_in span update))
 span_changed old mid cut new span update one two first behind is text all =
     let all1 = one.kept text all in
     let all2 = two.kept text all1 in
     record {
       kept = subst (AllByRecursion (IsRun text)) (sym is) (runs_kept span update text cut all2);
       cells =
-          (ap (cells_of text) is
+          (ap (cells_of_runs text) is
           ∙ span_updated span update text cut all2 (two.begins (record { count = span.first; site = span.site }) first) behind
-          ∙ ap (map (cell_in span update)) (two.cells text all1 ∙ one.cells text all));
+          ∙ ap (map (cell_updated_in span update)) (two.cells text all1 ∙ one.cells text all));
     }

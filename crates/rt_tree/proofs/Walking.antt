@@ -7,7 +7,7 @@ use Rattle.rt_stamps.specs.declared.stamp.Stamp.{Stamp}
 use Rattle.rt_tree.specs.declared.node.Counts.{Counts}
 use Rattle.rt_tree.specs.declared.node.CountedBy.TheVariants.{Cells}
 use Rattle.rt_tree.specs.declared.node.Run.{Run}
-use Rattle.rt_tree.specs.Runs.{IsRun, has}
+use Rattle.rt_tree.specs.Runs.{IsRun, has_cell}
 use Rattle.rt_tree.specs.Sharing.{BeginsAt, IsInside}
 use Rattle.rt_tree.specs.Sums.{counts_of}
 use Rattle.rt_tree.specs.Walks.{StandsAt}
@@ -84,10 +84,10 @@ all_passed text all at P kept p end =
 
 -- A RUN THAT HAS A STAMP WITHIN IT
 
-pub begins_here : (stamp : Stamp) (r : Run) → (has r stamp && nat_lt r.first stamp.count) ≡ false → BeginsAt stamp r
+pub begins_here : (stamp : Stamp) (r : Run) → (has_cell r stamp && nat_lt r.first stamp.count) ≡ false → BeginsAt stamp r
 begins_here stamp r no_inside h = grind (arith, nat_tests)
 
-pub found_inside : (text : List ℕ) (all : List Run) (at : ℕ) (stamp : Stamp) (run : Run) (front : Counts) (offset : ℕ) → AllByRecursion (IsRun text) all → ArePassed all at (BeginsAt stamp) → StandsAt Cells all run front offset at → (has run stamp && nat_lt run.first stamp.count) ≡ true → IsInside all stamp (at + (stamp.count - run.first))
+pub found_inside : (text : List ℕ) (all : List Run) (at : ℕ) (stamp : Stamp) (run : Run) (front : Counts) (offset : ℕ) → AllByRecursion (IsRun text) all → ArePassed all at (BeginsAt stamp) → StandsAt Cells all run front offset at → (has_cell run stamp && nat_lt run.first stamp.count) ≡ true → IsInside all stamp (at + (stamp.count - run.first))
 found_inside text all at stamp run front offset kept p st yes_inside =
     let n = passed_next text all at (BeginsAt stamp) run front offset kept p st in
     let c = ap (λ (l : List Run). (counts_of l).cells) n.left in

@@ -6,7 +6,7 @@ use Rattle.rt_nodes.specs.Nodes.{entries}
 use Rattle.rt_tree.specs.declared.node.Entry.{Entry}
 use Rattle.rt_tree.specs.declared.node.Entry.TheVariants.{Down, Here}
 use Rattle.rt_tree.specs.Changes.{AreExact, IsLocal, IsRight, adds_up, bare, blank, entry_totals, links, strip}
-use Rattle.rt_tree.specs.Shape.{AreFilled, Fits, IsExact, IsShape, IsTree, Memory, ahead, all_below, behind, below, count_of, left_of, level_of, parent_of, right_of, runs, tree_runs}
+use Rattle.rt_tree.specs.Shape.{AreFilled, Fits, IsExact, IsShape, IsTree, Memory, ahead, all_below, behind, below, child_count, left_of, level_of, parent_of, right_of, runs, tree_runs}
 use Rattle.rt_tree.specs.Sums.{totals_of}
 use Rattle.rt_tree.proofs.Adding.{totals-append, join_last}
 use Rattle.rt_tree.proofs.Around.{test_other, test_same}
@@ -29,7 +29,7 @@ module _ (m : Memory) where
   pub runs-bare : (k id : ℕ) → runs (bare m) k id ≡ runs m k id
   runs-bare k id = ap (all_below (bare m) k) (bare-entries m id) ∙ flat-bare k (below-bare k) (entries m id)
 
-  pub count-bare : (id : ℕ) (es : List Entry) → count_of id (links es) ≡ count_of id es
+  pub count-bare : (id : ℕ) (es : List Entry) → child_count id (links es) ≡ child_count id es
   count-bare id [] = refl
   count-bare id (Here r ∷ es) = count-bare id es
   count-bare id (Down c t ∷ es) = omega (arith, count-bare id es)
@@ -92,7 +92,7 @@ module _ (m : Memory) where
     top = t.top;
     low = t.low;
     fits = λ id is. subst (AllByRecursion (Fits (bare m) id (level_of m id))) (sym (bare-entries m id)) (all-bare id (level_of m id) (entries m id) (t.fits id is));
-    known = λ id is ne. let k = t.known id is ne in record { is = k.is; up = k.up; once = ap (count_of id) (bare-entries m (parent_of m id)) ∙ count-bare id (entries m (parent_of m id)) ∙ k.once };
+    known = λ id is ne. let k = t.known id is ne in record { is = k.is; up = k.up; once = ap (child_count id) (bare-entries m (parent_of m id)) ∙ count-bare id (entries m (parent_of m id)) ∙ k.once };
   }
 
   pub shape-bare : (height root : ℕ) → IsShape (bare m) height root → IsShape m height root
@@ -102,7 +102,7 @@ module _ (m : Memory) where
     top = t.top;
     low = t.low;
     fits = λ id is. bare-all id (level_of m id) (entries m id) (subst (AllByRecursion (Fits (bare m) id (level_of m id))) (bare-entries m id) (t.fits id is));
-    known = λ id is ne. let k = t.known id is ne in record { is = k.is; up = k.up; once = sym (ap (count_of id) (bare-entries m (parent_of m id)) ∙ count-bare id (entries m (parent_of m id))) ∙ k.once };
+    known = λ id is ne. let k = t.known id is ne in record { is = k.is; up = k.up; once = sym (ap (child_count id) (bare-entries m (parent_of m id)) ∙ count-bare id (entries m (parent_of m id))) ∙ k.once };
   }
 
   -- exact entries add up to their runs

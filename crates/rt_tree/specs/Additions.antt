@@ -12,16 +12,16 @@ abbrev pub follows : Cell ℕ → Cell ℕ → Bool
 follows before cell = (cell.state == before.state) && (beq cell.gone before.gone && (is_same cell.stamp (next_stamp before.stamp) && not (before.ch == 10)))
 
 -- how many stretches cells have, each as long as its cells follow one another
-abbrev pub stretches : List (Cell ℕ) → ℕ
-stretches [] = 0
-stretches (a ∷ []) = 1
-stretches (a ∷ b ∷ cells) = (if follows a b then 0 else 1) + stretches (b ∷ cells)
+abbrev pub stretch_count : List (Cell ℕ) → ℕ
+stretch_count [] = 0
+stretch_count (a ∷ []) = 1
+stretch_count (a ∷ b ∷ cells) = (if follows a b then 0 else 1) + stretch_count (b ∷ cells)
 
 -- the first cells are one stretch, and it ends there
 pub record IsStretch (cells : List (Cell ℕ)) (len : ℕ) : Type 0 where
   pub within : len ≤ length cells
-  pub one : stretches (take len cells) ≡ 1
-  pub longest : stretches cells ≡ 1 + stretches (drop len cells)
+  pub one : stretch_count (take len cells) ≡ 1
+  pub longest : stretch_count cells ≡ 1 + stretch_count (drop len cells)
 
 -- the characters of cells are the last of a text
 pub record EndsWith (text : List ℕ) (cells : List (Cell ℕ)) : Type 0 where
@@ -52,5 +52,5 @@ are_joint before run =
     && ((run.at == before.at + before.len) && not before.newline))))
 
 -- both as one run
-abbrev pub joined : Run → Run → Run
-joined before run = record before { len = before.len + run.len; newline = run.newline }
+abbrev pub run_joined : Run → Run → Run
+run_joined before run = record before { len = before.len + run.len; newline = run.newline }

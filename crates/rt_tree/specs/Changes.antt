@@ -7,7 +7,7 @@ use Rattle.rt_stamps.specs.declared.stamp.Stamp.{Stamp}
 use Rattle.rt_tree.specs.declared.node.Entry.{Entry}
 use Rattle.rt_tree.specs.declared.node.Entry.TheVariants.{Down, Here}
 use Rattle.rt_tree.specs.declared.node.Totals.{Totals}
-use Rattle.rt_tree.specs.Shape.{Memory, ahead, below, count_of, level_of, parent_of, runs}
+use Rattle.rt_tree.specs.Shape.{Memory, ahead, below, child_count, level_of, parent_of, runs}
 use Rattle.rt_tree.specs.Sums.{lesser, no_counts, plus, totals_of}
 
 -- NODES WITHOUT TOTALS
@@ -68,7 +68,7 @@ AreExact m = (id : ℕ) → id < length m.heads → AllByRecursion (IsLocal m) (
 
 -- all but those of one node
 abbrev pub AreExactBut : ℕ → Memory → Type 0
-AreExactBut but m = (id : ℕ) → id < length m.heads → AllByRecursion (λ e. count_of but (strip e ∷ []) ≡ 0 → IsLocal m e) (entries m id)
+AreExactBut but m = (id : ℕ) → id < length m.heads → AllByRecursion (λ e. child_count but (strip e ∷ []) ≡ 0 → IsLocal m e) (entries m id)
 
 -- totals have the same least stamp as others had, and no count that is less
 pub record HasGrown (before after : Totals) : Type 0 where
@@ -80,7 +80,7 @@ pub record HasGrown (before after : Totals) : Type 0 where
 -- what is kept for a node in an entry lacks these totals of what the node's own entries add up to
 abbrev pub Lacks : ℕ → Totals → Memory → Type 0
 Lacks node more m = (id : ℕ) → id < length m.heads → (id ≡ node → ⊥)
-    → AllByRecursion (λ e. 0 < count_of node (strip e ∷ []) → adds_up (entries m node) ≡ join more (entry_totals e)) (entries m id)
+    → AllByRecursion (λ e. 0 < child_count node (strip e ∷ []) → adds_up (entries m node) ≡ join more (entry_totals e)) (entries m id)
 
 -- an entry's totals are those of its runs
 abbrev pub IsRight : Memory → ℕ → Entry → Type 0
@@ -100,8 +100,8 @@ pub record IsSplit (s s' : Memory) (n q p : ℕ) (front back left right : List E
   pub same : length s'.heads ≡ length s'.rows
   pub levels : (c : ℕ) → c < q → level_of s' c ≡ level_of s c
   pub level : level_of s' q ≡ level_of s n
-  pub moved : (c : ℕ) → c < q → 0 < count_of c back → parent_of s' c ≡ q
-  pub stay : (c : ℕ) → c < q → count_of c back ≡ 0 → parent_of s' c ≡ parent_of s c
+  pub moved : (c : ℕ) → c < q → 0 < child_count c back → parent_of s' c ≡ q
+  pub stay : (c : ℕ) → c < q → child_count c back ≡ 0 → parent_of s' c ≡ parent_of s c
   pub parent : parent_of s' q ≡ p
   pub halves : entries s n ≡ front ++ back
   pub at_n : entries s' n ≡ front
@@ -117,8 +117,8 @@ pub record IsCut (m m' : Memory) (n q p : ℕ) (front back left right : List Ent
   pub same : length m'.heads ≡ length m'.rows
   pub levels : (c : ℕ) → c < q → level_of (bare m') c ≡ level_of (bare m) c
   pub level : level_of (bare m') q ≡ level_of (bare m) n
-  pub moved : (c : ℕ) → c < q → 0 < count_of c (links back) → parent_of (bare m') c ≡ q
-  pub stay : (c : ℕ) → c < q → count_of c (links back) ≡ 0 → parent_of (bare m') c ≡ parent_of (bare m) c
+  pub moved : (c : ℕ) → c < q → 0 < child_count c (links back) → parent_of (bare m') c ≡ q
+  pub stay : (c : ℕ) → c < q → child_count c (links back) ≡ 0 → parent_of (bare m') c ≡ parent_of (bare m) c
   pub parent : parent_of (bare m') q ≡ p
   pub halves : entries m n ≡ front ++ back
   pub at_n : entries m' n ≡ front
@@ -134,8 +134,8 @@ pub record IsAdopted (m m' : Memory) (parent : ℕ) (kids : List Entry) : Type 0
   pub room : m'.room ≡ m.room
   pub heads : length m'.heads ≡ length m.heads
   pub levels : (c : ℕ) → level_of (bare m') c ≡ level_of (bare m) c
-  pub moved : (c : ℕ) → c < length m.heads → 0 < count_of c kids → parent_of (bare m') c ≡ parent
-  pub stay : (c : ℕ) → count_of c kids ≡ 0 → parent_of (bare m') c ≡ parent_of (bare m) c
+  pub moved : (c : ℕ) → c < length m.heads → 0 < child_count c kids → parent_of (bare m') c ≡ parent
+  pub stay : (c : ℕ) → child_count c kids ≡ 0 → parent_of (bare m') c ≡ parent_of (bare m) c
 
 -- a new node has a node's entries from the k-th on
 pub record IsHalved (m m' : Memory) (n q p k : ℕ) : Type 0 where
@@ -144,8 +144,8 @@ pub record IsHalved (m m' : Memory) (n q p k : ℕ) : Type 0 where
   pub same : length m'.heads ≡ length m'.rows
   pub levels : (c : ℕ) → c < q → level_of (bare m') c ≡ level_of (bare m) c
   pub level : level_of (bare m') q ≡ level_of (bare m) n
-  pub moved : (c : ℕ) → c < q → 0 < count_of c (links (drop k (entries m n))) → parent_of (bare m') c ≡ q
-  pub stay : (c : ℕ) → c < q → count_of c (links (drop k (entries m n))) ≡ 0 → parent_of (bare m') c ≡ parent_of (bare m) c
+  pub moved : (c : ℕ) → c < q → 0 < child_count c (links (drop k (entries m n))) → parent_of (bare m') c ≡ q
+  pub stay : (c : ℕ) → c < q → child_count c (links (drop k (entries m n))) ≡ 0 → parent_of (bare m') c ≡ parent_of (bare m) c
   pub parent : parent_of (bare m') q ≡ p
   pub at_n : entries m' n ≡ take k (entries m n)
   pub at_q : entries m' q ≡ drop k (entries m n)

@@ -3,8 +3,8 @@ use Rattle.std.specs.Prelude.{◌≡◌, ℕ, ◌+◌, ◌-◌, ◌<◌, ◌≤�
 use Rattle.std.specs.List.{AllByRecursion}
 use Rattle.rt_store.specs.declared.cell.Cell.{Cell}
 use Rattle.rt_tree.specs.declared.node.Run.{Run}
-use Rattle.rt_tree.specs.Additions.{stretches}
-use Rattle.rt_tree.specs.Runs.{cells_of}
+use Rattle.rt_tree.specs.Additions.{stretch_count}
+use Rattle.rt_tree.specs.Runs.{cells_of_runs}
 use Rattle.rt_tree.specs.Sums.{counts_of}
 use Rattle.rt_tree.specs.Trees.{came_of}
 
@@ -23,7 +23,7 @@ pub record EndsThere (rs : List Run) (at place : ℕ) : Type 0 where
 pub record GoOnIn (text : List ℕ) (rs : List Run) (at : ℕ) (cells : List (Cell ℕ)) : Type 0 where
   pub before : Cell ℕ
   pub some : 0 < at
-  pub there : slice_get (cells_of text rs) (at - 1) ≡ Some before
+  pub there : slice_get (cells_of_runs text rs) (at - 1) ≡ Some before
   pub last : slice_get (came_of rs) (at - 1) ≡ Some (length text - length cells - 1)
-  pub one : stretches (before ∷ cells) ≡ 1
+  pub one : stretch_count (before ∷ cells) ≡ 1
   pub old : AllByRecursion (λ r. r.at + r.len + length cells ≤ length text) rs

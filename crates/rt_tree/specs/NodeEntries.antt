@@ -5,9 +5,9 @@ use Rattle.rt_tree.specs.declared.node_entry.Form.{Form}
 use Rattle.rt_tree.specs.declared.node_entry.Form.TheVariants.{Cells, Node}
 
 -- the entry that is kept so
-abbrev pub shown : Form → Entry
-shown (Node id totals) = Down id totals
-shown (Cells gone newline site first state at len) =
+abbrev pub entry_of_form : Form → Entry
+entry_of_form (Node id totals) = Down id totals
+entry_of_form (Cells gone newline site first state at len) =
     Here (record { first = first; state = state; at = at; len = len; site = site; gone = gone; newline = newline })
 
 -- how an entry is kept

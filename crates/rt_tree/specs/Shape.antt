@@ -65,10 +65,10 @@ is_of id (Here r) = false
 is_of id (Down c t) = c.index == id
 
 -- how often a node stands among entries
-abbrev pub count_of : ℕ → List Entry → ℕ
-count_of id [] = 0
-count_of id (Here r ∷ es) = count_of id es
-count_of id (Down c t ∷ es) = (if c.index == id then 1 else 0) + count_of id es
+abbrev pub child_count : ℕ → List Entry → ℕ
+child_count id [] = 0
+child_count id (Here r ∷ es) = child_count id es
+child_count id (Down c t ∷ es) = (if c.index == id then 1 else 0) + child_count id es
 
 -- the entries before a node's, and those behind it
 abbrev pub left_of : ℕ → List Entry → List Entry
@@ -89,7 +89,7 @@ around m id = entries m (parent_of m id)
 pub record IsKnown (m : Memory) (id : ℕ) : Type 0 where
   pub is : parent_of m id < length m.heads
   pub up : level_of m (parent_of m id) ≡ suc (level_of m id)
-  pub once : count_of id (around m id) ≡ 1
+  pub once : child_count id (around m id) ≡ 1
 
 -- a root above the leaves has two entries or more, each other node eight
 abbrev pub IsFilled : Memory → ℕ → ℕ → Type 0

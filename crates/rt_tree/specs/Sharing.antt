@@ -10,14 +10,14 @@ use Rattle.rt_tree.specs.declared.update.CellUpdate.{CellUpdate}
 use Rattle.rt_tree.specs.declared.node.Counts.{Counts}
 use Rattle.rt_tree.specs.declared.node.CountedBy.TheVariants.{Cells}
 use Rattle.rt_tree.specs.declared.node.Run.{Run}
-use Rattle.rt_tree.specs.Runs.{IsRun, cells_of, first_stamp, has}
+use Rattle.rt_tree.specs.Runs.{IsRun, cells_of_runs, first_stamp, has_cell}
 use Rattle.rt_tree.specs.Stretches.{IsEdge, back_of, front_of, lengths, updated_cell, updated_run}
 use Rattle.rt_tree.specs.Sums.{counts_of}
 use Rattle.rt_tree.specs.Walks.{StandsAt}
 
 -- a run of more than one cell has a stamp
 abbrev pub is_long_with : Stamp → Run → Bool
-is_long_with stamp r = nat_lt 1 r.len && has r stamp
+is_long_with stamp r = nat_lt 1 r.len && has_cell r stamp
 
 -- how many runs of more than one cell have a stamp
 abbrev pub long_with : Stamp → List Run → ℕ
@@ -29,16 +29,16 @@ AreApart rs = (stamp : Stamp) → long_with stamp rs ≤ 1
 
 -- another run of more than one cell has a stamp of a run
 abbrev pub is_shared_by : Run → Run → Bool
-is_shared_by run other = nat_lt 1 other.len && (has other (first_stamp run) || has run (first_stamp other))
+is_shared_by run other = nat_lt 1 other.len && (has_cell other (first_stamp run) || has_cell run (first_stamp other))
 
 -- a run that has a stamp begins with it
 abbrev pub BeginsAt : Stamp → Run → Type 0
-BeginsAt stamp r = has r stamp ≡ true → r.first ≡ stamp.count
+BeginsAt stamp r = has_cell r stamp ≡ true → r.first ≡ stamp.count
 
 -- runs with the same cells, where runs begin and end at no fewer positions, and share no more stamps
 pub record IsRecut (old new : List Run) : Type 0 where
   pub kept : (text : List ℕ) → AllByRecursion (IsRun text) old → AllByRecursion (IsRun text) new
-  pub cells : (text : List ℕ) → AllByRecursion (IsRun text) old → cells_of text new ≡ cells_of text old
+  pub cells : (text : List ℕ) → AllByRecursion (IsRun text) old → cells_of_runs text new ≡ cells_of_runs text old
   pub edges : (at : ℕ) → IsEdge (lengths old) at → IsEdge (lengths new) at
   pub apart : AreApart old → AreApart new
   pub begins : (stamp : Stamp) → AllByRecursion (BeginsAt stamp) old → AllByRecursion (BeginsAt stamp) new
@@ -54,7 +54,7 @@ pub record IsInside (rs : List Run) (stamp : Stamp) (at : ℕ) : Type 0 where
   pub run : Run
   pub right : List Run
   pub here : rs ≡ left ++ run ∷ right
-  pub there : has run stamp ≡ true
+  pub there : has_cell run stamp ≡ true
   pub later : run.first < stamp.count
   pub place : (counts_of left).cells + (stamp.count - run.first) ≡ at
 
@@ -63,8 +63,8 @@ abbrev pub run_in : Span → CellUpdate → Run → Run
 run_in span update r = if is_in_span span (first_stamp r) then updated_run update r else r
 
 -- a cell is updated if its stamp is in a span
-abbrev pub cell_in : Span → CellUpdate → Cell ℕ → Cell ℕ
-cell_in span update cell = if is_in_span span cell.stamp then updated_cell update cell else cell
+abbrev pub cell_updated_in : Span → CellUpdate → Cell ℕ → Cell ℕ
+cell_updated_in span update cell = if is_in_span span cell.stamp then updated_cell update cell else cell
 
 -- the run that has the cell at a position is changed in a way; it has so many cells
 pub record IsChangedAt (old new : List Run) (at : ℕ) (f : Run → Run) (len : ℕ) : Type 0 where
@@ -84,15 +84,15 @@ abbrev pub AreOnce : List (Cell ℕ) → List (Cell ℕ) → Type 0
 AreOnce old new = (stamp : Stamp) → occurrences stamp old + occurrences stamp new ≤ 1
 
 -- no cell has a greater count
-abbrev pub AreUpTo : ℕ → List (Cell ℕ) → Type 0
-AreUpTo newest cells = AllByRecursion (λ cell. cell.stamp.count ≤ newest) cells
+abbrev pub NoneIsNewer : ℕ → List (Cell ℕ) → Type 0
+NoneIsNewer newest cells = AllByRecursion (λ cell. cell.stamp.count ≤ newest) cells
 
 -- no cell has the greatest count that there is
 abbrev pub AreBelowGreatest : List (Cell ℕ) → Type 0
-AreBelowGreatest cells = AreUpTo (2 ^ 64 - 2) cells
+AreBelowGreatest cells = NoneIsNewer (2 ^ 64 - 2) cells
 
 -- runs as they should be in some text, with no cell of a greater count
 pub record AreKnown (newest : ℕ) (rs : List Run) : Type 0 where
   pub text : List ℕ
   pub kept : AllByRecursion (IsRun text) rs
-  pub upto : AreUpTo newest (cells_of text rs)
+  pub upto : NoneIsNewer newest (cells_of_runs text rs)

@@ -8,7 +8,7 @@ use Rattle.rt_tags.specs.States.{IsState, TagStates}
 use Rattle.rt_tree.specs.declared.node.Run.{Run}
 use Rattle.rt_tree.specs.declared.update.CellUpdate.{CellUpdate}
 use Rattle.rt_tree.specs.declared.update.CellUpdate.TheVariants.{Gone, State}
-use Rattle.rt_tree.specs.Runs.{IsRun, cells_of, with_gone}
+use Rattle.rt_tree.specs.Runs.{IsRun, cells_of_runs, with_gone}
 
 -- what a update makes of a cell, and of a run
 abbrev pub updated_cell : CellUpdate → Cell ℕ → Cell ℕ
@@ -41,7 +41,7 @@ abbrev pub back_of : ℕ → Run → Run
 back_of k r = record r { first = r.first + k; at = r.at + k; len = r.len - k }
 
 -- runs are as they should be in some text
-pub record AreKept (rs : List Run) : Type 0 where
+pub record AreRunsOfText (rs : List Run) : Type 0 where
   pub text : List ℕ
   pub short : length text ≤ MOST_CELLS
   pub runs : AllByRecursion (IsRun text) rs
@@ -49,4 +49,4 @@ pub record AreKept (rs : List Run) : Type 0 where
 -- Stretches of runs change: the runs stay as they should be, and the cells are changed in a way.
 pub record AreChanged (old new : List Run) (text : List ℕ) (f : List (Cell ℕ) → List (Cell ℕ)) : Type 0 where
   pub kept : AllByRecursion (IsRun text) new
-  pub cells : cells_of text new ≡ f (cells_of text old)
+  pub cells : cells_of_runs text new ≡ f (cells_of_runs text old)

@@ -10,27 +10,27 @@ use Rattle.rt_tags.specs.States.{TagStates}
 use Rattle.rt_tree.specs.declared.node.Run.{Run}
 use Rattle.rt_tree.specs.declared.summary.Summary.{Summary}
 use Rattle.rt_tree.specs.declared.summed.Summaries.{Summaries}
-use Rattle.rt_tree.specs.Runs.{IsRun, cells_of}
+use Rattle.rt_tree.specs.Runs.{IsRun, cells_of_runs}
 use Rattle.rt_tree.specs.Shape.{IsTree, Memory, level_of, runs, tree_runs}
 use Rattle.rt_tree.specs.Sharing.{AreApart}
 use Rattle.rt_tree.specs.Summaries.{HaveMemory, IsSummary, shown_states, summary_of, without_room}
 use Rattle.rt_tree.specs.Sums.{counts_of}
 
 -- what is kept for a node: the states of the visible runs below it, and their summary
-pub record Stretch : Type 0 where
+pub record NodeStretch : Type 0 where
   pub states : List ℕ
   pub summary : Summary
 
 -- the cells in order, the number of each in the order in which they came, how many runs they are kept in, how many levels
 -- of nodes there are, what there is room for, what is kept for each node, and whether look-ups by stamps go by the map of
 -- leaves
-pub record Shown : Type 0 where
+pub record TreeValue : Type 0 where
   pub cells : List (Cell ℕ)
   pub came : List ℕ
   pub runs : ℕ
   pub height : ℕ
   pub room : Room
-  pub stretches : List Stretch
+  pub stretches : List NodeStretch
   pub sure : Bool
 
 -- so many numbers from one on
@@ -42,36 +42,36 @@ numbers_from n (suc k) = n ∷ numbers_from (n + 1) k
 abbrev pub came_of : List Run → List ℕ
 came_of rs = flat_map (λ r. numbers_from r.at r.len) rs
 
-abbrev pub stretch_of : Memory → List Summary → ℕ → Stretch
-stretch_of m sums id = record { states = shown_states (runs m (level_of m id) id); summary = without_room (summary_of sums id) }
+abbrev pub node_stretch : Memory → List Summary → ℕ → NodeStretch
+node_stretch m sums id = record { states = shown_states (runs m (level_of m id) id); summary = without_room (summary_of sums id) }
 
 -- what is kept for the first so many nodes
-abbrev pub stretches_of : Memory → List Summary → ℕ → List Stretch
-stretches_of m sums zero = []
-stretches_of m sums (suc n) = stretch_of m sums n ∷ stretches_of m sums n
+abbrev pub node_stretches : Memory → List Summary → ℕ → List NodeStretch
+node_stretches m sums zero = []
+node_stretches m sums (suc n) = node_stretch m sums n ∷ node_stretches m sums n
 
-abbrev pub shown : Memory → ℕ → List ℕ → List Summary → Room → Bool → Shown
-shown m root text sums room sure = record {
-  cells = cells_of text (tree_runs m root);
+abbrev pub tree_value : Memory → ℕ → List ℕ → List Summary → Room → Bool → TreeValue
+tree_value m root text sums room sure = record {
+  cells = cells_of_runs text (tree_runs m root);
   came = came_of (tree_runs m root);
   runs = length (tree_runs m root);
   height = level_of m root + 1;
   room = room;
-  stretches = stretches_of m sums (length m.heads);
+  stretches = node_stretches m sums (length m.heads);
   sure = sure;
 }
 
 -- what is kept for nodes is right by a table of states
-abbrev pub AreRight : TagStates → List Stretch → Type 0
+abbrev pub AreRight : TagStates → List NodeStretch → Type 0
 AreRight table stretches = All (λ x. IsSummary table x.states x.summary) stretches
 
 -- the cells' states were given out by a table, and what is kept for nodes is right by it
-pub record Agrees (table : TagStates) (s : Shown) : Type 0 where
+pub record AgreesWithTable (table : TagStates) (s : TreeValue) : Type 0 where
   pub given : AreStates table s.cells
   pub right : AreRight table s.stretches
 
 -- the states of stretches are states of cells
-abbrev pub HasOwn : Shown → Type 0
+abbrev pub HasOwn : TreeValue → Type 0
 HasOwn s = AllByRecursion (λ x. AllByRecursion (Contains (map (λ c. c.state) s.cells)) x.states) s.stretches
 
 -- there are summaries of spare nodes too, and memory for counts of so many tags
@@ -82,7 +82,7 @@ pub record HaveSummaries (m : Memory) (s : Summaries) (most : ℕ) : Type 0 wher
 
 -- the nodes are a tree, whose runs stand in the text and share it, have no more cells than a text may have, and share no stamp if they
 -- have more than one cell
-pub record IsKept (m : Memory) (root : ℕ) (text : List ℕ) (runs : ℕ) : Type 0 where
+pub record IsTreeOfText (m : Memory) (root : ℕ) (text : List ℕ) (runs : ℕ) : Type 0 where
   pub tree : IsTree m root
   pub kept : AllByRecursion (IsRun text) (tree_runs m root)
   pub apart : AreApart (tree_runs m root)

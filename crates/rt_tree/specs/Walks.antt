@@ -7,7 +7,7 @@ use Rattle.rt_tree.specs.declared.node.Entry.TheVariants.{Here}
 use Rattle.rt_tree.specs.declared.node.CountedBy.{CountedBy}
 use Rattle.rt_tree.specs.declared.node.CountedBy.TheVariants.{Cells}
 use Rattle.rt_tree.specs.declared.node.Run.{Run}
-use Rattle.rt_tree.specs.Runs.{has}
+use Rattle.rt_tree.specs.Runs.{has_cell}
 use Rattle.rt_tree.specs.Shape.{Memory, level_of, runs_before}
 use Rattle.rt_tree.specs.Sums.{amount, counts_of, counts_of_run}
 
@@ -40,8 +40,8 @@ pub record IsPlaceIn (m : Memory) (root leaf : ℕ) (stamp : Stamp) (place : ℕ
   pub entry : ℕ
   pub run : Run
   pub here : slice_get (entries m leaf) entry ≡ Some (Here run)
-  pub there : has run stamp ≡ true
-  pub first : (i : ℕ) (other : Run) → i < entry → slice_get (entries m leaf) i ≡ Some (Here other) → has other stamp ≡ false
+  pub there : has_cell run stamp ≡ true
+  pub first : (i : ℕ) (other : Run) → i < entry → slice_get (entries m leaf) i ≡ Some (Here other) → has_cell other stamp ≡ false
   pub front : Counts
   pub before : front ≡ counts_of (runs_before m root leaf entry)
   pub is : place ≡ front.visible + (if run.gone then 0 else (stamp.count - run.first))

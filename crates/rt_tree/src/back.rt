@@ -8,7 +8,7 @@ ghost use Rattle.rt_tree.specs.declared.node.Run.{Run};
 ghost use Rattle.rt_store.specs.Cells.{visible_of};
 ghost use Rattle.rt_store.specs.Tagged.{previous_place, tag_is};
 ghost use Rattle.rt_tree.specs.Reaches.{reached_back};
-ghost use Rattle.rt_tree.specs.Runs.{IsRun, cells_of};
+ghost use Rattle.rt_tree.specs.Runs.{IsRun, cells_of_runs};
 ghost use Rattle.rt_tree.specs.Shape.{IsTree, below, level_of, runs, tree_runs};
 ghost use Rattle.rt_tree.specs.Summaries.{AreSummed, IsSummary, shown_states, tagged_as};
 ghost use Rattle.rt_tree.specs.Sums.{AreFew, counts_of};
@@ -143,7 +143,7 @@ pub(crate) fn previous_place(
     requires given { AllByRecursion (IsState states.now) (shown_states (tree_runs mem.now root.index)) }
     requires few { AreFew (counts_of (tree_runs mem.now root.index)) }
     ensures { (text : List ℕ) → AllByRecursion (IsRun text) (tree_runs mem.now root.index)
-        → result ≡ previous_place (tag_is states.now wanted.now.tag wanted.now.on) (visible_of (cells_of text (tree_runs mem.now root.index))) place }
+        → result ≡ previous_place (tag_is states.now wanted.now.tag wanted.now.on) (visible_of (cells_of_runs text (tree_runs mem.now root.index))) place }
 {
     let search = Search {
         sums,

@@ -4,11 +4,11 @@ ghost use Rattle.std.specs.List.{AllByRecursion};
 ghost use Rattle.rt_stamps.specs.declared.limits.TheConstants.{MOST_CELLS};
 ghost use Rattle.rt_tree.specs.Holds.{Holds, IsEndAt};
 ghost use Rattle.rt_tree.specs.Homes.{AreHome};
-ghost use Rattle.rt_tree.specs.Runs.{has};
+ghost use Rattle.rt_tree.specs.Runs.{has_cell};
 ghost use Rattle.rt_tree.specs.Shape.{IsTree, tree_runs};
 ghost use Rattle.rt_tree.specs.Sharing.{AreApart, AreParts, BeginsAt, IsInside, IsRecut};
 ghost use Rattle.rt_tree.specs.Standing.{AreHoused, IsParted};
-ghost use Rattle.rt_tree.specs.Stretches.{AreKept, IsEdge, back_of, front_of, lengths};
+ghost use Rattle.rt_tree.specs.Stretches.{AreRunsOfText, IsEdge, back_of, front_of, lengths};
 ghost use Rattle.rt_tree.specs.Summaries.{AreTold};
 ghost use Rattle.rt_tree.specs.Sums.{counts_of};
 ghost use Rattle.rt_tree.specs.Trees.{HasNodes};
@@ -99,7 +99,7 @@ pub(crate) fn cut(
     last: &Option<Found>,
 ) -> Parted
     requires tree { IsTree mem.old root.index }
-    requires kept { AreKept (tree_runs mem.old root.index) }
+    requires kept { AreRunsOfText (tree_runs mem.old root.index) }
     requires few { (counts_of (tree_runs mem.old root.index)).cells ≤ MOST_CELLS }
     requires within { at ≤ (counts_of (tree_runs mem.old root.index)).cells }
     requires room { HasNodes mem.old (length (tree_runs mem.old root.index)) }
@@ -155,7 +155,7 @@ pub(crate) fn cut(
 
 // The gap before the cell at a position, in which a run is to end or begin, and what is known of it.
 #[derive(Clone, Copy)]
-pub(crate) struct Gap<'a> {
+pub(crate) struct CutPlace<'a> {
     pub(crate) at: usize,
     // Whether a run is known to end or begin there.
     pub(crate) is_edge: bool,
@@ -180,11 +180,11 @@ pub(crate) fn cut_home(
     sums: &mut Summaries,
     states: &StateTable,
     root: NodeId,
-    gap: &Gap<'_>,
+    gap: &CutPlace<'_>,
     homes: &mut Homes,
 ) -> CutEnd
     requires tree { IsTree mem.old root.index }
-    requires kept { AreKept (tree_runs mem.old root.index) }
+    requires kept { AreRunsOfText (tree_runs mem.old root.index) }
     requires few { (counts_of (tree_runs mem.old root.index)).cells ≤ MOST_CELLS }
     requires within { gap.now.at ≤ (counts_of (tree_runs mem.old root.index)).cells }
     requires room { HasNodes mem.old (length (tree_runs mem.old root.index)) }
@@ -228,7 +228,7 @@ pub(crate) fn cut_home(
 
 // Whether a run has a stamp and doesn't begin with it.
 fn is_within(run: &Run, stamp: Stamp) -> bool
-    ensures { result ≡ (has run.now stamp && nat_lt run.now.first stamp.count) }
+    ensures { result ≡ (has_cell run.now stamp && nat_lt run.now.first stamp.count) }
 {
     has(*run, stamp) && run.first < stamp.count
 }
@@ -237,7 +237,7 @@ fn is_within(run: &Run, stamp: Stamp) -> bool
 fn inside(mem: &Mem, root: NodeId, stamp: Stamp, homes: &Homes) -> Option<usize>
     requires home { homes.now.sure ≡ true → AreHome homes.now.leaves (tree_runs mem.now root.index) }
     requires tree { IsTree mem.now root.index }
-    requires kept { AreKept (tree_runs mem.now root.index) }
+    requires kept { AreRunsOfText (tree_runs mem.now root.index) }
     requires few { (counts_of (tree_runs mem.now root.index)).cells ≤ MOST_CELLS }
     ensures { MatchOption result (AllByRecursion (BeginsAt stamp) (tree_runs mem.now root.index))
         (λ at. IsInside (tree_runs mem.now root.index) stamp at) }
@@ -255,7 +255,7 @@ fn inside(mem: &Mem, root: NodeId, stamp: Stamp, homes: &Homes) -> Option<usize>
 // What `inside` finds, by a walk from run to run.
 fn inside_by_walk(mem: &Mem, root: NodeId, stamp: Stamp) -> Option<usize>
     requires tree { IsTree mem.now root.index }
-    requires kept { AreKept (tree_runs mem.now root.index) }
+    requires kept { AreRunsOfText (tree_runs mem.now root.index) }
     requires few { (counts_of (tree_runs mem.now root.index)).cells ≤ MOST_CELLS }
     ensures { MatchOption result (AllByRecursion (BeginsAt stamp) (tree_runs mem.now root.index))
         (λ at. IsInside (tree_runs mem.now root.index) stamp at) }
@@ -285,7 +285,7 @@ pub(crate) fn part(
     requires housed { homes.old.sure ≡ true → AreHoused mem.old root.index homes.old.leaves }
     requires left { 0 < homes.old.left }
     requires tree { IsTree mem.old root.index }
-    requires kept { AreKept (tree_runs mem.old root.index) }
+    requires kept { AreRunsOfText (tree_runs mem.old root.index) }
     requires apart { AreApart (tree_runs mem.old root.index) }
     requires few { (counts_of (tree_runs mem.old root.index)).cells ≤ MOST_CELLS }
     requires room { HasNodes mem.old (length (tree_runs mem.old root.index)) }
@@ -307,7 +307,7 @@ pub(crate) fn part(
         None => RootChange { root, more: 0 },
         Some(at) => {
             let last = None;
-            let gap = Gap {
+            let gap = CutPlace {
                 at,
                 is_edge: false,
                 end: None,

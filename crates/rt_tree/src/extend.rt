@@ -4,15 +4,15 @@ ghost use Rattle.std.specs.List.{AllByRecursion, list_any};
 ghost use Rattle.rt_stamps.specs.declared.limits.TheConstants.{MOST_CELLS};
 ghost use Rattle.rt_store.specs.Cells.{put_at};
 ghost use Rattle.rt_store.specs.Tagged.{AreStates};
-ghost use Rattle.rt_tree.specs.Additions.{EndsWith, are_joint, joined};
+ghost use Rattle.rt_tree.specs.Additions.{EndsWith, are_joint, run_joined};
 ghost use Rattle.rt_tree.specs.Growing.{EndsThere, GoOnIn};
 ghost use Rattle.rt_tree.specs.Holds.{Holds, IsEndAt};
 ghost use Rattle.rt_tree.specs.Homes.{AreHome, AreOnceEach, IsAmong, IsNew};
-ghost use Rattle.rt_tree.specs.Runs.{IsRun, cells_of};
+ghost use Rattle.rt_tree.specs.Runs.{IsRun, cells_of_runs};
 ghost use Rattle.rt_tree.specs.Shape.{IsTree, tree_runs};
-ghost use Rattle.rt_tree.specs.Sharing.{AreApart, AreBelowGreatest, AreKnown, AreOnce, AreUpTo, is_shared_by};
+ghost use Rattle.rt_tree.specs.Sharing.{AreApart, AreBelowGreatest, AreKnown, AreOnce, NoneIsNewer, is_shared_by};
 ghost use Rattle.rt_tree.specs.Standing.{AreHoused};
-ghost use Rattle.rt_tree.specs.Stretches.{AreChanged, AreKept, IsEdge, lengths};
+ghost use Rattle.rt_tree.specs.Stretches.{AreChanged, AreRunsOfText, IsEdge, lengths};
 ghost use Rattle.rt_tree.specs.Summaries.{AreTold};
 ghost use Rattle.rt_tree.specs.Sums.{counts_of};
 
@@ -46,7 +46,7 @@ fn are_joint(before: &Run, run: &Run) -> bool
 #[inline(always)]
 fn joined(before: Run, run: Run) -> Run
     requires { before.len + run.len < 2 ^ 32 }
-    ensures { result ≡ joined before run }
+    ensures { result ≡ run_joined before run }
 {
     Run {
         len: before.len + run.len,
@@ -58,7 +58,7 @@ fn joined(before: Run, run: Run) -> Run
 // Of a run that would go on with another: the cells that come into a run of more than one cell.
 fn lengthened(before: Run, run: Run) -> Run
     requires { before.len + run.len < 2 ^ 32 }
-    ensures { result ≡ (if before.len == 1 then joined before run else run) }
+    ensures { result ≡ (if before.len == 1 then run_joined before run else run) }
 {
     if before.len == 1 {
         joined(before, run)
@@ -70,7 +70,7 @@ fn lengthened(before: Run, run: Run) -> Run
 // Whether one of a tree's runs may not go on with a new one, since a run of more than one cell would share a stamp.
 fn is_barred(mem: &Mem, root: NodeId, newest: u64, before: Run, run: Run, is_new: bool) -> bool
     requires tree { IsTree mem.now root.index }
-    requires kept { AreKept (tree_runs mem.now root.index) }
+    requires kept { AreRunsOfText (tree_runs mem.now root.index) }
     requires known { AreKnown newest (tree_runs mem.now root.index) }
     requires few { (counts_of (tree_runs mem.now root.index)).cells ≤ MOST_CELLS }
     requires sum { before.len + run.len < 2 ^ 32 }
@@ -79,7 +79,7 @@ fn is_barred(mem: &Mem, root: NodeId, newest: u64, before: Run, run: Run, is_new
     requires among { IsAmong (tree_runs mem.now root.index) before }
     requires once { is_new ≡ true → AreOnceEach (tree_runs mem.now root.index) }
     requires new { is_new ≡ true → IsNew run (tree_runs mem.now root.index) }
-    ensures { result ≡ list_any (is_shared_by (if before.len == 1 then joined before run else run)) (tree_runs mem.now root.index) }
+    ensures { result ≡ list_any (is_shared_by (if before.len == 1 then run_joined before run else run)) (tree_runs mem.now root.index) }
 {
     if is_new {
         return false;
@@ -139,7 +139,7 @@ pub(crate) fn extend(
     requires tree { IsTree mem.old root.index }
     requires kept { AllByRecursion (IsRun new.now.text.now) (tree_runs mem.old root.index) }
     requires apart { AreApart (tree_runs mem.old root.index) }
-    requires upto { AreUpTo new.now.newest (cells_of new.now.text.now (tree_runs mem.old root.index)) }
+    requires upto { NoneIsNewer new.now.newest (cells_of_runs new.now.text.now (tree_runs mem.old root.index)) }
     requires last { EndsWith new.now.text.now new.now.cells.now }
     requires short { length new.now.text.now ≤ MOST_CELLS }
     requires few { (counts_of (tree_runs mem.old root.index)).cells + length new.now.cells.now ≤ MOST_CELLS }
@@ -159,11 +159,11 @@ pub(crate) fn extend(
     ensures home { homes.new.sure ≡ true → AreHome homes.new.leaves (tree_runs mem.new root.index) }
     ensures housed { homes.new.sure ≡ true → AreHoused mem.new root.index homes.new.leaves }
     ensures left { homes.old.left ≤ homes.new.left + result.done }
-    ensures sure { homes.old.sure ≡ true → AreOnce (cells_of new.now.text.now (tree_runs mem.old root.index)) new.now.cells.now
+    ensures sure { homes.old.sure ≡ true → AreOnce (cells_of_runs new.now.text.now (tree_runs mem.old root.index)) new.now.cells.now
         → AreBelowGreatest new.now.cells.now → homes.new.sure ≡ true }
     ensures newest { 0 < result.done → EndsThere (tree_runs mem.new root.index) (new.now.at + result.done)
         (length new.now.text.now - length new.now.cells.now + result.done) }
-    ensures typed { AreOnce (cells_of new.now.text.now (tree_runs mem.old root.index)) new.now.cells.now
+    ensures typed { AreOnce (cells_of_runs new.now.text.now (tree_runs mem.old root.index)) new.now.cells.now
         → GoOnIn new.now.text.now (tree_runs mem.old root.index) new.now.at new.now.cells.now → result.done ≡ length new.now.cells.now }
     ensures room { length mem.new.heads + mem.new.room ≡ length mem.old.heads + mem.old.room }
     ensures still { result.done ≡ 0 → mem.new ≡ mem.old }

@@ -1,7 +1,7 @@
 // Runs by what is counted, in the nodes of a tree.
 ghost use Rattle.std.specs.Prelude.{◌≡◌, ◌+◌, ◌*◌, ◌<◌, ◌≤◌, ◌^◌, length, take, slice_get, Some};
 ghost use Rattle.rt_nodes.specs.Nodes.{IsNode, entries};
-ghost use Rattle.rt_tree.specs.Runs.{IsRun, first_stamp, has, run_cells};
+ghost use Rattle.rt_tree.specs.Runs.{IsRun, first_stamp, has_cell, run_cells};
 ghost use Rattle.rt_tree.specs.Shape.{IsTree, level_of, sum_of, tree_runs};
 ghost use Rattle.rt_tree.specs.Sums.{AreFew, amount, counts_of};
 ghost use Rattle.rt_tree.specs.Walks.{StandsAt};
@@ -93,7 +93,7 @@ pub(crate) fn cell_in(text: &[char], run: &Run, offset: usize) -> Cell<StateId>
 
 // Whether a stamp is one of a run's cells'.
 pub(crate) fn has(run: Run, stamp: Stamp) -> bool
-    ensures { result ≡ has run stamp }
+    ensures { result ≡ has_cell run stamp }
 {
     run.site == stamp.site && run.first <= stamp.count && stamp.count - run.first < run.len as u64
 }

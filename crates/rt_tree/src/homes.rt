@@ -6,9 +6,9 @@ ghost use Rattle.rt_nodes.specs.Nodes.{IsNode, entries};
 ghost use Rattle.rt_tree.specs.declared.node.Entry.TheVariants.{Here};
 ghost use Rattle.rt_tree.specs.declared.node.Run.{Run};
 ghost use Rattle.rt_spans.specs.Shown.{KeepsBorders, value_of};
-ghost use Rattle.rt_tree.specs.Homes.{AreHome, AreOnceEach, AreUnknown, IsPlaced, IsSaid, IsSpanOf, IsUnknown, KeepsAll, KeepsOthers};
+ghost use Rattle.rt_tree.specs.Homes.{AreHome, AreOnceEach, AreUnknown, HasLeaves, IsSaid, IsSpanOf, IsUnknown, KeepsAll, KeepsOthers};
 ghost use Rattle.rt_tree.specs.Holds.{Holds};
-ghost use Rattle.rt_tree.specs.Runs.{IsRun, has, run_cells};
+ghost use Rattle.rt_tree.specs.Runs.{IsRun, has_cell, run_cells};
 ghost use Rattle.rt_tree.specs.Shape.{IsTree, level_of, tree_runs};
 ghost use Rattle.rt_tree.specs.Skips.{HasCells};
 ghost use Rattle.rt_tree.specs.Standing.{AreHoused, HasLeaf, HaveLeavesBelow, IsBordered, IsEntered};
@@ -16,17 +16,16 @@ ghost use Rattle.rt_tree.specs.Sums.{AreFew, counts_of};
 ghost use Rattle.rt_tree.specs.Trees.{final_run};
 ghost use Rattle.rt_tree.specs.Walks.{IsBehind};
 
-use crate::find::{cell_in, has, height};
-use crate::looks::Counted;
+use crate::find::{cell_in, has};
+use crate::near::found_at;
 use crate::node::{Counts, Entry, Mem, Run};
 use crate::node_entry::read_entry;
 use crate::settle::level_of;
-use crate::up::rise_from;
 use crate::walk::Found;
 use rt_nodes::NodeId;
 use rt_spans::SpanMap;
 use rt_stamps::{FINAL, Fault, Span, Stamp};
-use rt_store::{Cell, CellRun};
+use rt_store::Cell;
 use rt_tags::StateId;
 use std::alloc::Global;
 
@@ -61,7 +60,7 @@ impl Home {
     // How far into the run the cell of a stamp is that it has.
     #[inline(always)]
     pub(crate) fn offset(self, stamp: Stamp) -> usize
-        requires { has self.run stamp ≡ true }
+        requires { has_cell self.run stamp ≡ true }
         ensures { result ≡ stamp.count - self.run.first }
     {
         (stamp.count - self.run.first) as usize
@@ -70,7 +69,7 @@ impl Home {
     // The position of the cell of a stamp that the run has.
     #[inline(always)]
     pub(crate) fn position(self, stamp: Stamp) -> usize
-        requires has { has self.run stamp ≡ true }
+        requires has { has_cell self.run stamp ≡ true }
         requires few { self.before.cells + self.run.len < 2 ^ 33 }
         ensures { result ≡ self.before.cells + (stamp.count - self.run.first) }
     {
@@ -80,32 +79,16 @@ impl Home {
     // The cell itself.
     pub(crate) fn cell(self, text: &[char], stamp: Stamp) -> Cell<StateId>
         requires run { IsRun text.now self.run }
-        requires has { has self.run stamp ≡ true }
+        requires has { has_cell self.run stamp ≡ true }
         ensures { slice_get (run_cells text.now self.run) (stamp.count - self.run.first) ≡ Some result }
     {
         let offset = self.offset(stamp);
         cell_in(text, &self.run, offset)
     }
 
-    // The cell itself, with the rest of the run up to a count.
-    pub(crate) fn run_from(self, text: &[char], stamp: Stamp, last: u64) -> CellRun
-        requires run { IsRun text.now self.run }
-        requires has { has self.run stamp ≡ true }
-        ensures cell { slice_get (run_cells text.now self.run) (stamp.count - self.run.first) ≡ Some result.cell }
-        ensures last { result.last ≡ min last (self.run.first + (self.run.len - 1)) }
-    {
-        let len = self.run.len as u64;
-        let end = self.run.first + (len - 1);
-        let cell = self.cell(text, stamp);
-        CellRun {
-            cell,
-            last: last.min(end),
-        }
-    }
-
     // The position of a stamp's cell, if the run doesn't begin with it.
     pub(crate) fn inside(self, stamp: Stamp) -> Option<usize>
-        requires has { has self.run stamp ≡ true }
+        requires has { has_cell self.run stamp ≡ true }
         requires few { self.before.cells + self.run.len < 2 ^ 33 }
         ensures { result ≡ (if nat_lt self.run.first stamp.count then Some (self.before.cells + (stamp.count - self.run.first)) else None) }
     {
@@ -143,9 +126,9 @@ fn span_of(run: &Run) -> Option<Span>
 }
 
 // Where in a node a run with a stamp stands.
-fn entry_with(mem: &Mem, node: NodeId, stamp: Stamp) -> Option<usize>
+pub(crate) fn entry_with(mem: &Mem, node: NodeId, stamp: Stamp) -> Option<usize>
     requires { IsNode mem.now node.index }
-    ensures { IfSome result (λ i. (run : Run) × (slice_get (entries mem.now node.index) i ≡ Some (Here run)) × (has run stamp ≡ true)) }
+    ensures { IfSome result (λ i. (run : Run) × (slice_get (entries mem.now node.index) i ≡ Some (Here run)) × (has_cell run stamp ≡ true)) }
 {
     for i in 0..mem.len(node) {
         if has_at(mem, node, i, stamp) {
@@ -158,7 +141,7 @@ fn entry_with(mem: &Mem, node: NodeId, stamp: Stamp) -> Option<usize>
 // Whether an entry of a node is a run with a stamp.
 fn has_at(mem: &Mem, node: NodeId, i: usize, stamp: Stamp) -> bool
     requires { IsNode mem.now node.index × (i < length (entries mem.now node.index)) }
-    ensures { result ≡ true → (run : Run) × (slice_get (entries mem.now node.index) i ≡ Some (Here run)) × (has run stamp ≡ true) }
+    ensures { result ≡ true → (run : Run) × (slice_get (entries mem.now node.index) i ≡ Some (Here run)) × (has_cell run stamp ≡ true) }
 {
     match read_entry(mem, node, i) {
         Entry::Here(run) => has(run, stamp),
@@ -235,7 +218,7 @@ impl Homes {
         requires held { IfSome last.now (Holds mem.now root.index) }
         ensures sure { IfSome result (λ _. self.now.sure ≡ true) }
         ensures home { IfSome result (λ home. IsBehind (tree_runs mem.now root.index) home.run home.before) }
-        ensures has { IfSome result (λ home. has home.run stamp ≡ true) }
+        ensures has { IfSome result (λ home. has_cell home.run stamp ≡ true) }
     {
         if !self.sure {
             return None;
@@ -264,12 +247,26 @@ impl Homes {
         requires few { AreFew (counts_of (tree_runs mem.now root.index)) }
         ensures sure { IfSome result (λ _. self.now.sure ≡ true) }
         ensures home { IfSome result (λ home. IsBehind (tree_runs mem.now root.index) home.run home.before) }
-        ensures has { IfSome result (λ home. has home.run stamp ≡ true) }
+        ensures has { IfSome result (λ home. has_cell home.run stamp ≡ true) }
     {
         if !self.sure {
             return None;
         }
         home_in(mem, root, leaf?, stamp)
+    }
+
+    // Where the run of a stamp stands, if its leaf has one.
+    pub(crate) fn stands(&self, mem: &Mem, root: NodeId, stamp: Stamp) -> Option<Found>
+        requires tree { IsTree mem.now root.index }
+        requires few { AreFew (counts_of (tree_runs mem.now root.index)) }
+        ensures { IfSome result (Holds mem.now root.index) }
+    {
+        let leaf = self.leaf_of(stamp)?;
+        if !is_leaf(mem, leaf) {
+            return None;
+        }
+        let entry = entry_with(mem, leaf, stamp)?;
+        found_at(mem, root, leaf, entry)
     }
 
     // Where the run is that has a stamp: the one that is known to stand somewhere, or one of the leaf that the stamp has.
@@ -334,7 +331,7 @@ impl Homes {
         requires { 0 < self.old.left }
         ensures done { 0 < run.now.len → run.now.first + run.now.len < 2 ^ 64 → result ≡ true }
         ensures entered { result ≡ true → IsEntered self.old.leaves self.new.leaves run.now leaf }
-        ensures placed { result ≡ true → IsPlaced self.new.leaves run.now }
+        ensures placed { result ≡ true → HasLeaves self.new.leaves run.now }
         ensures keeps { KeepsAll self.old.leaves self.new.leaves }
         ensures sure { self.new.sure ≡ self.old.sure }
         ensures left { self.old.left ≤ self.new.left + 1 }
@@ -355,7 +352,7 @@ impl Homes {
         requires { 0 < self.old.left }
         ensures sure { self.new.sure ≡ true → is_new ≡ true }
         ensures stays { is_new ≡ true → 0 < run.now.len → run.now.first + run.now.len < 2 ^ 64 → self.new.sure ≡ true }
-        ensures placed { self.new.sure ≡ true → IsPlaced self.new.leaves run.now }
+        ensures placed { self.new.sure ≡ true → HasLeaves self.new.leaves run.now }
         ensures entered { self.new.sure ≡ true → IsEntered self.old.leaves self.new.leaves run.now leaf }
         ensures keeps { KeepsAll self.old.leaves self.new.leaves }
         ensures left { self.old.left ≤ self.new.left + 1 }
@@ -455,7 +452,7 @@ fn home_in(mem: &Mem, root: NodeId, leaf: NodeId, stamp: Stamp) -> Option<Home>
     requires tree { IsTree mem.now root.index }
     requires few { AreFew (counts_of (tree_runs mem.now root.index)) }
     ensures home { IfSome result (λ home. IsBehind (tree_runs mem.now root.index) home.run home.before) }
-    ensures has { IfSome result (λ home. has home.run stamp ≡ true) }
+    ensures has { IfSome result (λ home. has_cell home.run stamp ≡ true) }
 {
     if !is_leaf(mem, leaf) {
         return None;
@@ -474,16 +471,6 @@ fn home_at(mem: &Mem, root: NodeId, leaf: NodeId, entry: usize) -> Option<Home>
     ensures home { IfSome result (λ home. IsBehind (tree_runs mem.now root.index) home.run home.before) }
     ensures run { IfSome result (λ home. slice_get (entries mem.now leaf.index) entry ≡ Some (Here home.run)) }
 {
-    match read_entry(mem, leaf, entry) {
-        Entry::Down(..) => None,
-        Entry::Here(run) => {
-            // For its clause alone: it bounds the levels, and so the looks.
-            height(mem, root);
-            let mut looks = 0;
-            let looks = &mut looks;
-            let mut sight = Counted { mem, looks };
-            let before = rise_from(&mut sight, root, leaf, entry);
-            Some(Home { run, before })
-        }
-    }
+    let Found { run, before, .. } = found_at(mem, root, leaf, entry)?;
+    Some(Home { run, before })
 }

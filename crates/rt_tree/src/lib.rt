@@ -19,6 +19,7 @@ mod reach;
 mod regrow;
 mod resum;
 mod room;
+mod run_with;
 pub mod seeks;
 mod settle;
 mod skip;

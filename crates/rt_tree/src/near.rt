@@ -1,11 +1,12 @@
 // Runs that are looked for first where one is known to stand.
-ghost use Rattle.std.specs.Prelude.{◌≡◌, ◌+◌, ◌==◌, ◌<◌, ◌≤◌, IfSome, MatchOption, length, true};
+ghost use Rattle.std.specs.Prelude.{◌≡◌, ◌+◌, ◌==◌, ◌<◌, ◌≤◌, IfSome, MatchOption, Some, length, slice_get, true};
 ghost use Rattle.rt_nodes.specs.Nodes.{IsNode, entries};
 ghost use Rattle.rt_tree.specs.declared.node.CountedBy.TheVariants.{Cells};
+ghost use Rattle.rt_tree.specs.declared.node.Entry.TheVariants.{Here};
 ghost use Rattle.rt_tree.specs.Holds.{Holds};
 ghost use Rattle.rt_tree.specs.Shape.{IsTree, level_of, runs_before, tree_runs};
 ghost use Rattle.rt_tree.specs.Sums.{AreFew, amount, counts_of, counts_of_run};
-ghost use Rattle.rt_tree.specs.Walks.{IsSpot, StandsAt};
+ghost use Rattle.rt_tree.specs.Walks.{IsBehind, IsSpot, StandsAt};
 
 use crate::find::height;
 use crate::looks::Counted;
@@ -202,4 +203,34 @@ pub(crate) fn counts_before(mem: &Mem, root: NodeId, last: &Option<Found>, spot:
     let looks = &mut looks;
     let mut sight = Counted { mem, looks };
     rise_from(&mut sight, root, spot.leaf, spot.entry)
+}
+
+// The run at an entry of a leaf, with its spot.
+#[inline(always)]
+pub(crate) fn found_at(mem: &Mem, root: NodeId, leaf: NodeId, entry: usize) -> Option<Found>
+    requires tree { IsTree mem.now root.index }
+    requires few { AreFew (counts_of (tree_runs mem.now root.index)) }
+    requires leaf { IsNode mem.now leaf.index × (level_of mem.now leaf.index ≡ 0) }
+    requires within { entry < length (entries mem.now leaf.index) }
+    ensures held { IfSome result (Holds mem.now root.index) }
+    ensures home { IfSome result (λ found. IsBehind (tree_runs mem.now root.index) found.run found.before) }
+    ensures run { IfSome result (λ found. slice_get (entries mem.now leaf.index) entry ≡ Some (Here found.run)) }
+{
+    match read_entry(mem, leaf, entry) {
+        Entry::Down(..) => None,
+        Entry::Here(run) => {
+            // For its clause alone: it bounds the levels, and so the looks.
+            height(mem, root);
+            let mut looks = 0;
+            let looks = &mut looks;
+            let mut sight = Counted { mem, looks };
+            let before = rise_from(&mut sight, root, leaf, entry);
+            let spot = Spot {
+                leaf,
+                entry,
+                offset: 0,
+            };
+            Some(Found { spot, run, before })
+        }
+    }
 }

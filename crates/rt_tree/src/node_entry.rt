@@ -36,9 +36,9 @@ impl Model for NodeEntry {
 
     ghost Value = { Shown };
 
-    ghost use Rattle.rt_tree.specs.NodeEntries.{form_of, shown};
+    ghost use Rattle.rt_tree.specs.NodeEntries.{form_of, entry_of_form};
 
-    ghost view = { λ k. shown k.form };
+    ghost view = { λ k. entry_of_form k.form };
 
     ghost inverse = { λ e. record { form = form_of e } };
 }

@@ -8,7 +8,7 @@ ghost use Rattle.rt_tags.specs.States.{IsState, IsTag};
 ghost use Rattle.rt_tree.specs.declared.node.Run.{Run};
 ghost use Rattle.rt_tree.specs.declared.summary.Summary.{Summary};
 ghost use Rattle.rt_tree.specs.Reaches.{reached};
-ghost use Rattle.rt_tree.specs.Runs.{IsRun, cells_of};
+ghost use Rattle.rt_tree.specs.Runs.{IsRun, cells_of_runs};
 ghost use Rattle.rt_tree.specs.Seeks.{IsReached, Tells, most_below, runs_at};
 ghost use Rattle.rt_tree.specs.Shape.{IsTree, level_of, runs, tree_runs};
 ghost use Rattle.rt_tree.specs.Skips.{HasCells};
@@ -220,7 +220,8 @@ pub(crate) fn sought<L: Looks>(
     requires few { AreFew (counts_of (tree_runs (L.nodes looks.old) root.index)) }
     requires room { L.looked looks.old + 32 * (level_of (L.nodes looks.old) root.index + 1) < 2 ^ 64 }
     ensures place { (text : List ℕ) → AllByRecursion (IsRun text) (tree_runs (L.nodes looks.old) root.index)
-        → result ≡ next_place (tag_is states.now wanted.now.tag wanted.now.on) (visible_of (cells_of text (tree_runs (L.nodes looks.old) root.index))) place }
+        → result ≡ next_place (tag_is states.now wanted.now.tag wanted.now.on)
+        (visible_of (cells_of_runs text (tree_runs (L.nodes looks.old) root.index))) place }
     ensures counted { L.looked looks.old ≤ L.looked looks.new }
     ensures looked { (text : List ℕ) → AllByRecursion (IsRun text) (tree_runs (L.nodes looks.old) root.index)
         → IfSome result (λ _. L.looked looks.old + (level_of (L.nodes looks.old) root.index + 1) ≤ L.looked looks.new) }
@@ -249,7 +250,7 @@ pub(crate) fn next_place(
     requires given { AllByRecursion (IsState states.now) (shown_states (tree_runs mem.now root.index)) }
     requires few { AreFew (counts_of (tree_runs mem.now root.index)) }
     ensures { (text : List ℕ) → AllByRecursion (IsRun text) (tree_runs mem.now root.index)
-        → result ≡ next_place (tag_is states.now wanted.now.tag wanted.now.on) (visible_of (cells_of text (tree_runs mem.now root.index))) place }
+        → result ≡ next_place (tag_is states.now wanted.now.tag wanted.now.on) (visible_of (cells_of_runs text (tree_runs mem.now root.index))) place }
 {
     // For its clause alone: it bounds the levels, and so the looks.
     height(mem, root);

@@ -3,7 +3,7 @@ ghost use Rattle.std.specs.Prelude.{◌≡◌, ℕ, ◌+◌, ◌*◌, ◌<◌, �
 ghost use Rattle.std.specs.List.{AllByRecursion};
 ghost use Rattle.rt_store.specs.Tagged.{next_tagged};
 ghost use Rattle.rt_tags.specs.States.{IsState, IsTag};
-ghost use Rattle.rt_tree.specs.Runs.{IsRun, cells_of};
+ghost use Rattle.rt_tree.specs.Runs.{IsRun, cells_of_runs};
 ghost use Rattle.rt_tree.specs.Shape.{IsTree, level_of, tree_runs};
 ghost use Rattle.rt_tree.specs.Summaries.{AreSummed, shown_states};
 ghost use Rattle.rt_tree.specs.Sums.{AreFew, counts_of};
@@ -31,7 +31,7 @@ pub fn seek<L: Looks>(
     requires few { AreFew (counts_of (tree_runs (L.nodes looks.old) root.index)) }
     requires room { L.looked looks.old + 32 * (level_of (L.nodes looks.old) root.index + 1) < 2 ^ 64 }
     ensures place { (text : List ℕ) → AllByRecursion (IsRun text) (tree_runs (L.nodes looks.old) root.index)
-        → result ≡ next_tagged states.now tag (cells_of text (tree_runs (L.nodes looks.old) root.index)) place }
+        → result ≡ next_tagged states.now tag (cells_of_runs text (tree_runs (L.nodes looks.old) root.index)) place }
     ensures counted { L.looked looks.old ≤ L.looked looks.new }
     ensures looked { (text : List ℕ) → AllByRecursion (IsRun text) (tree_runs (L.nodes looks.old) root.index)
         → IfSome result (λ _. L.looked looks.old + (level_of (L.nodes looks.old) root.index + 1) ≤ L.looked looks.new) }
@@ -61,7 +61,7 @@ pub(crate) fn find_tagged(
     requires few { AreFew (counts_of (tree_runs mem.now root.index)) }
     requires room { steps.old + 32 * (level_of mem.now root.index + 1) < 2 ^ 64 }
     ensures place { (text : List ℕ) → AllByRecursion (IsRun text) (tree_runs mem.now root.index)
-        → result ≡ next_tagged states.now tag (cells_of text (tree_runs mem.now root.index)) place }
+        → result ≡ next_tagged states.now tag (cells_of_runs text (tree_runs mem.now root.index)) place }
     ensures counted { steps.old ≤ steps.new }
     ensures looked { (text : List ℕ) → AllByRecursion (IsRun text) (tree_runs mem.now root.index)
         → IfSome result (λ _. steps.old + (level_of mem.now root.index + 1) ≤ steps.new) }

@@ -5,7 +5,7 @@ ghost use Rattle.rt_nodes.specs.Nodes.{IsNode, entries};
 ghost use Rattle.rt_tree.specs.declared.node.Entry.{Entry};
 ghost use Rattle.rt_tree.specs.declared.node.Entry.TheVariants.{Down};
 ghost use Rattle.rt_tree.specs.Changes.{AreExact, AreExactBut, Lacks, bare, blank, join, strip};
-ghost use Rattle.rt_tree.specs.Shape.{IsShape, count_of, level_of, parent_of, runs};
+ghost use Rattle.rt_tree.specs.Shape.{IsShape, child_count, level_of, parent_of, runs};
 ghost use Rattle.rt_tree.specs.Sums.{AreFew, counts_of, plus};
 
 use crate::node::{Entry, Mem, Totals};
@@ -45,7 +45,7 @@ pub(crate) fn grow_by(totals: &mut Totals, more: Totals)
 // Where a node stands in its parent. The last place is looked at first, as text is typed there.
 pub(crate) fn slot_of(mem: &Mem, parent: NodeId, id: NodeId) -> usize
     requires node { IsNode mem.now parent.index }
-    requires stands { 0 < count_of id.index (entries (bare mem.now) parent.index) }
+    requires stands { 0 < child_count id.index (entries (bare mem.now) parent.index) }
     ensures within { result < length (entries mem.now parent.index) }
     ensures few { result < 16 }
     ensures is { (e : Entry) → e ≡ slice_index_or (entries mem.now parent.index) result e → strip e ≡ Down id blank }

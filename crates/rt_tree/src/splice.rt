@@ -4,20 +4,20 @@ ghost use Rattle.std.specs.List.{AllByRecursion, list_any};
 ghost use Rattle.rt_stamps.specs.declared.limits.TheConstants.{MOST_CELLS};
 ghost use Rattle.rt_store.specs.Cells.{put_at};
 ghost use Rattle.rt_store.specs.Tagged.{AreStates};
-ghost use Rattle.rt_tree.specs.Additions.{EndsWith, IsFrontOf, IsRunOf, IsStretch, follows, run_from, stretches};
+ghost use Rattle.rt_tree.specs.Additions.{EndsWith, IsFrontOf, IsRunOf, IsStretch, follows, run_from, stretch_count};
 ghost use Rattle.rt_tree.specs.Growing.{EndsThere, GoOnIn};
 ghost use Rattle.rt_tree.specs.Holds.{Holds, IsEndAt};
 ghost use Rattle.rt_tree.specs.Homes.{AreHome};
-ghost use Rattle.rt_tree.specs.Runs.{IsRun, cells_of};
+ghost use Rattle.rt_tree.specs.Runs.{IsRun, cells_of_runs};
 ghost use Rattle.rt_tree.specs.Shape.{IsTree, tree_runs};
-ghost use Rattle.rt_tree.specs.Sharing.{AreApart, AreBelowGreatest, AreKnown, AreOnce, AreUpTo, is_shared_by};
+ghost use Rattle.rt_tree.specs.Sharing.{AreApart, AreBelowGreatest, AreKnown, AreOnce, NoneIsNewer, is_shared_by};
 ghost use Rattle.rt_tree.specs.Standing.{AreHoused};
-ghost use Rattle.rt_tree.specs.Stretches.{AreChanged, AreKept, IsEdge, lengths};
+ghost use Rattle.rt_tree.specs.Stretches.{AreChanged, AreRunsOfText, IsEdge, lengths};
 ghost use Rattle.rt_tree.specs.Summaries.{AreTold};
 ghost use Rattle.rt_tree.specs.Sums.{counts_of};
 ghost use Rattle.rt_tree.specs.Trees.{HasNodes};
 
-use crate::cut::{CutEnd, Gap, RootChange, cut_home};
+use crate::cut::{CutEnd, CutPlace, RootChange, cut_home};
 use crate::extend::{New, extend};
 use crate::find::{cells_of, first_stamp, has, run_at};
 use crate::homes::Homes;
@@ -134,7 +134,7 @@ fn is_shared_by(run: &Run, other: &Run) -> bool
 #[inline(always)]
 pub(crate) fn newest_of(newest: u64, cells: &[Cell<StateId>]) -> u64
     ensures least { newest ≤ result }
-    ensures cells { AreUpTo result cells.now }
+    ensures cells { NoneIsNewer result cells.now }
 {
     let mut newest = newest;
     for cell in cells {
@@ -146,7 +146,7 @@ pub(crate) fn newest_of(newest: u64, cells: &[Cell<StateId>]) -> u64
 // Whether a run of a tree, of more than one cell, has a stamp of a run. No run is looked at if no cell has so great a count.
 pub(crate) fn is_shared(mem: &Mem, root: NodeId, newest: u64, run: &Run) -> bool
     requires tree { IsTree mem.now root.index }
-    requires kept { AreKept (tree_runs mem.now root.index) }
+    requires kept { AreRunsOfText (tree_runs mem.now root.index) }
     requires known { AreKnown newest (tree_runs mem.now root.index) }
     requires few { (counts_of (tree_runs mem.now root.index)).cells ≤ MOST_CELLS }
     ensures { result ≡ list_any (is_shared_by run.now) (tree_runs mem.now root.index) }
@@ -172,7 +172,7 @@ fn is_in_two(mem: &Mem, root: NodeId, newest: u64, run: &Run, homes: &Homes) -> 
     requires counts { run.now.first + run.now.len ≤ 2 ^ 64 }
     requires home { homes.now.sure ≡ true → AreHome homes.now.leaves (tree_runs mem.now root.index) }
     requires tree { IsTree mem.now root.index }
-    requires kept { AreKept (tree_runs mem.now root.index) }
+    requires kept { AreRunsOfText (tree_runs mem.now root.index) }
     requires known { AreKnown newest (tree_runs mem.now root.index) }
     requires few { (counts_of (tree_runs mem.now root.index)).cells ≤ MOST_CELLS }
     ensures { result ≡ (nat_lt 1 run.now.len && list_any (is_shared_by run.now) (tree_runs mem.now root.index)) }
@@ -209,14 +209,14 @@ fn choose(
     requires tree { IsTree mem.now root.index }
     requires kept { AllByRecursion (IsRun new.now.text.now) (tree_runs mem.now root.index) }
     requires apart { AreApart (tree_runs mem.now root.index) }
-    requires upto { AreUpTo newest (cells_of new.now.text.now (tree_runs mem.now root.index)) }
+    requires upto { NoneIsNewer newest (cells_of_runs new.now.text.now (tree_runs mem.now root.index)) }
     requires few { (counts_of (tree_runs mem.now root.index)).cells ≤ MOST_CELLS }
     requires some { done < length new.now.cells.now }
     requires last { EndsWith new.now.text.now new.now.cells.now }
     requires short { length new.now.text.now ≤ MOST_CELLS }
     ensures run { IsFrontOf new.now.text.now (drop done new.now.cells.now) result.run }
     ensures apart { AreApart (result.run ∷ tree_runs mem.now root.index) }
-    ensures stretch { lone ≡ 0 → AreOnce (cells_of new.now.text.now (tree_runs mem.now root.index)) (drop done new.now.cells.now)
+    ensures stretch { lone ≡ 0 → AreOnce (cells_of_runs new.now.text.now (tree_runs mem.now root.index)) (drop done new.now.cells.now)
         → IsStretch (drop done new.now.cells.now) result.run.len × (result.lone ≡ 0) }
 {
     if lone > 0 {
@@ -255,7 +255,7 @@ fn put_runs(
     requires tree { IsTree mem.old root.index }
     requires kept { AllByRecursion (IsRun new.now.text.now) (tree_runs mem.old root.index) }
     requires apart { AreApart (tree_runs mem.old root.index) }
-    requires upto { AreUpTo new.now.newest (cells_of new.now.text.now (tree_runs mem.old root.index)) }
+    requires upto { NoneIsNewer new.now.newest (cells_of_runs new.now.text.now (tree_runs mem.old root.index)) }
     requires last { EndsWith new.now.text.now new.now.cells.now }
     requires short { length new.now.text.now ≤ MOST_CELLS }
     requires few { (counts_of (tree_runs mem.old root.index)).cells + length new.now.cells.now ≤ MOST_CELLS }
@@ -270,13 +270,14 @@ fn put_runs(
     ensures apart { AreApart (tree_runs mem.new result.root.index) }
     ensures runs { length (tree_runs mem.new result.root.index) ≡ length (tree_runs mem.old root.index) + result.more }
     ensures most { result.more ≤ length new.now.cells.now }
-    ensures more { AreOnce (cells_of new.now.text.now (tree_runs mem.old root.index)) new.now.cells.now → result.more ≤ stretches new.now.cells.now }
+    ensures more { AreOnce (cells_of_runs new.now.text.now (tree_runs mem.old root.index)) new.now.cells.now
+        → result.more ≤ stretch_count new.now.cells.now }
     ensures newest { 0 < length new.now.cells.now → EndsThere (tree_runs mem.new result.root.index) (new.now.at + length new.now.cells.now)
         (length new.now.text.now) }
     ensures home { homes.new.sure ≡ true → AreHome homes.new.leaves (tree_runs mem.new result.root.index) }
     ensures housed { homes.new.sure ≡ true → AreHoused mem.new result.root.index homes.new.leaves }
     ensures left { homes.old.left ≤ homes.new.left + length new.now.cells.now }
-    ensures sure { homes.old.sure ≡ true → AreOnce (cells_of new.now.text.now (tree_runs mem.old root.index)) new.now.cells.now
+    ensures sure { homes.old.sure ≡ true → AreOnce (cells_of_runs new.now.text.now (tree_runs mem.old root.index)) new.now.cells.now
         → AreBelowGreatest new.now.cells.now → homes.new.sure ≡ true }
     ensures room { length mem.new.heads + mem.new.room ≡ length mem.old.heads + mem.old.room }
     ensures told { AreTold states.now mem.new sums.new (tree_runs mem.new result.root.index) }
@@ -346,7 +347,7 @@ pub(crate) fn put_cells(
     requires tree { IsTree mem.old root.index }
     requires kept { AllByRecursion (IsRun new.now.text.now) (tree_runs mem.old root.index) }
     requires apart { AreApart (tree_runs mem.old root.index) }
-    requires upto { AreUpTo new.now.newest (cells_of new.now.text.now (tree_runs mem.old root.index)) }
+    requires upto { NoneIsNewer new.now.newest (cells_of_runs new.now.text.now (tree_runs mem.old root.index)) }
     requires last { EndsWith new.now.text.now new.now.cells.now }
     requires short { length new.now.text.now ≤ MOST_CELLS }
     requires few { (counts_of (tree_runs mem.old root.index)).cells + length new.now.cells.now ≤ MOST_CELLS }
@@ -360,15 +361,16 @@ pub(crate) fn put_cells(
     ensures apart { AreApart (tree_runs mem.new result.root.index) }
     ensures runs { length (tree_runs mem.new result.root.index) ≡ length (tree_runs mem.old root.index) + result.more }
     ensures most { result.more ≤ length new.now.cells.now + 1 }
-    ensures more { AreOnce (cells_of new.now.text.now (tree_runs mem.old root.index)) new.now.cells.now → result.more ≤ stretches new.now.cells.now + 1 }
+    ensures more { AreOnce (cells_of_runs new.now.text.now (tree_runs mem.old root.index)) new.now.cells.now
+        → result.more ≤ stretch_count new.now.cells.now + 1 }
     ensures newest { 0 < length new.now.cells.now → EndsThere (tree_runs mem.new result.root.index) (new.now.at + length new.now.cells.now)
         (length new.now.text.now) }
-    ensures typed { AreOnce (cells_of new.now.text.now (tree_runs mem.old root.index)) new.now.cells.now
+    ensures typed { AreOnce (cells_of_runs new.now.text.now (tree_runs mem.old root.index)) new.now.cells.now
         → GoOnIn new.now.text.now (tree_runs mem.old root.index) new.now.at new.now.cells.now → result.more ≡ 0 }
     ensures home { homes.new.sure ≡ true → AreHome homes.new.leaves (tree_runs mem.new result.root.index) }
     ensures housed { homes.new.sure ≡ true → AreHoused mem.new result.root.index homes.new.leaves }
     ensures left { homes.old.left ≤ homes.new.left + length new.now.cells.now + 1 }
-    ensures sure { homes.old.sure ≡ true → AreOnce (cells_of new.now.text.now (tree_runs mem.old root.index)) new.now.cells.now
+    ensures sure { homes.old.sure ≡ true → AreOnce (cells_of_runs new.now.text.now (tree_runs mem.old root.index)) new.now.cells.now
         → AreBelowGreatest new.now.cells.now → homes.new.sure ≡ true }
     ensures room { length mem.new.heads + mem.new.room ≡ length mem.old.heads + mem.old.room }
     ensures held { IfSome result.last (Holds mem.new result.root.index) }
@@ -387,7 +389,7 @@ pub(crate) fn put_cells(
     let place = new.at + done;
     let nothing = None;
     let last = still_there(last, &nothing, done);
-    let gap = Gap {
+    let gap = CutPlace {
         at: place,
         is_edge: extended.is_edge,
         end: extended.end,

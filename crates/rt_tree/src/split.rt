@@ -4,7 +4,7 @@ ghost use Rattle.rt_nodes.specs.Nodes.{IsNode, entries, with_head};
 ghost use Rattle.rt_tree.specs.declared.node.Entry.{Entry};
 ghost use Rattle.rt_tree.specs.declared.node.Entry.TheVariants.{Down};
 ghost use Rattle.rt_tree.specs.Changes.{AreExact, AreHalves, AreStill, IsAdopted, IsGrown, IsHalved, bare, blank, links, strip};
-ghost use Rattle.rt_tree.specs.Shape.{IsShape, count_of, level_of, parent_of, runs};
+ghost use Rattle.rt_tree.specs.Shape.{IsShape, child_count, level_of, parent_of, runs};
 ghost use Rattle.rt_tree.specs.Sums.{AreFew, counts_of};
 
 use crate::node::{Entry, Head, Mem};
@@ -24,7 +24,7 @@ fn set_parent(mem: &mut Mem, id: NodeId, parent: NodeId)
 fn adopt(mem: &mut Mem, id: NodeId)
     requires node { IsNode mem.old id.index }
     requires same { length mem.old.heads ≡ length mem.old.rows }
-    requires kids { (c : ℕ) → 0 < count_of c (entries (bare mem.old) id.index) → c < length mem.old.heads }
+    requires kids { (c : ℕ) → 0 < child_count c (entries (bare mem.old) id.index) → c < length mem.old.heads }
     ensures { IsAdopted mem.old mem.new id.index (entries (bare mem.old) id.index) }
 {
     for i in 0..mem.len(id) {
@@ -39,7 +39,7 @@ fn adopt(mem: &mut Mem, id: NodeId)
 fn halve(mem: &mut Mem, node: NodeId, parent: NodeId) -> NodeId
     requires node { IsNode mem.old node.index }
     requires same { length mem.old.heads ≡ length mem.old.rows }
-    requires kids { (c : ℕ) → 0 < count_of c (links (entries mem.old node.index))
+    requires kids { (c : ℕ) → 0 < child_count c (links (entries mem.old node.index))
         → (c < length mem.old.heads) × (0 < level_of (bare mem.old) node.index) }
     requires room { 0 < mem.old.room }
     ensures { IsHalved mem.old mem.new node.index result.index parent.index (length (entries mem.old node.index) / 2) }

@@ -3,7 +3,7 @@ ghost use Rattle.std.specs.Prelude.{◌≡◌, ◌+◌, ◌-◌, ◌*◌, ◌<�
 ghost use Rattle.rt_store.specs.Cells.{EndsFinal, final_cell, position_of, visible_before, visible_of};
 ghost use Rattle.rt_store.specs.Tagged.{AreStates, next_tagged};
 ghost use Rattle.rt_tags.specs.States.{IsTag, KeepsIds, TagStates};
-ghost use Rattle.rt_tree.specs.Trees.{Agrees};
+ghost use Rattle.rt_tree.specs.Trees.{AgreesWithTable};
 
 use crate::Tree;
 use rt_stamps::{Fault, Span, Stamp};
@@ -15,8 +15,8 @@ use std::alloc::Global;
 pub struct TreeStore {
     tree: Tree,
     ghost ends: { EndsFinal tree.cells },
-    ghost later: { (old new : TagStates) → KeepsIds old new → Agrees old tree → Agrees new tree },
-    ghost fresh: { (table : TagStates) → tree.cells ≡ final_cell ∷ [] → AreStates table (final_cell ∷ []) → Agrees table tree },
+    ghost later: { (old new : TagStates) → KeepsIds old new → AgreesWithTable old tree → AgreesWithTable new tree },
+    ghost fresh: { (table : TagStates) → tree.cells ≡ final_cell ∷ [] → AreStates table (final_cell ∷ []) → AgreesWithTable table tree },
 }
 
 // Written out, so that where it is let go is one step for the crates above, and not one for each
@@ -109,13 +109,13 @@ impl TreeStore {
 }
 
 impl TextStore for TreeStore {
-    ghost use Rattle.rt_tree.specs.Trees.{Agrees};
+    ghost use Rattle.rt_tree.specs.Trees.{AgreesWithTable};
 
     ghost list = { λ s. s.tree.cells };
 
     ghost room = { λ s. s.tree.room };
 
-    ghost agrees = { λ s table. Agrees table s.tree };
+    ghost agrees = { λ s table. AgreesWithTable table s.tree };
 
     ghost ends = { λ s. s.ends };
 
@@ -152,6 +152,10 @@ impl TextStore for TreeStore {
 
     fn place_of(&self, stamp: Stamp) -> Option<usize> {
         self.tree.place_of(stamp)
+    }
+
+    fn visible_before(&self, position: usize) -> usize {
+        self.tree.visible_before(position)
     }
 
     fn lines(&self) -> usize {
@@ -199,6 +203,10 @@ impl TextStore for TreeStore {
     #[inline(always)]
     fn focus(&mut self, place: usize) {
         self.tree.focus(place);
+    }
+
+    fn focus_on(&mut self, stamp: Stamp) {
+        self.tree.focus_on(stamp);
     }
 
     fn splice(&mut self, states: &StateTable, at: usize, cells: &[Cell<StateId>]) {

@@ -77,15 +77,15 @@ impl Drop for Tree {
 }
 
 impl Model for Tree {
-    ghost use Rattle.rt_tree.specs.Sound.{IsSound};
-    ghost use Rattle.rt_tree.specs.Trees.{Shown, shown};
+    ghost use Rattle.rt_tree.specs.Sound.{TreeIsSound};
+    ghost use Rattle.rt_tree.specs.Trees.{TreeValue, tree_value};
 
-    ghost Value = { Shown };
+    ghost Value = { TreeValue };
 
-    ghost view = { λ t. shown t.mem t.root.index t.text.items t.sums.each.items
+    ghost view = { λ t. tree_value t.mem t.root.index t.text.items t.sums.each.items
         (record { cells = t.spare_cells; cuts = t.spare_cuts; tags = t.spare_tags }) t.homes.sure };
 
-    ghost invariant = { IsSound };
+    ghost invariant = { TreeIsSound };
 }
 
 // The run of the final newline, as it is at first.
@@ -221,6 +221,19 @@ impl Tree {
         let (mem, root) = (&self.mem, self.root);
         let found = found_near(mem, root, &self.last, CountedBy::Visible, place - 1);
         self.last = Some(found);
+    }
+
+    /// Keeps in mind where the cell of a stamp stands, if the map of leaves tells: as `focus` does for a place.
+    pub fn focus_on(&mut self, stamp: Stamp)
+        ensures { self.new ≡ self.old }
+    {
+        let (mem, root) = (&self.mem, self.root);
+        if self.homes.near(mem, root, &self.last, stamp).is_some() {
+            return;
+        }
+        if let Some(found) = self.homes.stands(mem, root, stamp) {
+            self.last = Some(found);
+        }
     }
 
     /// The visible cell at a place.
@@ -385,8 +398,8 @@ impl Tree {
         }
     }
 
-    // How many visible cells stand before a position.
-    fn visible_before(&self, position: usize) -> usize
+    /// How many visible cells stand before the one at a position.
+    pub fn visible_before(&self, position: usize) -> usize
         requires { position < length self.now.cells }
         ensures { result ≡ visible_before self.now.cells position }
     {

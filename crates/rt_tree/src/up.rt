@@ -3,9 +3,9 @@ ghost use Rattle.std.specs.Prelude.{◌≡◌, ℕ, ◌+◌, ◌-◌, ◌*◌, �
 ghost use Rattle.rt_nodes.specs.Nodes.{IsNode, entries};
 ghost use Rattle.rt_tree.specs.declared.node.Entry.TheVariants.{Here};
 ghost use Rattle.rt_tree.specs.declared.node.Run.{Run};
-ghost use Rattle.rt_tree.specs.Shape.{IsTree, count_of, is_of, left_of, level_of, runs_before, sum_of, tree_runs};
+ghost use Rattle.rt_tree.specs.Shape.{IsTree, child_count, is_of, left_of, level_of, runs_before, sum_of, tree_runs};
 ghost use Rattle.rt_tree.specs.Sums.{AreFew, counts_of, plus};
-ghost use Rattle.rt_tree.specs.Runs.{has};
+ghost use Rattle.rt_tree.specs.Runs.{has_cell};
 ghost use Rattle.rt_tree.specs.Walks.{IsBehind, IsPlaceIn};
 
 use crate::find::has;
@@ -43,7 +43,7 @@ fn first_counts<L: Looks>(looks: &mut L, node: NodeId, count: usize) -> Counts
 #[inline(always)]
 fn counts_with_left<L: Looks>(looks: &mut L, parent: NodeId, node: NodeId, more: Counts) -> Counts
     requires parent { IsNode (L.nodes looks.old) parent.index }
-    requires child { 0 < count_of node.index (entries (L.nodes looks.old) parent.index) }
+    requires child { 0 < child_count node.index (entries (L.nodes looks.old) parent.index) }
     requires few { AreFew (plus more (sum_of (left_of node.index (entries (L.nodes looks.old) parent.index)))) }
     requires room { L.looked looks.old + 16 < 2 ^ 64 }
     ensures value { result ≡ plus more (sum_of (left_of node.index (entries (L.nodes looks.old) parent.index))) }
@@ -130,8 +130,8 @@ struct Stood {
 // The run of an entry, if it has a stamp.
 #[inline(always)]
 fn run_with(entry: &NodeEntry, stamp: Stamp) -> Option<Run>
-    ensures some { IfSome result (λ run. (entry.now ≡ Here run) × (has run stamp ≡ true)) }
-    ensures none { result ≡ None → (run : Run) → entry.now ≡ Here run → has run stamp ≡ false }
+    ensures some { IfSome result (λ run. (entry.now ≡ Here run) × (has_cell run stamp ≡ true)) }
+    ensures none { result ≡ None → (run : Run) → entry.now ≡ Here run → has_cell run stamp ≡ false }
 {
     match entry.get() {
         Entry::Here(run) => {
@@ -149,12 +149,12 @@ fn stood_with<L: Looks>(looks: &mut L, leaf: NodeId, stamp: Stamp) -> Option<Sto
     requires few { (count : ℕ) → AreFew (sum_of (take count (entries (L.nodes looks.old) leaf.index))) }
     requires room { L.looked looks.old + 16 < 2 ^ 64 }
     ensures some { IfSome result (λ s. (slice_get (entries (L.nodes looks.old) leaf.index) s.first.entry ≡ Some (Here s.run))
-        × (has s.run stamp ≡ true)) }
+        × (has_cell s.run stamp ≡ true)) }
     ensures counts { IfSome result (λ s. s.first.counts ≡ sum_of (take s.first.entry (entries (L.nodes looks.old) leaf.index))) }
     ensures first { IfSome result (λ s. (i : ℕ) (run : Run) → i < s.first.entry
-        → slice_get (entries (L.nodes looks.old) leaf.index) i ≡ Some (Here run) → has run stamp ≡ false) }
+        → slice_get (entries (L.nodes looks.old) leaf.index) i ≡ Some (Here run) → has_cell run stamp ≡ false) }
     ensures none { result ≡ None → (i : ℕ) (run : Run)
-        → slice_get (entries (L.nodes looks.old) leaf.index) i ≡ Some (Here run) → has run stamp ≡ false }
+        → slice_get (entries (L.nodes looks.old) leaf.index) i ≡ Some (Here run) → has_cell run stamp ≡ false }
     ensures counted { L.looked looks.old ≤ L.looked looks.new }
     ensures looked { IfSome result (λ _. L.looked looks.old + 1 ≤ L.looked looks.new) }
     ensures cost { L.looked looks.new ≤ L.looked looks.old + 16 }
@@ -176,7 +176,7 @@ fn stood_with<L: Looks>(looks: &mut L, leaf: NodeId, stamp: Stamp) -> Option<Sto
 
 // How many visible cells stand before a stamp's cell in a run, before which so many stand.
 pub(crate) fn place_in(run: Run, before: Counts, stamp: Stamp) -> usize
-    requires has { has run stamp ≡ true }
+    requires has { has_cell run stamp ≡ true }
     requires few { before.visible + run.len < 2 ^ 33 }
     ensures { result ≡ before.visible + (if run.gone then 0 else (stamp.count - run.first)) }
 {
@@ -198,7 +198,7 @@ pub fn ascend<L: Looks>(looks: &mut L, root: NodeId, leaf: NodeId, stamp: Stamp)
     requires room { L.looked looks.old + 16 * (level_of (L.nodes looks.old) root.index + 1) < 2 ^ 64 }
     ensures place { IfSome result (IsPlaceIn (L.nodes looks.old) root.index leaf.index stamp) }
     ensures none { result ≡ None → (i : ℕ) (run : Run)
-        → slice_get (entries (L.nodes looks.old) leaf.index) i ≡ Some (Here run) → has run stamp ≡ false }
+        → slice_get (entries (L.nodes looks.old) leaf.index) i ≡ Some (Here run) → has_cell run stamp ≡ false }
     ensures counted { L.looked looks.old ≤ L.looked looks.new }
     ensures looked { IfSome result (λ _. L.looked looks.old + (level_of (L.nodes looks.old) root.index + 1) ≤ L.looked looks.new) }
     ensures cost { L.looked looks.new ≤ L.looked looks.old + 16 * (level_of (L.nodes looks.old) root.index + 1) }

@@ -7,9 +7,9 @@ ghost use Rattle.rt_store.specs.Spans.{last_stamp, next_stamp};
 ghost use Rattle.rt_tree.specs.Homes.{AreHome, UpdatesOn, run_to};
 ghost use Rattle.rt_tree.specs.Runs.{IsRun, first_stamp};
 ghost use Rattle.rt_tree.specs.Shape.{IsTree, tree_runs};
-ghost use Rattle.rt_tree.specs.Sharing.{AreApart, BeginsAt, IsChangedAt, IsRecut, cell_in, run_in};
+ghost use Rattle.rt_tree.specs.Sharing.{AreApart, BeginsAt, IsChangedAt, IsRecut, cell_updated_in, run_in};
 ghost use Rattle.rt_tree.specs.Standing.{AreHoused, StampsStay};
-ghost use Rattle.rt_tree.specs.Stretches.{AreChanged, AreKept, IsGiven, updated_run};
+ghost use Rattle.rt_tree.specs.Stretches.{AreChanged, AreRunsOfText, IsGiven, updated_run};
 ghost use Rattle.rt_tree.specs.Summaries.{AreTold};
 ghost use Rattle.rt_tree.specs.Sums.{counts_of};
 ghost use Rattle.rt_tree.specs.Trees.{HasNodes};
@@ -58,7 +58,7 @@ fn update_run(
     update: &CellUpdate,
 ) -> u32
     requires tree { IsTree mem.old root.index }
-    requires kept { AreKept (tree_runs mem.old root.index) }
+    requires kept { AreRunsOfText (tree_runs mem.old root.index) }
     requires few { (counts_of (tree_runs mem.old root.index)).cells ≤ MOST_CELLS }
     requires within { at < (counts_of (tree_runs mem.old root.index)).cells }
     requires told { AreTold states.now mem.old sums.old (tree_runs mem.old root.index) }
@@ -94,7 +94,7 @@ fn update_runs(
     update: &CellUpdate,
 )
     requires tree { IsTree mem.old root.index }
-    requires kept { AreKept (tree_runs mem.old root.index) }
+    requires kept { AreRunsOfText (tree_runs mem.old root.index) }
     requires few { (counts_of (tree_runs mem.old root.index)).cells ≤ MOST_CELLS }
     requires told { AreTold states.now mem.old sums.old (tree_runs mem.old root.index) }
     requires update { IsGiven states.now update.now }
@@ -126,7 +126,7 @@ fn update_at(
 ) -> Option<u64>
     requires within { left.first ≤ left.last }
     requires tree { IsTree mem.old root.index }
-    requires kept { AreKept (tree_runs mem.old root.index) }
+    requires kept { AreRunsOfText (tree_runs mem.old root.index) }
     requires few { (counts_of (tree_runs mem.old root.index)).cells ≤ MOST_CELLS }
     requires home { homes.now.sure ≡ true → AreHome homes.now.leaves (tree_runs mem.old root.index) }
     requires told { AreTold states.now mem.old sums.old (tree_runs mem.old root.index) }
@@ -177,7 +177,7 @@ fn update_by_homes(
     homes: &Homes,
 ) -> bool
     requires tree { IsTree mem.old root.index }
-    requires kept { AreKept (tree_runs mem.old root.index) }
+    requires kept { AreRunsOfText (tree_runs mem.old root.index) }
     requires few { (counts_of (tree_runs mem.old root.index)).cells ≤ MOST_CELLS }
     requires home { homes.now.sure ≡ true → AreHome homes.now.leaves (tree_runs mem.old root.index) }
     requires told { AreTold states.now mem.old sums.old (tree_runs mem.old root.index) }
@@ -218,7 +218,7 @@ fn update_all(
     homes: &Homes,
 )
     requires tree { IsTree mem.old root.index }
-    requires kept { AreKept (tree_runs mem.old root.index) }
+    requires kept { AreRunsOfText (tree_runs mem.old root.index) }
     requires few { (counts_of (tree_runs mem.old root.index)).cells ≤ MOST_CELLS }
     requires home { homes.now.sure ≡ true → AreHome homes.now.leaves (tree_runs mem.old root.index) }
     requires told { AreTold states.now mem.old sums.old (tree_runs mem.old root.index) }
@@ -249,7 +249,7 @@ fn part_behind(
     requires housed { homes.old.sure ≡ true → AreHoused mem.old root.index homes.old.leaves }
     requires left { 0 < homes.old.left }
     requires tree { IsTree mem.old root.index }
-    requires kept { AreKept (tree_runs mem.old root.index) }
+    requires kept { AreRunsOfText (tree_runs mem.old root.index) }
     requires apart { AreApart (tree_runs mem.old root.index) }
     requires few { (counts_of (tree_runs mem.old root.index)).cells ≤ MOST_CELLS }
     requires room { HasNodes mem.old (length (tree_runs mem.old root.index)) }
@@ -290,7 +290,7 @@ pub(crate) fn update_span(
     requires housed { homes.old.sure ≡ true → AreHoused mem.old root.index homes.old.leaves }
     requires left { 2 ≤ homes.old.left }
     requires tree { IsTree mem.old root.index }
-    requires kept { AreKept (tree_runs mem.old root.index) }
+    requires kept { AreRunsOfText (tree_runs mem.old root.index) }
     requires apart { AreApart (tree_runs mem.old root.index) }
     requires few { (counts_of (tree_runs mem.old root.index)).cells ≤ MOST_CELLS }
     requires room { HasNodes mem.old (length (tree_runs mem.old root.index) + 1) }
@@ -302,7 +302,7 @@ pub(crate) fn update_span(
     ensures sure { homes.new.sure ≡ homes.old.sure }
     ensures tree { IsTree mem.new result.root.index }
     ensures cells { (text : List ℕ) → AllByRecursion (IsRun text) (tree_runs mem.old root.index)
-        → AreChanged (tree_runs mem.old root.index) (tree_runs mem.new result.root.index) text (map (cell_in span update)) }
+        → AreChanged (tree_runs mem.old root.index) (tree_runs mem.new result.root.index) text (map (cell_updated_in span update)) }
     ensures apart { AreApart (tree_runs mem.new result.root.index) }
     ensures runs { length (tree_runs mem.new result.root.index) ≡ length (tree_runs mem.old root.index) + result.more }
     ensures more { result.more ≤ 2 }

@@ -9,7 +9,7 @@ use Rattle.rt_stamps.specs.declared.stamp.Stamp.{Stamp}
 use Rattle.rt_ops.specs.Operations.{stamps_from, stamps_in, stamps_of_span}
 use Rattle.rt_undo.specs.declared.action.RemovedSpan.{RemovedSpan}
 use Rattle.rt_undo.specs.Actions.{Removed, removed_in, removed_of, removed_with, restamped_one}
-use Rattle.rt_undo.specs.Copies.{is_next}
+use Rattle.rt_undo.specs.Copies.{is_behind_span}
 
 at : ℕ → ℕ → Stamp
 at site count = record { count = count; site = site }
@@ -34,11 +34,11 @@ pub record Next (span : Span) (stamp : Stamp) : Type 0 where
   pub site : stamp.site ≡ span.site
   pub count : stamp.count ≡ span.last + 1
 
-pub next_is : (span : Span) (stamp : Stamp) → is_next span stamp ≡ true → Next span stamp
+pub next_is : (span : Span) (stamp : Stamp) → is_behind_span span stamp ≡ true → Next span stamp
 next_is span stamp e = record { order = grind (arith, nat_tests); site = grind (arith, nat_tests); count = grind (arith, nat_tests) }
 
 -- a span with the next stamp
-pub of_next : (span : Span) (stamp : Stamp) → is_next span stamp ≡ true
+pub of_next : (span : Span) (stamp : Stamp) → is_behind_span span stamp ≡ true
     → stamps_of_span (record { site = stamp.site; first = span.first; last = stamp.count }) ≡ stamps_of_span span ++ stamp ∷ []
 of_next span stamp e =
     let n = next_is span stamp e in
@@ -55,7 +55,7 @@ pub spans_more : (spans : List Span) (span : Span) → stamps_in (spans ++ span 
 spans_more spans span = flat_map-append stamps_of_span spans (span ∷ []) ∙ ap (λ l. stamps_in spans ++ l) (append-nil (stamps_of_span span))
 
 -- a stamp is added to those of spans
-pub pushed_next : (spans : List Span) (last : Span) (stamp : Stamp) → is_next last stamp ≡ true
+pub pushed_next : (spans : List Span) (last : Span) (stamp : Stamp) → is_behind_span last stamp ≡ true
     → stamps_in (spans ++ record { site = stamp.site; first = last.first; last = stamp.count } ∷ []) ≡ stamps_in (spans ++ last ∷ []) ++ stamp ∷ []
 pushed_next spans last stamp e =
     spans_more spans (record { site = stamp.site; first = last.first; last = stamp.count })

@@ -10,7 +10,7 @@ use Rattle.rt_stamps.specs.declared.stamp.Stamp.{Stamp}
 use Rattle.rt_undo.specs.declared.action.Action.{Action as KeptAction}
 use Rattle.rt_undo.specs.Actions.{group_of}
 use Rattle.rt_undo.specs.Groups.{groups_of, numbers_of, numbers_of_groups}
-use Rattle.rt_undo.specs.Undo.{History, as_group, dropped, is_modified, limited, numbers, numbers_in, renamed_by, rest_after, same_numbers, to_undo, too_many, with_stamps_in}
+use Rattle.rt_undo.specs.Undo.{UndoHistory, as_group, dropped, is_modified, limited, numbers, numbers_in, renamed_by, rest_after, same_numbers, to_undo, too_many, with_stamps_in}
 use Rattle.rt_undo.proofs.Histories.{is_all, numbers_closed, numbers_groups_renamed, rest_none, rest_then, same_rest, to_undo_renamed}
 
 -- NUMBERS THAT LEAVE
@@ -27,11 +27,11 @@ by_option : {P : Type 0} (o : Option (List ℕ)) → ((rest : List ℕ) → o �
 by_option (Some rest) some none = some rest refl
 by_option None some none = none refl
 
-nothing_after : (xs : List ℕ) → kept_after xs [] ≡ []
+pub nothing_after : (xs : List ℕ) → kept_after xs [] ≡ []
 nothing_after [] = refl
 nothing_after (x ∷ xs) = refl
 
-or_false : (b : Bool) → b || false ≡ b
+pub or_false : (b : Bool) → b || false ≡ b
 or_false true = refl
 or_false false = refl
 
@@ -82,11 +82,11 @@ numbers_next (g ∷ groups) (suc i) group rest e =
 
 -- HISTORIES
 
-pub too_many_renamed : (f : Stamp → Stamp) (h : History ℕ) → too_many (renamed_by f h) ≡ too_many h
+pub too_many_renamed : (f : Stamp → Stamp) (h : UndoHistory ℕ) → too_many (renamed_by f h) ≡ too_many h
 too_many_renamed f h =
     ap (λ n. if h.most == 0 then 0 else n - h.most) (ap (λ l. length l) (to_undo_renamed f h) ∙ length-map (to_undo h) (with_stamps_in {T = ℕ} f))
 
-pub dropped_renamed : (f : Stamp → Stamp) (n : ℕ) (h : History ℕ) → renamed_by f (dropped n h) ≡ dropped n (renamed_by f h)
+pub dropped_renamed : (f : Stamp → Stamp) (n : ℕ) (h : UndoHistory ℕ) → renamed_by f (dropped n h) ≡ dropped n (renamed_by f h)
 dropped_renamed f n h =
     let same : numbers_in (take n h.closed) ≡ numbers_in (take n (map (with_stamps_in {T = ℕ} f) h.closed)) =
     sym (ap (λ l. numbers_in l) (take-map (with_stamps_in {T = ℕ} f) n h.closed) ∙ numbers_groups_renamed f (take n h.closed)) in
@@ -96,11 +96,11 @@ dropped_renamed f n h =
       forced = forced_after (same i) h.kept h.forced;
     }
 
-pub limited_renamed : (f : Stamp → Stamp) (h : History ℕ) → renamed_by f (limited h) ≡ limited (renamed_by f h)
+pub limited_renamed : (f : Stamp → Stamp) (h : UndoHistory ℕ) → renamed_by f (limited h) ≡ limited (renamed_by f h)
 limited_renamed f h = dropped_renamed f (too_many h) h ∙ ap (λ n. dropped n (renamed_by f h)) (sym (too_many_renamed f h))
 
 -- groups as they are kept
-pub dropped_kept : (n : ℕ) (groups : List (Vec KeptAction Global)) (h : History ℕ)
+pub dropped_kept : (n : ℕ) (groups : List (Vec KeptAction Global)) (h : UndoHistory ℕ)
     → record h {
       closed = groups_of (drop n groups);
       kept = kept_after (numbers_of_groups (take n groups)) h.kept;
@@ -118,7 +118,7 @@ dropped_kept n groups h =
 -- THE FLAG STAYS
 
 -- the numbers of what can be undone begin with those of the oldest groups
-numbers_parted : (n : ℕ) (h : History ℕ) → numbers h ≡ numbers_in (take n h.closed) ++ numbers (dropped n h)
+numbers_parted : (n : ℕ) (h : UndoHistory ℕ) → numbers h ≡ numbers_in (take n h.closed) ++ numbers (dropped n h)
 numbers_parted n h =
     ap (λ l. numbers_in (l ++ as_group h.current)) (sym (take-append-drop n h.closed))
     ∙ ap (λ l. numbers_in l) (append_assoc (take n h.closed) (drop n h.closed) (as_group h.current))
@@ -135,12 +135,12 @@ flag_parted xs ys kept forced = by_option (rest_after xs kept)
     ∙ ap (λ b. forced || not b) (ap is_all (sym (rest_none xs ys kept e)) ∙ sym (same_rest (xs ++ ys) kept)))
 
 -- whatever can be undone later, the numbers of the oldest groups count as if they stood in front
-pub later_flag : (n : ℕ) (h later : History ℕ)
+pub later_flag : (n : ℕ) (h later : UndoHistory ℕ)
     → is_modified (record (dropped n h) { closed = later.closed; current = later.current })
     ≡ h.forced || not (same_numbers (numbers_in (take n h.closed) ++ numbers later) h.kept)
 later_flag n h later = flag_parted (numbers_in (take n h.closed)) (numbers later) h.kept h.forced
 
-pub same_flag : (n : ℕ) (h : History ℕ) → is_modified (dropped n h) ≡ is_modified h
+pub same_flag : (n : ℕ) (h : UndoHistory ℕ) → is_modified (dropped n h) ≡ is_modified h
 same_flag n h =
     later_flag n h (dropped n h)
     ∙ ap (λ l. h.forced || not (same_numbers l h.kept)) (sym (numbers_parted n h))
@@ -156,33 +156,33 @@ by_zero zero none some = none refl
 by_zero (suc n) none some = some (omega arith)
 
 -- where any number may be, none are too many
-none_too_many : (h : History ℕ) → h.most ≡ 0 → too_many h ≡ 0
+none_too_many : (h : UndoHistory ℕ) → h.most ≡ 0 → too_many h ≡ 0
 none_too_many h e = ap (λ n. if n == 0 then 0 else length (to_undo h) - n) e
 
-some_too_many : (h : History ℕ) → 0 < h.most → too_many h ≡ length (to_undo h) - h.most
+some_too_many : (h : UndoHistory ℕ) → 0 < h.most → too_many h ≡ length (to_undo h) - h.most
 some_too_many h l =
     let no : (h.most == 0) ≡ false = grind (arith, nat_tests) in
     ap (λ b. if b then 0 else length (to_undo h) - h.most) no
 
-closed_too_many : (h : History ℕ) → too_many h ≤ length h.closed
+closed_too_many : (h : UndoHistory ℕ) → too_many h ≤ length h.closed
 closed_too_many h = by_zero h.most
     (λ e. omega (arith, none_too_many h e))
     (λ l. omega (arith, some_too_many h l, length-append h.closed (as_group h.current), group_or_none h.current))
 
-pub newest_stay : (h : History ℕ) → to_undo (limited h) ≡ drop (too_many h) (to_undo h)
+pub newest_stay : (h : UndoHistory ℕ) → to_undo (limited h) ≡ drop (too_many h) (to_undo h)
 newest_stay h = sym (drop-append-le (too_many h) h.closed (as_group h.current) (closed_too_many h))
 
-pub most_stay : (h : History ℕ) → 0 < h.most → length (to_undo (limited h)) ≤ h.most
+pub most_stay : (h : UndoHistory ℕ) → 0 < h.most → length (to_undo (limited h)) ≤ h.most
 most_stay h l = omega (arith, ap (λ gs. length gs) (newest_stay h), length-drop (too_many h) (to_undo h), some_too_many h l)
 
-pub full_stay : (h : History ℕ) → 0 < h.most → h.most ≤ length (to_undo h) → length (to_undo (limited h)) ≡ h.most
+pub full_stay : (h : UndoHistory ℕ) → 0 < h.most → h.most ≤ length (to_undo h) → length (to_undo (limited h)) ≡ h.most
 full_stay h l m = omega (arith, ap (λ gs. length gs) (newest_stay h), length-drop (too_many h) (to_undo h), some_too_many h l)
 
-none_dropped : (h : History ℕ) → too_many h ≡ 0 → limited h ≡ h
+none_dropped : (h : UndoHistory ℕ) → too_many h ≡ 0 → limited h ≡ h
 none_dropped h none = ap (λ n. dropped n h) none ∙ (λ i. record h { forced = or_false h.forced i })
 
-pub few_stay : (h : History ℕ) → length (to_undo h) ≤ h.most → limited h ≡ h
+pub few_stay : (h : UndoHistory ℕ) → length (to_undo h) ≤ h.most → limited h ≡ h
 few_stay h l = none_dropped h (by_zero h.most (none_too_many h) (λ p. omega (arith, some_too_many h p)))
 
-pub any_stay : (h : History ℕ) → h.most ≡ 0 → limited h ≡ h
+pub any_stay : (h : UndoHistory ℕ) → h.most ≡ 0 → limited h ≡ h
 any_stay h e = none_dropped h (none_too_many h e)

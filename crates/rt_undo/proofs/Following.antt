@@ -6,18 +6,18 @@ use Rattle.rt_stamps.specs.declared.stamp.Span.{Span}
 use Rattle.rt_stamps.specs.declared.stamp.Stamp.{Stamp}
 use Rattle.rt_stamps.specs.declared.limits.TheConstants.{GREATEST_COUNT}
 use Rattle.rt_undo.specs.declared.renames.Move.{Move}
-use Rattle.rt_undo.specs.Renames.{Shown, AllLeadOn, LeadsOn, follow, is_in_span, is_moved, is_same, now_of, renamed, replaced, target, value_of}
+use Rattle.rt_undo.specs.Renames.{SpanMapValue, AllLeadOn, LeadsOn, follow, is_in_span, is_moved, is_same, now_of, renamed, replaced, target, value_of}
 
-pub follow_ends : (n : ℕ) (moves : Shown Move) (s : Stamp) → value_of moves s ≡ None → follow n moves s ≡ s
+pub follow_ends : (n : ℕ) (moves : SpanMapValue Move) (s : Stamp) → value_of moves s ≡ None → follow n moves s ≡ s
 unfolding follow
 follow_ends zero moves s e = refl
 follow_ends (suc n) moves s e = ap (λ o. option_map_or (λ m. follow n moves (target m s)) o s) e
 
-pub follow_on : (n : ℕ) (moves : Shown Move) (s : Stamp) (m : Move) → value_of moves s ≡ Some m → follow (suc n) moves s ≡ follow n moves (target m s)
+pub follow_on : (n : ℕ) (moves : SpanMapValue Move) (s : Stamp) (m : Move) → value_of moves s ≡ Some m → follow (suc n) moves s ≡ follow n moves (target m s)
 unfolding follow
 follow_on n moves s m e = ap (λ o. option_map_or (λ m. follow n moves (target m s)) o s) e
 
-now_zero : (moves : Shown Move) (s : Stamp) → follow zero moves s ≡ s
+now_zero : (moves : SpanMapValue Move) (s : Stamp) → follow zero moves s ≡ s
 unfolding follow
 now_zero moves s = refl
 
@@ -27,7 +27,7 @@ by_look None none some = none refl
 by_look (Some m) none some = some m refl
 
 -- more steps than there are lead no further
-pub follow_more : (n : ℕ) (moves : Shown Move) (s : Stamp) → AllLeadOn moves → GREATEST_COUNT ≤ n + s.count → follow (suc n) moves s ≡ follow n moves s
+pub follow_more : (n : ℕ) (moves : SpanMapValue Move) (s : Stamp) → AllLeadOn moves → GREATEST_COUNT ≤ n + s.count → follow (suc n) moves s ≡ follow n moves s
 follow_more zero moves s rising far =
     by_look (value_of moves s)
     (λ none. follow_ends (suc zero) moves s none ∙ sym (follow_ends zero moves s none))
@@ -39,13 +39,13 @@ follow_more (suc n) moves s rising far =
     follow_on (suc n) moves s m some ∙ follow_more n moves (target m s) rising (omega arith) ∙ sym (follow_on n moves s m some))
 
 -- a step of a walk
-pub now_on : (moves : Shown Move) (s : Stamp) (m : Move) → AllLeadOn moves → value_of moves s ≡ Some m → now_of moves s ≡ now_of moves (target m s)
+pub now_on : (moves : SpanMapValue Move) (s : Stamp) (m : Move) → AllLeadOn moves → value_of moves s ≡ Some m → now_of moves s ≡ now_of moves (target m s)
 unfolding now_of
 now_on moves s m rising some =
     let far : GREATEST_COUNT ≤ GREATEST_COUNT + s.count = omega arith in
     sym (follow_more GREATEST_COUNT moves s rising far) ∙ follow_on GREATEST_COUNT moves s m some
 
-pub now_ends : (moves : Shown Move) (s : Stamp) → value_of moves s ≡ None → now_of moves s ≡ s
+pub now_ends : (moves : SpanMapValue Move) (s : Stamp) → value_of moves s ≡ None → now_of moves s ≡ s
 unfolding now_of
 now_ends moves s none = follow_ends GREATEST_COUNT moves s none
 
@@ -65,7 +65,7 @@ pub outside : (f : Span) (s : Stamp) → f.last < s.count → is_in_span f s ≡
 outside f s l = grind (arith, nat_tests)
 
 -- the characters of a span come back under other stamps, none of all of which was moved before
-pub record Renaming (former : Span) (newer : Stamp) (step : Move) (old new : Shown Move) : Type 0 where
+pub record Renaming (former : Span) (newer : Stamp) (step : Move) (old new : SpanMapValue Move) : Type 0 where
   pub values : (s : Stamp) → value_of new s ≡ (if is_in_span former s then Some step else value_of old s)
   pub begins : step.first ≡ former.first
   pub leads : step.to ≡ newer
@@ -76,11 +76,11 @@ pub record Renaming (former : Span) (newer : Stamp) (step : Move) (old new : Sho
   pub fresh : (s : Stamp) → is_in_span former s ≡ true → is_moved old (renamed former newer s) ≡ false
   pub rising : AllLeadOn old
 
-value_in : (former : Span) (newer : Stamp) (step : Move) (old new : Shown Move) → Renaming former newer step old new
+value_in : (former : Span) (newer : Stamp) (step : Move) (old new : SpanMapValue Move) → Renaming former newer step old new
     → (s : Stamp) → is_in_span former s ≡ true → value_of new s ≡ Some step
 value_in former newer step old new r s e = r.values s ∙ ap (λ b. cond b (Some step) (value_of old s)) e
 
-value_out : (former : Span) (newer : Stamp) (step : Move) (old new : Shown Move) → Renaming former newer step old new
+value_out : (former : Span) (newer : Stamp) (step : Move) (old new : SpanMapValue Move) → Renaming former newer step old new
     → (s : Stamp) → is_in_span former s ≡ false → value_of new s ≡ value_of old s
 value_out former newer step old new r s e = r.values s ∙ ap (λ b. cond b (Some step) (value_of old s)) e
 
@@ -99,7 +99,7 @@ renamed_out : (former : Span) (newer : Stamp) (s : Stamp) → is_in_span former 
 renamed_out former newer s e = ap (λ b. cond b (record { count = newer.count + (s.count - former.first); site = newer.site }) s) e
 
 -- what a character of the span comes back as is moved no further
-new_ends : (former : Span) (newer : Stamp) (step : Move) (old new : Shown Move) → Renaming former newer step old new
+new_ends : (former : Span) (newer : Stamp) (step : Move) (old new : SpanMapValue Move) → Renaming former newer step old new
     → (s : Stamp) → is_in_span former s ≡ true → value_of new (target step s) ≡ None
 new_ends former newer step old new r s e =
     let same : target step s ≡ renamed former newer s = leads_to former newer step s r.begins r.leads e in
@@ -107,7 +107,7 @@ new_ends former newer step old new r s e =
     value_out former newer step old new r (target step s) (outside former (target step s) far)
     ∙ ap (value_of old) same ∙ none_of (value_of old (renamed former newer s)) (r.fresh s e)
 
-follow_renamed : (former : Span) (newer : Stamp) (step : Move) (old new : Shown Move) → Renaming former newer step old new
+follow_renamed : (former : Span) (newer : Stamp) (step : Move) (old new : SpanMapValue Move) → Renaming former newer step old new
     → (n : ℕ) (s : Stamp) → GREATEST_COUNT ≤ n + s.count → follow n new s ≡ renamed former newer (follow n old s)
 follow_renamed former newer step old new r zero s far =
     by_test (is_in_span former s)
@@ -130,14 +130,14 @@ follow_renamed former newer step old new r (suc n) s far =
     ∙ follow_renamed former newer step old new r n (target m s) (omega arith)
     ∙ ap (renamed former newer) (sym (follow_on n old s m some))))
 
-pub now_renamed : (former : Span) (newer : Stamp) (step : Move) (old new : Shown Move) → Renaming former newer step old new
+pub now_renamed : (former : Span) (newer : Stamp) (step : Move) (old new : SpanMapValue Move) → Renaming former newer step old new
     → (s : Stamp) → now_of new s ≡ renamed former newer (now_of old s)
 unfolding now_of
 now_renamed former newer step old new r s =
     let far : GREATEST_COUNT ≤ GREATEST_COUNT + s.count = omega arith in
     follow_renamed former newer step old new r GREATEST_COUNT s far
 
-pub rising_renamed : (former : Span) (newer : Stamp) (step : Move) (old new : Shown Move) → Renaming former newer step old new → AllLeadOn new
+pub rising_renamed : (former : Span) (newer : Stamp) (step : Move) (old new : SpanMapValue Move) → Renaming former newer step old new → AllLeadOn new
 rising_renamed former newer step old new r s m some =
     by_test (is_in_span former s)
     (λ yes. let same : step ≡ m = inner step m (sym (value_in former newer step old new r s yes) ∙ some) in
@@ -148,18 +148,18 @@ rising_renamed former newer step old new r s m some =
 
 -- THE SAME MOVES
 
-follow_same : (old new : Shown Move) → ((s : Stamp) → value_of new s ≡ value_of old s) → (n : ℕ) (s : Stamp) → follow n new s ≡ follow n old s
+follow_same : (old new : SpanMapValue Move) → ((s : Stamp) → value_of new s ≡ value_of old s) → (n : ℕ) (s : Stamp) → follow n new s ≡ follow n old s
 follow_same old new e zero s = now_zero new s ∙ sym (now_zero old s)
 follow_same old new e (suc n) s =
     by_look (value_of old s)
     (λ none. follow_ends (suc n) new s (e s ∙ none) ∙ sym (follow_ends (suc n) old s none))
     (λ m some. follow_on n new s m (e s ∙ some) ∙ follow_same old new e n (target m s) ∙ sym (follow_on n old s m some))
 
-pub now_same : (old new : Shown Move) → ((s : Stamp) → value_of new s ≡ value_of old s) → (s : Stamp) → now_of new s ≡ now_of old s
+pub now_same : (old new : SpanMapValue Move) → ((s : Stamp) → value_of new s ≡ value_of old s) → (s : Stamp) → now_of new s ≡ now_of old s
 unfolding now_of
 now_same old new e s = follow_same old new e GREATEST_COUNT s
 
-pub rising_same : (old new : Shown Move) → ((s : Stamp) → value_of new s ≡ value_of old s) → AllLeadOn old → AllLeadOn new
+pub rising_same : (old new : SpanMapValue Move) → ((s : Stamp) → value_of new s ≡ value_of old s) → AllLeadOn old → AllLeadOn new
 rising_same old new e rising s m some = rising s m (sym (e s) ∙ some)
 
 -- ONE STAMP
@@ -188,7 +188,7 @@ renamed_one old new s =
 
 -- AT THE END
 
-follow_still : (n : ℕ) (moves : Shown Move) (s : Stamp) → AllLeadOn moves → GREATEST_COUNT ≤ n + s.count → is_moved moves (follow n moves s) ≡ false
+follow_still : (n : ℕ) (moves : SpanMapValue Move) (s : Stamp) → AllLeadOn moves → GREATEST_COUNT ≤ n + s.count → is_moved moves (follow n moves s) ≡ false
 follow_still zero moves s rising far =
     by_look (value_of moves s)
     (λ none. ap (is_moved moves) (now_zero moves s) ∙ ap is_some none)
@@ -200,7 +200,7 @@ follow_still (suc n) moves s rising far =
     ap (is_moved moves) (follow_on n moves s m some) ∙ follow_still n moves (target m s) rising (omega arith))
 
 -- the stamp that a character has now leads no further
-pub now_still : (moves : Shown Move) → AllLeadOn moves → (s : Stamp) → is_moved moves (now_of moves s) ≡ false
+pub now_still : (moves : SpanMapValue Move) → AllLeadOn moves → (s : Stamp) → is_moved moves (now_of moves s) ≡ false
 unfolding now_of
 now_still moves rising s =
     let far : GREATEST_COUNT ≤ GREATEST_COUNT + s.count = omega arith in

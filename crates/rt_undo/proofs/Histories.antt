@@ -1,5 +1,5 @@
 -- Histories with other stamps in the place of their own.
-use Rattle.std.proofs.Common.{◌≡◌, ◌∙◌, ℕ, suc, ◌+◌, ◌-◌, ◌<◌, ◌≤◌, ◌++◌, ◌||◌, ◌&&◌, ◌==◌, Bool, true, false, List, [], ◌∷◌, Option, Some, None, Result, Ok, Err, map, length, take, drop, drop-cons, add-one, get_or, nat_eq, length-drop, option_map, slice_get, ap, sym, refl, arith, cond, append-nil, append_assoc, if◌then◌else◌}
+use Rattle.std.proofs.Common.{◌≡◌, ◌∙◌, ℕ, suc, ◌-◌, ◌≤◌, ◌++◌, ◌||◌, ◌&&◌, ◌==◌, Bool, true, false, List, [], ◌∷◌, Option, Some, None, Result, Ok, Err, map, length, take, drop, nat_eq, length-drop, option_map, slice_get, ap, sym, refl, arith, cond, append-nil, append_assoc, if◌then◌else◌}
 use Rattle.std.specs.List.{AllByRecursion}
 use Rattle.std.specs.Result.{IfOk, IsOkUnless}
 use Rattle.std.specs.declared.vec.Vec.{Vec}
@@ -17,8 +17,8 @@ use Rattle.rt_undo.specs.declared.action.Kind.{Kind}
 use Rattle.rt_undo.specs.declared.renames.Move.{Move}
 use Rattle.rt_undo.specs.Actions.{Action, Removed, group_of, is_replace, restamped, restamped_one}
 use Rattle.rt_undo.specs.Groups.{IsStill, NoneMoves, groups_of, numbers_of, numbers_of_groups}
-use Rattle.rt_undo.specs.Renames.{Shown, is_moved, now_of, renamed, value_of}
-use Rattle.rt_undo.specs.Undo.{History, as_group, asks_separator, but_last, renamed_span, differs_from, last, next_redo, next_undo, numbers, numbers_in, recorded, renamed_by, rest_after, separated, to_undo, undo_done, with_stamps_in, same_numbers}
+use Rattle.rt_undo.specs.Renames.{SpanMapValue, is_moved, now_of, renamed, value_of}
+use Rattle.rt_undo.specs.Undo.{UndoHistory, as_group, asks_separator, but_last, renamed_span, differs_from, last, next_redo, next_undo, numbers, numbers_in, recorded, renamed_by, rest_after, separated, to_undo, undo_done, with_stamps_in, same_numbers}
 use Rattle.rt_undo.proofs.Following.{by_test, none_of, now_ends}
 
 -- TWICE
@@ -38,7 +38,7 @@ groups_twice : (g f : Stamp → Stamp) (groups : List (List (Action ℕ)))
 groups_twice g f [] = refl
 groups_twice g f (group ∷ groups) = λ i. group_twice g f group i ∷ groups_twice g f groups i
 
-history_twice : (g f : Stamp → Stamp) (h : History ℕ) → renamed_by g (renamed_by f h) ≡ renamed_by (λ s. g (f s)) h
+history_twice : (g f : Stamp → Stamp) (h : UndoHistory ℕ) → renamed_by g (renamed_by f h) ≡ renamed_by (λ s. g (f s)) h
 history_twice g f h = λ i. record h {
   closed = groups_twice g f h.closed i;
   current = group_twice g f h.current i;
@@ -46,34 +46,34 @@ history_twice g f h = λ i. record h {
 }
 
 -- characters come back
-pub history_came_back : (former : Span) (newer : Stamp) (old new : Shown Move) (h : History ℕ) → ((s : Stamp) → now_of new s ≡ renamed former newer (now_of old s))
+pub history_came_back : (former : Span) (newer : Stamp) (old new : SpanMapValue Move) (h : UndoHistory ℕ) → ((s : Stamp) → now_of new s ≡ renamed former newer (now_of old s))
     → renamed_by (now_of new) h ≡ renamed_span former newer (renamed_by (now_of old) h)
 history_came_back former newer old new h e =
     (λ i. renamed_by (λ s. e s i) h) ∙ sym (history_twice (renamed former newer) (now_of old) h)
 
-pub history_same : (old new : Shown Move) (h : History ℕ) → ((s : Stamp) → now_of new s ≡ now_of old s) → renamed_by (now_of new) h ≡ renamed_by (now_of old) h
+pub history_same : (old new : SpanMapValue Move) (h : UndoHistory ℕ) → ((s : Stamp) → now_of new s ≡ now_of old s) → renamed_by (now_of new) h ≡ renamed_by (now_of old) h
 history_same old new h e = λ i. renamed_by (λ s. e s i) h
 
 -- STAMPS THAT STAY
 
-stamps_still : (moves : Shown Move) (stamps : List Stamp) → AllByRecursion (λ s. is_moved moves s ≡ false) stamps → map (now_of moves) stamps ≡ stamps
+stamps_still : (moves : SpanMapValue Move) (stamps : List Stamp) → AllByRecursion (λ s. is_moved moves s ≡ false) stamps → map (now_of moves) stamps ≡ stamps
 stamps_still moves [] still = refl
 stamps_still moves (s ∷ stamps) still =
     λ i. now_ends moves s (none_of (value_of moves s) still.0) i ∷ stamps_still moves stamps still.1 i
 
-removed_still : (moves : Shown Move) (removed : List (Removed ℕ)) → AllByRecursion (λ r. is_moved moves r.stamp ≡ false) removed
+removed_still : (moves : SpanMapValue Move) (removed : List (Removed ℕ)) → AllByRecursion (λ r. is_moved moves r.stamp ≡ false) removed
     → map (restamped_one {T = ℕ} (now_of moves)) removed ≡ removed
 removed_still moves [] still = refl
 removed_still moves (r ∷ removed) still =
     λ i. record r { stamp = now_ends moves r.stamp (none_of (value_of moves r.stamp) still.0) i } ∷ removed_still moves removed still.1 i
 
-pub action_still : (moves : Shown Move) (a : Action ℕ) → IsStill moves a → restamped (now_of moves) a ≡ a
+pub action_still : (moves : SpanMapValue Move) (a : Action ℕ) → IsStill moves a → restamped (now_of moves) a ≡ a
 action_still moves a still = λ i. record a {
   inserted = stamps_still moves a.inserted still.inserted i;
   removed = removed_still moves a.removed still.removed i;
 }
 
-pub group_still : (moves : Shown Move) (group : List (Action ℕ)) → NoneMoves moves group → with_stamps_in (now_of moves) group ≡ group
+pub group_still : (moves : SpanMapValue Move) (group : List (Action ℕ)) → NoneMoves moves group → with_stamps_in (now_of moves) group ≡ group
 group_still moves [] still = refl
 group_still moves (a ∷ group) still = λ i. action_still moves a still.0 i ∷ group_still moves group still.1 i
 
@@ -83,7 +83,7 @@ pub as_group_renamed : (f : Stamp → Stamp) (group : List (Action ℕ)) → as_
 as_group_renamed f [] = refl
 as_group_renamed f (a ∷ group) = refl
 
-pub to_undo_renamed : (f : Stamp → Stamp) (h : History ℕ) → to_undo (renamed_by f h) ≡ map (with_stamps_in {T = ℕ} f) (to_undo h)
+pub to_undo_renamed : (f : Stamp → Stamp) (h : UndoHistory ℕ) → to_undo (renamed_by f h) ≡ map (with_stamps_in {T = ℕ} f) (to_undo h)
 to_undo_renamed f h =
     ap (λ l. map (with_stamps_in {T = ℕ} f) h.closed ++ l) (as_group_renamed f h.current)
     ∙ sym (map-append (with_stamps_in {T = ℕ} f) h.closed (as_group h.current))
@@ -99,7 +99,7 @@ one_more : (f : Stamp → Stamp) (groups : List (List (Action ℕ))) (group : Li
 one_more f groups group still =
     map-append (with_stamps_in {T = ℕ} f) groups (group ∷ []) ∙ ap (λ g. map (with_stamps_in {T = ℕ} f) groups ++ g ∷ []) still
 
-pub undo_renamed : (f : Stamp → Stamp) (reverted : List (Action ℕ)) (h : History ℕ) → with_stamps_in f reverted ≡ reverted
+pub undo_renamed : (f : Stamp → Stamp) (reverted : List (Action ℕ)) (h : UndoHistory ℕ) → with_stamps_in f reverted ≡ reverted
     → renamed_by f (undo_done reverted h) ≡ undo_done reverted (renamed_by f h)
 undo_renamed f reverted h still = λ i. record h {
   closed = (sym (but_last_map (with_stamps_in {T = ℕ} f) (to_undo h)) ∙ ap (λ l. but_last l) (sym (to_undo_renamed f h))) i;
@@ -108,10 +108,10 @@ undo_renamed f reverted h still = λ i. record h {
 }
 
 -- a reverted group is on the undo stack
-abbrev pub put_back : List (Action ℕ) → History ℕ → History ℕ
+abbrev pub put_back : List (Action ℕ) → UndoHistory ℕ → UndoHistory ℕ
 put_back reverted h = record h { closed = to_undo h ++ reverted ∷ []; current = []; undone = but_last h.undone }
 
-pub put_back_renamed : (f : Stamp → Stamp) (reverted : List (Action ℕ)) (h : History ℕ) → with_stamps_in f reverted ≡ reverted
+pub put_back_renamed : (f : Stamp → Stamp) (reverted : List (Action ℕ)) (h : UndoHistory ℕ) → with_stamps_in f reverted ≡ reverted
     → renamed_by f (put_back reverted h) ≡ put_back reverted (renamed_by f h)
 put_back_renamed f reverted h still = λ i. record h {
   closed = (one_more f (to_undo h) reverted still ∙ ap (λ l. l ++ reverted ∷ []) (sym (to_undo_renamed f h))) i;
@@ -119,14 +119,14 @@ put_back_renamed f reverted h still = λ i. record h {
   undone = sym (but_last_map (with_stamps_in {T = ℕ} f) h.undone) i;
 }
 
-pub separated_renamed : (f : Stamp → Stamp) (h : History ℕ) → renamed_by f (separated h) ≡ separated (renamed_by f h)
+pub separated_renamed : (f : Stamp → Stamp) (h : UndoHistory ℕ) → renamed_by f (separated h) ≡ separated (renamed_by f h)
 separated_renamed f h = λ i. record h {
   closed = sym (to_undo_renamed f h) i;
   current = [];
   undone = map (with_stamps_in {T = ℕ} f) h.undone;
 }
 
-recorded_renamed : (f : Stamp → Stamp) (a : Action ℕ) (h : History ℕ) → restamped f a ≡ a → renamed_by f (recorded a h) ≡ recorded a (renamed_by f h)
+recorded_renamed : (f : Stamp → Stamp) (a : Action ℕ) (h : UndoHistory ℕ) → restamped f a ≡ a → renamed_by f (recorded a h) ≡ recorded a (renamed_by f h)
 recorded_renamed f a h still = λ i. record h {
   closed = map (with_stamps_in {T = ℕ} f) h.closed;
   current = (map-append (restamped {T = ℕ} f) h.current (a ∷ []) ∙ ap (λ x. with_stamps_in f h.current ++ x ∷ []) still) i;
@@ -137,20 +137,20 @@ differs_renamed : (f : Stamp → Stamp) (kind : Kind) (o : Option (Action ℕ)) 
 differs_renamed f kind None = refl
 differs_renamed f kind (Some a) = refl
 
-asks_renamed : (f : Stamp → Stamp) (kind : Kind) (h : History ℕ) → asks_separator kind (renamed_by f h) ≡ asks_separator kind h
+asks_renamed : (f : Stamp → Stamp) (kind : Kind) (h : UndoHistory ℕ) → asks_separator kind (renamed_by f h) ≡ asks_separator kind h
 asks_renamed f kind h =
     ap (λ o. is_replace kind || differs_from kind o) (last_map (restamped {T = ℕ} f) h.current)
     ∙ ap (λ b. is_replace kind || b) (differs_renamed f kind (last h.current))
 
-begun_renamed : (f : Stamp → Stamp) (b : Bool) (h : History ℕ) → renamed_by f (if b then separated h else h) ≡ (if b then separated (renamed_by f h) else renamed_by f h)
+begun_renamed : (f : Stamp → Stamp) (b : Bool) (h : UndoHistory ℕ) → renamed_by f (if b then separated h else h) ≡ (if b then separated (renamed_by f h) else renamed_by f h)
 begun_renamed f true h = separated_renamed f h
 begun_renamed f false h = refl
 
 -- an action is recorded, with automatic separators or without
-abbrev pub recorded_with : Bool → Action ℕ → History ℕ → History ℕ
+abbrev pub recorded_with : Bool → Action ℕ → UndoHistory ℕ → UndoHistory ℕ
 recorded_with auto a h = recorded a (if auto && asks_separator a.kind h then separated h else h)
 
-pub recorded_with_renamed : (f : Stamp → Stamp) (auto : Bool) (a : Action ℕ) (h : History ℕ) → restamped f a ≡ a
+pub recorded_with_renamed : (f : Stamp → Stamp) (auto : Bool) (a : Action ℕ) (h : UndoHistory ℕ) → restamped f a ≡ a
     → renamed_by f (recorded_with auto a h) ≡ recorded_with auto a (renamed_by f h)
 recorded_with_renamed f auto a h still =
     recorded_renamed f a (if auto && asks_separator a.kind h then separated h else h) still
@@ -183,7 +183,7 @@ numbers_kept (g ∷ groups) current =
     ∙ sym (append_assoc (numbers_of g.items) (numbers_of_groups groups) (numbers_of current))
 
 -- the numbers of what can be undone, as they are kept
-pub numbers_are : (f : Stamp → Stamp) (groups : List (Vec KeptAction Global)) (current : List KeptAction) (h : History ℕ)
+pub numbers_are : (f : Stamp → Stamp) (groups : List (Vec KeptAction Global)) (current : List KeptAction) (h : UndoHistory ℕ)
     → numbers (renamed_by f (record h { closed = groups_of groups; current = group_of current })) ≡ numbers_of_groups groups ++ numbers_of current
 numbers_are f groups current h =
     ap (λ l. numbers_in l) (to_undo_renamed f (record h { closed = groups_of groups; current = group_of current }))
@@ -196,7 +196,7 @@ numbers_closed (g ∷ groups) = λ i. numbers_kept_group g.items i ++ numbers_cl
 
 -- A LIST THAT BEGINS WITH NUMBERS
 
-some_of : (a b : List ℕ) → Some a ≡ Some b → a ≡ b
+pub some_of : (a b : List ℕ) → Some a ≡ Some b → a ≡ b
 some_of a b e = cc
 
 abbrev pub is_empty : List ℕ → Bool
@@ -249,30 +249,12 @@ empty_drop n xs l = empty_length (drop n xs) ∙ ap (λ k. nat_eq k 0) (length-d
 pub groups_more : (groups : List (Vec KeptAction Global)) (group : Vec KeptAction Global) → groups_of (groups ++ group ∷ []) ≡ groups_of groups ++ group_of group.items ∷ []
 groups_more groups group = map-append (λ g. group_of g.items) groups (group ∷ [])
 
-group_here : (groups : List (Vec KeptAction Global)) (i : ℕ) (group : Vec KeptAction Global) → i < length groups → group ≡ get_or groups i group
-    → drop i groups ≡ group ∷ drop (i + 1) groups
-group_here groups i group l is = drop-cons groups i group l ∙ (λ j. sym is j ∷ drop (sym (add-one i) j) groups)
-
-pub groups_step : (groups : List (Vec KeptAction Global)) (i : ℕ) (group : Vec KeptAction Global) (from to : List ℕ) → i < length groups → group ≡ get_or groups i group
-    → rest_after (numbers_of group.items) from ≡ Some to
-    → rest_after (numbers_of_groups (drop (i + 1) groups)) to ≡ rest_after (numbers_of_groups (drop i groups)) from
-groups_step groups i group from to l is e =
-    sym (ap (λ gs. rest_after (numbers_of_groups gs) from) (group_here groups i group l is)
-    ∙ rest_then (numbers_of group.items) (numbers_of_groups (drop (i + 1) groups)) from to e)
-
-pub groups_none : (groups : List (Vec KeptAction Global)) (i : ℕ) (group : Vec KeptAction Global) (from : List ℕ) → i < length groups → group ≡ get_or groups i group
-    → rest_after (numbers_of group.items) from ≡ None
-    → rest_after (numbers_of_groups (drop i groups)) from ≡ None
-groups_none groups i group from l is e =
-    ap (λ gs. rest_after (numbers_of_groups gs) from) (group_here groups i group l is)
-    ∙ rest_none (numbers_of group.items) (numbers_of_groups (drop (i + 1) groups)) from e
-
 -- UNDO AND REDO
 
-pub undo_is : (f : Stamp → Stamp) (h : History ℕ) (group : List (Action ℕ)) → last (to_undo h) ≡ Some group → next_undo (renamed_by f h) ≡ Some (with_stamps_in f group)
+pub undo_is : (f : Stamp → Stamp) (h : UndoHistory ℕ) (group : List (Action ℕ)) → last (to_undo h) ≡ Some group → next_undo (renamed_by f h) ≡ Some (with_stamps_in f group)
 undo_is f h group e = ap (λ l. last l) (to_undo_renamed f h) ∙ last_map (with_stamps_in {T = ℕ} f) (to_undo h) ∙ ap (option_map (with_stamps_in {T = ℕ} f)) e
 
-pub redo_is : (f : Stamp → Stamp) (h : History ℕ) (group : List (Action ℕ)) → last (h.undone ++ []) ≡ Some group → next_redo (renamed_by f h) ≡ Some (with_stamps_in f group)
+pub redo_is : (f : Stamp → Stamp) (h : UndoHistory ℕ) (group : List (Action ℕ)) → last (h.undone ++ []) ≡ Some group → next_redo (renamed_by f h) ≡ Some (with_stamps_in f group)
 redo_is f h group e =
     last_map (with_stamps_in {T = ℕ} f) h.undone ∙ ap (option_map (with_stamps_in {T = ℕ} f)) (ap (λ l. last l) (sym (append-nil h.undone)) ∙ e)
 

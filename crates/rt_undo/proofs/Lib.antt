@@ -3,3 +3,4 @@ pub mod Copying
 pub mod Histories
 pub mod Still
 pub mod Dropping
+pub mod Told

@@ -4,5 +4,5 @@ use Rattle.rt_stamps.specs.declared.stamp.Span.{Span}
 use Rattle.rt_stamps.specs.declared.stamp.Stamp.{Stamp}
 
 -- the stamp of the count after a span's last
-abbrev pub is_next : Span → Stamp → Bool
-is_next span stamp = nat_le span.first span.last && ((stamp.site == span.site) && (stamp.count == span.last + 1))
+abbrev pub is_behind_span : Span → Stamp → Bool
+is_behind_span span stamp = nat_le span.first span.last && ((stamp.site == span.site) && (stamp.count == span.last + 1))

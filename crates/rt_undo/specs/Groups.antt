@@ -6,15 +6,15 @@ use Rattle.std.specs.declared.alloc.Global.{Global}
 use Rattle.rt_undo.specs.declared.action.Action.{Action as KeptAction}
 use Rattle.rt_undo.specs.declared.renames.Move.{Move}
 use Rattle.rt_undo.specs.Actions.{Action, group_of}
-use Rattle.rt_undo.specs.Renames.{Shown, is_moved}
+use Rattle.rt_undo.specs.Renames.{SpanMapValue, is_moved}
 
 -- the action names no character that came back under another stamp
-pub record IsStill (moves : Shown Move) (action : Action ℕ) : Type 0 where
+pub record IsStill (moves : SpanMapValue Move) (action : Action ℕ) : Type 0 where
   pub inserted : AllByRecursion (λ s. is_moved moves s ≡ false) action.inserted
   pub removed : AllByRecursion (λ r. is_moved moves r.stamp ≡ false) action.removed
 
 -- no action of a group does
-abbrev pub NoneMoves : Shown Move → List (Action ℕ) → Type 0
+abbrev pub NoneMoves : SpanMapValue Move → List (Action ℕ) → Type 0
 NoneMoves moves group = AllByRecursion (IsStill moves) group
 
 -- groups as they are kept

@@ -5,7 +5,7 @@ ghost use Rattle.rt_undo.specs.Actions.{action_of, group_of, removed_in, removed
 ghost use Rattle.rt_undo.specs.Groups.{NoneMoves};
 ghost use Rattle.rt_undo.specs.Renames.{now_of};
 ghost use Rattle.rt_undo.specs.Undo.{with_stamps_in};
-ghost use Rattle.rt_undo.specs.Copies.{is_next};
+ghost use Rattle.rt_undo.specs.Copies.{is_behind_span};
 
 use crate::action::{Action, RemovedSpan};
 use crate::renames::Renames;
@@ -15,7 +15,7 @@ use std::alloc::Global;
 
 // Whether a stamp is that of the count after a span's last.
 fn is_next(span: Span, stamp: Stamp) -> bool
-    ensures { result ≡ is_next span stamp }
+    ensures { result ≡ is_behind_span span stamp }
 {
     span.first <= span.last
         && stamp.site == span.site

@@ -1,6 +1,6 @@
 // Worked examples of the definitions, each a clause that computes.
 ghost use Rattle.std.specs.Prelude.{◌≡◌, ℕ, [], ◌∷◌, true, false, None, Some};
-ghost use Rattle.rt_undo.specs.Examples.{at, at_first, both_undone, cut, last_undone, lowered, one_at_most, swapped, two_typed, typed, typed_and_cut, undone_after, untyped};
+ghost use Rattle.rt_undo.specs.Examples.{at_count, nothing_done, both_undone, cut, last_undone, lowered_to_one, one_at_most, swapped, two_typed, typed, typed_and_cut, undone_after, untyped};
 ghost use Rattle.rt_undo.specs.Undo.{with_action, renamed_span, emptied, forced_on, is_modified, next_redo, next_undo, no_history, redo_done, separated, to_undo, undo_done, unmodified, with_most};
 
 /// What is typed in one go is one group. Of two separators the second changes nothing. With automatic
@@ -20,8 +20,8 @@ pub fn groups()
 /// undone, its reverted actions are redone next, and the next action begins a group, which can't be
 /// joined to an older one, and takes the redo stack away.
 pub fn undo_and_redo()
-    ensures none { next_undo at_first ≡ None }
-    ensures nor_redo { next_redo at_first ≡ None }
+    ensures none { next_undo nothing_done ≡ None }
+    ensures nor_redo { next_redo nothing_done ≡ None }
     ensures one { next_undo (with_action true (typed 1) no_history) ≡ Some (typed 1 ∷ []) }
     ensures last { next_undo typed_and_cut ≡ Some (cut 2 1 ∷ []) }
     ensures undone { next_undo (undo_done (typed 3 ∷ []) typed_and_cut) ≡ Some (typed 1 ∷ []) }
@@ -36,7 +36,7 @@ pub fn undo_and_redo()
 /// what it was; another action in the place of the one that was undone doesn't, though there are as many.
 /// Where both stacks are emptied the flag stays.
 pub fn modified_flag()
-    ensures new { is_modified at_first ≡ false }
+    ensures new { is_modified nothing_done ≡ false }
     ensures action { is_modified two_typed ≡ true }
     ensures unmodified { is_modified (unmodified two_typed) ≡ false }
     ensures undone { is_modified undone_after ≡ true }
@@ -65,10 +65,10 @@ pub fn most_groups()
 /// another group is undone, and unmodified when that is redone. A text that isn't what it was when it was
 /// said to be unmodified is modified when a group is dropped, and unmodified once what is missing is redone.
 pub fn flag_after_dropping()
-    ensures unmodified { is_modified lowered ≡ false }
-    ensures action { is_modified (with_action true (typed 3) lowered) ≡ true }
-    ensures undone { is_modified (undo_done (typed 3 ∷ []) lowered) ≡ true }
-    ensures redone { is_modified (redo_done (cut 2 3 ∷ []) (undo_done (typed 3 ∷ []) lowered)) ≡ false }
+    ensures unmodified { is_modified lowered_to_one ≡ false }
+    ensures action { is_modified (with_action true (typed 3) lowered_to_one) ≡ true }
+    ensures undone { is_modified (undo_done (typed 3 ∷ []) lowered_to_one) ≡ true }
+    ensures redone { is_modified (redo_done (cut 2 3 ∷ []) (undo_done (typed 3 ∷ []) lowered_to_one)) ≡ false }
     ensures fewer { to_undo (with_most 1 last_undone) ≡ (typed 2 ∷ []) ∷ [] }
     ensures modified { is_modified (with_most 1 last_undone) ≡ true }
     ensures as_it_was { is_modified (redo_done (typed 3 ∷ []) (with_most 1 last_undone)) ≡ false }
@@ -77,8 +77,8 @@ pub fn flag_after_dropping()
 /// A character is typed and removed. The removal is undone, so the character comes back under another
 /// stamp: that stands in both groups, and the insertion can be undone too.
 pub fn characters_that_come_back()
-    ensures below { next_undo (undo_done (typed 3 ∷ []) (renamed_span (record { site = 1; first = 1; last = 1 }) (at 3) typed_and_cut))
+    ensures below { next_undo (undo_done (typed 3 ∷ []) (renamed_span (record { site = 1; first = 1; last = 1 }) (at_count 3) typed_and_cut))
         ≡ Some (record (typed 3) { number = 1 } ∷ []) }
-    ensures in_hand { next_undo (renamed_span (record { site = 1; first = 1; last = 1 }) (at 3) typed_and_cut) ≡ Some (cut 2 3 ∷ []) }
-    ensures others { renamed_span (record { site = 2; first = 1; last = 9 }) (at 3) typed_and_cut ≡ typed_and_cut }
+    ensures in_hand { next_undo (renamed_span (record { site = 1; first = 1; last = 1 }) (at_count 3) typed_and_cut) ≡ Some (cut 2 3 ∷ []) }
+    ensures others { renamed_span (record { site = 2; first = 1; last = 9 }) (at_count 3) typed_and_cut ≡ typed_and_cut }
 {}

@@ -1,7 +1,8 @@
 // By what the modified flag is told.
-ghost use Rattle.std.specs.Prelude.{◌≡◌, ℕ, ◌≤◌, ◌||◌, ◌++◌, [], false, true, not, length, drop, option_map, unwrap_or, is_some, IfSome, IsOkUnless, IfOk, OnErr, OnOk};
+ghost use Rattle.std.specs.Prelude.{◌≡◌, ℕ, ◌≤◌, ◌||◌, ◌++◌, [], ◌∷◌, false, true, not, length, drop, option_map, unwrap_or, is_some, IfSome, IsOkUnless, IfOk, OnErr, OnOk};
+ghost use Rattle.rt_undo.specs.Flag.{IsTold};
 ghost use Rattle.rt_undo.specs.Groups.{numbers_of, numbers_of_groups};
-ghost use Rattle.rt_undo.specs.Undo.{rest_after, same_numbers};
+ghost use Rattle.rt_undo.specs.Undo.{but_last, rest_after, same_numbers};
 
 use crate::action::Action;
 use rt_stamps::Fault;
@@ -10,13 +11,20 @@ use std::collections::VecDeque;
 use std::marker::Model;
 
 /// By what the modified flag is told: whether it was forced, and the numbers of the actions that could
-/// be undone at the last `set_modified(false)`, without those of groups that were dropped since.
+/// be undone at the last `set_modified(false)`, without those of groups that were dropped since. It is told
+/// of each group and action that comes or goes, so that to ask it looks at none.
 #[derive(Drop)]
 pub(crate) struct Flag {
     // The numbers as they were then.
     numbers: Vec<u64>,
     // So many of the first are those of dropped groups.
     passed: usize,
+    // The numbers behind these are those of so many of the first groups that can be undone, and where
+    // these are all of them, of so many actions behind them.
+    groups: usize,
+    actions: usize,
+    // The place behind the numbers of these.
+    place: usize,
     forced: bool,
 }
 
@@ -25,11 +33,11 @@ impl Model for Flag {
 
     ghost Value = { ModifiedFlag };
 
-    ghost use Rattle.rt_undo.specs.Flag.{flag_shown, IsWithin};
+    ghost use Rattle.rt_undo.specs.Flag.{flag_shown, PassedIsWithin};
 
     ghost view = { flag_shown };
 
-    ghost invariant = { IsWithin };
+    ghost invariant = { PassedIsWithin };
 }
 
 // Adds the numbers of actions. Want of memory, and then the list is as it was.
@@ -73,6 +81,18 @@ pub(crate) fn numbers_now(
     Ok(numbers)
 }
 
+// The place behind a number, where it stands in a list at a place.
+fn place_behind(number: u64, kept: &[u64], place: usize) -> Option<usize>
+    requires { place ≤ length kept.now }
+    ensures rest { option_map (λ p. drop p kept.now) result ≡ rest_after (number ∷ []) (drop place kept.now) }
+    ensures within { IfSome result (λ p. p ≤ length kept.now) }
+{
+    if place == kept.len() || kept[place] != number {
+        return None;
+    }
+    Some(place + 1)
+}
+
 // The place behind the numbers of actions, where they stand in a list from a place on.
 fn place_after(actions: &[Action], kept: &[u64], place: usize) -> Option<usize>
     requires { place ≤ length kept.now }
@@ -81,23 +101,7 @@ fn place_after(actions: &[Action], kept: &[u64], place: usize) -> Option<usize>
 {
     let mut after = place;
     for action in actions {
-        if after == kept.len() || kept[after] != action.number {
-            return None;
-        }
-        after += 1;
-    }
-    Some(after)
-}
-
-// The place behind the numbers of the actions of groups, where they stand in a list from a place on.
-fn place_after_groups(groups: &[Vec<Action>], kept: &[u64], place: usize) -> Option<usize>
-    requires { place ≤ length kept.now }
-    ensures rest { option_map (λ p. drop p kept.now) result ≡ rest_after (numbers_of_groups groups.now) (drop place kept.now) }
-    ensures within { IfSome result (λ p. p ≤ length kept.now) }
-{
-    let mut after = place;
-    for group in groups {
-        match place_after(group, kept, after) {
+        match place_behind(action.number, kept, after) {
             Some(next) => after = next,
             None => return None,
         }
@@ -105,79 +109,156 @@ fn place_after_groups(groups: &[Vec<Action>], kept: &[u64], place: usize) -> Opt
     Some(after)
 }
 
-// Whether a list is from a place on that of the numbers of groups and of actions behind them.
-fn are_numbers(
-    closed: &VecDeque<Vec<Action>>,
-    current: &[Action],
-    kept: &[u64],
-    place: usize,
-) -> bool
-    requires { place ≤ length kept.now }
-    ensures { result ≡ same_numbers (numbers_of_groups closed.now.items ++ numbers_of current.now) (drop place kept.now) }
-{
-    let (older, newer) = closed.as_slices();
-    let Some(middle) = place_after_groups(older, kept, place) else {
-        return false;
-    };
-    let Some(last) = place_after_groups(newer, kept, middle) else {
-        return false;
-    };
-    match place_after(current, kept, last) {
-        Some(end) => end == kept.len(),
-        None => false,
-    }
-}
-
 impl Flag {
-    /// A flag that is told by no numbers. It takes no memory.
+    /// A flag that is told by no numbers, where nothing can be undone. It takes no memory.
     pub(crate) fn new(alloc: Global, forced: bool) -> Flag
         ensures kept { result.kept ≡ [] }
         ensures forced { result.forced ≡ forced }
+        ensures told { IsTold result [] [] }
     {
         Flag {
             numbers: Vec::new(alloc),
             passed: 0,
+            groups: 0,
+            actions: 0,
+            place: 0,
             forced,
         }
     }
 
-    /// Whether it is on, as groups stand on the undo stack and actions behind them.
+    // Whether the kept numbers are those of the groups and of the actions behind them.
+    fn is_same(&self, closed: &VecDeque<Vec<Action>>, current: &[Action]) -> bool
+        requires told { IsTold self.now closed.now.items current.now }
+        requires not_forced { self.now.forced ≡ false }
+        ensures { result ≡ same_numbers (numbers_of_groups closed.now.items ++ numbers_of current.now) self.now.kept }
+    {
+        if self.groups < closed.len() {
+            return false;
+        }
+        self.actions == current.len() && self.place == self.numbers.len()
+    }
+
+    /// Whether it is on, as groups stand on the undo stack and actions behind them: none of them is looked at.
     pub(crate) fn is_on(&self, closed: &VecDeque<Vec<Action>>, current: &[Action]) -> bool
+        requires { IsTold self.now closed.now.items current.now }
         ensures { result ≡ (self.now.forced || not (same_numbers (numbers_of_groups closed.now.items ++ numbers_of current.now) self.now.kept)) }
     {
-        self.forced || !are_numbers(closed, current, &self.numbers, self.passed)
+        if self.forced {
+            return true;
+        }
+        !self.is_same(closed, current)
     }
 
     /// Forces it. It takes no memory.
     pub(crate) fn force(&mut self)
-        ensures kept { self.new.kept ≡ self.old.kept }
-        ensures forced { self.new.forced ≡ true }
+        ensures { self.new ≡ record self.old { forced = true } }
     {
         self.forced = true;
     }
 
     /// Takes it away, as these are the numbers of the actions that can be undone. It takes no memory.
-    pub(crate) fn clear(&mut self, numbers: Vec<u64>)
+    pub(crate) fn clear(
+        &mut self,
+        numbers: Vec<u64>,
+        closed: &VecDeque<Vec<Action>>,
+        current: &[Action],
+    )
+        requires { numbers.items ≡ numbers_of_groups closed.now.items ++ numbers_of current.now }
         ensures kept { self.new.kept ≡ numbers.items }
         ensures forced { self.new.forced ≡ false }
+        ensures told { IsTold self.new closed.now.items current.now }
     {
+        self.place = numbers.len();
         self.numbers = numbers;
         self.passed = 0;
+        self.groups = closed.len();
+        self.actions = current.len();
         self.forced = false;
     }
 
-    /// The oldest actions that could be undone are dropped: their numbers leave those that are kept where these begin
-    /// with them, and else the flag is forced. It takes no memory.
-    pub(crate) fn pass(&mut self, dropped: &[Action])
-        ensures kept { self.new.kept ≡ unwrap_or (rest_after (numbers_of dropped.now) self.old.kept) [] }
-        ensures forced { self.new.forced ≡ (self.old.forced || not (is_some (rest_after (numbers_of dropped.now) self.old.kept))) }
+    /// An action is put behind the others.
+    pub(crate) fn tell_action(
+        &mut self,
+        closed: &VecDeque<Vec<Action>>,
+        current: &[Action],
+        action: &Action,
+    )
+        requires { IsTold self.old closed.now.items current.now }
+        ensures kept { (self.new.kept ≡ self.old.kept) × (self.new.forced ≡ self.old.forced) }
+        ensures told { IsTold self.new closed.now.items (current.now ++ action.now ∷ []) }
     {
-        match place_after(dropped, &self.numbers, self.passed) {
-            Some(place) => self.passed = place,
-            None => {
-                self.passed = self.numbers.len();
-                self.forced = true;
-            }
+        if self.groups < closed.len() {
+            return;
+        }
+        if self.actions < current.len() {
+            return;
+        }
+        if let Some(place) = place_behind(action.number, &self.numbers, self.place) {
+            self.place = place;
+            self.actions += 1;
+        }
+    }
+
+    /// The actions behind the groups go, or are going to be a group.
+    pub(crate) fn tell_none(&mut self, closed: &VecDeque<Vec<Action>>, current: &[Action])
+        requires { IsTold self.old closed.now.items current.now }
+        ensures kept { (self.new.kept ≡ self.old.kept) × (self.new.forced ≡ self.old.forced) }
+        ensures told { IsTold self.new closed.now.items [] }
+    {
+        self.place -= self.actions;
+        self.actions = 0;
+    }
+
+    /// A group is put behind the others.
+    pub(crate) fn tell_group(&mut self, closed: &VecDeque<Vec<Action>>, group: &Vec<Action>)
+        requires { IsTold self.old closed.now.items [] }
+        ensures kept { (self.new.kept ≡ self.old.kept) × (self.new.forced ≡ self.old.forced) }
+        ensures told { IsTold self.new (closed.now.items ++ group.now ∷ []) [] }
+    {
+        if self.groups < closed.len() {
+            return;
+        }
+        if let Some(place) = place_after(group, &self.numbers, self.place) {
+            self.place = place;
+            self.groups += 1;
+        }
+    }
+
+    /// The last group goes, if there are any.
+    pub(crate) fn tell_last(&mut self, closed: &VecDeque<Vec<Action>>)
+        requires { IsTold self.old closed.now.items [] }
+        ensures kept { (self.new.kept ≡ self.old.kept) × (self.new.forced ≡ self.old.forced) }
+        ensures told { IsTold self.new (but_last closed.now.items) [] }
+    {
+        if self.groups < closed.len() {
+            return;
+        }
+        if let Some(group) = closed.back() {
+            self.place -= group.len();
+            self.groups -= 1;
+        }
+    }
+
+    /// The oldest group is dropped, and these are left: its numbers leave those that are kept where these begin
+    /// with them, and else the flag is forced. It takes no memory.
+    pub(crate) fn pass(
+        &mut self,
+        dropped: &Vec<Action>,
+        closed: &VecDeque<Vec<Action>>,
+        current: &[Action],
+    )
+        requires { IsTold self.old (dropped.now ∷ closed.now.items) current.now }
+        ensures kept { self.new.kept ≡ unwrap_or (rest_after (numbers_of dropped.now.items) self.old.kept) [] }
+        ensures forced { self.new.forced ≡ (self.old.forced || not (is_some (rest_after (numbers_of dropped.now.items) self.old.kept))) }
+        ensures told { IsTold self.new closed.now.items current.now }
+    {
+        if self.groups > 0 {
+            self.groups -= 1;
+            self.passed += dropped.len();
+        } else {
+            self.passed = self.numbers.len();
+            self.place = self.numbers.len();
+            self.forced = true;
         }
     }
 }

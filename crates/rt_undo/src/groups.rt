@@ -2,6 +2,7 @@
 ghost use Rattle.std.specs.Prelude.{◌≡◌, ℕ, ◌+◌, ◌-◌, ◌<◌, ◌≤◌, ◌||◌, ◌==◌, [], ◌∷◌, ◌++◌, not, length, drop, take, option_copied, option_map, unwrap_or, is_some, if◌then◌else◌, vec_len, vec_capacity};
 ghost use Rattle.std.specs.VecDeque.{deque_len, deque_capacity};
 ghost use Rattle.rt_undo.specs.Actions.{group_of, is_replace};
+ghost use Rattle.rt_undo.specs.Flag.{IsTold};
 ghost use Rattle.rt_undo.specs.Groups.{groups_of, numbers_of_groups};
 ghost use Rattle.rt_undo.specs.Undo.{as_group, but_last, differs_from, last, rest_after};
 
@@ -36,21 +37,28 @@ pub(crate) fn close(
     closed: &mut VecDeque<Vec<Action>>,
     current: &mut Vec<Action>,
     next: Vec<Action>,
+    flag: &mut Flag,
 )
-    requires { 0 < vec_len current.old → deque_len closed.old < deque_capacity closed.old }
+    requires room { 0 < vec_len current.old → deque_len closed.old < deque_capacity closed.old }
+    requires told { IsTold flag.old closed.old.items current.old.items }
     ensures groups { groups_of closed.new.items ≡ groups_of closed.old.items ++ as_group (group_of current.old.items) }
     ensures next { current.new ≡ next }
+    ensures told { IsTold flag.new closed.new.items [] }
+    ensures kept { (flag.new.kept ≡ flag.old.kept) × (flag.new.forced ≡ flag.old.forced) }
     ensures len { deque_len closed.new ≤ deque_len closed.old + 1 }
     ensures capacity { deque_capacity closed.new ≡ deque_capacity closed.old }
 {
+    flag.tell_none(closed, current);
     let group = mem::replace(current, next);
     if !group.is_empty() {
+        flag.tell_group(closed, &group);
         push_group(closed, group);
     }
 }
 
 /// The last of groups is taken away, if there are any.
 pub(crate) fn drop_group(groups: &mut VecDeque<Vec<Action>>)
+    ensures items { groups.new.items ≡ but_last groups.old.items }
     ensures groups { groups_of groups.new.items ≡ but_last (groups_of groups.old.items) }
     ensures capacity { deque_capacity groups.new ≡ deque_capacity groups.old }
 {
@@ -58,11 +66,20 @@ pub(crate) fn drop_group(groups: &mut VecDeque<Vec<Action>>)
 }
 
 /// The last group is taken away: the current one, or if that is empty the last closed one.
-pub(crate) fn drop_last(closed: &mut VecDeque<Vec<Action>>, current: &mut Vec<Action>)
+pub(crate) fn drop_last(
+    closed: &mut VecDeque<Vec<Action>>,
+    current: &mut Vec<Action>,
+    flag: &mut Flag,
+)
+    requires { IsTold flag.old closed.old.items current.old.items }
     ensures groups { groups_of closed.new.items ≡ but_last (groups_of closed.old.items ++ as_group (group_of current.old.items)) }
     ensures empty { current.new.items ≡ [] }
+    ensures told { IsTold flag.new closed.new.items [] }
+    ensures kept { (flag.new.kept ≡ flag.old.kept) × (flag.new.forced ≡ flag.old.forced) }
 {
+    flag.tell_none(closed, current);
     if current.is_empty() {
+        flag.tell_last(closed);
         drop_group(closed);
     } else {
         current.clear();
@@ -86,17 +103,24 @@ pub(crate) fn too_many(closed: &VecDeque<Vec<Action>>, current: &[Action], most:
 }
 
 /// The oldest groups are dropped, and their numbers leave those that are kept. It takes no memory.
-pub(crate) fn drop_oldest(closed: &mut VecDeque<Vec<Action>>, flag: &mut Flag, n: usize)
-    requires { n ≤ deque_len closed.old }
+pub(crate) fn drop_oldest(
+    closed: &mut VecDeque<Vec<Action>>,
+    current: &[Action],
+    flag: &mut Flag,
+    n: usize,
+)
+    requires within { n ≤ deque_len closed.old }
+    requires told { IsTold flag.old closed.old.items current.now }
     ensures closed { closed.new.items ≡ drop n closed.old.items }
     ensures kept { flag.new.kept ≡ unwrap_or (rest_after (numbers_of_groups (take n closed.old.items)) flag.old.kept) [] }
     ensures forced { flag.new.forced ≡ (flag.old.forced || not (is_some (rest_after (numbers_of_groups (take n closed.old.items)) flag.old.kept))) }
+    ensures told { IsTold flag.new closed.new.items current.now }
     ensures len { deque_len closed.new ≤ deque_len closed.old }
     ensures capacity { deque_capacity closed.new ≡ deque_capacity closed.old }
 {
     for _ in 0..n {
         if let Some(group) = closed.pop_front() {
-            flag.pass(&group);
+            flag.pass(&group, closed, current);
         }
     }
 }

@@ -40,9 +40,9 @@ pub struct Renames {
 
 impl Model for Renames {
     ghost use Rattle.rt_undo.specs.declared.renames.Move.{Move};
-    ghost use Rattle.rt_spans.specs.Shown.{Shown};
+    ghost use Rattle.rt_spans.specs.Shown.{SpanMapValue};
 
-    ghost Value = { Shown Move };
+    ghost Value = { SpanMapValue Move };
 
     ghost use Rattle.rt_undo.specs.Renames.{AllLeadOn};
 

@@ -27,7 +27,7 @@ use std::mem;
 /// Actions are kept by spans, as they were recorded. Where a character came back under another stamp
 /// is kept once beside them, for all groups, so `replaced` costs about a logarithm of the spans that
 /// came back, however much stands on the stacks; `undo` and `redo` look up each character of their
-/// group. `modified` goes through the numbers of all actions that can be undone. A group that is dropped
+/// group. `modified` looks at no action: the flag is told of each that comes or goes. A group that is dropped
 /// costs its own actions, however many groups stand there.
 pub struct Stacks {
     alloc: Global,
@@ -70,11 +70,11 @@ impl Model for Stacks {
 
     ghost Value = { UndoStacks };
 
-    ghost use Rattle.rt_undo.specs.Seen.{IsKept, shown};
+    ghost use Rattle.rt_undo.specs.Seen.{AreStacks, stacks_value};
 
-    ghost view = { shown };
+    ghost view = { stacks_value };
 
-    ghost invariant = { IsKept };
+    ghost invariant = { AreStacks };
 }
 
 impl Stacks {
@@ -132,8 +132,9 @@ impl Stacks {
         self.ready = false;
         if auto_separators && asks_separator(&self.current, action.kind) {
             let next = mem::replace(&mut self.spare, Vec::new(self.alloc));
-            close(&mut self.closed, &mut self.current, next);
+            close(&mut self.closed, &mut self.current, next, &mut self.flag);
         }
+        self.flag.tell_action(&self.closed, &self.current, &action);
         push_action(&mut self.current, action);
         self.undone.clear();
         self.limit();
@@ -147,7 +148,8 @@ impl Stacks {
         ensures used { self.new.ready ≡ false }
     {
         self.ready = false;
-        close(&mut self.closed, &mut self.current, Vec::new(self.alloc));
+        let next = Vec::new(self.alloc);
+        close(&mut self.closed, &mut self.current, next, &mut self.flag);
     }
 
     // Drops the oldest groups, as many as there are too many. It takes no memory.
@@ -156,7 +158,7 @@ impl Stacks {
         ensures others { (self.new.moves ≡ self.old.moves) × (self.new.ready ≡ self.old.ready) }
     {
         let n = too_many(&self.closed, &self.current, self.most);
-        drop_oldest(&mut self.closed, &mut self.flag, n);
+        drop_oldest(&mut self.closed, &self.current, &mut self.flag, n);
     }
 
     /// The most groups that may be on the undo stack, the one that takes the next action among them; 0: any number
@@ -231,7 +233,7 @@ impl Stacks {
         ensures used { self.new.ready ≡ false }
     {
         self.ready = false;
-        drop_last(&mut self.closed, &mut self.current);
+        drop_last(&mut self.closed, &mut self.current, &mut self.flag);
         push_group(&mut self.undone, reverted);
     }
 
@@ -248,7 +250,9 @@ impl Stacks {
     {
         self.ready = false;
         drop_group(&mut self.undone);
-        close(&mut self.closed, &mut self.current, Vec::new(self.alloc));
+        let next = Vec::new(self.alloc);
+        close(&mut self.closed, &mut self.current, next, &mut self.flag);
+        self.flag.tell_group(&self.closed, &reverted);
         push_group(&mut self.closed, reverted);
         self.limit();
     }
@@ -322,8 +326,8 @@ impl Stacks {
             self.force();
             return Ok(());
         }
-        self.flag
-            .clear(numbers_now(self.alloc, &self.closed, &self.current)?);
+        let numbers = numbers_now(self.alloc, &self.closed, &self.current)?;
+        self.flag.clear(numbers, &self.closed, &self.current);
         Ok(())
     }
 

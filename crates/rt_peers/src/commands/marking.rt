@@ -1,10 +1,10 @@
 // What is asked of marks.
-ghost use Rattle.std.specs.Prelude.{◌≡◌, Err, option_copied, true, IfErr, IfOk, IsOkUnless};
+ghost use Rattle.std.specs.Prelude.{◌≡◌, option_copied, true, IfOk, IsOkUnless};
 ghost use Rattle.rt_stamps.specs.Outcomes.{Answers};
 ghost use Rattle.rt_marks.specs.Marks.{gravity_word};
 ghost use Rattle.rt_requests.specs.Parts.{all_of};
 ghost use Rattle.rt_tagcmd.specs.MarkCommands.{mark_set, mark_unset, mark_gravity, mark_gravity_set, mark_names, mark_next, mark_previous};
-ghost use Rattle.rt_peers.specs.TakesNone.{mark_takes_none};
+ghost use Rattle.rt_peers.specs.TakesNone.{IsRefusedAs, mark_takes_none};
 ghost use Rattle.rt_peers.specs.ViewStep.{changed_step, mark_step, one_word, told_step, word_or_none};
 
 use crate::replies::{changed, no_words, one_word};
@@ -46,7 +46,7 @@ fn set_mark(
 // Takes marks away. It takes no memory.
 fn unset_marks(alloc: Global, view: &mut View<TreeStore>, names: &Words<'_>) -> Result<Reply, Fault>
     ensures answers { Answers (changed_step (mark_unset view.old (all_of names.now))) view.old result view.new }
-    ensures err { IfErr result (λ fault. changed_step (mark_unset view.old (all_of names.now)) ≡ Err fault) }
+    ensures err { IsRefusedAs (changed_step (mark_unset view.old (all_of names.now))) result }
 {
     let unset = mark_unset(view, names.all());
     changed(alloc, unset)
@@ -68,7 +68,7 @@ fn set_gravity(
     gravity: Gravity,
 ) -> Result<Reply, Fault>
     ensures answers { Answers (changed_step (mark_gravity_set view.old name.now gravity)) view.old result view.new }
-    ensures err { IfErr result (λ fault. changed_step (mark_gravity_set view.old name.now gravity) ≡ Err fault) }
+    ensures err { IsRefusedAs (changed_step (mark_gravity_set view.old name.now gravity)) result }
 {
     let set = set_mark_gravity(view, name.text(), gravity);
     changed(alloc, set)
@@ -109,7 +109,7 @@ pub(crate) fn mark(
     request: &MarkRequest<'_>,
 ) -> Result<Reply, Fault>
     ensures answers { Answers (mark_step view.old request.now) view.old result view.new }
-    ensures memory { mark_takes_none request.now ≡ true → IfErr result (λ fault. mark_step view.old request.now ≡ Err fault) }
+    ensures memory { mark_takes_none request.now ≡ true → IsRefusedAs (mark_step view.old request.now) result }
 {
     match request {
         MarkRequest::Set { name, index } => set_mark(alloc, view, name, index),

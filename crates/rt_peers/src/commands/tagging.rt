@@ -1,10 +1,10 @@
 // What is asked of tags.
-ghost use Rattle.std.specs.Prelude.{◌≡◌, Err, map, option_copied, true, IfErr, Ok};
+ghost use Rattle.std.specs.Prelude.{◌≡◌, map, option_copied, true, Ok};
 ghost use Rattle.rt_stamps.specs.Outcomes.{Answers};
 ghost use Rattle.rt_stamps.specs.Places.{text_of_position};
 ghost use Rattle.rt_requests.specs.Parts.{all_of};
 ghost use Rattle.rt_tagcmd.specs.TagCommands.{tag_added, tag_removed, tags_deleted, tag_raised, tag_lowered, tag_names, tag_names_at, tag_ranges, tag_nextrange, tag_prevrange};
-ghost use Rattle.rt_peers.specs.TakesNone.{tag_takes_none};
+ghost use Rattle.rt_peers.specs.TakesNone.{IsRefusedAs, tag_takes_none};
 ghost use Rattle.rt_peers.specs.ViewStep.{changed_step, tag_step, told_step};
 
 use crate::replies::{changed, positions_reply};
@@ -71,7 +71,7 @@ fn raise(
     above: &Option<Word<'_>>,
 ) -> Result<Reply, Fault>
     ensures answers { Answers (changed_step (tag_raised view.old name.now above.now)) view.old result view.new }
-    ensures err { IfErr result (λ fault. changed_step (tag_raised view.old name.now above.now) ≡ Err fault) }
+    ensures err { IsRefusedAs (changed_step (tag_raised view.old name.now above.now)) result }
 {
     let raised = tag_raise(view, name.text(), text_of(above));
     changed(alloc, raised)
@@ -85,7 +85,7 @@ fn lower(
     below: &Option<Word<'_>>,
 ) -> Result<Reply, Fault>
     ensures answers { Answers (changed_step (tag_lowered view.old name.now below.now)) view.old result view.new }
-    ensures err { IfErr result (λ fault. changed_step (tag_lowered view.old name.now below.now) ≡ Err fault) }
+    ensures err { IsRefusedAs (changed_step (tag_lowered view.old name.now below.now)) result }
 {
     let lowered = tag_lower(view, name.text(), text_of(below));
     changed(alloc, lowered)
@@ -150,7 +150,7 @@ pub(crate) fn tag(
     request: &TagRequest<'_>,
 ) -> Result<Reply, Fault>
     ensures answers { Answers (tag_step view.old request.now) view.old result view.new }
-    ensures memory { tag_takes_none request.now ≡ true → IfErr result (λ fault. tag_step view.old request.now ≡ Err fault) }
+    ensures memory { tag_takes_none request.now ≡ true → IsRefusedAs (tag_step view.old request.now) result }
 {
     match request {
         TagRequest::Add { name, indices } => add_tag(alloc, view, name, indices),

@@ -13,7 +13,7 @@ ghost use Rattle.rt_changes.specs.Replays.{AreInText, replayed};
 ghost use Rattle.rt_changes.specs.Telling.{all_changes_in};
 ghost use Rattle.rt_oplog.specs.Logs.{known_end};
 ghost use Rattle.rt_text.specs.Widgets.{limits_of};
-ghost use Rattle.rt_lines.specs.Ordered.{AreInOrder};
+ghost use Rattle.rt_lines.specs.Ordered.{LimitsAreInOrder};
 ghost use Rattle.rt_peers.specs.Exchange.{IsFileOf};
 ghost use Rattle.rt_peers.specs.Lacking.{known_in, past_known};
 ghost use Rattle.rt_peers.specs.SiteStep.{SiteReceives, log_of};
@@ -77,7 +77,7 @@ impl SiteState {
         ensures few { length self.now.text.view.doc.cells ≤ self.now.text.view.doc.limit }
         ensures count { self.now.text.view.doc.count ≡ greatest_last_count self.now.text.view.doc.log }
         ensures site { 0 < self.now.text.view.doc.site }
-        ensures limits { AllByRecursion (AreInOrder self.now.text.view.doc.cells) (limits_of self.now.text.view) }
+        ensures limits { AllByRecursion (LimitsAreInOrder self.now.text.view.doc.cells) (limits_of self.now.text.view) }
     {
         self.text.log()
     }

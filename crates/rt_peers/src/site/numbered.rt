@@ -1,11 +1,11 @@
 // What is asked of the widget of a number, so that no path is looked for.
-ghost use Rattle.std.specs.Prelude.{◌≡◌, ◌≤◌, Err, IfErr, IfSome, IsSome, length, true};
+ghost use Rattle.std.specs.Prelude.{◌≡◌, ◌≤◌, Err, IfSome, IsSome, length, true};
 ghost use Rattle.rt_requests.specs.declared.request.EditRequest.TheVariants.{Redo, Undo};
 ghost use Rattle.rt_requests.specs.declared.request.Request.TheVariants.{Edit};
 ghost use Rattle.rt_peers.specs.Numbered.{step_by, view_by};
 ghost use Rattle.rt_peers.specs.SiteStep.{AnswersInTurn, log_of};
 ghost use Rattle.rt_peers.specs.SiteValue.{number_of_path};
-ghost use Rattle.rt_peers.specs.TakesNone.{takes_none};
+ghost use Rattle.rt_peers.specs.TakesNone.{IsRefusedAs, takes_none};
 ghost use Rattle.rt_peers.specs.Telling.{AreToldOf};
 
 use super::SiteState;
@@ -45,7 +45,7 @@ impl SiteState {
     pub fn ask(&mut self, number: usize, request: &Request<'_>) -> Result<Reply, Fault>
         ensures answers { AnswersInTurn (step_by number self.old request.now) self.old result self.new }
         ensures none { length self.old.paths ≤ number → result ≡ Err Fault.NoWidget }
-        ensures memory { takes_none request.now ≡ true → IfErr result (λ fault. step_by number self.old request.now ≡ Err fault) }
+        ensures memory { takes_none request.now ≡ true → IsRefusedAs (step_by number self.old request.now) result }
     {
         if number >= self.paths.len() {
             return Err(Fault::NoWidget);
@@ -58,7 +58,7 @@ impl SiteState {
     pub fn ask_telling(&mut self, number: usize, request: &Request<'_>) -> ToldAnswer
         ensures answers { AnswersInTurn (step_by number self.old request.now) self.old result.reply self.new }
         ensures none { length self.old.paths ≤ number → result.reply ≡ Err Fault.NoWidget }
-        ensures memory { takes_none request.now ≡ true → IfErr result.reply (λ fault. step_by number self.old request.now ≡ Err fault) }
+        ensures memory { takes_none request.now ≡ true → IsRefusedAs (step_by number self.old request.now) result.reply }
         ensures told { IfSome result.changes (λ changes. AreToldOf self.old.text self.new.text changes.items) }
         ensures known { log_of self.new ≡ log_of self.old → IsSome result.changes }
     {

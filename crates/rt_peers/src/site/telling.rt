@@ -1,5 +1,5 @@
 // What is asked of a site's widgets, with what it changes in the visible text.
-ghost use Rattle.std.specs.Prelude.{◌≡◌, ◌<◌, Err, IfErr, IfSome, IsSome, None, length, true};
+ghost use Rattle.std.specs.Prelude.{◌≡◌, ◌<◌, Err, IfSome, IsSome, None, length, true};
 ghost use Rattle.rt_stamps.specs.Words.{as_words};
 ghost use Rattle.rt_rga.specs.Texts.{tagged_text};
 ghost use Rattle.rt_changes.specs.Replays.{AreInText, replayed};
@@ -7,7 +7,7 @@ ghost use Rattle.rt_changes.specs.Telling.{all_changes_in};
 ghost use Rattle.rt_peers.specs.SiteStep.{AnswersInTurn, Gives, by_widget, log_of, step_at, widget_step};
 ghost use Rattle.rt_peers.specs.SiteValue.{number_of_path};
 ghost use Rattle.rt_peers.specs.Step.{step};
-ghost use Rattle.rt_peers.specs.TakesNone.{takes_none};
+ghost use Rattle.rt_peers.specs.TakesNone.{IsRefusedAs, takes_none};
 ghost use Rattle.rt_peers.specs.Telling.{AreToldBetween, AreToldOf};
 
 use super::SiteState;
@@ -21,7 +21,7 @@ impl SiteState {
     pub(super) fn ask_text_telling(&mut self, number: usize, request: &Request<'_>) -> ToldAnswer
         requires { number < length self.old.paths }
         ensures answers { AnswersInTurn (by_widget number self.old (λ text. step text request.now)) self.old result.reply self.new }
-        ensures memory { takes_none request.now ≡ true → IfErr result.reply (λ fault. by_widget number self.old (λ text. step text request.now) ≡ Err fault) }
+        ensures memory { takes_none request.now ≡ true → IsRefusedAs (by_widget number self.old (λ text. step text request.now)) result.reply }
         ensures told { IfSome result.changes (λ changes. AreToldOf self.old.text self.new.text changes.items) }
         ensures known { log_of self.new ≡ log_of self.old → IsSome result.changes }
     {
@@ -41,7 +41,7 @@ impl SiteState {
     fn request_telling(&mut self, path: &str, number: usize, request: &Request<'_>) -> ToldAnswer
         requires { number < length self.old.paths }
         ensures answers { AnswersInTurn (widget_step path.now number self.old request.now) self.old result.reply self.new }
-        ensures memory { takes_none request.now ≡ true → IfErr result.reply (λ fault. widget_step path.now number self.old request.now ≡ Err fault) }
+        ensures memory { takes_none request.now ≡ true → IsRefusedAs (widget_step path.now number self.old request.now) result.reply }
         ensures told { IfSome result.changes (λ changes. AreToldOf self.old.text self.new.text changes.items) }
         ensures known { log_of self.new ≡ log_of self.old → IsSome result.changes }
     {
@@ -68,7 +68,7 @@ impl SiteState {
     pub fn answer_telling(&mut self, path: &str, request: &Request<'_>) -> ToldAnswer
         ensures answers { AnswersInTurn (step_at path.now self.old request.now) self.old result.reply self.new }
         ensures none { number_of_path path.now self.old.paths ≡ None → result.reply ≡ Err Fault.NoWidget }
-        ensures memory { takes_none request.now ≡ true → IfErr result.reply (λ fault. step_at path.now self.old request.now ≡ Err fault) }
+        ensures memory { takes_none request.now ≡ true → IsRefusedAs (step_at path.now self.old request.now) result.reply }
         ensures told { IfSome result.changes (λ changes. AreToldBetween (log_of self.old) (log_of self.new) changes.items) }
         ensures replayed { IfSome result.changes (λ changes. replayed (all_changes_in changes.items) (tagged_text self.old.text.view.doc.cells)
             ≡ tagged_text self.new.text.view.doc.cells) }

@@ -8,7 +8,7 @@ ghost use Rattle.rt_rga.specs.Taken.{IsChange};
 ghost use Rattle.rt_text.specs.Accepted.{answer_of};
 ghost use Rattle.rt_recording.specs.Edits.{text_with_new};
 ghost use Rattle.rt_text.specs.Widgets.{limits_of};
-ghost use Rattle.rt_lines.specs.Ordered.{AreInOrder};
+ghost use Rattle.rt_lines.specs.Ordered.{LimitsAreInOrder};
 
 use super::EditedText;
 use rt_holding::Taking;
@@ -62,7 +62,7 @@ impl EditedText {
         ensures few { length self.now.view.doc.cells ≤ self.now.view.doc.limit }
         ensures count { self.now.view.doc.count ≡ greatest_last_count self.now.view.doc.log }
         ensures site { 0 < self.now.view.doc.site }
-        ensures limits { AllByRecursion (AreInOrder self.now.view.doc.cells) (limits_of self.now.view) }
+        ensures limits { AllByRecursion (LimitsAreInOrder self.now.view.doc.cells) (limits_of self.now.view) }
     {
         // For its clauses alone.
         let _ = self.view.widget();

@@ -1,8 +1,8 @@
 // What is asked of marks and tags.
-ghost use Rattle.std.specs.Prelude.{◌≡◌, Err, true, IfErr};
+ghost use Rattle.std.specs.Prelude.{◌≡◌, true};
 ghost use Rattle.rt_stamps.specs.Outcomes.{Answers};
 ghost use Rattle.rt_peers.specs.Step.{on_view};
-ghost use Rattle.rt_peers.specs.TakesNone.{mark_takes_none, tag_takes_none};
+ghost use Rattle.rt_peers.specs.TakesNone.{IsRefusedAs, mark_takes_none, tag_takes_none};
 ghost use Rattle.rt_peers.specs.ViewStep.{mark_step, tag_step};
 
 use super::EditedText;
@@ -15,7 +15,7 @@ impl EditedText {
     // What is asked of marks.
     pub(super) fn mark(&mut self, request: &MarkRequest<'_>) -> Result<Reply, Fault>
         ensures answers { Answers (on_view self.old (mark_step self.old.view request.now)) self.old result self.new }
-        ensures memory { mark_takes_none request.now ≡ true → IfErr result (λ fault. on_view self.old (mark_step self.old.view request.now) ≡ Err fault) }
+        ensures memory { mark_takes_none request.now ≡ true → IsRefusedAs (on_view self.old (mark_step self.old.view request.now)) result }
     {
         // For its clauses alone.
         let _ = self.view.doc().log();
@@ -28,7 +28,7 @@ impl EditedText {
     // What is asked of tags.
     pub(super) fn tag(&mut self, request: &TagRequest<'_>) -> Result<Reply, Fault>
         ensures answers { Answers (on_view self.old (tag_step self.old.view request.now)) self.old result self.new }
-        ensures memory { tag_takes_none request.now ≡ true → IfErr result (λ fault. on_view self.old (tag_step self.old.view request.now) ≡ Err fault) }
+        ensures memory { tag_takes_none request.now ≡ true → IsRefusedAs (on_view self.old (tag_step self.old.view request.now)) result }
     {
         // For its clauses alone.
         let _ = self.view.doc().log();

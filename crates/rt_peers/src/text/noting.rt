@@ -1,12 +1,12 @@
 // A text that tells what it changes when something is asked of it.
-ghost use Rattle.std.specs.Prelude.{◌≡◌, ◌+◌, ◌<◌, ◌≤◌, Err, IfErr, IfSome, IsSome, drop, length, map, reverse, true};
+ghost use Rattle.std.specs.Prelude.{◌≡◌, ◌+◌, ◌<◌, ◌≤◌, IfSome, IsSome, drop, length, map, reverse, true};
 ghost use Rattle.rt_stamps.specs.Outcomes.{Answers};
 ghost use Rattle.rt_changes.specs.Telling.{changes_in};
 ghost use Rattle.rt_text.specs.Widgets.{widgets_of};
 ghost use Rattle.rt_peers.specs.SiteStep.{by_leading, text_log};
 ghost use Rattle.rt_peers.specs.Step.{step};
 ghost use Rattle.rt_rga.specs.Noted.{AreOfNewest};
-ghost use Rattle.rt_peers.specs.TakesNone.{takes_none};
+ghost use Rattle.rt_peers.specs.TakesNone.{IsRefusedAs, takes_none};
 ghost use Rattle.rt_peers.specs.Telling.{AreToldInTurn, each_change};
 
 use super::EditedText;
@@ -73,7 +73,7 @@ impl EditedText {
     pub(crate) fn ask_telling(&mut self, number: usize, request: &Request<'_>) -> ToldAnswer
         requires { number < length (widgets_of self.old.view) }
         ensures answers { Answers (by_leading number self.old (λ text. step text request.now)) self.old result.reply self.new }
-        ensures memory { takes_none request.now ≡ true → IfErr result.reply (λ fault. by_leading number self.old (λ text. step text request.now) ≡ Err fault) }
+        ensures memory { takes_none request.now ≡ true → IsRefusedAs (by_leading number self.old (λ text. step text request.now)) result.reply }
         ensures told { IfSome result.changes (λ changes. AreToldInTurn (text_log self.old) (text_log self.new) (map changes_in changes.items)) }
         ensures known { text_log self.new ≡ text_log self.old → IsSome result.changes }
     {

@@ -1,9 +1,10 @@
 // The options of a widget: those that all widgets of a site share, and the limits of what this one shows.
-ghost use Rattle.std.specs.Prelude.{◌≡◌, Err, Ok, IfErr};
+ghost use Rattle.std.specs.Prelude.{◌≡◌, Ok};
 ghost use Rattle.std.specs.Fmt.{decimal};
 ghost use Rattle.rt_stamps.specs.Outcomes.{Answers};
 ghost use Rattle.rt_peers.specs.Options.{bounded, configured, option_step, option_value, settings_step};
 ghost use Rattle.rt_peers.specs.ViewStep.{one_word, text_of_bool};
+ghost use Rattle.rt_peers.specs.TakesNone.{IsRefusedAs};
 
 use super::EditedText;
 use crate::choices::choice_of;
@@ -38,7 +39,7 @@ impl EditedText {
     // Options are set: the widget shows the lines that are asked for. It takes no memory.
     pub(super) fn set(&mut self, settings: &WidgetSettings) -> Result<Reply, Fault>
         ensures answers { Answers (settings_step self.old settings.now) self.old result self.new }
-        ensures err { IfErr result (λ fault. settings_step self.old settings.now ≡ Err fault) }
+        ensures err { IsRefusedAs (settings_step self.old settings.now) result }
     {
         let start = choice_of(settings.start_line);
         let end = choice_of(settings.end_line);

@@ -1,10 +1,10 @@
 // What is asked of the undo mechanism.
-ghost use Rattle.std.specs.Prelude.{◌≡◌, Err, true, IfErr};
+ghost use Rattle.std.specs.Prelude.{◌≡◌, true};
 ghost use Rattle.rt_stamps.specs.Outcomes.{Answers};
 ghost use Rattle.rt_undo.specs.Undo.{is_modified};
 ghost use Rattle.rt_recording.specs.Reverts.{text_redone, text_undone};
 ghost use Rattle.rt_peers.specs.Step.{can_redo, can_undo, edit_step};
-ghost use Rattle.rt_peers.specs.TakesNone.{edit_takes_none};
+ghost use Rattle.rt_peers.specs.TakesNone.{IsRefusedAs, edit_takes_none};
 ghost use Rattle.rt_peers.specs.ViewStep.{changed_step};
 
 use super::EditedText;
@@ -57,7 +57,7 @@ impl EditedText {
     // What is asked of the undo mechanism.
     pub(super) fn edit(&mut self, request: EditRequest) -> Result<Reply, Fault>
         ensures answers { Answers (edit_step self.old request) self.old result self.new }
-        ensures memory { edit_takes_none request ≡ true → IfErr result (λ fault. edit_step self.old request ≡ Err fault) }
+        ensures memory { edit_takes_none request ≡ true → IsRefusedAs (edit_step self.old request) result }
     {
         match request {
             EditRequest::Undo => self.undo(),

@@ -13,7 +13,7 @@ ghost use Rattle.rt_recording.specs.Naming.{AreGiven, named_group};
 ghost use Rattle.rt_recording.specs.Recordings.{HaveStayed, came_back};
 ghost use Rattle.rt_recording.specs.Returns.{AreReturns, IsOther, back_after, stamp_after};
 ghost use Rattle.rt_recording.specs.Reversals.{group_redone, group_undone};
-ghost use Rattle.rt_recording.specs.Settled.{AreGoneOnce, IsSettled, is_gone, taken_by};
+ghost use Rattle.rt_recording.specs.Settled.{AreGoneOnce, IsSettled, is_gone_cell, taken_by};
 
 use super::Recorder;
 use crate::counting::most_returns;
@@ -35,7 +35,7 @@ impl Recorder {
         requires given { AreGiven self.old.table (group_of group.now) }
         requires sound { AllMayRevert (named_group self.old.table (group_of group.now)) }
         requires stay { HaveStayed (came_back self.old) (named_group self.old.table (group_of group.now)) }
-        requires gone { (stamp : Stamp) → came_back self.old stamp ≡ true → is_gone view.old.doc.cells stamp ≡ true }
+        requires gone { (stamp : Stamp) → came_back self.old stamp ≡ true → is_gone_cell view.old.doc.cells stamp ≡ true }
         ensures view { OnOk result (view.new ≡ view_reverted view.old (named_group self.old.table (group_of group.now))) }
         ensures checked { OnOk result (reversion_check view.old.doc (named_group self.old.table (group_of group.now)) ≡ None) }
         ensures returns { IfOk result (λ r. r.returns.items ≡ (reversion view.old.doc (named_group self.old.table (group_of group.now))).returns) }
@@ -48,7 +48,7 @@ impl Recorder {
         ensures stay { IfOk result (λ r. HaveStayed (back_after r.returns.items (came_back self.new))
             (named_group self.new.table (group_of r.actions.items))) }
         ensures gone { IfOk result (λ r. (stamp : Stamp) → back_after r.returns.items (came_back self.new) stamp ≡ true
-            → is_gone view.new.doc.cells stamp ≡ true) }
+            → is_gone_cell view.new.doc.cells stamp ≡ true) }
         ensures taken { IfOk result (λ r. (others : List Stamp)
             → AreGoneOnce view.old.doc.cells (taken_by (named_group self.old.table (group_of group.now)) ++ others)
             → AreGoneOnce view.new.doc.cells (map (stamp_after r.returns.items) others

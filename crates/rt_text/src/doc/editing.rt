@@ -16,9 +16,9 @@ ghost use Rattle.rt_text.specs.Widgets.{IsOwnOf, WidgetValue, ViewValue, selecti
 ghost use Rattle.rt_text.specs.Commands.{none_inserted, with_pieces_at, without_ranges};
 ghost use Rattle.rt_plans.specs.DeletionLaws.{IsPiece};
 ghost use Rattle.rt_text.specs.Editing.{IsEdit, count_check, edit_check};
-ghost use Rattle.rt_text.specs.Owned.{own_of, view_of};
+ghost use Rattle.rt_text.specs.Owned.{widget_value, view_of};
 ghost use Rattle.std.specs.List.{AllByRecursion};
-ghost use Rattle.rt_lines.specs.Ordered.{AreInOrder};
+ghost use Rattle.rt_lines.specs.Ordered.{LimitsAreInOrder};
 ghost use Rattle.rt_lines.specs.Stretches.{shown_part, stretch_of};
 
 use super::Doc;
@@ -53,17 +53,17 @@ impl<S: TextStore> Doc<S> {
     ) -> (&StateTable, Gap)
         requires stretch { stretch ≡ stretch_of self.now.cells widget.now.limits }
         requires place { place < length (shown_part self.now.cells widget.now.limits) }
-        requires order { AreInOrder self.now.cells widget.now.limits }
+        requires order { LimitsAreInOrder self.now.cells widget.now.limits }
         ensures left { IfSome result.1.left (λ cell. IsState result.0.now cell.state) }
         ensures right { IfSome result.1.right (λ cell. IsState result.0.now cell.state) }
         ensures after { IfSome result.1.left (λ cell. result.1.after ≡ cell.stamp) }
         ensures drafts { (others : List WidgetValue) (rest : Word)
-            → let view : ViewValue = record { doc = self.now; own = own_of widget.now; others = others } in
+            → let view : ViewValue = record { doc = self.now; own = widget_value widget.now; others = others } in
             insertion_drafts MOST_CHARACTERS self.now.site result.1.after
             (option_map (shown result.0.now) result.1.left) (option_map (shown result.0.now) result.1.right)
             pieces.now rest (none_inserted view) ≡ drafts_at view place pieces.now rest }
         ensures comes { (others : List WidgetValue) (rest : Word)
-            → let view : ViewValue = record { doc = self.now; own = own_of widget.now; others = others } in
+            → let view : ViewValue = record { doc = self.now; own = widget_value widget.now; others = others } in
             insertion_of self.now.site (option_map (shown result.0.now) result.1.left) (option_map (shown result.0.now) result.1.right)
             pieces.now rest (none_inserted view) ≡ insertion_at view place pieces.now rest }
     {
@@ -80,14 +80,14 @@ impl<S: TextStore> Doc<S> {
     fn planned_insertion(&self, widget: &Widget, text: NewText<'_>) -> Result<Plan, Fault>
         requires stretch { text.stretch ≡ stretch_of self.now.cells widget.now.limits }
         requires place { text.place < length (shown_part self.now.cells widget.now.limits) }
-        requires order { AreInOrder self.now.cells widget.now.limits }
+        requires order { LimitsAreInOrder self.now.cells widget.now.limits }
         ensures drafts { IfOk result (λ plan. (others : List WidgetValue)
-            → let view : ViewValue = record { doc = self.now; own = own_of widget.now; others = others } in
+            → let view : ViewValue = record { doc = self.now; own = widget_value widget.now; others = others } in
             map body_of (items_in plan.drafts) ≡ drafts_at view text.entry.place text.entry.pieces.now text.entry.rest.now) }
-        ensures plans { IfOk result (λ plan. (others : List WidgetValue) → Plans plan (own_of widget.now).sel (selections_of others) self.now.tags
-            (insertion_at (record { doc = self.now; own = own_of widget.now; others = others }) text.entry.place text.entry.pieces.now text.entry.rest.now)) }
+        ensures plans { IfOk result (λ plan. (others : List WidgetValue) → Plans plan (widget_value widget.now).sel (selections_of others) self.now.tags
+            (insertion_at (record { doc = self.now; own = widget_value widget.now; others = others }) text.entry.place text.entry.pieces.now text.entry.rest.now)) }
         ensures err { IfErr result (λ fault. (fault ≡ Fault.NoMemory) ⊎ ((fault ≡ Fault.ClockSpent) × ((others : List WidgetValue)
-            → let view : ViewValue = record { doc = self.now; own = own_of widget.now; others = others } in
+            → let view : ViewValue = record { doc = self.now; own = widget_value widget.now; others = others } in
             GREATEST_COUNT < (with_pieces_at view text.entry.place text.entry.pieces.now text.entry.rest.now).doc.count))) }
     {
         let site = self.replica.site();
@@ -109,12 +109,12 @@ impl<S: TextStore> Doc<S> {
     fn typed(&self, widget: &Widget, text: NewText<'_>) -> Option<Typed>
         requires stretch { text.stretch ≡ stretch_of self.now.cells widget.now.limits }
         requires place { text.place < length (shown_part self.now.cells widget.now.limits) }
-        requires order { AreInOrder self.now.cells widget.now.limits }
+        requires order { LimitsAreInOrder self.now.cells widget.now.limits }
         ensures drafts { IfSome result (λ typed. (others : List WidgetValue) →
-            let view : ViewValue = record { doc = self.now; own = own_of widget.now; others = others } in
+            let view : ViewValue = record { doc = self.now; own = widget_value widget.now; others = others } in
             drafts_at view text.entry.place text.entry.pieces.now text.entry.rest.now ≡ one_character typed.left typed.character) }
         ensures comes { IfSome result (λ typed. (others : List WidgetValue) →
-            let view : ViewValue = record { doc = self.now; own = own_of widget.now; others = others } in
+            let view : ViewValue = record { doc = self.now; own = widget_value widget.now; others = others } in
             insertion_at view text.entry.place text.entry.pieces.now text.entry.rest.now ≡ with_typed self.now.site typed (none_inserted view)) }
     {
         // What is surely more than a character, or has no left neighbour, looks nothing up; a character has at most four bytes.
@@ -142,15 +142,15 @@ impl<S: TextStore> Doc<S> {
         text: NewText<'_>,
         typed: Typed,
     ) -> Result<(), Fault>
-        requires drafts { (others : List WidgetValue) → let view : ViewValue = record { doc = self.old; own = own_of widget.old; others = others } in
+        requires drafts { (others : List WidgetValue) → let view : ViewValue = record { doc = self.old; own = widget_value widget.old; others = others } in
             drafts_at view text.place text.pieces.now text.rest.now ≡ one_character typed.left typed.character }
-        requires comes { (others : List WidgetValue) → let view : ViewValue = record { doc = self.old; own = own_of widget.old; others = others } in
+        requires comes { (others : List WidgetValue) → let view : ViewValue = record { doc = self.old; own = widget_value widget.old; others = others } in
             insertion_at view text.place text.pieces.now text.rest.now ≡ with_typed self.old.site typed (none_inserted view) }
         requires stretch { text.stretch ≡ stretch_of self.old.cells widget.old.limits }
         requires place { text.place < length (shown_part self.old.cells widget.old.limits) }
         requires pieces { All IsPiece text.pieces.now }
-        requires own { IsOwnOf (length (text_of self.old.cells)) (own_of widget.old) }
-        requires others { AllByRecursion (IsOwnOf (length (text_of self.old.cells))) (map own_of others.old) }
+        requires own { IsOwnOf (length (text_of self.old.cells)) (widget_value widget.old) }
+        requires others { AllByRecursion (IsOwnOf (length (text_of self.old.cells))) (map widget_value others.old) }
         ensures { let view = view_of self.old widget.old others.old in
             let edited = with_pieces_at view text.entry.place text.entry.pieces.now text.entry.rest.now in
             IsEdit (edit_check self.old) view edited (view_of self.new widget.new others.new) result }
@@ -178,15 +178,15 @@ impl<S: TextStore> Doc<S> {
         plan: Plan,
     ) -> Result<(), Fault>
         requires drafts { (others : List WidgetValue)
-            → let view : ViewValue = record { doc = self.old; own = own_of widget.old; others = others } in
+            → let view : ViewValue = record { doc = self.old; own = widget_value widget.old; others = others } in
             map body_of (items_in plan.drafts) ≡ drafts_at view text.place text.pieces.now text.rest.now }
-        requires plans { (others : List WidgetValue) → Plans plan (own_of widget.old).sel (selections_of others) self.old.tags
-            (insertion_at (record { doc = self.old; own = own_of widget.old; others = others }) text.place text.pieces.now text.rest.now) }
+        requires plans { (others : List WidgetValue) → Plans plan (widget_value widget.old).sel (selections_of others) self.old.tags
+            (insertion_at (record { doc = self.old; own = widget_value widget.old; others = others }) text.place text.pieces.now text.rest.now) }
         requires stretch { text.stretch ≡ stretch_of self.old.cells widget.old.limits }
         requires place { text.place < length (shown_part self.old.cells widget.old.limits) }
         requires pieces { All IsPiece text.pieces.now }
-        requires own { IsOwnOf (length (text_of self.old.cells)) (own_of widget.old) }
-        requires others { AllByRecursion (IsOwnOf (length (text_of self.old.cells))) (map own_of others.old) }
+        requires own { IsOwnOf (length (text_of self.old.cells)) (widget_value widget.old) }
+        requires others { AllByRecursion (IsOwnOf (length (text_of self.old.cells))) (map widget_value others.old) }
         ensures { let view = view_of self.old widget.old others.old in
             let edited = with_pieces_at view text.entry.place text.entry.pieces.now text.entry.rest.now in
             IsEdit (edit_check self.old) view edited (view_of self.new widget.new others.new) result }
@@ -220,10 +220,10 @@ impl<S: TextStore> Doc<S> {
     ) -> Result<(), Fault>
         requires stretch { text.stretch ≡ stretch_of self.old.cells widget.old.limits }
         requires place { text.place < length (shown_part self.old.cells widget.old.limits) }
-        requires order { AreInOrder self.old.cells widget.old.limits }
+        requires order { LimitsAreInOrder self.old.cells widget.old.limits }
         requires pieces { All IsPiece text.pieces.now }
-        requires own { IsOwnOf (length (text_of self.old.cells)) (own_of widget.old) }
-        requires others { AllByRecursion (IsOwnOf (length (text_of self.old.cells))) (map own_of others.old) }
+        requires own { IsOwnOf (length (text_of self.old.cells)) (widget_value widget.old) }
+        requires others { AllByRecursion (IsOwnOf (length (text_of self.old.cells))) (map widget_value others.old) }
         ensures { let view = view_of self.old widget.old others.old in
             let edited = with_pieces_at view text.entry.place text.entry.pieces.now text.entry.rest.now in
             IsEdit (edit_check self.old) view edited (view_of self.new widget.new others.new) result }
@@ -244,10 +244,10 @@ impl<S: TextStore> Doc<S> {
     ) -> Result<(), Fault>
         requires stretch { text.stretch ≡ stretch_of self.old.cells widget.old.limits }
         requires place { text.place < length (shown_part self.old.cells widget.old.limits) }
-        requires order { AreInOrder self.old.cells widget.old.limits }
+        requires order { LimitsAreInOrder self.old.cells widget.old.limits }
         requires pieces { All IsPiece text.pieces.now }
-        requires own { IsOwnOf (length (text_of self.old.cells)) (own_of widget.old) }
-        requires others { AllByRecursion (IsOwnOf (length (text_of self.old.cells))) (map own_of others.old) }
+        requires own { IsOwnOf (length (text_of self.old.cells)) (widget_value widget.old) }
+        requires others { AllByRecursion (IsOwnOf (length (text_of self.old.cells))) (map widget_value others.old) }
         ensures { let view = view_of self.old widget.old others.old in
             let edited = with_pieces_at view text.entry.place text.entry.pieces.now text.entry.rest.now in
             IsEdit (edit_check self.old) view edited (view_of self.new widget.new others.new) result }
@@ -265,8 +265,8 @@ impl<S: TextStore> Doc<S> {
         others: &mut [Widget],
         ranges: &[Range],
     ) -> Result<(), Fault>
-        requires own { IsOwnOf (length (text_of self.old.cells)) (own_of widget.old) }
-        requires others { AllByRecursion (IsOwnOf (length (text_of self.old.cells))) (map own_of others.old) }
+        requires own { IsOwnOf (length (text_of self.old.cells)) (widget_value widget.old) }
+        requires others { AllByRecursion (IsOwnOf (length (text_of self.old.cells))) (map widget_value others.old) }
         ensures { let view = view_of self.old widget.old others.old in
             IsEdit count_check view (without_ranges view ranges.now) (view_of self.new widget.new others.new) result }
     {

@@ -1,7 +1,7 @@
 // The site's marks.
 ghost use Rattle.std.specs.Prelude.{◌≡◌, ◌⊎◌, ◌↔◌, false, is_some, if◌then◌else◌, ◌≤◌, Ok, Err, None, IfErr, OnOk, OnErr, length};
 ghost use Rattle.rt_stamps.specs.Words.{as_words};
-ghost use Rattle.rt_marks.specs.Marks.{IsName, named, marks_set, marks_with_gravity, without_all};
+ghost use Rattle.rt_marks.specs.Marks.{IsName, mark_of_name, marks_set, marks_with_gravity, without_all};
 ghost use Rattle.rt_store.specs.Cells.{text_of};
 ghost use Rattle.rt_text.specs.Widgets.{AreSiteMarks, is_own};
 
@@ -28,7 +28,7 @@ impl<S: TextStore> Doc<S> {
         ensures ok { OnOk result (self.new ≡ record self.old { marks = marks_set name.now place self.old.marks }) }
         ensures unchanged { OnErr result (self.new ≡ self.old) }
         ensures bad_name { (result ≡ Err Fault.BadName) ↔ (IsName name.now → ⊥) }
-        ensures memory { result ≡ Err Fault.NoMemory → named name.now self.old.marks ≡ None }
+        ensures memory { result ≡ Err Fault.NoMemory → mark_of_name name.now self.old.marks ≡ None }
         ensures fault { IfErr result (λ fault. (fault ≡ Fault.BadName) ⊎ (fault ≡ Fault.NoMemory)) }
     {
         self.marks.set(name, place)
@@ -46,7 +46,7 @@ impl<S: TextStore> Doc<S> {
     /// of the name. It takes no memory.
     pub fn set_mark_gravity(&mut self, name: &str, gravity: Gravity) -> Result<(), Fault>
         ensures marks { self.new ≡ record self.old { marks = marks_with_gravity name.now gravity self.old.marks } }
-        ensures answer { result ≡ (if is_some (named name.now self.old.marks) then Ok tt else Err Fault.NoMark) }
+        ensures answer { result ≡ (if is_some (mark_of_name name.now self.old.marks) then Ok tt else Err Fault.NoMark) }
     {
         self.marks.set_gravity(name, gravity)
     }

@@ -5,7 +5,7 @@ ghost use Rattle.rt_store.specs.Cells.{text_of};
 ghost use Rattle.rt_store.specs.Shown.{shown};
 ghost use Rattle.rt_marks.specs.Marks.{HaveOwnNames};
 ghost use Rattle.rt_stamps.specs.declared.limits.TheConstants.{MOST_CELLS};
-ghost use Rattle.rt_text.specs.Owned.{own_of};
+ghost use Rattle.rt_text.specs.Owned.{widget_value};
 ghost use Rattle.rt_text.specs.Lines.{AreLines};
 ghost use Rattle.rt_lines.specs.Stretches.{part, stretch_of};
 
@@ -35,7 +35,7 @@ impl<S: TextStore> Doc<S> {
         ensures cells { map (shown result.states.now) (S.list result.store.now) ≡ self.now.cells }
         ensures marks { result.marks.now ≡ self.now.marks }
         ensures tags { result.tags.now.names ≡ self.now.tags }
-        ensures own { own_of result.widget.now ≡ own_of widget.now }
+        ensures own { widget_value result.widget.now ≡ widget_value widget.now }
         ensures stretch { result.stretch ≡ stretch_of self.now.cells widget.now.limits }
         ensures names { HaveOwnNames self.now.marks }
     {

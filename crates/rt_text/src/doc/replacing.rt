@@ -9,9 +9,9 @@ ghost use Rattle.rt_plans.specs.DeletionLaws.{IsPiece};
 ghost use Rattle.rt_plans.specs.Deletions.{without_text};
 ghost use Rattle.rt_plans.specs.Removals.{RangesFollow, is_covered};
 ghost use Rattle.rt_text.specs.Editing.{IsEdit, edit_check};
-ghost use Rattle.rt_text.specs.Owned.{own_of, view_of};
+ghost use Rattle.rt_text.specs.Owned.{widget_value, view_of};
 ghost use Rattle.std.specs.List.{AllByRecursion};
-ghost use Rattle.rt_lines.specs.Ordered.{AreInOrder as LimitsAreInOrder};
+ghost use Rattle.rt_lines.specs.Ordered.{LimitsAreInOrder};
 
 use super::Doc;
 use crate::Widget;
@@ -64,17 +64,17 @@ impl<S: TextStore> Doc<S> {
     ) -> Result<Replacement, Fault>
         requires { LimitsAreInOrder self.now.cells widget.now.limits }
         ensures plans { IfOk result (λ r. (others : List WidgetValue)
-            → PlansReplacement (record { doc = self.now; own = own_of widget.now; others = others }) range pieces.now rest.now r) }
-        ensures removed { let view : ViewValue = record { doc = self.now; own = own_of widget.now; others = [] } in
+            → PlansReplacement (record { doc = self.now; own = widget_value widget.now; others = others }) range pieces.now rest.now r) }
+        ensures removed { let view : ViewValue = record { doc = self.now; own = widget_value widget.now; others = [] } in
             IfOk result (λ r. (place : ℕ) → is_covered r.removed.items place ≡ (loss_at view range).places place) }
         ensures order { IfOk result (λ r. RangesFollow 0 r.removed.items) }
-        ensures held { let view : ViewValue = record { doc = self.now; own = own_of widget.now; others = [] } in
+        ensures held { let view : ViewValue = record { doc = self.now; own = widget_value widget.now; others = [] } in
             IfOk result (λ r. r.held ≡ is_some (loss_at view range).newline) }
         ensures alone { IfOk result (λ r. r.held ≡ true → r.plan.between ≡ None) }
-        ensures fits { let view : ViewValue = record { doc = self.now; own = own_of widget.now; others = [] } in
+        ensures fits { let view : ViewValue = record { doc = self.now; own = widget_value widget.now; others = [] } in
             IfOk result (λ r. (without_text self.now (loss_at view range)).count ≤ GREATEST_COUNT) }
         ensures err { IfErr result (λ fault. (fault ≡ Fault.NoMemory) ⊎ ((fault ≡ Fault.ClockSpent) × ((others : List WidgetValue) → GREATEST_COUNT
-            < (with_range_replaced (record { doc = self.now; own = own_of widget.now; others = others }) range pieces.now rest.now).doc.count))) }
+            < (with_range_replaced (record { doc = self.now; own = widget_value widget.now; others = others }) range pieces.now rest.now).doc.count))) }
     {
         let site = self.replica.site();
         let count = self.replica.clock().seen();
@@ -122,8 +122,8 @@ impl<S: TextStore> Doc<S> {
     ) -> Result<(), Fault>
         requires pieces { All IsPiece pieces.now }
         requires order { LimitsAreInOrder self.old.cells widget.old.limits }
-        requires own { IsOwnOf (length (text_of self.old.cells)) (own_of widget.old) }
-        requires others { AllByRecursion (IsOwnOf (length (text_of self.old.cells))) (map own_of others.old) }
+        requires own { IsOwnOf (length (text_of self.old.cells)) (widget_value widget.old) }
+        requires others { AllByRecursion (IsOwnOf (length (text_of self.old.cells))) (map widget_value others.old) }
         ensures { let view = view_of self.old widget.old others.old in
             let edited = with_range_replaced view range pieces.now rest.now in
             IsEdit (edit_check self.old) view edited (view_of self.new widget.new others.new) result }

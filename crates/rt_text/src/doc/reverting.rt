@@ -1,14 +1,14 @@
 // Groups of actions that are reverted.
 ghost use Rattle.std.specs.Prelude.{◌≡◌, ◌⊎◌, ◌∷◌, [], None, Some, IfErr, IfOk, OnErr, OnOk, length, map};
 ghost use Rattle.std.specs.List.{AllByRecursion};
-ghost use Rattle.rt_text.specs.Owned.{own_of};
+ghost use Rattle.rt_text.specs.Owned.{widget_value};
 ghost use Rattle.rt_store.specs.Cells.{final_cell, text_of};
 ghost use Rattle.rt_tags.specs.States.{KeepsIds};
 ghost use Rattle.rt_undo.specs.Actions.{group_of};
 ghost use Rattle.rt_revert.specs.Plans.{AreGiven, named_group};
 ghost use Rattle.rt_revert.specs.Reverting.{reversion, reverted, reverted_group};
 ghost use Rattle.rt_revert.specs.ReversionLaws.{AllMayRevert};
-ghost use Rattle.rt_text.specs.Reversions.{own_reverted, reversion_check};
+ghost use Rattle.rt_text.specs.Reversions.{widget_reverted, reversion_check};
 ghost use Rattle.rt_text.specs.Widgets.{IsOwnOf};
 
 use super::Doc;
@@ -35,12 +35,13 @@ impl<S: TextStore> Doc<S> {
         requires empty { C.list copy ≡ final_cell ∷ [] }
         requires given { AreGiven kept.old (group_of group.now) }
         requires sound { AllMayRevert (named_group kept.old (group_of group.now)) }
-        requires own { IsOwnOf (length (text_of self.old.cells)) (own_of widget.old) }
-        requires others { AllByRecursion (IsOwnOf (length (text_of self.old.cells))) (map own_of others.old) }
+        requires own { IsOwnOf (length (text_of self.old.cells)) (widget_value widget.old) }
+        requires others { AllByRecursion (IsOwnOf (length (text_of self.old.cells))) (map widget_value others.old) }
         ensures doc { OnOk result (self.new ≡ reverted self.old (named_group kept.old (group_of group.now))) }
-        ensures widget { OnOk result (own_of widget.new ≡ own_reverted self.old (named_group kept.old (group_of group.now)) (own_of widget.old)) }
-        ensures peers { OnOk result (map own_of others.new
-            ≡ map (own_reverted self.old (named_group kept.old (group_of group.now))) (map own_of others.old)) }
+        ensures widget { OnOk result (widget_value widget.new ≡ widget_reverted self.old (named_group kept.old (group_of group.now))
+            (widget_value widget.old)) }
+        ensures peers { OnOk result (map widget_value others.new
+            ≡ map (widget_reverted self.old (named_group kept.old (group_of group.now))) (map widget_value others.old)) }
         ensures checked { OnOk result (reversion_check self.old (named_group kept.old (group_of group.now)) ≡ None) }
         ensures returns { IfOk result (λ r. r.returns.items ≡ (reversion self.old (named_group kept.old (group_of group.now))).returns) }
         ensures actions { IfOk result (λ r. named_group kept.new (group_of r.actions.items)
@@ -50,10 +51,10 @@ impl<S: TextStore> Doc<S> {
         ensures ids { KeepsIds kept.old kept.new }
         ensures err { IfErr result (λ fault. (fault ≡ Fault.NoMemory)
             ⊎ (reversion_check self.old (named_group kept.old (group_of group.now)) ≡ Some fault)) }
-        ensures unchanged { OnErr result ((self.new ≡ self.old) × (own_of widget.new ≡ own_of widget.old)
-            × (map own_of others.new ≡ map own_of others.old)) }
-        ensures own { IsOwnOf (length (text_of self.new.cells)) (own_of widget.new) }
-        ensures others { AllByRecursion (IsOwnOf (length (text_of self.new.cells))) (map own_of others.new) }
+        ensures unchanged { OnErr result ((self.new ≡ self.old) × (widget_value widget.new ≡ widget_value widget.old)
+            × (map widget_value others.new ≡ map widget_value others.old)) }
+        ensures own { IsOwnOf (length (text_of self.new.cells)) (widget_value widget.new) }
+        ensures others { AllByRecursion (IsOwnOf (length (text_of self.new.cells))) (map widget_value others.new) }
     {
         let site = self.replica.site();
         let count = self.replica.clock().seen();

@@ -6,7 +6,7 @@ ghost use Rattle.rt_stamps.specs.declared.limits.TheConstants.{GREATEST_COUNT, M
 ghost use Rattle.rt_stamps.specs.Words.{as_words};
 ghost use Rattle.rt_store.specs.Cells.{AreDistinct, text_of, visible_of};
 ghost use Rattle.rt_plans.specs.Removals.{is_covered, RangesFollow};
-ghost use Rattle.rt_text.specs.Owned.{own_of};
+ghost use Rattle.rt_text.specs.Owned.{widget_value};
 ghost use Rattle.rt_text.specs.Widgets.{is_tagged_in, shows_tag, tags_shown};
 ghost use Rattle.rt_store.specs.Tagged.{next_place, previous_place};
 ghost use Rattle.rt_tags.specs.States.{IsState};
@@ -71,7 +71,7 @@ impl<S: TextStore> Doc<S> {
     /// The least place from one up whose character has a tag on the widget; none if there is none. It
     /// takes no memory.
     pub(crate) fn next_tagged(&self, widget: &Widget, name: &str, place: usize) -> Option<usize>
-        ensures { result ≡ next_place (shows_tag (own_of widget.now) name.now) (shown_part self.now.cells widget.now.limits) place }
+        ensures { result ≡ next_place (shows_tag (widget_value widget.now) name.now) (shown_part self.now.cells widget.now.limits) place }
     {
         let (store, states) = self.kept();
         let stretch = widget.limits().stretch(store);
@@ -82,7 +82,7 @@ impl<S: TextStore> Doc<S> {
     /// The least place from one up whose character hasn't a tag on the widget; none if there is none.
     /// It takes no memory.
     pub(crate) fn next_untagged(&self, widget: &Widget, name: &str, place: usize) -> Option<usize>
-        ensures { result ≡ next_place (λ cell. not (shows_tag (own_of widget.now) name.now cell)) (shown_part self.now.cells widget.now.limits) place }
+        ensures { result ≡ next_place (λ cell. not (shows_tag (widget_value widget.now) name.now cell)) (shown_part self.now.cells widget.now.limits) place }
     {
         let (store, states) = self.kept();
         let stretch = widget.limits().stretch(store);
@@ -93,7 +93,7 @@ impl<S: TextStore> Doc<S> {
     /// The greatest place below one whose character has a tag on the widget; none if there is none. It
     /// takes no memory.
     pub(crate) fn previous_tagged(&self, widget: &Widget, name: &str, place: usize) -> Option<usize>
-        ensures { result ≡ previous_place (shows_tag (own_of widget.now) name.now) (shown_part self.now.cells widget.now.limits) place }
+        ensures { result ≡ previous_place (shows_tag (widget_value widget.now) name.now) (shown_part self.now.cells widget.now.limits) place }
     {
         let (store, states) = self.kept();
         let stretch = widget.limits().stretch(store);
@@ -106,7 +106,7 @@ impl<S: TextStore> Doc<S> {
     pub(crate) fn tags_at(&self, widget: &Widget, place: usize) -> Result<Vec<String>, Fault>
         requires { place < length (shown_part self.now.cells widget.now.limits) }
         ensures ok { IfOk result (λ names.
-            option_map (tags_shown (own_of widget.now) self.now.tags) (slice_get (shown_part self.now.cells widget.now.limits) place)
+            option_map (tags_shown (widget_value widget.now) self.now.tags) (slice_get (shown_part self.now.cells widget.now.limits) place)
             ≡ Some (as_words names.items)) }
         ensures err { IsOkUnless result Fault.NoMemory }
     {

@@ -1,8 +1,8 @@
 // The marks of a widget: the site's, and its own two.
 ghost use Rattle.std.specs.Prelude.{◌≡◌, ◌⊎◌, ◌↔◌, false, is_some, if◌then◌else◌, ◌≤◌, Ok, Err, None, IfErr, OnOk, OnErr};
 ghost use Rattle.rt_stamps.specs.Words.{as_words};
-ghost use Rattle.rt_marks.specs.Marks.{IsName, named, marks_set, marks_with_gravity, without_all};
-ghost use Rattle.rt_text.specs.Widgets.{in_text, is_own, length_shown, own_place, own_set, own_with_gravity, with_marks};
+ghost use Rattle.rt_marks.specs.Marks.{IsName, mark_of_name, marks_set, marks_with_gravity, without_all};
+ghost use Rattle.rt_text.specs.Widgets.{in_text, is_own, length_shown, own_place, widget_with_place, widget_with_gravity, with_marks};
 
 use super::View;
 use crate::OwnMark;
@@ -15,7 +15,9 @@ impl<S: TextStore> View<S> {
     /// most before the last newline ("mark set"). The mark keeps its gravity. It takes no memory.
     pub fn set_own(&mut self, which: OwnMark, place: usize)
         requires { place ≤ length_shown self.old }
-        ensures { self.new ≡ record self.old { own = own_set which (in_text self.old (own_place which (length_shown self.old) place)) self.old.own } }
+        ensures { self.new ≡ record self.old {
+          own = widget_with_place which (in_text self.old (own_place which (length_shown self.old) place)) self.old.own;
+        } }
     {
         let stretch = self.stretch();
         let last = stretch.end - 1;
@@ -28,7 +30,7 @@ impl<S: TextStore> View<S> {
 
     /// Gives one of the widget's own marks a gravity. It takes no memory.
     pub fn set_own_gravity(&mut self, which: OwnMark, gravity: Gravity)
-        ensures { self.new ≡ record self.old { own = own_with_gravity which gravity self.old.own } }
+        ensures { self.new ≡ record self.old { own = widget_with_gravity which gravity self.old.own } }
     {
         self.widget.set_gravity(which, gravity);
     }
@@ -42,7 +44,7 @@ impl<S: TextStore> View<S> {
         ensures ok { OnOk result (self.new ≡ with_marks self.old (marks_set name.now (in_text self.old place) self.old.doc.marks)) }
         ensures unchanged { OnErr result (self.new ≡ self.old) }
         ensures bad_name { (result ≡ Err Fault.BadName) ↔ (IsName name.now → ⊥) }
-        ensures memory { result ≡ Err Fault.NoMemory → named name.now self.old.doc.marks ≡ None }
+        ensures memory { result ≡ Err Fault.NoMemory → mark_of_name name.now self.old.doc.marks ≡ None }
         ensures fault { IfErr result (λ fault. (fault ≡ Fault.BadName) ⊎ (fault ≡ Fault.NoMemory)) }
     {
         let begin = self.stretch().begin;
@@ -61,7 +63,7 @@ impl<S: TextStore> View<S> {
     /// of the name. It takes no memory.
     pub fn set_mark_gravity(&mut self, name: &str, gravity: Gravity) -> Result<(), Fault>
         ensures marks { self.new ≡ with_marks self.old (marks_with_gravity name.now gravity self.old.doc.marks) }
-        ensures answer { result ≡ (if is_some (named name.now self.old.doc.marks) then Ok tt else Err Fault.NoMark) }
+        ensures answer { result ≡ (if is_some (mark_of_name name.now self.old.doc.marks) then Ok tt else Err Fault.NoMark) }
     {
         self.doc.set_mark_gravity(name, gravity)
     }

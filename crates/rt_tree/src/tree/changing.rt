@@ -4,10 +4,10 @@ ghost use Rattle.rt_store.specs.declared.cell.Cell.{Cell};
 ghost use Rattle.rt_store.specs.Cells.{AreDistinct, HasRoom, Spends, gone_in, put_at, state_in};
 ghost use Rattle.rt_store.specs.Tagged.{AreStates};
 ghost use Rattle.rt_tags.specs.States.{IsState};
-ghost use Rattle.rt_tree.specs.Additions.{stretches};
-ghost use Rattle.rt_tree.specs.Sharing.{cell_in};
+ghost use Rattle.rt_tree.specs.Additions.{stretch_count};
+ghost use Rattle.rt_tree.specs.Sharing.{cell_updated_in};
 ghost use Rattle.rt_tree.specs.Stretches.{IsGiven};
-ghost use Rattle.rt_tree.specs.Trees.{Agrees, HasOwn};
+ghost use Rattle.rt_tree.specs.Trees.{AgreesWithTable, HasOwn};
 ghost use Rattle.rt_tree.specs.Typing.{AreTypedOn, GoOn};
 
 use super::Tree;
@@ -97,11 +97,11 @@ impl Tree {
     fn apply(&mut self, states: &StateTable, span: Span, update: CellUpdate)
         requires room { HasRoom self.old.room 0 2 (length states.now.names) }
         requires update { IsGiven states.now update }
-        requires agrees { Agrees states.now self.old }
-        ensures cells { self.new.cells ≡ map (cell_in span update) self.old.cells }
+        requires agrees { AgreesWithTable states.now self.old }
+        ensures cells { self.new.cells ≡ map (cell_updated_in span update) self.old.cells }
         ensures runs { self.new.runs ≤ self.old.runs + 2 }
         ensures room { Spends self.old.room self.new.room 0 2 }
-        ensures agrees { Agrees states.now self.new }
+        ensures agrees { AgreesWithTable states.now self.new }
         ensures own { HasOwn self.new }
     {
         let change = update_span(
@@ -123,11 +123,11 @@ impl Tree {
     /// Makes the cells of a span of stamps gone, in two runs more at most. Takes no memory.
     pub fn set_gone(&mut self, states: &StateTable, span: Span)
         requires room { HasRoom self.old.room 0 2 (length states.now.names) }
-        requires agrees { Agrees states.now self.old }
+        requires agrees { AgreesWithTable states.now self.old }
         ensures cells { self.new.cells ≡ map (gone_in span) self.old.cells }
         ensures runs { self.new.runs ≤ self.old.runs + 2 }
         ensures room { Spends self.old.room self.new.room 0 2 }
-        ensures agrees { Agrees states.now self.new }
+        ensures agrees { AgreesWithTable states.now self.new }
         ensures own { HasOwn self.new }
     {
         self.apply(states, span, CellUpdate::Gone);
@@ -138,11 +138,11 @@ impl Tree {
     pub fn set_state(&mut self, states: &StateTable, span: Span, state: StateId)
         requires room { HasRoom self.old.room 0 2 (length states.now.names) }
         requires state { IsState states.now state }
-        requires agrees { Agrees states.now self.old }
+        requires agrees { AgreesWithTable states.now self.old }
         ensures cells { self.new.cells ≡ map (state_in span state) self.old.cells }
         ensures runs { self.new.runs ≤ self.old.runs + 2 }
         ensures room { Spends self.old.room self.new.room 0 2 }
-        ensures agrees { Agrees states.now self.new }
+        ensures agrees { AgreesWithTable states.now self.new }
         ensures own { HasOwn self.new }
     {
         self.apply(states, span, CellUpdate::State(state));
@@ -155,14 +155,14 @@ impl Tree {
         requires within { at < length self.old.cells }
         requires room { HasRoom self.old.room (length cells.now) 1 (length states.now.names) }
         requires states { AreStates states.now cells.now }
-        requires agrees { Agrees states.now self.old }
+        requires agrees { AgreesWithTable states.now self.old }
         ensures cells { self.new.cells ≡ put_at at cells.now self.old.cells }
         ensures most { self.new.runs ≤ self.old.runs + length cells.now + 1 }
-        ensures runs { AreDistinct self.new.cells → self.new.runs ≤ self.old.runs + stretches cells.now + 1 }
+        ensures runs { AreDistinct self.new.cells → self.new.runs ≤ self.old.runs + stretch_count cells.now + 1 }
         ensures typed { AreDistinct self.new.cells → AreTypedOn self.old at cells.now → self.new.runs ≡ self.old.runs }
         ensures next { (more : List (Cell ℕ)) → GoOn cells.now more → AreTypedOn self.new (at + length cells.now) more }
         ensures room { Spends self.old.room self.new.room (length cells.now) 1 }
-        ensures agrees { Agrees states.now self.new }
+        ensures agrees { AgreesWithTable states.now self.new }
         ensures own { HasOwn self.new }
     {
         // A single cell, as typing makes it, is put in without the steps of a list.
@@ -179,14 +179,14 @@ impl Tree {
         requires within { at < length self.old.cells }
         requires room { HasRoom self.old.room (length cells.now) 1 (length states.now.names) }
         requires states { AreStates states.now cells.now }
-        requires agrees { Agrees states.now self.old }
+        requires agrees { AgreesWithTable states.now self.old }
         ensures cells { self.new.cells ≡ put_at at cells.now self.old.cells }
         ensures most { self.new.runs ≤ self.old.runs + length cells.now + 1 }
-        ensures runs { AreDistinct self.new.cells → self.new.runs ≤ self.old.runs + stretches cells.now + 1 }
+        ensures runs { AreDistinct self.new.cells → self.new.runs ≤ self.old.runs + stretch_count cells.now + 1 }
         ensures typed { AreDistinct self.new.cells → AreTypedOn self.old at cells.now → self.new.runs ≡ self.old.runs }
         ensures next { (more : List (Cell ℕ)) → GoOn cells.now more → AreTypedOn self.new (at + length cells.now) more }
         ensures room { Spends self.old.room self.new.room (length cells.now) 1 }
-        ensures agrees { Agrees states.now self.new }
+        ensures agrees { AgreesWithTable states.now self.new }
         ensures own { HasOwn self.new }
     {
         push_characters(&mut self.text, cells);

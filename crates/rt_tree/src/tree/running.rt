@@ -3,7 +3,7 @@ ghost use Rattle.std.specs.Prelude.{◌≡◌, ◌≤◌, IfSome, option_map};
 ghost use Rattle.rt_store.specs.Cells.{GoOnTo, cell_of};
 
 use super::Tree;
-use crate::homes::Sought;
+use crate::run_with::{SoughtRun, rest_from, run_with};
 use rt_stamps::Stamp;
 use rt_store::CellRun;
 
@@ -29,10 +29,10 @@ impl Tree {
         ensures run { IfSome result (λ run. GoOnTo self.now.cells run.cell run.last) }
         ensures last { IfSome result (λ run. (stamp.count ≤ run.last) × (run.last ≤ last)) }
     {
-        match self.homes.look_up(&self.mem, self.root, &self.last, stamp) {
-            Sought::Nowhere => None,
-            Sought::At(home) => Some(home.run_from(&self.text, stamp, last)),
-            Sought::Unknown => self.walked_run(stamp),
+        match run_with(&self.homes, &self.mem, self.root, &self.last, stamp) {
+            SoughtRun::Nowhere => None,
+            SoughtRun::Is(run) => Some(rest_from(run, &self.text, stamp, last)),
+            SoughtRun::Unknown => self.walked_run(stamp),
         }
     }
 }

@@ -3,7 +3,7 @@ ghost use Rattle.std.specs.Prelude.{◌≡◌, ◌+◌, ◌*◌, ◌<◌, ◌≤
 ghost use Rattle.rt_store.specs.Cells.{visible_of};
 ghost use Rattle.rt_store.specs.Tagged.{next_place, next_tagged, next_untagged, previous_tagged, tag_is};
 ghost use Rattle.rt_tags.specs.States.{IsTag};
-ghost use Rattle.rt_tree.specs.Trees.{Agrees};
+ghost use Rattle.rt_tree.specs.Trees.{AgreesWithTable};
 
 use super::Tree;
 use crate::back::previous_place;
@@ -15,7 +15,7 @@ impl Tree {
     // The least place from one up whose character has a tag, or hasn't it.
     fn next_wanted(&self, states: &StateTable, tag: TagId, on: bool, place: usize) -> Option<usize>
         requires tag { IsTag states.now tag }
-        requires agrees { Agrees states.now self.now }
+        requires agrees { AgreesWithTable states.now self.now }
         ensures { result ≡ next_place (tag_is states.now tag on) (visible_of self.now.cells) place }
     {
         let wanted = Wanted { tag, on };
@@ -32,7 +32,7 @@ impl Tree {
     /// The least place from one up whose character has a tag; none if there is none. It looks into two nodes a level at most.
     pub fn next_tagged(&self, states: &StateTable, tag: TagId, place: usize) -> Option<usize>
         requires tag { IsTag states.now tag }
-        requires agrees { Agrees states.now self.now }
+        requires agrees { AgreesWithTable states.now self.now }
         ensures { result ≡ next_tagged states.now tag self.now.cells place }
     {
         self.next_wanted(states, tag, true, place)
@@ -48,7 +48,7 @@ impl Tree {
         looks: &mut u64,
     ) -> Option<usize>
         requires tag { IsTag states.now tag }
-        requires agrees { Agrees states.now self.now }
+        requires agrees { AgreesWithTable states.now self.now }
         requires room { looks.old + 32 * self.now.height < 2 ^ 64 }
         ensures place { result ≡ next_tagged states.now tag self.now.cells place }
         ensures counted { looks.old ≤ looks.new }
@@ -69,7 +69,7 @@ impl Tree {
     /// The least place from one up whose character hasn't a tag; none if there is none. It looks into two nodes a level at most.
     pub fn next_untagged(&self, states: &StateTable, tag: TagId, place: usize) -> Option<usize>
         requires tag { IsTag states.now tag }
-        requires agrees { Agrees states.now self.now }
+        requires agrees { AgreesWithTable states.now self.now }
         ensures { result ≡ next_untagged states.now tag self.now.cells place }
     {
         self.next_wanted(states, tag, false, place)
@@ -78,7 +78,7 @@ impl Tree {
     /// The greatest place below one whose character has a tag; none if there is none. It looks into two nodes a level at most.
     pub fn previous_tagged(&self, states: &StateTable, tag: TagId, place: usize) -> Option<usize>
         requires tag { IsTag states.now tag }
-        requires agrees { Agrees states.now self.now }
+        requires agrees { AgreesWithTable states.now self.now }
         ensures { result ≡ previous_tagged states.now tag self.now.cells place }
     {
         let wanted = Wanted { tag, on: true };

@@ -2,7 +2,7 @@ use Rattle.std.proofs.Common.{◌∙◌, [], ◌∷◌, ◌++◌, ap, drop, sym,
 use Rattle.std.specs.BTreeMap.Range.{entries_between}
 use Rattle.std.specs.declared.ops.Bound.TheVariants.{Excluded, Included}
 use Rattle.rt_oplog.specs.Logs.{holds}
-use Rattle.rt_holding.specs.Kept.{Entry, by_stamp_and_arrival, ops_in}
+use Rattle.rt_holding.specs.Kept.{HeldEntry, by_stamp_and_arrival, ops_in}
 use Rattle.rt_holding.proofs.Places.{among_stamp, looked, none_at_place, not_this, place_found, run_in}
 use Rattle.rt_holding.proofs.trying.standing_of.Goals as goal
 
@@ -29,7 +29,7 @@ returns-then-is_same-clause-some c =
 pub loop-place-preserved-else-is_same : goal.loop-place-preserved-else-is_same
 loop-place-preserved-else-is_same c =
     let before = c.loop-place.invariant in
-    let e : Entry = (c.in-Some.place.now, c.in-Some.kept.now) in
+    let e : HeldEntry = (c.in-Some.place.now, c.in-Some.kept.now) in
     let steps = c.in-Some.ensures.steps in
     record {
       front = before.front ++ e ∷ [];
@@ -42,7 +42,7 @@ loop-place-preserved-else-is_same c =
 pub loop-place-preserved : goal.loop-place-preserved
 loop-place-preserved c =
     let before = c.loop-place.invariant in
-    let e : Entry = (c.in-Some.place.now, c.in-Some.kept.now) in
+    let e : HeldEntry = (c.in-Some.place.now, c.in-Some.kept.now) in
     let steps = c.in-Some.ensures.steps in
     record {
       front = before.front ++ e ∷ [];

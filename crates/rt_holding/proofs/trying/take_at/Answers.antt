@@ -4,7 +4,7 @@ use Rattle.std.specs.Map.{remove_entry}
 use Rattle.rt_ops.specs.Operations.{Operation}
 use Rattle.rt_oplog.specs.Logs.{with_operation}
 use Rattle.rt_rga.specs.Answers.{New, answer_within}
-use Rattle.rt_holding.specs.Kept.{Entry, by_stamp_and_arrival}
+use Rattle.rt_holding.specs.Kept.{HeldEntry, by_stamp_and_arrival}
 use Rattle.rt_holding.proofs.Standing.{set_twice}
 use Rattle.rt_holding.proofs.Places.{back_at, out_of, puts, same_at, stands}
 use Rattle.rt_holding.proofs.trying.take_at.Goals as goal
@@ -41,6 +41,6 @@ returns-in-Err-clause-same_ops g c =
     let entries = c.take_out-op.ensures.entries in
     puts c.insert-none.result c.take_out-op.new.ops place None c.insert-none.new.self.entries (insert_entry by_stamp_and_arrival c.take_out-op.new.ops.entries place (Some c.in-Err.back))
     c.insert-none.ensures.entries c.insert-none.ensures.absent (stands c.take_out-op.new.ops old place c.take_out-op.result there entries)
-    ∙ ap (λ (es : List Entry). insert_entry by_stamp_and_arrival es place (Some c.in-Err.back)) entries
+    ∙ ap (λ (es : List HeldEntry). insert_entry by_stamp_and_arrival es place (Some c.in-Err.back)) entries
     ∙ ap (λ (op : Operation). insert_entry by_stamp_and_arrival (insert_entry by_stamp_and_arrival old place None) place (Some op)) c.in-Err.ensures.back
     ∙ back_at old place c.take_out-op.result there

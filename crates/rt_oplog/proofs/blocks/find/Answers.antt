@@ -3,7 +3,7 @@ use Rattle.std.specs.Prelude.{slice_get}
 use Rattle.std.proofs.lemmas.Option.{slice_get_past}
 use Rattle.rt_oplog.specs.Logs.{IsFalling}
 use Rattle.rt_oplog.specs.Kept.{newest_first, leading, is_earlier}
-use Rattle.rt_oplog.specs.Blocks.{in_blocks}
+use Rattle.rt_oplog.specs.Blocks.{places_in_blocks}
 use Rattle.rt_oplog.proofs.InBlocks.{all_earlier, falling_block, leading_at, leading_within, not_all_earlier, place_at}
 use Rattle.rt_oplog.proofs.blocks.find.Goals as goal
 
@@ -11,7 +11,7 @@ pub returns-then-are_earlier : goal.returns-then-are_earlier
 returns-then-are_earlier c =
     let bs = c.args.blocks.now in
     let all = all_earlier c.args.ops.now.rows c.args.stamp bs (sym c.are_earlier.ensures ∙ c.if-are_earlier.true) in
-    sym (ap (slice_get (in_blocks bs)) all ∙ slice_get_past (in_blocks bs) (length (in_blocks bs)) (omega arith))
+    sym (ap (slice_get (places_in_blocks bs)) all ∙ slice_get_past (places_in_blocks bs) (length (places_in_blocks bs)) (omega arith))
 
 pub bounds-blocks-before : goal.bounds-blocks-before
 bounds-blocks-before c = not_all_earlier c.args.ops.now.rows c.args.stamp c.args.blocks.now c.blocks_before-before.result (sym c.are_earlier.ensures ∙ c.if-are_earlier.false) c.blocks_before-before.ensures.blocks
@@ -39,5 +39,5 @@ returns c =
     let l : i < length bs = not_all_earlier c.args.ops.now.rows c.args.stamp bs i (sym c.are_earlier.ensures ∙ c.if-are_earlier.false) c.blocks_before-before.ensures.blocks in
     let at : c.ops_before-at.result ≡ leading p b.places.items = rw c.deref.ensures.value at c.ops_before-at.ensures.place in
     let within = leading_within p bs i b c.blocks_before-before.ensures.blocks l c.index-blocks-before.is in
-    sym (ap (slice_get (in_blocks bs)) (leading_at p bs i b c.blocks_before-before.ensures.blocks l c.index-blocks-before.is ∙ omega (arith, at))
+    sym (ap (slice_get (places_in_blocks bs)) (leading_at p bs i b c.blocks_before-before.ensures.blocks l c.index-blocks-before.is ∙ omega (arith, at))
     ∙ place_at bs i c.ops_before-at.result c.index.result.now b l c.index-blocks-before.is (omega (arith, at, within)) c.index.ensures)

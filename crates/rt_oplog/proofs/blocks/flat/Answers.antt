@@ -2,7 +2,7 @@ use Rattle.std.proofs.Common.{◌∙◌, ap, arith}
 use Rattle.std.proofs.lemmas.Grind.{common_steps}
 use Rattle.std.proofs.lemmas.List.{take_all}
 use Rattle.std.proofs.lemmas.Result.{err_from_is_err_and}
-use Rattle.rt_oplog.specs.Blocks.{in_blocks}
+use Rattle.rt_oplog.specs.Blocks.{places_in_blocks}
 use Rattle.rt_oplog.proofs.blocks.flat.Goals as goal
 
 pub returns-in_err-places : goal.returns-in_err-places
@@ -19,4 +19,4 @@ pub loop-block-preserved : goal.loop-block-preserved
 loop-block-preserved c = grind (arith, common_steps)
 
 pub returns : goal.returns
-returns c = c.loop-block.invariant ∙ ap in_blocks (take_all c.loop-block.block-index c.args.blocks.now c.loop-block-test.false)
+returns c = c.loop-block.invariant ∙ ap places_in_blocks (take_all c.loop-block.block-index c.args.blocks.now c.loop-block-test.false)

@@ -1,7 +1,7 @@
 use Rattle.std.proofs.Common.{◌≡◌, ◌∙◌, ◌+◌, ◌-◌, ◌<◌, ap, sym, arith, length, get_or, vec_len}
 use Rattle.std.specs.Prelude.{slice_get}
 use Rattle.rt_oplog.specs.declared.block.Block.{Block}
-use Rattle.rt_oplog.specs.Blocks.{in_blocks, places_before}
+use Rattle.rt_oplog.specs.Blocks.{places_in_blocks, places_before}
 use Rattle.rt_oplog.proofs.InBlocks.{any_default, place_at, places_up_to}
 use Rattle.rt_oplog.proofs.blocks.get.Goals as goal
 
@@ -23,4 +23,4 @@ returns-then-before-at c =
     let size = ap (λ (x : Block). length x.places.items) same in
     let here : places_before bs i + (c.args.at - start) ≡ c.args.at = omega (arith, from, c.if-before-at.true) in
     let within : c.args.at - start < length b.places.items = omega (arith, from, up, all, size, c.loop-block.invariant.within, c.if-before-at.true) in
-    ap (slice_get (in_blocks bs)) (sym here) ∙ place_at bs i (c.args.at - start) c.index.result.now b l c.index-blocks-block-then-before-at.is within read
+    ap (slice_get (places_in_blocks bs)) (sym here) ∙ place_at bs i (c.args.at - start) c.index.result.now b l c.index-blocks-block-then-before-at.is within read

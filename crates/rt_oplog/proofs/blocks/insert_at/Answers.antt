@@ -2,7 +2,7 @@ use Rattle.std.proofs.Common.{◌≡◌, ◌<◌, ◌+◌, ap, arith, length, su
 use Rattle.std.specs.List.{insert}
 use Rattle.rt_oplog.specs.Logs.{IsFalling}
 use Rattle.rt_oplog.specs.Kept.{newest_first, leading, is_earlier}
-use Rattle.rt_oplog.specs.Blocks.{in_blocks, places_before}
+use Rattle.rt_oplog.specs.Blocks.{places_in_blocks, places_before}
 use Rattle.rt_oplog.proofs.InBlocks.{falling_block, leading_at}
 use Rattle.rt_oplog.proofs.blocks.insert_at.Goals as goal
 
@@ -19,4 +19,4 @@ returns-clause-items c =
     let at : c.ops_before-at.result ≡ leading p b.places.items = rw c.deref.ensures.value at c.ops_before-at.ensures.place in
     let l : c.args.block < length bs = omega (arith, c.requires.within, c.args.blocks.now.ok.0) in
     let whole = leading_at p bs c.args.block b c.requires.block l c.index.ensures in
-    c.put_at.ensures.items ∙ ap (λ n. insert (in_blocks bs) n c.args.place) (ap (λ n. places_before bs c.args.block + n) at ∙ sym whole)
+    c.put_at.ensures.items ∙ ap (λ n. insert (places_in_blocks bs) n c.args.place) (ap (λ n. places_before bs c.args.block + n) at ∙ sym whole)

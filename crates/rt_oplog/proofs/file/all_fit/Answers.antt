@@ -4,7 +4,7 @@ use Rattle.std.specs.List.{list_all}
 use Rattle.std.proofs.lemmas.List.{take_all}
 use Rattle.rt_ops.specs.declared.version.Version.TheVariants.{One}
 use Rattle.rt_ops.specs.File.{fits}
-use Rattle.rt_oplog.specs.Blocks.{in_blocks}
+use Rattle.rt_oplog.specs.Blocks.{places_in_blocks}
 use Rattle.rt_oplog.proofs.InBlocks.{all_block}
 use Rattle.rt_oplog.proofs.Fitting.{fit, block_fits, block_not}
 use Rattle.rt_oplog.proofs.file.all_fit.Goals as goal
@@ -32,4 +32,4 @@ pub returns : goal.returns
 returns c =
     let ops = c.blocks-2.result.0.now.rows in
     sym (ap (list_all (fits One)) (sym c.blocks-2.ensures.operations)
-    ∙ ap (λ bs. fit ops (in_blocks bs)) (sym (take_all c.loop-block.block-index c.blocks-2.result.1.now c.loop-block-test.false)) ∙ c.loop-block.invariant)
+    ∙ ap (λ bs. fit ops (places_in_blocks bs)) (sym (take_all c.loop-block.block-index c.blocks-2.result.1.now c.loop-block-test.false)) ∙ c.loop-block.invariant)

@@ -6,7 +6,7 @@ use Rattle.std.proofs.lemmas.Result.{err_from_is_err_and}
 use Rattle.rt_stamps.proofs.Writes.{part_longer}
 use Rattle.rt_ops.specs.declared.version.Version.TheVariants.{One}
 use Rattle.rt_ops.specs.File.{magic, fits, HasRecord}
-use Rattle.rt_oplog.specs.Blocks.{in_blocks}
+use Rattle.rt_oplog.specs.Blocks.{places_in_blocks}
 use Rattle.rt_oplog.proofs.Fitting.{block_at}
 use Rattle.rt_oplog.proofs.InBlocks.{all_block}
 use Rattle.rt_oplog.proofs.Merges.{ops_at}
@@ -47,5 +47,5 @@ returns-in_err-write_records-clause-writes g c =
 
 pub returns-clause-records : goal.returns-clause-records
 returns-clause-records g c =
-    let seen = ap (λ bs. ops_at c.blocks-2.result.0.now.rows (in_blocks bs)) (take_all c.loop-block.block-index c.blocks-2.result.1.now c.loop-block-test.false) ∙ c.blocks-2.ensures.operations in
+    let seen = ap (λ bs. ops_at c.blocks-2.result.0.now.rows (places_in_blocks bs)) (take_all c.loop-block.block-index c.blocks-2.result.1.now c.loop-block-test.false) ∙ c.blocks-2.ensures.operations in
     (c.blocks-2.ensures.log, subst (AllByRecursion (HasRecord c.args.version)) seen c.loop-block.invariant.records)

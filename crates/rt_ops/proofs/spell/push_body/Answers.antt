@@ -5,7 +5,7 @@ use Rattle.rt_ops.proofs.Rooms.{deletion_fits, tagging_fits}
 use Rattle.rt_ops.proofs.spell.push_body.Goals as goal
 
 pub push_tags-requires-clause-names : goal.push_tags-requires-clause-names
-push_tags-requires-clause-names c = rw c.deref.ensures.value (names_fit c.in-Insert.after c.in-Insert.tags.items c.in-Insert.text (rw c.in-Insert.is at c.requires.rules))
+push_tags-requires-clause-names c = names_fit c.in-Insert.after c.in-Insert.tags.now c.in-Insert.text.now (rw c.in-Insert.is at c.requires.rules)
 
 pub returns-in_err-push-in-Tag : goal.returns-in_err-push-in-Tag
 returns-in_err-push-in-Tag c =
@@ -29,10 +29,8 @@ returns-in_err-push_name-in-Tag c =
 
 pub returns-in-Delete-clause-fits : goal.returns-in-Delete-clause-fits
 returns-in-Delete-clause-fits c =
-    let written = rw c.deref-in-Delete.ensures.value at c.push_spans.ensures.fits in
-    rw c.in-Delete.is (deletion_fits c.args.version c.in-Delete.spans.items c.push_spans.result written)
+    rw c.in-Delete.is (deletion_fits c.args.version c.in-Delete.spans.now c.push_spans.result c.push_spans.ensures.fits)
 
 pub returns-in_ok-push_name-in-Tag-clause-fits : goal.returns-in_ok-push_name-in-Tag-clause-fits
 returns-in_ok-push_name-in-Tag-clause-fits c =
-    let written = rw c.deref-in-Tag-2.ensures.value at c.push_spans-in-Tag.ensures.fits in
-    rw c.in-Tag.is (tagging_fits c.args.version c.in-Tag.on _ c.in-Tag.spans.items c.push_spans-in-Tag.result written)
+    rw c.in-Tag.is (tagging_fits c.args.version c.in-Tag.on _ c.in-Tag.spans.now c.push_spans-in-Tag.result c.push_spans-in-Tag.ensures.fits)

@@ -1,5 +1,7 @@
 use Rattle.std.proofs.lemmas.Result.{err_from_is_err_and}
 use Rattle.std.proofs.Common.{refl}
+use Rattle.rt_ops.specs.Views.{operation_in}
+use Rattle.rt_ops.proofs.Lengths.{content_short}
 use Rattle.rt_ops.proofs.spell.push_content.Goals as goal
 
 pub returns-in_err-push-clause-ok : goal.returns-in_err-push-clause-ok
@@ -46,3 +48,15 @@ pub returns-in_err-push_u64-clause-fault : goal.returns-in_err-push_u64-clause-f
 returns-in_err-push_u64-clause-fault c =
     let p = err_from_is_err_and c.from_residual-in_err-push_u64.result c.from_residual-in_err-push_u64.ensures.1 in
     rw (p.1, p.2) c.in_err-push_u64.ensures.fault
+
+pub returns-in_err-push-clause-short : goal.returns-in_err-push-clause-short
+returns-in_err-push-clause-short c = content_short c.args.version (operation_in c.args.op) c.requires.rules
+
+pub returns-in_err-push_stamp-clause-short : goal.returns-in_err-push_stamp-clause-short
+returns-in_err-push_stamp-clause-short c = content_short c.args.version (operation_in c.args.op) c.requires.rules
+
+pub returns-in_err-push_u64-clause-short : goal.returns-in_err-push_u64-clause-short
+returns-in_err-push_u64-clause-short c = content_short c.args.version (operation_in c.args.op) c.requires.rules
+
+pub returns-clause-short : goal.returns-clause-short
+returns-clause-short c = content_short c.args.version (operation_in c.args.op) c.requires.rules

@@ -5,7 +5,7 @@ use Rattle.std.specs.BTreeMap.{get}
 use Rattle.std.specs.Ordering.{nat_cmp}
 use Rattle.rt_oplog.specs.Logs.{known_end}
 use Rattle.rt_peers.specs.Lacking.{known_in}
-use Rattle.rt_rows.specs.Views.{operation_in}
+use Rattle.rt_ops.specs.Views.{operation_in}
 use Rattle.rt_peers.proofs.Lacking.{all_known, is_of, is_there, items_more, known_more, known_there, none_seen, only_more, only_there, reached}
 use Rattle.rt_peers.proofs.sending.ends_of.Goals as goal
 use Rattle.rt_peers.proofs.sending.ends_of.Goals.{then-not-contains_key+in_ok-insert, else-not-contains_key}

@@ -4,7 +4,7 @@ use Rattle.std.specs.BTreeMap.{get}
 use Rattle.std.specs.Ordering.{nat_cmp}
 use Rattle.rt_oplog.specs.Logs.{known_end}
 use Rattle.rt_peers.specs.Lacking.{known_in}
-use Rattle.rt_rows.specs.Views.{operation_in}
+use Rattle.rt_ops.specs.Views.{operation_in}
 use Rattle.rt_peers.proofs.Lacking.{is_of, reached}
 use Rattle.rt_peers.proofs.sending.ends_of.Given as goal
 

@@ -1,6 +1,6 @@
 use Rattle.std.proofs.Common.{◌≡◌, take, map}
 use Rattle.std.specs.List.{filter}
-use Rattle.rt_rows.specs.Views.{operation_in}
+use Rattle.rt_ops.specs.Views.{operation_in}
 use Rattle.rt_peers.specs.Lacking.{is_past, known_in}
 use Rattle.rt_peers.proofs.sending.lacking.Given as goal
 

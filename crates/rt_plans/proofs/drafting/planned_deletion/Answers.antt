@@ -25,10 +25,10 @@ use Rattle.rt_plans.proofs.drafting.planned_deletion.Goals as goal
 use Rattle.rt_plans.proofs.drafting.planned_deletion.Goals.{then-held+in_ok-push_newline, else-held}
 
 -- the Deletes at the same places
-same_deletes : (table : TagStates) (kept : List (Cell ℕ)) (flat : DocValue) (removed places : ℕ → Bool) → flat.cells ≡ map (shown table) kept
-    → ((place : ℕ) → removed place ≡ places place) → removal_drafts MOST_SPANS removed kept ≡ removal_drafts MOST_SPANS places flat.cells
-same_deletes table kept flat removed places h same =
-    let stamps : stamps_at removed 0 kept ≡ stamps_at places 0 flat.cells =
+same_deletes : (table : TagStates) (kept : List (Cell ℕ)) (doc : DocValue) (removed places : ℕ → Bool) → doc.cells ≡ map (shown table) kept
+    → ((place : ℕ) → removed place ≡ places place) → removal_drafts MOST_SPANS removed kept ≡ removal_drafts MOST_SPANS places doc.cells
+same_deletes table kept doc removed places h same =
+    let stamps : stamps_at removed 0 kept ≡ stamps_at places 0 doc.cells =
     (λ i. stamps_at (λ place. same place i) 0 kept) ∙ sym (stamps_at_shown (state_at table) places 0 kept) ∙ ap (stamps_at places 0) (sym h) in
     ap (λ (l : List Stamp). map (λ (spans : List Span). Delete spans) (parts_of MOST_SPANS (spans_in l))) stamps
 
@@ -57,7 +57,7 @@ returns-clause-held g c =
     c.holds-held.ensures ∙ ap (is_covered c.args.ranges.now) (last_is stretch text c.requires.stretch.1) ∙ sym (some_if (is_covered c.args.ranges.now last) (stretch.begin + last))
 
 pub returns-clause-drafts : goal.returns-clause-drafts
-returns-clause-drafts g c = λ flat h.
+returns-clause-drafts g c = λ doc h.
     let kept = g.S.TextStore.list c.args.store.now in
     let table = c.args.states.now in
     let ranges = c.args.ranges.now in
@@ -65,14 +65,14 @@ returns-clause-drafts g c = λ flat h.
     let shown = part stretch (text_of kept) in
     let last = length shown - 1 in
     let loss : Loss = loss_in shown stretch.begin ranges in
-    let deletes : List Body = removal_drafts MOST_SPANS loss.places flat.cells in
+    let deletes : List Body = removal_drafts MOST_SPANS loss.places doc.cells in
     let tags : Option ℕ → List Body =
-    λ o. unwrap_or (option_map (λ (cell : TaggedCell). newline_drafts cell.stamp (names_on cell.state)) (option_and_then (slice_get (visible_of flat.cells)) o)) [] in
+    λ o. unwrap_or (option_map (λ (cell : TaggedCell). newline_drafts cell.stamp (names_on cell.state)) (option_and_then (slice_get (visible_of doc.cells)) o)) [] in
     let held = c.holds-held.ensures ∙ ap (is_covered ranges) (last_is stretch (text_of kept) c.requires.stretch.1) in
     let at : stretch.end - 1 ≡ stretch.begin + last = last_at stretch (text_of kept) c.requires.stretch.0 c.requires.stretch.1 in
     let deleted : map body_of c.in_ok-drafts.drafts.items ≡ deletes =
     c.in_ok-drafts.ensures.ok ∙ ap (λ l. removal_drafts MOST_SPANS (is_covered l) kept) c.deref.ensures.value
-    ∙ same_deletes table kept flat (is_covered c.in_ok-removed.removed.items) loss.places h c.in_ok-removed.ensures.places in
+    ∙ same_deletes table kept doc (is_covered c.in_ok-removed.removed.items) loss.places h c.in_ok-removed.ensures.places in
     elim c.if-held.branch [
       | then-held+in_ok-push_newline w ↦
           (λ i. map body_of (w.drafts-is i).items) ∙ w.in_ok-push_newline.ensures.ok

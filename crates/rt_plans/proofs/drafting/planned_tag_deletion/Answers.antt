@@ -41,11 +41,11 @@ pub push_changes-requires-clause-order : goal.push_changes-requires-clause-order
 push_changes-requires-clause-order g c = (omega arith, omega (arith, c.visible.ensures, some_visible (g.S.TextStore.list c.args.store.now) (g.met.S.TextStore.ends c.args.store.now)), tt)
 
 pub loop-name-init : goal.loop-name-init
-loop-name-init g c = λ flat written shows.
+loop-name-init g c = λ doc written shows.
     let names = as_words c.args.names.now in
-    subst (λ seen. Stands MOST_SPANS flat seen (map body_of c.new-drafts.result.items) names names) (sym (λ i. (c.in_ok-seen.ensures.ok i).names))
-    (subst (λ l. Stands MOST_SPANS flat (sel ∷ []) (map body_of l) names names) (sym c.new-drafts.ensures.items)
-    (stands_first MOST_SPANS flat c.args.tags.now.names names written (subst (AreListed c.args.tags.now.names) (sym shows) c.requires.listed)))
+    subst (λ seen. Stands MOST_SPANS doc seen (map body_of c.new-drafts.result.items) names names) (sym (λ i. (c.in_ok-seen.ensures.ok i).names))
+    (subst (λ l. Stands MOST_SPANS doc (sel ∷ []) (map body_of l) names names) (sym c.new-drafts.ensures.items)
+    (stands_first MOST_SPANS doc c.args.tags.now.names names written (subst (AreListed c.args.tags.now.names) (sym shows) c.requires.listed)))
 
 pub returns-in_err-ensure-clause-err : goal.returns-in_err-ensure-clause-err
 returns-in_err-ensure-clause-err g c =
@@ -75,18 +75,18 @@ loop-name-preserved g c =
     let told = ap (λ n. is_listed n tags && not (is_listed n seen)) (sym c.deref.ensures) ∙ sym c.is_new.ensures in
     elim c.if-is_new.branch [
       | then-is_new+in_ok-ensure+in_ok-push_changes w ↦
-          rw (w.seen-is, w.drafts-is) (λ flat written shows.
-          let before : Stands MOST_SPANS flat seen done (name ∷ left) names = subst (λ l. Stands MOST_SPANS flat seen done l names) next (c.loop-name.invariant flat written shows) in
+          rw (w.seen-is, w.drafts-is) (λ doc written shows.
+          let before : Stands MOST_SPANS doc seen done (name ∷ left) names = subst (λ l. Stands MOST_SPANS doc seen done l names) next (c.loop-name.invariant doc written shows) in
           let new : is_listed name seen ≡ false = fresh (is_listed name tags) (is_listed name seen) (told ∙ w.if-is_new.true) in
-          let cells : cells_at all 0 shows_all ≡ cells_at everywhere 0 flat.cells =
+          let cells : cells_at all 0 shows_all ≡ cells_at everywhere 0 doc.cells =
           whole c.visible.result shows_all (c.visible.ensures ∙ sym (visible_many c.args.states.now kept)) ∙ ap (cells_at everywhere 0) (sym shows) in
           let drafts = w.in_ok-push_changes.ensures.ok ∙ (λ i. done ++ tag_drafts MOST_SPANS false (w.deref-then-is_new-2.ensures i) (changed_stamps (w.deref-then-is_new-2.ensures i) false (cells i))) in
-          subst (λ l. Stands MOST_SPANS flat l (map body_of w.push_changes.new.drafts.items) left names) (sym (w.in_ok-ensure.ensures.names ∙ ap (λ n. with_name n seen) w.deref-then-is_new.ensures))
-          (subst (λ l. Stands MOST_SPANS flat (with_name name seen) l left names) (sym drafts) (stands_more MOST_SPANS flat seen done name left names new before)))
+          subst (λ l. Stands MOST_SPANS doc l (map body_of w.push_changes.new.drafts.items) left names) (sym (w.in_ok-ensure.ensures.names ∙ ap (λ n. with_name n seen) w.deref-then-is_new.ensures))
+          (subst (λ l. Stands MOST_SPANS doc (with_name name seen) l left names) (sym drafts) (stands_more MOST_SPANS doc seen done name left names new before)))
       | else-is_new w ↦
-          rw (w.seen-is, w.drafts-is) (λ flat written shows.
-          stands_past MOST_SPANS flat tags seen done name left names refl (subst (AreListed tags) (sym shows) c.requires.listed) (told ∙ w.if-is_new.false)
-          (subst (λ l. Stands MOST_SPANS flat seen done l names) next (c.loop-name.invariant flat written shows)))
+          rw (w.seen-is, w.drafts-is) (λ doc written shows.
+          stands_past MOST_SPANS doc tags seen done name left names refl (subst (AreListed tags) (sym shows) c.requires.listed) (told ∙ w.if-is_new.false)
+          (subst (λ l. Stands MOST_SPANS doc seen done l names) next (c.loop-name.invariant doc written shows)))
     ]
   where
     fresh : (b d : Bool) → (b && not d) ≡ true → d ≡ false
@@ -95,7 +95,7 @@ loop-name-preserved g c =
     fresh false d h = absurd (cc h)
 
 pub returns-clause-ok : goal.returns-clause-ok
-returns-clause-ok g c = λ flat written shows.
+returns-clause-ok g c = λ doc written shows.
     let done : List Body = map body_of c.loop-name.drafts.items in
-    let s = c.loop-name.invariant flat written shows in
+    let s = c.loop-name.invariant doc written shows in
     sym (append-nil done) ∙ ap (λ l. done ++ tag_deletion_drafts MOST_SPANS s.doc (as_words l)) (sym (drop_all c.loop-name.name-index c.args.names.now (omega arith))) ∙ s.drafts

@@ -10,5 +10,5 @@ use Rattle.rt_plans.proofs.drafting.planned_tag_deletion.Given as goal
 
 abbrev pub invariant-loop-name : goal.invariant-loop-name
 invariant-loop-name g l =
-    (flat : DocValue) → AreWritten flat.count flat.cells → flat.cells ≡ map (shown l.states) (g.S.TextStore.list l.store)
-    → Stands MOST_SPANS flat l.seen.names (map body_of l.drafts.items) (as_words (drop l.name-index l.names)) (as_words l.names)
+    (doc : DocValue) → AreWritten doc.count doc.cells → doc.cells ≡ map (shown l.states) (g.S.TextStore.list l.store)
+    → Stands MOST_SPANS doc l.seen.names (map body_of l.drafts.items) (as_words (drop l.name-index l.names)) (as_words l.names)

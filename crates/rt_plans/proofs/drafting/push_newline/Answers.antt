@@ -10,8 +10,8 @@ use Rattle.rt_plans.specs.TagDrafts.{newline_drafts}
 use Rattle.rt_plans.proofs.RestLaws.{visible_given}
 use Rattle.rt_plans.proofs.drafting.push_newline.Goals as goal
 
-pub on-tag-items-requires : goal.on-tag-items-requires
-on-tag-items-requires g c = visible_given c.args.states.now (g.S.TextStore.list c.args.store.now) c.args.place c.cell_at-newline.result c.requires.states c.cell_at-newline.ensures
+pub on-requires : goal.on-requires
+on-requires g c = visible_given c.args.states.now (g.S.TextStore.list c.args.store.now) c.args.place c.cell_at-newline.result c.requires.states c.cell_at-newline.ensures
 
 pub returns-clause-ok : goal.returns-clause-ok
 returns-clause-ok g c =
@@ -22,6 +22,6 @@ returns-clause-ok g c =
     let before = map body_of c.args.drafts.now.items in
     let there : slice_get (visible_of (map (shown table) kept)) c.args.place ≡ Some (shown table newline) =
     visible_at_shown (state_at table) kept c.args.place ∙ ap (option_map (shown table)) c.cell_at-newline.ensures in
-    sym (append-nil bodies) ∙ ap (λ l. bodies ++ newline_drafts newline.stamp (map (name_at table) l)) (sym (drop_all c.loop-tag.tag-index c.on-tag-items.result.now (omega arith)))
-    ∙ c.loop-tag.invariant ∙ ap (λ l. before ++ newline_drafts newline.stamp l) c.on-tag-items.ensures.names
+    sym (append-nil bodies) ∙ ap (λ l. bodies ++ newline_drafts newline.stamp (map (name_at table) l)) (sym (drop_all c.loop-tag.tag-index c.as_slice-tag-items.result.now (omega arith)))
+    ∙ c.loop-tag.invariant ∙ ap (λ l. before ++ newline_drafts newline.stamp l) (ap (map (name_at table)) c.as_slice-tag-items.ensures.value ∙ c.in_ok-on.ensures.names)
     ∙ ap (λ o. before ++ unwrap_or (option_map (λ (cell : TaggedCell). newline_drafts cell.stamp (names_on cell.state)) o) []) (sym there)

@@ -11,4 +11,4 @@ pub returns-clause-may_be_made : goal.returns-clause-may_be_made
 returns-clause-may_be_made c = deletes_may_be_made
 
 pub returns-clause-made : goal.returns-clause-made
-returns-clause-made c = λ site log flat removed p h doc spared l. (removal_made site log flat removed p h doc spared l).document
+returns-clause-made c = λ site log document removed p h doc spared l. (removal_made site log document removed p h doc spared l).document

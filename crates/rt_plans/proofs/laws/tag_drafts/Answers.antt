@@ -36,7 +36,7 @@ pub returns-clause-deleted_counted : goal.returns-clause-deleted_counted
 returns-clause-deleted_counted c = all_deletions_counted
 
 pub returns-clause-characters : goal.returns-clause-characters
-returns-clause-characters c = λ flat places on names. tags_insert_none names flat places on
+returns-clause-characters c = λ doc places on names. tags_insert_none names doc places on
 
 pub returns-clause-deleted_characters : goal.returns-clause-deleted_characters
-returns-clause-deleted_characters c = λ flat names. deletions_insert_none names flat
+returns-clause-deleted_characters c = λ doc names. deletions_insert_none names doc

@@ -9,4 +9,4 @@ pub returns-clause-others : goal.returns-clause-others
 returns-clause-others c = others_stay_at
 
 pub returns-clause-written : goal.returns-clause-written
-returns-clause-written c = λ flat places on name h. tag_written flat places on name h
+returns-clause-written c = λ doc places on name h. tag_written doc places on name h

@@ -23,22 +23,27 @@ module _ (f : ℕ → Word) (p : Word → Bool) (tags both : List ℕ) (i tag : 
   left_out : p (f tag) ≡ false → map f both ≡ filter p (map f (take (i + 1) tags))
   left_out h = kept ∙ sym (append-nil (filter p (map f (take i tags)))) ∙ ap (λ b. filter p (map f (take i tags)) ++ cond b (f tag ∷ []) []) (sym h) ∙ more
 
+pub returns-in_err-on : goal.returns-in_err-on
+returns-in_err-on c =
+    let (y, is, gives) = err_from_is_err_and c.from_residual.result c.from_residual.ensures.1 in
+    rw (is, gives) (record { ok = tt; given = tt; err = c.in_err-on.ensures.fault })
+
 pub returns-in_err-push : goal.returns-in_err-push
 returns-in_err-push c =
-    let (y, is, gives) = err_from_is_err_and c.from_residual.result c.from_residual.ensures.1 in
+    let (y, is, gives) = err_from_is_err_and c.from_residual-in_err-push.result c.from_residual-in_err-push.ensures.1 in
     rw (is, gives) (record { ok = tt; given = tt; err = refl })
 
 pub loop-tag-preserved : goal.loop-tag-preserved
 loop-tag-preserved c =
     let t = c.args.states.now in
-    let tags = c.on-tag-items.result.now in
+    let tags = c.as_slice-tag-items.result.now in
     let i = c.loop-tag.tag-index in
     let tag = c.tag-item.result in
     let both = c.loop-tag.both.items in
     let inv = c.loop-tag.invariant in
     let p : Word → Bool = λ name. is_on name (state_at t c.args.right) in
     let Q : List ℕ → Type 0 = λ xs. (map (name_at t) xs ≡ filter p (map (name_at t) (take (i + 1) tags))) × All (IsTag t) xs in
-    let given : IsTag t tag = subst (IsTag t) (sym c.tag-item.is) (c.on-tag-items.ensures.tags i tag c.loop-tag-test.true) in
+    let given : IsTag t tag = subst (IsTag t) (sym c.tag-item.is) (subst (All (IsTag t)) (sym c.as_slice-tag-items.ensures.value) c.in_ok-on.ensures.tags i tag c.loop-tag-test.true) in
     let all : Q c.if-has.both.items = elim c.if-has.branch [
       | then-has+in_ok-push w ↦ subst Q (sym ((λ j. (w.both-is j).items) ∙ w.in_ok-push.ensures.items)) (
         picked (name_at t) p tags both i tag c.loop-tag-test.true c.tag-item.is inv.names (sym c.has.ensures ∙ w.if-has.true),
@@ -53,9 +58,9 @@ pub returns : goal.returns
 returns c =
     let t = c.args.states.now in
     let p : Word → Bool = λ name. is_on name (state_at t c.args.right) in
-    let all = take_all c.loop-tag.tag-index c.on-tag-items.result.now c.loop-tag-test.false in
+    let all = take_all c.loop-tag.tag-index c.as_slice-tag-items.result.now c.loop-tag-test.false in
     record {
-      ok = c.loop-tag.invariant.names ∙ ap (λ xs. filter p (map (name_at t) xs)) all ∙ ap (filter p) c.on-tag-items.ensures.names;
+      ok = c.loop-tag.invariant.names ∙ ap (λ xs. filter p (map (name_at t) xs)) all ∙ ap (filter p) (ap (map (name_at t)) c.as_slice-tag-items.ensures.value ∙ c.in_ok-on.ensures.names);
       given = c.loop-tag.invariant.given;
       err = tt;
     }

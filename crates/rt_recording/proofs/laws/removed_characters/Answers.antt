@@ -5,6 +5,6 @@ use Rattle.rt_recording.proofs.OnceReverted.{reversion_once}
 use Rattle.rt_recording.proofs.laws.removed_characters.Goals as goal
 
 pub returns : goal.returns
-returns c site log flat group p h doc sound fits once =
-    (reversion_once site log flat group [] p h doc sound fits
-    (once_fewer flat.cells (taken_by group ++ []) (taken_by group) (λ s. let all = times_append s (taken_by group) [] in omega (arith, all)) once)).formers
+returns c site log document group p h doc sound fits once =
+    (reversion_once site log document group [] p h doc sound fits
+    (once_fewer document.cells (taken_by group ++ []) (taken_by group) (λ s. let all = times_append s (taken_by group) [] in omega (arith, all)) once)).formers

@@ -168,12 +168,12 @@ returns-in_err-revert_all-clause-err g c =
     } in
     let same : named_group kept group ≡ named_group old group = later_group old kept group c.in_ok-cells.ensures.ids c.requires.given in
     rw (p.1, p.2) (spent
-    (λ k flat of. subst (λ (l : List (Action (List Word))). GREATEST_COUNT < (reversion flat l).doc.count) same
-    (k (portion_of flat group) (as_it_is flat) (group_had flat group) (begun_so_far kept states work store number count offsets group plan begun flat of)))
+    (λ k doc of. subst (λ (l : List (Action (List Word))). GREATEST_COUNT < (reversion doc l).doc.count) same
+    (k (portion_of doc group) (as_it_is doc) (group_had doc group) (begun_so_far kept states work store number count offsets group plan begun doc of)))
     c.in_err-revert_all.ensures.err)
 
 pub returns-clause-plan : goal.returns-clause-plan
-returns-clause-plan g c flat of =
+returns-clause-plan g c doc of =
     let old = c.args.kept.now in
     let kept = c.kept_cells.new.kept in
     let states = c.args.states.now in
@@ -209,20 +209,20 @@ returns-clause-plan g c flat of =
     let same : named_group kept group ≡ named_group old group = later_group old kept group c.in_ok-cells.ensures.ids c.requires.given in
     let late = g.C.TextStore.list c.revert_all.new.copy in
     let done = c.revert_all.new.plan in
-    let part = portion_of flat group in
-    let so_far : IsSoFar kept number late done part (reversion flat (named_group old group)) =
-    subst (λ (l : List (Action (List Word))). IsSoFar kept number late done part (reversion flat l)) same
-    (c.in_ok-revert_all.ensures.so_far part (as_it_is flat) (group_had flat group) (begun_so_far kept states work store number count offsets group plan begun flat of)) in
+    let part = portion_of doc group in
+    let so_far : IsSoFar kept number late done part (reversion doc (named_group old group)) =
+    subst (λ (l : List (Action (List Word))). IsSoFar kept number late done part (reversion doc l)) same
+    (c.in_ok-revert_all.ensures.so_far part (as_it_is doc) (group_had doc group) (begun_so_far kept states work store number count offsets group plan begun doc of)) in
     record {
       drafts = ap (map body_of) c.in_ok-reversal.ensures.drafts ∙ sym so_far.drafts;
-      actions = ended_group kept number late done part (reversion flat (named_group old group)) c.in_ok-reversal.reversal.actions.items c.in_ok-revert_all.ensures.going so_far c.in_ok-reversal.ensures.actions;
+      actions = ended_group kept number late done part (reversion doc (named_group old group)) c.in_ok-reversal.reversal.actions.items c.in_ok-revert_all.ensures.going so_far c.in_ok-reversal.ensures.actions;
       returns = c.in_ok-reversal.ensures.returns ∙ sym so_far.returns;
-      marks = ap (λ l. marks_after l flat.marks) c.in_ok-reversal.ensures.changes ∙ sym so_far.marks;
-      tags = ap (λ l. all_listed (as_words l) flat.tags) c.in_ok-reversal.ensures.names ∙ sym so_far.tags;
+      marks = ap (λ l. marks_after l doc.marks) c.in_ok-reversal.ensures.changes ∙ sym so_far.marks;
+      tags = ap (λ l. all_listed (as_words l) doc.tags) c.in_ok-reversal.ensures.names ∙ sym so_far.tags;
     }
 
 pub returns-clause-fits : goal.returns-clause-fits
-returns-clause-fits g c flat of =
+returns-clause-fits g c doc of =
     let old = c.args.kept.now in
     let kept = c.kept_cells.new.kept in
     let states = c.args.states.now in
@@ -258,10 +258,10 @@ returns-clause-fits g c flat of =
     let same : named_group kept group ≡ named_group old group = later_group old kept group c.in_ok-cells.ensures.ids c.requires.given in
     let late = g.C.TextStore.list c.revert_all.new.copy in
     let done = c.revert_all.new.plan in
-    let part = portion_of flat group in
-    let so_far : IsSoFar kept number late done part (reversion flat (named_group old group)) =
-    subst (λ (l : List (Action (List Word))). IsSoFar kept number late done part (reversion flat l)) same
-    (c.in_ok-revert_all.ensures.so_far part (as_it_is flat) (group_had flat group) (begun_so_far kept states work store number count offsets group plan begun flat of)) in
+    let part = portion_of doc group in
+    let so_far : IsSoFar kept number late done part (reversion doc (named_group old group)) =
+    subst (λ (l : List (Action (List Word))). IsSoFar kept number late done part (reversion doc l)) same
+    (c.in_ok-revert_all.ensures.so_far part (as_it_is doc) (group_had doc group) (begun_so_far kept states work store number count offsets group plan begun doc of)) in
     omega (arith, so_far.count, c.in_ok-revert_all.ensures.going.count)
 
 pub returns-clause-given : goal.returns-clause-given
@@ -302,12 +302,12 @@ returns-clause-changes g c =
       at = c.in_ok-offsets.ensures.offsets;
     } in
     let same : named_group kept group ≡ named_group old group = later_group old kept group c.in_ok-cells.ensures.ids c.requires.given in
-    let flat : DocValue = record (new_doc number 0) { cells = map (shown states) store; count = count } in
-    let of : IsOf states store number count flat = record { cells = refl; site = refl; count = refl } in
+    let doc : DocValue = record (new_doc number 0) { cells = map (shown states) store; count = count } in
+    let of : IsOf states store number count doc = record { cells = refl; site = refl; count = refl } in
     let late = g.C.TextStore.list c.revert_all.new.copy in
     let done = c.revert_all.new.plan in
-    let part = portion_of flat group in
-    let so_far : IsSoFar kept number late done part (reversion flat (named_group old group)) =
-    subst (λ (l : List (Action (List Word))). IsSoFar kept number late done part (reversion flat l)) same
-    (c.in_ok-revert_all.ensures.so_far part (as_it_is flat) (group_had flat group) (begun_so_far kept states work store number count offsets group plan begun flat of)) in
+    let part = portion_of doc group in
+    let so_far : IsSoFar kept number late done part (reversion doc (named_group old group)) =
+    subst (λ (l : List (Action (List Word))). IsSoFar kept number late done part (reversion doc l)) same
+    (c.in_ok-revert_all.ensures.so_far part (as_it_is doc) (group_had doc group) (begun_so_far kept states work store number count offsets group plan begun doc of)) in
     subst (AllByRecursion IsTextChange) (sym c.in_ok-reversal.ensures.changes) so_far.changes

@@ -31,32 +31,32 @@ returns-then-has_gap g c =
     let zero : (span.site == 0) ≡ false = (let n = c.if-span-eq0.false in grind (arith, nat_tests)) in
     let low : Span = record { site = span.site; first = span.first; last = c.min.result } in
     let gap : c.has_gap.result ≡ has_gap set (up_to (known_end set span.site) span) =
-    c.has_gap.ensures ∙ gap_kept set (g.S.TextStore.list c.args.store.now) c.requires low
-    ∙ (λ i. has_gap set (record { site = span.site; first = span.first; last = (c.min.ensures ∙ ap (min span.last) c.known-known.ensures) i })) in
+    c.has_gap.ensures ∙ gap_kept set (g.S.TextStore.list c.args.store.now) c.requires.cells low
+    ∙ (λ i. has_gap set (record { site = span.site; first = span.first; last = (c.min.ensures ∙ ap (min span.last) c.end_of-known.ensures) i })) in
     by_gap c.has_gap.result _ _ c.if-has_gap.true (target_by set c.args.op.now span c.has_gap.result _ _ zero gap refl refl)
 
-pub returns-then-span-site : goal.returns-then-span-site
-returns-then-span-site g c =
+pub returns-then-span-own : goal.returns-then-span-own
+returns-then-span-own g c =
     let set = c.args.log.now.operations in
     let span = c.args.span in
     let zero : (span.site == 0) ≡ false = (let n = c.if-span-eq0.false in grind (arith, nat_tests)) in
     let low : Span = record { site = span.site; first = span.first; last = c.min.result } in
     let gap : c.has_gap.result ≡ has_gap set (up_to (known_end set span.site) span) =
-    c.has_gap.ensures ∙ gap_kept set (g.S.TextStore.list c.args.store.now) c.requires low
-    ∙ (λ i. has_gap set (record { site = span.site; first = span.first; last = (c.min.ensures ∙ ap (min span.last) c.known-known.ensures) i })) in
-    let own : (span.site == c.site.result) ≡ (span.site == c.args.op.now.site) = ap (λ site. span.site == site) c.site.ensures in
-    by_past c.has_gap.result (span.site == c.site.result) c.goes_past.result _ c.if-has_gap.false (let n = c.if-span-site.true in grind (arith, nat_tests, n))
-    (target_by set c.args.op.now span c.has_gap.result (span.site == c.site.result) c.goes_past.result zero gap own c.goes_past.ensures)
+    c.has_gap.ensures ∙ gap_kept set (g.S.TextStore.list c.args.store.now) c.requires.cells low
+    ∙ (λ i. has_gap set (record { site = span.site; first = span.first; last = (c.min.ensures ∙ ap (min span.last) c.end_of-known.ensures) i })) in
+    let own : (span.site == c.args.own.site) ≡ (span.site == c.args.op.now.site) = ap (λ site. span.site == site) c.requires.site in
+    by_past c.has_gap.result (span.site == c.args.own.site) c.goes_past.result _ c.if-has_gap.false (let n = c.if-span-own.true in grind (arith, nat_tests, n))
+    (target_by set c.args.op.now span c.has_gap.result (span.site == c.args.own.site) c.goes_past.result zero gap own c.goes_past.ensures)
 
-pub returns-else-span-site : goal.returns-else-span-site
-returns-else-span-site g c =
+pub returns-else-span-own : goal.returns-else-span-own
+returns-else-span-own g c =
     let set = c.args.log.now.operations in
     let span = c.args.span in
     let zero : (span.site == 0) ≡ false = (let n = c.if-span-eq0.false in grind (arith, nat_tests)) in
     let low : Span = record { site = span.site; first = span.first; last = c.min.result } in
     let gap : c.has_gap.result ≡ has_gap set (up_to (known_end set span.site) span) =
-    c.has_gap.ensures ∙ gap_kept set (g.S.TextStore.list c.args.store.now) c.requires low
-    ∙ (λ i. has_gap set (record { site = span.site; first = span.first; last = (c.min.ensures ∙ ap (min span.last) c.known-known.ensures) i })) in
-    let own : (span.site == c.site.result) ≡ (span.site == c.args.op.now.site) = ap (λ site. span.site == site) c.site.ensures in
-    by_own c.has_gap.result (span.site == c.site.result) _ _ c.if-has_gap.false (let n = c.if-span-site.false in grind (arith, nat_tests, n))
-    (target_by set c.args.op.now span c.has_gap.result (span.site == c.site.result) _ zero gap own refl)
+    c.has_gap.ensures ∙ gap_kept set (g.S.TextStore.list c.args.store.now) c.requires.cells low
+    ∙ (λ i. has_gap set (record { site = span.site; first = span.first; last = (c.min.ensures ∙ ap (min span.last) c.end_of-known.ensures) i })) in
+    let own : (span.site == c.args.own.site) ≡ (span.site == c.args.op.now.site) = ap (λ site. span.site == site) c.requires.site in
+    by_own c.has_gap.result (span.site == c.args.own.site) _ _ c.if-has_gap.false (let n = c.if-span-own.false in grind (arith, nat_tests, n))
+    (target_by set c.args.op.now span c.has_gap.result (span.site == c.args.own.site) _ zero gap own refl)

@@ -35,7 +35,7 @@ returns g c table op character s e =
     let cells : List TaggedCell = map (shown table) kept in
     let body : Insert c.args.after [] (character ∷ []) ≡ op.body = sym e in
     record {
-      first = c.place_at.ensures ∙ ap (visible_before kept) c.after_skip.ensures ∙ (λ i. place_by (sym s i) (body i) kept) ∙ sym (place_shown means (stamp_of op) op.body kept);
+      first = c.visible_before.ensures ∙ ap (visible_before kept) c.after_skip.ensures ∙ (λ i. place_by (sym s i) (body i) kept) ∙ sym (place_shown means (stamp_of op) op.body kept);
       more = ap (λ (b : Body). length (inserted_by (stamp_of op) b)) body;
       removed = λ place. ap (λ (runs : List PlaceRun). is_in_runs runs place) c.new.ensures.items ∙ none_taken c.args.after (character ∷ []) cells place ∙ ap (λ (b : Body). takes_away b cells place) body;
       runs = subst (AreFallingRuns (length (visible_of cells))) (sym c.new.ensures.items) tt;

@@ -17,8 +17,8 @@ after_skip-requires-clause-above g c =
     let placed : IsPlaced (g.S.TextStore.list c.args.store.now) c.in-Insert.after (stamp_of c.args.op.now) = c.requires.placed c.in-Insert.after (as_words c.in-Insert.tags.items) c.in-Insert.text (sym c.edit.ensures.body ∙ ap body_of c.in-Insert.is) in
     ap (is_before FINAL) c.stamp.ensures ∙ placed.above
 
-pub place_at-requires-clause-within : goal.place_at-requires-clause-within
-place_at-requires-clause-within g c =
+pub visible_before-requires : goal.visible_before-requires
+visible_before-requires g c =
     let list = g.S.TextStore.list c.args.store.now in
     let placed : IsPlaced list c.in-Insert.after (stamp_of c.args.op.now) = c.requires.placed c.in-Insert.after (as_words c.in-Insert.tags.items) c.in-Insert.text (sym c.edit.ensures.body ∙ ap body_of c.in-Insert.is) in
     subst (λ n. n < length list) (sym (c.after_skip.ensures ∙ ap (skip_from list c.in-Insert.after) c.stamp.ensures)) placed.within

@@ -1,16 +1,16 @@
 use Rattle.std.proofs.Common.{◌≡◌, ◌∙◌, sym, ap, rules, arith, Some, None, true, false, [], drop, length, slice_get, subst, Option, not, Bool}
 use Rattle.std.proofs.lemmas.List.{drop_all}
-use Rattle.rt_tags.specs.declared.states.Entry.{Entry}
+use Rattle.rt_tags.specs.declared.states.TagEntry.{TagEntry}
 use Rattle.rt_rga.specs.Batches.{entry_if}
 use Rattle.rt_rga.proofs.LastWritten.{first_left, front_none, less_left, more_left, none_left, option_other, option_same, AreLeft}
 use Rattle.std.specs.Option.{is_some}
 use Rattle.rt_rga.proofs.plan.are_in_front.Goals as goal
 
-is_none_of : (o p : Option Entry) (r : Bool) → o ≡ p → is_some o ≡ not r → r ≡ true → p ≡ None
+is_none_of : (o p : Option TagEntry) (r : Bool) → o ≡ p → is_some o ≡ not r → r ≡ true → p ≡ None
 is_none_of None p r e k l = sym e
 is_none_of (Some x) p r e k l = absurd (let m : true ≡ false = k ∙ ap not l in cc m)
 
-none_is : (o p : Option Entry) (r : Bool) → o ≡ p → is_some o ≡ not r → p ≡ None → r ≡ true
+none_is : (o p : Option TagEntry) (r : Bool) → o ≡ p → is_some o ≡ not r → p ≡ None → r ≡ true
 none_is o p r e k l = let m : false ≡ not r = sym (ap is_some (e ∙ l)) ∙ k in grind (arith, m)
 
 pub loop-at-init : goal.loop-at-init

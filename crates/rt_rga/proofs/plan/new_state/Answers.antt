@@ -1,5 +1,5 @@
 use Rattle.std.proofs.Common.{◌≡◌, ◌∙◌, All, List, sym, subst, arith}
-use Rattle.rt_tags.specs.declared.states.Entry.{Entry}
+use Rattle.rt_tags.specs.declared.states.TagEntry.{TagEntry}
 use Rattle.rt_tags.specs.States.{IsTag, state_at, writes_at}
 use Rattle.rt_tags.specs.Writers.{state_after}
 use Rattle.rt_rga.specs.Batches.{entries_in_front}
@@ -15,4 +15,4 @@ returns-then-are_in_front-clause-state c =
 
 pub with_all-requires-clause-tags : goal.with_all-requires-clause-tags
 with_all-requires-clause-tags c =
-    subst (λ (es : List Entry). All (λ e. IsTag c.args.states.now e.tag) es) (sym (c.deref-2.ensures.value ∙ c.in_ok-entries.ensures.entries)) c.requires.tags
+    subst (λ (es : List TagEntry). All (λ e. IsTag c.args.states.now e.tag) es) (sym (c.deref-2.ensures.value ∙ c.in_ok-entries.ensures.entries)) c.requires.tags

@@ -1,6 +1,6 @@
 use Rattle.std.proofs.Common.{◌≡◌, ◌∙◌, ◌++◌, ◌-◌, ◌==◌, ◌||◌, not, true, All, List, Some, ap, get_or, sym, subst, rules}
 use Rattle.rt_stamps.specs.Stamps.{is_same}
-use Rattle.rt_tags.specs.declared.states.Entry.{Entry}
+use Rattle.rt_tags.specs.declared.states.TagEntry.{TagEntry}
 use Rattle.rt_tags.specs.States.{IsTag, state_at, writes_at}
 use Rattle.rt_tags.specs.Writers.{state_after}
 use Rattle.rt_rga.specs.Batches.{entries_in_front}
@@ -19,7 +19,7 @@ new_state-requires-clause-tags g c =
     let n = c.index-named-at.result in
     let s = (get_or named at n).stamp in
     let first : ((at == 0) || not (is_same (get_or named (at - 1) n).stamp (get_or named at n).stamp)) ≡ true = sym (c.is_first.ensures n) ∙ search rules in
-    subst (λ (es : List Entry). All (λ e. IsTag c.args.states.now e.tag) es)
+    subst (λ (es : List TagEntry). All (λ e. IsTag c.args.states.now e.tag) es)
     (sym (ap (λ rest. entries_in_front rest s) c.split_at.ensures.back ∙ all_from_first named at n c.requires.order c.requires.at (first_apart named at n first)))
     (tags_on c.args.states.now named (get_or named at n).stamp c.requires.tags)
 

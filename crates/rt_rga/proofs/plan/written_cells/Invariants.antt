@@ -1,6 +1,6 @@
 use Rattle.std.proofs.Common.{◌++◌, All}
 use Rattle.rt_tags.specs.States.{KeepsIds}
-use Rattle.rt_rga.specs.Batches.{HasEntries, IsWritten}
+use Rattle.rt_rga.specs.Batches.{HasEntries, WrittenIsGiven}
 use Rattle.rt_rga.proofs.PlannedStates.{AreCopied}
 use Rattle.rt_rga.proofs.plan.written_cells.Given as goal
 
@@ -10,6 +10,6 @@ invariant-loop-at g l =
     record {
       written : All (HasEntries l.initial.states l.named cells l.states) l.copies.items;
       copied : AreCopied cells l.named l.copies.items l.at;
-      last : IsWritten l.states l.last;
+      last : WrittenIsGiven l.states l.last;
       ids : KeepsIds l.initial.states l.states;
     }

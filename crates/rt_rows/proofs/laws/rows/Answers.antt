@@ -1,4 +1,5 @@
-use Rattle.rt_rows.proofs.TypedRows.{row_next, row_exact, typed_length}
+use Rattle.rt_rows.specs.Rows.{puts}
+use Rattle.rt_rows.proofs.Following.{row_next, row_exact, from_length}
 use Rattle.rt_rows.proofs.laws.rows.Goals as goal
 
 pub returns-clause-next : goal.returns-clause-next
@@ -8,4 +9,4 @@ pub returns-clause-exact : goal.returns-clause-exact
 returns-clause-exact c = row_exact
 
 pub returns-clause-length : goal.returns-clause-length
-returns-clause-length c = λ row. typed_length row.start 0 row.text
+returns-clause-length c = λ row. from_length row.start (puts row.start row.after) 0 row.text

@@ -1,5 +1,5 @@
 use Rattle.std.proofs.Common.{◌≡◌, ◌-◌, ◌<◌, ℕ, length, get_or, arith, ap, subst, sym, ◌∙◌}
-use Rattle.rt_search.specs.Borders.{IsBorder, key, pattern_read}
+use Rattle.rt_search.specs.Borders.{IsBorder, as_compared, pattern_read}
 use Rattle.rt_search.proofs.Falling.{Falls, falls_further, falls_none, falls_on, falls_out}
 use Rattle.rt_search.proofs.Reading.{other_key, pattern_has, same_key}
 use Rattle.rt_search.proofs.borders.further.Goals as goal
@@ -16,7 +16,7 @@ loop-search-preserved c =
     let now = c.loop-search.agreed in
     let x = c.index-pattern-read_at.result in
     let next = get_or c.args.borders.now (now - 1) 0 in
-    let has : p now ≡ key c.args.search.case x =
+    let has : p now ≡ as_compared c.args.search.case x =
     pattern_has c.args.search c.args.pattern.now now c.read_at.result x c.read_at.ensures.value c.read_at.ensures.within c.index-pattern-read_at.is in
     let inside : now - 1 < length c.args.borders.now = omega arith in
     let border : IsBorder p now next = subst (λ (n : ℕ). IsBorder p n next) (omega arith) (c.requires.borders.each (now - 1) inside) in
@@ -33,7 +33,7 @@ returns-then-agreed-eq0-clause-further c =
     let x = c.index-pattern-read_at.result in
     let now = c.loop-search.agreed in
     let none : now ≡ 0 = omega arith in
-    let has : p now ≡ key c.args.search.case x =
+    let has : p now ≡ as_compared c.args.search.case x =
     pattern_has c.args.search c.args.pattern.now now c.read_at.result x c.read_at.ensures.value c.read_at.ensures.within c.index-pattern-read_at.is in
     λ text start h e.
     falls_out p text start c.args.before (subst (λ (n : ℕ). Falls p text start c.args.before n) none (c.loop-search.invariant.falls text start h e))
@@ -44,7 +44,7 @@ returns-clause-further c =
     let p = pattern_read c.args.search c.args.pattern.now in
     let x = c.index-pattern-read_at.result in
     let now = c.loop-search.agreed in
-    let has : p now ≡ key c.args.search.case x =
+    let has : p now ≡ as_compared c.args.search.case x =
     pattern_has c.args.search c.args.pattern.now now c.read_at.result x c.read_at.ensures.value c.read_at.ensures.within c.index-pattern-read_at.is in
     λ text start h e.
     falls_further p text start c.args.before now (c.loop-search.invariant.falls text start h e)

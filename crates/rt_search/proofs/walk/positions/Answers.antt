@@ -3,20 +3,20 @@ use Rattle.std.proofs.lemmas.List.{map_more, take_all}
 use Rattle.std.proofs.lemmas.Result.{err_from_is_err_and}
 use Rattle.rt_stamps.specs.Places.{position_at}
 use Rattle.rt_stamps.specs.declared.position.Position.{Position}
-use Rattle.rt_search.specs.Walks.{Stands}
+use Rattle.rt_search.specs.Walks.{WalkStands}
 use Rattle.rt_search.specs.declared.walk.Walk.{Walk}
 use Rattle.rt_search.proofs.walk.positions.Goals as goal
 use Rattle.rt_search.proofs.walk.positions.Goals.{then-place-walk, else-place-walk}
 
-position_of : (text : List ℕ) (walk : Walk) → Stands text walk → ◌≡◌ {A = Position} (record { line = walk.line; character = walk.place - walk.start }) (position_at text walk.place)
+position_of : (text : List ℕ) (walk : Walk) → WalkStands text walk → ◌≡◌ {A = Position} (record { line = walk.line; character = walk.place - walk.start }) (position_at text walk.place)
 position_of text walk s = λ j. record { line = s.line j; character = walk.place - s.start j }
 
 pub position-requires : goal.position-requires
 position-requires g c =
     let text = c.args.text.now in
-    let stands : Stands text c.if-place-walk.walk = elim c.if-place-walk.branch [
-      | then-place-walk w ↦ subst (λ walk. Stands text walk) (sym w.walk-is) w.at-walk-then-place-walk.ensures.stands
-      | else-place-walk w ↦ subst (λ walk. Stands text walk) (sym w.walk-is) w.go_to.ensures.stands
+    let stands : WalkStands text c.if-place-walk.walk = elim c.if-place-walk.branch [
+      | then-place-walk w ↦ subst (λ walk. WalkStands text walk) (sym w.walk-is) w.at-walk-then-place-walk.ensures.stands
+      | else-place-walk w ↦ subst (λ walk. WalkStands text walk) (sym w.walk-is) w.go_to.ensures.stands
     ] in
     stands.before
 
@@ -30,9 +30,9 @@ loop-place-preserved g c =
     let text = c.args.text.now in
     let places = c.args.places.now in
     let index = c.loop-place.place-index in
-    let stands : Stands text c.if-place-walk.walk = elim c.if-place-walk.branch [
-      | then-place-walk w ↦ subst (λ walk. Stands text walk) (sym w.walk-is) w.at-walk-then-place-walk.ensures.stands
-      | else-place-walk w ↦ subst (λ walk. Stands text walk) (sym w.walk-is) w.go_to.ensures.stands
+    let stands : WalkStands text c.if-place-walk.walk = elim c.if-place-walk.branch [
+      | then-place-walk w ↦ subst (λ walk. WalkStands text walk) (sym w.walk-is) w.at-walk-then-place-walk.ensures.stands
+      | else-place-walk w ↦ subst (λ walk. WalkStands text walk) (sym w.walk-is) w.go_to.ensures.stands
     ] in
     let here : c.if-place-walk.walk.place ≡ get_or places index 0 = elim c.if-place-walk.branch [
       | then-place-walk w ↦ ap (λ (walk : Walk). walk.place) w.walk-is ∙ w.at-walk-then-place-walk.ensures.place

@@ -2,7 +2,7 @@ use Rattle.std.proofs.Common.{◌≡◌, ◌∙◌, ◌∷◌, List, ap, map}
 use Rattle.rt_plans.specs.DocValue.{DocValue}
 use Rattle.rt_marks.specs.Marks.{Mark, in_order, with_mark}
 use Rattle.rt_marks.specs.Seen.{spotted}
-use Rattle.rt_text.specs.Widgets.{mark_seen, own_shown, stretch_by}
+use Rattle.rt_text.specs.Widgets.{mark_seen, widget_shown, stretch_by}
 use Rattle.rt_lines.specs.declared.stretch.Stretch.{Stretch}
 use Rattle.rt_tagcmd.specs.MarkLists.{marks_from}
 use Rattle.rt_tagcmd.proofs.mark_list.sorted.Goals as goal
@@ -12,7 +12,7 @@ returns-clause-ok g c =
     let view = c.args.view.now in
     let from = c.args.from in
     let behind = c.args.behind in
-    let own = own_shown view in
+    let own = widget_shown view in
     let site = map (mark_seen (stretch_by view)) view.doc.marks in
     let marks : c.marks-marks.result.now ≡ view.doc.marks = c.marks-marks.ensures.value ∙ ap (λ (d : DocValue). d.marks) c.doc.ensures in
     let first : in_order (map spotted c.in_ok-spots.spots.items) ≡ marks_from from behind (in_order site) =

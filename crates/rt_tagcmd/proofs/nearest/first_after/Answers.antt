@@ -1,14 +1,14 @@
 use Rattle.std.proofs.Common.{◌≡◌, ◌∙◌, ap, find, option_map}
 use Rattle.rt_marks.specs.Marks.{Mark, comes_before, with_mark}
 use Rattle.rt_marks.specs.Seen.{spotted}
-use Rattle.rt_text.specs.Widgets.{marks_shown, own_shown}
+use Rattle.rt_text.specs.Widgets.{marks_shown, widget_shown}
 use Rattle.rt_tagcmd.proofs.nearest.first_after.Goals as goal
 
 pub returns : goal.returns
 returns g c =
     let view = c.args.view.now in
     let shown = marks_shown view in
-    let own = own_shown view in
+    let own = widget_shown view in
     let found : option_map spotted c.nearer_after-found.result ≡ find (comes_before (spotted c.args.here.now)) (with_mark own.current shown) =
     c.nearer_after-found.ensures shown c.order.ensures.site.1 c.first_shown.ensures
     ∙ ap (λ (x : Mark). find (comes_before (spotted c.args.here.now)) (with_mark x shown)) c.own_spot.ensures in

@@ -3,7 +3,7 @@ use Rattle.rt_tags.proofs.Merging.{first_in_new, first_in_old, first_is_equal, f
 use Rattle.std.proofs.lemmas.List.{length-map}
 use Rattle.std.proofs.lemmas.List.Elements.{All-head}
 use Rattle.rt_stamps.specs.Words.{as_words}
-use Rattle.rt_tags.specs.declared.states.Entry.{Entry}
+use Rattle.rt_tags.specs.declared.states.TagEntry.{TagEntry}
 use Rattle.rt_tags.specs.Kept.{HaveNames}
 use Rattle.rt_tags.proofs.sorting.first.Goals as goal
 
@@ -32,10 +32,10 @@ pub order-requires-clause-x : goal.order-requires-clause-x
 order-requires-clause-x c =
     let names : List (List ℕ) = as_words c.args.names.now in
     let named = subst (HaveNames (length names)) c.in-Some.ensures.cases.0 c.requires.old.named in
-    subst (λ n. c.in-Some.x.now.tag < n) (length-map c.args.names.now (λ s. string_bytes s)) (All-head (λ (e : Entry). e.tag < length names) c.in-Some.x.now c.in-Some.more_old.now named)
+    subst (λ n. c.in-Some.x.now.tag < n) (length-map c.args.names.now (λ s. string_bytes s)) (All-head (λ (e : TagEntry). e.tag < length names) c.in-Some.x.now c.in-Some.more_old.now named)
 
 pub order-requires-clause-y : goal.order-requires-clause-y
 order-requires-clause-y c =
     let names : List (List ℕ) = as_words c.args.names.now in
     let named = subst (HaveNames (length names)) c.in-Some-split_first-2.ensures.cases.0 c.requires.new.named in
-    subst (λ n. c.in-Some-split_first-2.y.now.tag < n) (length-map c.args.names.now (λ s. string_bytes s)) (All-head (λ (e : Entry). e.tag < length names) c.in-Some-split_first-2.y.now c.in-Some-split_first-2.more_new.now named)
+    subst (λ n. c.in-Some-split_first-2.y.now.tag < n) (length-map c.args.names.now (λ s. string_bytes s)) (All-head (λ (e : TagEntry). e.tag < length names) c.in-Some-split_first-2.y.now c.in-Some-split_first-2.more_new.now named)

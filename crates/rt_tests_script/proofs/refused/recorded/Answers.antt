@@ -3,7 +3,7 @@ use Rattle.std.specs.List.{AllByRecursion}
 use Rattle.std.specs.Prelude.{IfOk}
 use Rattle.rt_stamps.specs.declared.stamp.Stamp.{Stamp}
 use Rattle.rt_stamps.specs.Words.{Word}
-use Rattle.rt_undo.specs.Undo.{History, no_history}
+use Rattle.rt_undo.specs.Undo.{UndoHistory, no_history}
 use Rattle.rt_revert.specs.ReversionLaws.{AllMayRevert}
 use Rattle.rt_recording.specs.Recordings.{Recording, came_back}
 use Rattle.rt_recording.specs.Settled.{AreGoneOnce, removed_in_history}
@@ -20,8 +20,8 @@ invariant_of-result g c =
     ∙ subst (λ r. IfOk r (λ (recorder : Recording). (stamp : Stamp) → came_back recorder stamp ≡ false)) c.expect-recorder.ensures c.new.ensures.came_back s in
     record {
       gone = λ s back. let stayed = never s in absurd (cc (stayed, back));
-      taken = subst (λ (h : History (List Word)). AreGoneOnce c.args.view.doc.cells (removed_in_history h)) (sym none) (λ s. omega arith);
-      closed = subst (λ (h : History (List Word)). AllByRecursion AllMayRevert h.closed) (sym none) tt;
-      current = subst (λ (h : History (List Word)). AllMayRevert h.current) (sym none) tt;
-      undone = subst (λ (h : History (List Word)). AllByRecursion AllMayRevert h.undone) (sym none) tt;
+      taken = subst (λ (h : UndoHistory (List Word)). AreGoneOnce c.args.view.doc.cells (removed_in_history h)) (sym none) (λ s. omega arith);
+      closed = subst (λ (h : UndoHistory (List Word)). AllByRecursion AllMayRevert h.closed) (sym none) tt;
+      current = subst (λ (h : UndoHistory (List Word)). AllMayRevert h.current) (sym none) tt;
+      undone = subst (λ (h : UndoHistory (List Word)). AllByRecursion AllMayRevert h.undone) (sym none) tt;
     }

@@ -5,7 +5,7 @@ use Rattle.rt_plans.specs.Selected.{room_in}
 use Rattle.rt_store.specs.Spans.{is_among}
 use Rattle.rt_text.specs.declared.widget.Widget.{Widget}
 use Rattle.rt_plans.proofs.SelectionLaws.{done_more, rest_more}
-use Rattle.rt_text.specs.Owned.{own_of, selects_both}
+use Rattle.rt_text.specs.Owned.{widget_value, selects_both}
 use Rattle.rt_text.specs.Widgets.{reselected}
 use Rattle.rt_text.proofs.PeerLaws.{rest_same}
 use Rattle.rt_text.proofs.others.add_between.Goals as goal
@@ -31,7 +31,7 @@ loop-i-preserved c =
     let known = c.loop-i.invariant in
     let lt : i < length xs = omega (arith, c.loop-i-test.true) in
     record {
-      done = done_more own_of xs ys i d lt known.len known.rest (reselected (λ sel. selected_if (is_among sel c.args.left && is_among sel c.args.right) c.args.stamps.now sel)) x known.done c.select_if.ensures;
-      rest = rest_more own_of xs ys i d lt known.len known.rest x;
+      done = done_more widget_value xs ys i d lt known.len known.rest (reselected (λ sel. selected_if (is_among sel c.args.left && is_among sel c.args.right) c.args.stamps.now sel)) x known.done c.select_if.ensures;
+      rest = rest_more widget_value xs ys i d lt known.len known.rest x;
       len = length-set ys i x ∙ known.len;
     }

@@ -1,13 +1,13 @@
 use Rattle.std.proofs.Common.{◌≡◌, ◌&&◌, drop, length, map, take}
 use Rattle.rt_plans.specs.Insertions.{selected_if}
 use Rattle.rt_store.specs.Spans.{is_among}
-use Rattle.rt_text.specs.Owned.{own_of}
+use Rattle.rt_text.specs.Owned.{widget_value}
 use Rattle.rt_text.specs.Widgets.{reselected}
 use Rattle.rt_text.proofs.others.add_between.Given as goal
 
 abbrev pub invariant-loop-i : goal.invariant-loop-i
 invariant-loop-i l = record {
-  done : map own_of (take l.i l.others) ≡ map (reselected (λ sel. selected_if (is_among sel l.left && is_among sel l.right) l.stamps sel)) (map own_of (take l.i l.fn.others));
+  done : map widget_value (take l.i l.others) ≡ map (reselected (λ sel. selected_if (is_among sel l.left && is_among sel l.right) l.stamps sel)) (map widget_value (take l.i l.fn.others));
   rest : drop l.i l.others ≡ drop l.i l.fn.others;
   len : length l.others ≡ length l.fn.others;
 }

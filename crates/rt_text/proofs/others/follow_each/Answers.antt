@@ -1,10 +1,10 @@
 use Rattle.std.proofs.Common.{◌≡◌, get_or, ap, ◌<◌, ◌∙◌, arith, length}
 use Rattle.std.proofs.lemmas.List.{length-set}
 use Rattle.rt_rga.specs.Taken.{is_in_runs}
-use Rattle.rt_text.specs.Widgets.{own_inserted, own_left}
+use Rattle.rt_text.specs.Widgets.{widget_inserted, widget_without}
 use Rattle.rt_text.specs.declared.widget.Widget.{Widget}
 use Rattle.rt_plans.proofs.SelectionLaws.{done_more, rest_more}
-use Rattle.rt_text.specs.Owned.{own_of}
+use Rattle.rt_text.specs.Owned.{widget_value}
 use Rattle.rt_text.proofs.PeerLaws.{rest_same}
 use Rattle.rt_text.proofs.others.follow_each.Goals as goal
 
@@ -45,7 +45,7 @@ loop-i-preserved c =
     let known = c.loop-i.invariant in
     let lt : i < length xs = omega (arith, c.loop-i-test.true) in
     record {
-      done = done_more own_of xs ys i d lt known.len known.rest (λ own. own_left (is_in_runs c.args.change.now.removed.items) (own_inserted c.args.change.now.place c.args.change.now.inserted own)) x known.done c.follow.ensures;
-      rest = rest_more own_of xs ys i d lt known.len known.rest x;
+      done = done_more widget_value xs ys i d lt known.len known.rest (λ own. widget_without (is_in_runs c.args.change.now.removed.items) (widget_inserted c.args.change.now.place c.args.change.now.inserted own)) x known.done c.follow.ensures;
+      rest = rest_more widget_value xs ys i d lt known.len known.rest x;
       len = length-set ys i x ∙ known.len;
     }

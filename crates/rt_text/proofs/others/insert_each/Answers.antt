@@ -1,9 +1,9 @@
 use Rattle.std.proofs.Common.{◌≡◌, get_or, ap, ◌<◌, ◌∙◌, arith, length}
 use Rattle.std.proofs.lemmas.List.{length-set}
-use Rattle.rt_text.specs.Widgets.{own_inserted}
+use Rattle.rt_text.specs.Widgets.{widget_inserted}
 use Rattle.rt_text.specs.declared.widget.Widget.{Widget}
 use Rattle.rt_plans.proofs.SelectionLaws.{done_more, rest_more}
-use Rattle.rt_text.specs.Owned.{own_of}
+use Rattle.rt_text.specs.Owned.{widget_value}
 use Rattle.rt_text.proofs.PeerLaws.{rest_same}
 use Rattle.rt_text.proofs.others.insert_each.Goals as goal
 
@@ -41,7 +41,7 @@ loop-i-preserved c =
     let known = c.loop-i.invariant in
     let lt : i < length xs = omega (arith, c.loop-i-test.true) in
     record {
-      done = done_more own_of xs ys i d lt known.len known.rest (own_inserted c.args.place c.args.n) x known.done c.inserted.ensures;
-      rest = rest_more own_of xs ys i d lt known.len known.rest x;
+      done = done_more widget_value xs ys i d lt known.len known.rest (widget_inserted c.args.place c.args.n) x known.done c.inserted.ensures;
+      rest = rest_more widget_value xs ys i d lt known.len known.rest x;
       len = length-set ys i x ∙ known.len;
     }

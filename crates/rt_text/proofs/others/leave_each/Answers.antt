@@ -1,9 +1,9 @@
 use Rattle.std.proofs.Common.{◌<◌, ◌∙◌, arith, length}
 use Rattle.std.proofs.lemmas.List.{length-set}
 use Rattle.rt_plans.specs.Removals.{is_covered}
-use Rattle.rt_text.specs.Widgets.{own_left}
+use Rattle.rt_text.specs.Widgets.{widget_without}
 use Rattle.rt_plans.proofs.SelectionLaws.{done_more, rest_more}
-use Rattle.rt_text.specs.Owned.{own_of}
+use Rattle.rt_text.specs.Owned.{widget_value}
 use Rattle.rt_text.proofs.others.leave_each.Goals as goal
 
 pub loop-i-preserved : goal.loop-i-preserved
@@ -16,7 +16,7 @@ loop-i-preserved c =
     let known = c.loop-i.invariant in
     let lt : i < length xs = omega (arith, c.loop-i-test.true) in
     record {
-      done = done_more own_of xs ys i d lt known.len known.rest (own_left (is_covered c.args.removed.now)) x known.done c.leave.ensures;
-      rest = rest_more own_of xs ys i d lt known.len known.rest x;
+      done = done_more widget_value xs ys i d lt known.len known.rest (widget_without (is_covered c.args.removed.now)) x known.done c.leave.ensures;
+      rest = rest_more widget_value xs ys i d lt known.len known.rest x;
       len = length-set ys i x ∙ known.len;
     }

@@ -2,7 +2,7 @@ use Rattle.std.proofs.Common.{[], ◌∷◌, ◌<◌, ◌∙◌, arith, length}
 use Rattle.std.proofs.lemmas.List.{length-set}
 use Rattle.rt_plans.specs.Selections.{unselected}
 use Rattle.rt_plans.proofs.SelectionLaws.{done_more, rest_more}
-use Rattle.rt_text.specs.Owned.{own_of}
+use Rattle.rt_text.specs.Owned.{widget_value}
 use Rattle.rt_text.specs.Widgets.{reselected}
 use Rattle.rt_text.proofs.others.remove_from_each.Goals as goal
 
@@ -16,7 +16,7 @@ loop-i-preserved c =
     let known = c.loop-i.invariant in
     let lt : i < length xs = omega (arith, c.loop-i-test.true) in
     record {
-      done = done_more own_of xs ys i d lt known.len known.rest (reselected (unselected (c.args.stamp ∷ []))) x known.done c.unselect.ensures;
-      rest = rest_more own_of xs ys i d lt known.len known.rest x;
+      done = done_more widget_value xs ys i d lt known.len known.rest (reselected (unselected (c.args.stamp ∷ []))) x known.done c.unselect.ensures;
+      rest = rest_more widget_value xs ys i d lt known.len known.rest x;
       len = length-set ys i x ∙ known.len;
     }

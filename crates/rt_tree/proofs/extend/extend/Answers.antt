@@ -7,13 +7,13 @@ use Rattle.rt_tree.specs.declared.node.Counts.{Counts}
 use Rattle.rt_tree.specs.declared.node.CountedBy.TheVariants.{Cells}
 use Rattle.rt_tree.specs.declared.near.Seen.{Seen}
 use Rattle.rt_tree.specs.declared.node.Run.{Run}
-use Rattle.rt_tree.specs.Additions.{joined}
+use Rattle.rt_tree.specs.Additions.{run_joined}
 use Rattle.rt_tree.specs.Holds.{IsEndAt}
-use Rattle.rt_tree.specs.Homes.{IsPlaced}
-use Rattle.rt_tree.specs.Runs.{IsRun, cells_of}
+use Rattle.rt_tree.specs.Homes.{HasLeaves}
+use Rattle.rt_tree.specs.Runs.{IsRun, cells_of_runs}
 use Rattle.rt_tree.specs.Shape.{IsTree, Memory, runs_before, tree_runs}
 use Rattle.rt_tree.specs.Sharing.{AreOnce, is_shared_by}
-use Rattle.rt_tree.specs.Stretches.{AreKept, IsEdge, lengths}
+use Rattle.rt_tree.specs.Stretches.{AreRunsOfText, IsEdge, lengths}
 use Rattle.rt_tree.specs.Sums.{AreFew, counts_of, counts_of_run, plus}
 use Rattle.rt_tree.specs.Walks.{IsReplacedAt, IsSpot, StandsAt}
 use Rattle.rt_tree.proofs.Cutting.{few_all, few_with}
@@ -46,7 +46,7 @@ nat_is a b is = grind (arith, nat_tests)
 pub cell_near-found-requires-clause-few : goal.cell_near-found-requires-clause-few
 cell_near-found-requires-clause-few c =
     let old = tree_runs c.args.mem.now c.args.root.index in
-    let kept : AreKept old = record { text = c.args.new.now.text.now; short = c.requires.short; runs = c.requires.kept } in
+    let kept : AreRunsOfText old = record { text = c.args.new.now.text.now; short = c.requires.short; runs = c.requires.kept } in
     few_all old kept (omega (arith, c.requires.few))
 
 pub is_barred-requires-clause-kept : goal.is_barred-requires-clause-kept
@@ -103,7 +103,7 @@ returns-clause-home c =
     let home = c.requires.home (i.sure new_there) in
     home_more leaves after b old new (joined_holders f.run b st.left st.right old new joint st.here is) home
     (unknown_new leaves c.args.new.now.newest b old (record { text = c.args.new.now.text.now; kept = c.requires.kept; upto = c.requires.upto }) home (i.unknown new_there))
-    (joined_placed after f.run b joint (subst (IsPlaced after) c.joined-whole.ensures (e.placed sure)))
+    (joined_placed after f.run b joint (subst (HasLeaves after) c.joined-whole.ensures (e.placed sure)))
     e.keeps
     (entered_others leaves after c.joined-whole.result f.spot.leaf (e.entered sure) new st.left st.right (is ∙ ap (λ (x : Run). st.left ++ x ∷ st.right) (sym c.joined-whole.ensures)))
 
@@ -143,7 +143,7 @@ returns-clause-apart c =
 pub replace_at-requires-clause-few : goal.replace_at-requires-clause-few
 replace_at-requires-clause-few c =
     let old = tree_runs c.args.mem.now c.args.root.index in
-    let kept : AreKept old = record { text = c.args.new.now.text.now; short = c.requires.short; runs = c.requires.kept } in
+    let kept : AreRunsOfText old = record { text = c.args.new.now.text.now; short = c.requires.short; runs = c.requires.kept } in
     let st = there c.args.mem.now c.args.root.index c.requires.tree (c.args.new.now.at - 1) c.cell_near-found.result c.cell_near-found.ensures in let run = c.cell_near-found.result.run in let b = c.run_of-run.result in
     let w = ap (λ l. (counts_of l).cells) st.here ∙ counts_mid st.left run st.right in
     let low = c.run_of-run.ensures.front.within in let some = c.run_of-run.ensures.front.run.some in
@@ -239,7 +239,7 @@ returns-then-is_barred-clause-known c =
 pub counts_before-before-requires-clause-few : goal.counts_before-before-requires-clause-few
 counts_before-before-requires-clause-few c =
     let old = tree_runs c.args.mem.now c.args.root.index in
-    let kept : AreKept old = record { text = c.args.new.now.text.now; short = c.requires.short; runs = c.requires.kept } in
+    let kept : AreRunsOfText old = record { text = c.args.new.now.text.now; short = c.requires.short; runs = c.requires.kept } in
     few_all old kept (omega (arith, c.requires.few))
 
 pub counts_before-before-requires-clause-leaf : goal.counts_before-before-requires-clause-leaf
@@ -311,8 +311,8 @@ returns-then-is_barred-clause-typed c once on =
     let j = sym c.are_joint.ensures ∙ c.if-not-are_joint.false in
     let shared = sym c.is_barred.ensures ∙ c.if-is_barred.true in
     absurd (typed_apart text st.left f.run st.right cells b (subst (AllByRecursion (IsRun text)) st.here c.requires.kept) c.run_of-run.ensures.front (joint_true f.run b j)
-    (subst (λ (l : List Run). AreOnce (cells_of text l) cells) st.here once)
-    (subst (λ (l : List Run). list_any (is_shared_by (if f.run.len == 1 then joined f.run b else b)) l ≡ true) st.here shared))
+    (subst (λ (l : List Run). AreOnce (cells_of_runs text l) cells) st.here once)
+    (subst (λ (l : List Run). list_any (is_shared_by (if f.run.len == 1 then run_joined f.run b else b)) l ≡ true) st.here shared))
 
 pub returns-clause-typed : goal.returns-clause-typed
 returns-clause-typed c once on = whole_stretch on.before c.args.new.now.cells.now c.run_of-run.result.len on.one c.run_of-run.ensures.stretch

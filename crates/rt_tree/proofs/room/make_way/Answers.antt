@@ -1,7 +1,7 @@
 use Rattle.std.proofs.Common.{inr, ◌≡◌, ◌≢◌, ◌-◌, ◌<◌, suc, length, arith, refl, sym, ap, ◌∙◌, subst}
 use Rattle.rt_nodes.specs.Nodes.{entries}
 use Rattle.rt_tree.specs.Changes.{bare, above}
-use Rattle.rt_tree.specs.Shape.{level_of, parent_of, count_of, runs}
+use Rattle.rt_tree.specs.Shape.{level_of, parent_of, child_count, runs}
 use Rattle.rt_tree.proofs.Above.{above-is, above_top, roomy_split}
 use Rattle.rt_tree.proofs.Around.{below_top}
 use Rattle.rt_tree.proofs.Fills.{filled_split}
@@ -71,7 +71,7 @@ slot_of-slot-requires-clause-stands c =
     let nl : level_of (bare m) n ≡ k = ap (level_of (bare m)) c.above-node.ensures ∙ (omega (arith, ab.1, i.leaf.1)) in
     let nr : n ≢ r = below_top (bare m) h r i.tree n nis (omega (arith, nl, i.low)) in
     let kn = i.tree.known n nis nr in
-    omega (arith, kn.once, ap (λ y. count_of n (entries (bare m) y)) c.parent_of-parent.ensures)
+    omega (arith, kn.once, ap (λ y. child_count n (entries (bare m) y)) c.parent_of-parent.ensures)
 
 pub cut_node-requires-clause-node : goal.cut_node-requires-clause-node
 cut_node-requires-clause-node c =

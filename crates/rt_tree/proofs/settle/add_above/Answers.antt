@@ -8,7 +8,7 @@ use Rattle.rt_nodes.specs.Nodes.{entries, with_entry}
 use Rattle.rt_tree.proofs.Adding.{IsSmall, small-is}
 use Rattle.rt_tree.specs.declared.node.Totals.{Totals}
 use Rattle.rt_tree.specs.Changes.{AreExactBut, Lacks, bare, blank, strip, adds_up, entry_totals, join, with_more}
-use Rattle.rt_tree.specs.Shape.{runs, level_of, parent_of, Memory, IsShape, count_of}
+use Rattle.rt_tree.specs.Shape.{runs, level_of, parent_of, Memory, IsShape, child_count}
 use Rattle.rt_tree.proofs.Around.{at_top, below_top}
 use Rattle.rt_tree.proofs.Raise.{raise, root-exact, same-bare, set-links, small-node, sum-low}
 use Rattle.rt_tree.specs.Sums.{totals_of}
@@ -106,4 +106,4 @@ slot_of-slot-requires c =
     let lvl : level_of (bare m) n ≡ c.loop-level.level = ap (λ (b : Memory). level_of b n) i.same ∙ i.at_level in
     let nr = below_top (bare m) h r t n is (omega (arith, lvl, c.loop-level-test.true)) in
     let p = parent_in m h r t n c.parent_of-parent.result.index is nr c.parent_of-parent.ensures in
-    record { node = (p.0, p.1); stands = omega (arith, (t.known n is nr).once, ap (λ y. count_of n (entries (bare m) y)) c.parent_of-parent.ensures) }
+    record { node = (p.0, p.1); stands = omega (arith, (t.known n is nr).once, ap (λ y. child_count n (entries (bare m) y)) c.parent_of-parent.ensures) }

@@ -3,11 +3,11 @@ use Rattle.std.proofs.lemmas.List.{length-drop, take_all}
 use Rattle.std.proofs.lemmas.List.Elements.{All-drop}
 use Rattle.rt_store.specs.declared.cell.Cell.{Cell}
 use Rattle.rt_store.specs.Cells.{put_at}
-use Rattle.rt_tree.specs.Additions.{EndsWith, stretches}
+use Rattle.rt_tree.specs.Additions.{EndsWith, stretch_count}
 use Rattle.rt_tree.specs.Growing.{EndsThere}
-use Rattle.rt_tree.specs.Runs.{cells_of}
+use Rattle.rt_tree.specs.Runs.{cells_of_runs}
 use Rattle.rt_tree.specs.Shape.{tree_runs}
-use Rattle.rt_tree.specs.Sharing.{AreBelowGreatest, AreOnce, AreUpTo}
+use Rattle.rt_tree.specs.Sharing.{AreBelowGreatest, AreOnce, NoneIsNewer}
 use Rattle.rt_tree.proofs.Newest.{upto_drop, upto_more, upto_put}
 use Rattle.rt_tree.specs.Stretches.{AreChanged}
 use Rattle.rt_tree.proofs.Ends.{held_still}
@@ -40,9 +40,9 @@ put_runs-then-requires-clause-apart c = c.cut_home-end.ensures.recut.apart c.ext
 pub put_runs-then-requires-clause-upto : goal.put_runs-then-requires-clause-upto
 put_runs-then-requires-clause-upto c =
     let e = c.extend-extended.ensures in let text = c.args.new.now.text.now in let n = c.newest_of-newest.ensures in let m = c.newest_of-newest.result in
-    let old = cells_of text (tree_runs c.args.mem.now c.args.root.index) in
+    let old = cells_of_runs text (tree_runs c.args.mem.now c.args.root.index) in
     let front = take c.extend-extended.result.done c.args.new.now.cells.now in
-    subst (AreUpTo m) (sym (c.cut_home-end.ensures.recut.cells text e.cells.kept ∙ e.cells.cells))
+    subst (NoneIsNewer m) (sym (c.cut_home-end.ensures.recut.cells text e.cells.kept ∙ e.cells.cells))
     (upto_put m c.args.new.now.at front old (upto_more c.args.new.now.newest m old n.least c.requires.upto) n.cells)
 
 pub put_runs-then-requires-clause-last : goal.put_runs-then-requires-clause-last
@@ -74,8 +74,8 @@ put_runs-then-requires-clause-room c =
     omega (arith, a, b, m, l, x, y, z)
 
 -- so many runs are put in
-few : (cells : List (Cell ℕ)) (k more : ℕ) → k ≤ length cells → more ≤ stretches (take (length cells - k) (drop k cells)) → more ≤ stretches cells
-few cells k more w le = let e = ap stretches (rest_is k cells w) in let s = stretches_drop k cells in omega (arith, le, e, s)
+few : (cells : List (Cell ℕ)) (k more : ℕ) → k ≤ length cells → more ≤ stretch_count (take (length cells - k) (drop k cells)) → more ≤ stretch_count cells
+few cells k more w le = let e = ap stretch_count (rest_is k cells w) in let s = stretches_drop k cells in omega (arith, le, e, s)
 
 pub overflow_add-result : goal.overflow_add-result
 overflow_add-result c =
@@ -108,7 +108,7 @@ returns-clause-more c =
     let mid = tree_runs c.cut_home-end.new.mem c.cut_home-end.result.change.root.index in
     let k = c.cut_home-end.ensures.more in
     λ once. let o = rest_once c.args.new.now.text.now old (tree_runs c.extend-extended.new.mem c.args.root.index) c.args.new.now.at done cells r.kept e.cells e.within r.within mid c.cut_home-end.ensures.recut once in
-    let p = subst (λ (x : List (Cell ℕ)). AreOnce (cells_of c.args.new.now.text.now mid) x) (sym (rest_is done cells e.within)) o in
+    let p = subst (λ (x : List (Cell ℕ)). AreOnce (cells_of_runs c.args.new.now.text.now mid) x) (sym (rest_is done cells e.within)) o in
     let m = few cells done c.put_runs-then.result.more e.within (c.put_runs-then.ensures.more p) in
     omega (arith, m, k)
 
@@ -166,7 +166,7 @@ returns-clause-sure c = λ was once below.
     let mid = tree_runs c.cut_home-end.new.mem c.cut_home-end.result.change.root.index in
     let same = sym (rest_is done cells e.within) in
     let o = rest_once c.args.new.now.text.now old (tree_runs c.extend-extended.new.mem c.args.root.index) c.args.new.now.at done cells r.kept e.cells e.within r.within mid c.cut_home-end.ensures.recut once in
-    let p = subst (λ (x : List (Cell ℕ)). AreOnce (cells_of c.args.new.now.text.now mid) x) same o in
+    let p = subst (λ (x : List (Cell ℕ)). AreOnce (cells_of_runs c.args.new.now.text.now mid) x) same o in
     let b = subst AreBelowGreatest same (upto_drop (2 ^ 64 - 2) done cells below) in
     c.put_runs-then.ensures.sure (c.cut_home-end.ensures.sure ∙ e.sure was once below) p b
 

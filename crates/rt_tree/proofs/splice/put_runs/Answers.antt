@@ -3,9 +3,9 @@ use Rattle.std.proofs.lemmas.List.Elements.{All-drop}
 use Rattle.std.specs.Prelude.{IfSome}
 use Rattle.rt_tree.specs.Growing.{EndsThere}
 use Rattle.rt_tree.specs.Holds.{IsEndAt}
-use Rattle.rt_tree.specs.Runs.{cells_of}
+use Rattle.rt_tree.specs.Runs.{cells_of_runs}
 use Rattle.rt_tree.specs.Shape.{tree_runs}
-use Rattle.rt_tree.specs.Sharing.{AreUpTo}
+use Rattle.rt_tree.specs.Sharing.{NoneIsNewer}
 use Rattle.rt_tree.proofs.Ends.{known_behind}
 use Rattle.rt_tree.proofs.Newest.{upto_drop, upto_next}
 use Rattle.rt_tree.proofs.Splicing.{all_spliced, fewer_cells, more_spliced, new_ends, none_spliced, spliced_few, spliced_low, spliced_once, spliced_runs, spliced_with, spliced_within}
@@ -61,12 +61,12 @@ loop-done-preserved c =
     let p = c.put_home-root.ensures in let len = c.choose-next.result.run.len in let m = c.newest_of-newest.result in
     let now = tree_runs l.mem l.root.index in let new = tree_runs c.put_home-root.new.mem c.put_home-root.result.index in
     let n : l.done + len - l.done ≡ len = omega arith in
-    let more = subst (λ i. AreUpTo m (take i (drop l.done c.args.new.now.cells.now))) n c.newest_of-newest.ensures.cells in
+    let more = subst (λ i. NoneIsNewer m (take i (drop l.done c.args.new.now.cells.now))) n c.newest_of-newest.ensures.cells in
     let then_spliced = more_spliced c.args.new.now.text.now old (tree_runs l.mem l.root.index) c.args.new.now.at l.done l.more l.lone c.args.new.now.cells.now r.kept r.short r.few r.within l.invariant.spliced c.choose-next.result.run c.choose-next.ensures.run (tree_runs c.put_home-root.new.mem c.put_home-root.result.index) p.runs c.choose-next.result.lone c.choose-next.ensures.apart c.choose-next.ensures.stretch in
     record {
       tree = p.tree;
       spliced = then_spliced;
-      upto = upto_next l.newest m c.args.new.now.at l.done len c.args.new.now.cells.now (cells_of c.args.new.now.text.now old) (cells_of c.args.new.now.text.now now) (cells_of c.args.new.now.text.now new) c.newest_of-newest.ensures.least l.invariant.spliced.changed.cells then_spliced.changed.cells l.invariant.upto more;
+      upto = upto_next l.newest m c.args.new.now.at l.done len c.args.new.now.cells.now (cells_of_runs c.args.new.now.text.now old) (cells_of_runs c.args.new.now.text.now now) (cells_of_runs c.args.new.now.text.now new) c.newest_of-newest.ensures.least l.invariant.spliced.changed.cells then_spliced.changed.cells l.invariant.upto more;
       room = p.room ∙ l.invariant.room;
       told = p.told;
       tags = p.tags ∙ l.invariant.tags;

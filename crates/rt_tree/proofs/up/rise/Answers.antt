@@ -1,6 +1,6 @@
 use Rattle.std.proofs.Common.{◌≡◌, ℕ, refl, arith, sym, ap, ◌∙◌, subst, ◌<◌, length}
 use Rattle.rt_nodes.specs.Nodes.{entries}
-use Rattle.rt_tree.specs.Shape.{Memory, left_of, level_of, parent_of, sum_of, count_of}
+use Rattle.rt_tree.specs.Shape.{Memory, left_of, level_of, parent_of, sum_of, child_count}
 use Rattle.rt_tree.specs.Sums.{AreFew, plus}
 use Rattle.rt_tree.proofs.Rising.{Rising, arrives, few-above, few-before, goes_up, sets_out}
 use Rattle.rt_tree.proofs.Stands.{parted}
@@ -81,9 +81,9 @@ counts_with_left-before-requires-clause-child g c =
     let id = c.loop-node.node.index in
     let known = c.requires.tree.shape.known id old.rising.is c.loop-node-test.true in
     let parent : c.parent-parent.result.index ≡ parent_of m id = c.parent-parent.ensures ∙ ap (λ n. parent_of n id) old.same in
-    let once : 0 < count_of id (entries m (parent_of m id)) = omega (arith, known.once) in
-    let P : ℕ → Type 0 = λ p. 0 < count_of id (entries m p) in
-    let Q : Memory → Type 0 = λ n. 0 < count_of id (entries n c.parent-parent.result.index) in
+    let once : 0 < child_count id (entries m (parent_of m id)) = omega (arith, known.once) in
+    let P : ℕ → Type 0 = λ p. 0 < child_count id (entries m p) in
+    let Q : Memory → Type 0 = λ n. 0 < child_count id (entries n c.parent-parent.result.index) in
     subst Q (sym old.same) (subst P (sym parent) once)
 
 pub counts_with_left-before-requires-clause-parent : goal.counts_with_left-before-requires-clause-parent

@@ -1,6 +1,6 @@
 use Rattle.std.proofs.Common.{◌≡◌, ◌∙◌, ap, subst, sym, true}
 use Rattle.rt_holding.specs.Grown.{AreTriedAt, HeldValue}
-use Rattle.rt_holding.specs.Holding.{without}
+use Rattle.rt_holding.specs.Holding.{without_op}
 use Rattle.rt_holding.specs.Kept.{ops_in}
 use Rattle.rt_holding.specs.Waits.{are_tried_at, is_tried_at}
 use Rattle.rt_holding.proofs.Places.{forgotten}
@@ -37,6 +37,6 @@ returns-clause-offered g c =
     let site = c.take.new.self in
     let less = c.take_away.new.ops.entries in
     let out = (forgotten c.self.inside.arrivals c.args.op c.standing_of-held.result c.self.inside.ops.entries less c.self.invariant.held
-    c.standing_of-held.ensures.some c.standing_of-held.ensures.none c.take_away.ensures.some c.take_away.ensures.none).ops ∙ ap (λ (v : HeldValue). without c.args.op v.held) c.self.view_is in
+    c.standing_of-held.ensures.some c.standing_of-held.ensures.none c.take_away.ensures.some c.take_away.ensures.none).ops ∙ ap (λ (v : HeldValue). without_op c.args.op v.held) c.self.view_is in
     taken_state log after (g.T.Taking.limit c.args.site.now) (g.T.Taking.limit site) c.args.op c.args.site.now site c.args.self.now.held (ops_in less) c.settle.new.site c.settle.new.self.held c.settle.result
     c.take.ensures.limit c.in-Ok.ensures.taken c.in-Ok.ensures.log out c.settle.ensures.tried

@@ -1,6 +1,6 @@
 use Rattle.std.proofs.Common.{◌∙◌, ◌<◌, ap, arith, length, string_bytes}
 use Rattle.std.proofs.lemmas.List.{take_all}
-use Rattle.rt_marks.specs.Seen.{in_slots, names_of}
+use Rattle.rt_marks.specs.Seen.{in_slots, names_of_marks}
 use Rattle.rt_marks.specs.Tables.{slots_of}
 use Rattle.rt_marks.proofs.Tables.{names_pushed, slot_there}
 use Rattle.rt_marks.proofs.table.Table.names.Goals as goal
@@ -19,4 +19,4 @@ loop-rank-preserved c =
 pub returns : goal.returns
 returns c =
     let table = c.args.self.now in
-    c.loop-rank.invariant ∙ ap (λ v. names_of (in_slots (slots_of table) v)) (take_all c.loop-rank.rank table.by_name.items (omega (arith, c.loop-rank-test.false, c.len-rank-end.ensures, table.by_name.ok.0)))
+    c.loop-rank.invariant ∙ ap (λ v. names_of_marks (in_slots (slots_of table) v)) (take_all c.loop-rank.rank table.by_name.items (omega (arith, c.loop-rank-test.false, c.len-rank-end.ensures, table.by_name.ok.0)))

@@ -2,7 +2,7 @@ use Rattle.std.proofs.Common.{◌∙◌, ap, arith, not, refl, take}
 use Rattle.std.proofs.lemmas.List.{take_all}
 use Rattle.rt_stamps.specs.Words.{as_words}
 use Rattle.rt_marks.specs.Marks.{is_one_of, without_all}
-use Rattle.rt_marks.specs.Tables.{marks_of, slots_of}
+use Rattle.rt_marks.specs.Tables.{marks_in_table, slots_of}
 use Rattle.rt_marks.proofs.Cutting.{all_there, one_name_more}
 use Rattle.rt_marks.proofs.Tables.{seen_length}
 use Rattle.rt_marks.proofs.table.Table.remove_all.Goals as goal
@@ -35,4 +35,4 @@ returns-clause-marks c =
     let i = c.loop-name.name-index in
     c.cut.ensures.marks (λ m. not (is_one_of (as_words (take i names)) m)) c.loop-name.invariant.parted
     ∙ ap (without_all (as_words (take i names))) c.loop-name.invariant.marks
-    ∙ ap (λ v. without_all (as_words v) (marks_of c.args.self.now)) (take_all i names c.loop-name-test.false)
+    ∙ ap (λ v. without_all (as_words v) (marks_in_table c.args.self.now)) (take_all i names c.loop-name-test.false)

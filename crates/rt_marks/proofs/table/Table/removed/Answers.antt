@@ -1,7 +1,7 @@
 use Rattle.std.proofs.Common.{◌≡◌, ap}
 use Rattle.rt_marks.specs.Marks.{marks_removed}
 use Rattle.rt_marks.specs.Seen.{IsIndexed, in_slots, seen_all}
-use Rattle.rt_marks.specs.Tables.{marks_of, slots_of}
+use Rattle.rt_marks.specs.Tables.{marks_in_table, slots_of}
 use Rattle.rt_marks.proofs.Removing.{rewritten, rewritten_table, right_room}
 use Rattle.rt_marks.proofs.Slots.{are_ordered}
 use Rattle.rt_marks.proofs.table.Table.removed.Goals as goal
@@ -22,7 +22,7 @@ write_those-requires c =
     right_room (slots_of table) (seen_all c.remove_places.new.marks.items) (slots_of middle) table.by_name.items middle.by_name.items table.in_order.items middle.in_order.items c.count_below-start.result c.args.place c.args.n c.write_those-middle.result r
     (ap (λ v. seen_all v.items) c.write_those-middle.ensures.marks) (ap (λ v. v.items) c.write_those-middle.ensures.by_name) c.write_those-middle.ensures.end c.write_those-middle.ensures.in_order
 
-then : (c : goal.After-write_those) → IsIndexed (slots_of c.write_those.new.self) c.write_those.new.self.by_name.items c.write_those.new.self.in_order.items × (in_slots (slots_of c.write_those.new.self) c.write_those.new.self.in_order.items ≡ marks_removed c.args.place c.args.n (marks_of c.args.self.now))
+then : (c : goal.After-write_those) → IsIndexed (slots_of c.write_those.new.self) c.write_those.new.self.by_name.items c.write_those.new.self.in_order.items × (in_slots (slots_of c.write_those.new.self) c.write_those.new.self.in_order.items ≡ marks_removed c.args.place c.args.n (marks_in_table c.args.self.now))
 then c =
     let table = c.args.self.now in
     let middle = c.write_those-middle.new.self in

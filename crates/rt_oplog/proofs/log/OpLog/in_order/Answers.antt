@@ -12,7 +12,7 @@ returns-clause-operations c =
     let ops = c.self.inside.ops.rows in
     let list = c.deref-place-items.result.now in
     let same : list ≡ c.self.inside.order.items = c.deref-place-items.ensures.value ∙ c.in_ok-places.ensures in
-    rw (← c.self.view_is) (c.loop-place.invariant ∙ ap (map (op_at ops)) (take_all c.loop-place.place-index list (omega (arith, c.loop-place-test.false)) ∙ same) ∙ sym (seen_reversed ops c.self.inside.order.items))
+    rw (← c.self.view_is) (c.loop-place.invariant.seen ∙ ap (map (op_at ops)) (take_all c.loop-place.place-index list (omega (arith, c.loop-place-test.false)) ∙ same) ∙ sym (seen_reversed ops c.self.inside.order.items))
 
 pub op_in-requires : goal.op_in-requires
 op_in-requires c =
@@ -26,9 +26,9 @@ op_in-requires c =
 pub returns-in_err-push : goal.returns-in_err-push
 returns-in_err-push c =
     let (y, is, gives) = err_from_is_err_and c.from_residual-in_err-push.result c.from_residual-in_err-push.ensures.1 in
-    rw (is, gives) (record { operations = tt; fault = refl })
+    rw (is, gives) (record { operations = tt; rules = tt; fault = refl })
 
 pub returns-in_err-places : goal.returns-in_err-places
 returns-in_err-places c =
     let (y, is, gives) = err_from_is_err_and c.from_residual.result c.from_residual.ensures.1 in
-    rw (is, gives) (record { operations = tt; fault = refl })
+    rw (is, gives) (record { operations = tt; rules = tt; fault = refl })

@@ -1,7 +1,7 @@
 use Rattle.std.proofs.Common.{◌≡◌, ◌<◌, ◌≤◌, ◌∙◌, Err, List, ap, arith, length, refl, subst, sym}
 use Rattle.std.specs.Prelude.{IfErr}
 use Rattle.rt_stamps.specs.Words.{as_words}
-use Rattle.rt_peers.specs.SiteValue.{SiteValue, holding_of}
+use Rattle.rt_peers.specs.SiteValue.{SiteValue, holding_of_site}
 use Rattle.rt_store.specs.Shown.{TaggedCell}
 use Rattle.rt_ops.specs.Operations.{Operation}
 use Rattle.rt_holding.specs.Grown.{AreTriedAt, AreTriedBefore}
@@ -18,7 +18,7 @@ pub invariant_of-self : goal.invariant_of-self
 invariant_of-self c =
     let steps = asked_steps c.args.number c.args.request.now c.self.inside.text c.ask-reply.new.self c.ask-reply.result c.ask-reply.ensures.answers in
     let mid : SiteValue = record { paths = as_words c.self.inside.paths.items; text = c.ask-reply.new.self; held = c.self.inside.held.held } in
-    let tried = tried_stay (text_limit mid.text) (holding_of mid) mid.text c.settle.new.site c.settle.new.self.held c.settle.result c.settle.ensures.tried in
+    let tried = tried_stay (text_limit mid.text) (holding_of_site mid) mid.text c.settle.new.site c.settle.new.self.held c.settle.result c.settle.ensures.tried in
     record {
       paths = record { each = omega (arith, steps.number, tried, c.self.invariant.paths.each); differ = c.self.invariant.paths.differ };
       tried = c.settle.ensures.log;

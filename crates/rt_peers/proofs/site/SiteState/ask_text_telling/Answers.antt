@@ -2,7 +2,7 @@ use Rattle.std.proofs.Common.{◌≡◌, ◌<◌, ◌≤◌, ◌∙◌, Err, Lis
 use Rattle.std.specs.Prelude.{IfErr, IfSome}
 use Rattle.std.proofs.lemmas.Option.{IfSome_then}
 use Rattle.rt_stamps.specs.Words.{as_words}
-use Rattle.rt_peers.specs.SiteValue.{SiteValue, holding_of}
+use Rattle.rt_peers.specs.SiteValue.{SiteValue, holding_of_site}
 use Rattle.rt_store.specs.Shown.{TaggedCell}
 use Rattle.rt_ops.specs.Operations.{Operation}
 use Rattle.rt_holding.specs.Grown.{AreTriedAt, AreTriedBefore}
@@ -76,7 +76,7 @@ invariant_of-self-2 c =
     let settled = c.settle_telling-changes in
     let steps = asked_steps c.args.number c.args.request.now c.self.inside.text asked.new.self asked.result.reply asked.ensures.answers in
     let mid : SiteValue = record { paths = as_words c.self.inside.paths.items; text = asked.new.self; held = c.self.inside.held.held } in
-    let tried = tried_stay (text_limit mid.text) (holding_of mid) mid.text settled.new.self settled.new.held.held settled.ensures.tries.0 settled.ensures.tries.1 in
+    let tried = tried_stay (text_limit mid.text) (holding_of_site mid) mid.text settled.new.self settled.new.held.held settled.ensures.tries.0 settled.ensures.tries.1 in
     record {
       paths = record { each = omega (arith, steps.number, tried, c.self.invariant.paths.each); differ = c.self.invariant.paths.differ };
       tried = settled.ensures.log;

@@ -4,7 +4,7 @@ use Rattle.std.proofs.lemmas.Result.{err_from_is_err_and}
 use Rattle.rt_stamps.specs.Words.{Word}
 use Rattle.std.specs.Prelude.{List}
 use Rattle.rt_revert.specs.ReversionLaws.{AllMayRevert}
-use Rattle.rt_undo.specs.Undo.{History}
+use Rattle.rt_undo.specs.Undo.{UndoHistory}
 use Rattle.rt_peers.proofs.Growing.{none_taken}
 use Rattle.rt_peers.proofs.text.EditedText.new.Goals as goal
 
@@ -19,9 +19,9 @@ invariant_of-result c =
     record {
       gone = λ s back. let never = c.in_ok-recorder.ensures.came_back s in absurd (cc (never, back));
       taken = none_taken _ _ none;
-      closed = subst (λ (h : History (List Word)). AllByRecursion AllMayRevert h.closed) (sym none) tt;
-      current = subst (λ (h : History (List Word)). AllMayRevert h.current) (sym none) tt;
-      undone = subst (λ (h : History (List Word)). AllByRecursion AllMayRevert h.undone) (sym none) tt;
+      closed = subst (λ (h : UndoHistory (List Word)). AllByRecursion AllMayRevert h.closed) (sym none) tt;
+      current = subst (λ (h : UndoHistory (List Word)). AllMayRevert h.current) (sym none) tt;
+      undone = subst (λ (h : UndoHistory (List Word)). AllByRecursion AllMayRevert h.undone) (sym none) tt;
     }
 
 pub returns-in_err-store : goal.returns-in_err-store

@@ -4,7 +4,7 @@ use Rattle.std.proofs.lemmas.Iterator.Adapters.{YieldsList-from_vec}
 use Rattle.std.proofs.lemmas.Iterator.Consumers.{YieldsList-end, YieldsList-turn}
 use Rattle.std.proofs.lemmas.List.{length_push}
 use Rattle.rt_ops.specs.Operations.{Operation}
-use Rattle.rt_rows.specs.Views.{operation_in}
+use Rattle.rt_ops.specs.Views.{operation_in}
 use Rattle.rt_peers.proofs.Noting.{IsOwnAt, all_own, one_more_own, own_change}
 use Rattle.rt_peers.proofs.text.noting.told_from.Goals as goal
 
@@ -18,7 +18,7 @@ loop-change-preserved c =
     let is : op ≡ operation_in c.get.result = c.in-Ok.ensures.ok in
     let at : c.args.from + length c.loop-change.yielded ≡ c.loop-change.place = omega (arith, c.loop-change.invariant.at) in
     let found : slice_get (reverse log) (c.args.from + length c.loop-change.yielded) ≡ Some op =
-    ap (slice_get (reverse log)) at ∙ c.get.ensures ∙ ap (λ (o : Operation). Some o) (sym is) in
+    ap (slice_get (reverse log)) at ∙ c.get.ensures.is ∙ ap (λ (o : Operation). Some o) (sym is) in
     let own = own_change log c.args.changes.items c.args.from (length c.loop-change.yielded) op c.in-Some.change c.requires.many c.requires.newest t.0 t.1 found in
     record {
       at = let n = length_push c.loop-change.yielded c.in-Some.change in omega (arith, n, c.loop-change.invariant.at);

@@ -2,7 +2,7 @@ use Rattle.std.proofs.Common.{◌≡◌, ◌∙◌, List, Some, ap, subst, sym}
 use Rattle.std.specs.List.{AllByRecursion}
 use Rattle.rt_stamps.specs.Words.{Word}
 use Rattle.rt_undo.specs.Actions.{group_of}
-use Rattle.rt_undo.specs.Undo.{History, next_undo, renamed_by, undo_done}
+use Rattle.rt_undo.specs.Undo.{UndoHistory, next_undo, renamed_by, undo_done}
 use Rattle.rt_recording.specs.Naming.{named_group}
 use Rattle.rt_recording.specs.Recordings.{came_back}
 use Rattle.rt_recording.specs.Returns.{IsOther, Return, back_after, stamp_after}
@@ -26,7 +26,7 @@ returns-clause-settled g c =
     record {
       gone = λ stamp e. c.in_ok-returns.ensures.gone stamp
           (ap (λ (l : List Return). back_after l (came_back between) stamp) (sym c.deref-2.ensures.value) ∙ sym (c.undone.ensures.came_back stamp) ∙ e);
-      taken = subst (λ (h : History (List Word)). AreGoneOnce c.revert.new.view.doc.cells (removed_in_history h)) (sym (c.undone.ensures.history ∙ (λ i. undo_done (named_group between.table (group_of r.actions.items)) (renamed_by (stamp_after (c.deref-2.ensures.value i)) (c.revert.ensures.history i)))))
+      taken = subst (λ (h : UndoHistory (List Word)). AreGoneOnce c.revert.new.view.doc.cells (removed_in_history h)) (sym (c.undone.ensures.history ∙ (λ i. undo_done (named_group between.table (group_of r.actions.items)) (renamed_by (stamp_after (c.deref-2.ensures.value i)) (c.revert.ensures.history i)))))
           (after_undo c.revert.new.view.doc.cells (stamp_after r.returns.items) c.args.self.now.history (named_group between.table (group_of r.actions.items)) taken);
       closed = after.closed;
       current = after.current;

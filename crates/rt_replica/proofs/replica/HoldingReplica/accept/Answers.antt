@@ -24,8 +24,8 @@ returns-in-Ok-New-clause-taken g c =
     let is_new : answer_within t.limit op t.log ≡ New = new_by (answer_within t.limit op t.log) op held reply in
     let before : IsHistory t.log = subst IsHistory c.replica.ensures.log c.log.ensures.history in
     let after : IsHistory site.log = subst IsHistory c.replica-in-Ok-New.ensures.log c.log-in-Ok-New.ensures.history in
-    subst (λ (v : HoldingValue). TakesAndTells (op ∷ []) v.log (Rattle.rt_holding.specs.Holding.without op v.held) new c.told.result.items) c.self.view_is
-    (takes (op ∷ []) t site (Rattle.rt_holding.specs.Holding.without op held) left c.in-Ok-New.field-0-0 c.told.result.items new tried refl c.self.invariant.told c.told.ensures.told
+    subst (λ (v : HoldingValue). TakesAndTells (op ∷ []) v.log (Rattle.rt_holding.specs.Holding.without_op op v.held) new c.told.result.items) c.self.view_is
+    (takes (op ∷ []) t site (Rattle.rt_holding.specs.Holding.without_op op held) left c.in-Ok-New.field-0-0 c.told.result.items new tried refl c.self.invariant.told c.told.ensures.told
     before after (is_new, then_turn t.limit _ _ tried.more tried.settles)
     (ap (λ (s : TellingValue). s.log) rest) refl (ap (λ (s : TellingValue). s.cells) rest) (ap (λ (s : TellingValue). s.limit) rest))
 

@@ -1,8 +1,8 @@
 use Rattle.std.proofs.Common.{◌∙◌, sym, ap, arith}
 use Rattle.std.proofs.lemmas.Option.{IfSome_then}
-use Rattle.rt_rows.specs.TypedRows.{operations_in_row}
+use Rattle.rt_rows.specs.Rows.{operations_in_row, puts}
 use Rattle.rt_rows.specs.Views.{operation_typed}
-use Rattle.rt_rows.proofs.TypedRows.{row_next, next_count, typed_length}
+use Rattle.rt_rows.proofs.Following.{row_next, next_count, from_length}
 use Rattle.rt_rows.proofs.row.Row.take.Goals as goal
 
 pub push-requires : goal.push-requires
@@ -14,7 +14,7 @@ push-requires c =
 pub returns-clause-place : goal.returns-clause-place
 returns-clause-place c =
     let row = c.args.self.now in
-    IfSome_then c.push.result c.push.ensures.more (λ at h. h.0 ∙ sym (typed_length row.start 0 row.text))
+    IfSome_then c.push.result c.push.ensures.more (λ at h. h.0 ∙ sym (from_length row.start (puts row.start row.after) 0 row.text))
 
 pub returns-clause-more : goal.returns-clause-more
 returns-clause-more c =

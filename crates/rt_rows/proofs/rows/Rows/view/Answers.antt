@@ -1,13 +1,13 @@
 use Rattle.std.proofs.Common.{◌∙◌, ◌<◌, [], ap, sym, arith, length, get_or}
 use Rattle.std.proofs.lemmas.Option.{get_or_from_slice_get}
 use Rattle.rt_rows.specs.Places.{RowsValue, nothing}
-use Rattle.rt_rows.specs.Stored.{operations_of}
+use Rattle.rt_rows.specs.Stored.{operations_stored}
 use Rattle.rt_rows.specs.Views.{operation_in}
 use Rattle.rt_rows.proofs.InRows.{within_rows, row_at}
 use Rattle.rt_rows.proofs.rows.Rows.view.Goals as goal
 
-pub returns : goal.returns
-returns c =
+pub returns-clause-is : goal.returns-clause-is
+returns-clause-is c =
     let kept = c.self.inside.rows.items in
     let place = c.args.place in
     let one = c.index.result.now in
@@ -15,5 +15,5 @@ returns c =
     let within : place.row < length kept = within_rows kept place.row place.at (omega (arith, c.requires, ap (λ rs. length (get_or rs place.row [])) rows)) in
     ap (λ rs. get_or (get_or rs place.row []) place.at nothing) (sym rows)
     ∙ ap (λ xs. get_or xs place.at nothing) (row_at kept place.row one within)
-    ∙ ap (λ s. get_or (operations_of s) place.at nothing) (sym c.index.ensures)
-    ∙ get_or_from_slice_get (operations_of one) place.at (operation_in c.view.result) nothing c.view.ensures
+    ∙ ap (λ s. get_or (operations_stored s) place.at nothing) (sym c.index.ensures)
+    ∙ get_or_from_slice_get (operations_stored one) place.at (operation_in c.view.result) nothing c.view.ensures.is

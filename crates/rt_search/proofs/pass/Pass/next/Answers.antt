@@ -1,6 +1,6 @@
 use Rattle.std.proofs.Common.{◌≡◌, ◌-◌, ◌<◌, ℕ, zero, suc, Bool, false, List, arith, subst, length, get_or, refl, sym, ◌∙◌, nat_eq}
 use Rattle.std.proofs.lemmas.Bool.{eqb-true}
-use Rattle.rt_search.specs.Borders.{Agrees, AreBorders, IsBorder, pattern_read, text_read}
+use Rattle.rt_search.specs.Borders.{CharactersAgree, AreBorders, IsBorder, pattern_read, text_read}
 use Rattle.rt_search.proofs.Falling.{agrees_at}
 use Rattle.rt_search.proofs.Passing.{leaves_empty, leaves_match, leaves_none}
 use Rattle.rt_search.proofs.pass.Pass.next.Goals as goal
@@ -46,7 +46,7 @@ returns-then-self-pattern-clause-found g c =
     let start = c.read.new.self.start in
     let many : 0 < size = some c.is_empty.result size c.is_empty.ensures c.if-is_empty.false in
     let border = last_border (pattern_read how pattern) c.args.borders.now size c.requires.many many c.requires.borders in
-    let agrees : Agrees (pattern_read how pattern) (text_read how size text room) start size =
+    let agrees : CharactersAgree (pattern_read how pattern) (text_read how size text room) start size =
     agrees_at (pattern_read how pattern) (text_read how size text room) start start c.read.new.self.agreed size refl c.if-self-pattern.true c.read.ensures.agrees in
     let within : start < room.end - room.begin = omega arith in
     record {

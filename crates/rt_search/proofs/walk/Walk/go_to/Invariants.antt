@@ -1,10 +1,10 @@
 use Rattle.std.proofs.Common.{◌≤◌, ◌-◌}
-use Rattle.rt_search.specs.Walks.{Stands}
+use Rattle.rt_search.specs.Walks.{WalkStands}
 use Rattle.rt_search.proofs.walk.Walk.go_to.Given as goal
 
 abbrev pub invariant-loop-self : goal.invariant-loop-self
 invariant-loop-self g l = record {
-  stands : Stands l.text l.self;
+  stands : WalkStands l.text l.self;
   before : l.self.place ≤ l.place;
 }
 

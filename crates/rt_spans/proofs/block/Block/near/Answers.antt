@@ -1,5 +1,5 @@
 use Rattle.std.proofs.Common.{arith, add-one}
-use Rattle.rt_spans.specs.Spans.{key}
+use Rattle.rt_spans.specs.Spans.{entry_key}
 use Rattle.rt_spans.proofs.Near.{near_found}
 use Rattle.rt_spans.proofs.Ranks.{more_when}
 use Rattle.rt_spans.proofs.Rising.{lower}
@@ -7,7 +7,7 @@ use Rattle.rt_spans.proofs.block.Block.near.Goals as goal
 
 pub entries_until-place-requires : goal.entries_until-place-requires
 entries_until-place-requires g c =
-    rw c.as_slice.ensures.value (lower key 0 _ c.args.self.now.rest.items (omega arith) c.requires.rising.1)
+    rw c.as_slice.ensures.value (lower entry_key 0 _ c.args.self.now.rest.items (omega arith) c.requires.rising.1)
 
 pub returns-clause-near : goal.returns-clause-near
 returns-clause-near g c =

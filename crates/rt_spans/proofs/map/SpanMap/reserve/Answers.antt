@@ -5,7 +5,7 @@ use Rattle.rt_spans.specs.Blocks.{in_blocks}
 use Rattle.rt_spans.specs.Ranks.{rank}
 use Rattle.rt_spans.specs.Spans.{value_at}
 use Rattle.rt_spans.specs.Room.{Affords, debt}
-use Rattle.rt_spans.specs.Shown.{IsBorder, Shown, value_of}
+use Rattle.rt_spans.specs.Shown.{IsValueBorder, SpanMapValue, value_of}
 use Rattle.rt_spans.proofs.Debts.{debt_bound}
 use Rattle.rt_spans.proofs.Grounding.{grounding_keeps}
 use Rattle.rt_spans.proofs.Held.{same_shown}
@@ -28,8 +28,8 @@ returns-in_err-reserve g c =
     let (y, is, gives) = err_from_is_err_and c.from_residual.result c.from_residual.ensures.1 in
     let same = same_shown c.reserve.new.self.items c.self.inside.blocks.items c.self.inside.left c.in_err-reserve.ensures.items ∙ c.self.view_is in
     rw (is, gives) (record {
-      values = λ stamp. ap (λ (m : Shown g.row.V.Denot). value_of m stamp) same;
-      borders = λ site count was. subst (λ (m : Shown g.row.V.Denot). IsBorder m site count) (sym same) was;
+      values = λ stamp. ap (λ (m : SpanMapValue g.row.V.Denot). value_of m stamp) same;
+      borders = λ site count was. subst (λ (m : SpanMapValue g.row.V.Denot). IsValueBorder m site count) (sym same) was;
       ok = tt;
       kept = tt;
       err = same;
@@ -56,8 +56,8 @@ returns-in_err-fill g c =
     let (y, is, gives) = err_from_is_err_and c.from_residual-in_err-fill.result c.from_residual-in_err-fill.ensures.1 in
     let same = same_shown c.reserve.new.self.items c.self.inside.blocks.items c.self.inside.left c.in_ok-reserve.ensures.items ∙ c.self.view_is in
     rw (is, gives) (record {
-      values = λ stamp. ap (λ (m : Shown g.row.V.Denot). value_of m stamp) same;
-      borders = λ site count was. subst (λ (m : Shown g.row.V.Denot). IsBorder m site count) (sym same) was;
+      values = λ stamp. ap (λ (m : SpanMapValue g.row.V.Denot). value_of m stamp) same;
+      borders = λ site count was. subst (λ (m : SpanMapValue g.row.V.Denot). IsValueBorder m site count) (sym same) was;
       ok = tt;
       kept = tt;
       err = same;
@@ -100,7 +100,7 @@ returns-clause-values g c =
     λ stamp.
     let s = rank stamp.site stamp.count in
     let same = c.ground.ensures.values s ∙ ap (λ (items : List (Block g.row.V.Denot)). value_at s (in_blocks items)) c.in_ok-reserve.ensures.items in
-    ap (λ (v : Option g.row.V.Denot). cond (nat_lt stamp.count (2 ^ 64)) v None) same ∙ ap (λ (m : Shown g.row.V.Denot). value_of m stamp) c.self.view_is
+    ap (λ (v : Option g.row.V.Denot). cond (nat_lt stamp.count (2 ^ 64)) v None) same ∙ ap (λ (m : SpanMapValue g.row.V.Denot). value_of m stamp) c.self.view_is
 
 pub returns-clause-borders : goal.returns-clause-borders
 returns-clause-borders g c =

@@ -22,7 +22,7 @@ sorted-requires c =
 pub returns-clause-names : goal.returns-clause-names
 returns-clause-names c =
     let names = names_of c.self.inside.names in
-    let here = table_of names c.self.inside.states.keys in
+    let here = table_of names c.self.inside.nodes.keys in
     let writes = c.deref.ensures.value ∙ c.in_ok-writes.ensures in
     let entries = subst (λ v. all_seen (as_words v) c.in_ok-sorted.sorted.items ≡ state_after [] (all_seen (as_words v) c.deref.result.now)) c.as_slice.ensures.keys c.in_ok-sorted.ensures.entries in
     subst (λ (t : TagStates). map (name_at t) c.in_ok-tags_on.field-0.items ≡ names_on (state_after [] (listed_by ROOT (map (name_at t) c.args.tags.now)))) c.self.view_is

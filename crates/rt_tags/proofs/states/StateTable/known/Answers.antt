@@ -19,4 +19,4 @@ pub returns-in-None-clause-nowhere : goal.returns-in-None-clause-nowhere
 returns-in-None-clause-nowhere c =
     let new : is_listed c.args.name.now (names_of c.self.inside.names) ≡ false = sym c.in-None.ensures.found in
     subst (λ (t : TagStates). (state : ℕ) → is_on c.args.name.now (state_at t state) ≡ false) c.self.view_is
-    (λ state. nowhere_on c.args.name.now (names_of c.self.inside.names) c.self.inside.states.keys state new c.self.invariant.kept.each)
+    (λ state. nowhere_on (names_of c.self.inside.names) c.self.inside.nodes.keys c.self.invariant c.args.name.now state new)

@@ -1,6 +1,7 @@
-use Rattle.std.proofs.Common.{◌≡◌, ◌++◌, ◌∷◌, [], ◌∙◌, subst, sym, ap, refl, false, true≢false}
+use Rattle.std.proofs.Common.{◌≡◌, ◌≤◌, ◌+◌, ◌^◌, length, arith, ◌++◌, ◌∷◌, [], ◌∙◌, subst, sym, ap, refl, false, true≢false}
+use Rattle.std.proofs.lemmas.List.{length-append}
 use Rattle.std.proofs.lemmas.Option.{get_or_from_slice_get, slice_get_within}
-use Rattle.rt_tags.specs.Kept.{IsTable}
+use Rattle.rt_tags.specs.Kept.{IsStateTable}
 use Rattle.rt_tags.specs.Seen.{names_of}
 use Rattle.rt_tags.specs.States.{TagStates, AreNumbered, IsTag, KeepsIds, name_at, numbered}
 use Rattle.rt_tags.specs.Tags.{HaveNoRepeats, is_listed}
@@ -22,7 +23,10 @@ pub invariant_of-self-in-None : goal.invariant_of-self-in-None
 invariant_of-self-in-None c =
     let names = names_of c.self.inside.names in
     let added : names_of c.add.new.names ≡ names ++ c.args.name.now ∷ [] = c.add.ensures.names ∙ (λ j. c.make_room.ensures.names j ++ c.in_ok-name-in-None.ensures.ok j ∷ []) in
-    subst (λ v. IsTable v c.self.inside.states.keys) (sym added) (table_longer names (c.args.name.now ∷ []) c.self.inside.states.keys c.self.invariant (subst HaveNoRepeats added c.add.ensures.no_repeats))
+    let len : length (names ++ c.args.name.now ∷ []) ≡ length names + 1 = length-append names (c.args.name.now ∷ []) in
+    let place = c.len-place.ensures.len ∙ sym (len_names c.self.inside.names.keys) in
+    let few : length (names ++ c.args.name.now ∷ []) ≤ 2 ^ 32 = omega (arith, len, place) in
+    subst (λ v. IsStateTable v c.self.inside.nodes.keys) (sym added) (table_longer names c.self.inside.nodes.keys c.self.invariant (c.args.name.now ∷ []) few (subst HaveNoRepeats added c.add.ensures.no_repeats))
 
 pub returns-in_ok-make_room-in-None-clause-tag : goal.returns-in_ok-make_room-in-None-clause-tag
 returns-in_ok-make_room-in-None-clause-tag c =
@@ -40,14 +44,14 @@ pub returns-in_ok-make_room-in-None-clause-ok : goal.returns-in_ok-make_room-in-
 returns-in_ok-make_room-in-None-clause-ok c =
     let names = names_of c.self.inside.names in
     let added : names_of c.add.new.names ≡ names ++ c.args.name.now ∷ [] = c.add.ensures.names ∙ (λ j. c.make_room.ensures.names j ++ c.in_ok-name-in-None.ensures.ok j ∷ []) in
-    ap (λ v. table_of v c.self.inside.states.keys) added
-    ∙ numbered_new names c.args.name.now c.self.inside.states.keys c.self.invariant (sym c.in-None.ensures.found)
+    ap (λ v. table_of v c.self.inside.nodes.keys) added
+    ∙ numbered_new names c.self.inside.nodes.keys c.self.invariant c.args.name.now (sym c.in-None.ensures.found)
     ∙ ap (numbered c.args.name.now) c.self.view_is
 
 pub returns-in_ok-make_room-in-None-clause-ids : goal.returns-in_ok-make_room-in-None-clause-ids
 returns-in_ok-make_room-in-None-clause-ids c =
     let numbers = subst (λ (t : TagStates). AreNumbered t) c.self.view_is
-    (λ name state new. nowhere_on name (names_of c.self.inside.names) c.self.inside.states.keys state new c.self.invariant.kept.each) in
+    (λ name state new. nowhere_on (names_of c.self.inside.names) c.self.inside.nodes.keys c.self.invariant name state new) in
     subst (KeepsIds c.args.self.now) (sym (returns-in_ok-make_room-in-None-clause-ok c)) (keeps_numbered c.args.name.now c.args.self.now numbers)
 
 pub invariant_of-self : goal.invariant_of-self
@@ -75,7 +79,7 @@ pub returns-in_err-make_room-in-None : goal.returns-in_err-make_room-in-None
 returns-in_err-make_room-in-None c =
     let (y, is, gives) = err_from_is_err_and c.from_residual-in_err-make_room-in-None.result c.from_residual-in_err-make_room-in-None.ensures.1 in
     let new = subst (λ (t : TagStates). is_listed c.args.name.now t.names ≡ false) c.self.view_is (sym c.in-None.ensures.found) in
-    let same = ap (λ v. table_of v c.self.inside.states.keys) c.make_room.ensures.names ∙ c.self.view_is in
+    let same = ap (λ v. table_of v c.self.inside.nodes.keys) c.make_room.ensures.names ∙ c.self.view_is in
     rw (is, gives) (record {
       given = tt;
       tag = tt;

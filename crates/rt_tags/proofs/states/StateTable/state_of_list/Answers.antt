@@ -3,9 +3,9 @@ use Rattle.std.proofs.lemmas.List.{take_all}
 use Rattle.std.proofs.lemmas.Result.{IfOk-weaker, err_from_is_err_and, on_err_weaker}
 use Rattle.rt_stamps.specs.Words.{as_words}
 use Rattle.rt_tags.specs.Kept.{all_on}
-use Rattle.rt_tags.specs.States.{TagStates, Interns, IsTag, all_numbered, state_at, writes_at}
+use Rattle.rt_tags.specs.States.{TagStates, IsTag, all_numbered, state_at, writes_at}
 use Rattle.rt_tags.specs.Writers.{listed_by, state_after}
-use Rattle.rt_tags.specs.declared.states.Entry.{Entry}
+use Rattle.rt_tags.specs.declared.states.TagEntry.{TagEntry}
 use Rattle.rt_tags.proofs.Listing.{listed_writes, on_given, keeps_both}
 use Rattle.rt_tags.proofs.states.StateTable.state_of_list.Goals as goal
 
@@ -17,7 +17,7 @@ pub with_all-requires-clause-tags : goal.with_all-requires-clause-tags
 with_all-requires-clause-tags c =
     let table = c.number_all.new.self in
     let writes = c.deref-2.ensures.value ∙ c.in_ok-writes.ensures ∙ ap (all_on c.args.writer) c.deref.ensures.value in
-    subst (All (λ (w : Entry). IsTag table w.tag)) (sym writes) (on_given (length table.names) c.args.writer c.in_ok-tags.tags.items c.in_ok-tags.ensures.given)
+    subst (All (λ (w : TagEntry). IsTag table w.tag)) (sym writes) (on_given (length table.names) c.args.writer c.in_ok-tags.tags.items c.in_ok-tags.ensures.given)
 
 pub returns-clause-state : goal.returns-clause-state
 returns-clause-state c =
@@ -28,26 +28,15 @@ returns-clause-state c =
     let made = (λ j. state_after (c.order-2.ensures.empty j) (writes_at table (writes j))) ∙ ap (state_after []) (listed_writes table c.args.writer c.in_ok-tags.tags.items ∙ ap (listed_by c.args.writer) c.in_ok-tags.ensures.tags) in
     IfOk-weaker c.with_all.result (λ id. state_at new id ≡ state_after (state_at table 0) (writes_at table c.deref-2.result.now)) (λ id. state_at new id ≡ state_after [] (listed_by c.args.writer names)) (λ id h. h ∙ made) c.with_all.ensures.state
 
-pub returns-clause-interned : goal.returns-clause-interned
-returns-clause-interned c =
-    let table = c.number_all.new.self in
-    let new = c.with_all.new.self in
-    let names = as_words c.args.names.now in
-    let writes = c.deref-2.ensures.value ∙ c.in_ok-writes.ensures ∙ ap (all_on c.args.writer) c.deref.ensures.value in
-    let made = (λ j. state_after (c.order-2.ensures.empty j) (writes_at table (writes j))) ∙ ap (state_after []) (listed_writes table c.args.writer c.in_ok-tags.tags.items ∙ ap (listed_by c.args.writer) c.in_ok-tags.ensures.tags) in
-    IfOk-weaker c.with_all.result (λ id. Interns (state_after (state_at table 0) (writes_at table c.deref-2.result.now)) table.states id new.states) (λ id. Interns (state_after [] (listed_by c.args.writer names)) c.args.self.now.states id new.states)
-    (λ id h. subst (λ v. Interns (state_after [] (listed_by c.args.writer names)) v id new.states) c.number_all.ensures.states (subst (λ v. Interns v table.states id new.states) made h))
-    c.with_all.ensures.interned
-
 pub returns-in_err-tags : goal.returns-in_err-tags
 returns-in_err-tags c =
     let (y, is, gives) = err_from_is_err_and c.from_residual.result c.from_residual.ensures.1 in
-    rw (is, gives) (record { given = tt; state = tt; interned = tt; names = tt; partly = c.in_err-tags.ensures.partly; err = c.number_all.ensures.states; fault = c.in_err-tags.ensures.fault; ids = c.number_all.ensures.ids })
+    rw (is, gives) (record { given = tt; state = tt; names = tt; partly = c.in_err-tags.ensures.partly; err = c.number_all.ensures.states; fault = c.in_err-tags.ensures.fault; ids = c.number_all.ensures.ids })
 
 pub returns-in_err-writes : goal.returns-in_err-writes
 returns-in_err-writes c =
     let (y, is, gives) = err_from_is_err_and c.from_residual-in_err-writes.result c.from_residual-in_err-writes.ensures.1 in
-    rw (is, gives) (record { given = tt; state = tt; interned = tt; names = tt; partly = all_gave (as_words c.args.names.now) c.args.self.now c.number_all.new.self c.in_ok-tags.ensures.names; err = c.number_all.ensures.states; fault = refl; ids = c.number_all.ensures.ids })
+    rw (is, gives) (record { given = tt; state = tt; names = tt; partly = all_gave (as_words c.args.names.now) c.args.self.now c.number_all.new.self c.in_ok-tags.ensures.names; err = c.number_all.ensures.states; fault = refl; ids = c.number_all.ensures.ids })
 
 pub returns-clause-given : goal.returns-clause-given
 returns-clause-given c = c.with_all.ensures.given

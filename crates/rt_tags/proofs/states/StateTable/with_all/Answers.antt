@@ -1,89 +1,37 @@
-use Rattle.std.proofs.Common.{◌≡◌, ◌∙◌, [], ap, arith, subst, sym, refl}
-use Rattle.std.proofs.lemmas.Grind.{common_steps}
-use Rattle.std.proofs.lemmas.Option.{get_or_from_slice_get, slice_get_within}
-use Rattle.rt_tags.specs.Kept.{IsKept, IsSorted, all_seen, state_seen, states_seen}
+use Rattle.std.proofs.Common.{◌≡◌, ◌∙◌, ℕ, All, List, ap, length, subst, sym}
+use Rattle.rt_tags.specs.Kept.{HaveNames, all_seen, state_of}
 use Rattle.rt_tags.specs.Seen.{names_of}
-use Rattle.rt_tags.specs.States.{TagStates, Interns, state_at, writes_at, KeepsIds}
+use Rattle.rt_tags.specs.SharedStates.{at_id}
+use Rattle.rt_tags.specs.States.{TagStates, IsTag, Write, state_at, writes_at}
 use Rattle.rt_tags.specs.Writers.{state_after}
-use Rattle.rt_tags.proofs.Keeping.{keeps_interned, keeps_itself, sorted_there, state_there, table_more, table_of}
-use Rattle.std.proofs.lemmas.Result.{err_from_is_err_and}
-use Rattle.rt_stamps.specs.Words.{as_words}
+use Rattle.rt_tags.specs.declared.states.TagEntry.{TagEntry}
+use Rattle.rt_tags.proofs.Keeping.{given_new, keeps_there, place_given, state_there, table_after, table_of}
 use Rattle.rt_tags.proofs.states.StateTable.with_all.Goals as goal
 
-pub returns-clause-interned : goal.returns-clause-interned
-returns-clause-interned c =
-    let names = names_of c.self.inside.names in
-    let keys = c.self.inside.states.keys in
-    let old = c.state_of-old.result.now in
-    let made = c.in_ok-new.new in
-    let kept = subst (λ v. IsKept (as_words v) made) c.as_slice.ensures.keys c.in_ok-new.ensures.kept in
-    let entries = subst (λ v. state_seen (as_words v) made ≡ state_after (state_seen (as_words v) old) (all_seen (as_words v) c.args.writes.now)) c.as_slice.ensures.keys c.in_ok-new.ensures.entries in
-    let seen = entries ∙ ap (λ v. state_after v (all_seen names c.args.writes.now)) (sym (state_there names keys c.self.invariant c.args.state old c.state_of-old.ensures)) in
-    let new = states_seen names c.intern.new.states.keys in
-    subst (λ (t : TagStates). Interns (state_after (state_at t c.args.state) (writes_at t c.args.writes.now)) t.states c.in_ok-place.place new) c.self.view_is
-    (subst (λ v. Interns v (states_seen names keys) c.in_ok-place.place new) seen (c.in_ok-place.ensures.interned names c.self.invariant.kept kept))
-
-pub state_of-old-requires : goal.state_of-old-requires
-state_of-old-requires c = grind (arith, common_steps)
-
-pub state_after-requires-clause-named : goal.state_after-requires-clause-named
-state_after-requires-clause-named c = grind (arith, common_steps)
-
-pub state_after-requires-clause-sorted : goal.state_after-requires-clause-sorted
-state_after-requires-clause-sorted c =
-    let old = c.state_of-old.result.now in
-    subst (λ v. IsSorted (as_words v) old.entries.items) (sym c.as_slice.ensures.keys)
-    (sorted_there (names_of c.self.inside.names) c.self.inside.states.keys c.self.invariant c.args.state old c.state_of-old.ensures)
-
-pub invariant_of-self-2 : goal.invariant_of-self-2
-invariant_of-self-2 c =
-    let names = names_of c.self.inside.names in
-    let made = c.in_ok-new.new in
-    let kept = subst (λ v. IsKept (as_words v) made) c.as_slice.ensures.keys c.in_ok-new.ensures.kept in
-    table_more names c.self.inside.states.keys c.intern.new.states.keys (state_seen names made) c.in_ok-place.place c.self.invariant (c.in_ok-place.ensures.kept names c.self.invariant.kept kept) (c.in_ok-place.ensures.interned names c.self.invariant.kept kept)
-
-pub returns-clause-given : goal.returns-clause-given
-returns-clause-given c =
-    let made = state_after (state_at c.args.self.now c.args.state) (writes_at c.args.self.now c.args.writes.now) in
-    slice_get_within (states_seen (names_of c.self.inside.names) c.intern.new.states.keys) c.in_ok-place.place made (returns-clause-interned c).0
-
-pub returns-clause-state : goal.returns-clause-state
-returns-clause-state c =
-    let made = state_after (state_at c.args.self.now c.args.state) (writes_at c.args.self.now c.args.writes.now) in
-    get_or_from_slice_get (states_seen (names_of c.self.inside.names) c.intern.new.states.keys) c.in_ok-place.place made [] (returns-clause-interned c).0
-
-pub returns-clause-ids : goal.returns-clause-ids
-returns-clause-ids c =
-    let made = state_after (state_at c.args.self.now c.args.state) (writes_at c.args.self.now c.args.writes.now) in
-    keeps_interned made c.args.self.now (table_of (names_of c.self.inside.names) c.intern.new.states.keys) c.in_ok-place.place (ap (λ (t : TagStates). t.names) c.self.view_is) (returns-clause-interned c)
+pub write_all-requires-clause-given : goal.write_all-requires-clause-given
+write_all-requires-clause-given c = place_given (names_of c.self.inside.names) c.self.inside.nodes.keys c.self.invariant c.args.self.now c.self.view_is c.state.inside.place c.args.state c.state.view_is c.requires.state
 
 pub invariant_of-self : goal.invariant_of-self
-invariant_of-self c = rw c.in_err-place.ensures.err c.self.invariant
+invariant_of-self c =
+    let names = names_of c.self.inside.names in
+    let named : HaveNames (length names) c.args.writes.now = subst (λ (t : TagStates). All (λ (w : TagEntry). IsTag t w.tag) c.args.writes.now) (sym c.self.view_is) c.requires.tags in
+    table_after (names_of c.self.inside.names) c.self.inside.nodes.keys c.self.invariant c.write_all.new.nodes.keys c.write_all.ensures.kept (c.write_all.ensures.below (length names) c.self.invariant.named named)
 
-pub returns-clause-err : goal.returns-clause-err
-returns-clause-err c = tt
+pub returns-in-Ok-clause-given : goal.returns-in-Ok-clause-given
+returns-in-Ok-clause-given c = given_new (names_of c.self.inside.names) c.write_all.new.nodes.keys c.in-Ok.place c.in-Ok.ensures.given
 
-pub returns-clause-fault : goal.returns-clause-fault
-returns-clause-fault c = tt
+pub returns-in-Ok-clause-ids : goal.returns-in-Ok-clause-ids
+returns-in-Ok-clause-ids c = keeps_there c.args.self.now (names_of c.self.inside.names) c.self.inside.nodes.keys c.write_all.new.nodes.keys c.self.view_is c.write_all.ensures.more
 
-pub returns-clause-names : goal.returns-clause-names
-returns-clause-names c = ap (λ (t : TagStates). t.names) c.self.view_is
-
-pub returns-in_err-new : goal.returns-in_err-new
-returns-in_err-new c =
-    let (y, is, gives) = err_from_is_err_and c.from_residual.result c.from_residual.ensures.1 in
-    rw (is, gives) (record { given = tt; state = tt; interned = tt; names = refl; err = refl; fault = refl; ids = keeps_itself c.args.self.now })
-
-pub returns-in_err-place : goal.returns-in_err-place
-returns-in_err-place c =
-    let (y, is, gives) = err_from_is_err_and c.from_residual-in_err-place.result c.from_residual-in_err-place.ensures.1 in
-    let same = ap (table_of (names_of c.self.inside.names)) c.in_err-place.ensures.err ∙ c.self.view_is in
-    rw (is, gives) (record {
-      given = tt;
-      state = tt;
-      interned = tt;
-      names = ap (λ (t : TagStates). t.names) c.self.view_is;
-      err = same;
-      fault = c.in_err-place.ensures.fault;
-      ids = subst (KeepsIds c.args.self.now) (sym same) (keeps_itself c.args.self.now);
-    })
+pub returns-in-Ok-clause-state : goal.returns-in-Ok-clause-state
+returns-in-Ok-clause-state c =
+    let names = names_of c.self.inside.names in
+    let old = c.self.inside.nodes.keys in
+    let new = c.write_all.new.nodes.keys in
+    let id = c.in-Ok.place in
+    let writes = c.args.writes.now in
+    let named : HaveNames (length names) writes = subst (λ (t : TagStates). All (λ (w : TagEntry). IsTag t w.tag) writes) (sym c.self.view_is) c.requires.tags in
+    subst (λ (t : TagStates). state_at (table_of names new) id ≡ state_after (state_at t c.args.state) (writes_at t writes)) c.self.view_is
+    (state_there names new id
+    ∙ (c.in-Ok.ensures.states names c.self.invariant.names_differ c.self.invariant.named named
+    ∙ ap (λ (s : List Write). state_after s (all_seen names writes)) (ap (λ (i : ℕ). state_of names (at_id old i)) c.state.view_is ∙ sym (state_there names old c.args.state))))

@@ -8,7 +8,7 @@ use Rattle.rt_plans.specs.InsertionDrafts.{insertion_drafts}
 use Rattle.rt_plans.specs.InsertionPlans.{Plans}
 use Rattle.rt_plans.specs.Insertions.{Insertion, insertion_of}
 use Rattle.rt_plans.specs.Selected.{selected_stamps}
-use Rattle.rt_text.specs.Owned.{own_of}
+use Rattle.rt_text.specs.Owned.{widget_value}
 use Rattle.rt_text.specs.Widgets.{selections_of}
 use Rattle.rt_text.proofs.InsertedDocument.{begun}
 use Rattle.rt_text.proofs.InsertedSides.{any_some}
@@ -28,7 +28,7 @@ returns-clause-drafts g c =
     IfOk-weaker c.planned_between.result _ _
     (λ plan h others. h stamps (selections_of others) c.args.self.now.tags (any_some gap.right (stamps ≡ stamps) refl)
     ∙ begun (λ s start. insertion_drafts MOST_CHARACTERS s gap.after (option_map (shown states.now) gap.left) (option_map (shown states.now) gap.right) c.args.text.pieces.now c.args.text.rest.now start)
-    c.site-site.result.number c.seen-count.result stamps (viewed c.args.self.now (own_of c.args.widget.now) others) site count refl
+    c.site-site.result.number c.seen-count.result stamps (viewed c.args.self.now (widget_value c.args.widget.now) others) site count refl
     ∙ c.neighbours-gap.ensures.drafts others c.args.text.rest.now)
     c.planned_between.ensures.drafts
 
@@ -42,7 +42,7 @@ returns-clause-plans g c =
     IfOk-weaker c.planned_between.result _ _
     (λ plan h others.
     let same = begun (λ s start. insertion_of s (option_map (shown states.now) gap.left) (option_map (shown states.now) gap.right) c.args.text.pieces.now c.args.text.rest.now start)
-    c.site-site.result.number c.seen-count.result stamps (viewed c.args.self.now (own_of c.args.widget.now) others) site count refl
+    c.site-site.result.number c.seen-count.result stamps (viewed c.args.self.now (widget_value c.args.widget.now) others) site count refl
     ∙ c.neighbours-gap.ensures.comes others c.args.text.rest.now in
     subst (λ (p : _). p) (λ i. Plans plan stamps (selections_of others) tags (same i)) (h stamps (selections_of others) tags (any_some gap.right (stamps ≡ stamps) refl)))
     c.planned_between.ensures.plans
@@ -58,7 +58,7 @@ returns-clause-err g c =
       q.0,
       λ others.
           let same = begun (λ s start. insertion_of s (option_map (shown states.now) gap.left) (option_map (shown states.now) gap.right) c.args.text.pieces.now c.args.text.rest.now start)
-          c.site-site.result.number c.seen-count.result stamps (viewed c.args.self.now (own_of c.args.widget.now) others) site count refl
+          c.site-site.result.number c.seen-count.result stamps (viewed c.args.self.now (widget_value c.args.widget.now) others) site count refl
           ∙ c.neighbours-gap.ensures.comes others c.args.text.rest.now in
           subst (λ (new : Insertion). GREATEST_COUNT < new.count) same
           (q.1 stamps (selections_of others) c.args.self.now.tags (any_some gap.right (stamps ≡ stamps) refl)),

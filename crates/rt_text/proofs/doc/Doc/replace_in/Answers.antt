@@ -37,8 +37,8 @@ use Rattle.rt_lines.specs.Stretches.{stretch_of}
 use Rattle.rt_text.specs.Commands.{cell_check, with_range_replaced}
 use Rattle.rt_text.specs.Kept.{IsDoc}
 use Rattle.rt_text.specs.Replacements.{left_by, loss_at}
-use Rattle.rt_text.specs.Owned.{own_of, HaveRoomFor}
-use Rattle.rt_text.specs.Widgets.{AreSiteMarks, IsOwnOf, WidgetValue, ViewValue, begin_of, last_newline, own_inserted, own_left, with_selections, reselected}
+use Rattle.rt_text.specs.Owned.{widget_value, HaveRoomFor}
+use Rattle.rt_text.specs.Widgets.{AreSiteMarks, IsOwnOf, WidgetValue, ViewValue, begin_of, last_newline, widget_inserted, widget_without, with_selections, reselected}
 use Rattle.rt_text.proofs.KeptDocument.{clock_spent}
 use Rattle.rt_text.proofs.LimitedDeletions.{last_gone, last_kept, stretch_kept, widget_left}
 use Rattle.rt_text.proofs.MadeDocument.{seen}
@@ -55,12 +55,12 @@ which (inl e) s = inl e
 which (inr e) s = inr (sym s ∙ e)
 
 -- counts that are too great are refused first
-spent : (flat : DocValue) (edited : List WidgetValue → ViewValue) (others : List WidgetValue) (fault : Fault) → (fault ≡ NoMemory) ⊎ ((fault ≡ ClockSpent) × ((o : List WidgetValue) → GREATEST_COUNT < (edited o).doc.count))
-    → (fault ≡ NoMemory) ⊎ (first_of (late_checks flat (edited others)) ≡ Some fault)
-spent flat edited others fault (inl e) = inl e
-spent flat edited others fault (inr p) =
+spent : (document : DocValue) (edited : List WidgetValue → ViewValue) (others : List WidgetValue) (fault : Fault) → (fault ≡ NoMemory) ⊎ ((fault ≡ ClockSpent) × ((o : List WidgetValue) → GREATEST_COUNT < (edited o).doc.count))
+    → (fault ≡ NoMemory) ⊎ (first_of (late_checks document (edited others)) ≡ Some fault)
+spent document edited others fault (inl e) = inl e
+spent document edited others fault (inr p) =
     let view = edited others in
-    inr (ap (λ (o : Option Fault). first_of (o ∷ cell_check flat.limit (length view.doc.cells) ∷ [])) (clock_spent view.doc.count (p.1 others)) ∙ ap (λ (x : Fault). Some x) (sym p.0))
+    inr (ap (λ (o : Option Fault). first_of (o ∷ cell_check document.limit (length view.doc.cells) ∷ [])) (clock_spent view.doc.count (p.1 others)) ∙ ap (λ (x : Fault). Some x) (sym p.0))
 
 pub returns-in_err-planned : goal.returns-in_err-planned
 returns-in_err-planned g c =
@@ -68,28 +68,28 @@ returns-in_err-planned g c =
     rw (is, gives) (record {
       ok = tt;
       checked = tt;
-      err = spent c.args.self.now (λ (o : List WidgetValue). with_range_replaced (record { doc = c.args.self.now; own = own_of c.args.widget.now; others = o }) c.args.range c.args.pieces.now c.args.rest.now)
-          (map own_of c.args.others.now) c.in_err-planned.field-0.0 c.in_err-planned.ensures.err;
+      err = spent c.args.self.now (λ (o : List WidgetValue). with_range_replaced (record { doc = c.args.self.now; own = widget_value c.args.widget.now; others = o }) c.args.range c.args.pieces.now c.args.rest.now)
+          (map widget_value c.args.others.now) c.in_err-planned.field-0.0 c.in_err-planned.ensures.err;
       unchanged = refl;
       own = c.requires.own;
       others = c.requires.others;
     })
 
 -- the place in the text, as the code finds it
-at_is : (table : TagStates) (kept : List (Cell ℕ)) (flat : DocValue) (own : WidgetValue) (others : List WidgetValue) (place : ℕ) (limits : Limits) (stretch : Stretch) → map (shown table) kept ≡ flat.cells → limits ≡ own.limits → stretch ≡ stretch_of kept limits
-    → stretch.begin + place ≡ begin_of (viewed flat own others) + place
-at_is table kept flat own others place limits stretch e l s = ap (λ (y : Stretch). y.begin + place) (s ∙ ap (stretch_of kept) l ∙ stretch_kept table kept flat.cells own.limits e)
+at_is : (table : TagStates) (kept : List (Cell ℕ)) (document : DocValue) (own : WidgetValue) (others : List WidgetValue) (place : ℕ) (limits : Limits) (stretch : Stretch) → map (shown table) kept ≡ document.cells → limits ≡ own.limits → stretch ≡ stretch_of kept limits
+    → stretch.begin + place ≡ begin_of (viewed document own others) + place
+at_is table kept document own others place limits stretch e l s = ap (λ (y : Stretch). y.begin + place) (s ∙ ap (stretch_of kept) l ∙ stretch_kept table kept document.cells own.limits e)
 
 pub overflow_add-at : goal.overflow_add-at
 overflow_add-at g c =
-    let flat = c.args.self.now in
-    let own = own_of c.args.widget.now in
-    let others = map own_of c.args.others.now in
+    let document = c.args.self.now in
+    let own = widget_value c.args.widget.now in
+    let others = map widget_value c.args.others.now in
     let pieces = c.args.pieces.now in
     let rest = c.args.rest.now in
     let r = c.in_ok-planned.planned in
     let plans = c.in_ok-planned.ensures.plans others in
-    let i : IsReplacement flat own others c.args.range r.place pieces rest = record {
+    let i : IsReplacement document own others c.args.range r.place pieces rest = record {
       history = c.kept.ensures.history;
       document = c.kept.ensures.document;
       real = c.kept.ensures.site;
@@ -99,22 +99,22 @@ overflow_add-at g c =
       utf8 = c.utf8.rest;
     } in
     let kept = g.S.TextStore.list c.kept.result.0.now in
-    let here : c.stretch-stretch.result.begin + r.place ≡ point flat own others c.args.range r.place pieces rest i =
-    at_is c.kept.result.1.now (g.S.TextStore.list c.kept.result.0.now) flat own others r.place c.limits.result c.stretch-stretch.result c.kept.ensures.cells c.limits.ensures c.stretch-stretch.ensures.value
-    ∙ point_is flat own others c.args.range r.place pieces rest i in
-    text_fits (c.stretch-stretch.result.begin + r.place) (point flat own others c.args.range r.place pieces rest i) (length (text_of flat.cells)) (length flat.cells) (length (map (shown c.kept.result.1.now) kept)) (length kept) flat.limit
-    here (point_within flat own others c.args.range r.place pieces rest i) (text_within flat.cells) (ap length c.kept.ensures.cells) (length-map kept (shown c.kept.result.1.now)) c.kept.ensures.few c.kept.ensures.most
+    let here : c.stretch-stretch.result.begin + r.place ≡ point document own others c.args.range r.place pieces rest i =
+    at_is c.kept.result.1.now (g.S.TextStore.list c.kept.result.0.now) document own others r.place c.limits.result c.stretch-stretch.result c.kept.ensures.cells c.limits.ensures c.stretch-stretch.ensures.value
+    ∙ point_is document own others c.args.range r.place pieces rest i in
+    text_fits (c.stretch-stretch.result.begin + r.place) (point document own others c.args.range r.place pieces rest i) (length (text_of document.cells)) (length document.cells) (length (map (shown c.kept.result.1.now) kept)) (length kept) document.limit
+    here (point_within document own others c.args.range r.place pieces rest i) (text_within document.cells) (ap length c.kept.ensures.cells) (length-map kept (shown c.kept.result.1.now)) c.kept.ensures.few c.kept.ensures.most
 
 pub make_planned-requires-clause-names : goal.make_planned-requires-clause-names
 make_planned-requires-clause-names g c =
-    let flat = c.args.self.now in
-    let own = own_of c.args.widget.now in
-    let others = map own_of c.args.others.now in
+    let document = c.args.self.now in
+    let own = widget_value c.args.widget.now in
+    let others = map widget_value c.args.others.now in
     let pieces = c.args.pieces.now in
     let rest = c.args.rest.now in
     let r = c.in_ok-planned.planned in
     let plans = c.in_ok-planned.ensures.plans others in
-    let i : IsReplacement flat own others c.args.range r.place pieces rest = record {
+    let i : IsReplacement document own others c.args.range r.place pieces rest = record {
       history = c.kept.ensures.history;
       document = c.kept.ensures.document;
       real = c.kept.ensures.site;
@@ -123,20 +123,20 @@ make_planned-requires-clause-names g c =
       texts = c.requires.pieces;
       utf8 = c.utf8.rest;
     } in
-    let kept : IsDoc flat.cells flat.marks flat.tags = subst (λ (f : DocValue). IsDoc f.cells f.marks f.tags) c.self.view_is c.self.invariant in
-    given_names flat own others c.args.range r.place pieces rest i r.plan plans.plan kept
+    let kept : IsDoc document.cells document.marks document.tags = subst (λ (f : DocValue). IsDoc f.cells f.marks f.tags) c.self.view_is c.self.invariant in
+    given_names document own others c.args.range r.place pieces rest i r.plan plans.plan kept
 
 pub make_planned-requires-clause-may : goal.make_planned-requires-clause-may
 make_planned-requires-clause-may g c =
-    let flat = c.args.self.now in
-    let own = own_of c.args.widget.now in
-    let others = map own_of c.args.others.now in
+    let document = c.args.self.now in
+    let own = widget_value c.args.widget.now in
+    let others = map widget_value c.args.others.now in
     let pieces = c.args.pieces.now in
     let rest = c.args.rest.now in
     let r = c.in_ok-planned.planned in
     let plans = c.in_ok-planned.ensures.plans others in
     let drafts : map body_of c.replace-drafts.result.items ≡ map body_of r.drafts.items = ap (λ v. map body_of v.items) c.replace-drafts.ensures.value in
-    let i : IsReplacement flat own others c.args.range r.place pieces rest = record {
+    let i : IsReplacement document own others c.args.range r.place pieces rest = record {
       history = c.kept.ensures.history;
       document = c.kept.ensures.document;
       real = c.kept.ensures.site;
@@ -145,7 +145,7 @@ make_planned-requires-clause-may g c =
       texts = c.requires.pieces;
       utf8 = c.utf8.rest;
     } in
-    subst (λ (p : _). p) (λ k. MayBeMade (sym c.self.view_is k).site (sym c.self.view_is k).log (sym (drafts ∙ plans.drafts) k)) (all_may flat own others c.args.range r.place pieces rest i)
+    subst (λ (p : _). p) (λ k. MayBeMade (sym c.self.view_is k).site (sym c.self.view_is k).log (sym (drafts ∙ plans.drafts) k)) (all_may document own others c.args.range r.place pieces rest i)
 
 pub invariant_of-self : goal.invariant_of-self
 invariant_of-self g c =
@@ -153,15 +153,15 @@ invariant_of-self g c =
 
 pub returns-in_err-make_planned : goal.returns-in_err-make_planned
 returns-in_err-make_planned g c =
-    let flat = c.args.self.now in
-    let own = own_of c.args.widget.now in
-    let others = map own_of c.args.others.now in
+    let document = c.args.self.now in
+    let own = widget_value c.args.widget.now in
+    let others = map widget_value c.args.others.now in
     let pieces = c.args.pieces.now in
     let rest = c.args.rest.now in
     let r = c.in_ok-planned.planned in
     let plans = c.in_ok-planned.ensures.plans others in
     let drafts : map body_of c.replace-drafts.result.items ≡ map body_of r.drafts.items = ap (λ v. map body_of v.items) c.replace-drafts.ensures.value in
-    let i : IsReplacement flat own others c.args.range r.place pieces rest = record {
+    let i : IsReplacement document own others c.args.range r.place pieces rest = record {
       history = c.kept.ensures.history;
       document = c.kept.ensures.document;
       real = c.kept.ensures.site;
@@ -170,15 +170,15 @@ returns-in_err-make_planned g c =
       texts = c.requires.pieces;
       utf8 = c.utf8.rest;
     } in
-    let same : refusal_of c.self.inside.replica.limit (map body_of c.replace-drafts.result.items) c.self.inside.replica.log ≡ first_of (late_checks flat (with_range_replaced (viewed flat own others) c.args.range pieces rest)) =
-    (λ k. refusal_of (c.self.view_is k).limit ((drafts ∙ plans.drafts) k) (c.self.view_is k).log) ∙ all_refused flat own others c.args.range r.place pieces rest i in
+    let same : refusal_of c.self.inside.replica.limit (map body_of c.replace-drafts.result.items) c.self.inside.replica.log ≡ first_of (late_checks document (with_range_replaced (viewed document own others) c.args.range pieces rest)) =
+    (λ k. refusal_of (c.self.view_is k).limit ((drafts ∙ plans.drafts) k) (c.self.view_is k).log) ∙ all_refused document own others c.args.range r.place pieces rest i in
     let (y, is, gives) = err_from_is_err_and c.from_residual-in_err-make_planned.result c.from_residual-in_err-make_planned.ensures.1 in
-    let own_now : WidgetValue = own_of c.args.widget.now in
+    let own_now : WidgetValue = widget_value c.args.widget.now in
     let doc : seen c.make_planned.new.replica c.self.inside.marks c.make_planned.new.tags.names ≡ c.args.self.now =
     (λ k. seen (c.in_err-make_planned.ensures.same k) c.self.inside.marks (c.make_planned.ensures.tags k)) ∙ c.self.view_is in
-    let own_same : record own_now { sel = selected_stamps c.make_planned.new.selection } ≡ (own_of c.args.widget.now) =
+    let own_same : record own_now { sel = selected_stamps c.make_planned.new.selection } ≡ (widget_value c.args.widget.now) =
     ap (λ (s : List Stamp). record own_now { sel = s }) c.make_planned.ensures.selection in
-    let others_same : map own_of c.make_planned.new.others ≡ map own_of c.args.others.now = c.make_planned.ensures.others in
+    let others_same : map widget_value c.make_planned.new.others ≡ map widget_value c.args.others.now = c.make_planned.ensures.others in
     rw (is, gives) (record {
       ok = tt;
       checked = tt;
@@ -190,15 +190,15 @@ returns-in_err-make_planned g c =
 
 pub insert_all-requires : goal.insert_all-requires
 insert_all-requires g c =
-    let flat = c.args.self.now in
-    let own = own_of c.args.widget.now in
-    let others = map own_of c.args.others.now in
+    let document = c.args.self.now in
+    let own = widget_value c.args.widget.now in
+    let others = map widget_value c.args.others.now in
     let pieces = c.args.pieces.now in
     let rest = c.args.rest.now in
     let r = c.in_ok-planned.planned in
     let plans = c.in_ok-planned.ensures.plans others in
     let drafts : map body_of c.replace-drafts.result.items ≡ map body_of r.drafts.items = ap (λ v. map body_of v.items) c.replace-drafts.ensures.value in
-    let i : IsReplacement flat own others c.args.range r.place pieces rest = record {
+    let i : IsReplacement document own others c.args.range r.place pieces rest = record {
       history = c.kept.ensures.history;
       document = c.kept.ensures.document;
       real = c.kept.ensures.site;
@@ -208,49 +208,49 @@ insert_all-requires g c =
       utf8 = c.utf8.rest;
     } in
     let none = sym (λ k. refusal_of (c.self.view_is k).limit ((drafts ∙ plans.drafts) k) (c.self.view_is k).log) ∙ c.in_ok-make_planned.ensures.fits in
-    let left = left_by (viewed flat own others) c.args.range in
+    let left = left_by (viewed document own others) c.args.range in
     let few : length (text_of left.doc.cells) + r.plan.characters ≤ 2 ^ 64 - 1 =
-    subst (λ n. length (text_of left.doc.cells) + n ≤ 2 ^ 64 - 1) (sym plans.plan.characters) (characters_fit flat own others c.args.range r.place pieces rest i none c.kept.ensures.most) in
-    let newest : c.cell_at.result.stamp ≡ last_newline (viewed flat own others) =
-    last_kept c.kept.result.1.now (g.S.TextStore.list c.kept.result.0.now) flat own others c.stretch-stretch.result c.cell_at.result c.kept.ensures.cells
+    subst (λ n. length (text_of left.doc.cells) + n ≤ 2 ^ 64 - 1) (sym plans.plan.characters) (characters_fit document own others c.args.range r.place pieces rest i none c.kept.ensures.most) in
+    let newest : c.cell_at.result.stamp ≡ last_newline (viewed document own others) =
+    last_kept c.kept.result.1.now (g.S.TextStore.list c.kept.result.0.now) document own others c.stretch-stretch.result c.cell_at.result c.kept.ensures.cells
     (c.stretch-stretch.ensures.value ∙ ap (stretch_of (g.S.TextStore.list c.kept.result.0.now)) c.limits.ensures) c.cell_at.ensures in
-    let peers : map own_of c.leave_all.new.others ≡ map (selecting r.plan.between) left.others =
-    c.leave_all.ensures.others ∙ ap (λ rs. map (own_left (is_covered rs)) (map own_of c.select_all.new.others)) c.deref-2.ensures.value
-    ∙ ap (map (own_left (is_covered r.removed.items))) (c.select_all.ensures.others ∙ ap (map (selecting r.plan.between)) (c.unselect.ensures.others ∙ ap (map (reselected (last_gone c.cell_at.result.stamp r.held))) c.make_planned.ensures.others))
+    let peers : map widget_value c.leave_all.new.others ≡ map (selecting r.plan.between) left.others =
+    c.leave_all.ensures.others ∙ ap (λ rs. map (widget_without (is_covered rs)) (map widget_value c.select_all.new.others)) c.deref-2.ensures.value
+    ∙ ap (map (widget_without (is_covered r.removed.items))) (c.select_all.ensures.others ∙ ap (map (selecting r.plan.between)) (c.unselect.ensures.others ∙ ap (map (reselected (last_gone c.cell_at.result.stamp r.held))) c.make_planned.ensures.others))
     ∙ leave_last (is_covered r.removed.items) (last_gone c.cell_at.result.stamp r.held) r.plan.between others
     ∙ (λ k. map (selecting r.plan.between) (map (widget_left (λ p. c.in_ok-planned.ensures.removed p k) (newest k) (c.in_ok-planned.ensures.held k)) others)) in
     let n = length (text_of left.doc.cells) in
-    let kept : IsDoc flat.cells flat.marks flat.tags = subst (λ (f : DocValue). IsDoc f.cells f.marks f.tags) c.self.view_is c.self.invariant in
+    let kept : IsDoc document.cells document.marks document.tags = subst (λ (f : DocValue). IsDoc f.cells f.marks f.tags) c.self.view_is c.self.invariant in
     let moved : c.leave_all.new.marks ≡ left.doc.marks =
     c.leave_all.ensures.marks ∙ ap (λ l. marks_left (is_covered l) c.self.inside.marks) c.deref-2.ensures.value
-    ∙ (λ k. marks_left (λ p. c.in_ok-planned.ensures.removed p k) (c.self.view_is k).marks) ∙ sym (marks_left_are flat own others c.args.range r.place pieces rest i) in
-    let own_now : WidgetValue = own_of c.args.widget.now in
+    ∙ (λ k. marks_left (λ p. c.in_ok-planned.ensures.removed p k) (c.self.view_is k).marks) ∙ sym (marks_left_are document own others c.args.range r.place pieces rest i) in
+    let own_now : WidgetValue = widget_value c.args.widget.now in
     let insert : c.leave_all.new.widget.insert.place ≡ left.own.insert.place =
-    ap (λ (o : WidgetValue). o.insert.place) c.leave_all.ensures.own ∙ ap (λ rs. (own_left (is_covered rs) own_now).insert.place) c.deref-2.ensures.value
-    ∙ (λ k. (own_left (λ p. c.in_ok-planned.ensures.removed p k) (own_of c.args.widget.now)).insert.place) in
+    ap (λ (o : WidgetValue). o.insert.place) c.leave_all.ensures.own ∙ ap (λ rs. (widget_without (is_covered rs) own_now).insert.place) c.deref-2.ensures.value
+    ∙ (λ k. (widget_without (λ p. c.in_ok-planned.ensures.removed p k) (widget_value c.args.widget.now)).insert.place) in
     let current : c.leave_all.new.widget.current.place ≡ left.own.current.place =
-    ap (λ (o : WidgetValue). o.current.place) c.leave_all.ensures.own ∙ ap (λ rs. (own_left (is_covered rs) own_now).current.place) c.deref-2.ensures.value
-    ∙ (λ k. (own_left (λ p. c.in_ok-planned.ensures.removed p k) (own_of c.args.widget.now)).current.place) in
+    ap (λ (o : WidgetValue). o.current.place) c.leave_all.ensures.own ∙ ap (λ rs. (widget_without (is_covered rs) own_now).current.place) c.deref-2.ensures.value
+    ∙ (λ k. (widget_without (λ p. c.in_ok-planned.ensures.removed p k) (widget_value c.args.widget.now)).current.place) in
     record {
       marks = site_fits (length (text_of left.doc.cells)) r.plan.characters (2 ^ 64 - 1) c.leave_all.new.marks few
-          (subst (AreSiteMarks (length (text_of left.doc.cells))) (sym moved) (marks_left_in flat own others c.args.range r.place pieces rest i kept));
-      insert = before_fits c.leave_all.new.widget.insert.place left.own.insert.place (length (text_of left.doc.cells)) r.plan.characters (2 ^ 64 - 1) insert (own_left_in flat own others c.args.range r.place pieces rest i c.requires.own).insert few;
-      current = mark_fits c.leave_all.new.widget.current.place left.own.current.place (length (text_of left.doc.cells)) r.plan.characters (2 ^ 64 - 1) current (own_left_in flat own others c.args.range r.place pieces rest i c.requires.own).current few;
+          (subst (AreSiteMarks (length (text_of left.doc.cells))) (sym moved) (marks_left_in document own others c.args.range r.place pieces rest i kept));
+      insert = before_fits c.leave_all.new.widget.insert.place left.own.insert.place (length (text_of left.doc.cells)) r.plan.characters (2 ^ 64 - 1) insert (own_left_in document own others c.args.range r.place pieces rest i c.requires.own).insert few;
+      current = mark_fits c.leave_all.new.widget.current.place left.own.current.place (length (text_of left.doc.cells)) r.plan.characters (2 ^ 64 - 1) current (own_left_in document own others c.args.range r.place pieces rest i c.requires.own).current few;
       others = each_room n r.plan.characters (2 ^ 64 - 1) c.leave_all.new.others few
           (subst (AllByRecursion (IsOwnOf n)) (sym peers)
-          (each_by (IsOwnOf n) (IsOwnOf n) (selecting r.plan.between) (λ other stands. own_of_selecting n other _ stands) left.others (others_left_in flat own others c.args.range r.place pieces rest i c.requires.others)));
+          (each_by (IsOwnOf n) (IsOwnOf n) (selecting r.plan.between) (λ other stands. own_of_selecting n other _ stands) left.others (others_left_in document own others c.args.range r.place pieces rest i c.requires.others)));
     }
 
 pub list_tags-requires-clause-names : goal.list_tags-requires-clause-names
 list_tags-requires-clause-names g c =
-    let flat = c.args.self.now in
-    let own = own_of c.args.widget.now in
-    let others = map own_of c.args.others.now in
+    let document = c.args.self.now in
+    let own = widget_value c.args.widget.now in
+    let others = map widget_value c.args.others.now in
     let pieces = c.args.pieces.now in
     let rest = c.args.rest.now in
     let r = c.in_ok-planned.planned in
     let plans = c.in_ok-planned.ensures.plans others in
-    let i : IsReplacement flat own others c.args.range r.place pieces rest = record {
+    let i : IsReplacement document own others c.args.range r.place pieces rest = record {
       history = c.kept.ensures.history;
       document = c.kept.ensures.document;
       real = c.kept.ensures.site;
@@ -259,37 +259,37 @@ list_tags-requires-clause-names g c =
       texts = c.requires.pieces;
       utf8 = c.utf8.rest;
     } in
-    let kept : IsDoc flat.cells flat.marks flat.tags = subst (λ (f : DocValue). IsDoc f.cells f.marks f.tags) c.self.view_is c.self.invariant in
-    subst (All (λ w. IsName (string_bytes w))) (sym c.deref-3.ensures.value) (given_names flat own others c.args.range r.place pieces rest i r.plan plans.plan kept)
+    let kept : IsDoc document.cells document.marks document.tags = subst (λ (f : DocValue). IsDoc f.cells f.marks f.tags) c.self.view_is c.self.invariant in
+    subst (All (λ w. IsName (string_bytes w))) (sym c.deref-3.ensures.value) (given_names document own others c.args.range r.place pieces rest i r.plan plans.plan kept)
 
 -- what the replacement has made, in the words of its laws
-record Done (flat : DocValue) (own : WidgetValue) (others : List WidgetValue) (range : Range) (place : ℕ) (pieces : List Piece) (rest : Word) (new : ReplicaValue) (marks : List Mark) (tags : List Word) (widget : WidgetValue)
+record Done (document : DocValue) (own : WidgetValue) (others : List WidgetValue) (range : Range) (place : ℕ) (pieces : List Piece) (rest : Word) (new : ReplicaValue) (marks : List Mark) (tags : List Word) (widget : WidgetValue)
     (peers : List WidgetValue) : Type 0 where
-  is : IsReplacement flat own others range place pieces rest
-  kept : IsDoc flat.cells flat.marks flat.tags
-  none : refusal_of flat.limit (delete_drafts MOST_SPANS flat (loss_at (viewed flat own others) range) ++ more_drafts flat own others range place pieces rest is) flat.log ≡ None
-  marks_is : marks ≡ (more_flat flat own others range place pieces rest is).marks
-  tags_is : tags ≡ (more_flat flat own others range place pieces rest is).tags
-  doc : seen new (more_flat flat own others range place pieces rest is).marks (more_flat flat own others range place pieces rest is).tags
-      ≡ logged (left_by (viewed flat own others) range).doc (more_drafts flat own others range place pieces rest is) (more_flat flat own others range place pieces rest is)
+  is : IsReplacement document own others range place pieces rest
+  kept : IsDoc document.cells document.marks document.tags
+  none : refusal_of document.limit (delete_drafts MOST_SPANS document (loss_at (viewed document own others) range) ++ more_drafts document own others range place pieces rest is) document.log ≡ None
+  marks_is : marks ≡ (more_flat document own others range place pieces rest is).marks
+  tags_is : tags ≡ (more_flat document own others range place pieces rest is).tags
+  doc : seen new (more_flat document own others range place pieces rest is).marks (more_flat document own others range place pieces rest is).tags
+      ≡ logged (left_by (viewed document own others) range).doc (more_drafts document own others range place pieces rest is) (more_flat document own others range place pieces rest is)
   own_is : widget
-      ≡ record (own_inserted (point flat own others range place pieces rest is) (length (more_new flat own others range place pieces rest is).cells) (left_by (viewed flat own others) range).own) { sel = (more_new flat own others range place pieces rest is).sel }
-  others_are : peers ≡ with_selections (more_new flat own others range place pieces rest is).others
-      (map (own_inserted (point flat own others range place pieces rest is) (length (more_new flat own others range place pieces rest is).cells)) (left_by (viewed flat own others) range).others)
+      ≡ record (widget_inserted (point document own others range place pieces rest is) (length (more_new document own others range place pieces rest is).cells) (left_by (viewed document own others) range).own) { sel = (more_new document own others range place pieces rest is).sel }
+  others_are : peers ≡ with_selections (more_new document own others range place pieces rest is).others
+      (map (widget_inserted (point document own others range place pieces rest is) (length (more_new document own others range place pieces rest is).cells)) (left_by (viewed document own others) range).others)
 
 done : (g : Over) (c : goal.After-drop-planned-2 g)
-    → Done c.args.self.now (own_of c.args.widget.now) (map own_of c.args.others.now) c.args.range c.in_ok-planned.planned.place c.args.pieces.now c.args.rest.now c.make_planned.new.replica c.insert_all.new.marks c.list_tags.new.table.names
-    (own_of c.insert_all.new.widget) (map own_of c.insert_all.new.others)
+    → Done c.args.self.now (widget_value c.args.widget.now) (map widget_value c.args.others.now) c.args.range c.in_ok-planned.planned.place c.args.pieces.now c.args.rest.now c.make_planned.new.replica c.insert_all.new.marks c.list_tags.new.table.names
+    (widget_value c.insert_all.new.widget) (map widget_value c.insert_all.new.others)
 done g c =
-    let flat = c.args.self.now in
-    let own = own_of c.args.widget.now in
-    let others = map own_of c.args.others.now in
+    let document = c.args.self.now in
+    let own = widget_value c.args.widget.now in
+    let others = map widget_value c.args.others.now in
     let pieces = c.args.pieces.now in
     let rest = c.args.rest.now in
     let r = c.in_ok-planned.planned in
     let plans = c.in_ok-planned.ensures.plans others in
     let drafts : map body_of c.replace-drafts.result.items ≡ map body_of r.drafts.items = ap (λ v. map body_of v.items) c.replace-drafts.ensures.value in
-    let i : IsReplacement flat own others c.args.range r.place pieces rest = record {
+    let i : IsReplacement document own others c.args.range r.place pieces rest = record {
       history = c.kept.ensures.history;
       document = c.kept.ensures.document;
       real = c.kept.ensures.site;
@@ -298,34 +298,34 @@ done g c =
       texts = c.requires.pieces;
       utf8 = c.utf8.rest;
     } in
-    let kept : IsDoc flat.cells flat.marks flat.tags = subst (λ (f : DocValue). IsDoc f.cells f.marks f.tags) c.self.view_is c.self.invariant in
+    let kept : IsDoc document.cells document.marks document.tags = subst (λ (f : DocValue). IsDoc f.cells f.marks f.tags) c.self.view_is c.self.invariant in
     let none = sym (λ k. refusal_of (c.self.view_is k).limit ((drafts ∙ plans.drafts) k) (c.self.view_is k).log) ∙ c.in_ok-make_planned.ensures.fits in
-    let left = left_by (viewed flat own others) c.args.range in
+    let left = left_by (viewed document own others) c.args.range in
     let moved : c.leave_all.new.marks ≡ left.doc.marks =
     c.leave_all.ensures.marks ∙ ap (λ l. marks_left (is_covered l) c.self.inside.marks) c.deref-2.ensures.value
-    ∙ (λ k. marks_left (λ p. c.in_ok-planned.ensures.removed p k) (c.self.view_is k).marks) ∙ sym (marks_left_are flat own others c.args.range r.place pieces rest i) in
+    ∙ (λ k. marks_left (λ p. c.in_ok-planned.ensures.removed p k) (c.self.view_is k).marks) ∙ sym (marks_left_are document own others c.args.range r.place pieces rest i) in
     let at = c.stretch-stretch.result.begin + r.place in
-    let place = point flat own others c.args.range r.place pieces rest i in
-    let own_now : WidgetValue = own_of c.args.widget.now in
-    let new = more_new flat own others c.args.range r.place pieces rest i in
+    let place = point document own others c.args.range r.place pieces rest i in
+    let own_now : WidgetValue = widget_value c.args.widget.now in
+    let new = more_new document own others c.args.range r.place pieces rest i in
     let selected = r.plan.selected.items in
     let names = as_words r.plan.names.items in
-    let newest : c.cell_at.result.stamp ≡ last_newline (viewed flat own others) =
-    last_kept c.kept.result.1.now (g.S.TextStore.list c.kept.result.0.now) flat own others c.stretch-stretch.result c.cell_at.result c.kept.ensures.cells
+    let newest : c.cell_at.result.stamp ≡ last_newline (viewed document own others) =
+    last_kept c.kept.result.1.now (g.S.TextStore.list c.kept.result.0.now) document own others c.stretch-stretch.result c.cell_at.result c.kept.ensures.cells
     (c.stretch-stretch.ensures.value ∙ ap (stretch_of (g.S.TextStore.list c.kept.result.0.now)) c.limits.ensures) c.cell_at.ensures in
-    let here : c.stretch-stretch.result.begin + r.place ≡ point flat own others c.args.range r.place pieces rest i =
-    at_is c.kept.result.1.now (g.S.TextStore.list c.kept.result.0.now) flat own others r.place c.limits.result c.stretch-stretch.result c.kept.ensures.cells c.limits.ensures c.stretch-stretch.ensures.value
-    ∙ point_is flat own others c.args.range r.place pieces rest i in
+    let here : c.stretch-stretch.result.begin + r.place ≡ point document own others c.args.range r.place pieces rest i =
+    at_is c.kept.result.1.now (g.S.TextStore.list c.kept.result.0.now) document own others r.place c.limits.result c.stretch-stretch.result c.kept.ensures.cells c.limits.ensures c.stretch-stretch.ensures.value
+    ∙ point_is document own others c.args.range r.place pieces rest i in
     let held = c.in_ok-planned.ensures.held in
     let stamps : selected_stamps c.select_all.new.selection ≡ new.sel =
     c.select_all.ensures.selection ∙ (λ k. with_stamps (c.deref.ensures.value k) (c.unselect.ensures.sel k)) ∙ ap (λ s. with_stamps selected (last_gone c.cell_at.result.stamp r.held s)) c.make_planned.ensures.selection
     ∙ (λ k. with_stamps selected (last_gone (newest k) (held k) own.sel)) ∙ plans.plan.sel in
-    let own_moved : (own_of c.leave_all.new.widget) ≡ own_left (loss_at (viewed flat own others) c.args.range).places (record own { sel = new.sel }) =
-    c.leave_all.ensures.own ∙ ap (λ rs. own_left (is_covered rs) (record own_now { sel = selected_stamps c.select_all.new.selection })) c.deref-2.ensures.value
-    ∙ (λ k. own_left (λ p. c.in_ok-planned.ensures.removed p k) (record own { sel = stamps k })) in
-    let peers : map own_of c.leave_all.new.others ≡ map (selecting r.plan.between) left.others =
-    c.leave_all.ensures.others ∙ ap (λ rs. map (own_left (is_covered rs)) (map own_of c.select_all.new.others)) c.deref-2.ensures.value
-    ∙ ap (map (own_left (is_covered r.removed.items))) (c.select_all.ensures.others ∙ ap (map (selecting r.plan.between)) (c.unselect.ensures.others ∙ ap (map (reselected (last_gone c.cell_at.result.stamp r.held))) c.make_planned.ensures.others))
+    let own_moved : (widget_value c.leave_all.new.widget) ≡ widget_without (loss_at (viewed document own others) c.args.range).places (record own { sel = new.sel }) =
+    c.leave_all.ensures.own ∙ ap (λ rs. widget_without (is_covered rs) (record own_now { sel = selected_stamps c.select_all.new.selection })) c.deref-2.ensures.value
+    ∙ (λ k. widget_without (λ p. c.in_ok-planned.ensures.removed p k) (record own { sel = stamps k })) in
+    let peers : map widget_value c.leave_all.new.others ≡ map (selecting r.plan.between) left.others =
+    c.leave_all.ensures.others ∙ ap (λ rs. map (widget_without (is_covered rs)) (map widget_value c.select_all.new.others)) c.deref-2.ensures.value
+    ∙ ap (map (widget_without (is_covered r.removed.items))) (c.select_all.ensures.others ∙ ap (map (selecting r.plan.between)) (c.unselect.ensures.others ∙ ap (map (reselected (last_gone c.cell_at.result.stamp r.held))) c.make_planned.ensures.others))
     ∙ leave_last (is_covered r.removed.items) (last_gone c.cell_at.result.stamp r.held) r.plan.between others
     ∙ (λ k. map (selecting r.plan.between) (map (widget_left (λ p. c.in_ok-planned.ensures.removed p k) (newest k) (c.in_ok-planned.ensures.held k)) others)) in
     record {
@@ -334,26 +334,26 @@ done g c =
       none = none;
       marks_is = c.insert_all.ensures.marks ∙ (λ k. marks_inserted (here k) (plans.plan.characters k) (moved k));
       tags_is = c.list_tags.ensures ∙ (λ k. all_listed (as_words (c.deref-3.ensures.value k)) (c.make_planned.ensures.tags k)) ∙ ap (λ (f : DocValue). all_listed names f.tags) c.self.view_is
-          ∙ ap (all_listed names) (sym (tags_left_are flat own others c.args.range r.place pieces rest i)) ∙ plans.plan.tags;
-      doc = replacement_seen flat own others c.args.range r.place pieces rest i c.make_planned.new.replica none
+          ∙ ap (all_listed names) (sym (tags_left_are document own others c.args.range r.place pieces rest i)) ∙ plans.plan.tags;
+      doc = replacement_seen document own others c.args.range r.place pieces rest i c.make_planned.new.replica none
           (c.in_ok-make_planned.ensures.log ∙ (λ k. with_drafts (c.self.view_is k).site ((drafts ∙ plans.drafts) k) (c.self.view_is k).log)) c.in_ok-make_planned.ensures.cells
           (c.make_planned.ensures.site ∙ ap (λ (f : DocValue). f.site) c.self.view_is) (c.make_planned.ensures.limit ∙ ap (λ (f : DocValue). f.limit) c.self.view_is);
-      own_is = c.insert_all.ensures.own ∙ (λ k. own_inserted (here k) (plans.plan.characters k) (own_moved k));
-      others_are = c.insert_all.ensures.others ∙ ap (map (own_inserted at r.plan.characters)) peers
-          ∙ (λ k. map (own_inserted (here k) (plans.plan.characters k)) (map (selecting r.plan.between) left.others)) ∙ put_each place (length new.cells) (selected_between r.plan.between) left.others
-          ∙ ap (λ l. with_selections l (map (own_inserted place (length new.cells)) left.others)) plans.plan.others;
+      own_is = c.insert_all.ensures.own ∙ (λ k. widget_inserted (here k) (plans.plan.characters k) (own_moved k));
+      others_are = c.insert_all.ensures.others ∙ ap (map (widget_inserted at r.plan.characters)) peers
+          ∙ (λ k. map (widget_inserted (here k) (plans.plan.characters k)) (map (selecting r.plan.between) left.others)) ∙ put_each place (length new.cells) (selected_between r.plan.between) left.others
+          ∙ ap (λ l. with_selections l (map (widget_inserted place (length new.cells)) left.others)) plans.plan.others;
     }
 
 pub invariant_of-self-2 : goal.invariant_of-self-2
 invariant_of-self-2 g c =
-    let flat = c.args.self.now in
-    let own = own_of c.args.widget.now in
-    let others = map own_of c.args.others.now in
+    let document = c.args.self.now in
+    let own = widget_value c.args.widget.now in
+    let others = map widget_value c.args.others.now in
     let place = c.in_ok-planned.planned.place in
     let pieces = c.args.pieces.now in
     let rest = c.args.rest.now in
     let d = done g c in
-    subst (λ (p : _). p) (λ k. IsDoc (sym d.doc k).cells (sym d.marks_is k) (sym d.tags_is k)) (kept_after flat own others c.args.range place pieces rest d.is d.kept)
+    subst (λ (p : _). p) (λ k. IsDoc (sym d.doc k).cells (sym d.marks_is k) (sym d.tags_is k)) (kept_after document own others c.args.range place pieces rest d.is d.kept)
 
 -- where the last newline is held nothing is selected between two, and else no selection has changed
 room_kept : (held : Bool) (between : Option Between) (old new : List Widget) → (held ≡ true → between ≡ None) → (held ≡ false → new ≡ old) → HaveRoomFor between old → HaveRoomFor between new
@@ -380,26 +380,26 @@ list_tags-requires-clause-ready g c = subst (All (λ w. is_ready (string_bytes w
 
 pub returns : goal.returns
 returns g c =
-    let flat = c.args.self.now in
-    let own = own_of c.args.widget.now in
-    let others = map own_of c.args.others.now in
+    let document = c.args.self.now in
+    let own = widget_value c.args.widget.now in
+    let others = map widget_value c.args.others.now in
     let place = c.in_ok-planned.planned.place in
     let pieces = c.args.pieces.now in
     let rest = c.args.rest.now in
     let d = done g c in
-    let new = more_new flat own others c.args.range place pieces rest d.is in
+    let new = more_new document own others c.args.range place pieces rest d.is in
     record {
       ok = (λ k. record { doc = seen c.make_planned.new.replica (d.marks_is k) (d.tags_is k); own = d.own_is k; others = d.others_are k })
           ∙ ap (λ (f : DocValue). record {
             doc = f;
-            own = record (own_inserted (point flat own others c.args.range place pieces rest d.is) (length new.cells) (left_by (viewed flat own others) c.args.range).own) { sel = new.sel };
-            others = with_selections new.others (map (own_inserted (point flat own others c.args.range place pieces rest d.is) (length new.cells)) (left_by (viewed flat own others) c.args.range).others);
+            own = record (widget_inserted (point document own others c.args.range place pieces rest d.is) (length new.cells) (left_by (viewed document own others) c.args.range).own) { sel = new.sel };
+            others = with_selections new.others (map (widget_inserted (point document own others c.args.range place pieces rest d.is) (length new.cells)) (left_by (viewed document own others) c.args.range).others);
           }) d.doc
-          ∙ sym (replaced_is flat own others c.args.range place pieces rest d.is);
-      checked = (λ k. first_of (late_checks flat (record { doc = d.doc k; own = own; others = others }))) ∙ sym (ap (λ (v : ViewValue). first_of (late_checks flat v)) (replaced_is flat own others c.args.range place pieces rest d.is))
-          ∙ sym (all_refused flat own others c.args.range place pieces rest d.is) ∙ d.none;
+          ∙ sym (replaced_is document own others c.args.range place pieces rest d.is);
+      checked = (λ k. first_of (late_checks document (record { doc = d.doc k; own = own; others = others }))) ∙ sym (ap (λ (v : ViewValue). first_of (late_checks document v)) (replaced_is document own others c.args.range place pieces rest d.is))
+          ∙ sym (all_refused document own others c.args.range place pieces rest d.is) ∙ d.none;
       err = tt;
       unchanged = tt;
-      own = subst (λ (p : _). p) (λ k. IsOwnOf (length (text_of (sym d.doc k).cells)) (sym d.own_is k)) (own_after flat own others c.args.range place pieces rest d.is d.kept c.requires.own);
-      others = subst (λ (p : _). p) (λ k. AllByRecursion (IsOwnOf (length (text_of (sym d.doc k).cells))) (sym d.others_are k)) (others_after flat own others c.args.range place pieces rest d.is d.kept c.requires.others);
+      own = subst (λ (p : _). p) (λ k. IsOwnOf (length (text_of (sym d.doc k).cells)) (sym d.own_is k)) (own_after document own others c.args.range place pieces rest d.is d.kept c.requires.own);
+      others = subst (λ (p : _). p) (λ k. AllByRecursion (IsOwnOf (length (text_of (sym d.doc k).cells))) (sym d.others_are k)) (others_after document own others c.args.range place pieces rest d.is d.kept c.requires.others);
     }

@@ -5,7 +5,7 @@ use Rattle.rt_stamps.specs.Words.{as_words}
 use Rattle.rt_plans.specs.DocValue.{DocValue}
 use Rattle.rt_plans.specs.Selected.{selected_stamps}
 use Rattle.rt_plans.proofs.PlaceLaws.{length_text, text_within}
-use Rattle.rt_text.specs.Owned.{own_of}
+use Rattle.rt_text.specs.Owned.{widget_value}
 use Rattle.rt_text.specs.Widgets.{tags_shown}
 use Rattle.rt_text.proofs.LimitedTags.{place_kept}
 use Rattle.rt_text.proofs.SeenLaws.{tags_found, visible_given}
@@ -21,14 +21,14 @@ returns-clause-err g c = tt
 
 pub cell_at-cell-requires : goal.cell_at-cell-requires
 cell_at-cell-requires g c =
-    let at = place_kept c.kept.result.1.now (g.S.TextStore.list c.kept.result.0.now) c.args.self.now.cells c.limits.result c.stretch.result (own_of c.args.widget.now) c.args.place c.kept.ensures.cells c.stretch.ensures.value c.limits.ensures
+    let at = place_kept c.kept.result.1.now (g.S.TextStore.list c.kept.result.0.now) c.args.self.now.cells c.limits.result c.stretch.result (widget_value c.args.widget.now) c.args.place c.kept.ensures.cells c.stretch.ensures.value c.limits.ensures
     c.stretch.ensures.within c.requires in
     omega (arith, at.0, c.stretch.ensures.within)
 
 pub overflow_add-stretch : goal.overflow_add-stretch
 overflow_add-stretch g c =
     let kept = g.S.TextStore.list c.kept.result.0.now in
-    let at = place_kept c.kept.result.1.now kept c.args.self.now.cells c.limits.result c.stretch.result (own_of c.args.widget.now) c.args.place c.kept.ensures.cells c.stretch.ensures.value c.limits.ensures
+    let at = place_kept c.kept.result.1.now kept c.args.self.now.cells c.limits.result c.stretch.result (widget_value c.args.widget.now) c.args.place c.kept.ensures.cells c.stretch.ensures.value c.limits.ensures
     c.stretch.ensures.within c.requires in
     omega (arith, at.0, c.stretch.ensures.within, text_within kept, length_text kept, c.kept.ensures.few, c.kept.ensures.most)
 
@@ -36,7 +36,7 @@ pub returns-clause-ok : goal.returns-clause-ok
 returns-clause-ok g c =
     let table = c.kept.result.1.now in
     let kept = g.S.TextStore.list c.kept.result.0.now in
-    let own = own_of c.args.widget.now in
+    let own = widget_value c.args.widget.now in
     let tags = c.args.self.now.tags in
     let at = place_kept table kept c.args.self.now.cells c.limits.result c.stretch.result own c.args.place c.kept.ensures.cells c.stretch.ensures.value c.limits.ensures c.stretch.ensures.within c.requires in
     ap (option_map (tags_shown own tags)) at.1

@@ -69,37 +69,37 @@ list_tags-requires-clause-ready g c =
 pub invariant_of-self-in-Ok : goal.invariant_of-self-in-Ok
 invariant_of-self-in-Ok g c =
     let old = c.self.inside.replica in
-    let flat = c.args.self.now in
+    let document = c.args.self.now in
     let op = c.args.op in
     let change = c.in-Ok.change in
-    let is_new = seen_new old op flat c.self.inside.marks c.self.inside.tags.names c.self.view_is c.requires in
+    let is_new = seen_new old op document c.self.inside.marks c.self.inside.tags.names c.self.view_is c.requires in
     let tells = c.in-Ok.ensures.change in
     let lists : as_words c.deref.result.now ≡ lists_of op.body = ap as_words c.deref.ensures.value ∙ tells.lists in
     let names = c.list_tags.ensures ∙ ap (λ l. all_listed l c.prepare_lists.new.table.names) lists ∙ ap (all_listed (lists_of op.body)) c.prepare_lists.ensures.names in
-    let seen : seen_with c.take.new.self c.follow.new.marks c.list_tags.new.table.names ≡ with_new op flat =
-    accepted_seen old op change is_new tells flat c.take.new.self c.self.inside.marks c.follow.new.marks c.self.inside.tags.names c.list_tags.new.table.names c.self.view_is
+    let seen : seen_with c.take.new.self c.follow.new.marks c.list_tags.new.table.names ≡ with_new op document =
+    accepted_seen old op change is_new tells document c.take.new.self c.self.inside.marks c.follow.new.marks c.self.inside.tags.names c.list_tags.new.table.names c.self.view_is
     c.in-Ok.ensures.log c.store.ensures.cells c.take.ensures.site c.take.ensures.limit c.follow.ensures names in
-    let doc : IsDoc flat.cells flat.marks flat.tags = subst (λ (f : DocValue). IsDoc f.cells f.marks f.tags) c.self.view_is c.self.invariant in
-    let more : IsHistory (with_operation op flat.log) = subst IsHistory (ap (λ (f : DocValue). f.log) seen) c.log.ensures.history in
-    subst (λ (f : DocValue). IsDoc f.cells f.marks f.tags) (sym seen) (accepted_is flat op c.kept.ensures.history more c.kept.ensures.document.cells c.edit.ensures.rules doc)
+    let doc : IsDoc document.cells document.marks document.tags = subst (λ (f : DocValue). IsDoc f.cells f.marks f.tags) c.self.view_is c.self.invariant in
+    let more : IsHistory (with_operation op document.log) = subst IsHistory (ap (λ (f : DocValue). f.log) seen) c.log.ensures.history in
+    subst (λ (f : DocValue). IsDoc f.cells f.marks f.tags) (sym seen) (accepted_is document op c.kept.ensures.history more c.kept.ensures.document.cells c.edit.ensures.rules doc)
 
 pub returns-in-Ok-clause-taken : goal.returns-in-Ok-clause-taken
 returns-in-Ok-clause-taken g c =
     let old = c.self.inside.replica in
-    let flat = c.args.self.now in
+    let document = c.args.self.now in
     let op = c.args.op in
     let change = c.in-Ok.change in
-    let is_new = seen_new old op flat c.self.inside.marks c.self.inside.tags.names c.self.view_is c.requires in
+    let is_new = seen_new old op document c.self.inside.marks c.self.inside.tags.names c.self.view_is c.requires in
     let tells = c.in-Ok.ensures.change in
     let lists : as_words c.deref.result.now ≡ lists_of op.body = ap as_words c.deref.ensures.value ∙ tells.lists in
     let names = c.list_tags.ensures ∙ ap (λ l. all_listed l c.prepare_lists.new.table.names) lists ∙ ap (all_listed (lists_of op.body)) c.prepare_lists.ensures.names in
-    accepted_seen old op change is_new tells flat c.take.new.self c.self.inside.marks c.follow.new.marks c.self.inside.tags.names c.list_tags.new.table.names c.self.view_is
+    accepted_seen old op change is_new tells document c.take.new.self c.self.inside.marks c.follow.new.marks c.self.inside.tags.names c.list_tags.new.table.names c.self.view_is
     c.in-Ok.ensures.log c.store.ensures.cells c.take.ensures.site c.take.ensures.limit c.follow.ensures names
 
 pub returns-in-Ok-clause-replays : goal.returns-in-Ok-clause-replays
 returns-in-Ok-clause-replays g c =
-    let flat = c.args.self.now in
-    let cells : c.self.inside.replica.cells ≡ flat.cells = ap (λ (f : DocValue). f.cells) c.self.view_is in
-    told_replays flat.log c.take.new.self.log flat.cells c.take.new.self.cells c.args.op c.in-Ok.change c.kept.ensures.history c.log.ensures.history
+    let document = c.args.self.now in
+    let cells : c.self.inside.replica.cells ≡ document.cells = ap (λ (f : DocValue). f.cells) c.self.view_is in
+    told_replays document.log c.take.new.self.log document.cells c.take.new.self.cells c.args.op c.in-Ok.change c.kept.ensures.history c.log.ensures.history
     c.kept.ensures.document.cells c.store.ensures.cells (c.in-Ok.ensures.log ∙ ap (λ (f : DocValue). with_operation c.args.op f.log) c.self.view_is)
     (subst (λ (l : List TaggedCell). IsChange c.args.op l c.in-Ok.change) cells c.in-Ok.ensures.change)

@@ -7,7 +7,7 @@ use Rattle.rt_store.specs.Shown.{TaggedCell}
 use Rattle.rt_store.proofs.Shown.{text_shown}
 use Rattle.rt_tags.specs.States.{state_at}
 use Rattle.rt_text.specs.Grounds.{widget_over}
-use Rattle.rt_text.specs.Owned.{own_of}
+use Rattle.rt_text.specs.Owned.{widget_value}
 use Rattle.rt_text.proofs.SeenLaws.{begins_by}
 use Rattle.rt_text.proofs.ground.WidgetGroundGround.tag_first.Goals as goal
 
@@ -22,6 +22,6 @@ pub returns : goal.returns
 returns g c =
     let ground = c.args.self.now in
     c.next_within.ensures
-    ∙ begins_by c.kept.result.1.now (g.S.TextStore.list c.kept.result.0.now) ground.stretch ground.marks.now ground.tags.now.names (selected_stamps ground.widget.now.selection) (own_of ground.widget.now) c.args.name.now
+    ∙ begins_by c.kept.result.1.now (g.S.TextStore.list c.kept.result.0.now) ground.stretch ground.marks.now ground.tags.now.names (selected_stamps ground.widget.now.selection) (widget_value ground.widget.now) c.args.name.now
     refl (sym c.has.ensures ∙ c.if-not-has.false)
-    ∙ ap (λ (cells : List TaggedCell). tag_first (widget_over ground.stretch cells ground.marks.now ground.tags.now.names (own_of ground.widget.now)) c.args.name.now) (c.kept.ensures.cells ∙ ground.same)
+    ∙ ap (λ (cells : List TaggedCell). tag_first (widget_over ground.stretch cells ground.marks.now ground.tags.now.names (widget_value ground.widget.now)) c.args.name.now) (c.kept.ensures.cells ∙ ground.same)

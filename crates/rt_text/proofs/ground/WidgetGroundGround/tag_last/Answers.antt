@@ -8,7 +8,7 @@ use Rattle.rt_tags.specs.States.{state_at}
 use Rattle.rt_text.specs.Proper.{last_within}
 use Rattle.rt_plans.specs.Selected.{selected_stamps}
 use Rattle.rt_text.specs.Grounds.{widget_over}
-use Rattle.rt_text.specs.Owned.{own_of}
+use Rattle.rt_text.specs.Owned.{widget_value}
 use Rattle.rt_text.specs.Widgets.{is_tagged_in}
 use Rattle.rt_plans.proofs.PlaceLaws.{length_text, text_within}
 use Rattle.rt_lines.proofs.Parts.{part_length}
@@ -27,9 +27,9 @@ pub returns-in_err-last : goal.returns-in_err-last
 returns-in_err-last g c =
     let ground = c.args.self.now in
     c.from_residual.ensures ∙ ap (option_map (λ q. q + 1)) (sym c.in_err-last.was ∙ c.last_within.ensures)
-    ∙ stops_by c.kept.result.1.now (g.S.TextStore.list c.kept.result.0.now) ground.stretch ground.marks.now ground.tags.now.names (selected_stamps ground.widget.now.selection) (own_of ground.widget.now) c.args.name.now
+    ∙ stops_by c.kept.result.1.now (g.S.TextStore.list c.kept.result.0.now) ground.stretch ground.marks.now ground.tags.now.names (selected_stamps ground.widget.now.selection) (widget_value ground.widget.now) c.args.name.now
     refl (sym c.has.ensures ∙ c.if-not-has.false)
-    ∙ ap (λ (cells : List TaggedCell). tag_last (widget_over ground.stretch cells ground.marks.now ground.tags.now.names (own_of ground.widget.now)) c.args.name.now) (c.kept.ensures.cells ∙ ground.same)
+    ∙ ap (λ (cells : List TaggedCell). tag_last (widget_over ground.stretch cells ground.marks.now ground.tags.now.names (widget_value ground.widget.now)) c.args.name.now) (c.kept.ensures.cells ∙ ground.same)
 
 pub overflow_add-result : goal.overflow_add-result
 overflow_add-result g c =
@@ -47,6 +47,6 @@ pub returns : goal.returns
 returns g c =
     let ground = c.args.self.now in
     ap (option_map (λ q. q + 1)) (sym c.in_ok-last.was ∙ c.last_within.ensures)
-    ∙ stops_by c.kept.result.1.now (g.S.TextStore.list c.kept.result.0.now) ground.stretch ground.marks.now ground.tags.now.names (selected_stamps ground.widget.now.selection) (own_of ground.widget.now) c.args.name.now
+    ∙ stops_by c.kept.result.1.now (g.S.TextStore.list c.kept.result.0.now) ground.stretch ground.marks.now ground.tags.now.names (selected_stamps ground.widget.now.selection) (widget_value ground.widget.now) c.args.name.now
     refl (sym c.has.ensures ∙ c.if-not-has.false)
-    ∙ ap (λ (cells : List TaggedCell). tag_last (widget_over ground.stretch cells ground.marks.now ground.tags.now.names (own_of ground.widget.now)) c.args.name.now) (c.kept.ensures.cells ∙ ground.same)
+    ∙ ap (λ (cells : List TaggedCell). tag_last (widget_over ground.stretch cells ground.marks.now ground.tags.now.names (widget_value ground.widget.now)) c.args.name.now) (c.kept.ensures.cells ∙ ground.same)

@@ -5,10 +5,10 @@ use Rattle.rt_store.specs.Cells.{text_of}
 use Rattle.rt_store.proofs.Shown.{map_append}
 use Rattle.rt_tags.proofs.Sorted.{every_append}
 use Rattle.rt_lines.specs.Choices.{limits_chosen}
-use Rattle.rt_lines.specs.Ordered.{AreInOrder}
+use Rattle.rt_lines.specs.Ordered.{LimitsAreInOrder}
 use Rattle.rt_text.specs.Limited.{with_new_peer}
-use Rattle.rt_text.specs.Owned.{own_of}
-use Rattle.rt_text.specs.Widgets.{IsOwnOf, WidgetValue, ViewValue, own_at}
+use Rattle.rt_text.specs.Owned.{widget_value}
+use Rattle.rt_text.specs.Widgets.{IsOwnOf, WidgetValue, ViewValue, widget_at}
 use Rattle.rt_text.proofs.KeptLimits.{InOrder, order_append, order_asked}
 use Rattle.rt_text.proofs.view.View.add_peer.Goals as goal
 
@@ -23,31 +23,31 @@ returns-in_err-limits g c =
 
 pub invariant_of-self-2 : goal.invariant_of-self-2
 invariant_of-self-2 g c =
-    let flat = c.self.inside.doc in
-    let cells = flat.cells in
+    let doc = c.self.inside.doc in
+    let cells = doc.cells in
     let n = length (text_of cells) in
     let items = c.self.inside.others.items in
-    let own = own_of c.self.inside.widget in
+    let own = widget_value c.self.inside.widget in
     let limits = c.in_ok-limits.limits in
     let chosen : limits_chosen cells c.args.start c.args.end own.limits ≡ Ok limits =
     ap (limits_chosen cells c.args.start c.args.end) (sym c.limits.ensures) ∙ sym c.limits_chosen.ensures ∙ c.in_ok-limits.was in
-    let order = order_asked flat c.args.start c.args.end own.limits limits c.kept.ensures.history c.kept.ensures.document c.self.invariant.limits.0 chosen in
+    let order = order_asked doc c.args.start c.args.end own.limits limits c.kept.ensures.history c.kept.ensures.document c.self.invariant.limits.0 chosen in
     let begin = c.stretch-begin.result.begin in
-    let stands : IsOwnOf n (own_at begin limits) = record {
+    let stands : IsOwnOf n (widget_at begin limits) = record {
       insert = omega (arith, c.stretch-begin.ensures.some, c.stretch-begin.ensures.within);
       current = omega (arith, c.stretch-begin.ensures.some, c.stretch-begin.ensures.within);
       insert_name = refl;
       current_name = refl;
     } in
-    let new : WidgetValue = own_of c.at.result in
-    let back : map own_of c.push.new.self.items ≡ map own_of items ++ new ∷ [] = ap (map own_of) c.in_ok-push.ensures.items ∙ map_append own_of items (c.at.result ∷ []) in
+    let new : WidgetValue = widget_value c.at.result in
+    let back : map widget_value c.push.new.self.items ≡ map widget_value items ++ new ∷ [] = ap (map widget_value) c.in_ok-push.ensures.items ∙ map_append widget_value items (c.at.result ∷ []) in
     record {
       own = c.self.invariant.own;
       others = subst (AllByRecursion (IsOwnOf n)) (sym back)
-          (every_append (IsOwnOf n) (map own_of items) (new ∷ []) c.self.invariant.others (subst (IsOwnOf n) (sym c.at.ensures) stands, tt));
+          (every_append (IsOwnOf n) (map widget_value items) (new ∷ []) c.self.invariant.others (subst (IsOwnOf n) (sym c.at.ensures) stands, tt));
       limits = (
         c.self.invariant.limits.0,
-        subst (InOrder cells) (sym back) (order_append cells (map own_of items) (new ∷ []) c.self.invariant.limits.1
-            (subst (λ (o : WidgetValue). AreInOrder cells o.limits) (sym c.at.ensures) order, tt)),
+        subst (InOrder cells) (sym back) (order_append cells (map widget_value items) (new ∷ []) c.self.invariant.limits.1
+            (subst (λ (o : WidgetValue). LimitsAreInOrder cells o.limits) (sym c.at.ensures) order, tt)),
       );
     }

@@ -9,7 +9,7 @@ use Rattle.rt_stamps.specs.declared.fault.Fault.TheVariants.{NoMemory}
 use Rattle.rt_stamps.specs.Outcomes.{first_of}
 use Rattle.rt_plans.specs.declared.range.Range.{Range}
 use Rattle.rt_store.specs.Cells.{text_of}
-use Rattle.rt_text.specs.Owned.{own_of}
+use Rattle.rt_text.specs.Owned.{widget_value}
 use Rattle.rt_text.specs.Commands.{with_range_replaced}
 use Rattle.rt_text.specs.Widgets.{IsOwnOf, ViewValue}
 use Rattle.rt_text.proofs.PutLaws.{both_done, either, late_checks}
@@ -59,7 +59,7 @@ returns-in_err-range g c =
 
 pub replace_in-done-requires-clause-others : goal.replace_in-done-requires-clause-others
 replace_in-done-requires-clause-others g c =
-    subst (λ (l : List Widget). AllByRecursion (IsOwnOf (length (text_of c.self.inside.doc.cells))) (map own_of l)) (sym c.deref_mut.ensures.value) c.self.invariant.others
+    subst (λ (l : List Widget). AllByRecursion (IsOwnOf (length (text_of c.self.inside.doc.cells))) (map widget_value l)) (sym c.deref_mut.ensures.value) c.self.invariant.others
 
 pub returns-clause-ok : goal.returns-clause-ok
 returns-clause-ok g c =
@@ -67,15 +67,15 @@ returns-clause-ok g c =
     let pieces = c.args.pieces.now in
     let rest = c.args.rest.now in
     let range : Range = record { from = c.in_ok-begin.begin; to = c.in_ok-end.end } in
-    let same : viewed c.self.inside.doc (own_of c.self.inside.widget) (map own_of c.deref_mut.result.now) ≡ view =
-    ap (λ l. viewed c.self.inside.doc (own_of c.self.inside.widget) (map own_of l)) c.deref_mut.ensures.value ∙ c.self.view_is in
+    let same : viewed c.self.inside.doc (widget_value c.self.inside.widget) (map widget_value c.deref_mut.result.now) ≡ view =
+    ap (λ l. viewed c.self.inside.doc (widget_value c.self.inside.widget) (map widget_value l)) c.deref_mut.ensures.value ∙ c.self.view_is in
     let back : (with_items c.self.inside.others c.replace_in-done.new.others).items ≡ c.replace_in-done.new.others =
     with_items_is c.self.inside.others c.replace_in-done.new.others (omega (arith, c.replace_in-done.auto.others, c.deref_mut.ensures.len)) in
-    let edited : ViewValue = viewed c.replace_in-done.new.self (own_of c.replace_in-done.new.widget) (map own_of (with_items c.self.inside.others c.replace_in-done.new.others).items) in
+    let edited : ViewValue = viewed c.replace_in-done.new.self (widget_value c.replace_in-done.new.widget) (map widget_value (with_items c.self.inside.others c.replace_in-done.new.others).items) in
     both_done c.replace_in-done.result
     (λ made checked. done_as view pieces rest c.args.from.now c.args.to.now c.in_ok-check_names.ensures.ok c.in_ok-begin.begin c.in_ok-end.end c.in_ok-begin.ensures.ok c.in_ok-end.ensures.ok edited
     c.in_ok-range.ensures.checked
-    (ap (λ l. viewed c.replace_in-done.new.self (own_of c.replace_in-done.new.widget) (map own_of l)) back ∙ made
+    (ap (λ l. viewed c.replace_in-done.new.self (widget_value c.replace_in-done.new.widget) (map widget_value l)) back ∙ made
     ∙ (λ i. with_range_replaced (same i) (c.in_ok-range.ensures.ok i) pieces rest))
     (ap (λ (v : ViewValue). first_of (late_checks v.doc edited)) (sym c.self.view_is) ∙ checked))
     c.replace_in-done.ensures.ok c.replace_in-done.ensures.checked
@@ -86,23 +86,23 @@ returns-clause-err g c =
     let pieces = c.args.pieces.now in
     let rest = c.args.rest.now in
     let range : Range = record { from = c.in_ok-begin.begin; to = c.in_ok-end.end } in
-    let same : viewed c.self.inside.doc (own_of c.self.inside.widget) (map own_of c.deref_mut.result.now) ≡ view =
-    ap (λ l. viewed c.self.inside.doc (own_of c.self.inside.widget) (map own_of l)) c.deref_mut.ensures.value ∙ c.self.view_is in
+    let same : viewed c.self.inside.doc (widget_value c.self.inside.widget) (map widget_value c.deref_mut.result.now) ≡ view =
+    ap (λ l. viewed c.self.inside.doc (widget_value c.self.inside.widget) (map widget_value l)) c.deref_mut.ensures.value ∙ c.self.view_is in
     refused_late view pieces rest c.args.from.now c.args.to.now c.in_ok-check_names.ensures.ok c.in_ok-begin.begin c.in_ok-end.end c.in_ok-begin.ensures.ok c.in_ok-end.ensures.ok
     c.replace_in-done.result c.in_ok-range.ensures.checked
     (subst (λ (v : ViewValue). IfErr c.replace_in-done.result (λ fault. (fault ≡ NoMemory) ⊎ (first_of (late_checks v.doc (with_range_replaced v range pieces rest)) ≡ Some fault))) same
     (subst (λ (r : Range). IfErr c.replace_in-done.result (λ fault. (fault ≡ NoMemory)
-    ⊎ (first_of (late_checks c.self.inside.doc (with_range_replaced (viewed c.self.inside.doc (own_of c.self.inside.widget) (map own_of c.deref_mut.result.now)) r pieces rest)) ≡ Some fault)))
+    ⊎ (first_of (late_checks c.self.inside.doc (with_range_replaced (viewed c.self.inside.doc (widget_value c.self.inside.widget) (map widget_value c.deref_mut.result.now)) r pieces rest)) ≡ Some fault)))
     c.in_ok-range.ensures.ok c.replace_in-done.ensures.err))
 
 pub returns-clause-unchanged : goal.returns-clause-unchanged
 returns-clause-unchanged g c =
-    let same : viewed c.self.inside.doc (own_of c.self.inside.widget) (map own_of c.deref_mut.result.now) ≡ c.args.self.now =
-    ap (λ l. viewed c.self.inside.doc (own_of c.self.inside.widget) (map own_of l)) c.deref_mut.ensures.value ∙ c.self.view_is in
+    let same : viewed c.self.inside.doc (widget_value c.self.inside.widget) (map widget_value c.deref_mut.result.now) ≡ c.args.self.now =
+    ap (λ l. viewed c.self.inside.doc (widget_value c.self.inside.widget) (map widget_value l)) c.deref_mut.ensures.value ∙ c.self.view_is in
     let back : (with_items c.self.inside.others c.replace_in-done.new.others).items ≡ c.replace_in-done.new.others =
     with_items_is c.self.inside.others c.replace_in-done.new.others (omega (arith, c.replace_in-done.auto.others, c.deref_mut.ensures.len)) in
     on_err_weaker c.replace_in-done.result
-    (λ kept. ap (λ l. viewed c.replace_in-done.new.self (own_of c.replace_in-done.new.widget) (map own_of l)) back ∙ kept ∙ same)
+    (λ kept. ap (λ l. viewed c.replace_in-done.new.self (widget_value c.replace_in-done.new.widget) (map widget_value l)) back ∙ kept ∙ same)
     c.replace_in-done.ensures.unchanged
 
 pub invariant_of-self : goal.invariant_of-self
@@ -114,17 +114,17 @@ invariant_of-self g c =
     let range = c.in_ok-range.range in
     let pieces = c.args.pieces.now in
     let rest = c.args.rest.now in
-    let view = viewed c.self.inside.doc (own_of c.self.inside.widget) (map own_of items) in
-    let new = viewed c.replace_in-done.new.self (own_of c.replace_in-done.new.widget) (map own_of (with_items c.self.inside.others c.replace_in-done.new.others).items) in
-    let here : new ≡ viewed c.replace_in-done.new.self (own_of c.replace_in-done.new.widget) (map own_of c.replace_in-done.new.others) =
-    ap (λ (l : List Widget). viewed c.replace_in-done.new.self (own_of c.replace_in-done.new.widget) (map own_of l)) back in
-    let lent : viewed c.self.inside.doc (own_of c.self.inside.widget) (map own_of c.deref_mut.result.now) ≡ view =
-    ap (λ (l : List Widget). viewed c.self.inside.doc (own_of c.self.inside.widget) (map own_of l)) c.deref_mut.ensures.value in
+    let view = viewed c.self.inside.doc (widget_value c.self.inside.widget) (map widget_value items) in
+    let new = viewed c.replace_in-done.new.self (widget_value c.replace_in-done.new.widget) (map widget_value (with_items c.self.inside.others c.replace_in-done.new.others).items) in
+    let here : new ≡ viewed c.replace_in-done.new.self (widget_value c.replace_in-done.new.widget) (map widget_value c.replace_in-done.new.others) =
+    ap (λ (l : List Widget). viewed c.replace_in-done.new.self (widget_value c.replace_in-done.new.widget) (map widget_value l)) back in
+    let lent : viewed c.self.inside.doc (widget_value c.self.inside.widget) (map widget_value c.deref_mut.result.now) ≡ view =
+    ap (λ (l : List Widget). viewed c.self.inside.doc (widget_value c.self.inside.widget) (map widget_value l)) c.deref_mut.ensures.value in
     let made = on_ok_weaker c.replace_in-done.result (λ e. here ∙ e ∙ ap (λ (v : ViewValue). with_range_replaced v range pieces rest) lent) c.replace_in-done.ensures.ok in
     let same = on_err_weaker c.replace_in-done.result (λ kept. here ∙ kept ∙ lent) c.replace_in-done.ensures.unchanged in
     record {
       own = c.replace_in-done.ensures.own;
-      others = subst (λ (l : List Widget). AllByRecursion (IsOwnOf n) (map own_of l)) (sym back) c.replace_in-done.ensures.others;
+      others = subst (λ (l : List Widget). AllByRecursion (IsOwnOf n) (map widget_value l)) (sym back) c.replace_in-done.ensures.others;
       limits = order_made c.replace_in-done.result view (with_range_replaced view range pieces rest) new c.kept.ensures.history c.kept.ensures.document.cells c.log.ensures.history c.log.ensures.cells
           (replaced_grows view range pieces rest) made same c.self.invariant.limits;
     }

@@ -9,10 +9,10 @@ use Rattle.std.specs.Prelude.{IfErr, IfOk}
 use Rattle.std.proofs.Common.{◌≡◌, ◌∙◌, Err, Ok, OnOk, Result, ap, arith, map, List, ◌⊎◌, None, Some, length, subst, sym}
 use Rattle.std.specs.Vec.{with_items}
 use Rattle.std.proofs.lemmas.List.{with_items_is}
-use Rattle.rt_text.specs.Owned.{own_of}
+use Rattle.rt_text.specs.Owned.{widget_value}
 use Rattle.rt_undo.specs.Actions.{group_of}
 use Rattle.rt_revert.specs.Plans.{named_group}
-use Rattle.rt_text.specs.Reversions.{own_reverted, view_reverted, reversion_check}
+use Rattle.rt_text.specs.Reversions.{widget_reverted, view_reverted, reversion_check}
 use Rattle.rt_text.specs.Widgets.{ViewValue, IsOwnOf}
 use Rattle.rt_text.proofs.KeptLimits.{order_reverted}
 use Rattle.rt_text.proofs.view.View.revert.Goals as goal
@@ -44,12 +44,12 @@ returns-clause-err g c = subst (λ (v : ViewValue). IfErr c.revert_in.result (λ
 
 pub returns-clause-unchanged : goal.returns-clause-unchanged
 returns-clause-unchanged g c =
-    let same : viewed c.self.inside.doc (own_of c.self.inside.widget) (map own_of c.deref_mut.result.now) ≡ c.args.self.now =
-    ap (λ l. viewed c.self.inside.doc (own_of c.self.inside.widget) (map own_of l)) c.deref_mut.ensures.value ∙ c.self.view_is in
+    let same : viewed c.self.inside.doc (widget_value c.self.inside.widget) (map widget_value c.deref_mut.result.now) ≡ c.args.self.now =
+    ap (λ l. viewed c.self.inside.doc (widget_value c.self.inside.widget) (map widget_value l)) c.deref_mut.ensures.value ∙ c.self.view_is in
     let back : (with_items c.self.inside.others c.revert_in.new.others).items ≡ c.revert_in.new.others =
     with_items_is c.self.inside.others c.revert_in.new.others (omega (arith, c.revert_in.auto.others, c.deref_mut.ensures.len)) in
     on_err_weaker c.revert_in.result
-    (λ kept. ap (λ l. viewed c.revert_in.new.self (own_of c.revert_in.new.widget) (map own_of l)) back ∙ (λ i. viewed (kept.0 i) (kept.1 i) (kept.2 i)) ∙ same)
+    (λ kept. ap (λ l. viewed c.revert_in.new.self (widget_value c.revert_in.new.widget) (map widget_value l)) back ∙ (λ i. viewed (kept.0 i) (kept.1 i) (kept.2 i)) ∙ same)
     c.revert_in.ensures.unchanged
 
 pub invariant_of-self : goal.invariant_of-self
@@ -59,18 +59,18 @@ invariant_of-self g c =
     let n = length (text_of c.revert_in.new.self.cells) in
     let items = c.self.inside.others.items in
     let group = named_group c.args.kept.now (group_of c.args.group.now) in
-    let view = viewed c.self.inside.doc (own_of c.self.inside.widget) (map own_of items) in
-    let new = viewed c.revert_in.new.self (own_of c.revert_in.new.widget) (map own_of (with_items c.self.inside.others c.revert_in.new.others).items) in
-    let lent : viewed c.self.inside.doc (own_of c.self.inside.widget) (map own_of c.deref_mut.result.now) ≡ view =
-    ap (λ (l : List Widget). viewed c.self.inside.doc (own_of c.self.inside.widget) (map own_of l)) c.deref_mut.ensures.value in
+    let view = viewed c.self.inside.doc (widget_value c.self.inside.widget) (map widget_value items) in
+    let new = viewed c.revert_in.new.self (widget_value c.revert_in.new.widget) (map widget_value (with_items c.self.inside.others c.revert_in.new.others).items) in
+    let lent : viewed c.self.inside.doc (widget_value c.self.inside.widget) (map widget_value c.deref_mut.result.now) ≡ view =
+    ap (λ (l : List Widget). viewed c.self.inside.doc (widget_value c.self.inside.widget) (map widget_value l)) c.deref_mut.ensures.value in
     let made : OnOk c.revert_in.result (new ≡ view_reverted view group) = all_ok c.revert_in.result
-    (λ d w p. (λ k. viewed (d k) (w k) ((ap (map own_of) back ∙ p ∙ ap (λ l. map (own_reverted c.self.inside.doc group) (map own_of l)) c.deref_mut.ensures.value) k)))
+    (λ d w p. (λ k. viewed (d k) (w k) ((ap (map widget_value) back ∙ p ∙ ap (λ l. map (widget_reverted c.self.inside.doc group) (map widget_value l)) c.deref_mut.ensures.value) k)))
     c.revert_in.ensures.doc c.revert_in.ensures.widget c.revert_in.ensures.peers in
     let same = on_err_weaker c.revert_in.result
-    (λ kept. ap (λ (l : List Widget). viewed c.revert_in.new.self (own_of c.revert_in.new.widget) (map own_of l)) back ∙ (λ i. viewed (kept.0 i) (kept.1 i) (kept.2 i)) ∙ lent) c.revert_in.ensures.unchanged in
+    (λ kept. ap (λ (l : List Widget). viewed c.revert_in.new.self (widget_value c.revert_in.new.widget) (map widget_value l)) back ∙ (λ i. viewed (kept.0 i) (kept.1 i) (kept.2 i)) ∙ lent) c.revert_in.ensures.unchanged in
     record {
       own = c.revert_in.ensures.own;
-      others = subst (λ (l : List Widget). AllByRecursion (IsOwnOf n) (map own_of l)) (sym back) c.revert_in.ensures.others;
+      others = subst (λ (l : List Widget). AllByRecursion (IsOwnOf n) (map widget_value l)) (sym back) c.revert_in.ensures.others;
       limits = order_reverted c.revert_in.result view new group c.kept.ensures.site c.kept.ensures.history c.kept.ensures.document c.requires.sound made c.revert_in.ensures.checked same c.self.invariant.limits;
     }
 
@@ -79,7 +79,7 @@ revert_in-requires-clause-own g c = c.self.invariant.own
 
 pub revert_in-requires-clause-others : goal.revert_in-requires-clause-others
 revert_in-requires-clause-others g c =
-    subst (λ (l : List Widget). AllByRecursion (IsOwnOf (length (text_of c.self.inside.doc.cells))) (map own_of l)) (sym c.deref_mut.ensures.value) c.self.invariant.others
+    subst (λ (l : List Widget). AllByRecursion (IsOwnOf (length (text_of c.self.inside.doc.cells))) (map widget_value l)) (sym c.deref_mut.ensures.value) c.self.invariant.others
 
 pub returns-clause-ok : goal.returns-clause-ok
 returns-clause-ok g c =
@@ -87,6 +87,6 @@ returns-clause-ok g c =
     let back : (with_items c.self.inside.others c.revert_in.new.others).items ≡ c.revert_in.new.others =
     with_items_is c.self.inside.others c.revert_in.new.others (omega (arith, c.revert_in.auto.others, c.deref_mut.ensures.len)) in
     all_ok c.revert_in.result
-    (λ d w p. (λ k. record { doc = d k; own = w k; others = (ap (map own_of) back ∙ p ∙ ap (λ l. map (own_reverted c.self.inside.doc group) (map own_of l)) c.deref_mut.ensures.value) k })
+    (λ d w p. (λ k. record { doc = d k; own = w k; others = (ap (map widget_value) back ∙ p ∙ ap (λ l. map (widget_reverted c.self.inside.doc group) (map widget_value l)) c.deref_mut.ensures.value) k })
     ∙ ap (λ (v : ViewValue). view_reverted v group) c.self.view_is)
     c.revert_in.ensures.doc c.revert_in.ensures.widget c.revert_in.ensures.peers

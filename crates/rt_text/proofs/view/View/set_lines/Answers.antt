@@ -2,7 +2,7 @@ use Rattle.std.proofs.Common.{◌≡◌, ◌∙◌, Err, Ok, ap, map, refl, subs
 use Rattle.std.proofs.lemmas.Result.{err_from_is_err_and}
 use Rattle.rt_lines.specs.Choices.{limits_chosen}
 use Rattle.rt_text.specs.Limited.{with_limits}
-use Rattle.rt_text.specs.Owned.{own_of}
+use Rattle.rt_text.specs.Owned.{widget_value}
 use Rattle.rt_text.specs.Widgets.{AreWidgetsOf, WidgetValue, ViewValue}
 use Rattle.rt_text.proofs.KeptLimits.{order_asked}
 use Rattle.rt_text.proofs.view.View.set_lines.Goals as goal
@@ -18,13 +18,13 @@ returns-in_err-limits g c =
 
 pub invariant_of-self : goal.invariant_of-self
 invariant_of-self g c =
-    let flat = c.self.inside.doc in
+    let doc = c.self.inside.doc in
     let limits = c.self.inside.widget.limits in
-    let chosen : limits_chosen flat.cells c.args.start c.args.end limits ≡ Ok c.in_ok-limits.limits =
-    ap (limits_chosen flat.cells c.args.start c.args.end) (sym c.limits.ensures) ∙ sym c.limits_chosen.ensures ∙ c.in_ok-limits.was in
-    let order = order_asked flat c.args.start c.args.end limits c.in_ok-limits.limits c.kept.ensures.history c.kept.ensures.document c.self.invariant.limits.0 chosen in
+    let chosen : limits_chosen doc.cells c.args.start c.args.end limits ≡ Ok c.in_ok-limits.limits =
+    ap (limits_chosen doc.cells c.args.start c.args.end) (sym c.limits.ensures) ∙ sym c.limits_chosen.ensures ∙ c.in_ok-limits.was in
+    let order = order_asked doc c.args.start c.args.end limits c.in_ok-limits.limits c.kept.ensures.history c.kept.ensures.document c.self.invariant.limits.0 chosen in
     let own = c.self.invariant.own in
-    subst (λ (w : WidgetValue). AreWidgetsOf flat.cells w (map own_of c.self.inside.others.items)) (sym c.set_limits.ensures)
+    subst (λ (w : WidgetValue). AreWidgetsOf doc.cells w (map widget_value c.self.inside.others.items)) (sym c.set_limits.ensures)
     (record {
       own = record { insert = own.insert; current = own.current; insert_name = own.insert_name; current_name = own.current_name };
       others = c.self.invariant.others;

@@ -14,7 +14,7 @@ use Rattle.rt_plans.specs.TagDrafts.{tag_drafts_at}
 use Rattle.rt_plans.specs.TagWrites.{listed_if, with_tag_at}
 use Rattle.rt_plans.proofs.TagPlaces.{listed_count, listed_text, tag_text}
 use Rattle.rt_lines.specs.Stretches.{stretch_of}
-use Rattle.rt_text.specs.Owned.{own_of}
+use Rattle.rt_text.specs.Owned.{widget_value}
 use Rattle.rt_text.specs.Commands.{clock_check, with_tag_in}
 use Rattle.rt_text.specs.Widgets.{AreWidgetsOf, IsOwnOf, WidgetValue, ViewValue, places_in_text}
 use Rattle.rt_text.proofs.Deletions.{both_ok}
@@ -30,10 +30,10 @@ pub returns-then-eq-clause-err : goal.returns-then-eq-clause-err
 returns-then-eq-clause-err g c = IfErr-weaker c.select.result _ _ (λ fault h. inl h) c.select.ensures.err
 
 pub returns-then-eq-clause-unchanged : goal.returns-then-eq-clause-unchanged
-returns-then-eq-clause-unchanged g c = on_err_weaker c.select.result (λ e. ap (λ (w : WidgetValue). viewed c.self.inside.doc w (map own_of c.self.inside.others.items)) e ∙ c.self.view_is) c.select.ensures.unchanged
+returns-then-eq-clause-unchanged g c = on_err_weaker c.select.result (λ e. ap (λ (w : WidgetValue). viewed c.self.inside.doc w (map widget_value c.self.inside.others.items)) e ∙ c.self.view_is) c.select.ensures.unchanged
 
 pub returns-clause-unchanged : goal.returns-clause-unchanged
-returns-clause-unchanged g c = on_err_weaker c.write_shared-done.result (λ e. ap (λ (f : DocValue). viewed f (own_of c.self.inside.widget) (map own_of c.self.inside.others.items)) e ∙ c.self.view_is) c.write_shared-done.ensures.unchanged
+returns-clause-unchanged g c = on_err_weaker c.write_shared-done.result (λ e. ap (λ (f : DocValue). viewed f (widget_value c.self.inside.widget) (map widget_value c.self.inside.others.items)) e ∙ c.self.view_is) c.write_shared-done.ensures.unchanged
 
 pub select-requires-clause-order : goal.select-requires-clause-order
 select-requires-clause-order g c = subst (RangesFollow 0) (sym c.deref.ensures.value) c.in_ok-ranges.ensures.order
@@ -61,7 +61,7 @@ select-requires-clause-within g c =
 pub returns-then-eq-clause-ok : goal.returns-then-eq-clause-ok
 returns-then-eq-clause-ok g c =
     let old = c.self.inside.doc in
-    let view = viewed old (own_of c.self.inside.widget) (map own_of c.self.inside.others.items) in
+    let view = viewed old (widget_value c.self.inside.widget) (map widget_value c.self.inside.others.items) in
     let on = c.args.on in
     let name = c.args.name.now in
     let cells = g.S.TextStore.list c.kept.result.0.now in
@@ -99,31 +99,31 @@ invariant_of-self-2 g c =
     either_way c.write_shared-done.result
     (λ e. ap (λ (f : DocValue). text_of f.cells) e ∙ listed_text c.args.on c.args.name.now (with_tag_at old within c.args.on c.args.name.now) ∙ tag_text old within c.args.on c.args.name.now)
     (λ e. ap (λ (f : DocValue). text_of f.cells) e) c.write_shared-done.ensures.ok c.write_shared-done.ensures.unchanged in
-    let others = map own_of c.self.inside.others.items in
+    let others = map widget_value c.self.inside.others.items in
     let drafts = tag_drafts_at MOST_SPANS within c.args.on c.args.name.now old.cells in
     let edited = listed_if c.args.on c.args.name.now (with_tag_at old within c.args.on c.args.name.now) in
-    let view = viewed old (own_of c.self.inside.widget) others in
-    let made = on_ok_weaker c.write_shared-done.result (λ e. ap (λ (f : DocValue). viewed f (own_of c.self.inside.widget) others) e) c.write_shared-done.ensures.ok in
-    let same = on_err_weaker c.write_shared-done.result (λ e. ap (λ (f : DocValue). viewed f (own_of c.self.inside.widget) others) e) c.write_shared-done.ensures.unchanged in
+    let view = viewed old (widget_value c.self.inside.widget) others in
+    let made = on_ok_weaker c.write_shared-done.result (λ e. ap (λ (f : DocValue). viewed f (widget_value c.self.inside.widget) others) e) c.write_shared-done.ensures.ok in
+    let same = on_err_weaker c.write_shared-done.result (λ e. ap (λ (f : DocValue). viewed f (widget_value c.self.inside.widget) others) e) c.write_shared-done.ensures.unchanged in
     record {
-      own = subst (λ n. IsOwnOf n (own_of c.self.inside.widget)) (sym (ap length text)) c.self.invariant.own;
+      own = subst (λ n. IsOwnOf n (widget_value c.self.inside.widget)) (sym (ap length text)) c.self.invariant.own;
       others = subst (λ n. AllByRecursion (IsOwnOf n) others) (sym (ap length text)) c.self.invariant.others;
-      limits = order_made c.write_shared-done.result view (viewed (logged old drafts edited) (own_of c.self.inside.widget) others) (viewed c.write_shared-done.new.self (own_of c.self.inside.widget) others)
+      limits = order_made c.write_shared-done.result view (viewed (logged old drafts edited) (widget_value c.self.inside.widget) others) (viewed c.write_shared-done.new.self (widget_value c.self.inside.widget) others)
           c.kept.ensures.history c.kept.ensures.document.cells c.log.ensures.history c.log.ensures.cells (logged_grows view drafts edited) made same c.self.invariant.limits;
     }
 
 pub invariant_of-self : goal.invariant_of-self
 invariant_of-self g c =
-    let others = map own_of c.self.inside.others.items in
+    let others = map widget_value c.self.inside.others.items in
     let cells = c.self.inside.doc.cells in
     either_way c.select.result
-    (λ e. subst (λ (w : WidgetValue). AreWidgetsOf cells w others) (sym e) (widgets_selecting cells (own_of c.self.inside.widget) others _ c.self.invariant))
+    (λ e. subst (λ (w : WidgetValue). AreWidgetsOf cells w others) (sym e) (widgets_selecting cells (widget_value c.self.inside.widget) others _ c.self.invariant))
     (λ e. subst (λ (w : WidgetValue). AreWidgetsOf cells w others) (sym e) c.self.invariant) c.select.ensures.ok c.select.ensures.unchanged
 
 pub returns-clause-ok : goal.returns-clause-ok
 returns-clause-ok g c =
     let old = c.self.inside.doc in
-    let view = viewed old (own_of c.self.inside.widget) (map own_of c.self.inside.others.items) in
+    let view = viewed old (widget_value c.self.inside.widget) (map widget_value c.self.inside.others.items) in
     let on = c.args.on in
     let name = c.args.name.now in
     let cells = g.S.TextStore.list c.kept.result.0.now in
@@ -146,7 +146,7 @@ returns-clause-ok g c =
 pub returns-clause-err : goal.returns-clause-err
 returns-clause-err g c =
     let old = c.self.inside.doc in
-    let view = viewed old (own_of c.self.inside.widget) (map own_of c.self.inside.others.items) in
+    let view = viewed old (widget_value c.self.inside.widget) (map widget_value c.self.inside.others.items) in
     let on = c.args.on in
     let name = c.args.name.now in
     let cells = g.S.TextStore.list c.kept.result.0.now in

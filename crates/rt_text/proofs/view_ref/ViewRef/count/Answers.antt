@@ -2,7 +2,7 @@ use Rattle.std.proofs.Common.{◌≡◌, ◌∙◌, ◌-◌, ◌≤◌, arith, l
 use Rattle.std.proofs.lemmas.Result.{IfOk-weaker, err_from_is_err_and, IfErr-weaker}
 use Rattle.rt_store.specs.Cells.{text_of}
 use Rattle.rt_text.specs.Distances.{distance_of, or_indices}
-use Rattle.rt_text.specs.Owned.{own_of}
+use Rattle.rt_text.specs.Owned.{widget_value}
 use Rattle.rt_text.specs.Widgets.{text_shown, widget_of}
 use Rattle.rt_text.proofs.Checks.{two_given, first_refused, second_refused}
 use Rattle.rt_text.proofs.Differences.{distances_in_part}
@@ -30,7 +30,7 @@ overflow_add-begin g c =
     let view = c.args.self.now in
     let store = g.S.TextStore.list c.between.result.0.now in
     let text : part c.between.result.1 (text_of store) ≡ text_shown view =
-    store_seen view c.self.inside.doc.now (own_of c.self.inside.widget.now) (map own_of c.self.inside.others.now) c.limits.result c.between.result.1 (text_of store) c.self.view_is c.limits.ensures c.between.ensures.stretch c.between.ensures.text in
+    store_seen view c.self.inside.doc.now (widget_value c.self.inside.widget.now) (map widget_value c.self.inside.others.now) c.limits.result c.between.result.1 (text_of store) c.self.view_is c.limits.ensures c.between.ensures.stretch c.between.ensures.text in
     let long = part_length c.between.result.1 (text_of store) c.between.ensures.lines.within in
     omega (arith, long, ap length text, c.in_ok-start.ensures.within, c.between.ensures.lines.within, c.between.ensures.lines.some, text_within store, c.between.ensures.few)
 
@@ -39,7 +39,7 @@ overflow_add-begin-2 g c =
     let view = c.args.self.now in
     let store = g.S.TextStore.list c.between.result.0.now in
     let text : part c.between.result.1 (text_of store) ≡ text_shown view =
-    store_seen view c.self.inside.doc.now (own_of c.self.inside.widget.now) (map own_of c.self.inside.others.now) c.limits.result c.between.result.1 (text_of store) c.self.view_is c.limits.ensures c.between.ensures.stretch c.between.ensures.text in
+    store_seen view c.self.inside.doc.now (widget_value c.self.inside.widget.now) (map widget_value c.self.inside.others.now) c.limits.result c.between.result.1 (text_of store) c.self.view_is c.limits.ensures c.between.ensures.stretch c.between.ensures.text in
     let long = part_length c.between.result.1 (text_of store) c.between.ensures.lines.within in
     omega (arith, long, ap length text, c.in_ok-end.ensures.within, c.between.ensures.lines.within, c.between.ensures.lines.some, text_within store, c.between.ensures.few)
 
@@ -48,7 +48,7 @@ distances_of-requires-clause-places g c =
     let view = c.args.self.now in
     let store = g.S.TextStore.list c.between.result.0.now in
     let text : part c.between.result.1 (text_of store) ≡ text_shown view =
-    store_seen view c.self.inside.doc.now (own_of c.self.inside.widget.now) (map own_of c.self.inside.others.now) c.limits.result c.between.result.1 (text_of store) c.self.view_is c.limits.ensures c.between.ensures.stretch c.between.ensures.text in
+    store_seen view c.self.inside.doc.now (widget_value c.self.inside.widget.now) (map widget_value c.self.inside.others.now) c.limits.result c.between.result.1 (text_of store) c.self.view_is c.limits.ensures c.between.ensures.stretch c.between.ensures.text in
     let long = part_length c.between.result.1 (text_of store) c.between.ensures.lines.within in (
       omega (arith, long, ap length text, c.in_ok-start.ensures.within, c.between.ensures.lines.within, c.between.ensures.lines.some),
       omega (arith, long, ap length text, c.in_ok-end.ensures.within, c.between.ensures.lines.within, c.between.ensures.lines.some),
@@ -63,7 +63,7 @@ returns-clause-ok g c =
     let stretch = c.between.result.1 in
     let store = g.S.TextStore.list c.between.result.0.now in
     let text : part c.between.result.1 (text_of store) ≡ text_shown view =
-    store_seen view c.self.inside.doc.now (own_of c.self.inside.widget.now) (map own_of c.self.inside.others.now) c.limits.result c.between.result.1 (text_of store) c.self.view_is c.limits.ensures c.between.ensures.stretch c.between.ensures.text in
+    store_seen view c.self.inside.doc.now (widget_value c.self.inside.widget.now) (map widget_value c.self.inside.others.now) c.limits.result c.between.result.1 (text_of store) c.self.view_is c.limits.ensures c.between.ensures.stretch c.between.ensures.text in
     let long = part_length stretch (text_of store) c.between.ensures.lines.within in
     let one : start ≤ stretch.end - stretch.begin = omega (arith, long, ap length text, c.in_ok-start.ensures.within) in
     let two : end ≤ stretch.end - stretch.begin = omega (arith, long, ap length text, c.in_ok-end.ensures.within) in

@@ -5,7 +5,7 @@ use Rattle.rt_stamps.specs.Outcomes.{unless}
 use Rattle.rt_stamps.specs.Words.{as_words}
 use Rattle.rt_store.specs.Cells.{text_of}
 use Rattle.rt_text.specs.Index.{place_at_index}
-use Rattle.rt_text.specs.Owned.{own_of}
+use Rattle.rt_text.specs.Owned.{widget_value}
 use Rattle.rt_text.specs.Ranges.{ranges_of, texts_of}
 use Rattle.rt_text.specs.Widgets.{text_shown, widget_of}
 use Rattle.rt_text.proofs.SeenLaws.{store_seen}
@@ -29,7 +29,7 @@ returns-clause-ok g c =
     let w = widget_of view in
     let store = g.S.TextStore.list c.between.result.0.now in
     let text : part c.between.result.1 (text_of store) ≡ text_shown view =
-    store_seen view c.self.inside.doc.now (own_of c.self.inside.widget.now) (map own_of c.self.inside.others.now) c.limits.result c.between.result.1 (text_of store) c.self.view_is c.limits.ensures c.between.ensures.stretch c.between.ensures.text in
+    store_seen view c.self.inside.doc.now (widget_value c.self.inside.widget.now) (map widget_value c.self.inside.others.now) c.limits.result c.between.result.1 (text_of store) c.self.view_is c.limits.ensures c.between.ensures.stretch c.between.ensures.text in
     IfOk-weaker c.texts_of.result _ _
     (λ found h. ap (λ f. unless f (texts_of (text_shown view) (ranges_of (map (place_at_index w) (as_words c.args.indices.now))))) c.in_ok-ranges.ensures.checked
     ∙ ap (λ r. Ok (texts_of (text_shown view) r)) (sym (c.deref.ensures.value ∙ c.in_ok-ranges.ensures.ok))

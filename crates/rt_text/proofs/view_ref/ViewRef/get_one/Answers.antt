@@ -2,7 +2,7 @@ use Rattle.std.proofs.Common.{◌≡◌, ◌+◌, ◌∙◌, arith, length, map,
 use Rattle.std.specs.Prelude.{encode_utf8_all}
 use Rattle.std.proofs.lemmas.Result.{IfOk-weaker, err_from_is_err_and, IfErr-weaker}
 use Rattle.rt_store.specs.Cells.{text_of}
-use Rattle.rt_text.specs.Owned.{own_of}
+use Rattle.rt_text.specs.Owned.{widget_value}
 use Rattle.rt_text.specs.Ranges.{text_between}
 use Rattle.rt_text.specs.Widgets.{text_shown, widget_of}
 use Rattle.rt_text.proofs.Checks.{one_given, one_refused}
@@ -26,7 +26,7 @@ returns-clause-ok g c =
     let place = c.in_ok-place.place in
     let store = g.S.TextStore.list c.between.result.0.now in
     let text : part c.between.result.1 (text_of store) ≡ text_shown view =
-    store_seen view c.self.inside.doc.now (own_of c.self.inside.widget.now) (map own_of c.self.inside.others.now) c.limits.result c.between.result.1 (text_of store) c.self.view_is c.limits.ensures c.between.ensures.stretch c.between.ensures.text in
+    store_seen view c.self.inside.doc.now (widget_value c.self.inside.widget.now) (map widget_value c.self.inside.others.now) c.limits.result c.between.result.1 (text_of store) c.self.view_is c.limits.ensures c.between.ensures.stretch c.between.ensures.text in
     let long = part_length c.between.result.1 (text_of store) c.between.ensures.lines.within in
     let next : c.saturating_add.result ≡ place + 1 =
     omega (arith, ap length text, long, c.in_ok-place.ensures.within, c.between.ensures.lines.within, text_within store, c.between.ensures.few, c.saturating_add.ensures) in

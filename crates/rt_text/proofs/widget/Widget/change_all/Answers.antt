@@ -1,6 +1,6 @@
 use Rattle.std.proofs.Common.{◌≡◌, ◌∙◌, ◌<◌, ◌≤◌, ◌+◌, ◌^◌, ◌-◌, suc, arith, length, drop, sym, ap, subst}
-use Rattle.rt_text.specs.Changes.{own_after}
-use Rattle.rt_text.specs.Owned.{own_of}
+use Rattle.rt_text.specs.Changes.{widget_after}
+use Rattle.rt_text.specs.Owned.{widget_value}
 use Rattle.rt_text.specs.Widgets.{WidgetValue}
 use Rattle.rt_text.proofs.ChangedMarks.{change_here, changes_from, current_room, insert_room, left_more}
 use Rattle.rt_text.proofs.widget.Widget.change_all.Goals as goal
@@ -34,9 +34,9 @@ loop-change-preserved c =
     let n = length (drop (i + 1) changes) in
     let most = 2 ^ 64 - 1 in
     record {
-      own = ap (own_after (drop (i + 1) changes)) c.change.ensures ∙ sym (ap (λ l. own_after l (own_of c.loop-change.self)) from) ∙ c.loop-change.invariant.own;
+      own = ap (widget_after (drop (i + 1) changes)) c.change.ensures ∙ sym (ap (λ l. widget_after l (widget_value c.loop-change.self)) from) ∙ c.loop-change.invariant.own;
       insert = subst (λ (o : WidgetValue). o.insert.place + n ≤ most) (sym c.change.ensures)
-          (insert_room change n most (own_of c.loop-change.self) (omega (arith, more, c.loop-change.invariant.insert)));
+          (insert_room change n most (widget_value c.loop-change.self) (omega (arith, more, c.loop-change.invariant.insert)));
       current = subst (λ (o : WidgetValue). o.current.place + n ≤ most) (sym c.change.ensures)
-          (current_room change n most (own_of c.loop-change.self) (omega (arith, more, c.loop-change.invariant.current)));
+          (current_room change n most (widget_value c.loop-change.self) (omega (arith, more, c.loop-change.invariant.current)));
     }

@@ -2,14 +2,14 @@ use Rattle.std.proofs.Common.{◌∙◌, ◌-◌, ◌≤◌, [], ap, arith, get_
 use Rattle.std.proofs.lemmas.List.{take_all}
 use Rattle.rt_rga.specs.declared.taken.PlaceRun.{PlaceRun}
 use Rattle.rt_rga.specs.Taken.{AreFallingRuns, is_in_runs}
-use Rattle.rt_text.specs.Owned.{own_of}
-use Rattle.rt_text.specs.Widgets.{own_inserted, own_left, own_removed}
+use Rattle.rt_text.specs.Owned.{widget_value}
+use Rattle.rt_text.specs.Widgets.{widget_inserted, widget_without, widget_removed}
 use Rattle.rt_text.proofs.FollowingLaws.{own_follow, run_forward}
 use Rattle.rt_text.proofs.MarkLaws.{own_kept}
 use Rattle.rt_text.proofs.widget.Widget.follow.Goals as goal
 
 pub loop-run-init : goal.loop-run-init
-loop-run-init c = c.inserted.ensures ∙ sym (own_kept (is_in_runs []) (own_inserted c.args.change.now.place c.args.change.now.inserted (own_of c.args.self.now)) (λ p. refl))
+loop-run-init c = c.inserted.ensures ∙ sym (own_kept (is_in_runs []) (widget_inserted c.args.change.now.place c.args.change.now.inserted (widget_value c.args.self.now)) (λ p. refl))
 
 pub overflow_sub-run : goal.overflow_sub-run
 overflow_sub-run c =
@@ -24,12 +24,12 @@ loop-run-preserved c =
     let falling = subst (AreFallingRuns end) (sym c.deref-run-items.ensures.value) c.requires.runs.1 in
     let d : PlaceRun = record { from = 0; to = 0 } in
     let run : PlaceRun = get_or runs i d in
-    c.removed.ensures ∙ ap (own_removed run.from (run.to - run.from)) c.loop-run.invariant
-    ∙ own_follow end runs i d (own_inserted c.args.change.now.place c.args.change.now.inserted (own_of c.args.self.now)) c.loop-run-test.true falling
+    c.removed.ensures ∙ ap (widget_removed run.from (run.to - run.from)) c.loop-run.invariant
+    ∙ own_follow end runs i d (widget_inserted c.args.change.now.place c.args.change.now.inserted (widget_value c.args.self.now)) c.loop-run-test.true falling
 
 pub returns : goal.returns
 returns c =
     let runs = c.deref-run-items.result.now in
     let past : length runs ≤ c.loop-run.run-index = omega arith in
     c.loop-run.invariant
-    ∙ ap (λ r. own_left (is_in_runs r) (own_inserted c.args.change.now.place c.args.change.now.inserted (own_of c.args.self.now))) (take_all c.loop-run.run-index runs past ∙ c.deref-run-items.ensures.value)
+    ∙ ap (λ r. widget_without (is_in_runs r) (widget_inserted c.args.change.now.place c.args.change.now.inserted (widget_value c.args.self.now))) (take_all c.loop-run.run-index runs past ∙ c.deref-run-items.ensures.value)

@@ -3,10 +3,10 @@ use Rattle.std.specs.Prelude.{is_some}
 use Rattle.std.proofs.lemmas.Bool.Decides.{nat_tests}
 use Rattle.rt_stamps.specs.declared.stamp.Stamp.{Stamp}
 use Rattle.rt_tree.specs.declared.node.Run.{Run}
-use Rattle.rt_tree.specs.Runs.{has}
+use Rattle.rt_tree.specs.Runs.{has_cell}
 use Rattle.rt_tree.proofs.homes.Homes.has_none.Goals as goal
 
-in_run : (run : Run) (offset : ℕ) → offset < run.len → has run (record { count = run.first + offset; site = run.site }) ≡ true
+in_run : (run : Run) (offset : ℕ) → offset < run.len → has_cell run (record { count = run.first + offset; site = run.site }) ≡ true
 in_run run offset lt = grind (arith, nat_tests)
 
 -- a stamp of the run has a leaf

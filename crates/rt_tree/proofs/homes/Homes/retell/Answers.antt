@@ -1,7 +1,7 @@
 use Rattle.std.proofs.Common.{◌≡◌, ◌+◌, Bool, Option, arith, false, if◌then◌else◌, inl, inr, refl, subst, sym, true, [], ◌∙◌}
 use Rattle.std.specs.Prelude.{◌&&◌}
 use Rattle.rt_nodes.specs.declared.memory.NodeId.{NodeId}
-use Rattle.rt_spans.specs.Shown.{IsBorder}
+use Rattle.rt_spans.specs.Shown.{IsValueBorder}
 use Rattle.rt_tree.proofs.Housing.{had_not}
 use Rattle.rt_tree.proofs.Leaves.{in_span}
 use Rattle.rt_tree.proofs.homes.Homes.retell.Goals as goal
@@ -17,8 +17,8 @@ returns-in-Some-clause-entered c = λ some was.
     let is = c.in-Some.ensures.is in
     let e = c.repaint.ensures in
     let old = c.args.self.now.leaves in let new = c.repaint.new.self in
-    let begins : IsBorder old span.site span.first = subst (λ n. IsBorder old n span.first) (sym is.site) (subst (λ n. IsBorder old c.args.run.now.site n) (sym is.first) was.begins) in
-    let ends : IsBorder old span.site (span.last + 1) = subst (λ n. IsBorder old n (span.last + 1)) (sym is.site) (subst (λ n. IsBorder old c.args.run.now.site n) (sym is.last) was.ends) in
+    let begins : IsValueBorder old span.site span.first = subst (λ n. IsValueBorder old n span.first) (sym is.site) (subst (λ n. IsValueBorder old c.args.run.now.site n) (sym is.first) was.begins) in
+    let ends : IsValueBorder old span.site (span.last + 1) = subst (λ n. IsValueBorder old n (span.last + 1)) (sym is.site) (subst (λ n. IsValueBorder old c.args.run.now.site n) (sym is.last) was.ends) in
     let done : c.repaint.result ≡ true = e.borders.1 (begins, ends) in
     record {
       span = span;

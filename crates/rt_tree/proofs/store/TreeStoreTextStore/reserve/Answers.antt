@@ -1,6 +1,6 @@
 use Rattle.std.proofs.Common.{Result, Ok, Err, OnErr, OnOk, ap, subst, sym, ◌∙◌}
 use Rattle.rt_store.specs.Cells.{EndsFinal}
-use Rattle.rt_tree.specs.Trees.{Shown}
+use Rattle.rt_tree.specs.Trees.{TreeValue}
 use Rattle.rt_tree.proofs.Showing.{SameTree, same_back, same_tree}
 use Rattle.rt_tree.proofs.store.TreeStoreTextStore.reserve.Goals as goal
 
@@ -12,8 +12,8 @@ pub invariant_of-self : goal.invariant_of-self
 invariant_of-self c =
     let old = c.args.self.now in let tree = c.reserve.new.self in let e = c.reserve.ensures in
     let same : SameTree old.tree tree = either c.reserve.result _ _ (SameTree old.tree tree) e.same e.unchanged
-    (λ s. record { cells = ap (λ (v : Shown). v.cells) s; stretches = ap (λ (v : Shown). v.stretches) s })
-    (λ s. record { cells = ap (λ (v : Shown). v.cells) s; stretches = ap (λ (v : Shown). v.stretches) s }) in
+    (λ s. record { cells = ap (λ (v : TreeValue). v.cells) s; stretches = ap (λ (v : TreeValue). v.stretches) s })
+    (λ s. record { cells = ap (λ (v : TreeValue). v.cells) s; stretches = ap (λ (v : TreeValue). v.stretches) s }) in
     record {
       ends = subst EndsFinal (sym same.cells) old.ends;
       later = λ a b keeps agrees. same_tree b old.tree tree same (old.later a b keeps (same_back a old.tree tree same agrees));

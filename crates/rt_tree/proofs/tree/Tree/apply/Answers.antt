@@ -1,8 +1,8 @@
 use Rattle.std.proofs.Common.{◌+◌, ◌-◌, ◌^◌, arith, sym, ap, ◌∙◌, map, subst}
-use Rattle.rt_tree.specs.Runs.{cells_of}
+use Rattle.rt_tree.specs.Runs.{cells_of_runs}
 use Rattle.rt_tree.specs.Shape.{tree_runs}
-use Rattle.rt_tree.specs.Sharing.{AreBelowGreatest, AreUpTo, cell_in}
-use Rattle.rt_tree.specs.Trees.{IsKept, Shown}
+use Rattle.rt_tree.specs.Sharing.{AreBelowGreatest, NoneIsNewer, cell_updated_in}
+use Rattle.rt_tree.specs.Trees.{IsTreeOfText, TreeValue}
 use Rattle.rt_tree.proofs.Cutting.{runs_few}
 use Rattle.rt_tree.proofs.Updating.{span_count}
 use Rattle.rt_tree.proofs.Newest.{upto_updated, upto_not_updated}
@@ -23,18 +23,18 @@ invariant_of-self c =
     let e = c.update_span-change.ensures in
     let old = tree_runs s.mem s.root.index in let new = tree_runs c.update_span-change.new.mem c.update_span-change.result.root.index in
     let is = e.cells s.text.items k.kept in
-    let same = span_count old new s.text.items (cell_in c.args.span c.args.update) k.kept is in
-    let cuts = ap (λ (v : Shown). v.room.cuts) c.self.view_is in
-    let kept : IsKept c.update_span-change.new.mem c.update_span-change.result.root.index s.text.items (s.runs + c.update_span-change.result.more) =
+    let same = span_count old new s.text.items (cell_updated_in c.args.span c.args.update) k.kept is in
+    let cuts = ap (λ (v : TreeValue). v.room.cuts) c.self.view_is in
+    let kept : IsTreeOfText c.update_span-change.new.mem c.update_span-change.result.root.index s.text.items (s.runs + c.update_span-change.result.more) =
     record { tree = e.tree; kept = is.kept; apart = e.apart; counted = omega (arith, k.counted, e.runs); few = omega (arith, same, k.few); all = omega (arith, same, k.all) } in
     record {
       kept = kept;
       roomy = record { nodes = omega (arith, r.nodes, e.runs, e.more, e.room, cuts, c.requires.room.1); holds = r.holds; few = r.few };
-      newest = subst (AreUpTo s.newest) (sym is.cells) (upto_updated s.newest c.args.span c.args.update (cells_of s.text.items old) c.self.invariant.newest);
+      newest = subst (NoneIsNewer s.newest) (sym is.cells) (upto_updated s.newest c.args.span c.args.update (cells_of_runs s.text.items old) c.self.invariant.newest);
       home = e.home;
       housed = e.housed;
       steady = λ once below. e.sure
-          ∙ c.self.invariant.steady (updated_before c.args.span c.args.update s.text.items old new k.kept is.kept is.cells once) (upto_not_updated (2 ^ 64 - 2) c.args.span c.args.update (cells_of s.text.items old) (subst AreBelowGreatest is.cells below));
+          ∙ c.self.invariant.steady (updated_before c.args.span c.args.update s.text.items old new k.kept is.kept is.cells once) (upto_not_updated (2 ^ 64 - 2) c.args.span c.args.update (cells_of_runs s.text.items old) (subst AreBelowGreatest is.cells below));
       spans = (let had = c.self.invariant.spans in let left = e.left in omega (arith, had, left, cuts, c.requires.room.1));
       sums = record { many = e.told.many; memory = e.told.memory; tags = let h = c.self.invariant.sums.tags in omega (arith, h, e.tags) };
       counts = counts_are c.update_span-change.new.mem c.update_span-change.result.root.index s.text.items (s.runs + c.update_span-change.result.more) kept c.sum_of-self-inside.result c.sum_of-self-inside.ensures;
@@ -47,19 +47,19 @@ sum_of-self-inside-requires-clause-few c =
     let e = c.update_span-change.ensures in
     let old = tree_runs s.mem s.root.index in let new = tree_runs c.update_span-change.new.mem c.update_span-change.result.root.index in
     let is = e.cells s.text.items k.kept in
-    let same = span_count old new s.text.items (cell_in c.args.span c.args.update) k.kept is in
+    let same = span_count old new s.text.items (cell_updated_in c.args.span c.args.update) k.kept is in
     few_entries c.update_span-change.new.mem c.update_span-change.result.root.index s.text.items e.tree is.kept (omega (arith, same, k.few))
 
 pub returns-clause-cells : goal.returns-clause-cells
 returns-clause-cells c =
     let s = c.self.inside in let k = c.self.invariant.kept in
     let is = c.update_span-change.ensures.cells s.text.items k.kept in
-    is.cells ∙ ap (λ (v : Shown). map (cell_in c.args.span c.args.update) v.cells) c.self.view_is
+    is.cells ∙ ap (λ (v : TreeValue). map (cell_updated_in c.args.span c.args.update) v.cells) c.self.view_is
 
 pub update_span-change-requires-clause-told : goal.update_span-change-requires-clause-told
 update_span-change-requires-clause-told c =
     let s = c.self.inside in
-    let tags = ap (λ (v : Shown). v.room.tags) c.self.view_is in
+    let tags = ap (λ (v : TreeValue). v.room.tags) c.self.view_is in
     kept_told s.mem s.root.index s.text.items s.runs c.self.invariant.kept s.sums s.spare_tags c.self.invariant.sums c.args.states.now (omega (arith, tags, c.requires.room.2)) _ c.args.self.now c.self.view_is c.requires.agrees
 
 pub returns-clause-agrees : goal.returns-clause-agrees

@@ -2,7 +2,7 @@ use Rattle.std.proofs.Common.{List, ℕ, slice_get, arith, sym, ap, ◌∙◌, s
 use Rattle.rt_store.specs.Cells.{visible_of}
 use Rattle.rt_tree.specs.Runs.{IsRun, run_cells}
 use Rattle.rt_tree.specs.Shape.{tree_runs}
-use Rattle.rt_tree.specs.Trees.{Shown}
+use Rattle.rt_tree.specs.Trees.{TreeValue}
 use Rattle.rt_tree.proofs.CellLaws.{is_run, visible_found}
 use Rattle.rt_tree.proofs.Kept.{few_runs, shows}
 use Rattle.rt_tree.proofs.tree.Tree.cell_at.Goals as goal
@@ -27,7 +27,7 @@ pub returns : goal.returns
 returns c =
     let s = c.self.inside in
     let f = c.run_near-shown.result in
-    ap (λ (x : Shown). slice_get (visible_of x.cells) c.args.place) (sym c.self.view_is)
+    ap (λ (x : TreeValue). slice_get (visible_of x.cells) c.args.place) (sym c.self.view_is)
     ∙ visible_found s.text.items (tree_runs s.mem s.root.index) f.run f.before f.spot.offset c.args.place c.self.invariant.kept.kept c.run_near-shown.ensures
     ∙ ap (λ (text : List ℕ). slice_get (run_cells text f.run) f.spot.offset) (sym c.deref.ensures.value)
     ∙ c.cell_in.ensures

@@ -1,7 +1,7 @@
 use Rattle.std.proofs.Common.{◌+◌, ◌++◌, ℕ, List, drop, length, take, arith, sym, ap, ◌∙◌}
 use Rattle.rt_store.specs.Cells.{text_of}
 use Rattle.rt_tree.specs.Shape.{tree_runs}
-use Rattle.rt_tree.specs.Trees.{Shown}
+use Rattle.rt_tree.specs.Trees.{TreeValue}
 use Rattle.rt_tree.proofs.Buffers.{fits_text, more_of, rest_of, run_part}
 use Rattle.rt_tree.proofs.Kept.{few_runs, shows}
 use Rattle.rt_tree.proofs.tree.Tree.characters.Goals as goal
@@ -34,7 +34,7 @@ loop-done-preserved c =
     let more = c.min-more.result in
     let from = f.run.at + f.spot.offset in
     let own = c.copy.ensures.characters ∙ ap (λ (t : List ℕ). take done buffer ++ take more (drop from t)) c.deref.ensures.value in
-    let part = ap (λ (x : Shown). take more (drop (c.args.place + done) (text_of x.cells))) (sym c.self.view_is)
+    let part = ap (λ (x : TreeValue). take more (drop (c.args.place + done) (text_of x.cells))) (sym c.self.view_is)
     ∙ run_part s.text.items all f.run f.before f.spot.offset (c.args.place + done) c.self.invariant.kept.kept c.run_near-found.ensures more (omega (arith, c.min-more.ensures)) in
     record {
       within = omega (arith, c.min-more.ensures, old.within);

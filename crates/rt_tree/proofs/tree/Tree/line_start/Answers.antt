@@ -1,9 +1,9 @@
 use Rattle.std.proofs.Common.{◌≡◌, ◌+◌, ◌-◌, ℕ, arith, sym, ap, ◌∙◌}
 use Rattle.rt_stamps.specs.Places.{after_newlines}
 use Rattle.rt_store.specs.Cells.{text_of}
-use Rattle.rt_tree.specs.Runs.{cells_of}
+use Rattle.rt_tree.specs.Runs.{cells_of_runs}
 use Rattle.rt_tree.specs.Shape.{tree_runs}
-use Rattle.rt_tree.specs.Trees.{Shown}
+use Rattle.rt_tree.specs.Trees.{TreeValue}
 use Rattle.rt_tree.proofs.Kept.{few_runs, shows}
 use Rattle.rt_tree.proofs.Lines.{start_found}
 use Rattle.rt_tree.proofs.tree.Tree.line_start.Goals as goal
@@ -23,7 +23,7 @@ returns c =
     let f = c.run_near-found.result in
     let start = start_found s.text.items (tree_runs s.mem s.root.index) f.run f.before f.spot.offset (c.args.line - 2) c.self.invariant.kept.kept c.run_near-found.ensures in
     let k : c.args.line - 2 + 1 ≡ c.args.line - 1 = omega (arith, c.requires, c.if-line-eq1.false) in
-    sym start ∙ ap (λ (n : ℕ). after_newlines n (text_of (cells_of s.text.items (tree_runs s.mem s.root.index)))) k ∙ ap (λ (x : Shown). after_newlines (c.args.line - 1) (text_of x.cells)) c.self.view_is
+    sym start ∙ ap (λ (n : ℕ). after_newlines n (text_of (cells_of_runs s.text.items (tree_runs s.mem s.root.index)))) k ∙ ap (λ (x : TreeValue). after_newlines (c.args.line - 1) (text_of x.cells)) c.self.view_is
 
 pub run_near-found-requires-clause-held : goal.run_near-found-requires-clause-held
 run_near-found-requires-clause-held c = c.self.invariant.last

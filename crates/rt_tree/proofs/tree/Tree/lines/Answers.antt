@@ -1,7 +1,7 @@
 use Rattle.std.proofs.Common.{subst}
 use Rattle.rt_tree.specs.Tallies.{IsCountOf}
-use Rattle.rt_tree.specs.Trees.{Shown}
+use Rattle.rt_tree.specs.Trees.{TreeValue}
 use Rattle.rt_tree.proofs.tree.Tree.lines.Goals as goal
 
 pub returns : goal.returns
-returns c = (subst (λ (x : Shown). IsCountOf c.self.inside.counts x.cells) c.self.view_is c.self.invariant.counts).newlines
+returns c = (subst (λ (x : TreeValue). IsCountOf c.self.inside.counts x.cells) c.self.view_is c.self.invariant.counts).newlines

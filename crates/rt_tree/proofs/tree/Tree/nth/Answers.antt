@@ -1,7 +1,7 @@
 use Rattle.std.proofs.Common.{List, ℕ, slice_get, arith, sym, ap, ◌∙◌, subst}
 use Rattle.rt_tree.specs.Runs.{IsRun, run_cells}
 use Rattle.rt_tree.specs.Shape.{tree_runs}
-use Rattle.rt_tree.specs.Trees.{Shown}
+use Rattle.rt_tree.specs.Trees.{TreeValue}
 use Rattle.rt_tree.proofs.CellLaws.{is_run, nth_found}
 use Rattle.rt_tree.proofs.Kept.{few_runs, shows}
 use Rattle.rt_tree.proofs.tree.Tree.nth.Goals as goal
@@ -26,7 +26,7 @@ pub returns : goal.returns
 returns c =
     let s = c.self.inside in
     let f = c.run_near-found.result in
-    ap (λ (x : Shown). slice_get x.cells c.args.position) (sym c.self.view_is)
+    ap (λ (x : TreeValue). slice_get x.cells c.args.position) (sym c.self.view_is)
     ∙ nth_found s.text.items (tree_runs s.mem s.root.index) f.run f.before f.spot.offset c.args.position c.self.invariant.kept.kept c.run_near-found.ensures
     ∙ ap (λ (text : List ℕ). slice_get (run_cells text f.run) f.spot.offset) (sym c.deref.ensures.value)
     ∙ c.cell_in.ensures

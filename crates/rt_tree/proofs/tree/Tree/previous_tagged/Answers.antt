@@ -3,7 +3,7 @@ use Rattle.rt_store.specs.Cells.{visible_of}
 use Rattle.rt_store.specs.Tagged.{has_tag, previous_place}
 use Rattle.rt_tree.specs.Shape.{tree_runs}
 use Rattle.rt_tree.specs.Summaries.{AreSummed}
-use Rattle.rt_tree.specs.Trees.{Shown}
+use Rattle.rt_tree.specs.Trees.{TreeValue}
 use Rattle.rt_tree.proofs.Kept.{few_runs}
 use Rattle.rt_tree.proofs.Showing.{kept_given, kept_summed}
 use Rattle.rt_tree.proofs.Told.{shown_given}
@@ -34,4 +34,4 @@ pub returns : goal.returns
 returns c =
     let s = c.self.inside in
     c.previous_place.ensures s.text.items c.self.invariant.kept.kept
-    ∙ ap (λ (v : Shown). previous_place (has_tag c.args.states.now c.args.tag) (visible_of v.cells) c.args.place) c.self.view_is
+    ∙ ap (λ (v : TreeValue). previous_place (has_tag c.args.states.now c.args.tag) (visible_of v.cells) c.args.place) c.self.view_is

@@ -3,7 +3,7 @@ use Rattle.std.specs.Prelude.{take_while}
 use Rattle.rt_stamps.specs.Stamps.{is_before}
 use Rattle.rt_store.specs.declared.cell.Cell.{Cell}
 use Rattle.rt_tree.specs.Shape.{tree_runs}
-use Rattle.rt_tree.specs.Trees.{Shown}
+use Rattle.rt_tree.specs.Trees.{TreeValue}
 use Rattle.rt_tree.proofs.Kept.{shows}
 use Rattle.rt_tree.proofs.Skipping.{have_cells, high_is, low_is, skip_is, skip_none}
 use Rattle.rt_tree.proofs.tree.Tree.skip_past.Goals as goal
@@ -33,7 +33,7 @@ pub returns : goal.returns
 returns c =
     let s = c.self.inside in
     let cell = c.nth-cell.result in
-    let here = ap (λ (x : Shown). slice_get x.cells c.args.position) c.self.view_is ∙ c.nth-cell.ensures in
+    let here = ap (λ (x : TreeValue). slice_get x.cells c.args.position) c.self.view_is ∙ c.nth-cell.ensures in
     let above = high_is (is_before c.args.new cell.stamp) (sym c.is_low.ensures ∙ c.if-is_low.false) in
     c.passed.ensures ∙ skip_is s.text.items c.args.new (tree_runs s.mem s.root.index) c.args.position cell c.self.invariant.kept.kept here above
-    ∙ ap (λ (x : Shown). c.args.position + length (take_while (λ (d : Cell ℕ). is_before c.args.new d.stamp) (drop c.args.position x.cells))) c.self.view_is
+    ∙ ap (λ (x : TreeValue). c.args.position + length (take_while (λ (d : Cell ℕ). is_before c.args.new d.stamp) (drop c.args.position x.cells))) c.self.view_is

@@ -1,7 +1,7 @@
 use Rattle.std.proofs.Common.{◌+◌, ℕ, arith, ap, ◌∙◌}
 use Rattle.rt_store.specs.Cells.{visible_before}
 use Rattle.rt_tree.specs.Shape.{tree_runs}
-use Rattle.rt_tree.specs.Trees.{Shown}
+use Rattle.rt_tree.specs.Trees.{TreeValue}
 use Rattle.rt_tree.proofs.Kept.{few_runs, shows}
 use Rattle.rt_tree.proofs.Positions.{visible_there}
 use Rattle.rt_tree.proofs.tree.Tree.visible_before.Goals as goal
@@ -21,7 +21,7 @@ returns c =
     let f = c.run_near-found.result in
     ap (λ (n : ℕ). f.before.visible + n) c.visible_part.ensures
     ∙ visible_there s.text.items (tree_runs s.mem s.root.index) f.run f.before f.spot.offset c.args.position c.self.invariant.kept.kept c.run_near-found.ensures
-    ∙ ap (λ (x : Shown). visible_before x.cells c.args.position) c.self.view_is
+    ∙ ap (λ (x : TreeValue). visible_before x.cells c.args.position) c.self.view_is
 
 pub run_near-found-requires-clause-held : goal.run_near-found-requires-clause-held
 run_near-found-requires-clause-held c = c.self.invariant.last

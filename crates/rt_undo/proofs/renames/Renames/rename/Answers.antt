@@ -1,14 +1,14 @@
 use Rattle.std.proofs.Common.{◌≡◌, ◌∙◌, ap, false, refl, subst, sym, true}
 use Rattle.rt_stamps.specs.declared.stamp.Stamp.{Stamp}
-use Rattle.rt_undo.specs.Renames.{Shown, is_in_span, is_moved, now_of, renamed}
+use Rattle.rt_undo.specs.Renames.{SpanMapValue, is_in_span, is_moved, now_of, renamed}
 use Rattle.rt_undo.specs.declared.renames.Move.{Move}
 use Rattle.rt_undo.proofs.Following.{now_renamed, rising_renamed}
 use Rattle.rt_undo.proofs.renames.Renames.rename.Goals as goal
 
 pub invariant_of-self : goal.invariant_of-self
 invariant_of-self c =
-    let unmoved : Shown Move → Type 0 = λ m. (s : Stamp) → is_in_span c.args.former s ≡ true → is_moved m s ≡ false in
-    let free : Shown Move → Type 0 = λ m. (s : Stamp) → is_in_span c.args.former s ≡ true → is_moved m (renamed c.args.former c.args.newer s) ≡ false in
+    let unmoved : SpanMapValue Move → Type 0 = λ m. (s : Stamp) → is_in_span c.args.former s ≡ true → is_moved m s ≡ false in
+    let free : SpanMapValue Move → Type 0 = λ m. (s : Stamp) → is_in_span c.args.former s ≡ true → is_moved m (renamed c.args.former c.args.newer s) ≡ false in
     rising_renamed c.args.former c.args.newer (record { first = c.args.former.first; to = c.args.newer }) c.self.inside.map c.set.new.self (record {
       values = c.set.ensures.values;
       begins = refl;
@@ -23,8 +23,8 @@ invariant_of-self c =
 
 pub returns-clause-now : goal.returns-clause-now
 returns-clause-now c =
-    let unmoved : Shown Move → Type 0 = λ m. (s : Stamp) → is_in_span c.args.former s ≡ true → is_moved m s ≡ false in
-    let free : Shown Move → Type 0 = λ m. (s : Stamp) → is_in_span c.args.former s ≡ true → is_moved m (renamed c.args.former c.args.newer s) ≡ false in
+    let unmoved : SpanMapValue Move → Type 0 = λ m. (s : Stamp) → is_in_span c.args.former s ≡ true → is_moved m s ≡ false in
+    let free : SpanMapValue Move → Type 0 = λ m. (s : Stamp) → is_in_span c.args.former s ≡ true → is_moved m (renamed c.args.former c.args.newer s) ≡ false in
     λ s. now_renamed c.args.former c.args.newer (record { first = c.args.former.first; to = c.args.newer }) c.self.inside.map c.set.new.self (record {
       values = c.set.ensures.values;
       begins = refl;

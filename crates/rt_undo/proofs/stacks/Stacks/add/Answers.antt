@@ -21,6 +21,8 @@ returns-clause-history c =
     c.limit.ensures.history ∙ ap limited ((λ i. renamed_by (now_of t.renames) (record (history_kept t) {
       current = (ap group_of c.push_action.ensures.items ∙ map-append action_of t.current.items (c.args.action ∷ [])) i;
       undone = groups_of (c.clear.ensures.items i);
+      kept = c.tell_action.ensures.kept.0 i;
+      forced = c.tell_action.ensures.kept.1 i;
     }))
     ∙ (elim c.if-auto_separators.branch as (λ _. renamed_by (now_of t.renames) (recorded a (history_kept t)) ≡ renamed_by f (recorded_with auto a h)) [
       | then-auto_separators+then-asks_separator w ↦
@@ -28,6 +30,8 @@ returns-clause-history c =
           ∙ (λ i. renamed_by f (recorded a (record h {
             closed = w.close.ensures.groups i;
             current = group_of ((ap (λ v. v.items) (w.close.ensures.next ∙ w.replace-next.ensures.value) ∙ c.self.invariant.spare) i);
+            kept = w.close.ensures.kept.0 i;
+            forced = w.close.ensures.kept.1 i;
           })))
           ∙ (λ i. renamed_by f (recorded a (if sym w.if-auto_separators.true i && sym (sym (w.asks_separator.ensures ∙ ap (λ l. is_replace a.kind || differs_from a.kind (last (group_of l))) w.deref.ensures.value) ∙ w.if-asks_separator.true) i then separated h else h)))
       | else-auto_separators w ↦

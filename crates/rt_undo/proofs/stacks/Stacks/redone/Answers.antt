@@ -16,8 +16,10 @@ returns-clause-history c =
     c.limit.ensures.history ∙ ap limited ((λ i. renamed_by f (record (history_kept s) {
       closed = (ap (λ l. groups_of l) c.push_group.ensures.items ∙ groups_more c.close.new.closed.items c.args.reverted
           ∙ ap (λ l. l ++ reverted ∷ []) c.close.ensures.groups) i;
-      current = group_of ((ap (λ v. v.items) c.close.ensures.next ∙ c.new.ensures.items) i);
+      current = group_of ((ap (λ v. v.items) c.close.ensures.next ∙ c.new-next.ensures.items) i);
       undone = c.drop_group.ensures.groups i;
+      kept = (c.tell_group.ensures.kept.0 ∙ c.close.ensures.kept.0) i;
+      forced = (c.tell_group.ensures.kept.1 ∙ c.close.ensures.kept.1) i;
     }))
     ∙ put_back_renamed f reverted (history_kept s) (group_still s.renames reverted (subst stays (sym c.self.view_is) c.requires.still))
     ∙ ap (λ v. put_back reverted v.history) c.self.view_is)

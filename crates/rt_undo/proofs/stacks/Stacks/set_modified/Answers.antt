@@ -12,7 +12,7 @@ returns-clause-ok c =
     let f = now_of s.renames in
     let now = c.args.self.now.history in
     (λ i. record (renamed_by f (history_kept s)) {
-      kept = (c.clear.ensures.kept ∙ c.in_ok-numbers_now.ensures.ok
+      kept = (c.clear.ensures.kept ∙ c.in_ok-numbers.ensures.ok
           ∙ ap (λ l. numbers_of_groups s.closed.items ++ numbers_of l) c.deref.ensures.value
           ∙ sym (numbers_are f s.closed.items s.current.items (history_kept s))) i;
       forced = c.clear.ensures.forced i;

@@ -17,6 +17,8 @@ returns-clause-history c =
       closed = c.drop_last.ensures.groups i;
       current = group_of (c.drop_last.ensures.empty i);
       undone = (ap (λ l. groups_of l) c.push_group.ensures.items ∙ groups_more s.undone.items c.args.reverted) i;
+      kept = c.drop_last.ensures.kept.0 i;
+      forced = c.drop_last.ensures.kept.1 i;
     }))
     ∙ undo_renamed f reverted (history_kept s) (group_still s.renames reverted (subst stays (sym c.self.view_is) c.requires.still))
     ∙ ap (λ v. undo_done reverted v.history) c.self.view_is
